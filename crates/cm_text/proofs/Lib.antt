@@ -1,0 +1,6 @@
+pub mod PiecesLemmas
+pub mod CutLemmas
+pub mod LinesLemmas
+pub mod Utf8Lemmas
+pub mod FeedLemmas
+pub mod SettledLemmas

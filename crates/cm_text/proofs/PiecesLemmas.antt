@@ -1,0 +1,40 @@
+-- What is left of a list of pieces.
+use Rattle.std.proofs.Common.{◌≡◌, ℕ, ◌+◌, ◌-◌, ◌<◌, ◌≤◌, List, ◌++◌, length, take, drop, get_or, refl, sym, ap, ◌∙◌, arith, add-one, drop-cons, drop-drop, take-append-drop, append_assoc, take_all, length-drop, min}
+use Rattle.std.specs.List.{flat_map}
+use Rattle.std.proofs.lemmas.List.{drop-append-le}
+use Rattle.std.proofs.Math.Seq.{drop-append-add}
+
+pub joined_next : {X : Type 0} (f : X → List ℕ) (ps : List X) (i : ℕ) (d : X) → i < length ps
+    → flat_map f (drop i ps) ≡ f (get_or ps i d) ++ flat_map f (drop (i + 1) ps)
+joined_next f ps i d h = ap (flat_map f) (drop-cons ps i d h) ∙ rw (add-one) refl
+
+-- what is given of a piece
+pub piece_given : (piece rest : List ℕ) (s n : ℕ) → s + n ≤ length piece
+    → drop s (piece ++ rest) ≡ take n (drop s piece) ++ drop (s + n) (piece ++ rest)
+piece_given piece rest s n h =
+    let first : s ≤ length piece = omega arith in
+    drop-append-le s piece rest first ∙ ap (λ t. t ++ rest) (sym (take-append-drop n (drop s piece)))
+    ∙ append_assoc (take n (drop s piece)) (drop n (drop s piece)) rest
+    ∙ ap (λ t. take n (drop s piece) ++ t) (ap (λ t. t ++ rest) (drop-drop n s piece) ∙ sym (drop-append-le (s + n) piece rest h))
+
+-- a piece that is passed over
+pub piece_passed : (piece rest : List ℕ) (s : ℕ) → length piece ≤ s → drop s (piece ++ rest) ≡ drop (s - length piece) rest
+piece_passed piece rest s h =
+    let n = s - length piece in
+    let whole : s ≡ length piece + n = omega arith in
+    ap (λ k. drop k (piece ++ rest)) whole ∙ drop-append-add piece rest n
+
+-- the rest of a piece, as the code slices it
+rest_of_piece : (piece : List ℕ) (s : ℕ) → take (length piece - s) (drop s piece) ≡ drop s piece
+rest_of_piece piece s = take_all (length piece - s) (drop s piece) (omega (arith, length-drop s piece))
+
+pub bytes_given : (all piece later out : List ℕ) (s n room : ℕ) → all ≡ piece ++ later → s < length piece
+    → n ≡ min (length (take (length piece - s) (drop s piece))) room → take n out ≡ take n (take (length piece - s) (drop s piece))
+    → drop s all ≡ take n out ++ drop (s + n) all
+bytes_given all piece later out s n room whole inside count given =
+    let within : s + n ≤ length piece = omega (arith, count, ap length (rest_of_piece piece s), length-drop s piece) in
+    rw (whole, given, rest_of_piece piece s) (piece_given piece later s n within)
+
+pub some_given : (piece : List ℕ) (s n room : ℕ) → s < length piece
+    → n ≡ min (length (take (length piece - s) (drop s piece))) room → n ≡ 0 → room ≡ 0
+some_given piece s n room inside count none = omega (arith, count, ap length (rest_of_piece piece s), length-drop s piece)

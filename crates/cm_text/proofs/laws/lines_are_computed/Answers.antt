@@ -1,0 +1,5 @@
+use Rattle.cm_text.proofs.LinesLemmas.{lines_are_computed}
+use Rattle.cm_text.proofs.laws.lines_are_computed.Goals as goal
+
+pub returns : goal.returns
+returns c = lines_are_computed

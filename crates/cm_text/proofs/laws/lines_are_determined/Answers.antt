@@ -1,0 +1,5 @@
+use Rattle.cm_text.proofs.LinesLemmas.{lines_are_determined}
+use Rattle.cm_text.proofs.laws.lines_are_determined.Goals as goal
+
+pub returns : goal.returns
+returns c = lines_are_determined

@@ -1,0 +1,47 @@
+-- A text cut into lines as far as it has come.
+use Rattle.std.specs.Prelude.{◌≡◌, ℕ, Bool, true, false, ◌==◌, if◌then◌else◌, List, [], ◌∷◌, ◌++◌, map, drop}
+use Rattle.std.specs.List.{fold}
+use Rattle.std.specs.String.{string_bytes}
+use Rattle.cm_text.specs.declared.cutter.Cutter.{Cutter}
+use Rattle.cm_text.specs.Lines.{LineView, plain_line, view_of, last_line, plain_lines_of}
+
+-- the lines that have ended, the text of the line after them, and whether a carriage return came last
+pub record Cut : Type 0 where
+  pub ended : List LineView
+  pub partial : List ℕ
+  pub after_return : Bool
+
+abbrev pub nothing_cut : Cut
+nothing_cut = record { ended = []; partial = []; after_return = false }
+
+-- the line after those that have ended ends too
+abbrev pub end_line : Cut → Bool → Cut
+end_line cut after_return =
+    record { ended = cut.ended ++ plain_line cut.partial ∷ []; partial = []; after_return = after_return }
+
+-- one byte more
+abbrev pub cut_byte : Cut → ℕ → Cut
+cut_byte cut b =
+    if b == 10 then (if cut.after_return then record cut { after_return = false } else end_line cut false)
+    else (if b == 13 then end_line cut true else record cut { partial = cut.partial ++ b ∷ []; after_return = false })
+
+abbrev pub cut_more : Cut → List ℕ → Cut
+cut_more cut text = fold cut_byte cut text
+
+-- a cut without the first lines
+abbrev pub without : ℕ → Cut → Cut
+without taken cut = record cut { ended = drop taken cut.ended }
+
+-- what a cutter holds
+abbrev pub cut_of : Cutter → Cut
+cut_of cutter =
+    record { ended = map view_of cutter.ready.items; partial = string_bytes cutter.partial; after_return = cutter.after_return }
+
+-- all begins with front
+abbrev pub IsFront : List LineView → List LineView → Type 0
+IsFront front all = (rest : List LineView) × (all ≡ front ++ rest)
+
+-- The lines of a text are those that its cut has ended, and the last one.
+abbrev pub LinesAreCut : Type 0
+LinesAreCut = (text : List ℕ)
+    → plain_lines_of text ≡ (cut_more nothing_cut text).ended ++ map plain_line (last_line (cut_more nothing_cut text).partial)

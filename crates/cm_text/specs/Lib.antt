@@ -1,0 +1,10 @@
+pub mod LineText
+pub mod Lines
+pub mod Indentation
+pub mod Runs
+pub mod Cut
+pub mod Limits
+pub mod Faults
+pub mod Settled
+pub mod Feed
+pub mod FeedSteps

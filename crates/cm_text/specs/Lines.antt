@@ -1,0 +1,82 @@
+-- Lines of a text (CommonMark 0.31.2, 2.1 Characters and lines). A text is its UTF-8 bytes.
+use Rattle.std.specs.Prelude.{◌≡◌, ◌≢◌, ℕ, Bool, true, false, ◌==◌, if◌then◌else◌, List, [], ◌∷◌, ◌++◌, map}
+use Rattle.std.specs.List.{flat_map}
+use Rattle.std.specs.Str.Lossy.{replacement_bytes}
+use Rattle.std.specs.String.{string_bytes}
+use Rattle.cm_text.specs.declared.lines.Line.{Line}
+use Rattle.cm_text.specs.LineText.{is_line}
+
+-- The text of UTF-8 bytes: U+0000 is read as U+FFFD (2.3 Insecure characters).
+abbrev pub text_of_byte : ℕ → List ℕ
+text_of_byte b = if b == 0 then replacement_bytes else b ∷ []
+
+abbrev pub text_of : List ℕ → List ℕ
+text_of bytes = flat_map text_of_byte bytes
+
+-- what ends a line
+pub data Ending : Type 0 where
+  LineFeed : Ending
+  CarriageReturnLineFeed : Ending
+  CarriageReturn : Ending
+  EndOfText : Ending
+
+abbrev pub begins_with_line_feed : List ℕ → Bool
+begins_with_line_feed [] = false
+begins_with_line_feed (b ∷ bs) = b == 10
+
+-- The text is a line, its ending and the rest. No line feed follows a carriage return that stands
+-- for an ending by itself, and a line that the text's end ends isn't empty.
+abbrev pub Ends : Ending → List ℕ → List ℕ → List ℕ → Type 0
+Ends LineFeed line rest text = text ≡ line ++ 10 ∷ rest
+Ends CarriageReturnLineFeed line rest text = text ≡ line ++ 13 ∷ 10 ∷ rest
+Ends CarriageReturn line rest text = (text ≡ line ++ 13 ∷ rest) × (begins_with_line_feed rest ≡ false)
+Ends EndOfText line rest text = (text ≡ line) × (line ≢ []) × (rest ≡ [])
+
+-- These are the lines of the text: each is without line endings, and each followed by its ending they give the text.
+abbrev pub AreLinesOf : List ℕ → List (List ℕ) → Type 0
+AreLinesOf text [] = text ≡ []
+AreLinesOf text (line ∷ lines) =
+    (is_line line ≡ true) × ((ending : Ending) × ((rest : List ℕ) × (Ends ending line rest text × AreLinesOf rest lines)))
+
+-- a line that the text's end ends
+abbrev pub last_line : List ℕ → List (List ℕ)
+last_line [] = []
+last_line (b ∷ bs) = (b ∷ bs) ∷ []
+
+-- The lines of a text of which the front of a line has been read. A line feed that follows a
+-- carriage return belongs to the ending that the carriage return began.
+abbrev pub lines_after : (after_return : Bool) (line text : List ℕ) → List (List ℕ)
+lines_after after_return line [] = last_line line
+lines_after after_return line (b ∷ bs) = elim (b == 10) [
+  | true ↦ elim after_return [ true ↦ lines_after false line bs | false ↦ line ∷ lines_after false [] bs ]
+  | false ↦ elim (b == 13) [ true ↦ line ∷ lines_after true [] bs | false ↦ lines_after false (line ++ b ∷ []) bs ]
+]
+
+-- the lines of a text
+abbrev pub lines_of : List ℕ → List (List ℕ)
+lines_of text = lines_after false [] text
+
+-- a line without where it lies in memory
+pub record LineView : Type 0 where
+  pub column : ℕ
+  pub text : List ℕ
+  pub lazy : Bool
+
+abbrev pub view_of : Line → LineView
+view_of line = record { column = line.column; text = string_bytes line.text; lazy = line.lazy }
+
+-- a line as it stands in a text
+abbrev pub plain_line : List ℕ → LineView
+plain_line text = record { column = 0; text = text; lazy = false }
+
+-- the lines of a text, as they are handed out
+abbrev pub plain_lines_of : List ℕ → List LineView
+plain_lines_of text = map plain_line (lines_of text)
+
+-- A text has one list of lines,
+abbrev pub LinesAreDetermined : Type 0
+LinesAreDetermined = (text : List ℕ) (lines others : List (List ℕ)) → AreLinesOf text lines → AreLinesOf text others → lines ≡ others
+
+-- and it is the one that is computed.
+abbrev pub LinesAreComputed : Type 0
+LinesAreComputed = (text : List ℕ) → AreLinesOf text (lines_of text)

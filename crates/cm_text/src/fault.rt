@@ -1,0 +1,17 @@
+//! What can be wrong with a text.
+
+use thiserror::Error;
+
+/// Why a text is refused.
+#[derive(Clone, Copy, Debug, PartialEq, Eq, Drop, Error)]
+pub enum TextFault {
+    /// The bytes aren't UTF-8: `at` is the length of the longest well-formed front.
+    #[error("not UTF-8 at byte {at}")]
+    NotUtf8 { at: usize },
+    /// There is a byte past the limit, which is `at`.
+    #[error("input too long at byte {at}")]
+    TooLong { at: usize },
+    /// A request for memory was refused.
+    #[error("out of memory")]
+    NoMemory,
+}

@@ -1,0 +1,24 @@
+//! Laws of the definitions, each the contract of a function that does nothing.
+ghost use Rattle.cm_text.specs.Lines.{LinesAreComputed, LinesAreDetermined};
+ghost use Rattle.cm_text.specs.Cut.{LinesAreCut};
+ghost use Rattle.cm_text.specs.Settled.{SettledIsTold};
+
+/// A text has one list of lines.
+pub fn lines_are_determined()
+    ensures { LinesAreDetermined }
+{}
+
+/// The lines that are computed are the text's.
+pub fn lines_are_computed()
+    ensures { LinesAreComputed }
+{}
+
+/// The lines that a feed hands out are those that are computed.
+pub fn lines_are_cut()
+    ensures { LinesAreCut }
+{}
+
+/// A feed tells a fault just where every text that begins with the bytes so far has it.
+pub fn settled_is_told()
+    ensures { SettledIsTold }
+{}

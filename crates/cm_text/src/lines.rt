@@ -1,0 +1,18 @@
+//! Lines of a text.
+ghost use Rattle.std.specs.Prelude.{◌≡◌, ◌+◌, ◌*◌, ◌^◌, ◌<◌, string_bytes, string_len, true};
+ghost use Rattle.cm_text.specs.LineText.{is_line, tabs};
+
+/// A line, or what is left of it once the markers of containers have been taken from its front.
+///
+/// Its text has no line feed and no carriage return.
+#[derive(Debug, Drop)]
+pub struct Line {
+    /// How many columns stand before the text.
+    pub column: usize,
+    /// The line without its ending.
+    pub text: String,
+    /// Whether the line goes on a paragraph without the markers of its containers.
+    pub lazy: bool,
+    pub ghost one_line: { is_line (string_bytes text) ≡ true },
+    pub ghost fits: { column + string_len text + 3 * tabs (string_bytes text) < 2 ^ 64 },
+}
