@@ -88,6 +88,7 @@ past_limit limit n m room fits is = grind (arith, nat_tests)
 pub record Moved (old : Feed) (piece bytes : List ℕ) (taken : ℕ) : Type 0 where
   pub valid : valid_len old.limit (bytes ++ piece) ≡ old.start + utf8_valid_len (joined_of old piece)
   pub left : after_valid old.limit (bytes ++ piece) ≡ left_of (joined_of old piece)
+  pub whole : cut_bytes old.limit (bytes ++ piece) ≡ cut_valid (cut_bytes old.limit bytes) (joined_of old piece)
   pub cut : next_cut old piece ≡ without taken (cut_bytes old.limit (bytes ++ piece))
   pub settled : settled_fault old.limit (bytes ++ piece) ≡ next_fault old piece
   pub in_order : taken ≤ length (cut_bytes old.limit (bytes ++ piece)).ended
@@ -116,6 +117,7 @@ moved old piece bytes taken goes =
     record {
       valid = valid;
       left = left;
+      whole = all_cut;
       cut = ap (λ d. cut_valid d joined) goes.cut ∙ without_more taken (cut_bytes old.limit bytes) text goes.in_order ∙ ap (without taken) (sym all_cut);
       settled =
           ap (λ t. cond (is_some (utf8_error_len t)) (Some (NotUtf8 (valid_len old.limit (bytes ++ piece)))) (cond (nat_lt old.limit (length (bytes ++ piece))) (Some (TooLong old.limit)) None)) left
@@ -123,6 +125,15 @@ moved old piece bytes taken goes =
           ∙ ap (λ b. cond (is_some (utf8_error_len (left_of joined))) (Some (NotUtf8 (old.start + utf8_valid_len joined))) (cond b (Some (TooLong old.limit)) None)) past;
       in_order = subst (λ (d : Cut). taken ≤ length d.ended) (sym all_cut) (longer (cut_bytes old.limit bytes) text taken goes.in_order);
     }
+
+-- lines that have ended are not cut again
+pub ended_front : (old : Feed) (piece bytes : List ℕ) (taken : ℕ) → Goes old bytes taken
+    → IsFront (cut_bytes old.limit bytes).ended (cut_bytes old.limit (bytes ++ piece)).ended
+ended_front old piece bytes taken g =
+    let joined = joined_of old piece in
+    let m = moved old piece bytes taken g in
+    let P : Cut → Type 0 = λ d. IsFront (cut_bytes old.limit bytes).ended d.ended in
+    subst P (sym m.whole) (valid_stays (cut_bytes old.limit bytes) joined)
 
 pub goes : (feed : Feed) (bytes : List ℕ) (taken : ℕ) → feed.fault ≡ None → feed.ended ≡ false → StandsFor feed bytes taken → Goes feed bytes taken
 goes feed bytes taken sound going stands =
@@ -269,6 +280,22 @@ end_ready feed bytes taken g none =
       ap (λ (d : Cut). d.ended ++ map plain_line (last_line d.partial)) g.cut ∙ sym (drop-append-le taken all.ended last g.in_order) ∙ ap (drop taken) same,
       omega (arith, g.in_order, length-append all.ended last, ap length same),
     )
+
+-- the lines of a text without a fault are those that have ended and the last one
+pub whole_lines : (limit : ℕ) (bytes : List ℕ) → text_fault limit bytes ≡ None
+    → plain_lines_of (text_of bytes) ≡ (cut_bytes limit bytes).ended ++ map plain_line (last_line (cut_bytes limit bytes).partial)
+whole_lines limit bytes sound =
+    let two = none_of_rest (settled_fault limit bytes) _ _ sound in
+    let within = within_limit limit bytes two.0 in
+    let all = take_all limit bytes within in
+    let long : length bytes ≤ valid_len limit bytes = ltb-false _ _ two.1 in
+    let same : valid_front limit bytes ≡ bytes = take_all (valid_len limit bytes) (take limit bytes) (omega (arith, ap length all)) ∙ all in
+    sym (ap (λ t. plain_lines_of (text_of t)) same) ∙ lines_are_cut (text_of (valid_front limit bytes))
+  where
+    none_of_rest : (o : Option TextFault) (t : Bool) (at : TextFault) → cond (is_some o) o (cond t (Some at) None) ≡ None → (o ≡ None) × (t ≡ false)
+    none_of_rest None false at h = (refl, refl)
+    none_of_rest None true at h = cc
+    none_of_rest (Some f) t at h = cc
 
 pub end_lost : (feed : Feed) (bytes : List ℕ) (taken : ℕ) → Goes feed bytes taken
     → IsFront feed.cut.ended (drop taken (cut_bytes feed.limit bytes).ended) × (taken ≤ length (cut_bytes feed.limit bytes).ended)

@@ -1,8 +1,10 @@
 //! What can be wrong with a text.
+ghost use Rattle.std.specs.Prelude.{◌≡◌};
 
+use std::alloc::AllocError;
 use thiserror::Error;
 
-/// Why a text is refused.
+/// Why a text is refused. Bytes count from 0.
 #[derive(Clone, Copy, Debug, PartialEq, Eq, Drop, Error)]
 pub enum TextFault {
     /// The bytes aren't UTF-8: `at` is the length of the longest well-formed front.
@@ -14,4 +16,14 @@ pub enum TextFault {
     /// A request for memory was refused.
     #[error("out of memory")]
     NoMemory,
+}
+
+impl From<AllocError> for TextFault {
+    ghost use Rattle.cm_text.specs.declared.fault.TextFault.TheVariants.{NoMemory};
+
+    ghost from_gives = { λ _ e. e ≡ NoMemory };
+
+    fn from(_: AllocError) -> TextFault {
+        TextFault::NoMemory
+    }
 }

@@ -1,32 +1,26 @@
 //! Lines of a text that comes in pieces.
-ghost use Rattle.std.specs.Prelude.{◌≡◌, ◌≢◌, ℕ, ◌+◌, ◌*◌, ◌^◌, string_len, ◌<◌, ◌≤◌, List, [], ◌∷◌, ◌++◌, length, take, drop, OnOk, OnErr, IfOk, IsTrue, ◌↔◌, MatchOption, IsSome, is_some, is_ok, IfSome, IfNone, if◌then◌else◌, None, Some, true, false};
-ghost use Rattle.std.specs.Str.Lossy.{utf8_valid_len, utf8_error_len};
+ghost use Rattle.std.specs.Prelude.{◌≡◌, ◌≢◌, ℕ, ◌+◌, ◌≤◌, List, [], ◌∷◌, ◌++◌, length, OnOk, is_some, is_ok, IfSome, IfNone, if◌then◌else◌, None, false};
 ghost use Rattle.cm_text.specs.Lines.{view_of};
-ghost use Rattle.cm_text.specs.Cut.{cut_of, IsFront};
-ghost use Rattle.cm_text.specs.Faults.{left_of, settled_fault, text_fault};
-ghost use Rattle.cm_text.specs.Feed.{StandsFor, Answers, answer_of, cut_valid, with_ready, count};
+ghost use Rattle.cm_text.specs.Faults.{settled_fault, text_fault};
+ghost use Rattle.cm_text.specs.Feed.{StandsFor, Answers, answer_of, with_ready, count};
 ghost use Rattle.cm_text.specs.FeedSteps.{Steps};
 
+use crate::cutter::Cutter;
 use crate::fault::TextFault;
 use crate::limits::Limits;
-use crate::cutter::Cutter;
 use crate::lines::Line;
-use simdutf8::compat::from_utf8;
-use std::alloc::{AllocError, AllocFailed, Global};
+use std::alloc::Global;
 use std::collections::VecDeque;
 use std::marker::Model;
 
-impl From<AllocError> for TextFault {
-    ghost use Rattle.cm_text.specs.declared.fault.TextFault.TheVariants.{NoMemory};
-
-    ghost from_gives = { λ _ e. e ≡ NoMemory };
-
-    fn from(_e: AllocError) -> TextFault {
-        TextFault::NoMemory
-    }
-}
-
 /// The lines of a text that comes in pieces.
+///
+/// Hand over the bytes by `push`, in whatever pieces they come, take the lines that have ended by
+/// `next_line` at any time, and tell by `end` that the text is whole. A line ends with a line feed,
+/// a carriage return, or both (CommonMark 0.31.2, 2.1); U+0000 becomes U+FFFD (2.3).
+///
+/// After a fault each further `push` and `end` answers that fault, and the lines that ended before
+/// its place can still be taken; after `TextFault::NoMemory`, a beginning of those that have ended.
 #[derive(Drop)]
 pub struct LineFeed {
     limits: Limits,
@@ -52,6 +46,7 @@ impl Model for LineFeed {
 }
 
 impl LineFeed {
+    // Takes the bytes of a piece up to the limit.
     fn accept(&mut self, piece: &[u8]) -> Result<(), TextFault>
         ensures step { Steps result self.old piece.now self.new }
         ensures count { OnOk result (count self.new ≡ count self.old + length piece.now) }
@@ -60,14 +55,11 @@ impl LineFeed {
         let limit = self.limits.bytes();
         let room = limit - (self.start + self.pending.len());
         let within = &piece[..piece.len().min(room)];
-        let (valid, broken) = match self.cutter.take_more(&mut self.pending, within) {
-            Ok(read) => read,
-            Err(_) => {
-                // Nothing more is read.
-                self.pending.clear();
-                self.start = limit;
-                return Err(TextFault::NoMemory);
-            }
+        let Ok((valid, broken)) = self.cutter.take_more(&mut self.pending, within) else {
+            // How far it came isn't known, and nothing more will be read.
+            self.pending.clear();
+            self.start = limit;
+            return Err(TextFault::NoMemory);
         };
         self.start += valid;
         if broken {
@@ -78,9 +70,8 @@ impl LineFeed {
         }
         Ok(())
     }
-}
 
-impl LineFeed {
+    /// A feed of nothing so far. It takes no memory.
     pub fn new(alloc: Global, limits: Limits) -> LineFeed
         ensures limit { result.limit ≡ limits.bytes }
         ensures stands { (result.fault ≡ None) × (result.ended ≡ false) × StandsFor result [] 0 }
@@ -101,13 +92,16 @@ impl LineFeed {
         }
     }
 
-    /// Takes the next piece of the text.
+    /// Goes on with the next piece of the text, which may be empty and may end anywhere, also within
+    /// a character or between a carriage return and its line feed.
+    ///
+    /// A fault is answered as soon as the bytes settle it, however they go on.
     pub fn push(&mut self, piece: &[u8]) -> Result<(), TextFault>
         requires { self.old.ended ≡ false }
         // Whatever bytes it stood for, it stands for them and the piece.
         ensures stands { self.old.fault ≡ None → (bytes : List ℕ) (taken : ℕ) →
             StandsFor self.old bytes taken → StandsFor self.new (bytes ++ piece.now) taken }
-        // A fault is answered where the bytes settle it, however they go on.
+        // A fault is answered exactly where the bytes settle it.
         ensures settled { self.old.fault ≡ None → (bytes : List ℕ) (taken : ℕ) →
             StandsFor self.old bytes taken → Answers result (settled_fault self.old.limit (bytes ++ piece.now)) }
         // From then on it is answered again.
@@ -128,10 +122,11 @@ impl LineFeed {
         result
     }
 
-    /// The next line that has ended.
+    /// The next line that has ended, or, once the text has, the unended last one.
     pub fn next_line(&mut self) -> Option<Line>
         ensures line { IfSome result (λ line. self.old.cut.ended ≡ view_of line ∷ self.new.cut.ended) }
         ensures none { IfNone result (self.old.cut.ended ≡ []) }
+        ensures unchanged { IfNone result (self.new ≡ self.old) }
         ensures rest { self.new ≡ with_ready self.new.cut.ended self.old }
         ensures stands { (bytes : List ℕ) (taken : ℕ) → StandsFor self.old bytes taken →
             StandsFor self.new bytes (if is_some result then taken + 1 else taken) }
@@ -146,7 +141,9 @@ impl LineFeed {
         self.ended
     }
 
-    /// The text ends here: its last line is ready, if it has no ending and isn't empty.
+    /// Tells that the text ends here. Its last line is ready then, if it has no ending and isn't empty.
+    ///
+    /// A character that is only cut short is `TextFault::NotUtf8`.
     pub fn end(&mut self) -> Result<(), TextFault>
         requires { self.old.ended ≡ false }
         ensures stands { self.old.fault ≡ None → (bytes : List ℕ) (taken : ℕ) →

@@ -1,0 +1,10 @@
+pub mod Trim
+pub mod Tree
+pub mod Inlines
+pub mod Blocks
+pub mod Building
+pub mod Html
+pub mod Fault
+pub mod Reading
+pub mod Parsing
+pub mod Convert

@@ -1,0 +1,61 @@
+//! Reading a source to its end.
+ghost use Rattle.std.specs.Prelude.{◌≡◌, ℕ, ◌-◌, ◌^◌, ◌<◌, List, [], IfOk, length};
+ghost use Rattle.std.specs.Io.KnownBytes.{Consumes};
+ghost use Rattle.cm_tool.specs.Building.{open_of};
+ghost use Rattle.cm_tool.specs.Parsing.{Parses};
+ghost use Rattle.cm_tool.specs.Reading.{Reads};
+
+use crate::fault::Fault;
+use crate::parser::Parser;
+use crate::tree::Block;
+use cm_text::{Limits, Source};
+use std::alloc::{AllocError, Global};
+
+// How many bytes are asked for at once.
+const PIECE: usize = 65536;
+
+fn zeros(alloc: Global, count: usize) -> Result<Vec<u8>, AllocError>
+    ensures { IfOk result (λ zeros. length zeros.items ≡ count) }
+{
+    vec![in alloc; 0; count]
+}
+
+/// Reads a source to its end, or to the first fault of its text, and answers the blocks.
+pub(crate) fn read<R: Source>(
+    alloc: Global,
+    source: &mut R,
+    limits: Limits,
+) -> Result<Vec<Block>, Fault>
+    requires { R.failed source.old < 2 ^ 64 - 1 }
+    ensures { (bytes : List ℕ) × Consumes (R.remaining source.old) (R.remaining source.new) bytes
+        × Reads result limits.bytes bytes
+        (record { remaining = R.remaining source.old; failed = R.failed source.old })
+        (record { remaining = R.remaining source.new; failed = R.failed source.new }) }
+{
+    let mut buffer = zeros(alloc, PIECE)?;
+    read_to_end(source, Parser::new(alloc, limits), buffer.as_mut_slice())
+}
+
+fn read_to_end<R: Source>(
+    source: &mut R,
+    mut parser: Parser,
+    buffer: &mut [u8],
+) -> Result<Vec<Block>, Fault>
+    requires failures { R.failed source.old < 2 ^ 64 - 1 }
+    requires parses { Parses parser.feed (open_of parser.blocks) [] }
+    requires room { 0 < length buffer.old }
+    ensures { (bytes : List ℕ) × Consumes (R.remaining source.old) (R.remaining source.new) bytes
+        × Reads result parser.feed.limit bytes
+        (record { remaining = R.remaining source.old; failed = R.failed source.old })
+        (record { remaining = R.remaining source.new; failed = R.failed source.new }) }
+{
+    loop {
+        let Ok(n) = source.read(buffer) else {
+            return Err(Fault::ReadFailed);
+        };
+        if n == 0 {
+            return parser.finish();
+        }
+        parser.feed(&buffer[..n])?;
+    }
+}
