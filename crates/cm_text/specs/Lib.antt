@@ -7,4 +7,5 @@ pub mod Limits
 pub mod Faults
 pub mod Settled
 pub mod Feed
+pub mod WorkedExamples
 pub mod FeedSteps

@@ -2,6 +2,7 @@
 ghost use Rattle.cm_text.specs.Lines.{LinesAreComputed, LinesAreDetermined};
 ghost use Rattle.cm_text.specs.Cut.{LinesAreCut};
 ghost use Rattle.cm_text.specs.Settled.{SettledIsTold};
+ghost use Rattle.cm_text.specs.WorkedExamples.{LineExamples, FaultExamples, IndentationExamples};
 
 /// A text has one list of lines.
 pub fn lines_are_determined()
@@ -21,4 +22,11 @@ pub fn lines_are_cut()
 /// A feed tells a fault just where every text that begins with the bytes so far has it.
 pub fn settled_is_told()
     ensures { SettledIsTold }
+{}
+
+/// Worked examples over the definitions, by computation.
+pub fn worked_examples()
+    ensures lines { LineExamples }
+    ensures faults { FaultExamples }
+    ensures indentation { IndentationExamples }
 {}
