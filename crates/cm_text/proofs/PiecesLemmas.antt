@@ -1,8 +1,9 @@
 -- What is left of a list of pieces.
-use Rattle.std.proofs.Common.{◌≡◌, ℕ, ◌+◌, ◌-◌, ◌<◌, ◌≤◌, List, ◌++◌, length, take, drop, get_or, refl, sym, ap, ◌∙◌, arith, add-one, drop-cons, drop-drop, take-append-drop, append_assoc, take_all, length-drop, min}
+use Rattle.std.proofs.Common.{[], Some, length-append, ◌≡◌, ℕ, ◌+◌, ◌-◌, ◌<◌, ◌≤◌, List, ◌++◌, length, take, drop, get_or, refl, sym, ap, ◌∙◌, arith, add-one, drop-cons, drop-drop, take-append-drop, append_assoc, take_all, length-drop, min}
 use Rattle.std.specs.List.{flat_map}
 use Rattle.std.proofs.lemmas.List.{drop-append-le}
 use Rattle.std.proofs.Math.Seq.{drop-append-add}
+use Rattle.std.proofs.Math.ListN.{drop_of_length-le}
 
 pub joined_next : {X : Type 0} (f : X → List ℕ) (ps : List X) (i : ℕ) (d : X) → i < length ps
     → flat_map f (drop i ps) ≡ f (get_or ps i d) ++ flat_map f (drop (i + 1) ps)
@@ -38,3 +39,15 @@ bytes_given all piece later out s n room whole inside count given =
 pub some_given : (piece : List ℕ) (s n room : ℕ) → s < length piece
     → n ≡ min (length (take (length piece - s) (drop s piece))) room → n ≡ 0 → room ≡ 0
 some_given piece s n room inside count none = omega (arith, count, ap length (rest_of_piece piece s), length-drop s piece)
+
+-- within a piece something is left
+pub some_left : (piece rest : List ℕ) (s : ℕ) → s < length piece → drop s (piece ++ rest) ≡ [] → ⊥
+some_left piece rest s inside none = omega (arith, ap length none, length-drop s (piece ++ rest), length-append piece rest)
+
+-- past the last piece nothing is left
+pub none_left : {X : Type 0} (f : X → List ℕ) (ps : List X) (i s : ℕ) → length ps ≤ i → drop s (flat_map f (drop i ps)) ≡ []
+none_left f ps i s past =
+    ap (λ t. drop s (flat_map f t)) (drop_of_length-le ps past) ∙ drop_of_length-le [] (omega arith)
+
+pub unwrapped : (xs ys : List ℕ) → Some xs ≡ Some ys → xs ≡ ys
+unwrapped xs ys same = cc

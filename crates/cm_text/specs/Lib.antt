@@ -1,5 +1,6 @@
 pub mod LineText
 pub mod Lines
+pub mod Devices
 pub mod Indentation
 pub mod Runs
 pub mod Cut

@@ -1,9 +1,13 @@
 -- What a builder holds of the blocks of the lines so far.
-use Rattle.std.specs.Prelude.{ℕ, List, ◌++◌, map, string_bytes}
+use Rattle.std.specs.Prelude.{ℕ, ◌==◌, Bool, ◌||◌, List, ◌++◌, map, string_bytes}
 use Rattle.cm_text.specs.Lines.{LineView}
 use Rattle.cm_tool.specs.declared.blocks.Blocks.{Blocks}
 use Rattle.cm_tool.specs.Tree.{BlockView, block_view}
 use Rattle.cm_tool.specs.Blocks.{blocks_after}
+
+-- `*`, `-` or `_`, which a thematic break is made of
+abbrev pub is_marker : ℕ → Bool
+is_marker b = b == 42 || b == 45 || b == 95
 
 -- the blocks that are closed, and the source of the open run of text lines, which is empty if none is open
 pub record Open : Type 0 where

@@ -1,6 +1,6 @@
-use Rattle.std.proofs.Common.{rules, ◌≡◌, ◌+◌, ◌++◌, length, drop, sym, ◌∙◌, arith}
+use Rattle.std.proofs.Common.{ap, sym, ◌∙◌, arith, length, ◌≤◌, Some, rules, ◌≡◌, ◌+◌, ◌++◌, drop}
 use Rattle.std.specs.List.{flat_map}
-use Rattle.cm_text.proofs.PiecesLemmas.{joined_next, piece_passed, bytes_given, some_given}
+use Rattle.cm_text.proofs.PiecesLemmas.{joined_next, piece_passed, bytes_given, some_given, some_left, none_left, unwrapped}
 use Rattle.cm_text.proofs.device.PiecesSource.read.Goals as goal
 
 pub returns-then-self-piece-clause-bytes : goal.returns-then-self-piece-clause-bytes
@@ -16,4 +16,20 @@ pub loop-self-preserved : goal.loop-self-preserved
 loop-self-preserved c =
     let next = joined_next (λ piece. piece.items) c.loop-self.self.pieces.items c.loop-self.self.index c.index.result.now (omega arith) in
     let passed = piece_passed c.as_slice-piece.result.now (flat_map (λ piece. piece.items) (drop (c.loop-self.self.index + 1) c.loop-self.self.pieces.items)) c.loop-self.self.start c.if-self-piece.false in
-    record { same = cc; failures = search rules }
+    record { same = cc; failures = search rules; fails = search rules }
+
+pub returns-then-self-piece-clause-ends : goal.returns-then-self-piece-clause-ends
+returns-then-self-piece-clause-ends c = λ fails none.
+    let later = flat_map (λ piece. piece.items) (drop (c.loop-self.self.index + 1) c.loop-self.self.pieces.items) in
+    let next = joined_next (λ piece. piece.items) c.loop-self.self.pieces.items c.loop-self.self.index c.index.result.now (omega arith) in
+    let whole : flat_map (λ piece. piece.items) (drop c.loop-self.self.index c.loop-self.self.pieces.items) ≡ c.as_slice-piece.result.now ++ later = cc in
+    absurd (some_left c.as_slice-piece.result.now later c.loop-self.self.start c.if-self-piece.true (ap (drop c.loop-self.self.start) (sym whole) ∙ c.loop-self.invariant.same ∙ unwrapped _ _ none))
+
+pub returns-then-self-clause-fails : goal.returns-then-self-clause-fails
+returns-then-self-clause-fails c =
+    let i = c.loop-self.invariant in
+    let past : length c.loop-self.self.pieces.items ≤ c.loop-self.self.index = omega (arith, c.loop-self-test.false, c.len.ensures, c.loop-self.self.pieces.ok) in
+    (ap Some (sym i.same ∙ none_left (λ piece. piece.items) c.loop-self.self.pieces.items c.loop-self.self.index c.loop-self.self.start past), sym i.fails ∙ c.if-self.true)
+
+pub returns-clause-ends : goal.returns-clause-ends
+returns-clause-ends c = λ fails none. sym c.if-self.false ∙ c.loop-self.invariant.fails ∙ fails

@@ -7,6 +7,7 @@ invariant-loop-self l = record {
   same : drop l.self.start (flat_map (λ piece. piece.items) (drop l.self.index l.self.pieces.items))
       ≡ drop l.initial.self.start (flat_map (λ piece. piece.items) (drop l.initial.self.index l.initial.self.pieces.items));
   failures : l.self.failures ≡ l.initial.self.failures;
+  fails : l.self.fails ≡ l.initial.self.fails;
 }
 
 abbrev pub decreases-loop-self : goal.decreases-loop-self

@@ -1,0 +1,30 @@
+-- What the devices in memory hold.
+use Rattle.std.specs.Prelude.{ℕ, ◌-◌, ◌==◌, ◌&&◌, not, min, Bool, List, length, Result, Ok, Err, if◌then◌else◌}
+use Rattle.cm_text.specs.declared.device.DeviceFailed.{DeviceFailed}
+use Rattle.cm_text.specs.declared.device.Pieces.{Pieces}
+use Rattle.cm_text.specs.declared.device.Room.{Room}
+
+abbrev device_failed : DeviceFailed
+device_failed = record { }
+
+-- whether reads fail once the pieces are used up
+abbrev pub fails_of : Pieces → Bool
+fails_of pieces = pieces.fails
+
+-- how many bytes the room takes in all
+abbrev pub capacity_of : Room → ℕ
+capacity_of room = room.capacity
+
+-- how many it takes in one call at most
+abbrev pub at_most_of : Room → ℕ
+at_most_of room = room.at_most
+
+-- how many of so many bytes it takes now
+abbrev pub part_of : Room → ℕ → ℕ
+part_of room count = min (min count (room.capacity - length room.bytes.items)) room.at_most
+
+-- what it answers to these bytes: to take nothing of some is a failure
+abbrev pub answer_of : Room → List ℕ → Result ℕ DeviceFailed
+answer_of room bytes =
+    let part = part_of room (length bytes) in
+    if part == 0 && not (length bytes == 0) then Err device_failed else Ok part

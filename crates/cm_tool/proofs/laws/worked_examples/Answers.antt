@@ -1,0 +1,14 @@
+use Rattle.std.proofs.Common.{refl}
+use Rattle.cm_tool.proofs.laws.worked_examples.Goals as goal
+
+pub returns : goal.returns
+returns c = record {
+  paragraph_over_two_lines = refl;
+  break_between_paragraphs = refl;
+  break_of_underscores = refl;
+  blank_line = refl;
+  four_columns = refl;
+  two_markers = refl;
+  references = refl;
+  tab_before_soft_break = refl;
+}

@@ -1,0 +1,45 @@
+-- What a run of a task, or of what stands in place of a task, writes and answers.
+use Rattle.std.specs.Prelude.{◌≡◌, ℕ, ◌≤◌, List, Result, Ok, Err, length, take, codes, string_bytes, ◌++◌, ◌⊎◌}
+use Rattle.cm_tool.specs.Reading.{SourceView}
+use Rattle.cm_tool.specs.Convert.{SinkView, IsUnwritten, Wrote, Converts}
+use Rattle.cm_tool.specs.declared.fault.Fault.{Fault}
+use Rattle.cm_tool.specs.declared.job.Stop.{Stop}
+use Rattle.cm_tool.specs.declared.job.Stop.TheVariants.{Help, Wrong, NoMemory}
+
+-- a front of the text was written, up to a failure
+abbrev pub WroteFront : SinkView → SinkView → List ℕ → Type 0
+WroteFront old new text = (written : ℕ) × Wrote old new (take written text) 1 × (written ≤ length text)
+
+-- the text was written, or a front of it up to a failure
+abbrev pub Offered : SinkView → SinkView → List ℕ → Type 0
+Offered old new text = Wrote old new text 0 ⊎ WroteFront old new text
+
+-- the same of some line for a fault
+abbrev pub OfferedLine : SinkView → SinkView → Type 0
+OfferedLine old new = (text : List ℕ) × Offered old new (codes "cmk: " ++ text ++ codes "\n")
+
+-- the exit status after an answer
+abbrev pub status_of : Result ℕ Fault → ℕ
+status_of (Ok _) = 0
+status_of (Err _) = 1
+
+-- the errors get a line for a fault, and else nothing
+abbrev pub Reports : Result ℕ Fault → SinkView → SinkView → Type 0
+Reports (Ok _) old new = IsUnwritten old new
+Reports (Err _) old new = OfferedLine old new
+
+-- the task's conversion has this answer, and the status and the errors tell it
+pub record Answers (answer : Result ℕ Fault) (status limit : ℕ) (bytes : List ℕ) (from left : SourceView) (old new old-errors new-errors : SinkView) : Type 0 where
+  pub converts : Converts answer limit bytes from left old new
+  pub told : status ≡ status_of answer
+  pub reports : Reports answer old-errors new-errors
+
+-- help is written, which may fail; a wrong command line is told; want of memory has its line
+abbrev pub Tells : Stop → ℕ → SinkView → SinkView → SinkView → SinkView → Type 0
+Tells (Help text) status old new old-errors new-errors =
+    ((status ≡ 0) × Wrote old new (string_bytes text) 0 × IsUnwritten old-errors new-errors)
+    ⊎ ((status ≡ 1) × WroteFront old new (string_bytes text) × OfferedLine old-errors new-errors)
+Tells (Wrong text) status old new old-errors new-errors =
+    (status ≡ 2) × IsUnwritten old new × Offered old-errors new-errors (string_bytes text)
+Tells NoMemory status old new old-errors new-errors =
+    (status ≡ 1) × IsUnwritten old new × OfferedLine old-errors new-errors

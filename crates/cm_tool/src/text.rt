@@ -1,0 +1,58 @@
+//! Parts of a text, without copying.
+ghost use Rattle.std.specs.Prelude.{◌≡◌, ℕ, ◌+◌, ◌-◌, ◌<◌, ◌≤◌, length, take, drop, slice_index, IsUtf8};
+ghost use Rattle.cm_tool.specs.Trim.{is_space, is_space_or_tab, trim_start, trim_end};
+
+/// Whether a byte is a space or a tab.
+#[inline(always)]
+pub(crate) fn is_space_or_tab(b: u8) -> bool
+    ensures { result ≡ is_space_or_tab b }
+{
+    b == b' ' || b == b'\t'
+}
+
+/// The text without the spaces and tabs at its front.
+pub(crate) fn trim_start(text: &str) -> &str
+    ensures { result.now ≡ trim_start text.now }
+{
+    let bytes = text.as_bytes();
+    let mut start = 0;
+    while start < bytes.len() && is_space_or_tab(bytes[start]) {
+        start += 1;
+    }
+    &text[start..]
+}
+
+/// The text without the spaces and tabs at its end.
+pub(crate) fn trim_end(text: &str) -> &str
+    ensures { result.now ≡ trim_end is_space_or_tab text.now }
+{
+    let bytes = text.as_bytes();
+    let mut end = bytes.len();
+    while end > 0 && is_space_or_tab(bytes[end - 1]) {
+        end -= 1;
+    }
+    &text[..end]
+}
+
+/// The text without the spaces at its end.
+pub(crate) fn trim_end_spaces(text: &str) -> &str
+    ensures { result.now ≡ trim_end is_space text.now }
+{
+    let bytes = text.as_bytes();
+    let mut end = bytes.len();
+    while end > 0 && bytes[end - 1] == b' ' {
+        end -= 1;
+    }
+    &text[..end]
+}
+
+/// What stands before an ASCII character, and what stands after it.
+pub(crate) fn cut_at(text: &str, at: usize) -> (&str, &str)
+    requires within { at < length text.now }
+    requires ascii { slice_index text.now at < 128 }
+    ensures before { result.0.now ≡ take at text.now }
+    ensures after { result.1.now ≡ drop (at + 1) text.now }
+    ensures after_utf8 { IsUtf8 result.1.now }
+{
+    (&text[..at], &text[at + 1..])
+}
