@@ -1,11 +1,11 @@
 -- What the devices in memory hold.
 use Rattle.std.specs.Prelude.{ℕ, ◌-◌, ◌==◌, ◌&&◌, not, min, Bool, List, length, Result, Ok, Err, if◌then◌else◌}
 use Rattle.cm_text.specs.declared.device.DeviceFailed.{DeviceFailed}
-use Rattle.cm_text.specs.declared.device.Pieces.{Pieces}
-use Rattle.cm_text.specs.declared.device.Room.{Room}
+use Rattle.cm_text.specs.declared.device.pieces.Pieces.{Pieces}
+use Rattle.cm_text.specs.declared.device.room.Room.{Room}
 
 abbrev device_failed : DeviceFailed
-device_failed = record { }
+device_failed = record {}
 
 -- whether reads fail once the pieces are used up
 abbrev pub fails_of : Pieces → Bool

@@ -70,4 +70,3 @@ impl Cutter {
         Ok((valid, broken))
     }
 }
-

@@ -5,10 +5,16 @@ use crate::pieces::{sink, source};
 use cm_text::Limits;
 use cm_tool::{Fault, convert};
 use std::alloc::Global;
+use std::process::Abort;
 use std::test::Fail;
 
 // What a text cut so is converted to.
-fn converted(alloc: Global, text: &[u8], mask: u64, limits: Limits) -> Result<(Result<usize, Fault>, Vec<u8>), Fail> {
+fn converted(
+    alloc: Global,
+    text: &[u8],
+    mask: u64,
+    limits: Limits,
+) -> Result<(Result<usize, Fault>, Vec<u8>), Fail> {
     let mut from = source(alloc, text, mask, false)?;
     let mut room = sink(alloc, 1000, 1000)?;
     let answer = convert(alloc, &mut from, &mut room, limits);
@@ -16,32 +22,43 @@ fn converted(alloc: Global, text: &[u8], mask: u64, limits: Limits) -> Result<(R
     Ok((answer, taken))
 }
 
-// Whole, byte by byte, in every cut in two, and in every cut if the text has at most 8 bytes.
-fn is_converted(rt: &HostRuntime, text: &[u8], limits: Limits, want: Result<&str, Fault>) -> Result<(), Fail> {
-    let alloc = rt.alloc();
+// The cuts of a text of so many bytes: none, after each byte, each cut in two, and, of at most 8
+// bytes, each cut.
+fn masks(alloc: Global, len: usize) -> Result<Vec<u64>, Fail> {
+    let mut masks = vec![in alloc; 0, u64::MAX]?;
+    let mut bit = 1u64;
+    for _ in 0..len.min(40) {
+        masks.push(bit)?;
+        bit = bit.wrapping_mul(2);
+    }
+    if len <= 8 {
+        for mask in 0..1u64 << len {
+            masks.push(mask)?;
+        }
+    }
+    Ok(masks)
+}
+
+// The text is converted so, however it is cut.
+fn is_converted(
+    rt: &impl Abort,
+    alloc: Global,
+    text: &[u8],
+    limits: Limits,
+    want: Result<&str, Fault>,
+) -> Result<(), Fail> {
     let expected = match want {
         Ok(html) => html,
         Err(_) => "",
     };
-    let mut masks = vec![in alloc; 0u64, u64::MAX]?;
-    let mut bit = 1u64;
-    for _ in 0..40 {
-        masks.push(bit)?;
-        bit = bit.wrapping_mul(2);
-    }
-    if text.len() <= 8 {
-        for mask in 0..256u64 {
-            masks.push(mask)?;
-        }
-    }
-    for mask in &masks {
+    for mask in &masks(alloc, text.len())? {
         let (answer, taken) = converted(alloc, text, *mask, limits)?;
         let wanted = match want {
             Ok(html) => Ok(html.len()),
             Err(fault) => Err(fault),
         };
-        assert_eq!(*rt; answer, wanted, "{text:?}");
-        assert_eq!(*rt; taken.as_slice(), expected.as_bytes(), "{text:?}");
+        assert_eq!(rt; answer, wanted, "{text:?}");
+        assert_eq!(rt; taken.as_slice(), expected.as_bytes(), "{text:?}");
     }
     Ok(())
 }
@@ -64,7 +81,7 @@ fn paragraphs_and_breaks(rt: HostRuntime) -> Result<(), Fail> {
         (b"\xF0\x9F\x98\x80 \n".as_slice(), "<p>\u{1F600}</p>\n"),
         (b"\xEF\xBB\xBFa".as_slice(), "<p>\u{FEFF}a</p>\n"),
     ] {
-        is_converted(&rt, text, Limits::standard(), Ok(html))?;
+        is_converted(&rt, rt.alloc(), text, Limits::standard(), Ok(html))?;
     }
     Ok(())
 }
@@ -81,7 +98,13 @@ fn faults_of_texts(rt: HostRuntime) -> Result<(), Fail> {
         (b"\xF4\x90\x80\x80".as_slice(), 0),
         (b"\xE2\x82A".as_slice(), 0),
     ] {
-        is_converted(&rt, text, Limits::standard(), Err(Fault::NotUtf8 { at }))?;
+        is_converted(
+            &rt,
+            rt.alloc(),
+            text,
+            Limits::standard(),
+            Err(Fault::NotUtf8 { at }),
+        )?;
     }
     Ok(())
 }
@@ -96,7 +119,7 @@ fn limits_of_texts(rt: HostRuntime) -> Result<(), Fail> {
         (b"a\xE2AA".as_slice(), Err(Fault::NotUtf8 { at: 1 })),
         (b"ab\xE2".as_slice(), Err(Fault::NotUtf8 { at: 2 })),
     ] {
-        is_converted(&rt, text, limits, want)?;
+        is_converted(&rt, rt.alloc(), text, limits, want)?;
     }
     Ok(())
 }

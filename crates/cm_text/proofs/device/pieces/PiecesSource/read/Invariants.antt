@@ -1,6 +1,6 @@
 use Rattle.std.proofs.Common.{◌≡◌, ◌-◌, drop, vec_len}
 use Rattle.std.specs.List.{flat_map}
-use Rattle.cm_text.proofs.device.PiecesSource.read.Given as goal
+use Rattle.cm_text.proofs.device.pieces.PiecesSource.read.Given as goal
 
 abbrev pub invariant-loop-self : goal.invariant-loop-self
 invariant-loop-self l = record {

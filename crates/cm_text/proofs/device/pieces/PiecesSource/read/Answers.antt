@@ -1,7 +1,7 @@
 use Rattle.std.proofs.Common.{ap, sym, ◌∙◌, arith, length, ◌≤◌, Some, rules, ◌≡◌, ◌+◌, ◌++◌, drop}
 use Rattle.std.specs.List.{flat_map}
 use Rattle.cm_text.proofs.PiecesLemmas.{joined_next, piece_passed, bytes_given, some_given, some_left, none_left, unwrapped}
-use Rattle.cm_text.proofs.device.PiecesSource.read.Goals as goal
+use Rattle.cm_text.proofs.device.pieces.PiecesSource.read.Goals as goal
 
 pub returns-then-self-piece-clause-bytes : goal.returns-then-self-piece-clause-bytes
 returns-then-self-piece-clause-bytes c =

@@ -1,0 +1,47 @@
+//! A writer of std as a sink.
+ghost use Rattle.std.specs.Prelude.{◌≡◌};
+
+use crate::device::{DeviceFailed, Sink};
+use std::io::Write;
+
+/// A writer of std as a sink: every error of the writer is a failure, and so is a write that takes
+/// nothing of a nonempty piece. The bytes taken are those that the writer tells; a file or a terminal
+/// leaves them open.
+#[derive(Drop)]
+pub struct FromWrite<W> {
+    writer: W,
+    failures: u64,
+}
+
+impl<W: Write> FromWrite<W> {
+    /// A sink over the writer, without failures so far.
+    pub fn new(writer: W) -> Self
+        ensures failed { ⟦<FromWrite<W> as Sink>⟧.failed result ≡ 0 }
+        ensures taken { ⟦<FromWrite<W> as Sink>⟧.taken result ≡ W.contents writer }
+    {
+        FromWrite {
+            writer,
+            failures: 0,
+        }
+    }
+}
+
+impl<W: Write> Sink for FromWrite<W> {
+    ghost taken = { λ s. W.contents s.writer };
+
+    ghost failed = { λ s. s.failures };
+
+    fn write(&mut self, bytes: &[u8]) -> Result<usize, DeviceFailed> {
+        match self.writer.write(bytes) {
+            Ok(n) if n > 0 || bytes.is_empty() => Ok(n),
+            _ => {
+                self.failures += 1;
+                Err(DeviceFailed)
+            }
+        }
+    }
+
+    fn failures(&self) -> u64 {
+        self.failures
+    }
+}

@@ -1,0 +1,89 @@
+//! A source in memory.
+ghost use Rattle.std.specs.Prelude.{◌≡◌, ◌+◌, ◌-◌, ◌^◌, ◌<◌, [], length, take, drop, Some, OnErr, IsErr, is_ok, if◌then◌else◌, true, min};
+ghost use Rattle.std.specs.Io.{ReadsAtMost};
+ghost use Rattle.std.specs.Io.KnownBytes.{ReadConsumes};
+ghost use Rattle.std.specs.List.{flat_map};
+
+use crate::device::{DeviceFailed, Source};
+
+/// A source in memory, for tests: pieces, of which empty ones are passed over, and then the end or a
+/// failure. No read gives bytes of two pieces.
+#[derive(Drop)]
+pub struct Pieces {
+    pieces: Vec<Vec<u8>>,
+    // The piece that is read, and how much of it has been read.
+    index: usize,
+    start: usize,
+    fails: bool,
+    failures: u64,
+}
+
+impl Pieces {
+    ghost use Rattle.cm_text.specs.Devices.{fails_of};
+
+    /// A source of the pieces in order, which then ends, or fails at each further read if `fails`.
+    pub fn new(pieces: Vec<Vec<u8>>, fails: bool) -> Self
+        ensures failed { ⟦<Pieces as Source>⟧.failed result ≡ 0 }
+        ensures remaining { ⟦<Pieces as Source>⟧.remaining result
+            ≡ Some (flat_map (λ piece. piece.items) pieces.items) }
+        ensures fails { fails_of result ≡ fails }
+    {
+        Pieces {
+            pieces,
+            index: 0,
+            start: 0,
+            fails,
+            failures: 0,
+        }
+    }
+}
+
+// Copies as many of the bytes as the buffer holds.
+fn give(bytes: &[u8], buf: &mut [u8]) -> usize
+    ensures count { result ≡ min (length bytes.now) (length buf.old) }
+    ensures given { take result buf.new ≡ take result bytes.now }
+{
+    let count = bytes.len().min(buf.len());
+    buf[..count].copy_from_slice(&bytes[..count]);
+    count
+}
+
+impl Source for Pieces {
+    ghost use Rattle.cm_text.specs.Devices.{fails_of};
+
+    ghost remaining = { λ s. Some (drop s.start (flat_map (λ piece. piece.items) (drop s.index s.pieces.items))) };
+
+    ghost failed = { λ s. s.failures };
+
+    fn read(&mut self, buf: &mut [u8]) -> Result<usize, DeviceFailed>
+        requires { ⟦<Pieces as Source>⟧.failed self.old < 2 ^ 64 - 1 }
+        ensures bound { ReadsAtMost result buf.new }
+        ensures bytes { ReadConsumes (⟦<Pieces as Source>⟧.remaining self.old) (⟦<Pieces as Source>⟧.remaining self.new) result buf.new }
+        ensures failures { ⟦<Pieces as Source>⟧.failed self.new
+            ≡ (if is_ok result then ⟦<Pieces as Source>⟧.failed self.old else ⟦<Pieces as Source>⟧.failed self.old + 1) }
+        // It fails exactly where the pieces are used up and it was made to.
+        ensures fails { OnErr result ((⟦<Pieces as Source>⟧.remaining self.old ≡ Some []) × (fails_of self.old ≡ true)) }
+        ensures ends { fails_of self.old ≡ true → ⟦<Pieces as Source>⟧.remaining self.old ≡ Some [] → IsErr result }
+        ensures kept { fails_of self.new ≡ fails_of self.old }
+    {
+        while self.index < self.pieces.len() {
+            let piece = self.pieces[self.index].as_slice();
+            if self.start < piece.len() {
+                let given = give(&piece[self.start..], buf);
+                self.start += given;
+                return Ok(given);
+            }
+            self.start -= piece.len();
+            self.index += 1;
+        }
+        if self.fails {
+            self.failures += 1;
+            return Err(DeviceFailed);
+        }
+        Ok(0)
+    }
+
+    fn failures(&self) -> u64 {
+        self.failures
+    }
+}
