@@ -4,10 +4,10 @@ pub mod Inlines
 pub mod Blocks
 pub mod Building
 pub mod Html
-pub mod Examples
 pub mod Fault
 pub mod Reading
 pub mod Parsing
 pub mod Convert
+pub mod Examples
 pub mod CommandLine
 pub mod Running
