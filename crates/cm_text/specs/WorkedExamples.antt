@@ -1,5 +1,5 @@
 -- Worked examples, by computation.
-use Rattle.std.specs.Prelude.{◌≡◌, ◌^◌, ℕ, List, [], ◌∷◌, Some, None, codes}
+use Rattle.std.specs.Prelude.{◌≡◌, ◌^◌, [], ◌∷◌, Some, None, codes}
 use Rattle.cm_text.specs.declared.fault.TextFault.TheVariants.{NotUtf8, TooLong}
 use Rattle.cm_text.specs.Lines.{text_of, lines_of}
 use Rattle.cm_text.specs.Faults.{settled_fault, text_fault}

@@ -76,6 +76,7 @@ impl LineFeed {
         ensures limit { result.limit ≡ limits.bytes }
         ensures stands { (result.fault ≡ None) × (result.ended ≡ false) × StandsFor result [] 0 }
     {
+        // The range of the limit, which bounds what the feed counts.
         let _limit = limits.bytes();
         LineFeed {
             limits,

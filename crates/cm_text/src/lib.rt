@@ -3,13 +3,13 @@
 #![tactic(auto)]
 
 mod cutter;
-pub mod device;
-pub mod fault;
-pub mod feed;
-pub mod indentation;
+mod device;
+mod fault;
+mod feed;
+mod indentation;
 pub mod laws;
-pub mod limits;
-pub mod lines;
+mod limits;
+mod lines;
 mod utf8;
 
 pub use device::{DeviceFailed, FromRead, FromWrite, NoMemory, Pieces, Room, Sink, Source};

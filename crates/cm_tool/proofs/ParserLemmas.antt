@@ -1,12 +1,11 @@
 -- What a parser stands for, as more bytes come.
-use Rattle.std.proofs.Common.{◌≡◌, ℕ, ◌+◌, ◌-◌, ◌≤◌, Bool, true, false, List, [], ◌∷◌, ◌++◌, length, take, drop, map, refl, sym, ap, subst, ◌∙◌, arith, append_assoc, append-nil, length-append, length-drop, Some, None}
-use Rattle.std.specs.Prelude.{Option, Result, Ok, Err}
-use Rattle.std.proofs.lemmas.List.{drop-append-le}
+use Rattle.std.proofs.Common.{◌≡◌, ℕ, ◌+◌, Bool, true, false, List, [], ◌∷◌, ◌++◌, length, drop, map, refl, sym, ap, subst, ◌∙◌, append_assoc, append-nil, length-append, Some, None}
+use Rattle.std.specs.Prelude.{Option, Ok, Err}
 use Rattle.cm_text.specs.declared.fault.TextFault.{TextFault}
 use Rattle.cm_text.specs.declared.fault.TextFault.TheVariants as text_faults
 use Rattle.cm_text.specs.Lines.{LineView, plain_line, last_line, plain_lines_of, text_of}
 use Rattle.cm_text.specs.Cut.{Cut, IsFront}
-use Rattle.cm_text.specs.Faults.{settled_fault, text_fault}
+use Rattle.cm_text.specs.Faults.{text_fault}
 use Rattle.cm_text.specs.Feed.{Feed, Goes, HasEnded, StandsFor, StandsAs, Answers, answer_of, cut_bytes, with_ready}
 use Rattle.cm_text.proofs.FeedLemmas.{goes, goes_on, ended_front, whole_lines}
 use Rattle.cm_tool.specs.Fault.{told}
@@ -55,8 +54,8 @@ push_parses old pushed new before after bytes piece p limit going sound was is n
       sound = new_sound;
       feeds = subst Q (total ∙ ap (λ l. count_of l (bytes ++ piece)) (sym same)) (goes new (bytes ++ piece) _ new_sound new_going now);
       handed = subst R (sym same) (λ more.
-      ap (λ t. blocks_of (t ++ more)) (sym whole) ∙ ap blocks_of (append_assoc (cut_bytes old.limit bytes).ended pushed.cut.ended more)
-      ∙ p.handed (pushed.cut.ended ++ more) ∙ sym (handed more));
+          ap (λ t. blocks_of (t ++ more)) (sym whole) ∙ ap blocks_of (append_assoc (cut_bytes old.limit bytes).ended pushed.cut.ended more)
+          ∙ p.handed (pushed.cut.ended ++ more) ∙ sym (handed more));
     }
 
 -- the last line, once the text has ended

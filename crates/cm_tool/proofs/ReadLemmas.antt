@@ -1,10 +1,8 @@
 -- A reading, piece by piece.
-use Rattle.std.proofs.Common.{◌≡◌, ℕ, ◌+◌, List, [], ◌++◌, take, refl, sym, ap, subst, ◌∙◌, append_assoc, append-nil, Some, None, inl, inr}
-use Rattle.std.specs.Prelude.{Option, Result, Ok, Err, MatchResult}
+use Rattle.std.proofs.Common.{◌≡◌, ℕ, List, [], ◌++◌, take, refl, sym, ap, subst, ◌∙◌, append_assoc, append-nil, Some, None, inl, inr}
+use Rattle.std.specs.Prelude.{Option, Result, Ok, Err}
 use Rattle.std.specs.Io.KnownBytes.{Consumes, Keeps, IsAtEnd}
-use Rattle.cm_text.specs.declared.fault.TextFault.{TextFault}
-use Rattle.cm_text.specs.declared.fault.TextFault.TheVariants as text_faults
-use Rattle.cm_text.specs.Faults.{settled_fault, text_fault}
+use Rattle.cm_text.specs.Faults.{settled_fault}
 use Rattle.cm_text.specs.Feed.{Feed}
 use Rattle.cm_tool.specs.declared.fault.Fault.{Fault}
 use Rattle.cm_tool.specs.declared.fault.Fault.TheVariants.{NotUtf8, TooLong, NoMemory, ReadFailed, WriteFailed}

@@ -1,6 +1,6 @@
 -- What a conversion writes and answers.
 use Rattle.std.specs.Prelude.{◌≡◌, ℕ, ◌+◌, ◌≤◌, List, length, take, Option, Result, Ok, Err, ◌⊎◌}
-use Rattle.std.specs.Io.KnownBytes.{Consumes, Appends, Keeps}
+use Rattle.std.specs.Io.KnownBytes.{Appends, Keeps}
 use Rattle.cm_tool.specs.declared.fault.Fault.{Fault}
 use Rattle.cm_tool.specs.declared.fault.Fault.TheVariants.{NotUtf8, TooLong, NoMemory, ReadFailed, WriteFailed}
 use Rattle.cm_tool.specs.Html.{html_of}

@@ -2,16 +2,16 @@
 #![tactic(auto)]
 
 mod blocks;
-pub mod command_line;
-pub mod conversion;
-pub mod fault;
+mod command_line;
+mod conversion;
+mod fault;
 mod html;
 mod inlines;
-pub mod job;
+mod job;
 pub mod laws;
 mod parser;
 mod read;
-pub mod running;
+mod running;
 mod text;
 mod tree;
 mod write;

@@ -1,4 +1,4 @@
-use Rattle.std.proofs.Common.{◌≡◌, ◌++◌, ◌<◌, ℕ, List, [], take, length, arith, refl, ap, subst, ◌∙◌}
+use Rattle.std.proofs.Common.{◌++◌, take, arith}
 use Rattle.std.proofs.lemmas.Result.{err_from_is_err_and}
 use Rattle.cm_tool.proofs.ReadLemmas.{more_so_far, whole_read, more_read, last_read, fault_told}
 use Rattle.cm_tool.proofs.read.read_to_end.Goals as goal

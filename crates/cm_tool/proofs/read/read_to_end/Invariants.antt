@@ -1,4 +1,4 @@
-use Rattle.std.proofs.Common.{◌≡◌, ℕ, ◌-◌, ◌<◌, List, length}
+use Rattle.std.proofs.Common.{ℕ, ◌-◌, List}
 use Rattle.cm_text.specs.Feed.{count}
 use Rattle.cm_tool.specs.Building.{open_of}
 use Rattle.cm_tool.proofs.ReadLemmas.{SoFar}

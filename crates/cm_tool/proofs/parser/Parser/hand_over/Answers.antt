@@ -1,4 +1,4 @@
-use Rattle.std.proofs.Common.{◌≡◌, ◌∙◌, ℕ, ◌+◌, ◌++◌, ◌∷◌, ap, sym, arith, length, subst}
+use Rattle.std.proofs.Common.{◌≡◌, ◌∙◌, ℕ, ◌+◌, ◌++◌, ap, sym, arith, length, subst}
 use Rattle.cm_text.specs.Feed.{with_ready, StandsFor}
 use Rattle.cm_tool.specs.Building.{blocks_with, open_of}
 use Rattle.cm_tool.proofs.parser.Parser.hand_over.Goals as goal
