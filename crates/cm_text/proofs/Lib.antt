@@ -4,3 +4,5 @@ pub mod LinesLemmas
 pub mod Utf8Lemmas
 pub mod FeedLemmas
 pub mod SettledLemmas
+pub mod LabelLemmas
+pub mod Computing

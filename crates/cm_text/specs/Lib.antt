@@ -10,3 +10,4 @@ pub mod Settled
 pub mod Feed
 pub mod WorkedExamples
 pub mod FeedSteps
+pub mod Labels

@@ -4,6 +4,7 @@ use Rattle.cm_text.specs.declared.fault.TextFault.TheVariants.{NotUtf8, TooLong}
 use Rattle.cm_text.specs.Lines.{text_of, lines_of}
 use Rattle.cm_text.specs.Faults.{settled_fault, text_fault}
 use Rattle.cm_text.specs.Indentation.{indent_from}
+use Rattle.cm_text.specs.Labels.{fold_label}
 
 pub record LineExamples : Type 0 where
   pub no_text : lines_of [] ≡ []
@@ -33,3 +34,11 @@ pub record IndentationExamples : Type 0 where
   pub tab_after_spaces : indent_from 0 (codes "  \ta") ≡ 4
   pub tab_at_column_three : indent_from 3 (codes "\ta") ≡ 1
   pub blank : indent_from 0 (codes " \t ") ≡ 5
+
+pub record LabelExamples : Type 0 where
+  pub lower : fold_label (codes "foo") ≡ codes "foo"
+  pub upper : fold_label (codes "SS") ≡ codes "ss"
+  pub sharp : fold_label (0xE1 ∷ 0xBA ∷ 0x9E ∷ []) ≡ codes "ss"
+  pub ends_and_inside : fold_label (codes " A\t\nb ") ≡ codes "a b"
+  pub only_spaces : fold_label (codes "   ") ≡ []
+  pub other_space : fold_label (0xC2 ∷ 0xA0 ∷ 97 ∷ []) ≡ 0xC2 ∷ 0xA0 ∷ 97 ∷ []

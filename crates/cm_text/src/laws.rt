@@ -2,7 +2,7 @@
 ghost use Rattle.cm_text.specs.Lines.{LinesAreComputed, LinesAreDetermined};
 ghost use Rattle.cm_text.specs.Cut.{LinesAreCut};
 ghost use Rattle.cm_text.specs.Settled.{SettledIsTold};
-ghost use Rattle.cm_text.specs.WorkedExamples.{LineExamples, FaultExamples, IndentationExamples};
+ghost use Rattle.cm_text.specs.WorkedExamples.{LineExamples, FaultExamples, IndentationExamples, LabelExamples};
 
 /// A text has one list of lines.
 pub fn lines_are_determined()
@@ -29,4 +29,5 @@ pub fn worked_examples()
     ensures lines { LineExamples }
     ensures faults { FaultExamples }
     ensures indentation { IndentationExamples }
+    ensures labels { LabelExamples }
 {}

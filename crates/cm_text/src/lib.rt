@@ -7,6 +7,7 @@ mod device;
 mod fault;
 mod feed;
 mod indentation;
+mod labels;
 pub mod laws;
 mod limits;
 mod lines;
@@ -16,5 +17,6 @@ pub use device::{DeviceFailed, FromRead, FromWrite, NoMemory, Pieces, Room, Sink
 pub use fault::TextFault;
 pub use feed::LineFeed;
 pub use indentation::indent;
+pub use labels::fold_label;
 pub use limits::Limits;
 pub use lines::Line;

@@ -1,0 +1,5 @@
+pub mod Pushed
+pub mod EscapeLemmas
+pub mod Words
+pub mod WriteLemmas
+pub mod Destinations

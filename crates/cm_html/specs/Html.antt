@@ -1,0 +1,174 @@
+-- The HTML of a tree.
+use Rattle.std.specs.Prelude.{ℕ, Bool, true, false, List, [], ◌∷◌, ◌++◌, map, codes, cond, ◌==◌}
+use Rattle.std.specs.Fmt.{decimal}
+use Rattle.cm_tree.specs.declared.tree.Inline.{Inline, Inline-F}
+use Rattle.cm_tree.specs.declared.tree.Inline.TheOpen as inline
+use Rattle.cm_tree.specs.declared.tree.Inline.TheFolds.{fold-Inline}
+use Rattle.cm_tree.specs.declared.tree.Block.{Block, Block-F}
+use Rattle.cm_tree.specs.declared.tree.Block.TheOpen as block
+use Rattle.cm_tree.specs.declared.tree.Block.TheFolds.{fold-Block}
+use Rattle.cm_tree.specs.declared.tree.ListKind.{ListKind}
+use Rattle.cm_tree.specs.declared.tree.ListKind.TheVariants.{Dash, Plus, Star, Dot, Paren}
+use Rattle.cm_html.specs.Escape.{escape, destination_html, class_word}
+
+-- what an inline writes: its HTML, and its part of an image's alternative text
+pub record Spelled : Type 0 where
+  pub html : List ℕ
+  pub plain : List ℕ
+
+-- inlines, one after another
+abbrev pub join_html : List Spelled → List ℕ
+join_html [] = []
+join_html (inline ∷ inlines) = inline.html ++ join_html inlines
+
+abbrev pub join_plain : List Spelled → List ℕ
+join_plain [] = []
+join_plain (inline ∷ inlines) = inline.plain ++ join_plain inlines
+
+abbrev pub code_span_html : List ℕ → List ℕ
+code_span_html text = codes "<code>" ++ escape text ++ codes "</code>"
+
+abbrev pub emph_html : List ℕ → List ℕ
+emph_html html = codes "<em>" ++ html ++ codes "</em>"
+
+abbrev pub strong_html : List ℕ → List ℕ
+strong_html html = codes "<strong>" ++ html ++ codes "</strong>"
+
+-- an empty title has no attribute
+abbrev pub title_html : List ℕ → List ℕ
+title_html [] = []
+title_html (b ∷ bs) = codes " title=\"" ++ escape (b ∷ bs) ++ codes "\""
+
+abbrev pub link_start : List ℕ → List ℕ → List ℕ
+link_start dest title = codes "<a href=\"" ++ destination_html dest ++ codes "\"" ++ title_html title ++ codes ">"
+
+abbrev pub link_html : List ℕ → List ℕ → List ℕ → List ℕ
+link_html dest title html = link_start dest title ++ html ++ codes "</a>"
+
+abbrev pub image_start : List ℕ → List ℕ
+image_start dest = codes "<img src=\"" ++ destination_html dest ++ codes "\" alt=\""
+
+abbrev pub image_html : List ℕ → List ℕ → List ℕ → List ℕ
+image_html dest title plain = image_start dest ++ escape plain ++ codes "\"" ++ title_html title ++ codes " />"
+
+-- one inline, with what each inline of its content writes in its place
+abbrev pub inline_step : Inline-F Spelled → Spelled
+inline_step (inline.Text text) = record { html = escape text; plain = text }
+inline_step (inline.Code text) = record { html = code_span_html text; plain = text }
+inline_step (inline.Html text) = record { html = text; plain = text }
+inline_step inline.Soft = record { html = codes "\n"; plain = codes " " }
+inline_step inline.Hard = record { html = codes "<br />\n"; plain = codes " " }
+inline_step (inline.Emph content) = record { html = emph_html (join_html content); plain = join_plain content }
+inline_step (inline.Strong content) = record { html = strong_html (join_html content); plain = join_plain content }
+inline_step (inline.Link dest title content) = record { html = link_html dest title (join_html content); plain = join_plain content }
+inline_step (inline.Image dest title content) = record { html = image_html dest title (join_plain content); plain = join_plain content }
+
+abbrev pub spelled : Inline → Spelled
+spelled = fold-Inline Spelled inline_step
+
+abbrev pub inlines_html : List Inline → List ℕ
+inlines_html inlines = join_html (map spelled inlines)
+
+-- the alternative text of an image with this content
+abbrev pub alternative_text : List Inline → List ℕ
+alternative_text inlines = join_plain (map spelled inlines)
+
+abbrev pub paragraph_html : List ℕ → List ℕ
+paragraph_html html = codes "<p>" ++ html ++ codes "</p>\n"
+
+abbrev pub heading_html : ℕ → List ℕ → List ℕ
+heading_html level html = codes "<h" ++ decimal level ++ codes ">" ++ html ++ codes "</h" ++ decimal level ++ codes ">\n"
+
+abbrev pub class_start : List ℕ → List ℕ
+class_start word = codes "<pre><code class=\"language-" ++ escape word ++ codes "\">"
+
+-- the front of a code block with this class word, where an empty one has no attribute
+abbrev pub code_start : List ℕ → List ℕ
+code_start [] = codes "<pre><code>"
+code_start (b ∷ bs) = class_start (b ∷ bs)
+
+abbrev pub code_html : List ℕ → List ℕ → List ℕ
+code_html info text = code_start (class_word info) ++ escape text ++ codes "</code></pre>\n"
+
+abbrev pub quote_html : List ℕ → List ℕ
+quote_html html = codes "<blockquote>\n" ++ html ++ codes "</blockquote>\n"
+
+-- what a block writes, and whether it is a definition, which writes nothing, or a paragraph, by its inlines
+pub data Written : Type 0 where
+  Nothing : Written
+  Inlines : List ℕ → Written
+  Whole : List ℕ → Written
+
+-- a block that stands in no item
+abbrev pub alone : Written → List ℕ
+alone Nothing = []
+alone (Inlines html) = paragraph_html html
+alone (Whole html) = html
+
+abbrev pub all_alone : List Written → List ℕ
+all_alone [] = []
+all_alone (w ∷ ws) = alone w ++ all_alone ws
+
+abbrev pub line_feed : Bool → List ℕ
+line_feed true = codes "\n"
+line_feed false = []
+
+-- the blocks of an item of a tight list; the mark says that a block which is no paragraph begins on a new line
+abbrev pub tight_inside : Bool → List Written → List ℕ
+tight_inside fresh [] = []
+tight_inside fresh (Nothing ∷ ws) = tight_inside fresh ws
+tight_inside fresh (Inlines html ∷ ws) = html ++ tight_inside true ws
+tight_inside fresh (Whole html ∷ ws) = line_feed fresh ++ html ++ tight_inside false ws
+
+-- the blocks of an item of a loose list; the mark says that none was written yet
+abbrev pub loose_inside : Bool → List Written → List ℕ
+loose_inside first [] = []
+loose_inside first (Nothing ∷ ws) = loose_inside first ws
+loose_inside first (Inlines html ∷ ws) = line_feed first ++ paragraph_html html ++ loose_inside false ws
+loose_inside first (Whole html ∷ ws) = line_feed first ++ html ++ loose_inside false ws
+
+abbrev pub inside : Bool → List Written → List ℕ
+inside true ws = tight_inside true ws
+inside false ws = loose_inside true ws
+
+abbrev pub item_html : Bool → List Written → List ℕ
+item_html tight item = codes "<li>" ++ inside tight item ++ codes "</li>\n"
+
+abbrev pub items_html : Bool → List (List Written) → List ℕ
+items_html tight [] = []
+items_html tight (item ∷ items) = item_html tight item ++ items_html tight items
+
+abbrev pub ordered_start : ℕ → List ℕ
+ordered_start start = cond (start == 1) (codes "<ol>\n") (codes "<ol start=\"" ++ decimal start ++ codes "\">\n")
+
+abbrev pub list_start : ListKind → List ℕ
+list_start Dash = codes "<ul>\n"
+list_start Plus = codes "<ul>\n"
+list_start Star = codes "<ul>\n"
+list_start (Dot start) = ordered_start start
+list_start (Paren start) = ordered_start start
+
+abbrev pub list_end : ListKind → List ℕ
+list_end Dash = codes "</ul>\n"
+list_end Plus = codes "</ul>\n"
+list_end Star = codes "</ul>\n"
+list_end (Dot start) = codes "</ol>\n"
+list_end (Paren start) = codes "</ol>\n"
+
+-- one block, with what each block inside writes in its place
+abbrev pub block_step : Block-F Written → Written
+block_step (block.Paragraph content) = Inlines (inlines_html content)
+block_step (block.Heading level content) = Whole (heading_html level (inlines_html content))
+block_step (block.Code info text) = Whole (code_html info text)
+block_step (block.Html text) = Whole text
+block_step block.Break = Whole (codes "<hr />\n")
+block_step (block.Definition label dest title) = Nothing
+block_step (block.Quote blocks) = Whole (quote_html (all_alone blocks))
+block_step (block.List kind tight items) = Whole (list_start kind ++ items_html tight items ++ list_end kind)
+
+abbrev pub written : Block → Written
+written = fold-Block Written block_step
+
+-- the HTML of blocks
+abbrev pub html_of : List Block → List ℕ
+html_of blocks = all_alone (map written blocks)

@@ -1,0 +1,181 @@
+//! The HTML of blocks.
+ghost use Rattle.std.specs.Prelude.{◌≡◌, ◌++◌, true, map, string_bytes, OnOk};
+ghost use Rattle.cm_html.specs.Html.{list_start, list_end, ordered_start, inlines_html, written, alone, html_of, paragraph_html, heading_html, class_start, code_start, code_html, quote_html, item_html, tight_inside, loose_inside};
+
+use crate::escape::{class_word, push_escaped};
+use crate::inlines::push_inlines;
+use cm_tree::{Block, Inline, ListKind};
+use std::alloc::AllocError;
+
+/// Writes blocks, one after another.
+#[cycle(blocks)]
+pub(crate) fn push_blocks(out: &mut String, blocks: &[Block]) -> Result<(), AllocError>
+    ensures { OnOk result (string_bytes out.new ≡ string_bytes out.old ++ html_of blocks.now) }
+{
+    for block in blocks {
+        push_block(out, block)?;
+    }
+    Ok(())
+}
+
+/// Writes a block that stands in no item.
+#[cycle(blocks)]
+fn push_block(out: &mut String, block: &Block) -> Result<(), AllocError>
+    ensures { OnOk result (string_bytes out.new ≡ string_bytes out.old ++ alone (written block.now)) }
+{
+    match block {
+        Block::Paragraph(content) => push_paragraph(out, content.as_slice()),
+        Block::Heading { level, content } => push_heading(out, *level, content.as_slice()),
+        Block::Code { info, text } => push_code(out, info.as_str(), text.as_str()),
+        Block::Html { text } => out.push_str(text.as_str()),
+        Block::Break => out.push_str("<hr />\n"),
+        Block::Definition { .. } => Ok(()),
+        Block::Quote(blocks) => push_quote(out, blocks.as_slice()),
+        Block::List { kind, tight, items } => {
+            push_list_start(out, *kind)?;
+            for item in items.as_slice() {
+                push_item(out, *tight, item.as_slice())?;
+            }
+            push_list_end(out, *kind)
+        }
+    }
+}
+
+fn push_paragraph(out: &mut String, content: &[Inline]) -> Result<(), AllocError>
+    ensures { OnOk result (string_bytes out.new ≡ string_bytes out.old ++ paragraph_html (inlines_html content.now)) }
+{
+    out.push_str("<p>")?;
+    push_inlines(out, content)?;
+    out.push_str("</p>\n")
+}
+
+fn push_heading(out: &mut String, level: u8, content: &[Inline]) -> Result<(), AllocError>
+    ensures { OnOk result (string_bytes out.new ≡ string_bytes out.old ++ heading_html level (inlines_html content.now)) }
+{
+    write!(out, "<h{level}>")?;
+    push_inlines(out, content)?;
+    write!(out, "</h{level}>\n")
+}
+
+/// Writes the front of a code block with a class.
+fn push_class_start(out: &mut String, word: &str) -> Result<(), AllocError>
+    ensures { OnOk result (string_bytes out.new ≡ string_bytes out.old ++ class_start word.now) }
+{
+    out.push_str("<pre><code class=\"language-")?;
+    push_escaped(out, word)?;
+    out.push_str("\">")
+}
+
+/// Writes the front of a code block with this class word, which may be empty.
+fn push_code_start(out: &mut String, word: &str) -> Result<(), AllocError>
+    ensures { OnOk result (string_bytes out.new ≡ string_bytes out.old ++ code_start word.now) }
+{
+    if word.is_empty() {
+        return out.push_str("<pre><code>");
+    }
+    push_class_start(out, word)
+}
+
+fn push_code(out: &mut String, info: &str, text: &str) -> Result<(), AllocError>
+    ensures { OnOk result (string_bytes out.new ≡ string_bytes out.old ++ code_html info.now text.now) }
+{
+    push_code_start(out, class_word(info))?;
+    push_escaped(out, text)?;
+    out.push_str("</code></pre>\n")
+}
+
+#[cycle(blocks)]
+fn push_quote(out: &mut String, blocks: &[Block]) -> Result<(), AllocError>
+    ensures { OnOk result (string_bytes out.new ≡ string_bytes out.old ++ quote_html (html_of blocks.now)) }
+{
+    out.push_str("<blockquote>\n")?;
+    push_blocks(out, blocks)?;
+    out.push_str("</blockquote>\n")
+}
+
+#[cycle(blocks)]
+fn push_item(out: &mut String, tight: bool, blocks: &[Block]) -> Result<(), AllocError>
+    ensures { OnOk result (string_bytes out.new ≡ string_bytes out.old ++ item_html tight (map written blocks.now)) }
+{
+    out.push_str("<li>")?;
+    if tight {
+        push_tight(out, blocks)?;
+    } else {
+        push_loose(out, blocks)?;
+    }
+    out.push_str("</li>\n")
+}
+
+/// Writes the blocks of an item of a tight list.
+#[cycle(blocks)]
+fn push_tight(out: &mut String, blocks: &[Block]) -> Result<(), AllocError>
+    ensures { OnOk result (string_bytes out.new ≡ string_bytes out.old ++ tight_inside true (map written blocks.now)) }
+{
+    let mut fresh = true;
+    for block in blocks {
+        match block {
+            Block::Definition { .. } => {}
+            Block::Paragraph(content) => {
+                push_inlines(out, content.as_slice())?;
+                fresh = true;
+            }
+            block => {
+                if fresh {
+                    out.push_str("\n")?;
+                }
+                push_block(out, block)?;
+                fresh = false;
+            }
+        }
+    }
+    Ok(())
+}
+
+/// Writes the blocks of an item of a loose list.
+#[cycle(blocks)]
+fn push_loose(out: &mut String, blocks: &[Block]) -> Result<(), AllocError>
+    ensures { OnOk result (string_bytes out.new ≡ string_bytes out.old ++ loose_inside true (map written blocks.now)) }
+{
+    let mut first = true;
+    for block in blocks {
+        match block {
+            Block::Definition { .. } => (),
+            block => {
+                if first {
+                    out.push_str("\n")?;
+                }
+                push_block(out, block)?;
+                first = false;
+            }
+        }
+    }
+    Ok(())
+}
+
+fn push_list_start(out: &mut String, kind: ListKind) -> Result<(), AllocError>
+    ensures { OnOk result (string_bytes out.new ≡ string_bytes out.old ++ list_start kind) }
+{
+    match kind {
+        ListKind::Dash | ListKind::Plus | ListKind::Star => out.push_str("<ul>\n"),
+        ListKind::Dot { start } | ListKind::Paren { start } => push_ordered_start(out, start),
+    }
+}
+
+fn push_ordered_start(out: &mut String, start: u32) -> Result<(), AllocError>
+    ensures { OnOk result (string_bytes out.new ≡ string_bytes out.old ++ ordered_start start) }
+{
+    if start == 1 {
+        out.push_str("<ol>\n")
+    } else {
+        write!(out, "<ol start=\"{start}\">\n")
+    }
+}
+
+fn push_list_end(out: &mut String, kind: ListKind) -> Result<(), AllocError>
+    ensures { OnOk result (string_bytes out.new ≡ string_bytes out.old ++ list_end kind) }
+{
+    match kind {
+        ListKind::Dash | ListKind::Plus | ListKind::Star => out.push_str("</ul>\n"),
+        ListKind::Dot { .. } | ListKind::Paren { .. } => out.push_str("</ol>\n"),
+    }
+}

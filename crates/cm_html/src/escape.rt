@@ -1,0 +1,106 @@
+//! Texts in HTML.
+ghost use Rattle.std.specs.Prelude.{◌≡◌, ℕ, ◌+◌, ◌==◌, ◌||◌, ◌<◌, length, take, drop, slice_index, position, IsTrue, IsUtf8, ◌++◌, string_bytes, OnOk};
+ghost use Rattle.cm_html.specs.Escape.{is_escaped, escape_byte, escape, destination_html, is_space_or_tab, class_word};
+
+use percent_encoding::{AsciiSet, NON_ALPHANUMERIC, ascii_set, utf8_percent_encode};
+use std::alloc::AllocError;
+
+/// What stands before an ASCII character, and what stands after it.
+fn cut_at(text: &str, at: usize) -> (&str, &str)
+    requires within { at < length text.now }
+    requires ascii { slice_index text.now at < 128 }
+    ensures before { result.0.now ≡ take at text.now }
+    ensures after { result.1.now ≡ drop (at + 1) text.now }
+    ensures after_utf8 { IsUtf8 result.1.now }
+{
+    (&text[..at], &text[at + 1..])
+}
+
+/// Where the first byte stands that is written as a reference.
+fn find_escaped(bytes: &[u8]) -> Option<usize>
+    ensures { result ≡ position is_escaped bytes.now }
+{
+    bytes
+        .iter()
+        .position(|b| *b == b'&' || *b == b'<' || *b == b'>' || *b == b'"')
+}
+
+/// Writes the reference of a byte.
+fn push_reference(out: &mut String, b: u8) -> Result<(), AllocError>
+    requires { IsTrue (is_escaped b) }
+    ensures { OnOk result (string_bytes out.new ≡ string_bytes out.old ++ escape_byte b) }
+{
+    match b {
+        b'&' => out.push_str("&amp;"),
+        b'<' => out.push_str("&lt;"),
+        b'>' => out.push_str("&gt;"),
+        _ => out.push_str("&quot;"),
+    }
+}
+
+/// Writes a text, each run of bytes that stand for themselves as one slice.
+pub(crate) fn push_escaped(out: &mut String, text: &str) -> Result<(), AllocError>
+    ensures { OnOk result (string_bytes out.new ≡ string_bytes out.old ++ escape text.now) }
+{
+    let mut rest = text;
+    while let Some(at) = find_escaped(rest.as_bytes()) {
+        let (before, after) = cut_at(rest, at);
+        out.push_str(before)?;
+        push_reference(out, rest.as_bytes()[at])?;
+        rest = after;
+    }
+    out.push_str(rest)
+}
+
+/// The ASCII bytes that a destination doesn't keep.
+const NOT_KEPT: AsciiSet = ascii_set!(
+    NON_ALPHANUMERIC
+        .remove(b'-')
+        .remove(b'_')
+        .remove(b'.')
+        .remove(b'+')
+        .remove(b'!')
+        .remove(b'*')
+        .remove(b'\'')
+        .remove(b'(')
+        .remove(b')')
+        .remove(b',')
+        .remove(b'%')
+        .remove(b'#')
+        .remove(b'@')
+        .remove(b'?')
+        .remove(b'=')
+        .remove(b';')
+        .remove(b':')
+        .remove(b'/')
+        .remove(b'&')
+        .remove(b'$')
+        .remove(b'~')
+);
+
+/// Writes a destination as the value of an attribute. Takes no memory but the text's.
+pub(crate) fn push_destination(out: &mut String, destination: &str) -> Result<(), AllocError>
+    ensures { OnOk result (string_bytes out.new ≡ string_bytes out.old ++ destination_html destination.now) }
+{
+    for piece in utf8_percent_encode(destination, NOT_KEPT) {
+        push_escaped(out, piece)?;
+    }
+    Ok(())
+}
+
+/// Where the first space or tab stands.
+fn find_space_or_tab(bytes: &[u8]) -> Option<usize>
+    ensures { result ≡ position is_space_or_tab bytes.now }
+{
+    bytes.iter().position(|b| *b == b' ' || *b == b'\t')
+}
+
+/// The class word of a code block with this info.
+pub(crate) fn class_word(info: &str) -> &str
+    ensures { result.now ≡ class_word info.now }
+{
+    match find_space_or_tab(info.as_bytes()) {
+        Some(at) => cut_at(info, at).0,
+        None => info,
+    }
+}

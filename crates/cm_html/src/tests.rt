@@ -1,0 +1,133 @@
+ghost use Rattle.std.specs.Prelude.{◌≡◌, IfOk};
+
+use crate::{HtmlFault, html, write_html};
+use cm_text::{Room, Sink};
+use cm_tree::{Block, Doc, Inline, Items, ListKind, Owner, Text};
+use std::alloc::{AllocError, Global};
+use std::test::Fail;
+
+fn words(alloc: Global, words: &str) -> Result<Items<Inline>, AllocError> {
+    let text = Inline::Text(Text::from_str(alloc, words)?);
+    Ok(Items::from(vec![in alloc; text]?))
+}
+
+fn paragraph(alloc: Global, content: &str) -> Result<Block, AllocError> {
+    Ok(Block::Paragraph(words(alloc, content)?))
+}
+
+// The blocks of `* a`, `  > b`, `* c & d`.
+fn list(alloc: Global, tight: bool) -> Result<Block, AllocError> {
+    let quote = vec![in alloc; paragraph(alloc, "b")?]?;
+    let first = vec![in alloc; paragraph(alloc, "a")?, Block::Quote(Items::from(quote))]?;
+    let second = vec![in alloc; paragraph(alloc, "c & d")?]?;
+    let items = vec![in alloc; Items::from(first), Items::from(second)]?;
+    Ok(Block::List {
+        kind: ListKind::Star,
+        tight,
+        items: Items::from(items),
+    })
+}
+
+fn with_block(alloc: Global, block: Block) -> Result<Doc, AllocError> {
+    let owners = vec![in alloc;
+        Owner::Leaf(1),
+        Owner::Leaf(2),
+        Owner::Marker,
+        Owner::Leaf(3),
+    ]?;
+    Ok(Doc {
+        blocks: Items::from(vec![in alloc; block]?),
+        owners: Items::from(owners),
+    })
+}
+
+fn sink(alloc: Global, capacity: usize, at_most: usize) -> Result<Room, Fail>
+    ensures { IfOk result (λ room. ⟦<Room as Sink>⟧.failed room ≡ 0) }
+{
+    Ok(Room::new(alloc, capacity, at_most).ok().ok_or("room")?)
+}
+
+const TIGHT: &str =
+    "<ul>\n<li>a\n<blockquote>\n<p>b</p>\n</blockquote>\n</li>\n<li>c &amp; d</li>\n</ul>\n";
+
+#[test]
+fn lists(rt: HostRuntime) -> Result<(), Fail> {
+    let alloc = rt.alloc();
+    for (tight, want) in [
+        (true, TIGHT),
+        (
+            false,
+            "<ul>\n<li>\n<p>a</p>\n<blockquote>\n<p>b</p>\n</blockquote>\n</li>\n<li>\n<p>c &amp; d</p>\n</li>\n</ul>\n",
+        ),
+    ] {
+        let doc = with_block(alloc, list(alloc, tight)?)?;
+        let got = html(alloc, &doc).ok().ok_or("memory")?;
+        assert_eq!(rt; got.as_str(), want);
+    }
+    Ok(())
+}
+
+#[test]
+fn attributes(rt: HostRuntime) -> Result<(), Fail> {
+    let alloc = rt.alloc();
+    let image = Inline::Image {
+        dest: Text::from_str(alloc, "/é")?,
+        title: Text::from_str(alloc, "\"")?,
+        content: words(alloc, "a & b")?,
+    };
+    let link = Inline::Link {
+        dest: Text::from_str(alloc, "https://e.x/?a=1&b=\"ä")?,
+        title: Text::from_str(alloc, "")?,
+        content: Items::from(vec![in alloc; image]?),
+    };
+    let content = Items::from(vec![in alloc; link]?);
+    let doc = with_block(alloc, Block::Heading { level: 2, content })?;
+    let got = html(alloc, &doc).ok().ok_or("memory")?;
+    assert_eq!(rt;
+        got.as_str(),
+        "<h2><a href=\"https://e.x/?a=1&amp;b=%22%C3%A4\"><img src=\"/%C3%A9\" alt=\"a &amp; b\" title=\"&quot;\" /></a></h2>\n"
+    );
+    Ok(())
+}
+
+#[test]
+fn writers(rt: HostRuntime) -> Result<(), Fail> {
+    let alloc = rt.alloc();
+    let doc = with_block(alloc, list(alloc, true)?)?;
+    let whole = TIGHT.as_bytes();
+    // Room for each number of bytes, one byte a call.
+    for room in 0..whole.len() + 1 {
+        let mut writer = sink(alloc, room, 1)?;
+        match write_html(alloc, &doc, &mut writer) {
+            Ok(n) => assert!(rt; n == whole.len() && room == n),
+            Err(HtmlFault::WriteFailed { written }) => {
+                assert!(rt; written == room && room < whole.len());
+            }
+            Err(HtmlFault::NoMemory) => return Err(Fail::from("memory")),
+        }
+        assert_eq!(rt; writer.taken().len(), room);
+        assert!(rt; whole.starts_with(writer.taken()));
+    }
+    Ok(())
+}
+
+#[test]
+fn writers_that_take_nothing(rt: HostRuntime) -> Result<(), Fail> {
+    let alloc = rt.alloc();
+    let doc = with_block(alloc, list(alloc, true)?)?;
+    let empty = Doc {
+        blocks: Items::new(alloc),
+        owners: Items::new(alloc),
+    };
+    let mut writer = sink(alloc, 99, 0)?;
+    match write_html(alloc, &empty, &mut writer) {
+        Ok(n) => assert_eq!(rt; n, 0),
+        Err(_) => return Err(Fail::from("a fault")),
+    }
+    let mut writer = sink(alloc, 99, 0)?;
+    match write_html(alloc, &doc, &mut writer) {
+        Err(HtmlFault::WriteFailed { written }) => assert_eq!(rt; written, 0),
+        _ => return Err(Fail::from("no failed write")),
+    }
+    Ok(())
+}

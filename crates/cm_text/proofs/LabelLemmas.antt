@@ -1,0 +1,129 @@
+-- Gaps of a text, settled from the left.
+use Rattle.std.proofs.Common.{◌≡◌, ◌≢◌, ℕ, suc, ◌<◌, Bool, true, false, List, [], ◌∷◌, ◌++◌, length, get_or, refl, ap, sym, ◌∙◌, append_assoc, arith}
+use lib.Utf8.{encode}
+use Rattle.std.proofs.lemmas.Str.{inside_one, encode_ascii, length-encode, len_utf8_bounds}
+use Rattle.std.proofs.lemmas.List.{append-nil}
+use Rattle.std.proofs.lemmas.Bool.Decides.{nat_tests}
+use Rattle.cm_text.specs.Labels.{is_gap, strip_leading, keep_before, strip_trailing, collapse_after, put_after, settle_gaps}
+
+-- what a text gives of which a front has been read, where a gap was read last or wasn't
+abbrev pub after : (after_gap : Bool) → List ℕ → List ℕ
+after after_gap [] = []
+after after_gap (b ∷ bs) = elim (is_gap b) [
+  | true ↦ after true bs
+  | false ↦ elim after_gap [ true ↦ 32 ∷ b ∷ after false bs | false ↦ b ∷ after false bs ]
+]
+
+-- a stripped text behind a gap
+abbrev behind_gap : List ℕ → List ℕ
+behind_gap [] = []
+behind_gap (b ∷ bs) = 32 ∷ collapse_after true (b ∷ bs)
+
+after-gap : (g : Bool) (b : ℕ) (bs : List ℕ) → is_gap b ≡ true → after g (b ∷ bs) ≡ after true bs
+after-gap g b bs h = ap (λ t. elim t as (λ _. List ℕ) [ true ↦ after true bs | false ↦ elim g as (λ _. List ℕ) [ true ↦ 32 ∷ b ∷ after false bs | false ↦ b ∷ after false bs ] ]) h
+
+after-text : (g : Bool) (b : ℕ) (bs : List ℕ) → is_gap b ≡ false → after g (b ∷ bs) ≡ elim g as (λ _. List ℕ) [ true ↦ 32 ∷ b ∷ after false bs | false ↦ b ∷ after false bs ]
+after-text g b bs h = ap (λ t. elim t as (λ _. List ℕ) [ true ↦ after true bs | false ↦ elim g as (λ _. List ℕ) [ true ↦ 32 ∷ b ∷ after false bs | false ↦ b ∷ after false bs ] ]) h
+
+collapse-gap : (g : Bool) (b : ℕ) (bs : List ℕ) → is_gap b ≡ true → collapse_after g (b ∷ bs) ≡ elim g as (λ _. List ℕ) [ true ↦ collapse_after true bs | false ↦ 32 ∷ collapse_after true bs ]
+collapse-gap g b bs h = ap (λ t. elim t as (λ _. List ℕ) [ true ↦ elim g as (λ _. List ℕ) [ true ↦ collapse_after true bs | false ↦ 32 ∷ collapse_after true bs ] | false ↦ b ∷ collapse_after false bs ]) h
+
+collapse-text : (g : Bool) (b : ℕ) (bs : List ℕ) → is_gap b ≡ false → collapse_after g (b ∷ bs) ≡ b ∷ collapse_after false bs
+collapse-text g b bs h = ap (λ t. elim t as (λ _. List ℕ) [ true ↦ elim g as (λ _. List ℕ) [ true ↦ collapse_after true bs | false ↦ 32 ∷ collapse_after true bs ] | false ↦ b ∷ collapse_after false bs ]) h
+
+keep-gap : (b : ℕ) → is_gap b ≡ true → keep_before b [] ≡ []
+keep-gap b h = ap (λ t. elim t as (λ _. List ℕ) [ true ↦ [] | false ↦ b ∷ [] ]) h
+
+keep-text : (b : ℕ) (x : List ℕ) → is_gap b ≡ false → keep_before b x ≡ b ∷ x
+keep-text b [] h = ap (λ t. elim t as (λ _. List ℕ) [ true ↦ [] | false ↦ b ∷ [] ]) h
+keep-text b (c ∷ cs) h = refl
+
+plain_is : (g : Bool) (b : ℕ) (bs : List ℕ) (x : List ℕ) → is_gap b ≡ g
+    → after false bs ≡ collapse_after false x → after true bs ≡ behind_gap x
+    → after false (b ∷ bs) ≡ collapse_after false (keep_before b x)
+plain_is true b bs [] g p q = after-gap false b bs g ∙ q ∙ sym (ap (λ t. collapse_after false t) (keep-gap b g))
+plain_is true b bs (c ∷ cs) g p q = after-gap false b bs g ∙ q ∙ sym (collapse-gap false b (c ∷ cs) g)
+plain_is false b bs x g p q = after-text false b bs g ∙ ap (λ t. b ∷ t) p ∙ sym (ap (λ t. collapse_after false t) (keep-text b x g) ∙ collapse-text false b x g)
+
+behind_is : (g : Bool) (b : ℕ) (bs : List ℕ) (x : List ℕ) → is_gap b ≡ g
+    → after false bs ≡ collapse_after false x → after true bs ≡ behind_gap x
+    → after true (b ∷ bs) ≡ behind_gap (keep_before b x)
+behind_is true b bs [] g p q = after-gap true b bs g ∙ q ∙ sym (ap (λ t. behind_gap t) (keep-gap b g))
+behind_is true b bs (c ∷ cs) g p q = after-gap true b bs g ∙ q ∙ sym (ap (λ t. 32 ∷ t) (collapse-gap true b (c ∷ cs) g))
+behind_is false b bs x g p q = after-text true b bs g ∙ ap (λ t. 32 ∷ b ∷ t) p ∙ sym (ap (λ t. behind_gap t) (keep-text b x g) ∙ ap (λ t. 32 ∷ t) (collapse-text true b x g))
+
+both : (bs : List ℕ) → (after false bs ≡ collapse_after false (strip_trailing bs)) × (after true bs ≡ behind_gap (strip_trailing bs))
+both [] = (refl, refl)
+both (b ∷ bs) =
+    let h = both bs in
+    (plain_is (is_gap b) b bs (strip_trailing bs) refl h.0 h.1, behind_is (is_gap b) b bs (strip_trailing bs) refl h.0 h.1)
+
+pub after_is : (text : List ℕ) → after false (strip_leading text) ≡ settle_gaps text
+unfolding settle_gaps
+after_is text = (both (strip_leading text)).0
+
+-- what the rest of a text gives behind what was made of its front
+abbrev pub rest_after : (made : List ℕ) (after_gap : Bool) → List ℕ → List ℕ
+rest_after [] after_gap rest = after false (strip_leading rest)
+rest_after (b ∷ bs) after_gap rest = after after_gap rest
+
+strip-gap : (b : ℕ) (bs : List ℕ) → is_gap b ≡ true → strip_leading (b ∷ bs) ≡ strip_leading bs
+strip-gap b bs h = ap (λ t. elim t as (λ _. List ℕ) [ true ↦ strip_leading bs | false ↦ b ∷ bs ]) h
+
+strip-text : (b : ℕ) (bs : List ℕ) → is_gap b ≡ false → strip_leading (b ∷ bs) ≡ b ∷ bs
+strip-text b bs h = ap (λ t. elim t as (λ _. List ℕ) [ true ↦ strip_leading bs | false ↦ b ∷ bs ]) h
+
+gap_in : (made : List ℕ) (g : Bool) (b : ℕ) (bs : List ℕ) → is_gap b ≡ true → rest_after made g (b ∷ bs) ≡ rest_after made true bs
+gap_in [] g b bs h = ap (λ t. after false t) (strip-gap b bs h)
+gap_in (m ∷ ms) g b bs h = after-gap g b bs h
+
+-- no byte of the text is a gap
+abbrev NoGap : List ℕ → Type 0
+NoGap bytes = (k : ℕ) → k < length bytes → is_gap (get_or bytes k 0) ≡ false
+
+plain_run : (bytes rest : List ℕ) → NoGap bytes → after false (bytes ++ rest) ≡ bytes ++ after false rest
+plain_run [] rest h = refl
+plain_run (b ∷ bs) rest h = after-text false b (bs ++ rest) (h 0 (omega arith)) ∙ ap (λ t. b ∷ t) (plain_run bs rest (λ k l. h (suc k) (omega arith)))
+
+text_in : (made : List ℕ) (g : Bool) (b : ℕ) (bs rest : List ℕ) → NoGap (b ∷ bs)
+    → rest_after made g ((b ∷ bs) ++ rest) ≡ put_after made g (b ∷ bs) ++ after false rest
+text_in [] g b bs rest h = ap (λ t. after false t) (strip-text b (bs ++ rest) (h 0 (omega arith))) ∙ plain_run (b ∷ bs) rest h
+text_in (m ∷ ms) true b bs rest h = after-text true b (bs ++ rest) (h 0 (omega arith)) ∙ ap (λ t. 32 ∷ b ∷ t) (plain_run bs rest (λ k l. h (suc k) (omega arith)))
+text_in (m ∷ ms) false b bs rest h = plain_run (b ∷ bs) rest h
+
+ends_open : (made : List ℕ) (g : Bool) (b : ℕ) (bs rest : List ℕ) → rest_after (made ++ put_after made g (b ∷ bs)) false rest ≡ after false rest
+ends_open [] g b bs rest = refl
+ends_open (m ∷ ms) g b bs rest = refl
+
+text_read : (made : List ℕ) (g : Bool) (bytes rest : List ℕ) → 0 < length bytes → NoGap bytes
+    → (made ++ put_after made g bytes) ++ rest_after (made ++ put_after made g bytes) false rest ≡ made ++ rest_after made g (bytes ++ rest)
+text_read made g [] rest l h = absurd (omega arith)
+text_read made g (b ∷ bs) rest l h = ap (λ t. (made ++ put_after made g (b ∷ bs)) ++ t) (ends_open made g b bs rest)
+    ∙ append_assoc made (put_after made g (b ∷ bs)) (after false rest) ∙ ap (λ t. made ++ t) (sym (text_in made g b bs rest h))
+
+plain_byte : (b : ℕ) → b ≢ 32 → b ≢ 9 → b ≢ 10 → b ≢ 13 → is_gap b ≡ false
+plain_byte b p q r s = grind (arith, nat_tests)
+
+not_gap : (c : ℕ) → is_gap c ≡ false → NoGap (encode c)
+not_gap c h k l =
+    let to : get_or (encode c) k 0 < 128 → c ≡ get_or (encode c) k 0 = inside_one c [] (encode c) k (sym (append-nil (encode c))) l in
+    let case : (b : ℕ) → b ≡ get_or (encode c) k 0 → b < 128 → is_gap b ≡ false = λ b e n. ap is_gap (e ∙ sym (to (omega (arith, e)))) ∙ h in
+    let other : (n : ℕ) → n < 128 → is_gap n ≡ true → get_or (encode c) k 0 ≢ n = λ n m g e. let f : true ≡ false = sym g ∙ case n (sym e) m in cc in
+    plain_byte (get_or (encode c) k 0) (other 32 (omega arith) refl) (other 9 (omega arith) refl) (other 10 (omega arith) refl) (other 13 (omega arith) refl)
+
+below : (c : ℕ) → is_gap c ≡ true → c < 128
+below c h = grind (arith, nat_tests)
+
+-- a gap is read
+pub gap_read : (made : List ℕ) (g : Bool) (c : ℕ) (rest text : List ℕ) → is_gap c ≡ true → text ≡ encode c ++ rest
+    → rest_after made g text ≡ rest_after made true rest
+gap_read made g c rest text h e = ap (λ t. rest_after made g t) (e ∙ ap (λ t. t ++ rest) (encode_ascii c (below c h))) ∙ gap_in made g c rest h
+
+-- another character is read
+pub char_read : (made next : List ℕ) (g : Bool) (c : ℕ) (rest text : List ℕ) → is_gap c ≡ false → text ≡ encode c ++ rest
+    → next ≡ made ++ put_after made g (encode c) → next ++ rest_after next false rest ≡ made ++ rest_after made g text
+char_read made next g c rest text h e n = rw (n, e) (text_read made g (encode c) rest (rw (length-encode c) ((len_utf8_bounds c).0)) (not_gap c h))
+
+-- nothing is read yet
+pub none_read : (made rest text : List ℕ) → made ≡ [] → rest ≡ text → made ++ rest_after made false rest ≡ settle_gaps text
+none_read made rest text e f = rw (e, f) (after_is text)

@@ -1,0 +1,53 @@
+-- How labels are compared (CommonMark 0.31.2, 6.3 Links): "perform the Unicode case fold, strip leading and
+-- trailing spaces, tabs, and line endings, and collapse consecutive internal spaces, tabs, and line endings to a
+-- single space".
+use Rattle.std.specs.Prelude.{ℕ, Bool, true, false, ◌==◌, ◌||◌, List, [], ◌∷◌, chars, encode_utf8_all}
+use Rattle.caseless.specs.Caseless.{default_case_fold}
+use Rattle.cm_text.specs.LineText.{is_line_ending}
+
+-- a space, a tab or a line ending
+abbrev pub is_gap : ℕ → Bool
+is_gap b = b == 32 || b == 9 || is_line_ending b
+
+-- the Unicode case fold: full case folding, character by character
+unfoldable pub case_fold : List ℕ → List ℕ
+case_fold text = encode_utf8_all (default_case_fold (chars text))
+
+-- a text without the gaps at its front
+abbrev pub strip_leading : List ℕ → List ℕ
+strip_leading [] = []
+strip_leading (b ∷ bs) = elim (is_gap b) [ true ↦ strip_leading bs | false ↦ b ∷ bs ]
+
+-- a byte before what is left of the text after it
+abbrev pub keep_before : ℕ → List ℕ → List ℕ
+keep_before b [] = elim (is_gap b) [ true ↦ [] | false ↦ b ∷ [] ]
+keep_before b (c ∷ cs) = b ∷ c ∷ cs
+
+-- a text without the gaps at its end
+abbrev pub strip_trailing : List ℕ → List ℕ
+strip_trailing [] = []
+strip_trailing (b ∷ bs) = keep_before b (strip_trailing bs)
+
+-- A text with each run of gaps as a single space. The mark says that a gap stands before the text, and so its space.
+abbrev pub collapse_after : (after_gap : Bool) → List ℕ → List ℕ
+collapse_after after_gap [] = []
+collapse_after after_gap (b ∷ bs) = elim (is_gap b) [
+  | true ↦ elim after_gap [ true ↦ collapse_after true bs | false ↦ 32 ∷ collapse_after true bs ]
+  | false ↦ b ∷ collapse_after false bs
+]
+
+abbrev pub collapse : List ℕ → List ℕ
+collapse text = collapse_after false text
+
+-- stripped at both ends and collapsed inside
+unfoldable pub settle_gaps : List ℕ → List ℕ
+settle_gaps text = collapse (strip_trailing (strip_leading text))
+
+-- what a character adds to such a text, where a gap stands before it or doesn't
+abbrev pub put_after : (made : List ℕ) (after_gap : Bool) → List ℕ → List ℕ
+put_after [] after_gap bytes = bytes
+put_after (b ∷ bs) after_gap bytes = elim after_gap [ true ↦ 32 ∷ bytes | false ↦ bytes ]
+
+-- a label as it is compared
+unfoldable pub fold_label : List ℕ → List ℕ
+fold_label label = settle_gaps (case_fold label)

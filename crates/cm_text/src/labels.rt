@@ -1,0 +1,79 @@
+//! Labels as they are compared.
+ghost use Rattle.std.specs.Prelude.{◌≡◌, ◌++◌, string_bytes, encode_utf8, IfOk, OnOk};
+ghost use Rattle.cm_text.specs.Labels.{fold_label, is_gap, put_after, settle_gaps};
+
+use crate::device::NoMemory;
+use caseless::default_case_fold_str;
+use std::alloc::{AllocError, Global};
+
+/// A label as it is compared: case folded in full (Unicode), without the spaces, tabs and line endings
+/// at its ends, and with each run of them inside as one space. Two labels match where this is equal.
+///
+/// The label is that of a link or a definition, without its brackets, and backslashes and references in
+/// it are as they stand in the source.
+///
+/// # Errors
+///
+/// `NoMemory` where a request for memory was refused.
+#[tactic(auto, unfolding(crate::specs::Labels::fold_label, crate::specs::Labels::case_fold))]
+pub fn fold_label(alloc: Global, label: &str) -> Result<String, NoMemory>
+    ensures { IfOk result (λ folded. string_bytes folded ≡ fold_label label.now) }
+{
+    let folded = default_case_fold_str(alloc, label)?;
+    Ok(settle_gaps(alloc, &folded)?)
+}
+
+fn settle_gaps(alloc: Global, text: &str) -> Result<String, AllocError>
+    ensures { IfOk result (λ settled. string_bytes settled ≡ settle_gaps text.now) }
+{
+    let mut settled = String::new(alloc);
+    let mut after_gap = false;
+    for c in text.chars() {
+        if is_gap(c) {
+            after_gap = true;
+            continue;
+        }
+        put(&mut settled, after_gap, c)?;
+        after_gap = false;
+    }
+    Ok(settled)
+}
+
+fn is_gap(c: char) -> bool
+    ensures { result ≡ is_gap c }
+{
+    c == ' ' || c == '\t' || c == '\n' || c == '\r'
+}
+
+fn put(settled: &mut String, after_gap: bool, c: char) -> Result<(), AllocError>
+    ensures { OnOk result (string_bytes settled.new ≡ string_bytes settled.old ++ put_after (string_bytes settled.old) after_gap (encode_utf8 c)) }
+{
+    if after_gap && !settled.is_empty() {
+        settled.push(' ')?;
+    }
+    settled.push(c)?;
+    Ok(())
+}
+
+#[cfg(test)]
+mod tests {
+    use super::*;
+    use std::test::Fail;
+
+    #[test]
+    fn labels(rt: HostRuntime) -> Result<(), Fail> {
+        let alloc = rt.alloc();
+        for (label, want) in [
+            ("\u{1E9E}", "ss"),
+            ("SS", "ss"),
+            (" A\t\nb ", "a b"),
+            ("\t \n", ""),
+            ("", ""),
+            ("Foo*bar\\]", "foo*bar\\]"),
+            ("\u{A0}\u{3A3}\u{3C2}\r", "\u{A0}\u{3C3}\u{3C3}"),
+        ] {
+            assert_eq!(rt; fold_label(alloc, label)?.as_str(), want);
+        }
+        Ok(())
+    }
+}

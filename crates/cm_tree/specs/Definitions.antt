@@ -1,0 +1,42 @@
+-- Link reference definitions by their folded labels (CommonMark 0.31.2, 4.7 and 6.3).
+use Rattle.std.specs.Prelude.{◌≡◌, ℕ, List, [], ◌∷◌, map, Option, Some, None, if◌then◌else◌, string_bytes, String}
+use Rattle.std.specs.Ordering.{nat_cmp}
+use Rattle.std.specs.Cmp.Lexicographic.{slice_cmp}
+use Rattle.std.specs.FinMap.{FinMap, empty, get, insert, from_entries, contains_key}
+use Rattle.std.specs.Str.{bytes_eq}
+use Rattle.std.specs.declared.alloc.Global.{Global}
+use Rattle.cm_text.specs.Labels.{fold_label}
+
+-- a destination and a title
+abbrev pub Target : Type 0
+Target = List ℕ × List ℕ
+
+-- what each folded label stands for
+abbrev pub Targets : Type 0
+Targets = FinMap (slice_cmp nat_cmp) Target
+
+-- one more definition under this folded label, where the first of equal labels stays
+abbrev pub add_first : Targets → List ℕ → Target → Targets
+add_first targets folded target = if contains_key targets folded then targets else insert targets folded target
+
+-- the entries, by the bytes of their keys
+abbrev pub by_bytes : List (String Global × Target) → List (List ℕ × Target)
+by_bytes entries = map (λ e. (string_bytes e.0, e.1)) entries
+
+abbrev pub targets_of : List (String Global × Target) → Targets
+targets_of entries = from_entries (by_bytes entries)
+
+-- a table to which these definitions, a label and a target each, have been added in order
+abbrev pub add_all : Targets → List (List ℕ × Target) → Targets
+add_all targets [] = targets
+add_all targets (d ∷ ds) = add_all (add_first targets (fold_label d.0) d.1) ds
+
+-- the target of the first definition whose folded label is this one
+abbrev pub first_under : List ℕ → List (List ℕ × Target) → Option Target
+first_under folded [] = None
+first_under folded (d ∷ ds) = if bytes_eq (fold_label d.0) folded then Some d.1 else first_under folded ds
+
+-- In the table of definitions that were added in order, a label stands for the first definition under an equal folded label.
+abbrev pub FirstCounts : Type 0
+FirstCounts = (definitions : List (List ℕ × Target)) (label : List ℕ)
+    → get (add_all empty definitions) (fold_label label) ≡ first_under (fold_label label) definitions

@@ -1,0 +1,4 @@
+pub mod formers
+pub mod Depth
+pub mod Definitions
+pub mod WorkedExamples

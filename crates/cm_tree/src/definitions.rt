@@ -1,0 +1,105 @@
+//! The table of link reference definitions.
+ghost use Rattle.std.specs.Prelude.{◌≡◌, OnOk, OnErr, IfOk, option_map, string_bytes};
+ghost use Rattle.std.specs.FinMap as map;
+ghost use Rattle.cm_text.specs.Labels.{fold_label};
+ghost use Rattle.cm_tree.specs.Definitions.{add_first};
+
+use crate::text::Text;
+use cm_text::{NoMemory, fold_label};
+use std::alloc::{AllocError, Global};
+use std::collections::BTreeMap;
+use std::marker::Model;
+
+/// Link reference definitions by their labels, of which the first of matching labels counts
+/// (CommonMark 0.31.2, 4.7 and 6.3).
+///
+/// Contracts see it as a map from folded labels to destinations and titles.
+#[derive(Debug, Drop)]
+pub struct Definitions {
+    alloc: Global,
+    targets: BTreeMap<String, (Text, Text)>,
+}
+
+impl Model for Definitions {
+    ghost use Rattle.std.specs.FinMap as map;
+    ghost use Rattle.std.specs.Coded.{coded_ℕ, coded_list, coded×};
+    ghost use Rattle.cm_tree.specs.Definitions.{Targets, targets_of};
+
+    ghost Value = { Targets };
+
+    ghost coded = { map.code (coded_list coded_ℕ) (coded× (coded_list coded_ℕ) (coded_list coded_ℕ)) };
+
+    ghost view = { λ a. targets_of a.targets.entries };
+}
+
+impl Definitions {
+    /// A table with no definitions. It takes no memory.
+    pub fn new(alloc: Global) -> Definitions
+        ensures { result ≡ map.empty }
+    {
+        Definitions {
+            alloc,
+            targets: BTreeMap::new(alloc),
+        }
+    }
+
+    /// Adds a definition, unless one with a matching label is there.
+    ///
+    /// # Errors
+    ///
+    /// `NoMemory` where a request for memory was refused; the table is then as it was.
+    pub fn add(&mut self, label: &str, dest: &str, title: &str) -> Result<(), NoMemory>
+        ensures ok { OnOk result (self.new ≡ add_first self.old (fold_label label.now) (dest.now, title.now)) }
+        ensures err { OnErr result (self.new ≡ self.old) }
+    {
+        let folded = fold_label(self.alloc, label)?;
+        Ok(self.add_folded(folded, dest, title)?)
+    }
+
+    fn add_folded(&mut self, folded: String, dest: &str, title: &str) -> Result<(), AllocError>
+        ensures ok { OnOk result (self.new ≡ add_first self.old (string_bytes folded) (dest.now, title.now)) }
+        ensures err { OnErr result (self.new ≡ self.old) }
+    {
+        if self.targets.contains_key(folded.as_str()) {
+            return Ok(());
+        }
+        let dest = Text::from_str(self.alloc, dest)?;
+        let title = Text::from_str(self.alloc, title)?;
+        self.targets.insert(folded, (dest, title))?;
+        Ok(())
+    }
+
+    /// The destination and the title of the first definition that was added with a matching label, or
+    /// None where there is none.
+    ///
+    /// # Errors
+    ///
+    /// `NoMemory` where a request for memory was refused.
+    pub fn find(&self, label: &str) -> Result<Option<(&str, &str)>, NoMemory>
+        ensures { IfOk result (λ found. option_map (λ t. (t.0.now, t.1.now)) found ≡ map.get self.now (fold_label label.now)) }
+    {
+        let folded = fold_label(self.alloc, label)?;
+        match self.targets.get(folded.as_str()) {
+            Some(target) => Ok(Some((target.0.as_str(), target.1.as_str()))),
+            None => Ok(None),
+        }
+    }
+}
+
+#[cfg(test)]
+mod tests {
+    use super::*;
+    use std::test::Fail;
+
+    #[test]
+    fn first_of_matching_labels(rt: HostRuntime) -> Result<(), Fail> {
+        let mut definitions = Definitions::new(rt.alloc());
+        definitions.add("Foo", "/first", "a title")?;
+        definitions.add("\u{1E9E}", "/sharp", "")?;
+        definitions.add(" FOO ", "/second", "")?;
+        assert_eq!(rt; definitions.find("foo")?, Some(("/first", "a title")));
+        assert_eq!(rt; definitions.find("SS")?, Some(("/sharp", "")));
+        assert_eq!(rt; definitions.find("f oo")?, None);
+        Ok(())
+    }
+}

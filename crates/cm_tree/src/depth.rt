@@ -1,0 +1,100 @@
+//! How deep a tree nests.
+ghost use Rattle.std.specs.Prelude.{◌≡◌};
+ghost use Rattle.cm_tree.specs.Depth.{saturated, depth_of, inlines_depth, depth_of_block, blocks_depth, items_depth};
+
+use crate::tree::{Block, Inline};
+
+/// The greatest number of `Emph`, `Strong`, `Link` and `Image` that stand in one another, or
+/// `usize::MAX` if that is less. It takes no memory.
+#[cycle(inline_depth)]
+pub fn inline_depth(inlines: &[Inline]) -> usize
+    ensures { result ≡ saturated (inlines_depth inlines.now) }
+{
+    let mut deepest = 0;
+    for inline in inlines {
+        deepest = deepest.max(one_inline_depth(inline));
+    }
+    deepest
+}
+
+#[cycle(inline_depth)]
+fn one_inline_depth(inline: &Inline) -> usize
+    ensures { result ≡ saturated (depth_of inline.now) }
+{
+    match inline {
+        Inline::Emph(content) => inline_depth(content.as_slice()).saturating_add(1),
+        Inline::Strong(content) => inline_depth(content.as_slice()).saturating_add(1),
+        Inline::Link { content, .. } => inline_depth(content.as_slice()).saturating_add(1),
+        Inline::Image { content, .. } => inline_depth(content.as_slice()).saturating_add(1),
+        _ => 0,
+    }
+}
+
+/// The greatest number of quotes and items that stand in one another, or `usize::MAX` if that is
+/// less. A list by itself doesn't count. It takes no memory.
+#[cycle(block_depth)]
+pub fn block_depth(blocks: &[Block]) -> usize
+    ensures { result ≡ saturated (blocks_depth blocks.now) }
+{
+    let mut deepest = 0;
+    for block in blocks {
+        deepest = deepest.max(one_block_depth(block));
+    }
+    deepest
+}
+
+#[cycle(block_depth)]
+fn one_block_depth(block: &Block) -> usize
+    ensures { result ≡ saturated (depth_of_block block.now) }
+{
+    match block {
+        Block::Quote(blocks) => block_depth(blocks.as_slice()).saturating_add(1),
+        Block::List { items, .. } => {
+            let mut deepest = 0;
+            for item in items.as_slice() {
+                deepest = deepest.max(block_depth(item.as_slice()).saturating_add(1));
+            }
+            deepest
+        }
+        _ => 0,
+    }
+}
+
+#[cfg(test)]
+mod tests {
+    use super::*;
+    use crate::items::Items;
+    use crate::text::Text;
+    use crate::tree::ListKind;
+    use std::test::Fail;
+
+    #[test]
+    fn an_image_in_emphasis(rt: HostRuntime) -> Result<(), Fail> {
+        let alloc = rt.alloc();
+        let mut content = Items::new(alloc);
+        content.push(Inline::Image {
+            dest: Text::new(alloc),
+            title: Text::new(alloc),
+            content: Items::new(alloc),
+        })?;
+        let inlines = vec![in alloc; Inline::Soft, Inline::Emph(content), Inline::Hard]?;
+        assert_eq!(rt; inline_depth(&inlines), 2);
+        Ok(())
+    }
+
+    #[test]
+    fn a_list_in_a_quote(rt: HostRuntime) -> Result<(), Fail> {
+        let alloc = rt.alloc();
+        let mut items = Items::new(alloc);
+        items.push(Items::new(alloc))?;
+        let mut content = Items::new(alloc);
+        content.push(Block::List {
+            kind: ListKind::Star,
+            tight: true,
+            items,
+        })?;
+        let blocks = vec![in alloc; Block::Break, Block::Quote(content)]?;
+        assert_eq!(rt; block_depth(&blocks), 2);
+        Ok(())
+    }
+}

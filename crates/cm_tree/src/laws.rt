@@ -1,0 +1,15 @@
+//! Laws of the definitions, each the contract of a function that does nothing.
+ghost use Rattle.cm_tree.specs.Definitions.{FirstCounts};
+ghost use Rattle.cm_tree.specs.WorkedExamples.{DepthExamples, DefinitionExamples};
+
+/// In the table of definitions that were added in order, a label stands for the first definition with
+/// a matching label.
+pub fn first_counts()
+    ensures { FirstCounts }
+{}
+
+/// Worked examples over the definitions, by computation.
+pub fn worked_examples()
+    ensures depths { DepthExamples }
+    ensures definitions { DefinitionExamples }
+{}
