@@ -8,7 +8,6 @@
 //! use cm_tree::{Block, Inline, Items, Text};
 //! use std::alloc::{AllocError, Global};
 //!
-//! // A paragraph with one text.
 //! fn paragraph(alloc: Global, text: &str) -> Result<Block, AllocError> {
 //!     let mut inlines = Vec::new(alloc);
 //!     inlines.push(Inline::Text(Text::from_str(alloc, text)?))?;
