@@ -1,5 +1,4 @@
 pub mod Pushed
 pub mod EscapeLemmas
 pub mod Words
-pub mod WriteLemmas
 pub mod Destinations

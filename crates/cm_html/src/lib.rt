@@ -9,7 +9,6 @@ pub mod laws;
 pub mod rendering;
 #[cfg(test)]
 mod tests;
-mod write;
 
 pub use fault::HtmlFault;
 pub use rendering::{html, write_html};

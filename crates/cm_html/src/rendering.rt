@@ -5,8 +5,7 @@ ghost use Rattle.cm_html.specs.Writing.{WritesHtml};
 
 use crate::blocks::push_blocks;
 use crate::fault::HtmlFault;
-use crate::write::{WriteFailed, write_all};
-use cm_text::{NoMemory, Sink};
+use cm_text::{NoMemory, Sink, WriteFailed, write_all};
 use cm_tree::Doc;
 use std::alloc::Global;
 

@@ -6,3 +6,4 @@ pub mod FeedLemmas
 pub mod SettledLemmas
 pub mod LabelLemmas
 pub mod Computing
+pub mod WriteLemmas

@@ -12,6 +12,7 @@ pub mod laws;
 mod limits;
 mod lines;
 mod utf8;
+mod writing;
 
 pub use device::{DeviceFailed, FromRead, FromWrite, NoMemory, Pieces, Room, Sink, Source};
 pub use fault::TextFault;
@@ -20,3 +21,4 @@ pub use indentation::indent;
 pub use labels::fold_label;
 pub use limits::Limits;
 pub use lines::Line;
+pub use writing::{WriteFailed, write_all};

@@ -2,7 +2,7 @@
 use Rattle.std.proofs.Common.{◌≡◌, ℕ, zero, suc, ◌+◌, ◌<◌, ◌==◌, Bool, true, false, List, [], ◌∷◌, ◌++◌, length, take, drop, get_or, refl, ◌∙◌, arith, add-one, append_assoc, append-nil}
 use Rattle.memchr.specs.Find.{is_byte, Passes, Nowhere}
 use Rattle.cm_tool.specs.Trim.{is_space, trim_end}
-use Rattle.cm_tool.specs.Tree.{Soft}
+use Rattle.cm_tree.specs.declared.tree.Inline.TheVariants.{Soft}
 use Rattle.cm_tool.specs.Inlines.{text_of_run, inlines_after, inlines_of}
 
 -- what is not true is false

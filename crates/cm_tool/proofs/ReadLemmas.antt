@@ -9,8 +9,7 @@ use Rattle.cm_tool.specs.declared.fault.Fault.TheVariants.{NotUtf8, TooLong, NoM
 use Rattle.cm_tool.specs.Building.{Open}
 use Rattle.cm_tool.specs.Parsing.{Parses, Tells, Finishes}
 use Rattle.cm_tool.specs.Reading.{SourceView, Refuses, Reads}
-use Rattle.std.specs.Global.{Vec}
-use Rattle.cm_tool.specs.declared.tree.Block.{Block}
+use Rattle.cm_tree.specs.declared.tree.Block.{Block}
 
 -- what has been read so far
 pub record SoFar (limit : ℕ) (feed : Feed) (so_far : Open) (source now : SourceView) (read : List ℕ) : Type 0 where
@@ -46,7 +45,7 @@ more_so_far limit feed next_feed before after source now later read piece so_far
 }
 
 -- the text has been read whole
-pub whole_read : (limit : ℕ) (r : Result (Vec Block) Fault) (feed : Feed) (before : Open) (source now later : SourceView) (read : List ℕ)
+pub whole_read : (limit : ℕ) (r : Result (List Block) Fault) (feed : Feed) (before : Open) (source now later : SourceView) (read : List ℕ)
     → SoFar limit feed before source now read → later.failed ≡ now.failed → IsAtEnd later.remaining → Finishes r feed.limit read
     → Reads r limit read source later
 whole_read limit r feed before source now later read so_far failed at_end finishes =
@@ -61,7 +60,7 @@ whole_read limit r feed before source now later read so_far failed at_end finish
         let P : ℕ → Type 0 = λ l. settled_fault l read ≡ None in
         subst P so_far.limit_is so_far.parses.feeds.sound
 
-    by_result : (r : Result (Vec Block) Fault) → Finishes r limit read → Reads r limit read source later
+    by_result : (r : Result (List Block) Fault) → Finishes r limit read → Reads r limit read source later
     by_result (Ok blocks) h = (record { same = same; at_end = at_end; sound = h.0 }, h.1)
     by_result (Err (NotUtf8 at)) h = record { same = same; told = inr (sound, at_end, h) }
     by_result (Err (TooLong at)) h = record { same = same; told = inr (sound, at_end, h) }

@@ -5,7 +5,8 @@ use Rattle.cm_text.specs.Lines.{LineView}
 use Rattle.cm_text.specs.Indentation.{indent_of}
 use Rattle.cm_tool.specs.Trim.{is_space_or_tab, trim_start, trim_end}
 use Rattle.cm_tool.specs.Inlines.{inlines_of}
-use Rattle.cm_tool.specs.Tree.{BlockView, Paragraph, Break}
+use Rattle.cm_tree.specs.declared.tree.Block.{Block}
+use Rattle.cm_tree.specs.declared.tree.Block.TheVariants.{Paragraph, Break}
 
 -- a blank line: nothing but spaces and tabs (2.1 Characters and lines)
 abbrev pub is_blank : List ℕ → Bool
@@ -40,12 +41,12 @@ add_line [] text = trim_start text
 add_line (b ∷ bs) text = (b ∷ bs) ++ 10 ∷ trim_start text
 
 -- the paragraph of a run, if one is open: its last line is without the spaces and tabs at its end
-abbrev pub paragraph_of : List ℕ → List BlockView
+abbrev pub paragraph_of : List ℕ → List Block
 paragraph_of [] = []
 paragraph_of (b ∷ bs) = Paragraph (inlines_of (trim_end is_space_or_tab (b ∷ bs))) ∷ []
 
 -- the blocks of the lines that follow an open run, whose source is empty if none is open
-abbrev pub blocks_after : List ℕ → List LineView → List BlockView
+abbrev pub blocks_after : List ℕ → List LineView → List Block
 blocks_after source [] = paragraph_of source
 blocks_after source (line ∷ lines) = elim (kind_of line) [
   | BlankLine ↦ paragraph_of source ++ blocks_after [] lines
@@ -54,5 +55,5 @@ blocks_after source (line ∷ lines) = elim (kind_of line) [
 ]
 
 -- the blocks of lines
-abbrev pub blocks_of : List LineView → List BlockView
+abbrev pub blocks_of : List LineView → List Block
 blocks_of lines = blocks_after [] lines

@@ -1,29 +1,10 @@
 -- What a conversion writes and answers.
-use Rattle.std.specs.Prelude.{◌≡◌, ℕ, ◌+◌, ◌≤◌, List, length, take, Option, Result, Ok, Err, ◌⊎◌}
-use Rattle.std.specs.Io.KnownBytes.{Appends, Keeps}
+use Rattle.std.specs.Prelude.{◌≡◌, ℕ, ◌≤◌, List, length, take, Result, Ok, Err, ◌⊎◌}
 use Rattle.cm_tool.specs.declared.fault.Fault.{Fault}
 use Rattle.cm_tool.specs.declared.fault.Fault.TheVariants.{NotUtf8, TooLong, NoMemory, ReadFailed, WriteFailed}
-use Rattle.cm_tool.specs.Html.{html_of}
+use Rattle.cm_text.specs.Writing.{SinkView, IsUnwritten, Wrote, WroteBeginning}
+use Rattle.cm_html.specs.Html.{html_of}
 use Rattle.cm_tool.specs.Reading.{SourceView, ReadWhole, Refuses, tree_of}
-
--- a sink, by the bytes that it has taken, where they are known, and the number of failed writes
-pub record SinkView : Type 0 where
-  pub taken : Option (List ℕ)
-  pub failed : ℕ
-
--- nothing was written
-pub record IsUnwritten (old new : SinkView) : Type 0 where
-  pub keeps : Keeps old.taken new.taken
-  pub same : new.failed ≡ old.failed
-
--- these bytes went out, with so many failed writes
-pub record Wrote (old new : SinkView) (bytes : List ℕ) (failures : ℕ) : Type 0 where
-  pub appends : Appends old.taken new.taken bytes
-  pub failed : new.failed ≡ old.failed + failures
-
--- a beginning of the bytes went out, and no write failed
-abbrev pub WroteBeginning : SinkView → SinkView → List ℕ → Type 0
-WroteBeginning old new bytes = (written : ℕ) × Wrote old new (take written bytes) 0
 
 -- the HTML of a text's bytes
 abbrev pub converted : List ℕ → List ℕ

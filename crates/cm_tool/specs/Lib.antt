@@ -1,9 +1,7 @@
 pub mod Trim
-pub mod Tree
 pub mod Inlines
 pub mod Blocks
 pub mod Building
-pub mod Html
 pub mod Fault
 pub mod Reading
 pub mod Parsing

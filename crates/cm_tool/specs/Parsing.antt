@@ -1,5 +1,5 @@
 -- What a parser stands for: the bytes so far, whose ended lines have been handed to the blocks.
-use Rattle.std.specs.Prelude.{◌≡◌, ℕ, false, List, ◌++◌, length, map, Option, Some, None, Result, Ok, Err, ⊤}
+use Rattle.std.specs.Prelude.{◌≡◌, ℕ, false, List, ◌++◌, length, Option, Some, None, Result, Ok, Err, ⊤}
 use Rattle.cm_text.specs.declared.fault.TextFault.{TextFault}
 use Rattle.cm_text.specs.declared.fault.TextFault.TheVariants as text_faults
 use Rattle.cm_text.specs.Lines.{LineView}
@@ -10,9 +10,7 @@ use Rattle.cm_tool.specs.declared.fault.Fault.TheVariants.{NotUtf8, TooLong, NoM
 use Rattle.cm_tool.specs.Blocks.{blocks_of}
 use Rattle.cm_tool.specs.Building.{Open, blocks_with}
 use Rattle.cm_tool.specs.Reading.{tree_of}
-use Rattle.cm_tool.specs.Tree.{block_view}
-use Rattle.cm_tool.specs.declared.tree.Block.{Block}
-use Rattle.std.specs.Global.{Vec}
+use Rattle.cm_tree.specs.declared.tree.Block.{Block}
 
 pub record Parses (feed : Feed) (so_far : Open) (bytes : List ℕ) : Type 0 where
   pub going : feed.ended ≡ false
@@ -29,6 +27,6 @@ Tells ReadFailed told = ⊥
 Tells (WriteFailed written) told = ⊥
 
 -- the end of the text: its tree, or its fault
-abbrev pub Finishes : Result (Vec Block) Fault → ℕ → List ℕ → Type 0
-Finishes (Ok blocks) limit bytes = (text_fault limit bytes ≡ None) × (map block_view blocks.items ≡ tree_of bytes)
+abbrev pub Finishes : Result (List Block) Fault → ℕ → List ℕ → Type 0
+Finishes (Ok blocks) limit bytes = (text_fault limit bytes ≡ None) × (blocks ≡ tree_of bytes)
 Finishes (Err fault) limit bytes = Tells fault (text_fault limit bytes)

@@ -1,6 +1,5 @@
 -- What reading a source to its end answers.
-use Rattle.std.specs.Prelude.{◌≡◌, ℕ, ◌+◌, List, Option, Some, None, Result, Ok, Err, map, ◌⊎◌}
-use Rattle.std.specs.Global.{Vec}
+use Rattle.std.specs.Prelude.{◌≡◌, ℕ, ◌+◌, List, Option, Some, None, Result, Ok, Err, ◌⊎◌}
 use Rattle.std.specs.Io.KnownBytes.{IsAtEnd}
 use Rattle.cm_text.specs.declared.fault.TextFault.{TextFault}
 use Rattle.cm_text.specs.declared.fault.TextFault.TheVariants as text_faults
@@ -8,12 +7,11 @@ use Rattle.cm_text.specs.Lines.{text_of, plain_lines_of}
 use Rattle.cm_text.specs.Faults.{settled_fault, text_fault}
 use Rattle.cm_tool.specs.declared.fault.Fault.{Fault}
 use Rattle.cm_tool.specs.declared.fault.Fault.TheVariants.{NotUtf8, TooLong, NoMemory, ReadFailed, WriteFailed}
-use Rattle.cm_tool.specs.declared.tree.Block.{Block}
-use Rattle.cm_tool.specs.Tree.{BlockView, block_view}
+use Rattle.cm_tree.specs.declared.tree.Block.{Block}
 use Rattle.cm_tool.specs.Blocks.{blocks_of}
 
 -- the tree of a text's bytes
-abbrev pub tree_of : List ℕ → List BlockView
+abbrev pub tree_of : List ℕ → List Block
 tree_of bytes = blocks_of (plain_lines_of (text_of bytes))
 
 -- a source, by the bytes still to come, where they are known, and the number of failed reads
@@ -47,6 +45,6 @@ Refuses ReadFailed limit bytes old new = HasFailed limit bytes old new
 Refuses (WriteFailed written) limit bytes old new = ⊥
 
 -- what reading these bytes answers: their tree, or why there is none
-abbrev pub Reads : Result (Vec Block) Fault → ℕ → List ℕ → SourceView → SourceView → Type 0
-Reads (Ok blocks) limit bytes old new = ReadWhole limit bytes old new × (map block_view blocks.items ≡ tree_of bytes)
+abbrev pub Reads : Result (List Block) Fault → ℕ → List ℕ → SourceView → SourceView → Type 0
+Reads (Ok blocks) limit bytes old new = ReadWhole limit bytes old new × (blocks ≡ tree_of bytes)
 Reads (Err fault) limit bytes old new = Refuses fault limit bytes old new

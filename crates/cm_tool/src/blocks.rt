@@ -1,14 +1,13 @@
 //! The blocks of lines, in one pass.
-ghost use Rattle.std.specs.Prelude.{◌≡◌, ℕ, ◌+◌, ◌<◌, ◌≤◌, List, [], ◌∷◌, ◌++◌, map, string_bytes, IfOk, OnOk};
+ghost use Rattle.std.specs.Prelude.{◌≡◌, ℕ, ◌+◌, ◌<◌, ◌≤◌, List, [], ◌∷◌, ◌++◌, string_bytes, IfOk, OnOk};
 ghost use Rattle.cm_text.specs.Lines.{LineView, view_of};
-ghost use Rattle.cm_tool.specs.Tree.{block_view};
 ghost use Rattle.cm_tool.specs.Blocks.{is_blank, is_break_of, is_thematic_break, add_line, paragraph_of};
 ghost use Rattle.cm_tool.specs.Building.{is_marker, open_of, blocks_with};
 
 use crate::inlines::inlines;
 use crate::text::{is_space_or_tab, trim_end, trim_start};
-use crate::tree::Block;
 use cm_text::{Line, indent};
+use cm_tree::{Block, Items};
 use std::alloc::{AllocError, Global};
 
 /// Whether a text has nothing but spaces and tabs.
@@ -59,7 +58,7 @@ fn is_thematic_break(line: &Line) -> bool
 #[derive(Drop)]
 pub(crate) struct Blocks {
     alloc: Global,
-    closed: Vec<Block>,
+    closed: Items<Block>,
     // The source of the open run of text lines, which is empty if none is open.
     source: String,
 }
@@ -67,20 +66,20 @@ pub(crate) struct Blocks {
 impl Blocks {
     /// No blocks yet. Takes no memory.
     pub(crate) fn new(alloc: Global) -> Blocks
-        ensures closed { result.closed.items ≡ [] }
+        ensures closed { result.closed ≡ [] }
         ensures source { string_bytes result.source ≡ [] }
     {
         Blocks {
             alloc,
-            closed: Vec::new(alloc),
+            closed: Items::new(alloc),
             source: String::new(alloc),
         }
     }
 
     /// Makes a paragraph of the open run, if one is open.
     fn close_run(&mut self) -> Result<(), AllocError>
-        ensures closed { OnOk result (map block_view self.new.closed.items
-            ≡ map block_view self.old.closed.items ++ paragraph_of (string_bytes self.old.source)) }
+        ensures closed { OnOk result (self.new.closed
+            ≡ self.old.closed ++ paragraph_of (string_bytes self.old.source)) }
         ensures source { OnOk result (string_bytes self.new.source ≡ []) }
     {
         if !self.source.is_empty() {
@@ -120,8 +119,8 @@ impl Blocks {
     }
 
     /// The blocks, where no line follows.
-    pub(crate) fn finish(mut self) -> Result<Vec<Block>, AllocError>
-        ensures { IfOk result (λ blocks. map block_view blocks.items ≡ blocks_with (open_of self) []) }
+    pub(crate) fn finish(mut self) -> Result<Items<Block>, AllocError>
+        ensures { IfOk result (λ blocks. blocks ≡ blocks_with (open_of self) []) }
     {
         self.close_run()?;
         Ok(self.closed)
@@ -131,8 +130,9 @@ impl Blocks {
 #[cfg(test)]
 mod tests {
     use super::*;
-    use crate::html::html;
+    use cm_html::html;
     use cm_text::{Limits, LineFeed};
+    use cm_tree::Doc;
     use std::test::Fail;
 
     fn html_of(alloc: Global, text: &str) -> Result<String, Fail> {
@@ -143,7 +143,11 @@ mod tests {
         while let Some(line) = feed.next_line() {
             blocks.line(&line)?;
         }
-        Ok(html(alloc, &blocks.finish()?)?)
+        let doc = Doc {
+            blocks: blocks.finish()?,
+            owners: Items::new(alloc),
+        };
+        Ok(html(alloc, &doc).ok().ok_or("html")?)
     }
 
     #[test]

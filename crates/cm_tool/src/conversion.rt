@@ -4,10 +4,10 @@ ghost use Rattle.std.specs.Io.KnownBytes.{Consumes};
 ghost use Rattle.cm_tool.specs.Convert.{Converts};
 
 use crate::fault::Fault;
-use crate::html::html;
 use crate::read::read;
-use crate::write::{WriteFailed, write_all};
+use cm_html::write_html;
 use cm_text::{Limits, Sink, Source};
+use cm_tree::{Doc, Items};
 use std::alloc::Global;
 
 /// Writes the HTML of the source's text, and answers its length in bytes.
@@ -31,9 +31,10 @@ pub fn convert<R: Source, W: Sink>(
         (record { taken = W.taken sink.new; failed = W.failed sink.new }) }
 {
     let blocks = read(alloc, source, limits)?;
-    let out = html(alloc, &blocks)?;
-    match write_all(sink, out.as_bytes()) {
-        Ok(()) => Ok(out.len()),
-        Err(WriteFailed { written }) => Err(Fault::WriteFailed { written }),
-    }
+    // The HTML shows no owners of lines, so none are made.
+    let doc = Doc {
+        blocks,
+        owners: Items::new(alloc),
+    };
+    Ok(write_html(alloc, &doc, sink)?)
 }

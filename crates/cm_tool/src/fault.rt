@@ -1,6 +1,7 @@
 //! Faults, and the texts by which they are told.
 ghost use Rattle.std.specs.Prelude.{◌≡◌};
 
+use cm_html::HtmlFault;
 use cm_text::TextFault;
 use std::alloc::AllocError;
 use thiserror::Error;
@@ -48,5 +49,19 @@ impl From<AllocError> for Fault {
 
     fn from(_: AllocError) -> Fault {
         Fault::NoMemory
+    }
+}
+
+impl From<HtmlFault> for Fault {
+    ghost use Rattle.std.specs.Prelude.{◌≡◌};
+    ghost use Rattle.cm_tool.specs.Fault.{unwritten};
+
+    ghost from_gives = { λ fault e. e ≡ unwritten fault };
+
+    fn from(fault: HtmlFault) -> Fault {
+        match fault {
+            HtmlFault::NoMemory => Fault::NoMemory,
+            HtmlFault::WriteFailed { written } => Fault::WriteFailed { written },
+        }
     }
 }

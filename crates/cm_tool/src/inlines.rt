@@ -1,29 +1,27 @@
 //! The inlines of a paragraph's source.
-ghost use Rattle.std.specs.Prelude.{◌≡◌, ℕ, List, ◌++◌, map, IfOk, OnOk};
-ghost use Rattle.cm_tool.specs.Tree.{inline_view};
+ghost use Rattle.std.specs.Prelude.{◌≡◌, ℕ, List, ◌++◌, IfOk, OnOk};
 ghost use Rattle.cm_tool.specs.Inlines.{text_of_run, inlines_of};
 
 use crate::text::{cut_at, trim_end_spaces};
-use crate::tree::Inline;
+use cm_tree::{Inline, Items, Text};
 use memchr::memchr;
 use std::alloc::{AllocError, Global};
 
 /// Adds a text, if it is not empty.
-fn push_text(alloc: Global, content: &mut Vec<Inline>, text: &str) -> Result<(), AllocError>
-    ensures { OnOk result (map inline_view content.new.items
-        ≡ map inline_view content.old.items ++ text_of_run text.now) }
+fn push_text(alloc: Global, content: &mut Items<Inline>, text: &str) -> Result<(), AllocError>
+    ensures { OnOk result (content.new ≡ content.old ++ text_of_run text.now) }
 {
     if !text.is_empty() {
-        content.push(Inline::Text(String::from_str(alloc, text)?))?;
+        content.push(Inline::Text(Text::from_str(alloc, text)?))?;
     }
     Ok(())
 }
 
 /// The texts and soft breaks of a source, whose lines are parted by line feeds.
-pub(crate) fn inlines(alloc: Global, source: &str) -> Result<Vec<Inline>, AllocError>
-    ensures { IfOk result (λ content. map inline_view content.items ≡ inlines_of source.now) }
+pub(crate) fn inlines(alloc: Global, source: &str) -> Result<Items<Inline>, AllocError>
+    ensures { IfOk result (λ content. content ≡ inlines_of source.now) }
 {
-    let mut content = Vec::new(alloc);
+    let mut content = Items::new(alloc);
     let mut rest = source;
     while let Some(at) = memchr(b'\n', rest.as_bytes()) {
         let (before, after) = cut_at(rest, at);

@@ -5,7 +5,6 @@ mod blocks;
 mod command_line;
 mod conversion;
 mod fault;
-mod html;
 mod inlines;
 mod job;
 pub mod laws;
@@ -13,8 +12,6 @@ mod parser;
 mod read;
 mod running;
 mod text;
-mod tree;
-mod write;
 
 pub use command_line::task;
 pub use conversion::convert;

@@ -8,8 +8,8 @@ ghost use Rattle.cm_tool.specs.Parsing.{Parses, Tells, Finishes};
 
 use crate::blocks::Blocks;
 use crate::fault::Fault;
-use crate::tree::Block;
 use cm_text::{Limits, LineFeed};
+use cm_tree::{Block, Items};
 use std::alloc::{AllocError, Global};
 
 /// Reads a document in pieces: each line is handed to the blocks once, as soon as it has ended.
@@ -50,7 +50,7 @@ impl Parser {
     }
 
     /// The blocks of the whole document.
-    pub(crate) fn finish(mut self) -> Result<Vec<Block>, Fault>
+    pub(crate) fn finish(mut self) -> Result<Items<Block>, Fault>
         requires going { self.feed.ended ≡ false }
         requires sound { self.feed.fault ≡ None }
         ensures { (bytes : List ℕ) → Parses self.feed (open_of self.blocks) bytes →

@@ -7,8 +7,8 @@ ghost use Rattle.cm_tool.specs.Reading.{Reads};
 
 use crate::fault::Fault;
 use crate::parser::Parser;
-use crate::tree::Block;
 use cm_text::{Limits, Source};
+use cm_tree::{Block, Items};
 use std::alloc::{AllocError, Global};
 
 // How many bytes are asked for at once.
@@ -25,7 +25,7 @@ pub(crate) fn read<R: Source>(
     alloc: Global,
     source: &mut R,
     limits: Limits,
-) -> Result<Vec<Block>, Fault>
+) -> Result<Items<Block>, Fault>
     requires { R.failed source.old < 2 ^ 64 - 1 }
     ensures { (bytes : List ℕ) × Consumes (R.remaining source.old) (R.remaining source.new) bytes
         × Reads result limits.bytes bytes
@@ -40,7 +40,7 @@ fn read_to_end<R: Source>(
     source: &mut R,
     mut parser: Parser,
     buffer: &mut [u8],
-) -> Result<Vec<Block>, Fault>
+) -> Result<Items<Block>, Fault>
     requires failures { R.failed source.old < 2 ^ 64 - 1 }
     requires parses { Parses parser.feed (open_of parser.blocks) [] }
     requires room { 0 < length buffer.old }

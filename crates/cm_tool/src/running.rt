@@ -7,8 +7,7 @@ ghost use Rattle.cm_tool.specs.Running.{Answers, Offered, OfferedLine, Tells};
 use crate::conversion::convert;
 use crate::fault::Fault;
 use crate::job::{Job, Stop, Task};
-use crate::write::{WriteFailed, write_all};
-use cm_text::{Sink, Source};
+use cm_text::{Sink, Source, WriteFailed, write_all};
 use std::alloc::Global;
 use std::io::{Cursor, Write};
 

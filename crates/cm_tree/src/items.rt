@@ -6,11 +6,12 @@ ghost use Rattle.std.specs.Option.{option_copied};
 ghost use Rattle.std.specs.Slice.Iter.{iter_rest, iter_steps};
 
 use std::alloc::{AllocError, Global};
+use std::fmt;
 use std::marker::Model;
 use std::slice;
 
 /// A `Vec` that contracts see as the list of its elements.
-#[derive(Debug, Drop)]
+#[derive(Drop)]
 pub struct Items<T> {
     items: Vec<T>,
 }
@@ -115,6 +116,13 @@ impl<'a, T> IntoIterator for &'a Items<T> {
 
     fn into_iter(self) -> slice::Iter<'a, T> {
         self.as_slice().iter()
+    }
+}
+
+/// The items as a `Vec` shows them, as `[3, 5]`.
+impl<T: fmt::Debug> fmt::Debug for Items<T> {
+    fn fmt<W: fmt::Write>(&self, f: &mut fmt::Formatter<W>) -> fmt::Result {
+        fmt::Debug::fmt(&self.items, f)
     }
 }
 

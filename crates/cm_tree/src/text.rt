@@ -5,10 +5,11 @@ ghost use Rattle.std.specs.Bool.{nat_eq};
 ghost use Rattle.std.specs.Prelude.{◌≡◌, ◌↔◌, [], ◌++◌, length, string_bytes, IsTrue, IfOk, OnOk, OnErr};
 
 use std::alloc::{AllocError, Global};
+use std::fmt;
 use std::marker::Model;
 
 /// A `String` that contracts see as its bytes.
-#[derive(Debug, Drop)]
+#[derive(Drop)]
 pub struct Text {
     string: String,
 }
@@ -91,6 +92,13 @@ impl From<String> for Text {
 
     fn from(string: String) -> Text {
         Text { string }
+    }
+}
+
+/// The text between quotes, as a `String` shows it.
+impl fmt::Debug for Text {
+    fn fmt<W: fmt::Write>(&self, f: &mut fmt::Formatter<W>) -> fmt::Result {
+        fmt::Debug::fmt(&self.string, f)
     }
 }
 
