@@ -11,3 +11,4 @@ pub mod Feed
 pub mod WorkedExamples
 pub mod FeedSteps
 pub mod Labels
+pub mod LabelSteps

@@ -6,6 +6,7 @@ ghost use Rattle.std.specs.Prelude.{◌≡◌, ◌↔◌, [], ◌++◌, length, 
 
 use std::alloc::{AllocError, Global};
 use std::marker::Model;
+use std::ops::DerefStr;
 
 /// A `String` that contracts see as its bytes.
 #[derive(Debug, Drop)]
@@ -81,7 +82,8 @@ impl Text {
     pub fn into_string(self) -> String
         ensures { string_bytes result ≡ self }
     {
-        self.string
+        let Text { string } = self;
+        string
     }
 }
 
@@ -91,6 +93,26 @@ impl From<String> for Text {
 
     fn from(string: String) -> Text {
         Text { string }
+    }
+}
+
+/// The text as a string slice, so that it has the methods of string slices.
+impl DerefStr for Text {
+    ghost deref_gives = { λ text slice. slice ≡ text };
+
+    fn deref(&self) -> &str {
+        self.as_str()
+    }
+}
+
+/// A text of the same bytes.
+impl Clone for Text {
+    ghost is_clone = { λ text copy. copy ≡ text };
+
+    fn clone(&self) -> Result<Text, AllocError> {
+        Ok(Text {
+            string: self.string.clone()?,
+        })
     }
 }
 
@@ -121,6 +143,7 @@ mod tests {
         text.push_str("\u{E9}")?;
         assert_eq!(rt; text.len(), 2);
         assert_eq!(rt; text.as_str(), "\u{E9}");
+        assert!(rt; text.ends_with('\u{E9}'));
         assert!(rt; text == Text::from_str(alloc, "\u{E9}")?);
         assert!(rt; text == Text::from(String::from_str(alloc, "\u{E9}")?));
         assert_eq!(rt; text.into_string().as_str(), "\u{E9}");
