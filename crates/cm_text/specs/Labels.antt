@@ -43,11 +43,6 @@ collapse text = collapse_after false text
 unfoldable pub settle_gaps : List ℕ → List ℕ
 settle_gaps text = collapse (strip_trailing (strip_leading text))
 
--- what a character adds to such a text, where a gap stands before it or doesn't
-abbrev pub put_after : (made : List ℕ) (after_gap : Bool) → List ℕ → List ℕ
-put_after [] after_gap bytes = bytes
-put_after (b ∷ bs) after_gap bytes = elim after_gap [ true ↦ 32 ∷ bytes | false ↦ bytes ]
-
 -- a label as it is compared
 unfoldable pub fold_label : List ℕ → List ℕ
 fold_label label = settle_gaps (case_fold label)

@@ -12,3 +12,4 @@ pub mod WorkedExamples
 pub mod FeedSteps
 pub mod Labels
 pub mod Writing
+pub mod LabelSteps

@@ -2,12 +2,14 @@
 ghost use Rattle.std.specs.Cmp.Lexicographic.{pointwise, lists_per, lists_equiv};
 ghost use Rattle.std.specs.Prelude.{◌≡◌, ◌^◌, [], ◌∷◌, ◌++◌, ◌<◌, length, slice_get, ◌↔◌, IsTrue, IfOk, MatchOption, OnOk, OnErr, OnSome};
 ghost use Rattle.std.specs.Iterator.Runs.{EveryRun, ItemsMapTo};
+ghost use Rattle.std.specs.List.{AllZip};
 ghost use Rattle.std.specs.Option.{option_copied};
 ghost use Rattle.std.specs.Slice.Iter.{iter_rest, iter_steps};
 
 use std::alloc::{AllocError, Global};
 use std::fmt;
 use std::marker::Model;
+use std::ops::DerefSlice;
 use std::slice;
 
 /// A `Vec` that contracts see as the list of its elements.
@@ -41,7 +43,8 @@ impl<T> Items<T> {
     pub fn into_vec(self) -> Vec<T>
         ensures { result.items ≡ self }
     {
-        self.items
+        let Items { items } = self;
+        items
     }
 
     /// The items as a slice.
@@ -71,6 +74,15 @@ impl<T> Items<T> {
         ensures within { OnSome result (at < length self.now) }
     {
         self.items.get(at)
+    }
+
+    /// A list with no items that has room for as many as there are here.
+    pub(crate) fn room_for_a_copy(&self) -> Result<Items<T>, AllocError>
+        ensures { IfOk result (λ items. items ≡ []) }
+    {
+        Ok(Items {
+            items: Vec::with_capacity(*self.items.allocator(), self.items.len())?,
+        })
     }
 
     /// Takes the last item off, or answers None where there is none.
@@ -103,6 +115,28 @@ impl<T> From<Vec<T>> for Items<T> {
 
     fn from(items: Vec<T>) -> Items<T> {
         Items { items }
+    }
+}
+
+/// A copy of each item in order.
+impl<T: Clone> Clone for Items<T> {
+    ghost is_clone = { λ items copies. AllZip T.is_clone items copies };
+
+    fn clone(&self) -> Result<Items<T>, AllocError> {
+        Ok(Items {
+            items: self.items.clone()?,
+        })
+    }
+}
+
+/// The items as a slice, so that they have the methods of slices.
+impl<T> DerefSlice for Items<T> {
+    type Elem = T;
+
+    ghost deref_gives = { λ items slice. slice ≡ items };
+
+    fn deref(&self) -> &[T] {
+        &self.items
     }
 }
 
@@ -159,6 +193,9 @@ mod tests {
             sum = sum.saturating_add(u32::from(*item));
         }
         assert_eq!(rt; sum, 8);
+        assert_eq!(rt; items.iter().next_back(), Some(&5));
+        assert_eq!(rt; items.first(), Some(&3));
+        assert!(rt; items.clone()? == items);
         assert!(rt; items == Items::from(vec![in alloc; 3, 5]?));
         assert_eq!(rt; items.pop(), Some(5));
         assert!(rt; items == Items::from(vec![in alloc; 3]?));

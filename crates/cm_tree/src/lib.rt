@@ -1,22 +1,32 @@
+#![tactic(auto)]
 //! The tree of a document, how deep it nests, and the table of its definitions.
 //!
 //! A tree is made of plain enums over [`Items`], a `Vec` that contracts see as a list, and [`Text`], a
-//! `String` that they see as its bytes. So two trees are equal exactly where they look alike, and a clause
-//! can write a tree out, as `Inline.Emph (Inline.Text text.now ∷ []) ∷ []`.
+//! `String` that they see as its bytes. So two trees are equal exactly where they look alike, a clone is
+//! equal to its original, and a clause can write a tree out, as that of `title` here.
 //!
 //! ```
+//! ghost use Rattle.std.specs.Prelude.{◌≡◌, [], ◌∷◌, IfOk};
+//! ghost use Rattle.cm_tree.specs.declared.tree.Block.TheVariants as block;
+//! ghost use Rattle.cm_tree.specs.declared.tree.Inline.TheVariants as inline;
+//!
 //! use cm_tree::{Block, Inline, Items, Text};
 //! use std::alloc::{AllocError, Global};
 //!
-//! fn paragraph(alloc: Global, text: &str) -> Result<Block, AllocError> {
-//!     let mut inlines = Vec::new(alloc);
-//!     inlines.push(Inline::Text(Text::from_str(alloc, text)?))?;
-//!     Ok(Block::Paragraph(Items::from(inlines)))
+//! // A heading of the first level.
+//! fn title(alloc: Global, text: &str) -> Result<Block, AllocError>
+//!     ensures { IfOk result (λ made. made ≡ block.Heading 1 (inline.Text text.now ∷ [])) }
+//! {
+//!     let text = Text::from_str(alloc, text)?;
+//!     Ok(Block::Heading {
+//!         level: 1,
+//!         content: Items::from(vec![in alloc; Inline::Text(text)]?),
+//!     })
 //! }
 //!
-//! // Whether a heading of the first level stands in the tree, outside lists.
+//! // Whether a heading of the first level stands among the blocks, or in quotes.
 //! #[cycle(has_title)]
-//! fn has_title(blocks: &[Block]) -> bool {
+//! fn has_title(blocks: &Items<Block>) -> bool {
 //!     for block in blocks {
 //!         if is_title(block) {
 //!             return true;
@@ -29,18 +39,23 @@
 //! fn is_title(block: &Block) -> bool {
 //!     match block {
 //!         Block::Heading { level, .. } => *level == 1,
-//!         Block::Quote(blocks) => has_title(blocks.as_slice()),
+//!         Block::Quote(blocks) => has_title(blocks),
 //!         _ => false,
 //!     }
 //! }
 //! ```
 //!
-//! A walk over a tree is two functions: one over the nodes of a slice, by a `for`, and one over a node,
-//! by a `match` that hands the children on by [`Items::as_slice`].
-#![tactic(auto)]
+//! A walk over a tree is two functions that call each other: one over a list of nodes, by a `for`, and
+//! one over a node, by a `match` that hands its children on. (With a closure in their place, as in
+//! `blocks.iter().any(..)`, one would have to prove by hand that the walk ends.)
 
+mod clones;
 pub mod definitions;
 pub mod depth;
+#[cfg(test)]
+mod equality;
+#[cfg(test)]
+mod example;
 pub mod items;
 pub mod laws;
 pub mod text;

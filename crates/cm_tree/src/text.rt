@@ -7,6 +7,7 @@ ghost use Rattle.std.specs.Prelude.{◌≡◌, ◌↔◌, [], ◌++◌, length, 
 use std::alloc::{AllocError, Global};
 use std::fmt;
 use std::marker::Model;
+use std::ops::DerefStr;
 
 /// A `String` that contracts see as its bytes.
 #[derive(Drop)]
@@ -82,7 +83,8 @@ impl Text {
     pub fn into_string(self) -> String
         ensures { string_bytes result ≡ self }
     {
-        self.string
+        let Text { string } = self;
+        string
     }
 }
 
@@ -99,6 +101,26 @@ impl From<String> for Text {
 impl fmt::Debug for Text {
     fn fmt<W: fmt::Write>(&self, f: &mut fmt::Formatter<W>) -> fmt::Result {
         fmt::Debug::fmt(&self.string, f)
+    }
+}
+
+/// The text as a string slice, so that it has the methods of string slices.
+impl DerefStr for Text {
+    ghost deref_gives = { λ text slice. slice ≡ text };
+
+    fn deref(&self) -> &str {
+        self.as_str()
+    }
+}
+
+/// A text of the same bytes.
+impl Clone for Text {
+    ghost is_clone = { λ text copy. copy ≡ text };
+
+    fn clone(&self) -> Result<Text, AllocError> {
+        Ok(Text {
+            string: self.string.clone()?,
+        })
     }
 }
 
@@ -129,6 +151,7 @@ mod tests {
         text.push_str("\u{E9}")?;
         assert_eq!(rt; text.len(), 2);
         assert_eq!(rt; text.as_str(), "\u{E9}");
+        assert!(rt; text.ends_with('\u{E9}'));
         assert!(rt; text == Text::from_str(alloc, "\u{E9}")?);
         assert!(rt; text == Text::from(String::from_str(alloc, "\u{E9}")?));
         assert_eq!(rt; text.into_string().as_str(), "\u{E9}");
