@@ -1,5 +1,8 @@
 pub mod Pushed
+pub mod ListingLemmas
+pub mod ReplacedLemmas
 pub mod EscapeLemmas
+pub mod SearchLemmas
 pub mod Words
 pub mod WriteLemmas
 pub mod Destinations
