@@ -1,4 +1,7 @@
 pub mod Pushed
+pub mod ListingLemmas
+pub mod ReplacedLemmas
 pub mod EscapeLemmas
+pub mod SearchLemmas
 pub mod Words
 pub mod Destinations

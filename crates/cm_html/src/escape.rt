@@ -2,11 +2,12 @@
 ghost use Rattle.std.specs.Prelude.{◌≡◌, ℕ, ◌+◌, ◌==◌, ◌||◌, ◌<◌, length, take, drop, slice_index, position, IsTrue, IsUtf8, ◌++◌, string_bytes, OnOk};
 ghost use Rattle.cm_html.specs.Escape.{is_escaped, escape_byte, escape, destination_html, is_space_or_tab, class_word};
 
+use crate::search::find_escaped;
 use percent_encoding::{AsciiSet, NON_ALPHANUMERIC, ascii_set, utf8_percent_encode};
 use std::alloc::AllocError;
 
 /// What stands before an ASCII character, and what stands after it.
-fn cut_at(text: &str, at: usize) -> (&str, &str)
+pub(crate) fn cut_at(text: &str, at: usize) -> (&str, &str)
     requires within { at < length text.now }
     requires ascii { slice_index text.now at < 128 }
     ensures before { result.0.now ≡ take at text.now }
@@ -14,15 +15,6 @@ fn cut_at(text: &str, at: usize) -> (&str, &str)
     ensures after_utf8 { IsUtf8 result.1.now }
 {
     (&text[..at], &text[at + 1..])
-}
-
-/// Where the first byte stands that is written as a reference.
-fn find_escaped(bytes: &[u8]) -> Option<usize>
-    ensures { result ≡ position is_escaped bytes.now }
-{
-    bytes
-        .iter()
-        .position(|b| *b == b'&' || *b == b'<' || *b == b'>' || *b == b'"')
 }
 
 /// Writes the reference of a byte.
@@ -45,7 +37,9 @@ pub(crate) fn push_escaped(out: &mut String, text: &str) -> Result<(), AllocErro
     let mut rest = text;
     while let Some(at) = find_escaped(rest.as_bytes()) {
         let (before, after) = cut_at(rest, at);
-        out.push_str(before)?;
+        if at > 0 {
+            out.push_str(before)?;
+        }
         push_reference(out, rest.as_bytes()[at])?;
         rest = after;
     }

@@ -6,9 +6,13 @@ mod escape;
 pub mod fault;
 mod inlines;
 pub mod laws;
+mod quoting;
 pub mod rendering;
+mod search;
 #[cfg(test)]
 mod tests;
+pub mod tree_lines;
 
 pub use fault::HtmlFault;
 pub use rendering::{html, write_html};
+pub use tree_lines::listing;

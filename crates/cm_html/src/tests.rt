@@ -1,9 +1,15 @@
 ghost use Rattle.std.specs.Prelude.{◌≡◌, IfOk};
 
-use crate::{HtmlFault, html, write_html};
+mod blocks;
+mod deep;
+mod inlines;
+mod searches;
+
+use crate::{HtmlFault, html, listing, write_html};
 use cm_text::{Room, Sink};
 use cm_tree::{Block, Doc, Inline, Items, ListKind, Owner, Text};
 use std::alloc::{AllocError, Global};
+use std::process::Abort;
 use std::test::Fail;
 
 fn words(alloc: Global, words: &str) -> Result<Items<Inline>, AllocError> {
@@ -41,6 +47,23 @@ fn with_block(alloc: Global, block: Block) -> Result<Doc, AllocError> {
     })
 }
 
+// A block alone in a document has this HTML and this listing.
+fn is_written(
+    rt: &impl Abort,
+    alloc: Global,
+    block: Block,
+    html_wanted: &str,
+    listing_wanted: &str,
+) -> Result<(), Fail> {
+    let doc = Doc {
+        blocks: Items::from(vec![in alloc; block]?),
+        owners: Items::new(alloc),
+    };
+    assert_eq!(rt; html(alloc, &doc)?.as_str(), html_wanted);
+    assert_eq!(rt; listing(alloc, &doc)?.as_str(), listing_wanted);
+    Ok(())
+}
+
 fn sink(alloc: Global, capacity: usize, at_most: usize) -> Result<Room, Fail>
     ensures { IfOk result (λ room. ⟦<Room as Sink>⟧.failed room ≡ 0) }
 {
@@ -68,24 +91,43 @@ fn lists(rt: HostRuntime) -> Result<(), Fail> {
 }
 
 #[test]
-fn attributes(rt: HostRuntime) -> Result<(), Fail> {
+fn owners(rt: HostRuntime) -> Result<(), Fail> {
     let alloc = rt.alloc();
-    let image = Inline::Image {
-        dest: Text::from_str(alloc, "/é")?,
-        title: Text::from_str(alloc, "\"")?,
-        content: words(alloc, "a & b")?,
-    };
-    let link = Inline::Link {
-        dest: Text::from_str(alloc, "https://e.x/?a=1&b=\"ä")?,
-        title: Text::from_str(alloc, "")?,
-        content: Items::from(vec![in alloc; image]?),
-    };
-    let content = Items::from(vec![in alloc; link]?);
-    let doc = with_block(alloc, Block::Heading { level: 2, content })?;
-    let got = html(alloc, &doc).ok().ok_or("memory")?;
+    let doc = with_block(alloc, list(alloc, true)?)?;
     assert_eq!(rt;
-        got.as_str(),
-        "<h2><a href=\"https://e.x/?a=1&amp;b=%22%C3%A4\"><img src=\"/%C3%A9\" alt=\"a &amp; b\" title=\"&quot;\" /></a></h2>\n"
+        listing(alloc, &doc)?.as_str(),
+        "list bullet * tight
+  item
+    paragraph
+      text \"a\"
+    quote
+      paragraph
+        text \"b\"
+  item
+    paragraph
+      text \"c & d\"
+owner 1 leaf 1
+owner 2 leaf 2
+owner 3 marker
+owner 4 leaf 3
+"
+    );
+    Ok(())
+}
+
+#[test]
+fn owner_of_one_line(rt: HostRuntime) -> Result<(), Fail> {
+    let alloc = rt.alloc();
+    let strong = vec![in alloc; Inline::Strong(words(alloc, "a")?)]?;
+    let emphasis = vec![in alloc; Inline::Emph(Items::from(strong))]?;
+    let blocks = vec![in alloc; Block::Paragraph(Items::from(emphasis))]?;
+    let doc = Doc {
+        blocks: Items::from(blocks),
+        owners: Items::from(vec![in alloc; Owner::Leaf(1), Owner::Blank]?),
+    };
+    assert_eq!(rt;
+        listing(alloc, &doc)?.as_str(),
+        "paragraph\n  emph\n    strong\n      text \"a\"\nowner 1 leaf 1\nowner 2 blank\n"
     );
     Ok(())
 }

@@ -1,4 +1,4 @@
-use Rattle.std.proofs.Common.{◌≡◌, ℕ, List, ap, refl}
+use Rattle.std.proofs.Common.{◌≡◌, ℕ, ap, refl}
 use Rattle.std.specs.Fmt.{digits}
 use Rattle.percent_encoding.specs.Percent.{percent_encode_byte}
 use Rattle.cm_tree.specs.declared.tree.Inline.TheViews.{outs-Text as text, outs-Code as code_span, outs-Html as raw, outs-Soft as soft, outs-Hard as hard, outs-Emph as emph, outs-Strong as strong, outs-Link as link, outs-Image as image}
@@ -64,15 +64,15 @@ containers = record {
   quote_in_item = simp (fold_out-Block Written block_step, outs-List, outs-Quote, outs-Paragraph, fold_out-Inline Spelled inline_step, text);
 }
 
--- what one step lists behind an indentation
-block_at : (b : Block) (margin : List ℕ)
-    → fold-Block Listed listed_step b margin ≡ listed_step (map-Block Block Listed (fold-Block Listed listed_step) (out-Block b)) margin
-block_at b margin = ap (λ listing. listing margin) (fold_out-Block Listed listed_step b)
+-- what one step lists at a depth
+block_at : (b : Block) (depth : ℕ)
+    → fold-Block Listed listed_step b depth ≡ listed_step (map-Block Block Listed (fold-Block Listed listed_step) (out-Block b)) depth
+block_at b depth = ap (λ listing. listing depth) (fold_out-Block Listed listed_step b)
 
-inline_at : (b : Inline) (margin : List ℕ)
-    → fold-Inline Listed listed_inline_step b margin
-    ≡ listed_inline_step (map-Inline Inline Listed (fold-Inline Listed listed_inline_step) (out-Inline b)) margin
-inline_at b margin = ap (λ listing. listing margin) (fold_out-Inline Listed listed_inline_step b)
+inline_at : (b : Inline) (depth : ℕ)
+    → fold-Inline Listed listed_inline_step b depth
+    ≡ listed_inline_step (map-Inline Inline Listed (fold-Inline Listed listed_inline_step) (out-Inline b)) depth
+inline_at b depth = ap (λ listing. listing depth) (fold_out-Inline Listed listed_inline_step b)
 
 listings : ListingExamples
 unfolding digits
