@@ -6,3 +6,9 @@ pub mod FeedLemmas
 pub mod SettledLemmas
 pub mod LabelLemmas
 pub mod Computing
+pub mod CharacterLemmas
+pub mod IndentationLemmas
+pub mod NameLemmas
+pub mod ReferenceLemmas
+pub mod UnescapingLemmas
+pub mod StripLemmas

@@ -11,3 +11,9 @@ pub mod Feed
 pub mod WorkedExamples
 pub mod FeedSteps
 pub mod Labels
+pub mod Rules
+pub mod Characters
+pub mod NamedReferences
+pub mod References
+pub mod NameTable
+pub mod Unescaping
