@@ -7,3 +7,9 @@ pub mod SettledLemmas
 pub mod LabelLemmas
 pub mod Computing
 pub mod WriteLemmas
+pub mod CharacterLemmas
+pub mod IndentationLemmas
+pub mod NameLemmas
+pub mod ReferenceLemmas
+pub mod UnescapingLemmas
+pub mod StripLemmas

@@ -13,3 +13,9 @@ pub mod FeedSteps
 pub mod Labels
 pub mod Writing
 pub mod LabelSteps
+pub mod Rules
+pub mod Characters
+pub mod NamedReferences
+pub mod References
+pub mod NameTable
+pub mod Unescaping

@@ -74,7 +74,9 @@ impl LineFeed {
     /// A feed of nothing so far. It takes no memory.
     pub fn new(alloc: Global, limits: Limits) -> LineFeed
         ensures limit { result.limit ≡ limits.bytes }
-        ensures stands { (result.fault ≡ None) × (result.ended ≡ false) × StandsFor result [] 0 }
+        ensures fault { result.fault ≡ None }
+        ensures ended { result.ended ≡ false }
+        ensures stands { StandsFor result [] 0 }
     {
         // The range of the limit, which bounds what the feed counts.
         let _limit = limits.bytes();

@@ -1,11 +1,14 @@
 //! How far a line is indented.
-ghost use Rattle.std.specs.Prelude.{◌≡◌, ℕ, ◌+◌, ◌-◌, ◌<◌, ◌≤◌};
-ghost use Rattle.cm_text.specs.Indentation.{indent_of};
+ghost use Rattle.std.specs.Prelude.{◌≡◌, ℕ, ◌+◌, ◌-◌, ◌<◌, ◌≤◌, ◌++◌, drop, replicate, string_bytes, IfOk};
+ghost use Rattle.std.specs.Str.{IsCharBoundary};
+ghost use Rattle.cm_text.specs.Indentation.{indent_of, blank_width, strip_from, strip_columns};
 ghost use Rattle.cm_text.specs.Lines.{view_of};
 
+use crate::device::NoMemory;
 use crate::lines::Line;
+use std::alloc::Global;
 
-/// The columns before the line's first character that is neither space nor tab.
+/// The columns before the line's first character that is neither space nor tab (CommonMark 0.31.2, 2.2 Tabs).
 pub fn indent(line: &Line) -> usize
     ensures { result ≡ indent_of (view_of line.now) }
 {
@@ -18,6 +21,63 @@ pub fn indent(line: &Line) -> usize
         }
     }
     indent
+}
+
+/// The line without `n` columns of indentation, or without its indentation where that is less.
+///
+/// The start column moves on by what is taken. A tab of which some columns are taken leaves the others
+/// as spaces in front of the text (2.2 Tabs). A blank line loses columns too, and the mark of a lazy
+/// line stays.
+///
+/// # Errors
+///
+/// `NoMemory` where a request for memory was refused.
+pub fn strip(alloc: Global, n: usize, line: &Line) -> Result<Line, NoMemory>
+    ensures { IfOk result (λ stripped. view_of stripped ≡ strip_columns n (view_of line.now)) }
+{
+    let (column, spaces, taken) = take_columns(n, line);
+    let mut text = String::from_str(alloc, &"   "[..spaces])?;
+    text.push_str(&line.text[taken..])?;
+    Ok(Line {
+        column,
+        text,
+        lazy: line.lazy,
+    })
+}
+
+// The column after what is taken, how many columns a cut tab leaves there, and how many bytes are taken.
+fn take_columns(n: usize, line: &Line) -> (usize, usize, usize)
+    ensures taken { strip_from n line.now.column (string_bytes line.now.text)
+        ≡ (result.0, replicate result.1 32 ++ drop result.2 (string_bytes line.now.text)) }
+    ensures boundary { IsCharBoundary (string_bytes line.now.text) result.2 }
+    ensures few { result.1 ≤ 3 }
+{
+    let mut column = line.column;
+    let mut left = n;
+    let mut taken = 0;
+    for b in line.text.as_bytes() {
+        let width = blank_width(column, *b);
+        if left == 0 || width == 0 {
+            break;
+        }
+        taken += 1;
+        if left < width {
+            return (column + left, width - left, taken);
+        }
+        column += width;
+        left -= width;
+    }
+    (column, 0, taken)
+}
+
+fn blank_width(column: usize, b: u8) -> usize
+    ensures { result ≡ blank_width column b }
+{
+    match b {
+        b' ' => 1,
+        b'\t' => 4 - column % 4,
+        _ => 0,
+    }
 }
 
 #[cfg(test)]
@@ -55,6 +115,38 @@ mod tests {
             lazy: false,
         };
         assert_eq!(rt; indent(&line), 5);
+        Ok(())
+    }
+
+    #[test]
+    fn columns_stripped(rt: HostRuntime) -> Result<(), Fail> {
+        let alloc = rt.alloc();
+        for (column, text, n, at, want) in [
+            (0, "\tfoo\tbaz", 4, 4, "foo\tbaz"),
+            (1, "\t\tfoo", 1, 2, "  \tfoo"),
+            (1, "\t\tfoo", 2, 3, " \tfoo"),
+            (1, "\t\tfoo", 3, 4, "\tfoo"),
+            (1, "\t\tfoo", 4, 5, "   foo"),
+            (3, "\tfoo", 1, 4, "foo"),
+            (0, "  foo", 4, 2, "foo"),
+            (0, "  foo", 1, 1, " foo"),
+            (0, "\tfoo", 0, 0, "\tfoo"),
+            (0, " \t ", 2, 2, "   "),
+            (0, "", 4, 0, ""),
+            (2, "\u{E4}", 4, 2, "\u{E4}"),
+        ] {
+            for lazy in [false, true] {
+                let line = Line {
+                    column,
+                    text: String::from_str(alloc, text)?,
+                    lazy,
+                };
+                let stripped = strip(alloc, n, &line)?;
+                assert_eq!(rt; stripped.column, at);
+                assert_eq!(rt; stripped.text.as_str(), want);
+                assert_eq!(rt; stripped.lazy, lazy);
+            }
+        }
         Ok(())
     }
 }

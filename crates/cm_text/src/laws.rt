@@ -1,8 +1,9 @@
 //! Laws of the definitions, each the contract of a function that does nothing.
 ghost use Rattle.cm_text.specs.Lines.{LinesAreComputed, LinesAreDetermined};
 ghost use Rattle.cm_text.specs.Cut.{LinesAreCut};
+ghost use Rattle.cm_text.specs.Indentation.{StripTakesColumns, StripInParts};
 ghost use Rattle.cm_text.specs.Settled.{SettledIsTold};
-ghost use Rattle.cm_text.specs.WorkedExamples.{LineExamples, FaultExamples, IndentationExamples, LabelExamples};
+ghost use Rattle.cm_text.specs.WorkedExamples.{LineExamples, FaultExamples, IndentationExamples, LabelExamples, CharacterExamples, StripExamples, ReferenceExamples, UnescapeExamples};
 
 /// A text has one list of lines.
 pub fn lines_are_determined()
@@ -24,10 +25,24 @@ pub fn settled_is_told()
     ensures { SettledIsTold }
 {}
 
+/// Stripping takes columns off the indentation, and nothing else.
+pub fn strip_takes_columns()
+    ensures { StripTakesColumns }
+{}
+
+/// Columns may be taken in parts.
+pub fn strip_in_parts()
+    ensures { StripInParts }
+{}
+
 /// Worked examples over the definitions, by computation.
 pub fn worked_examples()
     ensures lines { LineExamples }
     ensures faults { FaultExamples }
     ensures indentation { IndentationExamples }
     ensures labels { LabelExamples }
+    ensures characters { CharacterExamples }
+    ensures strip { StripExamples }
+    ensures references { ReferenceExamples }
+    ensures unescape { UnescapeExamples }
 {}

@@ -1,7 +1,8 @@
-//! The text of a document: its limits, its lines in whatever pieces it comes, and the devices that
-//! bytes come from and go to.
+//! The text of a document: its limits, its lines in whatever pieces it comes, its characters, escapes
+//! and references, and the devices that bytes come from and go to.
 #![tactic(auto)]
 
+mod characters;
 mod cutter;
 mod device;
 mod fault;
@@ -11,14 +12,20 @@ mod labels;
 pub mod laws;
 mod limits;
 mod lines;
+mod names;
+mod references;
+mod unescaping;
 mod utf8;
 mod writing;
 
+pub use characters::{is_ascii_punct, is_punct, is_space};
 pub use device::{DeviceFailed, FromRead, FromWrite, NoMemory, Pieces, Room, Sink, Source};
 pub use fault::TextFault;
 pub use feed::LineFeed;
-pub use indentation::indent;
+pub use indentation::{indent, strip};
 pub use labels::fold_label;
 pub use limits::Limits;
 pub use lines::Line;
 pub use writing::{WriteFailed, write_all};
+pub use references::{Chars, reference_at};
+pub use unescaping::unescape;

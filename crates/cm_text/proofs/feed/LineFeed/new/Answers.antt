@@ -3,4 +3,4 @@ use Rattle.cm_text.proofs.FeedLemmas.{new_goes}
 use Rattle.cm_text.proofs.feed.LineFeed.new.Goals as goal
 
 pub returns-clause-stands : goal.returns-clause-stands
-returns-clause-stands c = (refl, refl, new_goes _ refl c.new.ensures.items (search rules))
+returns-clause-stands c = new_goes _ refl c.new.ensures.items (search rules)

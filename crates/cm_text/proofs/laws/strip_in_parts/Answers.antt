@@ -1,0 +1,5 @@
+use Rattle.cm_text.proofs.StripLemmas.{strip_in_parts}
+use Rattle.cm_text.proofs.laws.strip_in_parts.Goals as goal
+
+pub returns : goal.returns
+returns c = strip_in_parts

@@ -1,0 +1,13 @@
+use Rattle.std.proofs.Common.{◌≡◌, ℕ, ◌<◌, ◌≤◌, ◌-◌}
+use Rattle.cm_text.specs.NameTable.{name_at}
+use Rattle.cm_text.proofs.names.place_of.Given as goal
+
+-- the name stands nowhere else
+abbrev pub invariant-loop-low : goal.invariant-loop-low
+invariant-loop-low l = record {
+  within : l.high ≤ 128;
+  nowhere_else : (i : ℕ) → i < 128 → name_at i ≡ l.name → (l.low ≤ i) × (i < l.high);
+}
+
+abbrev pub decreases-loop-low : goal.decreases-loop-low
+decreases-loop-low l = l.high - l.low

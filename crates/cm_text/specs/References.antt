@@ -1,0 +1,89 @@
+-- Entity and numeric character references (CommonMark 0.31.2, 2.5). A text is its UTF-8 bytes, and what a reference
+-- stands for is code points.
+use Rattle.std.specs.Prelude.{ℕ, ◌+◌, Bool, true, false, ◌==◌, ◌||◌, nat_lt, if◌then◌else◌, List, [], ◌∷◌, take, drop, length, Option, Some, None, codes}
+use Rattle.std.specs.Char.{is_ascii_digit, is_ascii_hexdigit, is_ascii_alphanumeric}
+use Rattle.std.specs.List.{prefix_len}
+use Rattle.std.specs.Str.{bytes_eq}
+use Rattle.std.specs.Str.Parse.{digits_value}
+use Rattle.cm_text.specs.declared.references.Chars.{Chars}
+use Rattle.cm_text.specs.Characters.{within}
+use Rattle.cm_text.specs.NamedReferences.{names}
+
+-- what follows a front, in a text that begins with it
+abbrev pub rest_after : List ℕ → List ℕ → Option (List ℕ)
+rest_after [] text = Some text
+rest_after (c ∷ cs) [] = None
+rest_after (c ∷ cs) (b ∷ bs) = elim (b == c) [ true ↦ rest_after cs bs | false ↦ None ]
+
+abbrev pub begins_with : ℕ → List ℕ → Bool
+begins_with c [] = false
+begins_with c (b ∷ bs) = b == c
+
+-- what stands before a semicolon: as many bytes as pass the test
+abbrev pub before_semicolon : (ℕ → Bool) → List ℕ → Option (List ℕ)
+before_semicolon passes text =
+    if begins_with 59 (drop (prefix_len passes text) text) then Some (take (prefix_len passes text) text) else None
+
+-- what stands between this front and a semicolon
+abbrev pub between : List ℕ → (ℕ → Bool) → List ℕ → Option (List ℕ)
+between front passes text = elim (rest_after front text) [ None ↦ None | Some rest ↦ before_semicolon passes rest ]
+
+-- The character with a number. "Invalid Unicode code points will be replaced by the REPLACEMENT CHARACTER (U+FFFD). For
+-- security reasons, the code point U+0000 will also be replaced by U+FFFD."
+abbrev pub numbered_character : ℕ → ℕ
+numbered_character n = if n == 0 || within 0xD800 0xDFFF n || nat_lt 0x10FFFF n then 0xFFFD else n
+
+-- The character of a number that has a digit or more, and at most so many, in a radix, and how many bytes are read: the
+-- digits, and so many round them.
+abbrev pub numbered : (radix most round : ℕ) → Option (List ℕ) → Option (List ℕ × ℕ)
+numbered radix most round None = None
+numbered radix most round (Some digits) =
+    if within 1 most (length digits) then Some (numbered_character (digits_value radix digits) ∷ [], round + length digits) else None
+
+-- "Decimal numeric character references consist of &# + a string of 1-7 arabic digits + ;."
+abbrev pub decimal_reference : List ℕ → Option (List ℕ × ℕ)
+decimal_reference text = numbered 10 7 3 (between (codes "&#") is_ascii_digit text)
+
+-- "Hexadecimal numeric character references consist of &# + either X or x + a string of 1-6 hexadecimal digits + ;."
+abbrev pub hexadecimal_reference : List ℕ → List ℕ → Option (List ℕ × ℕ)
+hexadecimal_reference front text = numbered 16 6 4 (between front is_ascii_hexdigit text)
+
+-- what the first entry with this name has
+abbrev pub entry : List (List ℕ × List ℕ) → List ℕ → Option (List ℕ)
+entry [] name = None
+entry (e ∷ es) name = elim (bytes_eq e.0 name) [ true ↦ Some e.1 | false ↦ entry es name ]
+
+abbrev pub named : Option (List ℕ) → Option (List ℕ × ℕ)
+named None = None
+named (Some name) = elim (entry names name) [ None ↦ None | Some characters ↦ Some (characters, 2 + length name) ]
+
+-- "Entity references consist of & + any of the valid HTML5 entity names + ;." Those of the list `names` are read.
+abbrev pub entity_reference : List ℕ → Option (List ℕ × ℕ)
+entity_reference text = named (between (codes "&") is_ascii_alphanumeric text)
+
+-- the first of these that is there
+abbrev pub first_of_all : {A : Type 0} → List (Option A) → Option A
+first_of_all [] = None
+first_of_all (None ∷ others) = first_of_all others
+first_of_all (Some a ∷ others) = Some a
+
+-- The reference with which a text begins: the code points for which it stands, and how many bytes it takes.
+unfoldable pub reference : List ℕ → Option (List ℕ × ℕ)
+reference text = first_of_all (decimal_reference text ∷ hexadecimal_reference (codes "&#x") text
+    ∷ hexadecimal_reference (codes "&#X") text ∷ entity_reference text ∷ [])
+
+-- the same at a place of a text, with the place after it
+abbrev pub reference_at : List ℕ → ℕ → Option (List ℕ × ℕ)
+reference_at text place = elim (reference (drop place text)) [ None ↦ None | Some read ↦ Some (read.0, place + read.1) ]
+
+abbrev pub chars_of : Chars → List ℕ
+chars_of chars = chars.first ∷ elim chars.second [ None ↦ [] | Some second ↦ second ∷ [] ]
+
+abbrev pub characters_of : Option Chars → Option (List ℕ)
+characters_of None = None
+characters_of (Some chars) = Some (chars_of chars)
+
+-- a reference that was read, with its characters as code points
+abbrev pub read_of : Option (Chars × ℕ) → Option (List ℕ × ℕ)
+read_of None = None
+read_of (Some read) = Some (chars_of read.0, read.1)

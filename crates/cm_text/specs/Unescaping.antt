@@ -1,0 +1,28 @@
+-- Backslash escapes (CommonMark 0.31.2, 2.4 Backslash escapes), and texts in which they and references are resolved.
+use Rattle.std.specs.Prelude.{ℕ, zero, suc, ◌-◌, ◌==◌, ◌&&◌, if◌then◌else◌, List, [], ◌∷◌, ◌++◌, Option, Some, None, encode_utf8_all}
+use Rattle.cm_text.specs.Characters.{is_ascii_punct}
+use Rattle.cm_text.specs.References.{first_of_all, reference}
+
+-- "Any ASCII punctuation character may be backslash-escaped." The escape with which a text begins: the character, and how
+-- many bytes it takes.
+abbrev pub escape : List ℕ → Option (List ℕ × ℕ)
+escape [] = None
+escape (b ∷ []) = None
+escape (b ∷ c ∷ rest) = if b == 92 && is_ascii_punct c then Some (c ∷ [], 2) else None
+
+-- the escape or the reference with which a text begins
+unfoldable pub special : List ℕ → Option (List ℕ × ℕ)
+special text = first_of_all (escape text ∷ reference text ∷ [])
+
+-- A text with its escapes and references resolved, from the left. So many bytes at its front belong to one that was.
+unfoldable pub unescape_after : ℕ → List ℕ → List ℕ
+unescape_after n [] = []
+unescape_after (suc n) (b ∷ bs) = unescape_after n bs
+unescape_after zero (b ∷ bs) = elim (special (b ∷ bs)) [
+  | None ↦ b ∷ unescape_after 0 bs
+  | Some read ↦ encode_utf8_all read.0 ++ unescape_after (read.1 - 1) bs
+]
+
+-- a text with its escapes and references resolved
+abbrev pub unescape : List ℕ → List ℕ
+unescape text = unescape_after 0 text

@@ -1,0 +1,86 @@
+//! Kinds of characters.
+ghost use Rattle.std.specs.Prelude.{◌≡◌, ◌==◌, ◌||◌};
+ghost use Rattle.cm_text.specs.Characters.{is_ascii_punct, is_punct_by, is_space};
+ghost use Rattle.cm_text.specs.Rules.Rules.{profile};
+
+use unicode::properties::{GeneralCategory, GeneralCategoryGroup};
+
+/// Whether this is ASCII punctuation: U+0021 to U+002F, U+003A to U+0040, U+005B to U+0060 or U+007B to
+/// U+007E (CommonMark 0.31.2, 2.1 Characters and lines).
+pub fn is_ascii_punct(c: char) -> bool
+    ensures { result ≡ is_ascii_punct c }
+{
+    matches!(c, '!'..='/' | ':'..='@' | '['..='`' | '{'..='~')
+}
+
+/// Whether this is Unicode punctuation: a character of a general category P (punctuation) or S (symbol)
+/// (2.1 Characters and lines). An ASCII character is judged without the table of categories.
+pub fn is_punct(c: char) -> bool
+    ensures { result ≡ is_punct_by profile c }
+{
+    if c.is_ascii() {
+        return is_ascii_punct(c);
+    }
+    let category = GeneralCategory::for_char(c);
+    GeneralCategoryGroup::Punctuation.contains(category)
+        || GeneralCategoryGroup::Symbol.contains(category)
+}
+
+/// Whether this is Unicode whitespace: a character of the general category Zs, a tab, a line feed, a form
+/// feed or a carriage return (2.1 Characters and lines).
+pub fn is_space(c: char) -> bool
+    ensures { result ≡ is_space c }
+{
+    if c.is_ascii() {
+        return is_ascii_space(c);
+    }
+    matches!(
+        GeneralCategory::for_char(c),
+        GeneralCategory::SpaceSeparator
+    )
+}
+
+fn is_ascii_space(c: char) -> bool
+    ensures { result ≡ (c == 32 || c == 9 || c == 10 || c == 12 || c == 13) }
+{
+    c == ' ' || c == '\t' || c == '\n' || c == '\x0C' || c == '\r'
+}
+
+#[cfg(test)]
+mod tests {
+    use super::*;
+
+    #[test]
+    fn ascii(rt: HostRuntime) {
+        let punctuation = "!\"#$%&'()*+,-./:;<=>?@[\\]^_`{|}~";
+        let spaces = "\t\n\x0C\r ";
+        for n in 0..128u8 {
+            let c = n as char;
+            let is_punctuation = punctuation.as_bytes().contains(&n);
+            assert_eq!(rt; is_ascii_punct(c), is_punctuation);
+            assert_eq!(rt; is_punct(c), is_punctuation);
+            assert_eq!(rt; is_space(c), spaces.as_bytes().contains(&n));
+        }
+    }
+
+    #[test]
+    fn beyond_ascii(rt: HostRuntime) {
+        for (c, is_punctuation, is_whitespace) in [
+            ('\u{A3}', true, false),
+            ('\u{2014}', true, false),
+            ('\u{20AC}', true, false),
+            ('\u{A0}', false, true),
+            ('\u{2003}', false, true),
+            ('\u{3000}', false, true),
+            ('\u{85}', false, false),
+            ('\u{200B}', false, false),
+            ('\u{2028}', false, false),
+            ('\u{E4}', false, false),
+            ('\u{1F600}', true, false),
+        ] {
+            assert_eq!(rt; is_ascii_punct(c), false);
+            assert_eq!(rt; is_punct(c), is_punctuation);
+            assert_eq!(rt; is_space(c), is_whitespace);
+        }
+    }
+}

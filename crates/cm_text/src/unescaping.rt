@@ -1,0 +1,136 @@
+//! Texts with their escapes and references resolved.
+ghost use Rattle.std.specs.Prelude.{◌≡◌, [], ◌∷◌, ◌++◌, ◌<◌, ◌≤◌, length, drop, slice_index, string_bytes, encode_utf8_all, option_map, IfOk, OnOk};
+ghost use Rattle.std.specs.Str.{IsCharBoundary};
+ghost use Rattle.cm_text.specs.References.{chars_of, read_of};
+ghost use Rattle.cm_text.specs.Unescaping.{escape, special, unescape};
+
+use crate::characters::is_ascii_punct;
+use crate::device::NoMemory;
+use crate::references::{Chars, reference};
+use memchr::memchr2;
+use std::alloc::{AllocError, Global};
+
+/// A text with its backslash escapes and references resolved, as those of destinations, titles and info
+/// strings are (CommonMark 0.31.2, 2.4 Backslash escapes and 2.5 Entity and numeric character references).
+///
+/// From the left, a backslash before ASCII punctuation gives that character, and a reference gives its
+/// characters; all else stays.
+///
+/// # Errors
+///
+/// `NoMemory` where a request for memory was refused.
+pub fn unescape(alloc: Global, text: &str) -> Result<String, NoMemory>
+    ensures { IfOk result (λ unescaped. string_bytes unescaped ≡ unescape text.now) }
+{
+    // No escape or reference gives more bytes than it takes.
+    let mut unescaped = String::with_capacity(alloc, text.len())?;
+    let mut rest = text;
+    while let Some(at) = memchr2(b'\\', b'&', rest.as_bytes()) {
+        unescaped.push_str(&rest[..at])?;
+        let len = push_special(&mut unescaped, &rest[at..])?;
+        rest = &rest[at + len..];
+    }
+    unescaped.push_str(rest)?;
+    Ok(unescaped)
+}
+
+// Writes what the escape or the reference at the front gives, or the one byte there, and answers how many bytes were read.
+fn push_special(out: &mut String, text: &str) -> Result<usize, AllocError>
+    requires some { 0 < length text.now }
+    requires ascii { slice_index text.now 0 < 128 }
+    ensures within { IfOk result (λ len. (1 ≤ len) × (len ≤ length text.now)) }
+    ensures boundary { IfOk result (λ len. IsCharBoundary text.now len) }
+    ensures read { IfOk result (λ len. string_bytes out.new ++ unescape (drop len text.now) ≡ string_bytes out.old ++ unescape text.now) }
+{
+    let Some((chars, len)) = special(text.as_bytes()) else {
+        out.push_str(&text[..1])?;
+        return Ok(1);
+    };
+    push_chars(out, chars)?;
+    Ok(len)
+}
+
+fn push_chars(out: &mut String, chars: Chars) -> Result<(), AllocError>
+    ensures { OnOk result (string_bytes out.new ≡ string_bytes out.old ++ encode_utf8_all (chars_of chars)) }
+{
+    out.push(chars.first)?;
+    if let Some(second) = chars.second {
+        out.push(second)?;
+    }
+    Ok(())
+}
+
+// The escape or the reference with which a text begins, and how many bytes it takes.
+fn special(text: &[u8]) -> Option<(Chars, usize)>
+    ensures { read_of result ≡ special text.now }
+{
+    if let Some(first) = escaped(text) {
+        let chars = Chars {
+            first,
+            second: None,
+        };
+        return Some((chars, 2));
+    }
+    reference(text)
+}
+
+// The character behind a backslash.
+fn escaped(text: &[u8]) -> Option<char>
+    ensures { option_map (λ c. (c ∷ [], 2)) result ≡ escape text.now }
+{
+    if text.len() > 1 && text[0] == b'\\' && is_ascii_punct(text[1] as char) {
+        return Some(text[1] as char);
+    }
+    None
+}
+
+#[cfg(test)]
+mod tests {
+    use super::*;
+    use std::test::Fail;
+
+    #[test]
+    fn texts(rt: HostRuntime) -> Result<(), Fail> {
+        let alloc = rt.alloc();
+        for (text, want) in [
+            ("", ""),
+            ("foo", "foo"),
+            ("\\a \\& \\\\", "\\a & \\"),
+            ("a\\", "a\\"),
+            ("\\\u{E4}", "\\\u{E4}"),
+            ("\\\t\\A\\ \\3", "\\\t\\A\\ \\3"),
+            (
+                "&#0; &#987654321; &copy; &nosuch;",
+                "\u{FFFD} &#987654321; \u{A9} &nosuch;",
+            ),
+            (
+                "&ngE; &#x1F600; &#xD800;",
+                "\u{2267}\u{338} \u{1F600} \u{FFFD}",
+            ),
+            ("&#12345678; &amp &amp;amp;", "&#12345678; &amp &amp;"),
+            ("\\&amp; &#92;* &amp\\;", "&amp; \\* &amp;"),
+            ("/bar\\* \"ti\\*tle\"", "/bar* \"ti*tle\""),
+            ("foo\\+bar", "foo+bar"),
+            ("f&ouml;&ouml;", "f\u{F6}\u{F6}"),
+        ] {
+            assert_eq!(rt; unescape(alloc, text)?.as_str(), want);
+        }
+        Ok(())
+    }
+
+    #[test]
+    fn each_ascii_character(rt: HostRuntime) -> Result<(), Fail> {
+        let alloc = rt.alloc();
+        for n in 0..128u8 {
+            let c = n as char;
+            let escaped = format!(in alloc; "\\{c}")?;
+            let want = if is_ascii_punct(c) {
+                format!(in alloc; "{c}")?
+            } else {
+                format!(in alloc; "\\{c}")?
+            };
+            assert_eq!(rt; unescape(alloc, &escaped)?.as_str(), want.as_str());
+        }
+        Ok(())
+    }
+}
