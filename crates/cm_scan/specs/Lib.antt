@@ -1,0 +1,11 @@
+pub mod Words
+pub mod Lines
+pub mod LineForms
+pub mod Tags
+pub mod HtmlBlocks
+pub mod Links
+pub mod Starts
+pub mod Parts
+pub mod Blocks
+pub mod WorkedExamples
+pub mod Laws

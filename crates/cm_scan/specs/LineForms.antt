@@ -1,0 +1,119 @@
+-- What one line is by itself, read behind its indentation (CommonMark 0.31.2, chapters 4 and 5).
+use Rattle.std.specs.Prelude.{ℕ, suc, ◌+◌, ◌-◌, ◌*◌, Bool, true, false, not, ◌&&◌, ◌||◌, List, [], ◌∷◌, length, Option, Some, None, ◌==◌, nat_le, if◌then◌else◌, count_by}
+use Rattle.std.specs.List.{list_any, list_all, fold}
+use Rattle.cm_tree.specs.declared.tree.ListKind.{ListKind}
+use Rattle.cm_tree.specs.declared.tree.ListKind.TheVariants.{Dash, Plus, Star, Dot, Paren}
+use Rattle.cm_scan.specs.Words.{is_space_or_tab, is_digit, is_blank_text, is_at_gap, skip, front_of, run_length, after_run, trim, given, ◌<|>◌}
+
+-- three or more of one character, with spaces and tabs between and after (4.1 Thematic breaks)
+abbrev pub is_break_of : ℕ → List ℕ → Bool
+is_break_of marker text = list_all (λ b. b == marker || is_space_or_tab b) text && nat_le 3 (count_by (λ b. b == marker) text)
+
+-- the character is `-`, `_` or `*`
+unfoldable pub is_thematic_break : List ℕ → Bool
+is_thematic_break text = is_break_of 45 text || is_break_of 95 text || is_break_of 42 text
+
+-- a level and a content (4.2 ATX headings)
+pub record Heading : Type 0 where
+  pub level : ℕ
+  pub content : List ℕ
+
+-- Without a last run of `#`, if a space or tab stands before it. The text ends in neither; the mark says that a space, a tab
+-- or nothing stands before the text.
+unfoldable pub without_closing : (after_gap : Bool) → List ℕ → List ℕ
+without_closing after_gap [] = []
+without_closing after_gap (b ∷ bs) =
+    if after_gap && list_all (λ c. c == 35) (b ∷ bs) then [] else b ∷ without_closing (is_space_or_tab b) bs
+
+-- one to six `#`, and then a space, a tab or the line's end
+unfoldable pub atx_heading : List ℕ → Option Heading
+atx_heading text =
+    let level = run_length 35 text in
+    let behind = after_run 35 text in
+    given (nat_le 1 level && nat_le level 6 && is_at_gap behind) (record { level = level; content = trim (without_closing true (trim behind)) })
+
+-- one character alone, and spaces and tabs after it
+abbrev pub is_underline_of : ℕ → List ℕ → Bool
+is_underline_of marker text = nat_le 1 (run_length marker text) && is_blank_text (after_run marker text)
+
+-- the level that an underline gives: 1 for `=`, 2 for `-` (4.3 Setext headings)
+unfoldable pub underline : List ℕ → Option ℕ
+underline text = given (is_underline_of 61 text) 1 <|> given (is_underline_of 45 text) 2
+
+-- the character of a fence, how many there are, and the info string (4.5 Fenced code blocks)
+pub record Fence : Type 0 where
+  pub marker : ℕ
+  pub count : ℕ
+  pub info : List ℕ
+
+unfoldable pub fence_of : ℕ → List ℕ → Option Fence
+fence_of marker text =
+    let count = run_length marker text in
+    given (nat_le 3 count) (record { marker = marker; count = count; info = trim (after_run marker text) })
+
+-- three or more backticks or tildes; behind backticks the info string has no backtick
+unfoldable pub opening_fence : List ℕ → Option Fence
+opening_fence text = elim (fence_of 96 text) [
+  | Some fence ↦ given (not (list_any (λ b. b == 96) fence.info)) fence
+  | None ↦ fence_of 126 text
+]
+
+-- as many of the same character or more, and spaces and tabs after them
+unfoldable pub is_closing_fence : Fence → List ℕ → Bool
+is_closing_fence fence text = nat_le fence.count (run_length fence.marker text) && is_blank_text (after_run fence.marker text)
+
+-- the marker of an item: the kind of its list, with the value of its number, and how many digits that has (5.2 List items)
+pub record ItemMarker : Type 0 where
+  pub kind : ListKind
+  pub digits : ℕ
+
+-- how many bytes the marker has
+abbrev pub marker_width : ItemMarker → ℕ
+marker_width marker = suc marker.digits
+
+-- `-`, `+` or `*`
+abbrev pub bullet_kind : ℕ → Option ListKind
+bullet_kind b = given (b == 45) Dash <|> given (b == 43) Plus <|> given (b == 42) Star
+
+-- `.` or `)` behind a number
+abbrev pub ordered_kind : ℕ → ℕ → Option ListKind
+ordered_kind number b = given (b == 46) (Dot number) <|> given (b == 41) (Paren number)
+
+abbrev pub marker_of : Option ListKind → ℕ → List ℕ → Option ItemMarker
+marker_of None digits behind = None
+marker_of (Some kind) digits behind = given (is_at_gap behind) (record { kind = kind; digits = digits })
+
+unfoldable pub bullet_marker : List ℕ → Option ItemMarker
+bullet_marker [] = None
+bullet_marker (b ∷ bs) = marker_of (bullet_kind b) 0 bs
+
+-- the number that decimal digits write
+abbrev pub decimal_value : List ℕ → ℕ
+decimal_value digits = fold (λ n b. n * 10 + (b - 48)) 0 digits
+
+-- 1 to 9 digits
+abbrev pub is_number : List ℕ → Bool
+is_number digits = nat_le 1 (length digits) && nat_le (length digits) 9
+
+unfoldable pub marker_behind : List ℕ → List ℕ → Option ItemMarker
+marker_behind digits [] = None
+marker_behind digits (b ∷ bs) = elim (is_number digits) [
+  | true ↦ marker_of (ordered_kind (decimal_value digits) b) (length digits) bs
+  | false ↦ None
+]
+
+unfoldable pub ordered_marker : List ℕ → Option ItemMarker
+ordered_marker text = marker_behind (front_of is_digit text) (skip is_digit text)
+
+-- a list marker, with a space, a tab or the line's end behind it
+unfoldable pub item_marker : List ℕ → Option ItemMarker
+item_marker text = bullet_marker text <|> ordered_marker text
+
+-- items of one list have the same bullet, or the same delimiter behind their numbers (5.3 Lists)
+abbrev pub is_same_kind : ListKind → ListKind → Bool
+is_same_kind Dash Dash = true
+is_same_kind Plus Plus = true
+is_same_kind Star Star = true
+is_same_kind (Dot m) (Dot n) = true
+is_same_kind (Paren m) (Paren n) = true
+is_same_kind _ _ = false

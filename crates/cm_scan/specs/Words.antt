@@ -1,0 +1,118 @@
+-- Words on texts that the grammars share. A text is its UTF-8 bytes.
+use Rattle.std.specs.Prelude.{ℕ, suc, ◌+◌, Bool, true, false, ◌&&◌, ◌||◌, List, [], ◌∷◌, Option, Some, None, ◌==◌, nat_lt, if◌then◌else◌}
+use Rattle.std.specs.List.{list_all, list_any}
+use Rattle.cm_text.specs.Characters.{within}
+
+-- a space or a tab (2.1 Characters and lines)
+abbrev pub is_space_or_tab : ℕ → Bool
+is_space_or_tab b = b == 32 || b == 9
+
+-- An ASCII control character is a character between U+0000 and U+001F or U+007F (2.1).
+abbrev pub is_control : ℕ → Bool
+is_control b = nat_lt b 32 || b == 127
+
+abbrev pub is_digit : ℕ → Bool
+is_digit b = within 48 57 b
+
+abbrev pub is_letter : ℕ → Bool
+is_letter b = within 65 90 b || within 97 122 b
+
+abbrev pub is_letter_or_digit : ℕ → Bool
+is_letter_or_digit b = is_letter b || is_digit b
+
+-- what is left of a text behind the bytes at its front that pass a test
+unfoldable pub skip : (ℕ → Bool) → List ℕ → List ℕ
+skip test [] = []
+skip test (b ∷ bs) = elim (test b) [ true ↦ skip test bs | false ↦ b ∷ bs ]
+
+-- those bytes
+unfoldable pub front_of : (ℕ → Bool) → List ℕ → List ℕ
+front_of test [] = []
+front_of test (b ∷ bs) = elim (test b) [ true ↦ b ∷ front_of test bs | false ↦ [] ]
+
+-- how many times a byte stands at the front
+unfoldable pub run_length : ℕ → List ℕ → ℕ
+run_length marker [] = 0
+run_length marker (b ∷ bs) = elim (b == marker) [ true ↦ suc (run_length marker bs) | false ↦ 0 ]
+
+-- what is left behind them
+unfoldable pub after_run : ℕ → List ℕ → List ℕ
+after_run marker [] = []
+after_run marker (b ∷ bs) = elim (b == marker) [ true ↦ after_run marker bs | false ↦ b ∷ bs ]
+
+-- without the spaces and tabs at the front
+abbrev pub trim_start : List ℕ → List ℕ
+trim_start text = skip is_space_or_tab text
+
+-- a byte before what is left of the text after it
+abbrev pub keep_byte : ℕ → List ℕ → List ℕ
+keep_byte b [] = if is_space_or_tab b then [] else b ∷ []
+keep_byte b (c ∷ cs) = b ∷ c ∷ cs
+
+-- without the spaces and tabs at the end
+unfoldable pub trim_end : List ℕ → List ℕ
+trim_end [] = []
+trim_end (b ∷ bs) = keep_byte b (trim_end bs)
+
+-- without those at both ends
+abbrev pub trim : List ℕ → List ℕ
+trim text = trim_end (trim_start text)
+
+-- nothing but spaces and tabs
+abbrev pub is_blank_text : List ℕ → Bool
+is_blank_text text = list_all is_space_or_tab text
+
+-- a space, a tab or the line's end comes next
+abbrev pub is_at_gap : List ℕ → Bool
+is_at_gap [] = true
+is_at_gap (b ∷ bs) = is_space_or_tab b
+
+abbrev pub is_empty : List ℕ → Bool
+is_empty [] = true
+is_empty (b ∷ bs) = false
+
+-- the byte comes next
+abbrev pub begins_with : ℕ → List ℕ → Bool
+begins_with c [] = false
+begins_with c (b ∷ bs) = b == c
+
+-- what follows the word, if it comes next
+unfoldable pub after_word : List ℕ → List ℕ → Option (List ℕ)
+after_word [] text = Some text
+after_word (w ∷ ws) [] = None
+after_word (w ∷ ws) (b ∷ bs) = elim (b == w) [ true ↦ after_word ws bs | false ↦ None ]
+
+-- the word comes next
+unfoldable pub is_at_word : List ℕ → List ℕ → Bool
+is_at_word [] text = true
+is_at_word (w ∷ ws) [] = false
+is_at_word (w ∷ ws) (b ∷ bs) = b == w && is_at_word ws bs
+
+-- the word stands somewhere in the text
+unfoldable pub holds_word : List ℕ → List ℕ → Bool
+holds_word word [] = is_at_word word []
+holds_word word (b ∷ bs) = is_at_word word (b ∷ bs) || holds_word word bs
+
+-- the same bytes
+unfoldable pub same_bytes : List ℕ → List ℕ → Bool
+same_bytes [] [] = true
+same_bytes (b ∷ bs) (c ∷ cs) = b == c && same_bytes bs cs
+same_bytes _ _ = false
+
+abbrev pub is_among : List (List ℕ) → List ℕ → Bool
+is_among words word = list_any (λ w. same_bytes w word) words
+
+-- a letter in lower case
+abbrev pub to_lower : ℕ → ℕ
+to_lower b = if within 65 90 b then b + 32 else b
+
+infixr 6 ◌<|>◌
+-- the first reading that there is
+abbrev pub ◌<|>◌ : {A : Type 0} → Option A → Option A → Option A
+(Some x) <|> second = Some x
+None <|> second = second
+
+-- a reading, where the test passes
+abbrev pub given : {A : Type 0} → Bool → A → Option A
+given true x = Some x
+given false x = None

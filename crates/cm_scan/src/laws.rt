@@ -1,0 +1,47 @@
+//! Laws of the definitions, each the contract of a function that does nothing.
+ghost use Rattle.cm_scan.specs.Laws.{NoLines, FixedPoint, BlankCase, BreakCase, HeadingCase, FenceCase, HtmlCase, CodeCase, TextCase, OneMoreStays, QuoteCase, ItemCase, OneOwnerALine, RunsInOrder};
+ghost use Rattle.cm_scan.specs.WorkedExamples.{LeafExamples, ContainerExamples, DefinitionExamples, DepthExamples};
+
+/// The parts of a list of lines are given by the cases on its first line, in which the parts of fewer
+/// lines stand: nothing rests on the bound by which the definition computes.
+#[tactic(auto, using(crate::proofs::Cases::no_lines, crate::proofs::Cases::fixed_point))]
+pub fn parts_by_cases()
+    ensures none { NoLines }
+    ensures cases { FixedPoint }
+{}
+
+/// The same for each kind of leaf, and for a blank line.
+#[tactic(auto, using(crate::proofs::Cases::blank_case, crate::proofs::Cases::break_case, crate::proofs::Cases::heading_case, crate::proofs::Cases::fence_case, crate::proofs::Cases::html_case, crate::proofs::Cases::code_case, crate::proofs::Cases::text_case))]
+pub fn leaf_cases()
+    ensures blank_line { BlankCase }
+    ensures thematic_break { BreakCase }
+    ensures heading { HeadingCase }
+    ensures fence { FenceCase }
+    ensures html { HtmlCase }
+    ensures indented_code { CodeCase }
+    ensures text { TextCase }
+{}
+
+/// The same for a quote and an item, by the lines that stay in them and the first that leaves.
+#[tactic(auto, using(crate::proofs::Cases::quote_case, crate::proofs::Cases::item_case, crate::proofs::Cases::one_more_stays))]
+pub fn container_cases()
+    ensures quote { QuoteCase }
+    ensures item { ItemCase }
+    ensures one_more { OneMoreStays }
+{}
+
+/// Worked examples over the definitions, by computation.
+pub fn worked_examples()
+    ensures leaves { LeafExamples }
+    ensures containers { ContainerExamples }
+    ensures definitions { DefinitionExamples }
+    ensures depths { DepthExamples }
+{}
+
+/// Each line has one owner, and the leaves of the tree are those that the lines name: each leaf's lines
+/// are one nonempty unbroken run, and the runs stand in the order of the leaves' numbers.
+#[tactic(auto, using(crate::proofs::Counted::one_owner, crate::proofs::Counted::in_order))]
+pub fn owners_of_lines()
+    ensures one_a_line { OneOwnerALine }
+    ensures runs { RunsInOrder }
+{}
