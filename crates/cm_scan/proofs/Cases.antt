@@ -26,7 +26,7 @@ module _ (rules : Rules) (f g : List LineView → Parts) (line : LineView) (line
       let first = behind_quote_marker line in
       let less : marks first.text < marks line.text = marks-behind_quote_marker line e in
       let same : inside rules f place (first ∷ []) lines ≡ inside rules g place (first ∷ []) lines
-          = inside-agree rules f g place (size (first ∷ []) + size lines) (λ so_far lt. agree so_far (omega arith)) (λ bare l. keeps-quote rules l) (first ∷ []) lines (le_refl _) in
+      = inside-agree rules f g place (size (first ∷ []) + size lines) (λ so_far lt. agree so_far (omega arith)) (λ bare l. keeps-quote rules l) (first ∷ []) lines (le_refl _) in
       let i = inside rules f place (first ∷ []) lines in
       let inner : f i.inner ≡ g i.inner = agree _ (omega (arith, size-inner rules f place (λ bare l. keeps-quote rules l) (first ∷ []) lines)) in
       let following : f i.following ≡ g i.following = agree _ (omega (arith, size-following rules f place (first ∷ []) lines)) in
@@ -39,7 +39,7 @@ module _ (rules : Rules) (f g : List LineView → Parts) (line : LineView) (line
       let first = first_content marker line in
       let less : marks first.text < marks line.text = marks-first_content marker line e in
       let same : inside rules f place (first ∷ []) lines ≡ inside rules g place (first ∷ []) lines
-          = inside-agree rules f g place (size (first ∷ []) + size lines) (λ so_far lt. agree so_far (omega arith)) (keeps-item rules (content_column marker line)) (first ∷ []) lines (le_refl _) in
+      = inside-agree rules f g place (size (first ∷ []) + size lines) (λ so_far lt. agree so_far (omega arith)) (keeps-item rules (content_column marker line)) (first ∷ []) lines (le_refl _) in
       let i = inside rules f place (first ∷ []) lines in
       let inner : f i.inner ≡ g i.inner = agree _ (omega (arith, size-inner rules f place (keeps-item rules (content_column marker line)) (first ∷ []) lines)) in
       let following : f i.following ≡ g i.following = agree _ (omega (arith, size-following rules f place (first ∷ []) lines)) in
@@ -86,7 +86,7 @@ module _ (rules : Rules) (f g : List LineView → Parts) (line : LineView) (line
     where
       go : (v : Bool) → (v ≡ false → parts_by_start rules f (start_of rules line) line lines ≡ parts_by_start rules g (start_of rules line) line lines)
           → (elim v as (λ _. Parts) [ true ↦ blank (f lines) | false ↦ parts_by_start rules f (start_of rules line) line lines ])
-            ≡ (elim v as (λ _. Parts) [ true ↦ blank (g lines) | false ↦ parts_by_start rules g (start_of rules line) line lines ])
+          ≡ (elim v as (λ _. Parts) [ true ↦ blank (g lines) | false ↦ parts_by_start rules g (start_of rules line) line lines ])
       go true h = ap blank agree-rest
       go false h = h refl
 

@@ -167,7 +167,7 @@ unfolding fenced
 fenced-count fence columns text n [] = refl
 fenced-count fence columns text n (line ∷ lines) =
     let h : (s : List ℕ) → (fenced fence columns s (suc n) lines).lines + length (fenced fence columns s (suc n) lines).following ≡ suc n + length lines
-        = λ s. fenced-count fence columns s (suc n) lines in
+    = λ s. fenced-count fence columns s (suc n) lines in
     grind (arith, h)
 
 to_end-count : (kind : HtmlKind) (text : List ℕ) (n : ℕ) (lines : List LineView)
@@ -176,7 +176,7 @@ unfolding html_to_end
 to_end-count kind text n [] = refl
 to_end-count kind text n (line ∷ lines) =
     let h : (s : List ℕ) → (html_to_end kind s (suc n) lines).lines + length (html_to_end kind s (suc n) lines).following ≡ suc n + length lines
-        = λ s. to_end-count kind s (suc n) lines in
+    = λ s. to_end-count kind s (suc n) lines in
     grind (arith, h)
 
 to_blank-count : (text : List ℕ) (n : ℕ) (lines : List LineView)
@@ -185,7 +185,7 @@ unfolding html_to_blank
 to_blank-count text n [] = refl
 to_blank-count text n (line ∷ lines) =
     let h : (s : List ℕ) → (html_to_blank s (suc n) lines).lines + length (html_to_blank s (suc n) lines).following ≡ suc n + length lines
-        = λ s. to_blank-count s (suc n) lines in
+    = λ s. to_blank-count s (suc n) lines in
     grind (arith, h)
 
 indented-count : (text : List ℕ) (n : ℕ) (blanks lines : List LineView)
@@ -194,9 +194,9 @@ unfolding indented
 indented-count text n blanks [] = omega arith
 indented-count text n blanks (line ∷ lines) =
     let h : (s : List ℕ) (m : ℕ) → (indented s m [] lines).lines + length (indented s m [] lines).following ≡ m + length {A = LineView} [] + length lines
-        = λ s m. indented-count s m [] lines in
+    = λ s m. indented-count s m [] lines in
     let k : (indented text n (blanks ++ line ∷ []) lines).lines + length (indented text n (blanks ++ line ∷ []) lines).following ≡ n + length (blanks ++ line ∷ []) + length lines
-        = indented-count text n (blanks ++ line ∷ []) lines in
+    = indented-count text n (blanks ++ line ∷ []) lines in
     let more : length (blanks ++ line ∷ []) ≡ length blanks + length (line ∷ []) = length-append blanks (line ∷ []) in
     let kept : length (blanks ++ line ∷ lines) ≡ length blanks + length (line ∷ lines) = length-append blanks (line ∷ lines) in
     grind (arith, h, k, more, kept)
@@ -453,8 +453,15 @@ run-count n run r =
     let source = trim_end run.source in
     let found = definitions_within (length source) source in
     let d = definers (length source) source in
-    omega (arith, lines-append (definition_leaves source found.taken) (content_leaf run.level found.left), d.counted,
-        content-count run.level found.left r.content, count-firm source (firm-trim_end run.source r.firm), feeds-trim_end run.source, r.counted)
+    omega (
+      arith,
+      lines-append (definition_leaves source found.taken) (content_leaf run.level found.left),
+      d.counted,
+      content-count run.level found.left r.content,
+      count-firm source (firm-trim_end run.source r.firm),
+      feeds-trim_end run.source,
+      r.counted,
+    )
 
 run-some : (run : Run) → AllSome (leaves_of_run run)
 unfolding leaves_of_run definitions_of
@@ -571,8 +578,7 @@ module _ (rules : Rules) (line : LineView) (lines : List LineView) (plain : Plai
       let r = text_run-of rules (content_of line) lines (firm-content line.text firm) plain.1 in
       let less : size run.following ≤ size lines = size-text_run rules (content_of line) lines in
       let g = good run.following (omega (arith, less)) r.plain in
-      let none : line_feeds (content_of line) ≡ 0 = zero-le _ _ (feeds-skip is_space_or_tab line.text) plain.0 in
-      (
+      let none : line_feeds (content_of line) ≡ 0 = zero-le _ _ (feeds-skip is_space_or_tab line.text) plain.0 in (
         omega (arith, leaves-count (leaves_of_run run) (parts_of rules run.following), run-count _ run r, g.0, none),
         leaves-full (leaves_of_run run) (parts_of rules run.following) (run-some run) g.1,
       )
@@ -585,7 +591,7 @@ module _ (rules : Rules) (line : LineView) (lines : List LineView) (plain : Plai
       let less : marks first.text < marks line.text = marks-behind_quote_marker line firm in
       let i = inside rules (parts_of rules) place (first ∷ []) lines in
       let w = inside-whole rules (parts_of rules) place (λ bare l. keeps_feeds-quote rules l) (first ∷ []) lines
-          (zero-le _ _ (feeds-behind_quote_marker line) plain.0, tt) plain.1 in
+      (zero-le _ _ (feeds-behind_quote_marker line) plain.0, tt) plain.1 in
       let g = good i.inner (omega (arith, size-inner rules (parts_of rules) place (λ bare l. keeps-quote rules l) (first ∷ []) lines)) w.1 in
       let h = good i.following (omega (arith, size-following rules (parts_of rules) place (first ∷ []) lines)) w.2 in
       (omega (arith, w.0, g.0, h.0), (g.1, h.1))
@@ -598,10 +604,9 @@ module _ (rules : Rules) (line : LineView) (lines : List LineView) (plain : Plai
       let less : marks first.text < marks line.text = marks-first_content marker line firm in
       let i = inside rules (parts_of rules) place (first ∷ []) lines in
       let w = inside-whole rules (parts_of rules) place (keeps_feeds-item rules (content_column marker line)) (first ∷ []) lines
-          (zero-le _ _ (feeds-first_content marker line) plain.0, tt) plain.1 in
+      (zero-le _ _ (feeds-first_content marker line) plain.0, tt) plain.1 in
       let g = good i.inner (omega (arith, size-inner rules (parts_of rules) place (keeps-item rules (content_column marker line)) (first ∷ []) lines)) w.1 in
-      let h = good i.following (omega (arith, size-following rules (parts_of rules) place (first ∷ []) lines)) w.2 in
-      (
+      let h = good i.following (omega (arith, size-following rules (parts_of rules) place (first ∷ []) lines)) w.2 in (
         omega (arith, item-count marker.kind (parts_of rules i.inner) (parts_of rules i.following), w.0, g.0, h.0),
         item-full marker.kind (parts_of rules i.inner) (parts_of rules i.following) g.1 h.1,
       )

@@ -42,14 +42,20 @@ length-first (list kind items rest) owners = refl
 
 mutual
   unfolding owners_after item_owners_after line_total items_total
+
   pub one_owner_a_line : (n : ℕ) (p : Parts) → length (owners_after n p) ≡ line_total p
   one_owner_a_line n none = refl
   one_owner_a_line n (blank rest) = ap suc (one_owner_a_line n rest)
   one_owner_a_line n (leaf x lines rest) =
       omega (arith, length-append (replicate lines (Leaf (suc n))) (owners_after (suc n) rest), length-replicate lines (Leaf (suc n)), one_owner_a_line (suc n) rest)
   one_owner_a_line n (quote inside rest) =
-      omega (arith, length-append (map marked (owners_after n inside)) (owners_after (n + leaf_count inside) rest), length-marked (owners_after n inside),
-          one_owner_a_line n inside, one_owner_a_line (n + leaf_count inside) rest)
+      omega (
+        arith,
+        length-append (map marked (owners_after n inside)) (owners_after (n + leaf_count inside) rest),
+        length-marked (owners_after n inside),
+        one_owner_a_line n inside,
+        one_owner_a_line (n + leaf_count inside) rest,
+      )
   one_owner_a_line n (list kind items rest) =
       omega (arith, length-append (item_owners_after n items) (owners_after (n + item_leaf_count items) rest), items_owners n items, one_owner_a_line (n + item_leaf_count items) rest)
 
@@ -57,9 +63,15 @@ mutual
   items_owners n (last_item inside) = length-first inside (owners_after n inside) ∙ one_owner_a_line n inside
   items_owners n (item inside blanks items) =
       let first = marked_first inside (owners_after n inside) in
-      omega (arith, one_owner_a_line n inside, length-first inside (owners_after n inside), items_owners (n + leaf_count inside) items,
-          length-append (first ++ replicate blanks Blank) (item_owners_after (n + leaf_count inside) items),
-          length-append first (replicate blanks Blank), length-replicate blanks Blank)
+      omega (
+        arith,
+        one_owner_a_line n inside,
+        length-first inside (owners_after n inside),
+        items_owners (n + leaf_count inside) items,
+        length-append (first ++ replicate blanks Blank) (item_owners_after (n + leaf_count inside) items),
+        length-append first (replicate blanks Blank),
+        length-replicate blanks Blank,
+      )
 
 -- naming the leaves of lines, one after another
 
@@ -144,6 +156,7 @@ unfoldable mutual
 
 mutual
   unfolding owners_after item_owners_after leaf_count item_leaf_count Full AllFull in_leaf_after items_in_leaf
+
   name-parts : (b : Bool) (n : ℕ) (p : Parts) → Full p → name_lines (named b n) (owners_after n p) ≡ named (in_leaf_after b p) (n + leaf_count p)
   name-parts b n none full = ap (named b) (omega arith)
   name-parts b n (blank rest) full = name-parts false n rest full
@@ -165,9 +178,9 @@ mutual
   name-items b n (item inside blanks items) full =
       name-append (named b n) (marked_first inside (owners_after n inside) ++ replicate blanks Blank) (item_owners_after (n + leaf_count inside) items)
       ∙ ap (λ s. name_lines s (item_owners_after (n + leaf_count inside) items))
-          (name-append (named b n) (marked_first inside (owners_after n inside)) (replicate blanks Blank)
-          ∙ ap (λ s. name_lines s (replicate blanks Blank)) (name-head b n inside ∙ name-parts b n inside full.0)
-          ∙ name-blanks (in_leaf_after b inside) (n + leaf_count inside) blanks)
+      (name-append (named b n) (marked_first inside (owners_after n inside)) (replicate blanks Blank)
+      ∙ ap (λ s. name_lines s (replicate blanks Blank)) (name-head b n inside ∙ name-parts b n inside full.0)
+      ∙ name-blanks (in_leaf_after b inside) (n + leaf_count inside) blanks)
       ∙ name-items (after_blanks (in_leaf_after b inside) blanks) (n + leaf_count inside) items full.1 ∙ ap (named _) (omega arith)
 
 pub leaves_in_order : (p : Parts) → Full p → leaves_named (owners_after 0 p) ≡ Some (leaf_count p)
@@ -192,6 +205,7 @@ list-leaves kind tight items = simp (fold_out-Block ℕ leaves_step, outs-List)
 
 mutual
   unfolding tree_of items_of leaf_count item_leaf_count
+
   pub tree-leaves : (p : Parts) → leaves_in (tree_of p) ≡ leaf_count p
   tree-leaves none = refl
   tree-leaves (blank rest) = tree-leaves rest

@@ -166,7 +166,7 @@ unfolding inside size
 size-following rules parts place so_far [] = le_refl _
 size-following rules parts place so_far (line ∷ lines) =
     let h : (inner : LineView) → size (inside rules parts place (so_far ++ inner ∷ []) lines).following ≤ size lines
-        = λ inner. size-following rules parts place (so_far ++ inner ∷ []) lines in
+    = λ inner. size-following rules parts place (so_far ++ inner ∷ []) lines in
     grind (arith, h)
 
 -- what a line's place comes to
@@ -213,7 +213,7 @@ inside-agree rules f g place n agree keeps so_far (line ∷ lines) within =
     go (Stays inner) k h = h inner (omega (arith, k, size-append so_far (inner ∷ [])))
     go (StaysIfOpen inner) k h =
         let same : inside rules f place (so_far ++ inner ∷ []) lines ≡ inside rules g place (so_far ++ inner ∷ []) lines
-            = h inner (omega (arith, k, size-append so_far (inner ∷ []))) in
+        = h inner (omega (arith, k, size-append so_far (inner ∷ []))) in
         let left : f so_far ≡ g so_far = agree so_far (omega arith) in
         grind (arith, same, left)
     go Leaves k h = refl

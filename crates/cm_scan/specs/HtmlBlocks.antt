@@ -89,12 +89,12 @@ unfoldable pub html_start : Rules → List ℕ → Option HtmlKind
 html_start rules [] = None
 html_start rules (b ∷ bs) = elim (b == 60) [
   | true ↦ given (is_raw_text_start (b ∷ bs)) RawText
-    <|> given (is_at_word (codes "<!--") (b ∷ bs)) Comment
-    <|> given (is_at_word (codes "<?") (b ∷ bs)) Instruction
-    <|> given (is_declaration_start (b ∷ bs)) Declaration
-    <|> given (is_at_word (codes "<![CDATA[") (b ∷ bs)) CharacterData
-    <|> given (is_block_tag_start rules (b ∷ bs)) BlockTag
-    <|> given (is_any_tag_start (b ∷ bs)) AnyTag
+      <|> given (is_at_word (codes "<!--") (b ∷ bs)) Comment
+      <|> given (is_at_word (codes "<?") (b ∷ bs)) Instruction
+      <|> given (is_declaration_start (b ∷ bs)) Declaration
+      <|> given (is_at_word (codes "<![CDATA[") (b ∷ bs)) CharacterData
+      <|> given (is_block_tag_start rules (b ∷ bs)) BlockTag
+      <|> given (is_any_tag_start (b ∷ bs)) AnyTag
   | false ↦ None
 ]
 

@@ -26,6 +26,6 @@ pub use indentation::{indent, strip};
 pub use labels::fold_label;
 pub use limits::Limits;
 pub use lines::Line;
-pub use writing::{WriteFailed, write_all};
 pub use references::{Chars, reference_at};
 pub use unescaping::unescape;
+pub use writing::{WriteFailed, write_all};

@@ -19,9 +19,9 @@ pub fn write_all<W: Sink>(sink: &mut W, bytes: &[u8]) -> Result<(), WriteFailed>
     requires { W.failed sink.old < 2 ^ 64 - 1 }
     ensures { MatchResult result
         (λ _. Wrote (record { taken = W.taken sink.old; failed = W.failed sink.old })
-            (record { taken = W.taken sink.new; failed = W.failed sink.new }) bytes.now 0)
+        (record { taken = W.taken sink.new; failed = W.failed sink.new }) bytes.now 0)
         (λ e. Wrote (record { taken = W.taken sink.old; failed = W.failed sink.old })
-            (record { taken = W.taken sink.new; failed = W.failed sink.new }) (take e.written bytes.now) 1
+        (record { taken = W.taken sink.new; failed = W.failed sink.new }) (take e.written bytes.now) 1
         × (e.written ≤ length bytes.now)) }
 {
     let mut written = 0;

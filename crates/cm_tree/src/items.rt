@@ -7,10 +7,9 @@ ghost use Rattle.std.specs.Option.{option_copied};
 ghost use Rattle.std.specs.Slice.Iter.{iter_rest, iter_steps};
 
 use std::alloc::{AllocError, Global};
-use std::fmt;
 use std::marker::Model;
 use std::ops::DerefSlice;
-use std::slice;
+use std::{fmt, slice};
 
 /// A `Vec` that contracts see as the list of its elements.
 #[derive(Drop)]
