@@ -85,3 +85,16 @@ pub record DepthExamples : Type 0 where
   pub items_count : first_too_deep profile 1 (plain_lines_of (codes "- - a\n")) ≡ Some 1
   pub hundred_quotes : first_too_deep profile 100 (plain_lines_of (quotes 100)) ≡ None
   pub one_more : first_too_deep profile 100 (plain_lines_of (quotes 101)) ≡ Some 1
+
+-- a label of so many letters, and a destination of so many parentheses in one another
+abbrev pub long_label : ℕ → List ℕ
+long_label n = 91 ∷ replicate n 97 ++ codes "]: /u"
+
+abbrev pub nested : ℕ → List ℕ
+nested n = replicate n 40 ++ 120 ∷ replicate n 41
+
+pub record BoundExamples : Type 0 where
+  pub longest_label : blocks_of profile (plain_lines_of (long_label 999)) ≡ Definition (replicate 999 97) (codes "/u") [] ∷ []
+  pub longer_label : blocks_of profile (plain_lines_of (long_label 1000)) ≡ text_paragraph (long_label 1000) ∷ []
+  pub most_parentheses : blocks_of profile (plain_lines_of (codes "[a]: " ++ nested 32)) ≡ Definition (codes "a") (nested 32) [] ∷ []
+  pub more_parentheses : blocks_of profile (plain_lines_of (codes "[a]: " ++ nested 33)) ≡ text_paragraph (codes "[a]: " ++ nested 33) ∷ []

@@ -1,6 +1,6 @@
 //! Laws of the definitions, each the contract of a function that does nothing.
 ghost use Rattle.cm_scan.specs.Laws.{NoLines, FixedPoint, BlankCase, BreakCase, HeadingCase, FenceCase, HtmlCase, CodeCase, TextCase, OneMoreStays, QuoteCase, ItemCase, OneOwnerALine, RunsInOrder};
-ghost use Rattle.cm_scan.specs.WorkedExamples.{LeafExamples, ContainerExamples, DefinitionExamples, DepthExamples};
+ghost use Rattle.cm_scan.specs.WorkedExamples.{LeafExamples, ContainerExamples, DefinitionExamples, DepthExamples, BoundExamples};
 
 /// The parts of a list of lines are given by the cases on its first line, in which the parts of fewer
 /// lines stand: nothing rests on the bound by which the definition computes.
@@ -36,6 +36,7 @@ pub fn worked_examples()
     ensures containers { ContainerExamples }
     ensures definitions { DefinitionExamples }
     ensures depths { DepthExamples }
+    ensures bounds { BoundExamples }
 {}
 
 /// Each line has one owner, and the leaves of the tree are those that the lines name: each leaf's lines

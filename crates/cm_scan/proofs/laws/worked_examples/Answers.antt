@@ -1,6 +1,6 @@
 use Rattle.std.proofs.Common.{refl}
 use Rattle.cm_scan.proofs.Computing.{block_structure}
-use Rattle.cm_scan.specs.WorkedExamples.{LeafExamples, ContainerExamples, DefinitionExamples, DepthExamples}
+use Rattle.cm_scan.specs.WorkedExamples.{LeafExamples, ContainerExamples, DefinitionExamples, DepthExamples, BoundExamples}
 use Rattle.cm_scan.proofs.laws.worked_examples.Goals as goal
 
 leaves : LeafExamples
@@ -77,6 +77,15 @@ depths = record {
   one_more = refl;
 }
 
+bounds : BoundExamples
+unfolding block_structure
+bounds = record {
+  longest_label = refl;
+  longer_label = refl;
+  most_parentheses = refl;
+  more_parentheses = refl;
+}
+
 pub returns-clause-leaves : goal.returns-clause-leaves
 returns-clause-leaves c = leaves
 
@@ -88,3 +97,6 @@ returns-clause-definitions c = definitions
 
 pub returns-clause-depths : goal.returns-clause-depths
 returns-clause-depths c = depths
+
+pub returns-clause-bounds : goal.returns-clause-bounds
+returns-clause-bounds c = bounds
