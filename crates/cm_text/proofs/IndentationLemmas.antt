@@ -63,7 +63,7 @@ room line = line.0 + length line.1 + 3 * tabs line.1
 tabs-cons : (b : ℕ) (bs : List ℕ) → tabs (b ∷ bs) ≡ cond (b == 9) 1 0 + tabs bs
 tabs-cons b bs = sum_by-cons (λ x. cond (x == 9) 1 0) b bs
 
-tabs-spaces : (n : ℕ) (bs : List ℕ) → tabs (replicate n 32 ++ bs) ≡ tabs bs
+pub tabs-spaces : (n : ℕ) (bs : List ℕ) → tabs (replicate n 32 ++ bs) ≡ tabs bs
 tabs-spaces n bs =
     let spaces : tabs (replicate n 32) ≡ n * 0 = sum_by-replicate (λ x. cond (x == 9) 1 0) n 32 in
     let parts : tabs (replicate n 32 ++ bs) ≡ tabs (replicate n 32) + tabs bs = sum_by-append (λ x. cond (x == 9) 1 0) (replicate n 32) bs in
@@ -90,7 +90,7 @@ line-spaces : (n : ℕ) (bs : List ℕ) → is_line bs ≡ true → is_line (rep
 line-spaces zero bs h = h
 line-spaces (suc n) bs h = line-spaces n bs h
 
-line-tail : (b : ℕ) (bs : List ℕ) → is_line (b ∷ bs) ≡ true → is_line bs ≡ true
+pub line-tail : (b : ℕ) (bs : List ℕ) → is_line (b ∷ bs) ≡ true → is_line bs ≡ true
 line-tail b bs h = grind (arith, h)
 
 -- and has no line ending either

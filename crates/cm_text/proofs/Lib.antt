@@ -13,3 +13,4 @@ pub mod NameLemmas
 pub mod ReferenceLemmas
 pub mod UnescapingLemmas
 pub mod StripLemmas
+pub mod ViewLemmas

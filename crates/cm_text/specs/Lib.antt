@@ -19,3 +19,4 @@ pub mod NamedReferences
 pub mod References
 pub mod NameTable
 pub mod Unescaping
+pub mod Views

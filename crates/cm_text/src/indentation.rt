@@ -4,6 +4,7 @@ ghost use Rattle.std.specs.Str.{IsCharBoundary};
 ghost use Rattle.cm_text.specs.Indentation.{indent_of, blank_width, strip_from, strip_columns};
 ghost use Rattle.cm_text.specs.Lines.{view_of};
 
+use crate::columns::{indent_from, take_columns};
 use crate::device::NoMemory;
 use crate::lines::Line;
 use std::alloc::Global;
@@ -12,15 +13,7 @@ use std::alloc::Global;
 pub fn indent(line: &Line) -> usize
     ensures { result ≡ indent_of (view_of line.now) }
 {
-    let mut indent = 0;
-    for b in line.text.as_bytes() {
-        match *b {
-            b' ' => indent += 1,
-            b'\t' => indent += 4 - (line.column + indent) % 4,
-            _ => return indent,
-        }
-    }
-    indent
+    indent_from(line.column, &line.text)
 }
 
 /// The line without `n` columns of indentation, or without its indentation where that is less.
@@ -35,7 +28,7 @@ pub fn indent(line: &Line) -> usize
 pub fn strip(alloc: Global, n: usize, line: &Line) -> Result<Line, NoMemory>
     ensures { IfOk result (λ stripped. view_of stripped ≡ strip_columns n (view_of line.now)) }
 {
-    let (column, spaces, taken) = take_columns(n, line);
+    let (column, spaces, taken) = take_columns(n, line.column, &line.text);
     let mut text = String::from_str(alloc, &"   "[..spaces])?;
     text.push_str(&line.text[taken..])?;
     Ok(Line {
@@ -43,41 +36,6 @@ pub fn strip(alloc: Global, n: usize, line: &Line) -> Result<Line, NoMemory>
         text,
         lazy: line.lazy,
     })
-}
-
-// The column after what is taken, how many columns a cut tab leaves there, and how many bytes are taken.
-fn take_columns(n: usize, line: &Line) -> (usize, usize, usize)
-    ensures taken { strip_from n line.now.column (string_bytes line.now.text)
-        ≡ (result.0, replicate result.1 32 ++ drop result.2 (string_bytes line.now.text)) }
-    ensures boundary { IsCharBoundary (string_bytes line.now.text) result.2 }
-    ensures few { result.1 ≤ 3 }
-{
-    let mut column = line.column;
-    let mut left = n;
-    let mut taken = 0;
-    for b in line.text.as_bytes() {
-        let width = blank_width(column, *b);
-        if left == 0 || width == 0 {
-            break;
-        }
-        taken += 1;
-        if left < width {
-            return (column + left, width - left, taken);
-        }
-        column += width;
-        left -= width;
-    }
-    (column, 0, taken)
-}
-
-fn blank_width(column: usize, b: u8) -> usize
-    ensures { result ≡ blank_width column b }
-{
-    match b {
-        b' ' => 1,
-        b'\t' => 4 - column % 4,
-        _ => 0,
-    }
 }
 
 #[cfg(test)]

@@ -3,6 +3,7 @@
 #![tactic(auto)]
 
 mod characters;
+mod columns;
 mod cutter;
 mod device;
 mod fault;
@@ -16,6 +17,7 @@ mod names;
 mod references;
 mod unescaping;
 mod utf8;
+mod view;
 mod writing;
 
 pub use characters::{is_ascii_punct, is_punct, is_space};
@@ -28,4 +30,5 @@ pub use limits::Limits;
 pub use lines::Line;
 pub use references::{Chars, reference_at};
 pub use unescaping::unescape;
+pub use view::View;
 pub use writing::{WriteFailed, write_all};

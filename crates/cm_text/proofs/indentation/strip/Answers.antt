@@ -8,8 +8,8 @@ use Rattle.cm_text.proofs.indentation.strip.Goals as goal
 left_is : (c : In_ok-push_str) → strip_from c.args.n c.args.line.now.column (string_bytes c.args.line.now.text) ≡ (c.take_columns-column.result.0, string_bytes c.push_str.new.self)
 left_is c =
     stripped-parts c.args.n c.args.line.now.column c.take_columns-column.result.2 c.take_columns-column.result.1 c.take_columns-column.result.0
-    (string_bytes c.args.line.now.text) c.deref.result.now c.range.result.now (string_bytes c.in_ok-text.text) c.range_from.result.now (string_bytes c.push_str.new.self)
-    c.take_columns-column.ensures.taken c.take_columns-column.ensures.few c.range.ensures.value c.in_ok-text.ensures.ok c.deref.ensures c.range_from.ensures.value c.in_ok-push_str.ensures.bytes
+    (string_bytes c.args.line.now.text) c.deref-2.result.now c.range.result.now (string_bytes c.in_ok-text.text) c.range_from.result.now (string_bytes c.push_str.new.self)
+    (rw c.deref.ensures at c.take_columns-column.ensures.taken) c.take_columns-column.ensures.few c.range.ensures.value c.in_ok-text.ensures.ok c.deref-2.ensures c.range_from.ensures.value c.in_ok-push_str.ensures.bytes
 
 pub invariant_of-result : goal.invariant_of-result
 invariant_of-result c =

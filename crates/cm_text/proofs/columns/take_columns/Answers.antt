@@ -1,7 +1,7 @@
 use Rattle.std.proofs.Common.{refl, sym, ap, ◌≡◌, ◌<◌, ◌+◌, ◌∙◌, ◌≢◌, ℕ, arith}
-use Rattle.std.proofs.lemmas.Str.{IsCharBoundary-start, IsUtf8-string_bytes}
+use Rattle.std.proofs.lemmas.Str.{IsCharBoundary-start}
 use Rattle.cm_text.proofs.IndentationLemmas.{after_blank, strip-step, room-step}
-use Rattle.cm_text.proofs.indentation.take_columns.Goals as goal
+use Rattle.cm_text.proofs.columns.take_columns.Goals as goal
 
 positive : (width value : ℕ) → width ≡ value → width ≢ 0 → 0 < value
 positive width value e h = omega (arith, e, h)
@@ -10,21 +10,21 @@ pub loop-b-init : goal.loop-b-init
 loop-b-init c = record {
   stripped = refl;
   counted = refl;
-  boundary = rw (c.as_bytes-b-items.ensures.value) (IsCharBoundary-start _ (IsUtf8-string_bytes c.args.line.now.text));
-  fits = rw (c.as_bytes-b-items.ensures.value) (omega (arith, c.args.line.now.fits, c.args.line.now.text.bytes.ok.0));
+  boundary = rw (c.as_bytes-b-items.ensures.value) (IsCharBoundary-start _ (c.utf8.text));
+  fits = rw (c.as_bytes-b-items.ensures.value) (omega (arith, c.requires));
 }
 
 pub returns-then-left-width-clause-boundary : goal.returns-then-left-width-clause-boundary
 returns-then-left-width-clause-boundary c =
     let some = positive _ _ c.blank_width-width.ensures c.if-width-eq0.false in
-    let next = after_blank c.as_bytes-b-items.result.now c.loop-b.b-index c.loop-b.column (rw (c.as_bytes-b-items.ensures.value) (IsUtf8-string_bytes c.args.line.now.text)) c.loop-b-test.true some in
+    let next = after_blank c.as_bytes-b-items.result.now c.loop-b.b-index c.loop-b.column (rw (c.as_bytes-b-items.ensures.value) (c.utf8.text)) c.loop-b-test.true some in
     rw (sym c.as_bytes-b-items.ensures.value, c.loop-b.invariant.counted) next
 
 pub loop-b-preserved : goal.loop-b-preserved
 loop-b-preserved c =
     let some = positive _ _ c.blank_width-width.ensures c.if-width-eq0.false in
     let bytes = c.as_bytes-b-items.result.now in
-    let next = after_blank bytes c.loop-b.b-index c.loop-b.column (rw (c.as_bytes-b-items.ensures.value) (IsUtf8-string_bytes c.args.line.now.text)) c.loop-b-test.true some in
+    let next = after_blank bytes c.loop-b.b-index c.loop-b.column (rw (c.as_bytes-b-items.ensures.value) (c.utf8.text)) c.loop-b-test.true some in
     record {
       stripped = rw (c.blank_width-width.ensures) (sym (strip-step c.loop-b.left c.loop-b.column c.loop-b.b-index bytes c.loop-b-test.true (omega (arith, c.if-left-eq0.false)) some (omega (arith, c.blank_width-width.ensures, c.if-left-width.false)))) ∙ c.loop-b.invariant.stripped;
       counted = ap (λ k. k + 1) c.loop-b.invariant.counted;

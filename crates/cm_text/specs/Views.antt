@@ -1,0 +1,8 @@
+-- A line that is seen without a copy.
+use Rattle.std.specs.Prelude.{◌++◌, replicate}
+use Rattle.cm_text.specs.declared.view.View.{View}
+use Rattle.cm_text.specs.Lines.{LineView}
+
+-- the line for which a view stands: its spaces, and then the rest of the text
+abbrev pub line_of : View → LineView
+line_of view = record { column = view.column; text = replicate view.spaces 32 ++ view.rest.now; lazy = view.lazy }

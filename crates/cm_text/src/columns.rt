@@ -1,0 +1,146 @@
+//! Columns of lines that are seen without a copy.
+ghost use Rattle.std.specs.Prelude.{◌≡◌, ℕ, ◌+◌, ◌-◌, ◌*◌, ◌^◌, ◌<◌, ◌≤◌, ◌++◌, drop, length, replicate, string_bytes, true, List};
+ghost use Rattle.std.specs.Str.{IsCharBoundary};
+ghost use Rattle.cm_text.specs.Indentation.{indent_of, indent_from, blank_width, strip_from, strip_columns};
+ghost use Rattle.cm_text.specs.LineText.{tabs};
+ghost use Rattle.cm_text.specs.Lines.{view_of};
+ghost use Rattle.cm_text.specs.Views.{line_of};
+
+use crate::lines::Line;
+use crate::view::View;
+
+impl Line {
+    /// The line, seen whole. It takes no memory.
+    pub fn view(&self) -> View<'_>
+        ensures { line_of result ≡ view_of self.now }
+    {
+        View {
+            column: self.column,
+            spaces: 0,
+            rest: &self.text,
+            lazy: self.lazy,
+        }
+    }
+}
+
+/// The columns before the first character of a text that is neither space nor tab, from this column.
+pub(crate) fn indent_from(column: usize, text: &str) -> usize
+    requires { column + length text.now + 3 * tabs text.now < 2 ^ 64 }
+    ensures value { result ≡ indent_from column text.now }
+    ensures fits { column + result < 2 ^ 64 }
+{
+    let mut indent = 0;
+    for b in text.as_bytes() {
+        match *b {
+            b' ' => indent += 1,
+            b'\t' => indent += 4 - (column + indent) % 4,
+            _ => return indent,
+        }
+    }
+    indent
+}
+
+// Without so many columns of a text that begins at this column: the column after what is taken, how many columns a cut tab leaves there, and how many bytes are taken.
+pub(crate) fn take_columns(n: usize, column: usize, text: &str) -> (usize, usize, usize)
+    requires { column + length text.now + 3 * tabs text.now < 2 ^ 64 }
+    ensures taken { strip_from n column text.now
+        ≡ (result.0, replicate result.1 32 ++ drop result.2 text.now) }
+    ensures boundary { IsCharBoundary text.now result.2 }
+    ensures few { result.1 ≤ 3 }
+{
+    let mut column = column;
+    let mut left = n;
+    let mut taken = 0;
+    for b in text.as_bytes() {
+        let width = blank_width(column, *b);
+        if left == 0 || width == 0 {
+            break;
+        }
+        taken += 1;
+        if left < width {
+            return (column + left, width - left, taken);
+        }
+        column += width;
+        left -= width;
+    }
+    (column, 0, taken)
+}
+
+fn blank_width(column: usize, b: u8) -> usize
+    ensures { result ≡ blank_width column b }
+{
+    match b {
+        b' ' => 1,
+        b'\t' => 4 - column % 4,
+        _ => 0,
+    }
+}
+
+impl<'a> View<'a> {
+    /// The columns before the line's first character that is neither space nor tab (2.2 Tabs).
+    #[tactic(auto, using(crate::proofs::ViewLemmas::indent_spaces))]
+    pub fn indent(&self) -> usize
+        ensures { result ≡ indent_of (line_of self.now) }
+    {
+        self.spaces + indent_from(self.column + self.spaces, self.rest)
+    }
+
+    /// The line without `n` columns of indentation, or without its indentation where that is less. The
+    /// start column moves on by what is taken, and a tab of which some columns are taken leaves the others
+    /// as spaces (2.2 Tabs).
+    pub fn strip(&self, n: usize) -> View<'a>
+        ensures { line_of result ≡ strip_columns n (line_of self.now) }
+    {
+        if n <= self.spaces {
+            return View {
+                column: self.column + n,
+                spaces: self.spaces - n,
+                rest: self.rest,
+                lazy: self.lazy,
+            };
+        }
+        let (column, spaces, taken) = take_columns(
+            n - self.spaces,
+            self.column + self.spaces,
+            self.rest,
+        );
+        View {
+            column,
+            spaces,
+            rest: &self.rest[taken..],
+            lazy: self.lazy,
+        }
+    }
+}
+
+#[cfg(test)]
+mod tests {
+    use super::*;
+    use std::test::Fail;
+
+    #[test]
+    fn taken_in_parts(rt: HostRuntime) -> Result<(), Fail> {
+        // The start column and the text, how many columns are taken twice, and what is left then.
+        for (start, text, first, second, column, spaces, rest, indent) in [
+            (0, "   a", 1, 1, 2, 0, " a", 1),
+            (1, "\t\tfoo", 1, 1, 3, 1, "\tfoo", 5),
+            (1, "\t\tfoo", 1, 2, 4, 0, "\tfoo", 4),
+            (1, "\t\tfoo", 2, 4, 7, 1, "foo", 1),
+            (0, "\ta", 9, 9, 4, 0, "a", 0),
+            (3, "\t\u{E9}", 0, 1, 4, 0, "\u{E9}", 0),
+        ] {
+            let line = Line {
+                column: start,
+                text: String::from_str(rt.alloc(), text)?,
+                lazy: true,
+            };
+            let left = line.view().strip(first).strip(second);
+            assert_eq!(rt; left.column, column, "{text}");
+            assert_eq!(rt; left.spaces, spaces, "{text}");
+            assert_eq!(rt; left.rest, rest);
+            assert!(rt; left.lazy);
+            assert_eq!(rt; left.indent(), indent, "{text}");
+        }
+        Ok(())
+    }
+}
