@@ -3,6 +3,7 @@ use Rattle.std.specs.Prelude.{ℕ, ◌==◌, Bool, ◌||◌, List, [], ◌∷◌
 use Rattle.std.specs.Char.{is_ascii_alphanumeric}
 use Rattle.std.specs.List.{list_any, before_first}
 use Rattle.percent_encoding.specs.Percent.{percent_encode_byte}
+pub use Rattle.cm_text.specs.Characters.{is_space_or_tab}
 
 -- `&`, `<`, `>` and `"`
 abbrev pub is_escaped : ℕ → Bool
@@ -28,9 +29,6 @@ destination_byte b = if is_kept b then b ∷ [] else percent_encode_byte b
 -- a destination as the value of an attribute
 abbrev pub destination_html : List ℕ → List ℕ
 destination_html destination = escape (flat_map destination_byte destination)
-
-abbrev pub is_space_or_tab : ℕ → Bool
-is_space_or_tab b = b == 32 || b == 9
 
 -- the class word of a code block: its info up to the first space or tab
 unfoldable pub class_word : List ℕ → List ℕ

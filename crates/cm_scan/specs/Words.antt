@@ -2,10 +2,8 @@
 use Rattle.std.specs.Prelude.{ℕ, suc, ◌+◌, Bool, true, false, ◌&&◌, ◌||◌, List, [], ◌∷◌, Option, Some, None, ◌==◌, nat_lt, if◌then◌else◌}
 use Rattle.std.specs.List.{list_all, list_any}
 use Rattle.cm_text.specs.Characters.{within}
-
--- a space or a tab (2.1 Characters and lines)
-abbrev pub is_space_or_tab : ℕ → Bool
-is_space_or_tab b = b == 32 || b == 9
+pub use Rattle.cm_text.specs.Characters.{is_space_or_tab}
+pub use Rattle.cm_text.specs.References.{begins_with}
 
 -- An ASCII control character is a character between U+0000 and U+001F or U+007F (2.1).
 abbrev pub is_control : ℕ → Bool
@@ -70,11 +68,6 @@ is_at_gap (b ∷ bs) = is_space_or_tab b
 abbrev pub is_empty : List ℕ → Bool
 is_empty [] = true
 is_empty (b ∷ bs) = false
-
--- the byte comes next
-abbrev pub begins_with : ℕ → List ℕ → Bool
-begins_with c [] = false
-begins_with c (b ∷ bs) = b == c
 
 -- what follows the word, if it comes next
 unfoldable pub after_word : List ℕ → List ℕ → Option (List ℕ)

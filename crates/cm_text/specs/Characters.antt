@@ -11,6 +11,10 @@ use Rattle.cm_text.specs.Rules.Rules.{profile}
 abbrev pub within : ℕ → ℕ → ℕ → Bool
 within low high c = nat_le low c && nat_le c high
 
+-- a space or a tab
+abbrev pub is_space_or_tab : ℕ → Bool
+is_space_or_tab c = c == 32 || c == 9
+
 -- An ASCII punctuation character is !, ", #, $, %, &, ', (, ), *, +, ,, -, ., / (U+0021-2F), :, ;, <, =, >, ?, @
 -- (U+003A-0040), [, \, ], ^, _, ` (U+005B-0060), {, |, }, or ~ (U+007B-007E).
 abbrev pub is_ascii_punct : ℕ → Bool

@@ -1,11 +1,9 @@
 -- A text without what stands at its ends.
-use Rattle.std.specs.Prelude.{ℕ, ◌==◌, Bool, true, false, ◌||◌, List, [], ◌∷◌}
+pub use Rattle.cm_text.specs.Characters.{is_space_or_tab}
+use Rattle.std.specs.Prelude.{ℕ, ◌==◌, Bool, true, false, List, [], ◌∷◌}
 
 abbrev pub is_space : ℕ → Bool
 is_space b = b == 32
-
-abbrev pub is_space_or_tab : ℕ → Bool
-is_space_or_tab b = b == 32 || b == 9
 
 -- a text without the spaces and tabs at its front
 abbrev pub trim_start : List ℕ → List ℕ
