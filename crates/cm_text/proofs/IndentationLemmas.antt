@@ -60,7 +60,7 @@ by_cases P n column b bs = chosen P n column b bs (n == 0 || blank_width column 
 abbrev room : ℕ × List ℕ → ℕ
 room line = line.0 + length line.1 + 3 * tabs line.1
 
-tabs-cons : (b : ℕ) (bs : List ℕ) → tabs (b ∷ bs) ≡ cond (b == 9) 1 0 + tabs bs
+pub tabs-cons : (b : ℕ) (bs : List ℕ) → tabs (b ∷ bs) ≡ cond (b == 9) 1 0 + tabs bs
 tabs-cons b bs = sum_by-cons (λ x. cond (x == 9) 1 0) b bs
 
 pub tabs-spaces : (n : ℕ) (bs : List ℕ) → tabs (replicate n 32 ++ bs) ≡ tabs bs

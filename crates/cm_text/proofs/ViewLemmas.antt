@@ -1,10 +1,11 @@
 -- Columns of a line whose text has so many spaces in front.
-use Rattle.std.proofs.Common.{◌≡◌, ℕ, zero, suc, ◌+◌, ◌-◌, ◌*◌, ◌≤◌, Bool, true, List, [], ◌∷◌, ◌++◌, length, drop, replicate, refl, sym, ap, ◌∙◌, arith}
+use Rattle.std.proofs.Common.{◌≡◌, ℕ, zero, suc, ◌+◌, ◌-◌, ◌*◌, ◌≤◌, Bool, true, false, List, [], ◌∷◌, ◌++◌, length, drop, replicate, refl, sym, ap, ◌∙◌, arith}
 use Rattle.std.proofs.lemmas.List.{length-replicate, length-append}
 use Rattle.cm_text.specs.LineText.{is_line, tabs}
 use Rattle.cm_text.specs.Lines.{LineView}
 use Rattle.cm_text.specs.Indentation.{indent_from, strip_from}
-use Rattle.cm_text.proofs.IndentationLemmas.{strip-whole, line-tail, strip-fits, tabs-spaces}
+use Rattle.cm_text.proofs.StripLemmas.{strip_takes_columns}
+use Rattle.cm_text.proofs.IndentationLemmas.{strip-whole, line-tail, strip-fits, tabs-cons, tabs-spaces}
 
 pub indent_spaces : (n column : ℕ) (text : List ℕ) → indent_from column (replicate n 32 ++ text) ≡ n + indent_from (column + n) text
 indent_spaces zero column text =
@@ -75,6 +76,14 @@ rest_fits n column next spaces k text rest left e =
     let few = tabs-spaces spaces (drop k text) in
     rw e (omega (arith, all, long, few))
 
+-- so does what is left behind some bytes
+pub behind_fits : (n : ℕ) (text rest : List ℕ) → n ≤ length text → rest ≡ drop n text → n + length rest + 3 * tabs rest ≤ length text + 3 * tabs text
+behind_fits zero text rest within e = rw e (omega arith)
+behind_fits (suc n) [] rest within e = absurd (omega (arith, within))
+behind_fits (suc n) (b ∷ bs) rest within e =
+    let h = behind_fits n bs rest (omega (arith, within)) e in
+    omega (arith, h, tabs-cons b bs)
+
 -- a line seen so, without some columns
 abbrev stripped : Bool → ℕ × List ℕ → LineView
 stripped lazy left = record { column = left.0; text = left.1; lazy = lazy }
@@ -88,3 +97,17 @@ pub strip_line_all : (n column spaces next left k : ℕ) (text rest : List ℕ) 
     → stripped lazy (next, replicate left 32 ++ rest) ≡ stripped lazy (strip_from n column (replicate spaces 32 ++ text))
 strip_line_all n column spaces next left k text rest lazy all taken e =
     ap (λ t. stripped lazy (next, replicate left 32 ++ t)) e ∙ ap (stripped lazy) (sym (strip_all spaces n column text all ∙ taken))
+
+-- where all the indentation goes, no space is left
+
+pub few_spaces : (n column spaces : ℕ) (rest : List ℕ) → indent_from column (replicate spaces 32 ++ rest) ≤ n → spaces ≤ n
+few_spaces n column spaces rest all = omega (arith, all, indent_spaces spaces column rest)
+
+pub none_left : (n column spaces next k i : ℕ) (text : List ℕ) → strip_from (n - spaces) (column + spaces) text ≡ (next, replicate k 32 ++ drop i text)
+    → spaces ≤ n → indent_from column (replicate spaces 32 ++ text) ≤ n → k ≡ 0
+none_left n column spaces next k i text left few all =
+    let line : LineView = record { column = column + spaces; text = text; lazy = false } in
+    let law : indent_from (strip_from (n - spaces) (column + spaces) text).0 (strip_from (n - spaces) (column + spaces) text).1
+    ≡ indent_from (column + spaces) text - (n - spaces) = (strip_takes_columns (n - spaces) line).1 in
+    let indent : indent_from next (replicate k 32 ++ drop i text) ≡ indent_from (column + spaces) text - (n - spaces) = rw left at law in
+    omega (arith, indent, indent_spaces k next (drop i text), indent_spaces spaces column text, few, all)

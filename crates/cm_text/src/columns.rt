@@ -1,5 +1,5 @@
 //! Columns of lines that are seen without a copy.
-ghost use Rattle.std.specs.Prelude.{◌≡◌, ℕ, ◌+◌, ◌-◌, ◌*◌, ◌^◌, ◌<◌, ◌≤◌, ◌++◌, drop, length, replicate, string_bytes, true, List};
+ghost use Rattle.std.specs.Prelude.{◌≡◌, ℕ, ◌+◌, ◌-◌, ◌*◌, ◌^◌, ◌<◌, ◌≤◌, ◌++◌, drop, take, length, replicate, string_bytes, true, List};
 ghost use Rattle.std.specs.Str.{IsCharBoundary};
 ghost use Rattle.cm_text.specs.Indentation.{indent_of, indent_from, blank_width, strip_from, strip_columns};
 ghost use Rattle.cm_text.specs.LineText.{tabs};
@@ -12,7 +12,8 @@ use crate::view::View;
 impl Line {
     /// The line, seen whole. It takes no memory.
     pub fn view(&self) -> View<'_>
-        ensures { line_of result ≡ view_of self.now }
+        ensures line { line_of result ≡ view_of self.now }
+        ensures bare { result.spaces ≡ 0 }
     {
         View {
             column: self.column,
@@ -85,11 +86,27 @@ impl<'a> View<'a> {
         self.spaces + indent_from(self.column + self.spaces, self.rest)
     }
 
+    /// The line behind so many bytes of its rest, none of which is a tab. No spaces stand before the rest.
+    pub fn past(&self, n: usize) -> View<'a>
+        requires bare { self.now.spaces ≡ 0 }
+        requires boundary { IsCharBoundary self.now.rest.now n }
+        requires plain { tabs (take n self.now.rest.now) ≡ 0 }
+        ensures { line_of result ≡ record { column = self.now.column + n; text = drop n self.now.rest.now; lazy = self.now.lazy } }
+    {
+        View {
+            column: self.column + n,
+            spaces: 0,
+            rest: &self.rest[n..],
+            lazy: self.lazy,
+        }
+    }
+
     /// The line without `n` columns of indentation, or without its indentation where that is less. The
     /// start column moves on by what is taken, and a tab of which some columns are taken leaves the others
     /// as spaces (2.2 Tabs).
     pub fn strip(&self, n: usize) -> View<'a>
-        ensures { line_of result ≡ strip_columns n (line_of self.now) }
+        ensures line { line_of result ≡ strip_columns n (line_of self.now) }
+        ensures bare { indent_of (line_of self.now) ≤ n → result.spaces ≡ 0 }
     {
         if n <= self.spaces {
             return View {
@@ -141,6 +158,21 @@ mod tests {
             assert!(rt; left.lazy);
             assert_eq!(rt; left.indent(), indent, "{text}");
         }
+        Ok(())
+    }
+
+    #[test]
+    fn behind_a_marker(rt: HostRuntime) -> Result<(), Fail> {
+        let line = Line {
+            column: 2,
+            text: String::from_str(rt.alloc(), ">\t\u{E9}")?,
+            lazy: false,
+        };
+        let inside = line.view().past(1).strip(1);
+        assert_eq!(rt; inside.column, 4);
+        assert_eq!(rt; inside.spaces, 0);
+        assert_eq!(rt; inside.rest, "\u{E9}");
+        assert!(rt; !inside.lazy);
         Ok(())
     }
 }
