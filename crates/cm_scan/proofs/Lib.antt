@@ -4,3 +4,10 @@ pub mod Feeds
 pub mod Owners
 pub mod Counted
 pub mod Computing
+pub mod HtmlLemmas
+pub mod LineFormLemmas
+pub mod MarkerLemmas
+pub mod SkipLemmas
+pub mod StartLemmas
+pub mod TagLemmas
+pub mod WordLemmas

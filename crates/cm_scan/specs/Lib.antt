@@ -9,3 +9,6 @@ pub mod Parts
 pub mod Blocks
 pub mod WorkedExamples
 pub mod Laws
+pub mod HtmlKinds
+pub mod Scanned
+pub mod TagNames

@@ -1,4 +1,17 @@
 //! The definitions of CommonMark's block structure, and the scanners of its forms.
 #![tactic(auto)]
 
+mod html_blocks;
 pub mod laws;
+mod line_forms;
+mod markers;
+mod tags;
+#[cfg(test)]
+mod tests;
+mod words;
+
+pub use html_blocks::{HtmlKind, html_end, html_start};
+pub use line_forms::{
+    AtxHeading, FenceKind, OpeningFence, atx, fence, fence_end, quote_marker, thematic, underline,
+};
+pub use markers::{ItemMarker, item_marker};

@@ -1,0 +1,118 @@
+-- Runs, gaps and ends of a text.
+use Rattle.std.proofs.Common.{◌≡◌, ℕ, suc, ◌+◌, ◌-◌, ◌<◌, ◌≤◌, true, false, List, [], ◌∷◌, ◌++◌, length, take, drop, get_or, refl, sym, ap, ◌∙◌, arith, add-one, drop-cons}
+use Rattle.std.proofs.Math.Seq.{take-suc}
+use Rattle.std.proofs.lemmas.List.{drop_all}
+use Rattle.cm_scan.specs.Words.{is_space_or_tab, skip, run_length, after_run, trim_start, keep_byte, trim_end}
+
+-- a space or tab is ASCII
+pub blank_ascii : (b : ℕ) → is_space_or_tab b ≡ true → b < 128
+blank_ascii b blank = grind arith
+
+module _ (m : ℕ) where
+  run-same : (b : ℕ) (bs : List ℕ) → b ≡ m → run_length m (b ∷ bs) ≡ suc (run_length m bs)
+  unfolding run_length
+  run-same b bs same = grind arith
+
+  run-other : (b : ℕ) (bs : List ℕ) → (b ≡ m → ⊥) → run_length m (b ∷ bs) ≡ 0
+  unfolding run_length
+  run-other b bs other = grind arith
+
+  after-same : (b : ℕ) (bs : List ℕ) → b ≡ m → after_run m (b ∷ bs) ≡ after_run m bs
+  unfolding after_run
+  after-same b bs same = grind arith
+
+  after-other : (b : ℕ) (bs : List ℕ) → (b ≡ m → ⊥) → after_run m (b ∷ bs) ≡ b ∷ bs
+  unfolding after_run
+  after-other b bs other = grind arith
+
+  -- a run goes on
+  pub run_step : (bs : List ℕ) (i : ℕ) → i < length bs → get_or bs i 0 ≡ m → run_length m (drop i bs) ≡ suc (run_length m (drop (i + 1) bs))
+  run_step bs i within same = rw (drop-cons bs i 0, add-one) (run-same (get_or bs i 0) (drop (suc i) bs) same)
+
+  pub after_step : (bs : List ℕ) (i : ℕ) → i < length bs → get_or bs i 0 ≡ m → after_run m (drop i bs) ≡ after_run m (drop (i + 1) bs)
+  after_step bs i within same = rw (drop-cons bs i 0, add-one) (after-same (get_or bs i 0) (drop (suc i) bs) same)
+
+  -- a run ends at another byte
+  pub run_stop : (bs : List ℕ) (i : ℕ) → i < length bs → (get_or bs i 0 ≡ m → ⊥) → run_length m (drop i bs) ≡ 0
+  run_stop bs i within other = rw (drop-cons bs i 0) (run-other (get_or bs i 0) (drop (suc i) bs) other)
+
+  pub after_stop : (bs : List ℕ) (i : ℕ) → i < length bs → (get_or bs i 0 ≡ m → ⊥) → after_run m (drop i bs) ≡ drop i bs
+  after_stop bs i within other = rw (drop-cons bs i 0) (after-other (get_or bs i 0) (drop (suc i) bs) other)
+
+  -- or with the text
+  run-none : (bs : List ℕ) → bs ≡ [] → run_length m bs ≡ 0
+  unfolding run_length
+  run-none bs none = rw none refl
+
+  after-none : (bs : List ℕ) → bs ≡ [] → after_run m bs ≡ bs
+  unfolding after_run
+  after-none bs none = rw none refl
+
+  pub run_end : (bs : List ℕ) (i : ℕ) → length bs ≤ i → run_length m (drop i bs) ≡ 0
+  run_end bs i past = run-none (drop i bs) (drop_all i bs past)
+
+  pub after_end : (bs : List ℕ) (i : ℕ) → length bs ≤ i → after_run m (drop i bs) ≡ drop i bs
+  after_end bs i past = after-none (drop i bs) (drop_all i bs past)
+
+-- a text without its first byte, a space or tab
+trim_start-cons : (b : ℕ) (bs : List ℕ) → is_space_or_tab b ≡ true → trim_start (b ∷ bs) ≡ trim_start bs
+unfolding skip
+trim_start-cons b bs blank = grind arith
+
+-- a space or tab at the front goes
+pub trim_start-step : (bs : List ℕ) (i : ℕ) → i < length bs → is_space_or_tab (get_or bs i 0) ≡ true → trim_start (drop i bs) ≡ trim_start (drop (i + 1) bs)
+trim_start-step bs i within blank = rw (drop-cons bs i 0, add-one) (trim_start-cons (get_or bs i 0) (drop (suc i) bs) blank)
+
+-- another byte at the front stays
+trim_start-kept : (b : ℕ) (bs : List ℕ) → is_space_or_tab b ≡ false → trim_start (b ∷ bs) ≡ b ∷ bs
+unfolding skip
+trim_start-kept b bs other = grind arith
+
+pub trim_start-stop : (bs : List ℕ) (i : ℕ) → i < length bs → is_space_or_tab (get_or bs i 0) ≡ false → trim_start (drop i bs) ≡ drop i bs
+trim_start-stop bs i within other = rw (drop-cons bs i 0) (trim_start-kept (get_or bs i 0) (drop (suc i) bs) other)
+
+trim_start-none : (bs : List ℕ) → bs ≡ [] → trim_start bs ≡ bs
+unfolding skip
+trim_start-none bs none = rw none refl
+
+pub trim_start-end : (bs : List ℕ) (i : ℕ) → length bs ≤ i → trim_start (drop i bs) ≡ drop i bs
+trim_start-end bs i past = trim_start-none (drop i bs) (drop_all i bs past)
+
+-- a last space or tab goes
+trim_end-last : (xs : List ℕ) (b : ℕ) → is_space_or_tab b ≡ true → trim_end (xs ++ b ∷ []) ≡ trim_end xs
+unfolding trim_end
+trim_end-last [] b passes = grind arith
+trim_end-last (x ∷ xs) b passes = ap (keep_byte x) (trim_end-last xs b passes)
+
+-- before a last byte that stays, each byte stays
+keep_byte-last : (x : ℕ) (xs : List ℕ) (b : ℕ) → keep_byte x (xs ++ b ∷ []) ≡ x ∷ (xs ++ b ∷ [])
+keep_byte-last x [] b = refl
+keep_byte-last x (y ∷ ys) b = refl
+
+-- another last byte stays
+trim_end-kept : (xs : List ℕ) (b : ℕ) → is_space_or_tab b ≡ false → trim_end (xs ++ b ∷ []) ≡ xs ++ b ∷ []
+unfolding trim_end
+trim_end-kept [] b fails = grind arith
+trim_end-kept (x ∷ xs) b fails = ap (keep_byte x) (trim_end-kept xs b fails) ∙ keep_byte-last x xs b
+
+-- a front of a text, with its last byte apart
+front_last : (bs : List ℕ) (n : ℕ) → 0 < n → n ≤ length bs → take n bs ≡ take (n - 1) bs ++ get_or bs (n - 1) 0 ∷ []
+front_last bs n some within =
+    let last : n ≡ suc (n - 1) = omega arith in
+    ap (λ k. take k bs) last ∙ take-suc bs (n - 1) 0 (omega arith)
+
+-- a space or tab at the end goes
+pub trim_end-step : (bs : List ℕ) (n : ℕ) → 0 < n → n ≤ length bs → is_space_or_tab (get_or bs (n - 1) 0) ≡ true → trim_end (take n bs) ≡ trim_end (take (n - 1) bs)
+trim_end-step bs n some within passes = ap trim_end (front_last bs n some within) ∙ trim_end-last (take (n - 1) bs) (get_or bs (n - 1) 0) passes
+
+-- another byte at the end stays
+pub trim_end-stop : (bs : List ℕ) (n : ℕ) → 0 < n → n ≤ length bs → is_space_or_tab (get_or bs (n - 1) 0) ≡ false → trim_end (take n bs) ≡ take n bs
+trim_end-stop bs n some within fails =
+    ap trim_end (front_last bs n some within) ∙ trim_end-kept (take (n - 1) bs) (get_or bs (n - 1) 0) fails ∙ sym (front_last bs n some within)
+
+-- of no bytes nothing is left
+pub trim_end-none : (bs : List ℕ) (n : ℕ) → n ≤ 0 → trim_end (take n bs) ≡ take n bs
+unfolding trim_end
+trim_end-none bs n none =
+    let nothing : n ≡ 0 = omega arith in
+    rw nothing refl

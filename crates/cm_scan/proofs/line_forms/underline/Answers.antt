@@ -1,0 +1,16 @@
+use Rattle.std.proofs.Common.{◌∙◌, drop, sym, arith}
+use Rattle.std.proofs.lemmas.Grind.{common_steps}
+use Rattle.cm_scan.proofs.LineFormLemmas.{underline_one, underline_two, underline_none}
+use Rattle.cm_scan.proofs.line_forms.underline.Goals as goal
+
+pub returns-then-is_underline_of : goal.returns-then-is_underline_of
+returns-then-is_underline_of c =
+    grind (arith, common_steps, underline_one (drop c.args.at c.args.text.now) (sym c.is_underline_of.ensures ∙ c.if-is_underline_of.true))
+
+pub returns-then-is_underline_of-2 : goal.returns-then-is_underline_of-2
+returns-then-is_underline_of-2 c =
+    grind (arith, common_steps, underline_two (drop c.args.at c.args.text.now) (sym c.is_underline_of.ensures ∙ c.if-is_underline_of.false) (sym c.is_underline_of-2.ensures ∙ c.if-is_underline_of-2.true))
+
+pub returns : goal.returns
+returns c =
+    grind (arith, common_steps, underline_none (drop c.args.at c.args.text.now) (sym c.is_underline_of.ensures ∙ c.if-is_underline_of.false) (sym c.is_underline_of-2.ensures ∙ c.if-is_underline_of-2.false))

@@ -1,0 +1,21 @@
+use Rattle.std.proofs.Common.{◌≡◌, ◌+◌, ◌-◌, ◌<◌, ◌≤◌, drop, length}
+use Rattle.std.specs.List.{fold}
+use Rattle.cm_scan.specs.Words.{is_digit, front_of, skip}
+use Rattle.cm_scan.specs.LineForms.{decimal_value}
+use Rattle.cm_scan.specs.Scanned.{with_digit}
+use Rattle.cm_scan.proofs.MarkerLemmas.{bound}
+use Rattle.cm_scan.proofs.markers.number_at.Given as goal
+
+abbrev pub invariant-loop-end : goal.invariant-loop-end
+invariant-loop-end l = record {
+  begin : l.at ≤ l.end;
+  within : l.end ≤ length l.bytes;
+  count : l.end + length (front_of is_digit (drop l.end l.bytes)) ≡ l.at + length (front_of is_digit (drop l.at l.bytes));
+  value : fold with_digit l.number (front_of is_digit (drop l.end l.bytes)) ≡ decimal_value (front_of is_digit (drop l.at l.bytes));
+  left : skip is_digit (drop l.end l.bytes) ≡ skip is_digit (drop l.at l.bytes);
+  few : l.end - l.at ≤ 9;
+  fits : l.number < bound (l.end - l.at);
+}
+
+abbrev pub decreases-loop-end : goal.decreases-loop-end
+decreases-loop-end l = length l.bytes - l.end

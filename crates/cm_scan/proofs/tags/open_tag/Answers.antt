@@ -1,0 +1,13 @@
+use Rattle.std.proofs.Common.{arith}
+use Rattle.std.proofs.lemmas.Grind.{common_steps}
+use Rattle.cm_scan.proofs.TagLemmas.{open_none, open_named}
+use Rattle.cm_scan.proofs.tags.open_tag.Goals as goal
+
+pub returns-in_err-tag : goal.returns-in_err-tag
+returns-in_err-tag c = grind (arith, common_steps, open_none c.args.inside.now c.in_err-tag.ensures)
+
+pub returns-in_err-rest : goal.returns-in_err-rest
+returns-in_err-rest c = grind (arith, common_steps, open_named c.args.inside.now _ c.in_ok-tag.ensures, c.in_err-rest.ensures)
+
+pub returns : goal.returns
+returns c = grind (arith, common_steps, open_named c.args.inside.now _ c.in_ok-tag.ensures, c.in_ok-rest.ensures)

@@ -1,0 +1,20 @@
+-- What a scanner answers.
+use Rattle.std.specs.Prelude.{ℕ, ◌+◌, ◌-◌, ◌*◌, Bool, not, ◌||◌, ◌==◌, Option, Some, None}
+use Rattle.cm_scan.specs.Words.{is_space_or_tab}
+
+-- what was read, if it was, with the place where it ends
+abbrev pub ending : {A : Type 0} → Option A → ℕ → Option (A × ℕ)
+ending None end = None
+ending (Some x) end = Some (x, end)
+
+-- neither a space nor a tab
+abbrev pub is_plain : ℕ → Bool
+is_plain b = not (is_space_or_tab b)
+
+-- `-`, `_` or `*`, which a thematic break is made of
+abbrev pub is_break_marker : ℕ → Bool
+is_break_marker b = b == 45 || b == 95 || b == 42
+
+-- a number with one more digit behind it
+abbrev pub with_digit : ℕ → ℕ → ℕ
+with_digit n b = n * 10 + (b - 48)

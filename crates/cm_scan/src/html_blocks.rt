@@ -1,0 +1,331 @@
+//! HTML blocks: what starts one and what ends it (4.6 HTML blocks).
+ghost use Rattle.std.specs.Prelude.{◌≡◌, ◌+◌, ◌<◌, ◌≤◌, ◌∷◌, false, length, drop, slice_index, ◌++◌, codes, Some, option_map};
+ghost use Rattle.std.specs.List.{list_any};
+ghost use Rattle.cm_text.specs.Rules.Rules.{profile};
+ghost use Rattle.cm_scan.specs.Words.{is_letter, is_at_word, holds_word, after_word, same_bytes, is_among, given, ◌<|>◌};
+ghost use Rattle.cm_scan.specs.HtmlBlocks.{lower, raw_text_names, block_names, is_at_name_end, is_at_tag_end, is_named_start, is_raw_text_start, is_declaration_start, is_block_tag_start, is_any_tag_start, html_start, is_html_end};
+ghost use Rattle.cm_scan.specs.HtmlKinds.{kind_of};
+
+use crate::tags::{closing_tag, first_of, is_letter, open_tag, tag_name};
+use crate::words::{bytes_from, is_blank_text, is_space_or_tab};
+use memchr::memchr;
+
+/// The kind of an HTML block, by the condition that starts it, in the standard's order (4.6 HTML blocks).
+#[derive(Clone, Copy, Debug, PartialEq, Eq)]
+pub enum HtmlKind {
+    /// An element whose text is not markup: `pre`, `script`, `style` or `textarea`.
+    RawText,
+    /// A comment.
+    Comment,
+    /// A processing instruction.
+    Instruction,
+    /// A declaration.
+    Declaration,
+    /// A CDATA section.
+    CharacterData,
+    /// A tag with one of the names of blocks.
+    BlockTag,
+    /// A line with any other complete tag alone.
+    AnyTag,
+}
+
+/// Whether a word comes next, in any case. The word is in lower case.
+fn is_at_word(word: &[u8], bytes: &[u8]) -> bool
+    ensures { result ≡ is_at_word word.now (lower bytes.now) }
+{
+    for (i, w) in word.iter().enumerate() {
+        if i >= bytes.len() || bytes[i].to_ascii_lowercase() != *w {
+            return false;
+        }
+    }
+    true
+}
+
+/// Whether a word stands somewhere, in any case. The word is in lower case and begins with no letter.
+fn holds_word(word: &[u8], bytes: &[u8]) -> bool
+    requires some { 0 < length word.now }
+    requires no_letter { is_letter (slice_index word.now 0) ≡ false }
+    ensures { result ≡ holds_word word.now (lower bytes.now) }
+{
+    let mut rest = bytes;
+    while let Some(at) = memchr(word[0], rest) {
+        if is_at_word(word, &rest[at..]) {
+            return true;
+        }
+        rest = &rest[at + 1..];
+    }
+    false
+}
+
+/// The names of the elements whose text is not markup.
+const RAW_TEXT_NAMES: [&str; 4] = ["pre", "script", "style", "textarea"];
+
+/// The names of start condition 6.
+const BLOCK_NAMES: [&str; 62] = [
+    "address",
+    "article",
+    "aside",
+    "base",
+    "basefont",
+    "blockquote",
+    "body",
+    "caption",
+    "center",
+    "col",
+    "colgroup",
+    "dd",
+    "details",
+    "dialog",
+    "dir",
+    "div",
+    "dl",
+    "dt",
+    "fieldset",
+    "figcaption",
+    "figure",
+    "footer",
+    "form",
+    "frame",
+    "frameset",
+    "h1",
+    "h2",
+    "h3",
+    "h4",
+    "h5",
+    "h6",
+    "head",
+    "header",
+    "hr",
+    "html",
+    "iframe",
+    "legend",
+    "li",
+    "link",
+    "main",
+    "menu",
+    "menuitem",
+    "nav",
+    "noframes",
+    "ol",
+    "optgroup",
+    "option",
+    "p",
+    "param",
+    "search",
+    "section",
+    "summary",
+    "table",
+    "tbody",
+    "td",
+    "tfoot",
+    "th",
+    "thead",
+    "title",
+    "tr",
+    "track",
+    "ul",
+];
+
+/// Whether a name is this word, in any case. The word is in lower case.
+#[inline(always)]
+fn is_name(word: &str, name: &[u8]) -> bool
+    ensures { result ≡ same_bytes word.now (lower name.now) }
+{
+    word.len() == name.len() && is_at_word(word.as_bytes(), name)
+}
+
+/// Whether a name is one of these words, in any case.
+fn is_among(words: &[&str], name: &[u8]) -> bool
+    ensures { result ≡ list_any (λ word. same_bytes word.now (lower name.now)) words.now }
+{
+    for word in words {
+        if is_name(word, name) {
+            return true;
+        }
+    }
+    false
+}
+
+/// Whether a name is one of those whose elements' text is not markup.
+fn is_raw_text_name(name: &[u8]) -> bool
+    ensures { result ≡ is_among raw_text_names (lower name.now) }
+{
+    let words: [&str; 4] = RAW_TEXT_NAMES;
+    is_among(words.as_slice(), name)
+}
+
+/// Whether a name is one of start condition 6.
+fn is_block_name(name: &[u8]) -> bool
+    ensures { result ≡ is_among (block_names profile) (lower name.now) }
+{
+    let words: [&str; 62] = BLOCK_NAMES;
+    is_among(words.as_slice(), name)
+}
+
+/// Whether a space, a tab, the end of the line or `>` comes next.
+fn is_at_name_end(bytes: &[u8]) -> bool
+    ensures { result ≡ is_at_name_end bytes.now }
+{
+    let Some((b, _)) = first_of(bytes) else {
+        return true;
+    };
+    is_space_or_tab(b) || b == b'>'
+}
+
+/// Whether the same comes next, or `/>`.
+fn is_at_tag_end(bytes: &[u8]) -> bool
+    ensures { result ≡ is_at_tag_end bytes.now }
+{
+    is_at_name_end(bytes) || bytes.starts_with(b"/>")
+}
+
+/// Whether a name and its end stand behind a `<`, in any case. The name is in lower case.
+fn is_named_start(name: &str, behind: &[u8]) -> bool
+    ensures { result ≡ is_named_start (lower (60 ∷ behind.now)) name.now }
+{
+    if behind.len() < name.len() || !is_at_word(name.as_bytes(), behind) {
+        return false;
+    }
+    is_at_name_end(&behind[name.len()..])
+}
+
+/// Start condition 1, behind the `<`.
+#[tactic(auto, unfolding(crate::specs::HtmlBlocks::is_raw_text_start))]
+fn is_raw_text_start(behind: &[u8]) -> bool
+    ensures { result ≡ is_raw_text_start (60 ∷ behind.now) }
+{
+    is_named_start("pre", behind)
+        || is_named_start("script", behind)
+        || is_named_start("style", behind)
+        || is_named_start("textarea", behind)
+}
+
+/// Start condition 4, behind the `<`.
+#[tactic(auto, unfolding(crate::specs::HtmlBlocks::is_declaration_start, crate::specs::Words::after_word))]
+fn is_declaration_start(behind: &[u8]) -> bool
+    ensures { result ≡ is_declaration_start (60 ∷ behind.now) }
+{
+    let Some((b, rest)) = first_of(behind) else {
+        return false;
+    };
+    if b != b'!' {
+        return false;
+    }
+    let Some((c, _)) = first_of(rest) else {
+        return false;
+    };
+    is_letter(c)
+}
+
+/// What stands behind a `/`, or else behind the `<` itself.
+#[tactic(auto, unfolding(crate::specs::Words::after_word))]
+fn name_of_tag(behind: &[u8]) -> &[u8]
+    ensures { Some result.now ≡ (after_word (codes "</") (60 ∷ behind.now) <|> after_word (codes "<") (60 ∷ behind.now)) }
+{
+    let Some((b, inside)) = first_of(behind) else {
+        return behind;
+    };
+    if b != b'/' {
+        return behind;
+    }
+    inside
+}
+
+/// Start condition 6, behind the `<`.
+fn is_block_tag_start(behind: &[u8]) -> bool
+    ensures { result ≡ is_block_tag_start profile (60 ∷ behind.now) }
+{
+    let Some(tag) = tag_name(name_of_tag(behind)) else {
+        return false;
+    };
+    is_block_name(tag.name) && is_at_tag_end(tag.rest)
+}
+
+/// Start condition 7, behind the `<`.
+fn is_any_tag_start(behind: &[u8]) -> bool
+    ensures { result ≡ is_any_tag_start (60 ∷ behind.now) }
+{
+    let Some((b, inside)) = first_of(behind) else {
+        return false;
+    };
+    if b == b'/' {
+        let Some(tag) = closing_tag(inside) else {
+            return false;
+        };
+        return is_blank_text(tag.rest);
+    }
+    let Some(tag) = open_tag(behind) else {
+        return false;
+    };
+    is_blank_text(tag.rest) && !is_raw_text_name(tag.name)
+}
+
+/// The kind of the HTML block that begins at a place, by the first of the seven start conditions that is met
+/// there (4.6 HTML blocks). The last kind can't interrupt a paragraph.
+pub fn html_start(text: &str, at: usize) -> Option<HtmlKind>
+    requires within { at ≤ length text.now }
+    ensures { option_map kind_of result ≡ html_start profile (drop at text.now) }
+{
+    let (b, behind) = first_of(bytes_from(text, at))?;
+    if b != b'<' {
+        return None;
+    }
+    if is_raw_text_start(behind) {
+        return Some(HtmlKind::RawText);
+    }
+    if behind.starts_with(b"!--") {
+        return Some(HtmlKind::Comment);
+    }
+    if behind.starts_with(b"?") {
+        return Some(HtmlKind::Instruction);
+    }
+    if is_declaration_start(behind) {
+        return Some(HtmlKind::Declaration);
+    }
+    if behind.starts_with(b"![CDATA[") {
+        return Some(HtmlKind::CharacterData);
+    }
+    if is_block_tag_start(behind) {
+        return Some(HtmlKind::BlockTag);
+    }
+    if is_any_tag_start(behind) {
+        return Some(HtmlKind::AnyTag);
+    }
+    None
+}
+
+/// Whether the closing tag of an element stands somewhere whose text is not markup.
+fn holds_raw_text_end(bytes: &[u8]) -> bool
+    ensures { result ≡ list_any (λ name. holds_word (codes "</" ++ name ++ codes ">") (lower bytes.now)) raw_text_names }
+{
+    holds_word(b"</pre>", bytes)
+        || holds_word(b"</script>", bytes)
+        || holds_word(b"</style>", bytes)
+        || holds_word(b"</textarea>", bytes)
+}
+
+/// Whether a line meets the end condition of a kind.
+fn is_html_end(kind: HtmlKind, bytes: &[u8]) -> bool
+    ensures { result ≡ is_html_end (kind_of kind) bytes.now }
+{
+    match kind {
+        HtmlKind::RawText => holds_raw_text_end(bytes),
+        HtmlKind::Comment => holds_word(b"-->", bytes),
+        HtmlKind::Instruction => holds_word(b"?>", bytes),
+        HtmlKind::Declaration => holds_word(b">", bytes),
+        HtmlKind::CharacterData => holds_word(b"]]>", bytes),
+        HtmlKind::BlockTag | HtmlKind::AnyTag => false,
+    }
+}
+
+/// What ends an HTML block on this line, the first or a later one, from a place on (4.6 HTML blocks): where
+/// it ends, which is the text's end. The last two kinds are ended by a blank line alone.
+pub fn html_end(kind: HtmlKind, text: &str, at: usize) -> Option<usize>
+    requires within { at ≤ length text.now }
+    ensures { result ≡ given (is_html_end (kind_of kind) (drop at text.now)) (length text.now) }
+{
+    if !is_html_end(kind, bytes_from(text, at)) {
+        return None;
+    }
+    Some(text.len())
+}

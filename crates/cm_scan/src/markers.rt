@@ -1,0 +1,98 @@
+//! The markers of list items (5.2 List items).
+ghost use Rattle.std.specs.Prelude.{◌≡◌, ◌+◌, ◌-◌, ◌==◌, ◌<◌, ◌≤◌, [], Some, None, length, drop, MatchOption, IfSome, if◌then◌else◌};
+ghost use Rattle.std.specs.List.{fold};
+ghost use Rattle.std.specs.Str.{IsCharBoundary};
+ghost use Rattle.cm_scan.specs.Words.{is_digit, front_of, skip};
+ghost use Rattle.cm_scan.specs.LineForms.{item_marker, bullet_kind, ordered_kind, decimal_value};
+ghost use Rattle.cm_scan.specs.Scanned.{with_digit};
+
+use crate::words::{bytes_from, is_at_gap, is_digit};
+use cm_tree::ListKind;
+
+/// The marker of a list item (5.2 List items).
+#[derive(Clone, Copy, Debug, PartialEq, Eq)]
+pub struct ItemMarker {
+    /// The kind of the item's list, with the value of the number.
+    pub kind: ListKind,
+    /// How many digits the number has: none at a bullet.
+    pub digits: usize,
+}
+
+/// `-`, `+` or `*`.
+fn bullet_kind(b: u8) -> Option<ListKind>
+    ensures { result ≡ bullet_kind b }
+{
+    match b {
+        b'-' => Some(ListKind::Dash),
+        b'+' => Some(ListKind::Plus),
+        b'*' => Some(ListKind::Star),
+        _ => None,
+    }
+}
+
+/// `.` or `)` behind a number.
+fn ordered_kind(number: u32, b: u8) -> Option<ListKind>
+    ensures { result ≡ ordered_kind number b }
+{
+    match b {
+        b'.' => Some(ListKind::Dot { start: number }),
+        b')' => Some(ListKind::Paren { start: number }),
+        _ => None,
+    }
+}
+
+/// The kind that a byte behind so many digits makes.
+fn kind_of(digits: usize, number: u32, b: u8) -> Option<ListKind>
+    ensures { result ≡ (if digits == 0 then bullet_kind b else ordered_kind number b) }
+{
+    if digits == 0 {
+        bullet_kind(b)
+    } else {
+        ordered_kind(number, b)
+    }
+}
+
+/// The number at a place, of nine digits at most, and the place behind it: that place itself where no
+/// digit stands there.
+fn number_at(text: &str, at: usize) -> (u32, usize)
+    requires { at ≤ length text.now }
+    ensures begin { at ≤ result.1 }
+    ensures within { result.1 ≤ length text.now }
+    ensures count { result.1 + length (front_of is_digit (drop result.1 text.now)) ≡ at + length (front_of is_digit (drop at text.now)) }
+    ensures value { fold with_digit result.0 (front_of is_digit (drop result.1 text.now)) ≡ decimal_value (front_of is_digit (drop at text.now)) }
+    ensures left { skip is_digit (drop result.1 text.now) ≡ skip is_digit (drop at text.now) }
+    ensures few { result.1 - at ≤ 9 }
+    ensures whole { result.1 - at < 9 → front_of is_digit (drop result.1 text.now) ≡ [] }
+{
+    let bytes = text.as_bytes();
+    let mut number = 0;
+    let mut end = at;
+    while end < bytes.len() && end - at < 9 && is_digit(bytes[end]) {
+        number = number * 10 + u32::from(bytes[end] - b'0');
+        end += 1;
+    }
+    (number, end)
+}
+
+/// The marker of a list item at a place (5.2 List items), and the place behind it: a bullet, or one to nine
+/// digits and `.` or `)`, where a space, a tab or the text's end comes next.
+pub fn item_marker(text: &str, at: usize) -> Option<(ItemMarker, usize)>
+    requires within { at ≤ length text.now }
+    ensures marker { MatchOption result (item_marker (drop at text.now) ≡ None)
+        (λ r. item_marker (drop at text.now) ≡ Some (record { kind = r.0.kind; digits = r.0.digits })) }
+    ensures end { IfSome result (λ r. r.1 ≡ at + r.0.digits + 1) }
+    ensures boundary { IfSome result (λ r. IsCharBoundary text.now r.1) }
+{
+    let bytes = text.as_bytes();
+    let (number, end) = number_at(text, at);
+    if end == bytes.len() {
+        return None;
+    }
+    let digits = end - at;
+    let kind = kind_of(digits, number, bytes[end])?;
+    let behind = end + 1;
+    if !is_at_gap(bytes_from(text, behind)) {
+        return None;
+    }
+    Some((ItemMarker { kind, digits }, behind))
+}

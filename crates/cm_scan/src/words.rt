@@ -1,0 +1,104 @@
+//! Parts of a text, without copying.
+ghost use Rattle.std.specs.Prelude.{◌≡◌, ◌+◌, ◌<◌, ◌≤◌, length, drop};
+ghost use Rattle.std.specs.List.{find};
+ghost use Rattle.std.specs.Str.{IsCharBoundary};
+ghost use Rattle.cm_scan.specs.Words.{is_space_or_tab, is_digit, run_length, after_run, trim_start, trim_end, trim, is_blank_text, is_at_gap};
+ghost use Rattle.cm_scan.specs.Scanned.{is_plain};
+
+/// Whether a byte is a space or a tab.
+#[inline(always)]
+pub(crate) fn is_space_or_tab(b: u8) -> bool
+    ensures { result ≡ is_space_or_tab b }
+{
+    b == b' ' || b == b'\t'
+}
+
+/// Whether a byte is a decimal digit.
+#[inline(always)]
+pub(crate) fn is_digit(b: u8) -> bool
+    ensures { result ≡ is_digit b }
+{
+    b.is_ascii_digit()
+}
+
+/// The bytes of a text from a place on.
+#[inline(always)]
+pub(crate) fn bytes_from(text: &str, at: usize) -> &[u8]
+    requires { at ≤ length text.now }
+    ensures { result.now ≡ drop at text.now }
+{
+    &text.as_bytes()[at..]
+}
+
+/// The place behind the run of a byte at a place.
+#[inline(always)]
+pub(crate) fn after_run(marker: u8, text: &str, at: usize) -> usize
+    requires { at ≤ length text.now }
+    ensures end { result ≡ at + run_length marker (drop at text.now) }
+    ensures within { result ≤ length text.now }
+    ensures behind { drop result text.now ≡ after_run marker (drop at text.now) }
+    ensures boundary { marker < 128 → IsCharBoundary text.now at → IsCharBoundary text.now result }
+{
+    let bytes = text.as_bytes();
+    let mut end = at;
+    while end < bytes.len() && bytes[end] == marker {
+        end += 1;
+    }
+    end
+}
+
+/// The first byte that is neither a space nor a tab.
+pub(crate) fn first_plain(bytes: &[u8]) -> Option<u8>
+    ensures { result ≡ find is_plain bytes.now }
+{
+    bytes.iter().copied().find(|b| !is_space_or_tab(*b))
+}
+
+/// Whether there are only spaces and tabs.
+pub(crate) fn is_blank_text(bytes: &[u8]) -> bool
+    ensures { result ≡ is_blank_text bytes.now }
+{
+    bytes.iter().all(|b| is_space_or_tab(*b))
+}
+
+/// Whether a space, a tab or the end comes next.
+#[inline(always)]
+pub(crate) fn is_at_gap(bytes: &[u8]) -> bool
+    ensures { result ≡ is_at_gap bytes.now }
+{
+    match bytes {
+        [b, ..] => is_space_or_tab(*b),
+        [] => true,
+    }
+}
+
+/// The text without the spaces and tabs at its front.
+pub(crate) fn trim_start(text: &str) -> &str
+    ensures { result.now ≡ trim_start text.now }
+{
+    let bytes = text.as_bytes();
+    let mut start = 0;
+    while start < bytes.len() && is_space_or_tab(bytes[start]) {
+        start += 1;
+    }
+    &text[start..]
+}
+
+/// The text without the spaces and tabs at its end.
+pub(crate) fn trim_end(text: &str) -> &str
+    ensures { result.now ≡ trim_end text.now }
+{
+    let bytes = text.as_bytes();
+    let mut end = bytes.len();
+    while end > 0 && is_space_or_tab(bytes[end - 1]) {
+        end -= 1;
+    }
+    &text[..end]
+}
+
+/// The text without those at both ends.
+pub(crate) fn trim(text: &str) -> &str
+    ensures { result.now ≡ trim text.now }
+{
+    trim_end(trim_start(text))
+}
