@@ -1,0 +1,5 @@
+use Rattle.cm_block.proofs.Levels.{level_of_parts}
+use Rattle.cm_block.proofs.laws.levels.Goals as goal
+
+pub returns : goal.returns
+returns c = level_of_parts

@@ -1,0 +1,31 @@
+-- How deep each line stands, told when the stack takes it in (CommonMark 0.31.2, chapter 5).
+use Rattle.std.specs.Prelude.{◌≡◌, ℕ, suc, List, [], ◌∷◌, nat_lt}
+use Rattle.std.specs.List.{position}
+use Rattle.std.specs.Option.{option_map}
+use Rattle.cm_text.specs.Rules.{Rules}
+use Rattle.cm_text.specs.Lines.{LineView}
+use Rattle.cm_scan.specs.Parts.{depths_of}
+use Rattle.cm_scan.specs.Blocks.{parts_of, first_too_deep}
+use Rattle.cm_scan.specs.Laws.{AreLines}
+use Rattle.cm_block.specs.Machine.{Open, in_leaf, in_quote, in_item}
+use Rattle.cm_block.specs.Stack.{Stack, empty_stack, push_line}
+
+-- how many quotes and items are open
+unfoldable pub nesting : {A : Type 0} → Open A → ℕ
+nesting (in_leaf x) = 0
+nesting (in_quote closed now) = suc (nesting now)
+nesting (in_item kind column bare closed now) = suc (nesting now)
+
+-- how many are open behind each line
+unfoldable pub line_depths : Rules → Stack → List LineView → List ℕ
+line_depths rules st [] = []
+line_depths rules st (line ∷ lines) = let next = push_line rules st line in nesting next.now ∷ line_depths rules next lines
+
+-- So many quotes and items stand round each line,
+abbrev pub DepthsOfLines : Type 0
+DepthsOfLines = (rules : Rules) (lines : List LineView) → AreLines lines → line_depths rules empty_stack lines ≡ depths_of (parts_of rules lines)
+
+-- and the first with more than the limit is the first that is too deep.
+abbrev pub TooDeepAtOnce : Type 0
+TooDeepAtOnce = (rules : Rules) (limit : ℕ) (lines : List LineView) → AreLines lines
+    → first_too_deep rules limit lines ≡ option_map suc (position (λ depth. nat_lt limit depth) (line_depths rules empty_stack lines))

@@ -1,0 +1,121 @@
+-- One level read from the left: the blocks so far, the list that an item may go on with, and what tells whether a list is loose
+-- (CommonMark 0.31.2, 5.3 Lists).
+use Rattle.std.specs.Prelude.{◌≡◌, Bool, true, false, not, ◌&&◌, ◌||◌, List, [], ◌∷◌, ◌++◌, Option, Some, None}
+use Rattle.cm_tree.specs.declared.tree.ListKind.{ListKind}
+use Rattle.cm_tree.specs.declared.tree.Block.{Block}
+use Rattle.cm_tree.specs.declared.tree.Block.TheVariants.{Quote, List as ListBlock}
+use Rattle.cm_scan.specs.LineForms.{is_same_kind}
+use Rattle.cm_scan.specs.Parts.{Parts, none, last_item, leaf_block, is_separated, items_end_blank, ends_blank_after, tree_of}
+use Rattle.cm_block.specs.Machine.{Piece, blank_piece, leaf_piece, quote_piece, item_piece, put_all}
+
+-- A list with its closed items and its mark of looseness. A further item of it may be open.
+pub record OpenList : Type 0 where
+  pub kind : ListKind
+  pub loose : Bool
+  pub items : List (List Block)
+
+-- The closed blocks, the list behind them, whether there is a block, whether the last line is blank as seen at this level, and whether
+-- a blank line stands right before the second or a later block.
+pub record Level : Type 0 where
+  pub blocks : List Block
+  pub open_list : Option OpenList
+  pub has_block : Bool
+  pub ends_blank : Bool
+  pub separated : Bool
+
+abbrev pub empty_level : Level
+empty_level = record { blocks = []; open_list = None; has_block = false; ends_blank = false; separated = false }
+
+abbrev pub with_list : List Block → Option OpenList → List Block
+with_list blocks None = blocks
+with_list blocks (Some list) = blocks ++ ListBlock list.kind (not list.loose) list.items ∷ []
+
+-- all its blocks
+abbrev pub closed_blocks : Level → List Block
+closed_blocks level = with_list level.blocks level.open_list
+
+abbrev pub push_blank : Level → Level
+push_blank level = record { blocks = level.blocks; open_list = level.open_list; has_block = level.has_block; ends_blank = true; separated = level.separated }
+
+-- Opening a block: what a blank line right before it tells is settled then, and not when it is closed.
+
+abbrev pub separated_next : Level → Bool
+separated_next level = level.separated || level.has_block && level.ends_blank
+
+-- a block that is no item ends the list
+abbrev pub block_opens : Level → Level
+block_opens level = record { blocks = closed_blocks level; open_list = None; has_block = level.has_block; ends_blank = false; separated = separated_next level }
+
+abbrev pub list_opens : Level → ListKind → Level
+list_opens level kind = record {
+  blocks = closed_blocks level;
+  open_list = Some (record { kind = kind; loose = false; items = [] });
+  has_block = true;
+  ends_blank = false;
+  separated = separated_next level;
+}
+
+-- a blank line right before a further item makes the list loose
+abbrev pub list_goes_on : Level → OpenList → Level
+list_goes_on level list = record {
+  blocks = level.blocks;
+  open_list = Some (record { kind = list.kind; loose = list.loose || level.ends_blank; items = list.items });
+  has_block = true;
+  ends_blank = false;
+  separated = level.separated;
+}
+
+abbrev pub item_opens_in : Level → Option OpenList → ListKind → Level
+item_opens_in level None kind = list_opens level kind
+item_opens_in level (Some list) kind = elim (is_same_kind list.kind kind) [ true ↦ list_goes_on level list | false ↦ list_opens level kind ]
+
+-- an item goes on with a list of its kind; its list then stands open behind the blocks
+abbrev pub item_opens : Level → ListKind → Level
+item_opens level kind = item_opens_in level level.open_list kind
+
+-- Closing: the level is that in which the block was opened.
+
+abbrev pub block_closes : Level → Block → Level
+block_closes level block = record { blocks = level.blocks ++ block ∷ []; open_list = level.open_list; has_block = true; ends_blank = false; separated = level.separated }
+
+-- what its list needs of an item
+pub record Item : Type 0 where
+  pub blocks : List Block
+  pub ends_blank : Bool
+  pub separated : Bool
+
+-- an item that is separated makes its list loose
+abbrev pub with_item : Option OpenList → Item → Option OpenList
+with_item None item = None
+with_item (Some list) item = Some (record { kind = list.kind; loose = list.loose || item.separated; items = list.items ++ item.blocks ∷ [] })
+
+abbrev pub item_closes : Level → Item → Level
+item_closes level item = record { blocks = level.blocks; open_list = with_item level.open_list item; has_block = true; ends_blank = item.ends_blank; separated = level.separated }
+
+-- Both at once, and the same for pieces.
+
+abbrev pub push_block : Level → Block → Level
+push_block level block = block_closes (block_opens level) block
+
+abbrev pub push_item : Level → ListKind → Item → Level
+push_item level kind item = item_closes (item_opens level kind) item
+
+-- an item with these parts
+abbrev pub item_of_parts : Parts → Item
+item_of_parts inside = record { blocks = tree_of inside; ends_blank = items_end_blank (last_item inside); separated = is_separated false false inside }
+
+unfoldable pub add : Level → Piece → Level
+add level blank_piece = push_blank level
+add level (leaf_piece x lines) = push_block level (leaf_block x)
+add level (quote_piece inside) = push_block level (Quote (tree_of inside))
+add level (item_piece kind inside) = push_item level kind (item_of_parts inside)
+
+unfoldable pub add_all : Level → List Piece → Level
+add_all level [] = level
+add_all level (piece ∷ pieces) = add_all (add level piece) pieces
+
+-- A level read from the left has the blocks, the separation and the last line that its parts have.
+pub record LevelOfParts (pieces : List Piece) : Type 0 where
+  pub blocks : closed_blocks (add_all empty_level pieces) ≡ tree_of (put_all pieces none)
+  pub separated : (add_all empty_level pieces).separated ≡ is_separated false false (put_all pieces none)
+  pub ends_blank : (add_all empty_level pieces).ends_blank ≡ ends_blank_after false (put_all pieces none)

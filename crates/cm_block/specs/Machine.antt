@@ -1,0 +1,119 @@
+-- One pass over the lines: what is open, what one more line closes and opens, and what closing gives. No line is kept.
+use Rattle.std.specs.Prelude.{ℕ, zero, suc, Bool, false, List, [], ◌∷◌, ◌++◌, replicate, Option, Some, None}
+use Rattle.cm_text.specs.Rules.{Rules}
+use Rattle.cm_text.specs.Lines.{LineView}
+use Rattle.cm_tree.specs.declared.tree.ListKind.{ListKind}
+use Rattle.cm_scan.specs.Lines.{is_blank, marks}
+use Rattle.cm_scan.specs.Parts.{LeafPart, Parts, none, blank, leaf, quote, put_item}
+use Rattle.cm_scan.specs.Starts.{place_in_quote, place_in_item}
+use Rattle.cm_scan.specs.Laws.{goes_inward}
+use Rattle.cm_block.specs.OpenLeaf.{OpenLeaf, no_leaf, closed_leaves, blank_lines_behind, is_open_text, LeafLine, stays_open, is_last, line_of_leaf, Begin, begins_nothing, begins_leaf, begins_quote, begins_item, begin_of}
+
+-- What stands closed at one level: a blank line, a leaf with how many lines it has, a quote, an item.
+pub data Piece : Type 0 where
+  blank_piece : Piece
+  leaf_piece : LeafPart → ℕ → Piece
+  quote_piece : Parts → Piece
+  item_piece : ListKind → Parts → Piece
+
+-- a piece in front of the parts that follow it
+abbrev pub put : Piece → Parts → Parts
+put blank_piece rest = blank rest
+put (leaf_piece x lines) rest = leaf x lines rest
+put (quote_piece inside) rest = quote inside rest
+put (item_piece kind inside) rest = put_item kind inside rest
+
+unfoldable pub put_all : List Piece → Parts → Parts
+put_all [] rest = rest
+put_all (piece ∷ pieces) rest = put piece (put_all pieces rest)
+
+-- What is open at one level: a leaf, or a container with what stands closed in it and with what is open in it. Of an item there is
+-- also the column at which its content begins, and whether it is only a marker so far, with nothing on its line.
+pub data Open (A : Type 0) : Type 0 where
+  in_leaf : OpenLeaf → Open A
+  in_quote : A → Open A → Open A
+  in_item : ListKind → (column : ℕ) → (bare : Bool) → A → Open A → Open A
+
+-- a run of text is open, so that a lazy continuation line can follow
+unfoldable pub has_open_text : {A : Type 0} → Open A → Bool
+has_open_text (in_leaf x) = is_open_text x
+has_open_text (in_quote closed now) = has_open_text now
+has_open_text (in_item kind column bare closed now) = has_open_text now
+
+-- What a line does at one level: the pieces that it closes, and what is then open.
+pub record Change : Type 0 where
+  pub closed : List Piece
+  pub now : Open (List Piece)
+
+abbrev pub change : List Piece → Open (List Piece) → Change
+change closed now = record { closed = closed; now = now }
+
+abbrev pub leaf_pieces : List (LeafPart × ℕ) → List Piece
+leaf_pieces [] = []
+leaf_pieces (x ∷ xs) = leaf_piece x.0 x.1 ∷ leaf_pieces xs
+
+-- what the open block gives when it is closed
+unfoldable pub closing : Open (List Piece) → List Piece
+closing (in_leaf x) = leaf_pieces (closed_leaves x) ++ replicate (blank_lines_behind x) blank_piece
+closing (in_quote closed now) = quote_piece (put_all (closed ++ closing now) none) ∷ []
+closing (in_item kind column bare closed now) = item_piece kind (put_all (closed ++ closing now) none) ∷ []
+
+abbrev pub leaf_change : LeafLine → Change
+leaf_change (stays_open x) = change [] (in_leaf x)
+leaf_change (is_last leaves) = change (leaf_pieces leaves) (in_leaf no_leaf)
+
+-- What a line begins; `begin` says it of a line from which a marker was taken.
+abbrev pub begin_by : (LineView → Change) → Begin → Change
+begin_by begin begins_nothing = change (blank_piece ∷ []) (in_leaf no_leaf)
+begin_by begin (begins_leaf x) = leaf_change x
+begin_by begin (begins_quote inner) = let c = begin inner in change [] (in_quote c.closed c.now)
+begin_by begin (begins_item kind column inner) = let c = begin inner in change [] (in_item kind column (is_blank inner) c.closed c.now)
+
+-- as many markers within one another as a number says; those of the line are enough
+unfoldable pub begin_within : Rules → ℕ → LineView → Change
+begin_within rules zero line = change [] (in_leaf no_leaf)
+begin_within rules (suc n) line = begin_by (λ inner. begin_within rules n inner) (begin_of rules line)
+
+unfoldable pub begin : Rules → LineView → Change
+begin rules line = begin_within rules (suc (marks line.text)) line
+
+-- the pieces are closed, and the line begins something
+abbrev pub after_closing : Rules → List Piece → LineView → Change
+after_closing rules pieces line = let c = begin rules line in change (pieces ++ c.closed) c.now
+
+-- by whether the line is one of the open leaf
+abbrev pub leaf_step : Rules → OpenLeaf → LineView → Option LeafLine → Change
+leaf_step rules x line (Some l) = leaf_change l
+leaf_step rules x line None = after_closing rules (closing (in_leaf x)) line
+
+-- one more line
+unfoldable pub step : Rules → Open (List Piece) → LineView → Change
+step rules (in_leaf x) line = leaf_step rules x line (line_of_leaf rules x line)
+step rules (in_quote closed now) line = elim (goes_inward (place_in_quote rules line) (has_open_text now)) [
+  | Some inner ↦ let c = step rules now inner in change [] (in_quote (closed ++ c.closed) c.now)
+  | None ↦ after_closing rules (closing (in_quote closed now)) line
+]
+step rules (in_item kind column bare closed now) line = elim (goes_inward (place_in_item rules column bare line) (has_open_text now)) [
+  | Some inner ↦ let c = step rules now inner in change [] (in_item kind column false (closed ++ c.closed) c.now)
+  | None ↦ after_closing rules (closing (in_item kind column bare closed now)) line
+]
+
+-- The machine: the closed pieces of the document, and what is open.
+abbrev pub Machine : Type 0
+Machine = Change
+
+abbrev pub new_machine : Machine
+new_machine = change [] (in_leaf no_leaf)
+
+unfoldable pub take_line : Rules → Machine → LineView → Machine
+take_line rules m line = let c = step rules m.now line in change (m.closed ++ c.closed) c.now
+
+unfoldable pub take_lines : Rules → Machine → List LineView → Machine
+take_lines rules m [] = m
+take_lines rules m (line ∷ lines) = take_lines rules (take_line rules m line) lines
+
+unfoldable pub close : Machine → Parts
+close m = put_all (m.closed ++ closing m.now) none
+
+unfoldable pub parts_in_one_pass : Rules → List LineView → Parts
+parts_in_one_pass rules lines = close (take_lines rules new_machine lines)

@@ -1,0 +1,4 @@
+//! One pass over the lines of a document, by a stack of open blocks.
+#![tactic(auto)]
+
+pub mod laws;
