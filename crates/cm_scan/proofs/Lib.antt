@@ -11,3 +11,9 @@ pub mod SkipLemmas
 pub mod StartLemmas
 pub mod TagLemmas
 pub mod WordLemmas
+pub mod BareLemmas
+pub mod ClosedLemmas
+pub mod DefinitionLemmas
+pub mod EnclosedLemmas
+pub mod GapLemmas
+pub mod ReadingLemmas

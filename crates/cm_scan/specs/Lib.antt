@@ -12,3 +12,4 @@ pub mod Laws
 pub mod HtmlKinds
 pub mod Scanned
 pub mod TagNames
+pub mod LinkSteps

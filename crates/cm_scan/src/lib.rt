@@ -1,9 +1,11 @@
 //! The definitions of CommonMark's block structure, and the scanners of its forms.
 #![tactic(auto)]
 
+mod gaps;
 mod html_blocks;
 pub mod laws;
 mod line_forms;
+mod links;
 mod markers;
 mod tags;
 #[cfg(test)]
@@ -14,4 +16,5 @@ pub use html_blocks::{HtmlKind, html_end, html_start};
 pub use line_forms::{
     AtxHeading, FenceKind, OpeningFence, atx, fence, fence_end, quote_marker, thematic, underline,
 };
+pub use links::{LinkDefinition, definition, destination, label, title};
 pub use markers::{ItemMarker, item_marker};

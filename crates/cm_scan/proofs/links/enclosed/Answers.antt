@@ -1,0 +1,26 @@
+use Rattle.std.proofs.Common.{◌∙◌, ◌==◌, false, ap, subst, get_or, ◌<◌, arith}
+use Rattle.std.proofs.lemmas.Str.{IsCharBoundary-after_ascii}
+use Rattle.cm_scan.specs.Links.{keep_if, closed_by}
+use Rattle.cm_scan.specs.LinkSteps.{reading_of, fits, is_barred}
+use Rattle.cm_scan.proofs.ReadingLemmas.{enclosed-none, enclosed-some}
+use Rattle.cm_scan.proofs.links.enclosed.Goals as goal
+
+pub returns-in_err-end-clause-read : goal.returns-in_err-end-clause-read
+returns-in_err-end-clause-read c =
+    ap (reading_of c.args.text.now) c.from_residual.ensures
+    ∙ enclosed-none (λ t. keep_if (fits c.args.bounds.most c.args.bounds.blank_lines) (closed_by (λ x. x == c.args.bounds.close) (is_barred c.args.bounds.open c.args.bounds.one_line) false t))
+    c.args.text.now c.as_bytes.result.now c.args.at c.as_bytes.ensures.value c.in_err-end.ensures.read
+
+pub range-requires-clause-start_boundary : goal.range-requires-clause-start_boundary
+range-requires-clause-start_boundary c = λ _. IsCharBoundary-after_ascii c.args.text.now c.args.at c.utf8.text c.requires.within c.requires.ascii.0
+
+pub returns-clause-read : goal.returns-clause-read
+returns-clause-read c =
+    enclosed-some (λ t. keep_if (fits c.args.bounds.most c.args.bounds.blank_lines) (closed_by (λ x. x == c.args.bounds.close) (is_barred c.args.bounds.open c.args.bounds.one_line) false t))
+    c.args.text.now c.as_bytes.result.now c.range.result.now c.args.at c.in_ok-end.end c.as_bytes.ensures.value c.range.ensures.value c.in_ok-end.ensures.read
+
+pub returns-clause-boundary : goal.returns-clause-boundary
+returns-clause-boundary c =
+    let close : get_or c.as_bytes.result.now c.in_ok-end.end 0 < 128 = omega (arith, c.in_ok-end.ensures.close, c.requires.ascii.1) in
+    let here : get_or c.args.text.now c.in_ok-end.end 0 < 128 = subst (λ t. get_or t c.in_ok-end.end 0 < 128) c.as_bytes.ensures.value close in
+    IsCharBoundary-after_ascii c.args.text.now c.in_ok-end.end c.utf8.text (omega (arith, c.in_ok-end.ensures.within.1, c.as_bytes.ensures.len)) here

@@ -1,0 +1,482 @@
+//! Link labels, destinations, titles and reference definitions (CommonMark 0.31.2, 6.3 Links and 4.7 Link
+//! reference definitions).
+ghost use Rattle.std.specs.Prelude.{◌≡◌, ℕ, List, ◌==◌, ◌&&◌, ◌||◌, not, false, ◌≤◌, ◌<◌, suc, length, drop, slice_index, option_map, IfSome, IsUtf8, if◌then◌else◌};
+ghost use Rattle.std.specs.List.{list_all};
+ghost use Rattle.std.specs.Str.{IsCharBoundary};
+ghost use Rattle.cm_scan.specs.Tags.{is_blank_byte, is_blank_next};
+ghost use Rattle.cm_scan.specs.Words.{begins_with, ◌<|>◌};
+ghost use Rattle.cm_scan.specs.Links.{escapes_next, keep_if, closed_by, label, destination, title, bare_run, is_some, opened_by, titled, untitled, link_definition};
+ghost use Rattle.cm_scan.specs.LinkSteps.{reading_of, closed_at, ended_at, title_end, ends_bare, definition_with, begins_character, is_barred, fits, blank_follows, is_refused};
+
+use crate::gaps::{after_blanks, after_gap, after_line, is_blank_byte};
+use cm_text::is_ascii_punct;
+
+/// The link label at a place in a text, which is the boundary of a character: what stands between its
+/// brackets, as it is written, and the place behind the right one (CommonMark 0.31.2, 6.3 Links).
+///
+/// It ends at the first right bracket that no backslash escapes, no such left one stands before it, it has
+/// at most 999 characters, and not all of them are spaces, tabs and line feeds. No more than 999 characters
+/// are read where there is none.
+pub fn label<'a>(text: &'a str, at: usize) -> Option<(&'a str, usize)>
+    requires { IsCharBoundary text.now at }
+    ensures read { reading_of text.now result ≡ label (drop at text.now) }
+    ensures utf8 { IfSome result (λ read. IsUtf8 read.0.now) }
+    ensures boundary { IfSome result (λ read. IsCharBoundary text.now read.1) }
+{
+    if !is_next(text.as_bytes(), at, b'[') {
+        return None;
+    }
+    let bounds = Bounds {
+        open: b'[',
+        close: b']',
+        most: 999,
+        one_line: false,
+        blank_lines: true,
+    };
+    let (label, end) = enclosed(text, at, bounds)?;
+    if is_blank(label) {
+        return None;
+    }
+    Some((label, end))
+}
+
+/// The link destination at a place in a text, which is the boundary of a character: what stands between `<`
+/// and `>`, or a run without spaces and control characters, as it is written, and the place behind it
+/// (CommonMark 0.31.2, 6.3 Links).
+///
+/// In a run no more than 32 parentheses are open at once.
+pub fn destination<'a>(text: &'a str, at: usize) -> Option<(&'a str, usize)>
+    requires { IsCharBoundary text.now at }
+    ensures read { reading_of text.now result ≡ destination (drop at text.now) }
+    ensures utf8 { IfSome result (λ read. IsUtf8 read.0.now) }
+    ensures boundary { IfSome result (λ read. IsCharBoundary text.now read.1) }
+{
+    if !is_next(text.as_bytes(), at, b'<') {
+        return bare(text, at);
+    }
+    let bounds = Bounds {
+        open: b'<',
+        close: b'>',
+        most: text.len(),
+        one_line: true,
+        blank_lines: true,
+    };
+    enclosed(text, at, bounds)
+}
+
+/// The link title at a place in a text, which is the boundary of a character: what stands between its
+/// quotation marks or parentheses, as it is written, and the place behind them (CommonMark 0.31.2, 6.3
+/// Links).
+///
+/// It has no blank line: nothing is read behind one.
+pub fn title<'a>(text: &'a str, at: usize) -> Option<(&'a str, usize)>
+    requires { IsCharBoundary text.now at }
+    ensures read { reading_of text.now result ≡ title (drop at text.now) }
+    ensures utf8 { IfSome result (λ read. IsUtf8 read.0.now) }
+    ensures boundary { IfSome result (λ read. IsCharBoundary text.now read.1) }
+{
+    let open = *text.as_bytes().get(at)?;
+    let bounds = Bounds {
+        open,
+        close: end_of_title(open)?,
+        most: text.len(),
+        one_line: false,
+        blank_lines: false,
+    };
+    enclosed(text, at, bounds)
+}
+
+/// A link reference definition, each part as it is written (CommonMark 0.31.2, 4.7 Link reference definitions).
+#[derive(Clone, Copy, Debug, PartialEq, Eq, Drop)]
+pub struct LinkDefinition<'a> {
+    /// What stands between the brackets of its label.
+    pub label: &'a str,
+    /// The destination.
+    pub dest: &'a str,
+    /// The title, which is empty where there is none.
+    pub title: &'a str,
+}
+
+/// The link reference definition at a place in a text, which is the boundary of a character, and the place
+/// behind its last line: behind the line feed, or the text's end (CommonMark 0.31.2, 4.7 Link reference
+/// definitions).
+pub fn definition<'a>(text: &'a str, at: usize) -> Option<(LinkDefinition<'a>, usize)>
+    requires { IsCharBoundary text.now at }
+    ensures read { option_map (λ r. definition_with r.0.label.now r.0.dest.now r.0.title.now (drop r.1 text.now)) result ≡ link_definition (drop at text.now) }
+    ensures utf8 { IfSome result (λ r. IsUtf8 r.0.label.now × IsUtf8 r.0.dest.now × IsUtf8 r.0.title.now) }
+    ensures boundary { IfSome result (λ r. IsCharBoundary text.now r.1) }
+{
+    let (label, colon) = label(text, at)?;
+    if !is_next(text.as_bytes(), colon, b':') {
+        return None;
+    }
+    let (dest, end) = destination(text, after_gap(text.as_bytes(), colon + 1))?;
+    let (title, end) = end_of_definition(text, end)?;
+    Some((LinkDefinition { label, dest, title }, end))
+}
+
+// What stands behind a destination: a title and the end of its line, or the end of the line.
+fn end_of_definition<'a>(text: &'a str, at: usize) -> Option<(&'a str, usize)>
+    requires { IsCharBoundary text.now at }
+    ensures read { (label dest : List ℕ) → option_map (λ r. definition_with label dest r.0.now (drop r.1 text.now)) result
+        ≡ (titled label dest (drop at text.now) <|> untitled label dest (drop at text.now)) }
+    ensures utf8 { IfSome result (λ r. IsUtf8 r.0.now) }
+    ensures boundary { IfSome result (λ r. IsCharBoundary text.now r.1) }
+{
+    if let Some(titled) = titled(text, at) {
+        return Some(titled);
+    }
+    let end = after_line(text.as_bytes(), at)?;
+    Some(("", end))
+}
+
+// A title behind a destination, and the place behind its line.
+fn titled<'a>(text: &'a str, at: usize) -> Option<(&'a str, usize)>
+    requires { IsCharBoundary text.now at }
+    ensures read { (label dest : List ℕ) → option_map (λ r. definition_with label dest r.0.now (drop r.1 text.now)) result ≡ titled label dest (drop at text.now) }
+    ensures utf8 { IfSome result (λ r. IsUtf8 r.0.now) }
+    ensures boundary { IfSome result (λ r. IsCharBoundary text.now r.1) }
+{
+    let bytes = text.as_bytes();
+    if !is_blank_next(bytes, at) {
+        return None;
+    }
+    let (title, end) = title(text, after_gap(bytes, at))?;
+    let end = after_line(bytes, end)?;
+    Some((title, end))
+}
+
+// The byte that ends the title which a byte begins.
+fn end_of_title(b: u8) -> Option<u8>
+    ensures { result ≡ title_end b }
+{
+    match b {
+        b'"' => Some(b'"'),
+        b'\'' => Some(b'\''),
+        b'(' => Some(b')'),
+        _ => None,
+    }
+}
+
+// Whether there is nothing but spaces, tabs and line feeds.
+fn is_blank(text: &str) -> bool
+    ensures { result ≡ list_all is_blank_byte text.now }
+{
+    text.bytes().all(is_blank_byte)
+}
+
+// The part between the byte there and the one that ends it, and the place behind that.
+fn enclosed<'a>(text: &'a str, at: usize, bounds: Bounds) -> Option<(&'a str, usize)>
+    requires within { at < length text.now }
+    requires ascii { (slice_index text.now at < 128) × (bounds.close < 128) }
+    requires no_blanks { (is_blank_byte bounds.open ≡ false) × (is_blank_byte bounds.close ≡ false) }
+    ensures read { reading_of text.now result ≡ keep_if (fits bounds.most bounds.blank_lines)
+        (closed_by (λ c. c == bounds.close) (is_barred bounds.open bounds.one_line) false (drop (suc at) text.now)) }
+    ensures utf8 { IfSome result (λ read. IsUtf8 read.0.now) }
+    ensures boundary { IfSome result (λ read. IsCharBoundary text.now read.1) }
+{
+    let end = closed(text.as_bytes(), at + 1, bounds)?;
+    Some((&text[at + 1..end], end + 1))
+}
+
+// What a part of a text stands between, and what it may hold.
+#[derive(Clone, Copy, Drop)]
+struct Bounds {
+    // The byte that begins the part, which may not stand in it unescaped.
+    open: u8,
+    // The byte that ends it.
+    close: u8,
+    // The characters that it has at most.
+    most: usize,
+    // Whether no line feed may stand in it.
+    one_line: bool,
+    // Whether blank lines may stand in it.
+    blank_lines: bool,
+}
+
+// The place of the byte that ends a part.
+fn closed(text: &[u8], from: usize, bounds: Bounds) -> Option<usize>
+    requires within { from ≤ length text.now }
+    requires no_blanks { (is_blank_byte bounds.open ≡ false) × (is_blank_byte bounds.close ≡ false) }
+    ensures read { closed_at text.now from result ≡ keep_if (fits bounds.most bounds.blank_lines)
+        (closed_by (λ c. c == bounds.close) (is_barred bounds.open bounds.one_line) false (drop from text.now)) }
+    ensures within { IfSome result (λ end. (from ≤ end) × (end < length text.now)) }
+    ensures close { IfSome result (λ end. slice_index text.now end ≡ bounds.close) }
+{
+    let mut left = bounds.most;
+    let mut escaped = false;
+    let mut at = from;
+    while at < text.len() {
+        if is_end(text[at], escaped, bounds) {
+            return Some(at);
+        }
+        if is_refused(text, at, left, escaped, bounds) {
+            return None;
+        }
+        left -= usize::from(begins_character(text[at]));
+        escaped = escapes_next(text, at, escaped);
+        at += 1;
+    }
+    None
+}
+
+// The destination that no `<` begins.
+fn bare<'a>(text: &'a str, at: usize) -> Option<(&'a str, usize)>
+    requires { IsCharBoundary text.now at }
+    ensures read { reading_of text.now result ≡ keep_if is_some (bare_run 0 false (drop at text.now)) }
+    ensures utf8 { IfSome result (λ read. IsUtf8 read.0.now) }
+    ensures boundary { IfSome result (λ read. IsCharBoundary text.now read.1) }
+{
+    let end = bare_end(text.as_bytes(), at)?;
+    if end == at {
+        return None;
+    }
+    Some((&text[at..end], end))
+}
+
+// The place where a run of a destination ends.
+fn bare_end(text: &[u8], from: usize) -> Option<usize>
+    requires { from ≤ length text.now }
+    ensures read { ended_at text.now from result ≡ bare_run 0 false (drop from text.now) }
+    ensures within { IfSome result (λ end. (from ≤ end) × (end ≤ length text.now)) }
+    ensures ascii { IfSome result (λ end. end < length text.now → slice_index text.now end < 128) }
+{
+    let mut opened = 0;
+    let mut escaped = false;
+    let mut at = from;
+    while at < text.len() && !is_bare_end(text[at], opened, escaped) {
+        if is_too_deep(text[at], opened, escaped) {
+            return None;
+        }
+        opened = opened_by(text[at], opened, escaped);
+        escaped = escapes_next(text, at, escaped);
+        at += 1;
+    }
+    if opened > 0 {
+        return None;
+    }
+    Some(at)
+}
+
+// A space, an ASCII control character, or a right parenthesis that no left one opened.
+fn is_bare_end(b: u8, opened: usize, escaped: bool) -> bool
+    ensures { result ≡ (not escaped && ends_bare opened b) }
+{
+    !escaped && (b == b' ' || b.is_ascii_control() || b == b')' && opened == 0)
+}
+
+fn is_too_deep(b: u8, opened: usize, escaped: bool) -> bool
+    ensures { result ≡ (not escaped && (b == 40 && opened == 32)) }
+{
+    !escaped && b == b'(' && opened == 32
+}
+
+// How many parentheses are open behind a byte.
+fn opened_by(b: u8, opened: usize, escaped: bool) -> usize
+    requires { opened ≤ 32 }
+    ensures { result ≡ (if escaped then opened else opened_by opened b) }
+{
+    match b {
+        b'(' if !escaped => opened + 1,
+        b')' if !escaped => opened.saturating_sub(1),
+        _ => opened,
+    }
+}
+
+fn is_end(b: u8, escaped: bool, bounds: Bounds) -> bool
+    ensures { result ≡ (not escaped && b == bounds.close) }
+{
+    !escaped && b == bounds.close
+}
+
+// Whether no part can hold the byte there.
+fn is_refused(text: &[u8], at: usize, left: usize, escaped: bool, bounds: Bounds) -> bool
+    requires { at < length text.now }
+    ensures { result ≡ is_refused left bounds.blank_lines (not escaped && is_barred bounds.open bounds.one_line (slice_index text.now at))
+        (slice_index text.now at) (drop (suc at) text.now) }
+{
+    !escaped && is_barred(text[at], bounds)
+        || left == 0 && begins_character(text[at])
+        || !bounds.blank_lines && begins_blank_line(text, at)
+}
+
+fn is_barred(b: u8, bounds: Bounds) -> bool
+    ensures { result ≡ is_barred bounds.open bounds.one_line b }
+{
+    b == bounds.open || bounds.one_line && b == b'\n'
+}
+
+#[inline(always)]
+fn begins_character(b: u8) -> bool
+    ensures { result ≡ begins_character b }
+{
+    !(128..=191).contains(&b)
+}
+
+// Whether a blank line follows the line feed there.
+fn begins_blank_line(text: &[u8], at: usize) -> bool
+    requires { at < length text.now }
+    ensures { result ≡ blank_follows (slice_index text.now at) (drop (suc at) text.now) }
+{
+    text[at] == b'\n' && is_next(text, after_blanks(text, at + 1), b'\n')
+}
+
+// Whether a space, a tab or a line feed stands there.
+fn is_blank_next(text: &[u8], at: usize) -> bool
+    ensures { result ≡ is_blank_next (drop at text.now) }
+{
+    at < text.len() && is_blank_byte(text[at])
+}
+
+// Whether the byte stands there.
+fn is_next(text: &[u8], at: usize, b: u8) -> bool
+    ensures { result ≡ begins_with b (drop at text.now) }
+{
+    text.get(at) == Some(&b)
+}
+
+// Whether the byte there escapes the one behind it (2.4 Backslash escapes), where it isn't escaped itself.
+fn escapes_next(text: &[u8], at: usize, escaped: bool) -> bool
+    requires { at < length text.now }
+    ensures { result ≡ (not escaped && escapes_next (slice_index text.now at) (drop (suc at) text.now)) }
+{
+    if escaped || text[at] != b'\\' || at + 1 == text.len() {
+        return false;
+    }
+    is_ascii_punct(text[at + 1] as char)
+}
+
+#[cfg(test)]
+mod tests {
+    use super::*;
+    use std::test::Fail;
+
+    #[test]
+    fn labels(rt: HostRuntime) {
+        for (text, at, want) in [
+            ("[foo]: /url", 0, Some(("foo", 5))),
+            ("a[ b\nc ]", 1, Some((" b\nc ", 8))),
+            ("[a\\]b]", 0, Some(("a\\]b", 6))),
+            ("[a\\\\]b]", 0, Some(("a\\\\", 5))),
+            ("[\u{E4}]", 0, Some(("\u{E4}", 4))),
+            ("[a[b]", 0, None),
+            ("[a\\[b]", 0, Some(("a\\[b", 6))),
+            ("[]", 0, None),
+            ("[ \t\n]", 0, None),
+            ("[a", 0, None),
+            ("[a\\]", 0, None),
+            ("a]", 0, None),
+            ("", 0, None),
+            ("[a]", 3, None),
+        ] {
+            assert!(rt; label(text, at) == want);
+        }
+    }
+
+    // A label of so many characters, each of two bytes but the last.
+    fn long_label(rt: &HostRuntime, characters: usize) -> Result<String, Fail> {
+        let mut text = String::from_str(rt.alloc(), "[")?;
+        for _ in 1..characters {
+            text.push('\u{E4}')?;
+        }
+        text.push_str("a]")?;
+        Ok(text)
+    }
+
+    #[test]
+    fn long_labels(rt: HostRuntime) -> Result<(), Fail> {
+        let text = long_label(&rt, 999)?;
+        let (inside, end) = label(&text, 0).ok_or("label")?;
+        assert_eq!(rt; inside.len(), 1997);
+        assert_eq!(rt; end, 1999);
+        let text = long_label(&rt, 1000)?;
+        assert!(rt; label(&text, 0).is_none());
+        Ok(())
+    }
+
+    #[test]
+    fn destinations(rt: HostRuntime) {
+        let deep = "((((((((((((((((((((((((((((((((a))))))))))))))))))))))))))))))))";
+        let deeper = "(((((((((((((((((((((((((((((((((a)))))))))))))))))))))))))))))))))";
+        for (text, at, want) in [
+            ("/url \"t\"", 0, Some(("/url", 4))),
+            ("a/b", 1, Some(("/b", 3))),
+            ("<b c>d", 0, Some(("b c", 5))),
+            ("<>", 0, Some(("", 2))),
+            ("<a\\>b>", 0, Some(("a\\>b", 6))),
+            ("<a\nb>", 0, None),
+            ("<a<b>", 0, None),
+            ("<a", 0, None),
+            ("foo(and(bar))x", 0, Some(("foo(and(bar))x", 14))),
+            ("foo)x", 0, Some(("foo", 3))),
+            ("foo\\)x", 0, Some(("foo\\)x", 6))),
+            ("foo(x", 0, None),
+            ("a\u{7F}", 0, Some(("a", 1))),
+            ("\u{E4}\tb", 0, Some(("\u{E4}", 2))),
+            (deep, 0, Some((deep, 65))),
+            (deeper, 0, None),
+            (" a", 0, None),
+            (")", 0, None),
+            ("", 0, None),
+        ] {
+            assert!(rt; destination(text, at) == want);
+        }
+    }
+
+    #[test]
+    fn titles(rt: HostRuntime) {
+        for (text, at, want) in [
+            ("\"a 'b'\" c", 0, Some(("a 'b'", 7))),
+            ("x'a\"b'", 1, Some(("a\"b", 6))),
+            ("(a\"b)", 0, Some(("a\"b", 5))),
+            ("\"\"", 0, Some(("", 2))),
+            ("\"a\\\"b\"", 0, Some(("a\\\"b", 6))),
+            ("\"a\nb\"", 0, Some(("a\nb", 5))),
+            ("\"a\n\nb\"", 0, None),
+            ("\"a\n \t\nb\"", 0, None),
+            ("\"\n\"", 0, Some(("\n", 3))),
+            ("(a(b)", 0, None),
+            ("(a\\(b)", 0, Some(("a\\(b", 6))),
+            ("\"a", 0, None),
+            ("a", 0, None),
+            ("", 0, None),
+        ] {
+            assert!(rt; title(text, at) == want);
+        }
+    }
+
+    fn parts<'a>(label: &'a str, dest: &'a str, title: &'a str) -> Definition<'a> {
+        LinkDefinition { label, dest, title }
+    }
+
+    #[test]
+    fn definitions(rt: HostRuntime) {
+        for (text, at, want) in [
+            (
+                "[foo]: /url \"title\"\n[b]",
+                0,
+                Some((parts("foo", "/url", "title"), 20)),
+            ),
+            (
+                "[foo]: \n   /url  \n 'the title'  ",
+                0,
+                Some((parts("foo", "/url", "the title"), 32)),
+            ),
+            ("[foo]:/url", 0, Some((parts("foo", "/url", ""), 10))),
+            ("a\n[foo]: <>\nb", 2, Some((parts("foo", "", ""), 12))),
+            (
+                "[foo]: /url\n\"title\" ok",
+                0,
+                Some((parts("foo", "/url", ""), 12)),
+            ),
+            ("[foo]: /url \"title\" ok", 0, None),
+            ("[foo]: <bar>(baz)", 0, None),
+            ("[foo]:\n\n/url", 0, None),
+            ("[foo] : /url", 0, None),
+            ("[foo]:", 0, None),
+            ("foo", 0, None),
+        ] {
+            assert!(rt; definition(text, at) == want);
+        }
+    }
+}
