@@ -445,7 +445,7 @@ mod tests {
         }
     }
 
-    fn parts<'a>(label: &'a str, dest: &'a str, title: &'a str) -> Definition<'a> {
+    fn parts<'a>(label: &'a str, dest: &'a str, title: &'a str) -> LinkDefinition<'a> {
         LinkDefinition { label, dest, title }
     }
 
