@@ -16,7 +16,7 @@ use Rattle.cm_scan.specs.Parts.{LeafPart, heading, code, html, thematic_break, P
 use Rattle.cm_scan.specs.Blocks.{add_text, NextLine, GoesOn, Ends, Underlines, next_line, Run, text_run, leaves_of_run, Taken, taken, closes_fence, fenced, html_to_end, html_to_blank, html_lines, code_line, indented, Inside, inside, is_bare, quote_parts, item_parts, fence_parts, html_parts, code_parts, text_parts, parts_by_start, parts_of}
 use Rattle.cm_scan.specs.Laws.{goes_inward, next_inward}
 use Rattle.cm_scan.proofs.Sizes.{marks-behind_quote_marker, marks-first_content, Keeps, keeps-quote, keeps-item, size-append}
-use Rattle.cm_scan.proofs.Cases.{no_lines, blank_case, starting}
+use Rattle.cm_scan.proofs.Cases.{no_lines, blank_case, starting, inside-in, inside-out}
 use Rattle.cm_block.specs.OpenLeaf.{OpenLeaf, no_leaf, open_text, open_code, open_fence, open_html, run_leaves, closed_leaves, blank_lines_behind, LeafLine, stays_open, is_last, line_of_text, line_of_code, line_of_fence, line_of_html, line_of_leaf, Begin, begins_nothing, begin_of_start, begin_of}
 use Rattle.cm_block.specs.Machine.{Piece, blank_piece, quote_piece, item_piece, put, put_all, Open, in_leaf, in_quote, in_item, has_open_text, Change, change, leaf_pieces, closing, leaf_change, begin_by, begin, after_closing, leaf_step, step, Machine, new_machine, take_line, take_lines, close, parts_in_one_pass}
 use Rattle.cm_block.specs.Laws.{OnePass}
@@ -53,16 +53,6 @@ put-closing x p =
     ∙ ap (put_leaves (closed_leaves x)) (put-blanks (blank_lines_behind x) p)
 
 -- the lines of a container, by the place of the next
-
-inside-in : (rules : Rules) (place : Bool → LineView → Place) (so_far : List LineView) (line i : LineView) (lines : List LineView)
-    → next_inward rules place so_far line ≡ Some i → inside rules (parts_of rules) place so_far (line ∷ lines) ≡ inside rules (parts_of rules) place (so_far ++ i ∷ []) lines
-unfolding inside
-inside-in rules place so_far line i lines stays = grind (arith, stays)
-
-inside-out : (rules : Rules) (place : Bool → LineView → Place) (so_far : List LineView) (line : LineView) (lines : List LineView)
-    → next_inward rules place so_far line ≡ None → inside rules (parts_of rules) place so_far (line ∷ lines) ≡ record { inner = so_far; following = line ∷ lines }
-unfolding inside
-inside-out rules place so_far line lines leaves = grind (arith, leaves)
 
 bare-more : (s : LineView) (ss : List LineView) (i : LineView) → is_bare (s ∷ ss ++ i ∷ []) ≡ false
 bare-more s [] i = refl

@@ -6,15 +6,16 @@ use Rattle.cm_text.specs.Rules.{Rules}
 use Rattle.cm_text.specs.Lines.{LineView}
 use Rattle.cm_text.specs.Indentation.{indent_of}
 use Rattle.cm_tree.specs.declared.tree.ListKind.{ListKind}
-use Rattle.cm_scan.specs.Words.{is_space_or_tab, is_blank_text, is_empty, skip, trim_start, keep_byte, trim_end, given}
+use Rattle.cm_scan.specs.Words.{is_space_or_tab, is_empty, keep_byte, trim_end, given}
 use Rattle.cm_scan.specs.Lines.{is_blank, marks}
 use Rattle.cm_scan.specs.LineForms.{is_same_kind}
 use Rattle.cm_scan.specs.HtmlBlocks.{HtmlKind, is_html_end, ends_at_blank_line}
 use Rattle.cm_scan.specs.Links.{LinkDefinition, Definitions, link_definition, definitions_within, definitions_of}
 use Rattle.cm_scan.specs.Starts.{Start, IndentedCode, QuoteMarker, AtxHeading, OpeningFence, HtmlStart, BreakLine, ItemStart, TextLine, start_of, place_in_quote, place_in_item}
 use Rattle.cm_scan.specs.Parts.{LeafPart, is_open_leaf, Parts, none, blank, leaf, quote, list, ItemParts, leaves_open_after, items_leave_open, leaves_paragraph_open, next_items, put_before, put_item}
-use Rattle.cm_scan.specs.Blocks.{add_text, rest_of, NextLine, GoesOn, Ends, Underlines, next_line, definition_leaves, content_leaf, leaves_of_run, closes_fence}
+use Rattle.cm_scan.specs.Blocks.{rest_of, NextLine, GoesOn, Ends, Underlines, next_line, definition_leaves, content_leaf, leaves_of_run, closes_fence}
 use Rattle.cm_scan.specs.Laws.{goes_inward}
+use Rattle.cm_scan.proofs.Counted.{Firm, firm-content, firm-add_text, underlined}
 use Rattle.cm_block.specs.OpenLeaf.{OpenLeaf, no_leaf, open_text, open_code, open_fence, open_html, run_leaves, closed_leaves, is_open_text, LeafLine, stays_open, is_last, line_of_text, line_of_code, line_of_fence, line_of_html, line_of_leaf, Begin, begins_nothing, begins_leaf, begins_quote, begins_item, begin_of_start, begin_of}
 use Rattle.cm_block.specs.Machine.{Piece, blank_piece, leaf_piece, quote_piece, item_piece, put, put_all, Open, in_leaf, in_quote, in_item, has_open_text, Change, change, leaf_pieces, closing, leaf_change, begin_by, begin_within, begin, after_closing, leaf_step, step, Machine, new_machine, take_line, take_lines}
 use Rattle.cm_block.proofs.Begin.{OfInner, inner-less, of-less}
@@ -71,22 +72,6 @@ unfolding leaves_paragraph_open leaves_open_after
 ends-open ps = put_all-open ps false none
 
 -- the source of a run of text
-
--- a first byte that is neither space nor tab
-abbrev pub Firm : List ℕ → Type 0
-Firm [] = ⊥
-Firm (b ∷ bs) = is_space_or_tab b ≡ false
-
-firm-content : (text : List ℕ) → is_blank_text text ≡ false → Firm (trim_start text)
-unfolding skip
-firm-content [] e = grind (arith, e)
-firm-content (b ∷ bs) e =
-    let h : is_blank_text bs ≡ false → Firm (trim_start bs) = firm-content bs in
-    grind (arith, e, h)
-
-firm-add_text : (source : List ℕ) (line : LineView) → Firm source → Firm (add_text source line)
-firm-add_text [] line h = absurd h
-firm-add_text (b ∷ bs) line h = h
 
 some-keep_byte : (b : ℕ) (bs : List ℕ) → is_space_or_tab b ≡ false → is_empty (keep_byte b bs) ≡ false
 some-keep_byte b [] e = grind (arith, e)
@@ -160,10 +145,6 @@ heading-closed source level before h =
     ap (λ ps. last_open before ps) (leaf_pieces-append (definition_leaves text found.taken) (content_leaf (Some level) found.left))
     ∙ last_open-append before (leaf_pieces (definition_leaves text found.taken)) (leaf_pieces (content_leaf (Some level) found.left))
     ∙ content-closed _ level found.left h
-
-underlined : (rules : Rules) (source : List ℕ) (line : LineView) (level : ℕ) → next_line rules source line ≡ Underlines level → is_empty (rest_of source) ≡ false
-unfolding next_line
-underlined rules source line level e = grind (arith, e)
 
 -- what the states that lines lead to keep: a run of text is firm; where nothing is open, the last line is no paragraph's; an item isn't
 -- without anything

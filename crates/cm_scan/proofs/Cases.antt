@@ -155,12 +155,12 @@ text_case rules line lines begins = starting rules TextLine line lines begins
 
 -- containers
 
-inside-in : (rules : Rules) (place : Bool → LineView → Place) (so_far : List LineView) (line i : LineView) (lines : List LineView)
+pub inside-in : (rules : Rules) (place : Bool → LineView → Place) (so_far : List LineView) (line i : LineView) (lines : List LineView)
     → next_inward rules place so_far line ≡ Some i → inside rules (parts_of rules) place so_far (line ∷ lines) ≡ inside rules (parts_of rules) place (so_far ++ i ∷ []) lines
 unfolding inside
 inside-in rules place so_far line i lines stays = grind (arith, stays)
 
-inside-out : (rules : Rules) (place : Bool → LineView → Place) (so_far : List LineView) (line : LineView) (lines : List LineView)
+pub inside-out : (rules : Rules) (place : Bool → LineView → Place) (so_far : List LineView) (line : LineView) (lines : List LineView)
     → next_inward rules place so_far line ≡ None → inside rules (parts_of rules) place so_far (line ∷ lines) ≡ record { inner = so_far; following = line ∷ lines }
 unfolding inside
 inside-out rules place so_far line lines leaves = grind (arith, leaves)

@@ -289,11 +289,11 @@ html-plain kind lines h =
 -- a run of text
 
 -- a first byte that is neither space nor tab
-abbrev Firm : List ℕ → Type 0
+abbrev pub Firm : List ℕ → Type 0
 Firm [] = ⊥
 Firm (b ∷ bs) = is_space_or_tab b ≡ false
 
-firm-content : (text : List ℕ) → is_blank_text text ≡ false → Firm (trim_start text)
+pub firm-content : (text : List ℕ) → is_blank_text text ≡ false → Firm (trim_start text)
 unfolding skip
 firm-content [] e = grind (arith, e)
 firm-content (b ∷ bs) e =
@@ -304,7 +304,7 @@ firm-more : (source cs : List ℕ) → Firm source → Firm (source ++ cs)
 firm-more [] cs h = absurd h
 firm-more (b ∷ bs) cs h = h
 
-firm-add_text : (source : List ℕ) (line : LineView) → Firm source → Firm (add_text source line)
+pub firm-add_text : (source : List ℕ) (line : LineView) → Firm source → Firm (add_text source line)
 firm-add_text [] line h = absurd h
 firm-add_text (b ∷ bs) line h = h
 
@@ -331,7 +331,7 @@ record RunOf (n : ℕ) (run : Run) : Type 0 where
   plain : Plain run.following
   content : HasContent run
 
-underlined : (rules : Rules) (source : List ℕ) (line : LineView) (level : ℕ) → next_line rules source line ≡ Underlines level → is_empty (rest_of source) ≡ false
+pub underlined : (rules : Rules) (source : List ℕ) (line : LineView) (level : ℕ) → next_line rules source line ≡ Underlines level → is_empty (rest_of source) ≡ false
 unfolding next_line
 underlined rules source line level e = grind (arith, e)
 
