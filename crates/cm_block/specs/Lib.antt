@@ -6,3 +6,4 @@ pub mod Lazy
 pub mod Depths
 pub mod Laws
 pub mod WorkedExamples
+pub mod Levels
