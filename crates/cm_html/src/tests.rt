@@ -21,11 +21,11 @@ fn paragraph(alloc: Global, content: &str) -> Result<Block, AllocError> {
     Ok(Block::Paragraph(words(alloc, content)?))
 }
 
-// The blocks of `* a`, `  > b`, `* c & d`.
-fn list(alloc: Global, tight: bool) -> Result<Block, AllocError> {
+// The blocks of `* a`, `  > b`, and an item with the last words.
+fn list(alloc: Global, tight: bool, last: &str) -> Result<Block, AllocError> {
     let quote = vec![in alloc; paragraph(alloc, "b")?]?;
     let first = vec![in alloc; paragraph(alloc, "a")?, Block::Quote(Items::from(quote))]?;
-    let second = vec![in alloc; paragraph(alloc, "c & d")?]?;
+    let second = vec![in alloc; paragraph(alloc, last)?]?;
     let items = vec![in alloc; Items::from(first), Items::from(second)]?;
     Ok(Block::List {
         kind: ListKind::Star,
@@ -83,7 +83,7 @@ fn lists(rt: HostRuntime) -> Result<(), Fail> {
             "<ul>\n<li>\n<p>a</p>\n<blockquote>\n<p>b</p>\n</blockquote>\n</li>\n<li>\n<p>c &amp; d</p>\n</li>\n</ul>\n",
         ),
     ] {
-        let doc = with_block(alloc, list(alloc, tight)?)?;
+        let doc = with_block(alloc, list(alloc, tight, "c & d")?)?;
         let got = html(alloc, &doc).ok().ok_or("memory")?;
         assert_eq!(rt; got.as_str(), want);
     }
@@ -93,7 +93,7 @@ fn lists(rt: HostRuntime) -> Result<(), Fail> {
 #[test]
 fn owners(rt: HostRuntime) -> Result<(), Fail> {
     let alloc = rt.alloc();
-    let doc = with_block(alloc, list(alloc, true)?)?;
+    let doc = with_block(alloc, list(alloc, true, "c")?)?;
     assert_eq!(rt;
         listing(alloc, &doc)?.as_str(),
         "list bullet * tight
@@ -105,7 +105,7 @@ fn owners(rt: HostRuntime) -> Result<(), Fail> {
         text \"b\"
   item
     paragraph
-      text \"c & d\"
+      text \"c\"
 owner 1 leaf 1
 owner 2 leaf 2
 owner 3 marker
@@ -123,11 +123,11 @@ fn owner_of_one_line(rt: HostRuntime) -> Result<(), Fail> {
     let blocks = vec![in alloc; Block::Paragraph(Items::from(emphasis))]?;
     let doc = Doc {
         blocks: Items::from(blocks),
-        owners: Items::from(vec![in alloc; Owner::Leaf(1), Owner::Blank]?),
+        owners: Items::from(vec![in alloc; Owner::Leaf(1)]?),
     };
     assert_eq!(rt;
         listing(alloc, &doc)?.as_str(),
-        "paragraph\n  emph\n    strong\n      text \"a\"\nowner 1 leaf 1\nowner 2 blank\n"
+        "paragraph\n  emph\n    strong\n      text \"a\"\nowner 1 leaf 1\n"
     );
     Ok(())
 }
@@ -135,7 +135,7 @@ fn owner_of_one_line(rt: HostRuntime) -> Result<(), Fail> {
 #[test]
 fn writers(rt: HostRuntime) -> Result<(), Fail> {
     let alloc = rt.alloc();
-    let doc = with_block(alloc, list(alloc, true)?)?;
+    let doc = with_block(alloc, list(alloc, true, "c & d")?)?;
     let whole = TIGHT.as_bytes();
     // Room for each number of bytes, one byte a call.
     for room in 0..whole.len() + 1 {
@@ -156,7 +156,7 @@ fn writers(rt: HostRuntime) -> Result<(), Fail> {
 #[test]
 fn writers_that_take_nothing(rt: HostRuntime) -> Result<(), Fail> {
     let alloc = rt.alloc();
-    let doc = with_block(alloc, list(alloc, true)?)?;
+    let doc = with_block(alloc, list(alloc, true, "c & d")?)?;
     let empty = Doc {
         blocks: Items::new(alloc),
         owners: Items::new(alloc),
