@@ -213,3 +213,29 @@ fn html_starts(rt: HostRuntime) -> Result<(), Fail> {
     assert_eq!(rt; html_start("é <p>", 3), Some(HtmlKind::BlockTag));
     Ok(())
 }
+
+#[test]
+fn names_of_block_elements(rt: HostRuntime) -> Result<(), Fail> {
+    let alloc = rt.alloc();
+    let names = "address article aside base basefont blockquote body caption center col \
+        colgroup dd details dialog dir div dl dt fieldset figcaption figure footer \
+        form frame frameset h1 h2 h3 h4 h5 h6 head header hr html iframe legend li \
+        link main menu menuitem nav noframes ol optgroup option p param search \
+        section summary table tbody td tfoot th thead title tr track ul";
+    let mut count = 0_u32;
+    for name in names.split(' ') {
+        let start = format!(in alloc; "<{name} x")?;
+        assert_eq!(rt; html_start(&start, 0), Some(HtmlKind::BlockTag), "{name}");
+        let end = format!(in alloc; "</{name}/>")?;
+        assert_eq!(rt; html_start(&end, 0), Some(HtmlKind::BlockTag), "{name}");
+        let longer = format!(in alloc; "<{name}y x")?;
+        assert_eq!(rt; html_start(&longer, 0), None, "{name}");
+        count = count.saturating_add(1);
+    }
+    assert_eq!(rt; count, 62);
+    for other in ["source", "video", "h7", "h0", "span", "b"] {
+        let start = format!(in alloc; "<{other} x")?;
+        assert_eq!(rt; html_start(&start, 0), None, "{other}");
+    }
+    Ok(())
+}
