@@ -6,3 +6,4 @@ pub mod Owners
 pub mod Stacks
 pub mod Lazy
 pub mod Depths
+pub mod StartLemmas

@@ -23,7 +23,11 @@ level_of level = record {
 -- the list at the end of the blocks
 abbrev pub without_list : Level → Level
 without_list level = record {
-  blocks = closed_blocks level; open_list = None; has_block = level.has_block; ends_blank = level.ends_blank; separated = level.separated
+  blocks = closed_blocks level;
+  open_list = None;
+  has_block = level.has_block;
+  ends_blank = level.ends_blank;
+  separated = level.separated;
 }
 
 abbrev pub item_with : List Block → Bool → Bool → Item
@@ -43,6 +47,9 @@ loosened loose list = record { kind = list.kind; loose = list.loose || loose; it
 -- the list goes on with an item
 abbrev pub goes_on : Level → Level
 goes_on level = record {
-  blocks = level.blocks; open_list = option_map (loosened level.ends_blank) level.open_list;
-  has_block = true; ends_blank = false; separated = level.separated
+  blocks = level.blocks;
+  open_list = option_map (loosened level.ends_blank) level.open_list;
+  has_block = true;
+  ends_blank = false;
+  separated = level.separated;
 }

@@ -7,3 +7,4 @@ pub mod Depths
 pub mod Laws
 pub mod WorkedExamples
 pub mod Levels
+pub mod StartViews

@@ -3,3 +3,4 @@
 
 pub mod laws;
 mod level;
+mod starts;

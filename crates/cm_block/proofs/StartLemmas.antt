@@ -1,0 +1,79 @@
+-- What a line begins, by what each scanner answers.
+use Rattle.std.proofs.Common.{◌≡◌, ℕ, ◌<◌, ◌≤◌, Bool, true, false, List, [], ◌∷◌, ◌++◌, replicate, Option, refl, ◌∙◌, sym, ap, arith}
+use Rattle.cm_text.specs.Lines.{LineView}
+use Rattle.cm_text.specs.Indentation.{indent_from, indent_of, strip_columns, after_indent}
+use Rattle.cm_text.specs.Views.{line_of}
+use Rattle.cm_text.specs.declared.view.View.{View}
+use Rattle.cm_text.proofs.StripLemmas.{strip_takes_columns}
+use Rattle.cm_scan.specs.Lines.{content_of}
+use Rattle.std.specs.Option.{is_some}
+use Rattle.cm_text.specs.Rules.Rules.{profile}
+use Rattle.cm_scan.specs.Words.{begins_with, given, ◌<|>◌, skip, trim_start}
+use Rattle.cm_scan.specs.LineForms.{Heading, Fence, ItemMarker, is_thematic_break, atx_heading, opening_fence, item_marker}
+use Rattle.cm_scan.specs.HtmlBlocks.{HtmlKind, html_start}
+use Rattle.cm_scan.specs.Starts.{Start, IndentedCode, QuoteMarker, AtxHeading, OpeningFence, HtmlStart, BreakLine, ItemStart, TextLine, seen_as, or_text, start_of_content, start_of}
+
+-- the first of these that is there
+abbrev pub first : Bool → Option Heading → Option Fence → Option HtmlKind → Bool → Option ItemMarker → Start
+first quote heading fence kind break_line marker = or_text (
+    given quote QuoteMarker
+    <|> seen_as AtxHeading heading
+    <|> seen_as OpeningFence fence
+    <|> seen_as HtmlStart kind
+    <|> given break_line BreakLine
+    <|> seen_as ItemStart marker)
+
+pub first_is : (text : List ℕ) (quote : Bool) (heading : Option Heading) (fence : Option Fence) (kind : Option HtmlKind) (break_line : Bool) (marker : Option ItemMarker)
+    → begins_with 62 text ≡ quote → atx_heading text ≡ heading → opening_fence text ≡ fence → html_start profile text ≡ kind
+    → is_thematic_break text ≡ break_line → item_marker text ≡ marker → first quote heading fence kind break_line marker ≡ start_of_content profile text
+unfolding start_of_content
+first_is text quote heading fence kind break_line marker q h f k b m =
+    sym (λ i. first (q i) (h i) (f i) (k i) (b i) (m i))
+
+-- a scanner that answers a place alone
+
+pub is_there : (there : Bool) (place : ℕ) (read : Option ℕ) → read ≡ given there place → true ≡ is_some read → there ≡ true
+is_there true place read e h = refl
+is_there false place read e h = grind (arith, e, h)
+
+pub is_not_there : (there : Bool) (place : ℕ) (read : Option ℕ) → read ≡ given there place → false ≡ is_some read → there ≡ false
+is_not_there true place read e h = grind (arith, e, h)
+is_not_there false place read e h = refl
+
+-- by the line's mark and its indentation
+
+pub starts_lazy : (line : LineView) → line.lazy ≡ true → TextLine ≡ start_of profile line
+unfolding start_of
+starts_lazy line lazy = grind (arith, lazy)
+
+pub starts_code : (line : LineView) → line.lazy ≡ false → 4 ≤ indent_of line → IndentedCode ≡ start_of profile line
+unfolding start_of
+starts_code line lazy far = grind (arith, lazy, far)
+
+starts_content : (line : LineView) → line.lazy ≡ false → indent_of line < 4 → start_of_content profile (content_of line) ≡ start_of profile line
+unfolding start_of
+starts_content line lazy near = grind (arith, lazy, near)
+
+-- a line without its indentation has its content left
+
+content-after : (text : List ℕ) → after_indent text ≡ trim_start text
+unfolding skip
+content-after [] = refl
+content-after (b ∷ bs) = let h : after_indent bs ≡ trim_start bs = content-after bs in grind (arith, h)
+
+no_indent : (column : ℕ) (text : List ℕ) → indent_from column text ≡ 0 → after_indent text ≡ text
+no_indent column [] e = refl
+no_indent column (b ∷ bs) e = grind (arith, e)
+
+pub content_left : (line : LineView) (n : ℕ) (view : View) → n ≡ indent_of line → line_of view ≡ strip_columns n line → view.spaces ≡ 0 → view.rest.now ≡ content_of line
+content_left line n view all left none =
+    let text : replicate view.spaces 32 ++ view.rest.now ≡ (strip_columns n line).text = ap (λ (l : LineView). l.text) left in
+    let bare : view.rest.now ≡ (strip_columns n line).text = rw none at text in
+    let law = strip_takes_columns n line in
+    let nothing : indent_of (strip_columns n line) ≡ 0 = omega (arith, law.1, all) in
+    bare ∙ sym (no_indent _ (strip_columns n line).text nothing) ∙ law.2 ∙ content-after line.text
+
+pub starts_near : (line : LineView) (n : ℕ) (view : View) → line.lazy ≡ false → n ≡ indent_of line → n < 4 → line_of view ≡ strip_columns n line → view.spaces ≡ 0
+    → start_of_content profile view.rest.now ≡ start_of profile line
+starts_near line n view lazy all near left none =
+    ap (start_of_content profile) (content_left line n view all left none) ∙ starts_content line lazy (omega (arith, all, near))

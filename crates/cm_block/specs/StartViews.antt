@@ -1,0 +1,15 @@
+-- What a line begins, as the code has it.
+use Rattle.cm_scan.specs.HtmlKinds.{kind_of}
+use Rattle.cm_scan.specs.Starts as starts
+use Rattle.cm_block.specs.declared.starts.Start.{Start}
+use Rattle.cm_block.specs.declared.starts.Start.TheVariants.{IndentedCode, QuoteMarker, Atx, Fence as FenceStart, Html, Break, Item, TextLine}
+
+abbrev pub seen : Start → starts.Start
+seen IndentedCode = starts.IndentedCode
+seen QuoteMarker = starts.QuoteMarker
+seen (Atx heading) = starts.AtxHeading (record { level = heading.level; content = heading.content.now })
+seen (FenceStart fence) = starts.OpeningFence (record { marker = fence.kind.marker; count = fence.kind.count; info = fence.info.now })
+seen (Html kind) = starts.HtmlStart (kind_of kind)
+seen Break = starts.BreakLine
+seen (Item marker) = starts.ItemStart (record { kind = marker.kind; digits = marker.digits })
+seen TextLine = starts.TextLine

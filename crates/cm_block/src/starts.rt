@@ -1,0 +1,64 @@
+//! What a line begins.
+ghost use Rattle.std.specs.Prelude.{◌≡◌};
+ghost use Rattle.cm_text.specs.Views.{line_of};
+ghost use Rattle.cm_text.specs.Rules.Rules.{profile};
+ghost use Rattle.cm_scan.specs.Starts.{start_of_content, start_of};
+ghost use Rattle.cm_block.specs.StartViews.{seen};
+
+use cm_scan::{
+    AtxHeading, HtmlKind, ItemMarker, OpeningFence, atx, fence, html_start, item_marker,
+    quote_marker, thematic,
+};
+use cm_text::View;
+
+/// What a line that is neither blank nor lazy begins (chapters 4 and 5).
+#[derive(Clone, Copy, Debug)]
+pub(crate) enum Start<'a> {
+    IndentedCode,
+    QuoteMarker,
+    Atx(AtxHeading<'a>),
+    Fence(OpeningFence<'a>),
+    Html(HtmlKind),
+    Break,
+    Item(ItemMarker),
+    TextLine,
+}
+
+/// The first that fits, with up to 3 columns of indentation.
+fn start_of_content(text: &str) -> Start<'_>
+    ensures { seen result ≡ start_of_content profile text.now }
+{
+    if quote_marker(text, 0).is_some() {
+        return Start::QuoteMarker;
+    }
+    if let Some((heading, _)) = atx(text, 0) {
+        return Start::Atx(heading);
+    }
+    if let Some((fence, _)) = fence(text, 0) {
+        return Start::Fence(fence);
+    }
+    if let Some(kind) = html_start(text, 0) {
+        return Start::Html(kind);
+    }
+    if thematic(text, 0).is_some() {
+        return Start::Break;
+    }
+    match item_marker(text, 0) {
+        Some((marker, _)) => Start::Item(marker),
+        None => Start::TextLine,
+    }
+}
+
+/// What a line begins: four columns of indentation make code, and a lazy continuation line is text.
+pub(crate) fn start_of<'a>(line: &View<'a>) -> Start<'a>
+    ensures { seen result ≡ start_of profile (line_of line.now) }
+{
+    if line.lazy {
+        return Start::TextLine;
+    }
+    let indent = line.indent();
+    if indent >= 4 {
+        return Start::IndentedCode;
+    }
+    start_of_content(line.strip(indent).rest)
+}
