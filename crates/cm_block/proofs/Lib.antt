@@ -7,3 +7,4 @@ pub mod Stacks
 pub mod Lazy
 pub mod Depths
 pub mod StartLemmas
+pub mod PlaceLemmas

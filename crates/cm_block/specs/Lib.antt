@@ -8,3 +8,4 @@ pub mod Laws
 pub mod WorkedExamples
 pub mod Levels
 pub mod StartViews
+pub mod PlaceViews

@@ -3,4 +3,5 @@
 
 pub mod laws;
 mod level;
+mod places;
 mod starts;
