@@ -1,9 +1,10 @@
 -- How deep each line stands, from the left. That there is one depth a line is known of the whole; so a leaf's lines needn't be counted.
-use Rattle.std.specs.Prelude.{nat_lt, replicate}
-use Rattle.std.specs.List.{position}
+use Rattle.std.specs.Prelude.{cond, not, ◌&&◌, nat_lt, replicate}
+use Rattle.std.specs.List.{position, position_or_len}
 use Rattle.std.specs.Option.{option_map}
-use Rattle.std.proofs.Common.{◌≡◌, ℕ, zero, suc, ◌+◌, ◌<◌, true, false, List, [], ◌∷◌, ◌++◌, length, map, refl, ◌∙◌, sym, ap, ap₂, arith, Option, Some, None, le_refl, subst, length-append}
+use Rattle.std.proofs.Common.{◌≡◌, ℕ, zero, suc, ◌+◌, ◌<◌, Bool, true, false, List, [], ◌∷◌, ◌++◌, length, map, refl, ◌∙◌, sym, ap, ap₂, arith, Option, Some, None, le_refl, subst, length-append}
 use Rattle.std.proofs.lemmas.List.{append_assoc, append-nil, map-append, length-map, length-replicate, length_push, replicate-append-replicate}
+use Rattle.std.proofs.lemmas.List.Folds.{list_all-append}
 use Rattle.cm_text.specs.LineText.{is_line}
 use Rattle.cm_text.specs.Rules.{Rules}
 use Rattle.cm_text.specs.Lines.{LineView}
@@ -19,8 +20,8 @@ use Rattle.cm_scan.proofs.Counted.{one_owner}
 use Rattle.cm_block.specs.OpenLeaf.{OpenLeaf, no_leaf, closed_leaves, blank_lines_behind, LeafLine, stays_open, is_last, line_of_leaf, Begin, begins_nothing, begins_leaf, begins_quote, begins_item, begin_of}
 use Rattle.cm_block.specs.Machine.{Piece, blank_piece, leaf_piece, quote_piece, item_piece, put, put_all, Open, in_leaf, in_quote, in_item, has_open_text, Change, change, leaf_pieces, closing, leaf_change, begin_by, begin_within, begin, after_closing, leaf_step, step, Machine, new_machine, take_line, take_lines, close, parts_in_one_pass}
 use Rattle.cm_block.specs.Level.{Level, empty_level}
-use Rattle.cm_block.specs.Stack.{Owned, Stack, empty_stack, push_line}
-use Rattle.cm_block.specs.Depths.{nesting, line_depths, DepthsOfLines, TooDeepAtOnce}
+use Rattle.cm_block.specs.Stack.{Owned, Stack, empty_stack, push_line, push_lines}
+use Rattle.cm_block.specs.Depths.{nesting, line_depths, DepthsOfLines, TooDeepAtOnce, TooDeepStays, TooDeepNext}
 use Rattle.cm_block.proofs.Begin.{OfInner, inner-less, of-less}
 use Rattle.cm_block.proofs.OpenEnd.{given-is, Fit, fit-new, fits-step}
 use Rattle.cm_block.proofs.OnePass.{one_pass, take_lines-append}
@@ -345,3 +346,100 @@ depths_of_lines rules lines h = sym (all-depths rules [] lines empty_stack.owned
 pub too_deep_at_once : TooDeepAtOnce
 unfolding first_too_deep
 too_deep_at_once rules limit lines h = ap (λ ds. option_map suc (position (λ depth. nat_lt limit depth) ds)) (sym (depths_of_lines rules lines h))
+
+-- the first place in a list
+
+position-cons : {A : Type 0} (p : A → Bool) (x : A) (xs : List A) → position p (x ∷ xs) ≡ cond (p x) (Some 0) (option_map suc (position p xs))
+position-cons p x xs = by (p x)
+  where
+    by : (b : Bool) → cond (nat_lt (cond (not b) (1 + position_or_len p xs) 0) (suc (length xs))) (Some (cond (not b) (1 + position_or_len p xs) 0)) None
+        ≡ cond b (Some 0) (option_map suc (position p xs))
+    by true = grind (arith)
+    by false = grind (arith)
+
+-- it stays, whatever follows
+position-stays : {A : Type 0} (p : A → Bool) (n : ℕ) (xs ys : List A) → position p xs ≡ Some n → position p (xs ++ ys) ≡ Some n
+position-stays p n [] ys e = grind (arith, e)
+position-stays p n (x ∷ xs) ys e = position-cons p x (xs ++ ys) ∙ by (p x) (position p xs) refl (λ m f. position-stays p m xs ys f) (sym (position-cons p x xs) ∙ e)
+  where
+    by : (b : Bool) (found : Option ℕ) → position p xs ≡ found → ((m : ℕ) → position p xs ≡ Some m → position p (xs ++ ys) ≡ Some m) → cond b (Some 0) (option_map suc found) ≡ Some n
+        → cond b (Some 0) (option_map suc (position p (xs ++ ys))) ≡ Some n
+    by true found f more e = e
+    by false None f more e = grind (arith, e)
+    by false (Some m) f more e = ap (option_map suc) (more m f) ∙ e
+
+-- where there is none, the next is
+position-next : {A : Type 0} (p : A → Bool) (xs : List A) (x : A) → position p xs ≡ None → position p (xs ++ x ∷ []) ≡ cond (p x) (Some (length xs)) None
+position-next p [] x e = position-cons p x []
+position-next p (y ∷ ys) x e = position-cons p y (ys ++ x ∷ []) ∙ by (p y) (position p ys) refl (λ f. position-next p ys x f) (sym (position-cons p y ys) ∙ e)
+  where
+    moved : (b : Bool) (n : ℕ) → option_map suc (cond b (Some n) None) ≡ cond b (Some (suc n)) None
+    moved true n = refl
+    moved false n = refl
+
+    by : (b : Bool) (found : Option ℕ) → position p ys ≡ found → (position p ys ≡ None → position p (ys ++ x ∷ []) ≡ cond (p x) (Some (length ys)) None)
+        → cond b (Some 0) (option_map suc found) ≡ None → cond b (Some 0) (option_map suc (position p (ys ++ x ∷ []))) ≡ cond (p x) (Some (suc (length ys))) None
+    by true found f more e = grind (arith, e)
+    by false None f more e = ap (option_map suc) (more f) ∙ moved (p x) (length ys)
+    by false (Some m) f more e = grind (arith, e)
+
+-- one more line, and more
+
+push_lines-append : (rules : Rules) (st : Stack) (xs ys : List LineView) → push_lines rules st (xs ++ ys) ≡ push_lines rules (push_lines rules st xs) ys
+unfolding push_lines
+push_lines-append rules st [] ys = refl
+push_lines-append rules st (x ∷ xs) ys = push_lines-append rules (push_line rules st x) xs ys
+
+line_depths-append : (rules : Rules) (st : Stack) (xs ys : List LineView) → line_depths rules st (xs ++ ys) ≡ line_depths rules st xs ++ line_depths rules (push_lines rules st xs) ys
+unfolding line_depths push_lines
+line_depths-append rules st [] ys = refl
+line_depths-append rules st (x ∷ xs) ys = ap (λ ds. nesting (push_line rules st x).now ∷ ds) (line_depths-append rules (push_line rules st x) xs ys)
+
+length-line_depths : (rules : Rules) (st : Stack) (lines : List LineView) → length (line_depths rules st lines) ≡ length lines
+unfolding line_depths
+length-line_depths rules st [] = refl
+length-line_depths rules st (line ∷ lines) = ap suc (length-line_depths rules (push_line rules st line) lines)
+
+are-before : (lines more : List LineView) → AreLines (lines ++ more) → AreLines lines
+are-before lines more h = first _ _ (sym (list_all-append (λ line. is_line line.text) lines more) ∙ h)
+  where
+    first : (a b : Bool) → (a && b) ≡ true → a ≡ true
+    first true b e = refl
+    first false b e = e
+
+pub too_deep_stays : TooDeepStays
+too_deep_stays rules limit n lines more h e =
+    too_deep_at_once rules limit (lines ++ more) h ∙ ap (λ ds. option_map suc (position deep ds)) (line_depths-append rules empty_stack lines more)
+    ∙ on (position deep (line_depths rules empty_stack lines)) refl (sym (too_deep_at_once rules limit lines (are-before lines more h)) ∙ e)
+  where
+    deep : ℕ → Bool
+    deep depth = nat_lt limit depth
+
+    on : (found : Option ℕ) → position deep (line_depths rules empty_stack lines) ≡ found → option_map suc found ≡ Some n
+        → option_map suc (position deep (line_depths rules empty_stack lines ++ line_depths rules (push_lines rules empty_stack lines) more)) ≡ Some n
+    on None f e = grind (arith, e)
+    on (Some m) f e = ap (option_map suc) (position-stays deep m (line_depths rules empty_stack lines) _ f) ∙ e
+
+pub too_deep_next : TooDeepNext
+unfolding line_depths push_lines
+too_deep_next rules limit lines line h e =
+    too_deep_at_once rules limit (lines ++ line ∷ []) h ∙ ap (λ ds. option_map suc (position deep ds)) (line_depths-append rules empty_stack lines (line ∷ []))
+    ∙ on (position deep (line_depths rules empty_stack lines)) refl (sym (too_deep_at_once rules limit lines (are-before lines (line ∷ []) h)) ∙ e)
+    ∙ ap (λ (st : Stack). cond (nat_lt limit (nesting st.now)) (Some (suc (length lines))) None) (sym (push_lines-append rules empty_stack lines (line ∷ [])))
+  where
+    deep : ℕ → Bool
+    deep depth = nat_lt limit depth
+
+    next : Stack
+    next = push_line rules (push_lines rules empty_stack lines) line
+
+    moved : (b : Bool) (n : ℕ) → n ≡ length lines → option_map suc (cond b (Some n) None) ≡ cond b (Some (suc (length lines))) None
+    moved true n e = ap (λ n. Some (suc n)) e
+    moved false n e = refl
+
+    on : (found : Option ℕ) → position deep (line_depths rules empty_stack lines) ≡ found → option_map suc found ≡ None
+        → option_map suc (position deep (line_depths rules empty_stack lines ++ nesting next.now ∷ [])) ≡ cond (nat_lt limit (nesting next.now)) (Some (suc (length lines))) None
+    on None f e =
+        ap (option_map suc) (position-next deep (line_depths rules empty_stack lines) (nesting next.now) f)
+        ∙ moved (nat_lt limit (nesting next.now)) (length (line_depths rules empty_stack lines)) (length-line_depths rules empty_stack lines)
+    on (Some m) f e = grind (arith, e)

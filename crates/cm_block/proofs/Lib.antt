@@ -4,7 +4,10 @@ pub mod OnePass
 pub mod Levels
 pub mod Owners
 pub mod Stacks
+pub mod Frames
+pub mod FrameBegins
 pub mod Lazy
 pub mod Depths
 pub mod StartLemmas
+pub mod MarkerPlaces
 pub mod PlaceLemmas

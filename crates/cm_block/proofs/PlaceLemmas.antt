@@ -1,10 +1,19 @@
 -- Places of lines in containers.
-use Rattle.std.proofs.Common.{◌≡◌, ℕ, zero, suc, true, false, List, ◌++◌, replicate, refl, arith}
+use Rattle.std.specs.Prelude.{min, nat_le}
+use Rattle.std.proofs.Common.{◌≡◌, ℕ, zero, suc, ◌+◌, ◌<◌, ◌≤◌, Bool, true, false, not, ◌&&◌, List, ◌++◌, replicate, drop, None, refl, ◌∙◌, sym, ap, ap₂, arith}
 use Rattle.cm_text.specs.Rules.Rules.{profile}
 use Rattle.cm_text.specs.Lines.{LineView}
 use Rattle.cm_scan.specs.Words.{is_blank_text}
-use Rattle.cm_scan.specs.Lines.{is_blank, as_lazy}
-use Rattle.cm_scan.specs.Starts.{Start, start_of, StaysIfOpen, Leaves, may_be_lazy, place_if_lazy}
+use Rattle.cm_scan.specs.Lines.{is_blank, content_of, past, as_lazy}
+use Rattle.cm_scan.specs.Starts.{Start, IndentedCode, QuoteMarker, AtxHeading, OpeningFence, HtmlStart, BreakLine, ItemStart, TextLine, start_of, Place, Stays, StaysIfOpen, Leaves, may_be_lazy, place_if_lazy, behind_quote_marker, quote_place, place_in_quote, behind_marker, content_offset, content_column, first_content, place_in_item}
+use Rattle.cm_scan.specs.LineForms.{ItemMarker}
+use Rattle.cm_scan.specs.Laws.{goes_inward}
+use Rattle.cm_text.specs.Indentation.{indent_of, strip_columns}
+use Rattle.cm_text.specs.Views.{line_of}
+use Rattle.cm_text.specs.declared.view.View.{View}
+use Rattle.cm_text.proofs.StripLemmas.{strip_takes_columns}
+use Rattle.cm_block.specs.PlaceViews.{begins_quote}
+use Rattle.cm_block.proofs.StartLemmas.{content_left}
 
 pub blank_spaces : (n : ℕ) (text : List ℕ) → is_blank_text (replicate n 32 ++ text) ≡ is_blank_text text
 blank_spaces zero text = refl
@@ -25,3 +34,100 @@ unfolding place_if_lazy
 lazy_stays line start some is may =
     let e : may_be_lazy (start_of profile line) ≡ true = rw is at may in
     grind (arith, some, e)
+
+-- a lazy continuation line goes inward only where a paragraph is left open
+pub lazy_closed : (line : LineView) → None ≡ goes_inward (place_if_lazy profile line) false
+unfolding place_if_lazy
+lazy_closed line = go (not (is_blank line) && may_be_lazy (start_of profile line))
+  where
+    go : (b : Bool) → None ≡ goes_inward (elim b as (λ _. Place) [ true ↦ StaysIfOpen (as_lazy line) | false ↦ Leaves ]) false
+    go true = refl
+    go false = refl
+
+-- places in a quote
+
+pub in_quote_as : (line : LineView) → start_of profile line ≡ QuoteMarker → place_in_quote profile line ≡ Stays (behind_quote_marker line)
+unfolding place_in_quote
+in_quote_as line e = ap (λ start. quote_place profile start line) e
+
+pub in_quote_if_lazy : (line : LineView) → begins_quote (start_of profile line) ≡ false → place_in_quote profile line ≡ place_if_lazy profile line
+unfolding place_in_quote
+in_quote_if_lazy line e = go (start_of profile line) e
+  where
+    go : (start : Start) → begins_quote start ≡ false → quote_place profile start line ≡ place_if_lazy profile line
+    go IndentedCode e = refl
+    go QuoteMarker e = absurd (cc e)
+    go (AtxHeading h) e = refl
+    go (OpeningFence f) e = refl
+    go (HtmlStart k) e = refl
+    go BreakLine e = refl
+    go (ItemStart m) e = refl
+    go TextLine e = refl
+
+-- places in an item
+
+module _ (column : ℕ) (bare : Bool) (line : LineView) where
+  pub in_item_lazy : line.lazy ≡ true → place_in_item profile column bare line ≡ place_if_lazy profile line
+  unfolding place_in_item
+  in_item_lazy e = grind (arith, e)
+
+  pub in_item_blank : line.lazy ≡ false → is_blank line ≡ true → bare ≡ false → place_in_item profile column bare line ≡ Stays (strip_columns column line)
+  unfolding place_in_item
+  in_item_blank e b n = grind (arith, e, b, n)
+
+  pub in_item_bare : line.lazy ≡ false → is_blank line ≡ true → bare ≡ true → place_in_item profile column bare line ≡ Leaves
+  unfolding place_in_item
+  in_item_bare e b n = grind (arith, e, b, n)
+
+  pub in_item_near : line.lazy ≡ false → is_blank line ≡ false → indent_of line < column → place_in_item profile column bare line ≡ place_if_lazy profile line
+  unfolding place_in_item
+  in_item_near e b n = let h : nat_le column (indent_of line) ≡ false = grind (arith, n) in grind (arith, e, b, h)
+
+  pub in_item_far : line.lazy ≡ false → is_blank line ≡ false → column ≤ indent_of line → place_in_item profile column bare line ≡ Stays (strip_columns column line)
+  unfolding place_in_item
+  in_item_far e b n = let h : nat_le column (indent_of line) ≡ true = grind (arith, n) in grind (arith, e, b, h)
+
+-- a line behind a marker
+
+pub past_content : (line : LineView) (n k : ℕ) (view : View) → n ≡ indent_of line → line_of view ≡ strip_columns n line → view.spaces ≡ 0
+    → record { column = view.column + k; text = drop k view.rest.now; lazy = view.lazy } ≡ past k line
+unfolding past
+past_content line n k view all left none =
+    ap₂ (λ c (t : List ℕ). record { column = c; text = drop k t; lazy = view.lazy }) columns (content_left line n view all left none)
+    ∙ ap (λ z. record { column = line.column + indent_of line + k; text = drop k (content_of line); lazy = z }) (ap (λ (l : LineView). l.lazy) left)
+  where
+    columns : view.column + k ≡ line.column + indent_of line + k
+    columns =
+        let taken : view.column ≡ line.column + min n (indent_of line) = ap (λ (l : LineView). l.column) left ∙ (strip_takes_columns n line).0 in
+        let least : min n (indent_of line) ≡ indent_of line = grind (arith, all) in
+        omega (arith, taken, least)
+
+-- the columns behind an item's marker
+
+pub offset_blank : (behind : LineView) → is_blank behind ≡ true → 1 ≡ content_offset behind
+unfolding content_offset
+offset_blank behind e = grind (arith, e)
+
+pub offset_far : (behind : LineView) → is_blank behind ≡ false → 4 < indent_of behind → 1 ≡ content_offset behind
+unfolding content_offset
+offset_far behind e n = grind (arith, e, n)
+
+pub offset_near : (behind : LineView) → is_blank behind ≡ false → indent_of behind ≤ 4 → indent_of behind ≡ content_offset behind
+unfolding content_offset
+offset_near behind e n = grind (arith, e, n)
+
+pub behind_quote : (line inner : LineView) (view : View) → line_of view ≡ past 1 line → inner ≡ strip_columns 1 (line_of view) → inner ≡ behind_quote_marker line
+unfolding behind_quote_marker
+behind_quote line inner view at is = is ∙ ap (strip_columns 1) at
+
+pub column_is : (marker : ItemMarker) (line behind : LineView) (indent offset : ℕ) → behind ≡ behind_marker marker line → indent ≡ indent_of line → offset ≡ content_offset behind
+    → indent + (marker.digits + 1) + offset ≡ content_column marker line
+unfolding content_column
+column_is marker line behind indent offset at in_front is =
+    let there : offset ≡ content_offset (behind_marker marker line) = is ∙ ap content_offset at in
+    omega (arith, in_front, there)
+
+pub first_is_content : (marker : ItemMarker) (line behind : LineView) (offset : ℕ) → behind ≡ behind_marker marker line → offset ≡ content_offset behind
+    → strip_columns offset behind ≡ first_content marker line
+unfolding first_content
+first_is_content marker line behind offset at is = ap₂ strip_columns (is ∙ ap content_offset at) at

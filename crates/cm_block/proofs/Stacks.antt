@@ -1,4 +1,4 @@
--- The stack goes with the machine: its levels are the closed pieces read from the left, and its owners are theirs.
+-- The stack goes with the machine: its levels are the closed pieces read from the left, and its owners and definitions are theirs.
 use Rattle.std.specs.Prelude.{replicate}
 use Rattle.std.proofs.Common.{◌≡◌, ℕ, zero, suc, ◌<◌, Bool, true, false, List, [], ◌∷◌, ◌++◌, length, refl, ◌∙◌, sym, ap, ap₂, arith, Option, Some, None, le_refl, subst}
 use Rattle.std.proofs.lemmas.List.{append_assoc}
@@ -11,14 +11,15 @@ use Rattle.cm_tree.specs.declared.tree.Block.TheVariants.{Quote}
 use Rattle.cm_tree.specs.declared.tree.Owner.TheVariants.{Marker}
 use Rattle.cm_scan.specs.Lines.{is_blank, marks}
 use Rattle.cm_scan.specs.Starts.{place_in_quote, place_in_item}
-use Rattle.cm_scan.specs.Parts.{LeafPart, Parts, none, blank, leaf, quote, list, ItemParts, last_item, next_items, put_before, put_item, leaf_block, is_separated, items_end_blank, ends_blank_after, tree_of, line_owners}
-use Rattle.cm_scan.specs.Blocks.{blocks_of, owners_of}
+use Rattle.cm_scan.specs.Parts.{LeafPart, Parts, none, blank, leaf, quote, list, ItemParts, last_item, next_items, put_before, put_item, leaf_block, is_separated, items_end_blank, ends_blank_after, tree_of, line_owners, table_of}
+use Rattle.cm_scan.specs.Blocks.{blocks_of, owners_of, reference_table}
 use Rattle.cm_scan.specs.Laws.{goes_inward}
+use Rattle.cm_scan.proofs.Counted.{one_owner}
 use Rattle.cm_block.specs.OpenLeaf.{OpenLeaf, no_leaf, open_text, open_code, open_fence, open_html, run_leaves, closed_leaves, blank_lines_behind, LeafLine, stays_open, is_last, line_of_leaf, Begin, begins_nothing, begins_leaf, begins_quote, begins_item, begin_of}
 use Rattle.cm_block.specs.Machine.{Piece, blank_piece, leaf_piece, quote_piece, item_piece, put_all, Open, in_leaf, in_quote, in_item, has_open_text, Change, change, leaf_pieces, closing, leaf_change, begin_by, begin_within, begin, after_closing, leaf_step, step, Machine, new_machine, take_line, take_lines, close, parts_in_one_pass}
 use Rattle.cm_block.specs.Level.{Level, empty_level, closed_blocks, push_blank, separated_next, block_opens, item_opens, block_closes, Item, push_block, push_item, item_of_parts, add, add_all}
 use Rattle.cm_block.specs.Stack.{Owned, Stack, stack, empty_stack, close_leaves, push_blanks, item_of, close_open, own_lines, own_blanks, own_open, close_stack, push_leaf_line, not_blank, push_by, push_within, push_begin, push_after, push_to_leaf, push_in, push_line, push_lines}
-use Rattle.cm_block.specs.Laws.{StackBlocks, StackOwners}
+use Rattle.cm_block.specs.Laws.{StackBlocks, StackOwners, StackTable, OneOwnerEach}
 use Rattle.cm_block.proofs.Begin.{OfInner, inner-less, of-less}
 use Rattle.cm_block.proofs.OpenEnd.{Fit, FitLeaf, NotFresh, run-open, HasLeaves, some-closed, some-open, fits-step, fit-new, SoundLeaf, SoundLine, sound-line, SoundLineOf, SoundBegin, begin-sound}
 use Rattle.cm_block.proofs.OnePass.{one_pass}
@@ -485,3 +486,13 @@ stack_owners rules lines =
     ap (λ (s : Owned). s.owners) ((comes rules lines).owned ∙ own-law false empty_stack.owned (m.closed ++ closing m.now))
     ∙ mark-none _
     ∙ ap line_owners (one_pass rules lines)
+
+pub stack_table : StackTable
+unfolding close_stack reference_table table_of parts_in_one_pass close
+stack_table rules lines =
+    let m = take_lines rules new_machine lines in
+    ap (λ (s : Owned). s.table) ((comes rules lines).owned ∙ own-law false empty_stack.owned (m.closed ++ closing m.now))
+    ∙ ap table_of (one_pass rules lines)
+
+pub one_owner_each : OneOwnerEach
+one_owner_each rules lines h = ap length (stack_owners rules lines) ∙ one_owner rules lines h

@@ -1,5 +1,5 @@
 -- How deep each line stands, told when the stack takes it in (CommonMark 0.31.2, chapter 5).
-use Rattle.std.specs.Prelude.{◌≡◌, ℕ, suc, List, [], ◌∷◌, nat_lt}
+use Rattle.std.specs.Prelude.{◌≡◌, ℕ, suc, List, [], ◌∷◌, ◌++◌, length, Some, None, nat_lt, if◌then◌else◌}
 use Rattle.std.specs.List.{position}
 use Rattle.std.specs.Option.{option_map}
 use Rattle.cm_text.specs.Rules.{Rules}
@@ -8,7 +8,7 @@ use Rattle.cm_scan.specs.Parts.{depths_of}
 use Rattle.cm_scan.specs.Blocks.{parts_of, first_too_deep}
 use Rattle.cm_scan.specs.Laws.{AreLines}
 use Rattle.cm_block.specs.Machine.{Open, in_leaf, in_quote, in_item}
-use Rattle.cm_block.specs.Stack.{Stack, empty_stack, push_line}
+use Rattle.cm_block.specs.Stack.{Stack, empty_stack, push_line, push_lines}
 
 -- how many quotes and items are open
 unfoldable pub nesting : {A : Type 0} → Open A → ℕ
@@ -29,3 +29,15 @@ DepthsOfLines = (rules : Rules) (lines : List LineView) → AreLines lines → l
 abbrev pub TooDeepAtOnce : Type 0
 TooDeepAtOnce = (rules : Rules) (limit : ℕ) (lines : List LineView) → AreLines lines
     → first_too_deep rules limit lines ≡ option_map suc (position (λ depth. nat_lt limit depth) (line_depths rules empty_stack lines))
+
+-- More lines change nothing of a line that is too deep.
+abbrev pub TooDeepStays : Type 0
+TooDeepStays = (rules : Rules) (limit n : ℕ) (lines more : List LineView) → AreLines (lines ++ more)
+    → first_too_deep rules limit lines ≡ Some n → first_too_deep rules limit (lines ++ more) ≡ Some n
+
+-- Behind lines of which none is too deep, the next is so if more quotes and items are open behind it than the limit.
+abbrev pub TooDeepNext : Type 0
+TooDeepNext = (rules : Rules) (limit : ℕ) (lines : List LineView) (line : LineView) → AreLines (lines ++ line ∷ [])
+    → first_too_deep rules limit lines ≡ None
+    → first_too_deep rules limit (lines ++ line ∷ [])
+    ≡ (if nat_lt limit (nesting (push_lines rules empty_stack (lines ++ line ∷ [])).now) then Some (suc (length lines)) else None)

@@ -2,6 +2,7 @@ pub mod OpenLeaf
 pub mod Machine
 pub mod Level
 pub mod Stack
+pub mod Frames
 pub mod Lazy
 pub mod Depths
 pub mod Laws

@@ -1,10 +1,13 @@
--- Where a line stands, as the code has it.
-use Rattle.cm_text.specs.Views.{line_of}
-use Rattle.cm_scan.specs.Starts as starts
-use Rattle.cm_block.specs.declared.places.Place.{Place}
-use Rattle.cm_block.specs.declared.places.Place.TheVariants.{Stays, StaysIfOpen, Leaves}
+-- Starts of containers, as the code has them.
+use Rattle.std.specs.Prelude.{Bool, true, false}
+use Rattle.cm_scan.specs.declared.markers.ItemMarker as code
+use Rattle.cm_scan.specs.LineForms.{ItemMarker}
+use Rattle.cm_scan.specs.Starts.{Start, QuoteMarker}
 
-abbrev pub place_of : Place → starts.Place
-place_of (Stays inner) = starts.Stays (line_of inner)
-place_of (StaysIfOpen inner) = starts.StaysIfOpen (line_of inner)
-place_of Leaves = starts.Leaves
+-- it is a quote that begins
+abbrev pub begins_quote : Start → Bool
+begins_quote QuoteMarker = true
+begins_quote _ = false
+
+abbrev pub marker_of : code.ItemMarker → ItemMarker
+marker_of marker = record { kind = marker.kind; digits = marker.digits }

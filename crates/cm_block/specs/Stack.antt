@@ -1,26 +1,31 @@
 -- The stack that a parser holds: the open quotes, lists and items from the outside in, each with what stands closed in it, the text of
--- the open leaf, and the owners of the lines so far; no line is kept.
+-- the open leaf, the owners of the lines so far, and the link reference definitions so far; no line is kept.
+use Rattle.std.specs.FinMap.{empty}
 use Rattle.std.specs.Prelude.{ℕ, zero, suc, Bool, true, false, List, [], ◌∷◌, ◌++◌, replicate, Option, Some, None}
 use Rattle.cm_text.specs.Rules.{Rules}
 use Rattle.cm_text.specs.Lines.{LineView}
+use Rattle.cm_text.specs.Labels.{fold_label}
+use Rattle.cm_text.specs.Unescaping.{unescape}
 use Rattle.cm_tree.specs.declared.tree.Block.{Block}
 use Rattle.cm_tree.specs.declared.tree.Block.TheVariants.{Quote}
 use Rattle.cm_tree.specs.declared.tree.Owner.{Owner}
 use Rattle.cm_tree.specs.declared.tree.Owner.TheVariants.{Leaf, Marker, Blank}
+use Rattle.cm_tree.specs.Definitions.{Targets, add_first}
 use Rattle.cm_scan.specs.Lines.{is_blank, marks}
-use Rattle.cm_scan.specs.Parts.{LeafPart, leaf_block}
+use Rattle.cm_scan.specs.Parts.{LeafPart, definition, leaf_block}
 use Rattle.cm_scan.specs.Starts.{place_in_quote, place_in_item}
 use Rattle.cm_scan.specs.Laws.{goes_inward}
 use Rattle.cm_block.specs.OpenLeaf.{OpenLeaf, no_leaf, closed_leaves, blank_lines_behind, LeafLine, stays_open, is_last, line_of_leaf, Begin, begins_nothing, begins_leaf, begins_quote, begins_item, begin_of}
 use Rattle.cm_block.specs.Machine.{Open, in_leaf, in_quote, in_item, has_open_text}
 use Rattle.cm_block.specs.Level.{Level, empty_level, closed_blocks, push_blank, block_opens, item_opens, block_closes, Item, item_closes}
 
--- the owners of the lines so far, but the open leaf's, and how many leaves they have
+-- the owners of the lines so far, but the open leaf's, how many leaves they have, and the table of the definitions among these leaves
 pub record Owned : Type 0 where
   pub owners : List Owner
   pub leaves : ℕ
+  pub table : Targets
 
--- the level of the document, what is open in it, and the owners
+-- the level of the document, what is open in it, and the owners with the table
 pub record Stack : Type 0 where
   pub level : Level
   pub now : Open Level
@@ -30,7 +35,7 @@ abbrev pub stack : Level → Open Level → Owned → Stack
 stack level now owned = record { level = level; now = now; owned = owned }
 
 abbrev pub empty_stack : Stack
-empty_stack = stack empty_level (in_leaf no_leaf) (record { owners = []; leaves = 0 })
+empty_stack = stack empty_level (in_leaf no_leaf) (record { owners = []; leaves = 0; table = empty })
 
 -- Closing: this uses neither what a line begins nor which lines stay in a container.
 
@@ -52,16 +57,21 @@ close_open level (in_leaf x) = push_blanks (blank_lines_behind x) (close_leaves 
 close_open level (in_quote inside now) = block_closes level (Quote (closed_blocks (close_open inside now)))
 close_open level (in_item kind column bare inside now) = item_closes level (item_of (close_open inside now))
 
+-- a table behind one more leaf: the first of the definitions with matching labels counts (4.7 Link reference definitions)
+abbrev pub table_with : Targets → LeafPart → Targets
+table_with table (definition label dest title) = add_first table (fold_label label) (unescape dest, unescape title)
+table_with table _ = table
+
 -- lines of one more leaf, and of none
-abbrev pub own_leaf : Owned → ℕ → Owned
-own_leaf owned lines = record { owners = owned.owners ++ replicate lines (Leaf (suc owned.leaves)); leaves = suc owned.leaves }
+abbrev pub own_leaf : Owned → LeafPart → ℕ → Owned
+own_leaf owned x lines = record { owners = owned.owners ++ replicate lines (Leaf (suc owned.leaves)); leaves = suc owned.leaves; table = table_with owned.table x }
 
 abbrev pub own_lines : Owned → List Owner → Owned
-own_lines owned os = record { owners = owned.owners ++ os; leaves = owned.leaves }
+own_lines owned os = record { owners = owned.owners ++ os; leaves = owned.leaves; table = owned.table }
 
 unfoldable pub own_leaves : Owned → List (LeafPart × ℕ) → Owned
 own_leaves owned [] = owned
-own_leaves owned (x ∷ xs) = own_leaves (own_leaf owned x.1) xs
+own_leaves owned (x ∷ xs) = own_leaves (own_leaf owned x.0 x.1) xs
 
 -- the owner of a blank line, inside a quote or not
 abbrev pub blank_owner : (in_a_quote : Bool) → Owner
@@ -72,19 +82,22 @@ unfoldable pub own_blanks : (in_a_quote : Bool) → ℕ → Owned → Owned
 own_blanks in_a_quote zero owned = owned
 own_blanks in_a_quote (suc n) owned = own_blanks in_a_quote n (own_lines owned (blank_owner in_a_quote ∷ []))
 
--- the owners once what is open is closed
+-- the owners and the table once what is open is closed
 unfoldable pub own_open : (in_a_quote : Bool) → Owned → Open Level → Owned
 own_open in_a_quote owned (in_leaf x) = own_blanks in_a_quote (blank_lines_behind x) (own_leaves owned (closed_leaves x))
 own_open in_a_quote owned (in_quote inside now) = own_open true owned now
 own_open in_a_quote owned (in_item kind column bare inside now) = own_open in_a_quote owned now
 
--- the blocks and the owners that a stack comes to
+-- the blocks, the owners and the table of definitions that a stack comes to
 pub record Closed : Type 0 where
   pub blocks : List Block
   pub owners : List Owner
+  pub definitions : Targets
 
 unfoldable pub close_stack : Stack → Closed
-close_stack before = record { blocks = closed_blocks (close_open before.level before.now); owners = (own_open false before.owned before.now).owners }
+close_stack before =
+    let owned = own_open false before.owned before.now in
+    record { blocks = closed_blocks (close_open before.level before.now); owners = owned.owners; definitions = owned.table }
 
 -- One more line
 

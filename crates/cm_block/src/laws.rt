@@ -1,6 +1,6 @@
 //! Laws of the definitions, each the contract of a function that does nothing.
-ghost use Rattle.cm_block.specs.Laws.{OnePass, FromTheLeft, StackBlocks, StackOwners};
-ghost use Rattle.cm_block.specs.Depths.{DepthsOfLines, TooDeepAtOnce};
+ghost use Rattle.cm_block.specs.Laws.{OnePass, FromTheLeft, StackBlocks, StackOwners, StackTable, OneOwnerEach};
+ghost use Rattle.cm_block.specs.Depths.{DepthsOfLines, TooDeepAtOnce, TooDeepStays, TooDeepNext};
 ghost use Rattle.cm_block.specs.Lazy.{LazyLine};
 ghost use Rattle.cm_block.specs.WorkedExamples.{StackExamples};
 
@@ -16,11 +16,19 @@ pub fn levels()
     ensures { FromTheLeft }
 {}
 
-/// The stack that a parser holds, closed behind the lines, gives their blocks and the owner of each line.
-#[tactic(auto, using(crate::proofs::Stacks::stack_blocks, crate::proofs::Stacks::stack_owners))]
+/// The stack that a parser holds, closed behind the lines, gives their blocks, the owner of each line and the
+/// table of the link reference definitions.
+#[tactic(auto, using(crate::proofs::Stacks::stack_blocks, crate::proofs::Stacks::stack_owners, crate::proofs::Stacks::stack_table))]
 pub fn stack()
     ensures blocks { StackBlocks }
     ensures owners { StackOwners }
+    ensures definitions { StackTable }
+{}
+
+/// The stack, closed behind the lines, gives as many owners as there are lines.
+#[tactic(auto, using(crate::proofs::Stacks::one_owner_each))]
+pub fn one_owner_each()
+    ensures { OneOwnerEach }
 {}
 
 /// A lazy continuation line goes to the end of the open run of text, through every level, unread.
@@ -30,11 +38,13 @@ pub fn lazy_lines()
 {}
 
 /// So many quotes and items as are open behind a line stand round it: so the first line that is too deep
-/// is told as soon as it is taken in.
-#[tactic(auto, using(crate::proofs::Depths::depths_of_lines, crate::proofs::Depths::too_deep_at_once))]
+/// is told as soon as it is taken in, and stays the first whatever follows.
+#[tactic(auto, using(crate::proofs::Depths::depths_of_lines, crate::proofs::Depths::too_deep_at_once, crate::proofs::Depths::too_deep_stays, crate::proofs::Depths::too_deep_next))]
 pub fn depths()
     ensures of_lines { DepthsOfLines }
     ensures too_deep { TooDeepAtOnce }
+    ensures stays { TooDeepStays }
+    ensures next { TooDeepNext }
 {}
 
 /// Worked examples over the definitions, by computation.

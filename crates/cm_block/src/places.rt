@@ -1,25 +1,17 @@
-//! Where a line stands that follows those of an open container.
-ghost use Rattle.std.specs.Prelude.{◌≡◌, true, false, IsTrue};
+//! Where a line stands that follows those of an open container, and how it goes inward.
+ghost use Rattle.std.specs.Prelude.{◌≡◌, ◌≤◌, false, option_map, MatchOption};
 ghost use Rattle.cm_text.specs.Rules.Rules.{profile};
 ghost use Rattle.cm_text.specs.Views.{line_of};
-ghost use Rattle.cm_scan.specs.Words.{is_space_or_tab, is_blank_text};
+ghost use Rattle.cm_scan.specs.Words.{is_blank_text};
 ghost use Rattle.cm_scan.specs.Lines.{is_blank};
-ghost use Rattle.cm_scan.specs.Starts.{may_be_lazy, place_if_lazy};
+ghost use Rattle.cm_scan.specs.Starts.{QuoteMarker, ItemStart, start_of, may_be_lazy, place_if_lazy, behind_quote_marker, place_in_quote, content_offset, content_column, first_content, behind_marker, place_in_item};
+ghost use Rattle.cm_scan.specs.Laws.{goes_inward};
 ghost use Rattle.cm_block.specs.StartViews.{seen};
-ghost use Rattle.cm_block.specs.PlaceViews.{place_of};
+ghost use Rattle.cm_block.specs.PlaceViews.{begins_quote, marker_of};
 
 use crate::starts::{Start, start_of};
-use cm_scan::HtmlKind;
+use cm_scan::{HtmlKind, ItemMarker, quote_marker};
 use cm_text::View;
-
-/// Where a line stands: in the container, as it goes inward; in it if the lines so far leave a paragraph
-/// open; or behind it.
-#[derive(Clone, Copy, Debug)]
-pub(crate) enum Place<'a> {
-    Stays(View<'a>),
-    StaysIfOpen(View<'a>),
-    Leaves,
-}
 
 /// Whether there are only spaces and tabs.
 fn is_blank_text(text: &[u8]) -> bool
@@ -46,20 +38,118 @@ fn may_be_lazy(start: &Start<'_>) -> bool
     )
 }
 
-/// The line as a lazy continuation line, if it can be one.
-fn place_if_lazy<'a>(line: &View<'a>) -> Place<'a>
-    ensures { place_of result ≡ place_if_lazy profile (line_of line.now) }
+/// The line as a lazy continuation line, if it can be one: `open_text` says whether the lines so far leave
+/// a paragraph open (5.1 Block quotes, 5.2 List items).
+fn if_lazy<'a>(line: &View<'a>, open_text: bool) -> Option<View<'a>>
+    ensures { option_map line_of result ≡ goes_inward (place_if_lazy profile (line_of line.now)) open_text }
 {
+    if !open_text {
+        return None;
+    }
     if is_blank(line) {
-        return Place::Leaves;
+        return None;
     }
     if !may_be_lazy(&start_of(line)) {
-        return Place::Leaves;
+        return None;
     }
-    Place::StaysIfOpen(View {
+    Some(View {
         column: line.column,
         spaces: line.spaces,
         rest: line.rest,
         lazy: true,
     })
+}
+
+/// The line behind the marker of a quote with which it begins, and one column of space, if there is one
+/// (5.1 Block quotes).
+pub(crate) fn quote_content<'a>(line: &View<'a>) -> Option<View<'a>>
+    ensures { MatchOption result (begins_quote (start_of profile (line_of line.now)) ≡ false)
+        (λ inner. (start_of profile (line_of line.now) ≡ QuoteMarker) × (line_of inner ≡ behind_quote_marker (line_of line.now))) }
+{
+    if line.lazy {
+        return None;
+    }
+    let indent = line.indent();
+    if indent >= 4 {
+        return None;
+    }
+    let content = line.strip(indent);
+    if quote_marker(content.rest, 0).is_none() {
+        return None;
+    }
+    Some(content.past(1).strip(1))
+}
+
+/// The line as it goes into an open quote, if it stays there: behind its marker, or as a lazy continuation
+/// line (5.1 Block quotes).
+pub(crate) fn into_quote<'a>(line: &View<'a>, open_text: bool) -> Option<View<'a>>
+    ensures { option_map line_of result ≡ goes_inward (place_in_quote profile (line_of line.now)) open_text }
+{
+    match quote_content(line) {
+        Some(inner) => Some(inner),
+        None => if_lazy(line, open_text),
+    }
+}
+
+/// The line as it goes into an open item whose content begins at a column, if it stays there: it is blank,
+/// or reaches the column, or is a lazy continuation line. An item is bare as long as there is only its
+/// marker, with nothing on its line; then a blank line ends it (5.2 List items).
+pub(crate) fn into_item<'a>(
+    line: &View<'a>,
+    column: usize,
+    bare: bool,
+    open_text: bool,
+) -> Option<View<'a>>
+    ensures { option_map line_of result ≡ goes_inward (place_in_item profile column bare (line_of line.now)) open_text }
+{
+    if line.lazy {
+        return if_lazy(line, open_text);
+    }
+    if is_blank(line) {
+        if bare {
+            return None;
+        }
+        return Some(line.strip(column));
+    }
+    if column <= line.indent() {
+        return Some(line.strip(column));
+    }
+    if_lazy(line, open_text)
+}
+
+/// The line behind the marker of the item that it begins.
+fn behind_marker<'a>(line: &View<'a>, marker: &ItemMarker) -> View<'a>
+    requires { start_of profile (line_of line.now) ≡ ItemStart (marker_of marker.now) }
+    ensures { line_of result ≡ behind_marker (marker_of marker.now) (line_of line.now) }
+{
+    line.strip(line.indent()).past(marker.digits + 1)
+}
+
+/// The columns of space between an item's marker and its content: one to four, or one where there are more
+/// or the rest of the line is blank (5.2 List items).
+fn content_offset(behind: &View<'_>) -> usize
+    ensures value { result ≡ content_offset (line_of behind.now) }
+    ensures few { result ≤ 4 }
+{
+    if is_blank(behind) {
+        return 1;
+    }
+    let indent = behind.indent();
+    if indent > 4 {
+        return 1;
+    }
+    indent
+}
+
+/// Of the item that a line begins, the column at which its content begins, and the line as it goes into it
+/// (5.2 List items).
+pub(crate) fn item_content<'a>(line: &View<'a>, marker: &ItemMarker) -> (usize, View<'a>)
+    requires { start_of profile (line_of line.now) ≡ ItemStart (marker_of marker.now) }
+    ensures column { result.0 ≡ content_column (marker_of marker.now) (line_of line.now) }
+    ensures first { line_of result.1 ≡ first_content (marker_of marker.now) (line_of line.now) }
+{
+    let behind = behind_marker(line, marker);
+    let offset = content_offset(&behind);
+    let column = line.indent() + (marker.digits + 1) + offset;
+    (column, behind.strip(offset))
 }

@@ -1,0 +1,79 @@
+-- The stack as the parser holds it: the open containers in a row, from the outside in, and the level of the innermost.
+use Rattle.std.specs.Prelude.{ℕ, suc, Bool, true, false, ◌&&◌, List, [], ◌∷◌, Option, Some, None}
+use Rattle.cm_text.specs.Rules.{Rules}
+use Rattle.cm_text.specs.Lines.{LineView}
+use Rattle.cm_tree.specs.declared.tree.ListKind.{ListKind}
+use Rattle.cm_tree.specs.declared.tree.Block.TheVariants.{Quote}
+use Rattle.cm_scan.specs.Starts.{Place, place_in_quote, place_in_item}
+use Rattle.cm_scan.specs.Laws.{goes_inward}
+use Rattle.cm_block.specs.OpenLeaf.{OpenLeaf, blank_lines_behind, closed_leaves, line_of_leaf}
+use Rattle.cm_block.specs.Machine.{Open, in_leaf, in_quote, in_item}
+use Rattle.cm_block.specs.Level.{Level, closed_blocks, block_closes, item_closes}
+use Rattle.cm_block.specs.Stack.{Owned, Stack, stack, item_of, own_leaves, own_blanks}
+
+-- a quote, or an item of a list with the column at which its content begins
+pub data Container : Type 0 where
+  a_quote : Container
+  an_item : ListKind → (column : ℕ) → Container
+
+-- an open container, and the level in which it stands
+pub record Frame : Type 0 where
+  pub level : Level
+  pub container : Container
+
+-- a container that is open in this way inside
+abbrev pub opened : Container → (bare : Bool) → Level → Open Level → Open Level
+opened a_quote bare inside now = in_quote inside now
+opened (an_item kind column) bare inside now = in_item kind column bare inside now
+
+abbrev pub is_last : List Frame → Bool
+is_last [] = true
+is_last (f ∷ fs) = false
+
+-- what stands in the document and is open in it: the mark says whether the innermost container is an item with only its marker so far
+unfoldable pub nest : (bare : Bool) → List Frame → Level → OpenLeaf → Level × Open Level
+nest bare [] level leaf = (level, in_leaf leaf)
+nest bare (f ∷ fs) level leaf = let inside = nest bare fs level leaf in (f.level, opened f.container (bare && is_last fs) inside.0 inside.1)
+
+abbrev pub stack_with : Bool → List Frame → Level → OpenLeaf → Owned → Stack
+stack_with bare frames level leaf owned = stack (nest bare frames level leaf).0 (nest bare frames level leaf).1 owned
+
+abbrev pub place_in : Rules → Container → (bare : Bool) → LineView → Place
+place_in rules a_quote bare line = place_in_quote rules line
+place_in rules (an_item kind column) bare line = place_in_item rules column bare line
+
+-- the line as it goes into the container, if it stays there
+unfoldable pub inward : Rules → Container → (bare open_text : Bool) → LineView → Option LineView
+inward rules container bare open_text line = goes_inward (place_in rules container bare line) open_text
+
+-- how many of the containers the line stays in, and the line as it goes into the last of these
+unfoldable pub matching : Rules → (bare open_text : Bool) → List Frame → LineView → ℕ × LineView
+matching rules bare open_text [] line = (0, line)
+matching rules bare open_text (f ∷ fs) line = elim (inward rules f.container (bare && is_last fs) open_text line) [
+  | Some inner ↦ let inside = matching rules bare open_text fs inner in (suc inside.0, inside.1)
+  | None ↦ (0, line)
+]
+
+abbrev pub quoted_in : Container → Bool → Bool
+quoted_in a_quote quoted = true
+quoted_in (an_item kind column) quoted = quoted
+
+-- inside a quote, where these containers stand in one or not
+unfoldable pub quoted_by : Bool → List Frame → Bool
+quoted_by quoted [] = quoted
+quoted_by quoted (f ∷ fs) = quoted_by (quoted_in f.container quoted) fs
+
+-- the level in which the container stands, once that is closed
+abbrev pub close_container : Container → Level → Level → Level
+close_container a_quote outside inside = block_closes outside (Quote (closed_blocks inside))
+close_container (an_item kind column) outside inside = item_closes outside (item_of inside)
+
+-- the level in which the first of these containers stands, once all are closed
+unfoldable pub close_frames : List Frame → Level → Level
+close_frames [] level = level
+close_frames (f ∷ fs) level = close_container f.container f.level (close_frames fs level)
+
+-- what a stack in the innermost of these containers is to the document
+unfoldable pub within : List Frame → Stack → Stack
+within [] inside = inside
+within (f ∷ fs) inside = let i = within fs inside in stack f.level (opened f.container false i.level i.now) i.owned
