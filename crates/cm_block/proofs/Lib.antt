@@ -6,6 +6,7 @@ pub mod Owners
 pub mod Stacks
 pub mod Frames
 pub mod FrameBegins
+pub mod Matching
 pub mod Lazy
 pub mod Depths
 pub mod StartLemmas

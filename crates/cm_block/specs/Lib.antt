@@ -10,3 +10,4 @@ pub mod WorkedExamples
 pub mod Levels
 pub mod StartViews
 pub mod PlaceViews
+pub mod FrameViews

@@ -4,4 +4,5 @@
 pub mod laws;
 mod level;
 mod places;
+mod stack;
 mod starts;

@@ -1,0 +1,133 @@
+-- The containers that a line stays in, one after another.
+use Rattle.std.proofs.Common.{◌≡◌, ℕ, zero, suc, ◌+◌, ◌-◌, ◌<◌, ◌≤◌, ◌==◌, Bool, true, false, ◌&&◌, List, [], ◌∷◌, ◌++◌, length, take, drop, Option, Some, None, refl, ◌∙◌, sym, ap, ap₂, arith}
+use Rattle.cm_text.specs.Rules.{Rules}
+use Rattle.cm_text.specs.Lines.{LineView}
+use Rattle.std.specs.List.{slice_index_or}
+use Rattle.cm_block.specs.declared.stack.Frame as code
+use Rattle.cm_block.specs.FrameViews.{frame_of, frames_of}
+use Rattle.cm_block.specs.Level.{Level}
+use Rattle.cm_block.specs.Frames.{Container, a_quote, an_item, Frame, is_last, inward, matching, quoted_in, quoted_by, close_container, close_frames}
+
+-- behind so many containers
+abbrev pub behind : ℕ → ℕ × LineView → ℕ × LineView
+behind n m = (n + m.0, m.1)
+
+-- closing from the inside out
+pub close_last : (fs : List Frame) (f : Frame) (level : Level) → close_frames (fs ++ f ∷ []) level ≡ close_frames fs (close_container f.container f.level level)
+unfolding close_frames
+close_last [] f level = refl
+close_last (g ∷ fs) f level = ap (close_container g.container g.level) (close_last fs f level)
+
+-- the containers from a place on
+
+pub frames_at : (frames : List code.Frame) (i : ℕ) (f : code.Frame) → i < length frames → f ≡ slice_index_or frames i f
+    → drop i (frames_of frames) ≡ frame_of f ∷ drop (suc i) (frames_of frames)
+frames_at [] i f less is = absurd (omega arith)
+frames_at (g ∷ gs) zero f less is = ap (λ h. frame_of h ∷ frames_of gs) (sym is)
+frames_at (g ∷ gs) (suc i) f less is = frames_at gs i f (omega arith) is
+
+pub frames_end : (frames : List code.Frame) (i : ℕ) → length frames ≤ i → drop i (frames_of frames) ≡ []
+frames_end [] i past = drop-nothing i
+  where
+    drop-nothing : (i : ℕ) → drop i (frames_of []) ≡ []
+    drop-nothing zero = refl
+    drop-nothing (suc i) = refl
+frames_end (g ∷ gs) zero past = absurd (omega arith)
+frames_end (g ∷ gs) (suc i) past = frames_end gs i (omega arith)
+
+pub last_at : (frames : List code.Frame) (i : ℕ) → i < length frames → (i == length frames - 1) ≡ is_last (drop (suc i) (frames_of frames))
+last_at [] i less = absurd (omega arith)
+last_at (f ∷ []) zero less = refl
+last_at (f ∷ []) (suc i) less = absurd (omega arith)
+last_at (f ∷ g ∷ fs) zero less = grind arith
+last_at (f ∷ g ∷ fs) (suc i) less =
+    let h : (i == length (g ∷ fs) - 1) ≡ is_last (drop (suc i) (frames_of (g ∷ fs))) = last_at (g ∷ fs) i (omega arith) in
+    same ∙ h
+  where
+    same : (suc i == length (f ∷ g ∷ fs) - 1) ≡ (i == length (g ∷ fs) - 1)
+    same = grind arith
+
+module _ (rules : Rules) (bare open_text : Bool) (i : ℕ) (f : Frame) (rest : List Frame) (line : LineView) where
+  -- the line stays in the next container
+  pub match_next : (from : List Frame) (is_bare : Bool) (inner : LineView) → from ≡ f ∷ rest → is_bare ≡ (bare && is_last rest)
+      → Some inner ≡ inward rules f.container is_bare open_text line
+      → behind i (matching rules bare open_text from line) ≡ behind (suc i) (matching rules bare open_text rest inner)
+  unfolding matching
+  match_next from is_bare inner at is stays =
+      ap (λ fs. behind i (matching rules bare open_text fs line)) at
+      ∙ ap by_place (sym (stays ∙ ap (λ b. inward rules f.container b open_text line) is))
+      ∙ ap (λ n. (n, (matching rules bare open_text rest inner).1)) (sum (matching rules bare open_text rest inner).0)
+    where
+      by_place : Option LineView → ℕ × LineView
+      by_place o = behind i (elim o [ Some inner ↦ let inside = matching rules bare open_text rest inner in (suc inside.0, inside.1) | None ↦ (0, line) ])
+
+      sum : (n : ℕ) → i + suc n ≡ suc i + n
+      sum n = omega arith
+
+  -- or not
+  pub match_stop : (from : List Frame) (is_bare : Bool) → from ≡ f ∷ rest → is_bare ≡ (bare && is_last rest)
+      → None ≡ inward rules f.container is_bare open_text line
+      → behind i (matching rules bare open_text from line) ≡ (i, line)
+  unfolding matching
+  match_stop from is_bare at is leaves =
+      ap (λ fs. behind i (matching rules bare open_text fs line)) at
+      ∙ ap by_place (sym (leaves ∙ ap (λ b. inward rules f.container b open_text line) is))
+      ∙ ap (λ n. (n, line)) none
+    where
+      by_place : Option LineView → ℕ × LineView
+      by_place o = behind i (elim o [ Some inner ↦ let inside = matching rules bare open_text rest inner in (suc inside.0, inside.1) | None ↦ (0, line) ])
+
+      none : i + 0 ≡ i
+      none = omega arith
+
+pub match_end : (rules : Rules) (bare open_text : Bool) (i n : ℕ) (from : List Frame) (line : LineView) → from ≡ [] → i ≡ n
+    → behind i (matching rules bare open_text from line) ≡ (n, line)
+unfolding matching
+match_end rules bare open_text i n from line at is = ap (λ fs. behind i (matching rules bare open_text fs line)) at ∙ ap (λ k. (k, line)) sum
+  where
+    sum : i + 0 ≡ n
+    sum = omega (arith, is)
+
+-- quotes
+
+pub quoted_true : (fs : List Frame) → true ≡ quoted_by true fs
+unfolding quoted_by
+quoted_true [] = refl
+quoted_true (f ∷ fs) = quoted_true fs ∙ ap (λ b. quoted_by b fs) (go f.container)
+  where
+    go : (c : Container) → true ≡ quoted_in c true
+    go a_quote = refl
+    go (an_item kind column) = refl
+
+pub quoted_at : (quoted : Bool) (from : List Frame) (f : Frame) (rest : List Frame) → from ≡ f ∷ rest → quoted_by quoted from ≡ quoted_by (quoted_in f.container quoted) rest
+unfolding quoted_by
+quoted_at quoted from f rest at = ap (quoted_by quoted) at
+
+pub quoted_end : (from : List Frame) → from ≡ [] → false ≡ quoted_by false from
+unfolding quoted_by
+quoted_end from at = ap (quoted_by false) (sym at)
+
+-- the last container
+
+pub frames_last : (frames : List code.Frame) (f : code.Frame) → frames_of (frames ++ f ∷ []) ≡ frames_of frames ++ frame_of f ∷ []
+frames_last [] f = refl
+frames_last (g ∷ gs) f = ap (λ t. frame_of g ∷ t) (frames_last gs f)
+
+pub drop_last : (n : ℕ) (fs : List Frame) (f : Frame) → n ≤ length fs → drop n (fs ++ f ∷ []) ≡ drop n fs ++ f ∷ []
+drop_last zero fs f within = refl
+drop_last (suc n) [] f within = absurd (omega arith)
+drop_last (suc n) (g ∷ gs) f within = drop_last n gs f (omega arith)
+
+pub take_last : (n : ℕ) (fs : List Frame) (f : Frame) → n ≤ length fs → take n (fs ++ f ∷ []) ≡ take n fs
+take_last zero fs f within = refl
+take_last (suc n) [] f within = absurd (omega arith)
+take_last (suc n) (g ∷ gs) f within = ap (λ t. g ∷ t) (take_last n gs f (omega arith))
+
+pub closed_last : (n : ℕ) (fs : List Frame) (f : Frame) (level next : Level) → n ≤ length fs → next ≡ close_container f.container f.level level
+    → close_frames (drop n fs) next ≡ close_frames (drop n (fs ++ f ∷ [])) level
+closed_last n fs f level next within is =
+    ap (close_frames (drop n fs)) is ∙ sym (close_last (drop n fs) f level) ∙ ap (λ gs. close_frames gs level) (sym (drop_last n fs f within))
+
+pub length_frames : (frames : List code.Frame) → length (frames_of frames) ≡ length frames
+length_frames [] = refl
+length_frames (f ∷ fs) = ap suc (length_frames fs)
