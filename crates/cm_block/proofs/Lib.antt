@@ -12,3 +12,8 @@ pub mod Depths
 pub mod StartLemmas
 pub mod MarkerPlaces
 pub mod PlaceLemmas
+pub mod RunLemmas
+pub mod PutLemmas
+pub mod LineOwnerLemmas
+pub mod LeafLemmas
+pub mod NextLineLemmas

@@ -11,3 +11,6 @@ pub mod Levels
 pub mod StartViews
 pub mod PlaceViews
 pub mod FrameViews
+pub mod OwnedCode
+pub mod LeafViews
+pub mod FirstLines

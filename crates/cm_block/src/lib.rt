@@ -1,8 +1,13 @@
 //! One pass over the lines of a document, by a stack of open blocks.
 #![tactic(auto)]
 
+mod closed_leaf;
+mod first_line;
 pub mod laws;
+mod leaf;
 mod level;
+mod line_owners;
 mod places;
+mod runs;
 mod stack;
 mod starts;

@@ -14,7 +14,7 @@ use cm_scan::{HtmlKind, ItemMarker, quote_marker};
 use cm_text::View;
 
 /// Whether there are only spaces and tabs.
-fn is_blank_text(text: &[u8]) -> bool
+pub(crate) fn is_blank_text(text: &[u8]) -> bool
     ensures { result ≡ is_blank_text text.now }
 {
     text.iter().all(|b| *b == b' ' || *b == b'\t')

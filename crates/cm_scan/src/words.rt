@@ -85,7 +85,7 @@ pub(crate) fn trim_start(text: &str) -> &str
 }
 
 /// The text without the spaces and tabs at its end.
-pub(crate) fn trim_end(text: &str) -> &str
+pub fn trim_end(text: &str) -> &str
     ensures { result.now ≡ trim_end text.now }
 {
     let bytes = text.as_bytes();

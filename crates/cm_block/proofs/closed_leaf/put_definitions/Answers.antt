@@ -1,0 +1,53 @@
+use Rattle.std.proofs.Common.{◌∙◌, sym}
+use Rattle.std.proofs.lemmas.Str.{IsCharBoundary-start}
+use Rattle.cm_block.specs.Levels.{level_of}
+use Rattle.cm_block.proofs.RunLemmas.{next_fewer, next_left, none_left}
+use Rattle.cm_block.proofs.PutLemmas.{definition_closes, definition_owns, nothing_closes, nothing_owns, still_whole, no_longer, some_definition, some_taken}
+use Rattle.cm_block.proofs.closed_leaf.put_definitions.Goals as goal
+
+pub definition-requires : goal.definition-requires
+definition-requires c = IsCharBoundary-start c.loop-found.rest.now c.loop-found.invariant.utf8
+
+pub lines_taken-lines-requires-clause-some : goal.lines_taken-lines-requires-clause-some
+lines_taken-lines-requires-clause-some c =
+    let found = c.in-Some.found in
+    some_definition c.loop-found.rest.now found.label.now found.dest.now found.title.now c.in-Some.end c.in-Some.ensures.read
+
+pub put_definition-requires : goal.put_definition-requires
+put_definition-requires c =
+    let found = c.in-Some.found in
+    some_taken c.loop-found.rest.now found.label.now found.dest.now found.title.now c.in-Some.end c.lines_taken-lines.result c.in-Some.ensures.read c.lines_taken-lines.ensures
+
+pub loop-found-smaller : goal.loop-found-smaller
+loop-found-smaller c =
+    let found = c.in-Some.found in
+    next_fewer c.loop-found.rest.now c.range_from-rest.result.now found.label.now found.dest.now found.title.now c.in-Some.end c.in-Some.ensures.read c.range_from-rest.ensures.value
+
+pub loop-found-preserved : goal.loop-found-preserved
+loop-found-preserved c =
+    let found = c.in-Some.found in
+    let rest = c.loop-found.rest.now in
+    let left = c.range_from-rest.result.now in
+    let kept = c.loop-found.invariant in
+    let put = c.in_ok-put_definition.ensures in
+    record {
+      utf8 = c.range_from-rest.utf8;
+      left = next_left rest left found.label.now found.dest.now found.title.now c.in-Some.end c.in-Some.ensures.read c.range_from-rest.ensures.value ∙ kept.left;
+      within = no_longer c.args.text.now rest left c.in-Some.end c.range_from-rest.ensures.value kept.within;
+      whole = still_whole c.args.text.now rest left c.in-Some.end c.range_from-rest.ensures.value kept.within kept.whole;
+      level = definition_closes (level_of c.loop-found.level) (level_of c.put_definition.new.level) rest left found.label.now found.dest.now found.title.now c.in-Some.end c.in-Some.ensures.read
+          c.range_from-rest.ensures.value put.level
+      ∙ kept.level;
+      owners = definition_owns c.loop-found.owners c.put_definition.new.owners rest left found.label.now found.dest.now found.title.now c.in-Some.end c.lines_taken-lines.result c.in-Some.ensures.read
+          c.range_from-rest.ensures.value c.lines_taken-lines.ensures put.owners
+      ∙ kept.owners;
+    }
+
+pub returns-clause-left : goal.returns-clause-left
+returns-clause-left c = none_left c.loop-found.rest.now c.in_default.ensures.read ∙ c.loop-found.invariant.left
+
+pub returns-clause-level : goal.returns-clause-level
+returns-clause-level c = sym (nothing_closes (level_of c.loop-found.level) c.loop-found.rest.now c.in_default.ensures.read) ∙ c.loop-found.invariant.level
+
+pub returns-clause-owners : goal.returns-clause-owners
+returns-clause-owners c = sym (nothing_owns c.loop-found.owners c.loop-found.rest.now c.in_default.ensures.read) ∙ c.loop-found.invariant.owners

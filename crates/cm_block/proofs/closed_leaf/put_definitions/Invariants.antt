@@ -1,0 +1,24 @@
+use Rattle.std.proofs.Common.{◌≡◌, ◌≤◌, length}
+use denote.Text.{Utf8}
+use denote.Shadow.{shadow}
+use Rattle.cm_scan.specs.Links.{definitions_of}
+use Rattle.cm_scan.specs.Blocks.{line_count, definition_leaves}
+use Rattle.cm_block.specs.Levels.{level_of}
+use Rattle.cm_block.specs.Stack.{close_leaves, own_leaves}
+use Rattle.cm_block.proofs.closed_leaf.put_definitions.Given as goal
+
+-- what is put, and what is left to put, come to the whole
+abbrev pub invariant-loop-found : goal.invariant-loop-found
+invariant-loop-found l = record {
+  utf8 : shadow (Utf8 l.rest);
+  left : (definitions_of l.rest).left ≡ (definitions_of l.text).left;
+  within : length l.rest ≤ length l.text;
+  whole : length l.text ≤ length l.rest → l.rest ≡ l.text;
+  level : close_leaves (level_of l.level) (definition_leaves l.rest (definitions_of l.rest).taken)
+      ≡ close_leaves (level_of l.fn.level) (definition_leaves l.text (definitions_of l.text).taken);
+  owners : own_leaves l.owners (definition_leaves l.rest (definitions_of l.rest).taken)
+      ≡ own_leaves l.fn.owners (definition_leaves l.text (definitions_of l.text).taken);
+}
+
+abbrev pub decreases-loop-found : goal.decreases-loop-found
+decreases-loop-found l = line_count l.rest
