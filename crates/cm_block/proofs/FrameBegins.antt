@@ -64,7 +64,7 @@ item-ends v kind = go v.open_list
     go (Some list) = same list (is_same_kind list.kind kind)
 
 -- what isn't nothing
-abbrev IsBegin : Begin → Type 0
+abbrev pub IsBegin : Begin → Type 0
 IsBegin begins_nothing = ⊥
 IsBegin _ = ⊤
 
@@ -85,7 +85,7 @@ start-begins BreakLine line = tt
 start-begins (ItemStart marker) line = tt
 start-begins TextLine line = tt
 
-not-nothing : (rules : Rules) (line : LineView) → is_blank line ≡ false → IsBegin (begin_of rules line)
+pub not-nothing : (rules : Rules) (line : LineView) → is_blank line ≡ false → IsBegin (begin_of rules line)
 unfolding begin_of
 not-nothing rules line h = go (is_blank line) h
   where
@@ -127,7 +127,7 @@ begins-item rules q s v line inner kind column h some =
     c : Stack
     c = push_begin rules true s empty_level inner
 
-blank-begins : (rules : Rules) (line : LineView) → is_blank line ≡ true → begin_of rules line ≡ begins_nothing
+pub blank-begins : (rules : Rules) (line : LineView) → is_blank line ≡ true → begin_of rules line ≡ begins_nothing
 unfolding begin_of
 blank-begins rules line h = grind (arith, h)
 

@@ -7,6 +7,7 @@ pub mod Stacks
 pub mod Frames
 pub mod FrameBegins
 pub mod Matching
+pub mod Begun
 pub mod Lazy
 pub mod Depths
 pub mod StartLemmas

@@ -1,6 +1,6 @@
 -- What the next line is to a run of text.
 use Rattle.std.proofs.Common.{◌≡◌, ℕ, zero, suc, ◌-◌, ◌<◌, ◌≤◌, Bool, true, false, List, [], ◌∷◌, length, take, drop, Option, Some, None, refl, sym, ap, subst, ◌∙◌, arith, option_map}
-use Rattle.std.specs.Prelude.{not, ◌&&◌, ◌==◌}
+use Rattle.std.specs.Prelude.{not, ◌==◌}
 use Rattle.std.proofs.lemmas.Bool.Decides.{nat_tests}
 use Rattle.cm_text.specs.Rules.Rules.{profile}
 use Rattle.cm_text.specs.Lines.{LineView}
@@ -11,7 +11,7 @@ use Rattle.cm_scan.specs.LineForms.{ItemMarker, underline}
 use Rattle.cm_scan.specs.Scanned.{ending}
 use Rattle.cm_scan.specs.Links.{definitions_of}
 use Rattle.cm_scan.specs.Starts.{Start, start_of, ItemStart, starts_at_one, can_interrupt, interrupts_paragraph, underline_of}
-use Rattle.cm_scan.specs.Blocks.{rest_of, NextLine, Ends, GoesOn, Underlines, by_interruption, by_underline, next_line}
+use Rattle.cm_scan.specs.Blocks.{rest_of, NextLine, Ends, Underlines, by_interruption, by_underline, next_line}
 use Rattle.std.specs.List.{slice_range}
 use Rattle.cm_scan.proofs.HtmlLemmas.{slice_from}
 use Rattle.cm_block.specs.LeafViews.{level_above, heading_level}

@@ -14,3 +14,4 @@ pub mod FrameViews
 pub mod OwnedCode
 pub mod LeafViews
 pub mod FirstLines
+pub mod Begins

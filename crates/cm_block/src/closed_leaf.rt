@@ -9,7 +9,7 @@ ghost use Rattle.cm_block.specs.Level.{block_closes};
 ghost use Rattle.cm_block.specs.Levels.{level_of};
 ghost use Rattle.cm_block.specs.OpenLeaf.{run_leaves};
 ghost use Rattle.cm_block.specs.Stack.{close_leaves, own_leaf, own_leaves};
-ghost use Rattle.cm_block.specs.LeafViews.{leaves_of_closed, own_plain_leaf};
+ghost use Rattle.cm_block.specs.LeafViews.{fence_lines, leaves_of_closed, own_plain_leaf};
 
 use crate::level::Level;
 use crate::line_owners::Owners;
@@ -30,11 +30,16 @@ pub(crate) enum ClosedLeaf {
         heading: Option<u8>,
     },
     /// An ATX heading.
-    Heading { level: u8, content: String },
+    Heading {
+        level: u8,
+        content: String,
+    },
     /// A thematic break.
     Break,
     /// Indented code: its lines, parted by line feeds.
-    Code { text: String },
+    Code {
+        text: String,
+    },
     /// Fenced code: its lines, each with a line feed, and whether it has a closing fence.
     Fenced {
         info: String,
@@ -42,7 +47,9 @@ pub(crate) enum ClosedLeaf {
         ended: bool,
     },
     /// HTML: its lines, parted by line feeds.
-    Html { text: String },
+    Html {
+        text: String,
+    },
 }
 
 /// Puts a leaf block that has so many lines.
@@ -218,6 +225,15 @@ fn put_code(
     Ok(())
 }
 
+/// How many lines a fenced code block has with these lines, and with a closing fence or not.
+fn fence_lines(ended: bool, text: &str) -> usize
+    ensures lines { result ≡ fence_lines ended text.now }
+    ensures some { 1 ≤ result }
+{
+    let lines = line_feeds(text) + 1;
+    if ended { lines + 1 } else { lines }
+}
+
 impl ClosedLeaf {
     /// Puts the leaf at the end of a level, and its lines at the end of the owners.
     pub(crate) fn put(
@@ -249,7 +265,7 @@ impl ClosedLeaf {
                 put_code(alloc, "", text, lines, level, owners)
             }
             ClosedLeaf::Fenced { info, text, ended } => {
-                let lines = line_feeds(&text) + 1 + usize::from(ended);
+                let lines = fence_lines(ended, &text);
                 put_code(alloc, &info, text, lines, level, owners)
             }
             ClosedLeaf::Html { mut text } => {

@@ -26,10 +26,15 @@ pub(crate) enum OpenLeaf {
     /// No leaf is open.
     Nothing,
     /// A run of text: definitions, and then a paragraph or a heading.
-    Run { source: String },
+    Run {
+        source: String,
+    },
     /// Indented code: its lines, parted by line feeds, and the blank lines that wait for a further line of
     /// code, each with a line feed.
-    Code { text: String, blank_lines: String },
+    Code {
+        text: String,
+        blank_lines: String,
+    },
     /// Fenced code: what closes it, the columns that each line loses, and its lines, each with a line feed.
     Fence {
         kind: FenceKind,
@@ -38,7 +43,10 @@ pub(crate) enum OpenLeaf {
         text: String,
     },
     /// HTML: its lines, parted by line feeds.
-    Html { kind: HtmlKind, text: String },
+    Html {
+        kind: HtmlKind,
+        text: String,
+    },
 }
 
 /// What a line is to the open leaf.
@@ -221,5 +229,111 @@ impl OpenLeaf {
                 Ok(LeafLine::Stays)
             }
         }
+    }
+}
+
+#[cfg(test)]
+mod tests {
+    use super::*;
+    use crate::first_line::{FirstLine, begin_leaf};
+    use crate::level::Level;
+    use crate::line_owners::Owners;
+    use crate::starts::start_of;
+    use cm_text::{Limits, LineFeed};
+    use std::alloc::Global;
+    use std::test::Fail;
+
+    // The blocks of the leaf that the first line of a text begins, as they are shown, and how many lines it has.
+    fn first_leaf(alloc: Global, text: &str) -> Result<(String, usize), Fail> {
+        let mut feed = LineFeed::new(alloc, Limits::standard());
+        feed.push(text.as_bytes()).ok().ok_or("push")?;
+        feed.end().ok().ok_or("end")?;
+        let line = feed.next_line().ok_or("line")?;
+        let line = line.view();
+        let mut open = OpenLeaf::Nothing;
+        let mut closed = ClosedLeaf::Nothing;
+        match begin_leaf(alloc, &start_of(&line), &line)?.ok_or("leaf")? {
+            FirstLine::Opens(leaf) => open = leaf,
+            FirstLine::Whole(leaf) => closed = leaf,
+        }
+        for _ in 0..9 {
+            let Some(line) = feed.next_line() else {
+                break;
+            };
+            match open.take_line(&line.view())? {
+                LeafLine::Stays => {}
+                LeafLine::Last(leaf) => {
+                    closed = leaf;
+                    break;
+                }
+                LeafLine::Leaves => break,
+            }
+        }
+        let mut level = Level::new(alloc);
+        let mut owners = Owners::new(alloc);
+        closed.put(alloc, &mut level, &mut owners)?;
+        open.close().0.put(alloc, &mut level, &mut owners)?;
+        Ok((format!(in alloc; "{:?}", level.blocks)?, owners.len()))
+    }
+
+    #[test]
+    fn leaves(rt: HostRuntime) -> Result<(), Fail> {
+        for (text, lines, want) in [
+            ("a \n  b  \n\nc", 2, "[Paragraph([Text(\"a \\nb\")])]"),
+            ("a\n    b\n> c", 2, "[Paragraph([Text(\"a\\nb\")])]"),
+            ("a\n2. b\n1. c", 2, "[Paragraph([Text(\"a\\n2. b\")])]"),
+            (
+                "a\n-\n*\n* b",
+                2,
+                "[Heading { level: 2, content: [Text(\"a\")] }]",
+            ),
+            ("a\n*\n* b", 2, "[Paragraph([Text(\"a\\n*\")])]"),
+            (
+                "[a]: <b\\*>\n\"c&amp;\"\n[d]: e\nf\n===\ng",
+                5,
+                "[Definition { label: \"a\", dest: \"b*\", title: \"c&\" }, Definition { label: \"d\", dest: \"e\", title: \"\" }, Heading { level: 1, content: [Text(\"f\")] }]",
+            ),
+            (
+                "[a]: b\n===\nc",
+                3,
+                "[Definition { label: \"a\", dest: \"b\", title: \"\" }, Paragraph([Text(\"===\\nc\")])]",
+            ),
+            (
+                "[a]: b\n",
+                1,
+                "[Definition { label: \"a\", dest: \"b\", title: \"\" }]",
+            ),
+            (
+                "    a\n\n      b\n\nc",
+                3,
+                "[Code { info: \"\", text: \"a\\n\\n  b\\n\" }]",
+            ),
+            ("\t\ta\nb", 1, "[Code { info: \"\", text: \"\\ta\\n\" }]"),
+            (
+                " ```a\\*\n  b\n\n~~~\n````\nc",
+                5,
+                "[Code { info: \"a*\", text: \" b\\n\\n~~~\\n\" }]",
+            ),
+            ("~~~\na", 2, "[Code { info: \"\", text: \"a\\n\" }]"),
+            (
+                " <!-- a\n\n  b --> c\nd",
+                3,
+                "[Html { text: \" <!-- a\\n\\n  b --> c\\n\" }]",
+            ),
+            ("<!-- a -->\nb", 1, "[Html { text: \"<!-- a -->\\n\" }]"),
+            ("<p>\n a\n\nb", 2, "[Html { text: \"<p>\\n a\\n\" }]"),
+            (
+                "## a #\nb",
+                1,
+                "[Heading { level: 2, content: [Text(\"a\")] }]",
+            ),
+            ("#\nb", 1, "[Heading { level: 1, content: [] }]"),
+            ("***\na", 1, "[Break]"),
+        ] {
+            let (blocks, owners) = first_leaf(rt.alloc(), text)?;
+            assert_eq!(rt; blocks.as_str(), want);
+            assert_eq!(rt; owners, lines, "{text}");
+        }
+        Ok(())
     }
 }

@@ -2,6 +2,7 @@
 #![tactic(auto)]
 
 mod closed_leaf;
+mod containers;
 mod first_line;
 pub mod laws;
 mod leaf;

@@ -1,4 +1,4 @@
-use Rattle.std.proofs.Common.{◌≡◌, [], length, string_bytes, arith, sym, ap, ◌∙◌}
+use Rattle.std.proofs.Common.{◌≡◌, [], string_bytes, arith, sym, ap, ◌∙◌}
 use Rattle.std.proofs.lemmas.Grind.{common_steps}
 use Rattle.std.proofs.lemmas.Result.{on_ok_weaker}
 use Rattle.cm_tree.specs.declared.tree.Block.TheVariants.{Paragraph, Heading}
@@ -26,10 +26,10 @@ returns-in-Some-clause-level c =
     let source = string_bytes c.args.source in
     let some : source ≡ [] → ⊥ = λ e. grind (arith, common_steps, e) in
     on_ok_weaker c.put_block.result (λ closed.
-        closed
-        ∙ ap (λ content. block_closes level (Heading c.in-Some.number content)) c.in_ok-content.ensures
-        ∙ heading_closes level c.in-Some.number source some
-        ∙ ap (λ h. close_leaves level (content_leaf h source)) (sym c.in-Some.is)) c.put_block.ensures.level
+    closed
+    ∙ ap (λ content. block_closes level (Heading c.in-Some.number content)) c.in_ok-content.ensures
+    ∙ heading_closes level c.in-Some.number source some
+    ∙ ap (λ h. close_leaves level (content_leaf h source)) (sym c.in-Some.is)) c.put_block.ensures.level
 
 pub returns-in-Some-clause-owners : goal.returns-in-Some-clause-owners
 returns-in-Some-clause-owners c =
@@ -37,9 +37,9 @@ returns-in-Some-clause-owners c =
     let source = string_bytes c.args.source in
     let some : source ≡ [] → ⊥ = λ e. grind (arith, common_steps, e) in
     on_ok_weaker c.put_block.result (λ owns.
-        owns
-        ∙ heading_owns owned c.in-Some.number source _ some (omega (arith, c.line_feeds-lines.ensures.count, ap line_feeds c.deref.ensures))
-        ∙ ap (λ h. own_leaves owned (content_leaf h source)) (sym c.in-Some.is)) c.put_block.ensures.owners
+    owns
+    ∙ heading_owns owned c.in-Some.number source _ some (omega (arith, c.line_feeds-lines.ensures.count, ap line_feeds c.deref.ensures))
+    ∙ ap (λ h. own_leaves owned (content_leaf h source)) (sym c.in-Some.is)) c.put_block.ensures.owners
 
 pub returns-in-None-clause-level : goal.returns-in-None-clause-level
 returns-in-None-clause-level c =
@@ -47,10 +47,10 @@ returns-in-None-clause-level c =
     let source = string_bytes c.args.source in
     let some : source ≡ [] → ⊥ = λ e. grind (arith, common_steps, e) in
     on_ok_weaker c.put_block-in-None.result (λ closed.
-        closed
-        ∙ ap (λ content. block_closes level (Paragraph content)) c.in_ok-content.ensures
-        ∙ content_closes level source some
-        ∙ ap (λ h. close_leaves level (content_leaf h source)) (sym c.in-None.is)) c.put_block-in-None.ensures.level
+    closed
+    ∙ ap (λ content. block_closes level (Paragraph content)) c.in_ok-content.ensures
+    ∙ content_closes level source some
+    ∙ ap (λ h. close_leaves level (content_leaf h source)) (sym c.in-None.is)) c.put_block-in-None.ensures.level
 
 pub returns-in-None-clause-owners : goal.returns-in-None-clause-owners
 returns-in-None-clause-owners c =
@@ -58,6 +58,6 @@ returns-in-None-clause-owners c =
     let source = string_bytes c.args.source in
     let some : source ≡ [] → ⊥ = λ e. grind (arith, common_steps, e) in
     on_ok_weaker c.put_block-in-None.result (λ owns.
-        owns
-        ∙ content_owns owned source _ some (omega (arith, c.line_feeds-lines.ensures.count, ap line_feeds c.deref.ensures))
-        ∙ ap (λ h. own_leaves owned (content_leaf h source)) (sym c.in-None.is)) c.put_block-in-None.ensures.owners
+    owns
+    ∙ content_owns owned source _ some (omega (arith, c.line_feeds-lines.ensures.count, ap line_feeds c.deref.ensures))
+    ∙ ap (λ h. own_leaves owned (content_leaf h source)) (sym c.in-None.is)) c.put_block-in-None.ensures.owners

@@ -37,10 +37,10 @@ loop-found-preserved c =
       whole = still_whole c.args.text.now rest left c.in-Some.end c.range_from-rest.ensures.value kept.within kept.whole;
       level = definition_closes (level_of c.loop-found.level) (level_of c.put_definition.new.level) rest left found.label.now found.dest.now found.title.now c.in-Some.end c.in-Some.ensures.read
           c.range_from-rest.ensures.value put.level
-      ∙ kept.level;
+          ∙ kept.level;
       owners = definition_owns c.loop-found.owners c.put_definition.new.owners rest left found.label.now found.dest.now found.title.now c.in-Some.end c.lines_taken-lines.result c.in-Some.ensures.read
           c.range_from-rest.ensures.value c.lines_taken-lines.ensures put.owners
-      ∙ kept.owners;
+          ∙ kept.owners;
     }
 
 pub returns-clause-left : goal.returns-clause-left

@@ -22,8 +22,8 @@ returns-clause-taken c =
     let text = string_bytes c.args.text.now in
     let blanks = string_bytes c.args.blank_lines.now in
     let front : string_bytes c.push_str-2.new.self ≡ (text ++ 10 ∷ []) ++ blanks =
-        c.in_ok-push_str-2.ensures.bytes ∙ ap₂ (λ t b. t ++ b) c.in_ok-push_str.ensures.bytes c.deref.ensures in
+    c.in_ok-push_str-2.ensures.bytes ∙ ap₂ (λ t b. t ++ b) c.in_ok-push_str.ensures.bytes c.deref.ensures in
     rw c.clear.ensures.bytes (goes_on text blanks (string_bytes c.push_line.new.text) (line_of c.args.line.now) (sym c.is_blank.ensures ∙ c.if-is_blank.false)
-        (omega (arith, c.indent.ensures, c.if-indent-lt4.false))
-        (c.in_ok-push_line.ensures.text ∙ ap₂ (λ t (l : LineView). t ++ l.text) front c.strip-2.ensures.line)
-        (c.in_ok-push_line.ensures.feeds ∙ ap line_feeds front))
+    (omega (arith, c.indent.ensures, c.if-indent-lt4.false))
+    (c.in_ok-push_line.ensures.text ∙ ap₂ (λ t (l : LineView). t ++ l.text) front c.strip-2.ensures.line)
+    (c.in_ok-push_line.ensures.feeds ∙ ap line_feeds front))

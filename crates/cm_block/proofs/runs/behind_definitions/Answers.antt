@@ -16,7 +16,7 @@ loop-end-preserved c =
     let found = c.in-Some.field-0-0 in (
       c.range_from-rest.utf8,
       next_left c.loop-end.rest.now c.range_from-rest.result.now found.label.now found.dest.now found.title.now c.in-Some.end c.in-Some.ensures.read c.range_from-rest.ensures.value
-      ∙ c.loop-end.invariant.1,
+          ∙ c.loop-end.invariant.1,
     )
 
 pub returns : goal.returns

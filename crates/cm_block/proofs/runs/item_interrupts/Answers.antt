@@ -1,7 +1,6 @@
-use Rattle.std.proofs.Common.{◌∙◌, sym, ap, drop, suc}
+use Rattle.std.proofs.Common.{◌∙◌, sym, ap}
 use Rattle.std.specs.Prelude.{not}
 use Rattle.cm_text.specs.Views.{line_of}
-use Rattle.cm_scan.specs.Words.{is_blank_text}
 use Rattle.cm_block.proofs.NextLineLemmas.{item_interrupts}
 use Rattle.cm_block.proofs.runs.item_interrupts.Goals as goal
 

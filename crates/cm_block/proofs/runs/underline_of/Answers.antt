@@ -1,4 +1,4 @@
-use Rattle.std.proofs.Common.{◌∙◌, sym, ap, arith}
+use Rattle.std.proofs.Common.{◌∙◌, arith}
 use Rattle.cm_text.specs.Views.{line_of}
 use Rattle.cm_block.proofs.NextLineLemmas.{underline_lazy, underline_far, underline_none, underline_some}
 use Rattle.cm_block.proofs.runs.underline_of.Goals as goal
