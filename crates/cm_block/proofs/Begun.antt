@@ -12,8 +12,14 @@ use Rattle.cm_block.specs.Stack.{Owned, Stack, stack, own_lines, blank_owner, pu
 use Rattle.cm_block.specs.Machine.{in_leaf}
 use Rattle.cm_block.specs.Depths.{nesting}
 use Rattle.cm_block.specs.Frames.{Container, a_quote, an_item, Frame, quoted_in, quoted_by, within, stack_with}
+use Rattle.cm_scan.specs.declared.markers.ItemMarker as code_marker
+use Rattle.cm_block.specs.declared.starts.Start as code_start
+use Rattle.cm_block.specs.declared.starts.Start.TheVariants as variants
+use Rattle.cm_block.specs.StartViews.{seen}
+use Rattle.cm_block.specs.PlaceViews.{begins_quote as begins_quote_marker}
+use Rattle.cm_block.specs.FirstLines.{begins_container}
 use Rattle.cm_block.specs.Begins.{begun_in, blank_in, left_in}
-use Rattle.cm_block.proofs.FrameBegins.{frame, push-cases, not-nothing, IsBegin, blank-begins, begins-nothing, begins-leaf, begins-quote, begins-item, begins-bare-item, within-append, within-nesting, nest-within, nest-last}
+use Rattle.cm_block.proofs.FrameBegins.{frame, push-cases, not-nothing, IsBegin, blank-begins, begins-nothing, begins-leaf, begins-quote, begins-item, begins-bare-item, within-append, within-nesting, nest-nesting, nest-within, nest-last}
 
 -- a line that isn't blank doesn't ask whether a marker was taken
 
@@ -96,3 +102,40 @@ left_blank false fs v line owned none = blank_next fs v line owned none
 pub left_some : (bare : Bool) (fs : List Frame) (v : Level) (line : LineView) (owned : Owned) → bare ≡ false → left_in bare fs v line owned ≡ begun_in fs v line owned
 left_some true fs v line owned e = absurd (cc e)
 left_some false fs v line owned e = refl
+
+pub not_bare : (bare blank : Bool) → (bare ≡ true → blank ≡ true) → blank ≡ false → bare ≡ false
+not_bare true blank h e = absurd (cc (h refl, e))
+not_bare false blank h e = refl
+
+pub stays_left : (bare : Bool) (fs gs : List Frame) (v w : Level) (line : LineView) (owned : Owned) → bare ≡ false → gs ≡ fs → w ≡ v
+    → begun_in fs v line owned ≡ left_in bare gs w line owned
+stays_left bare fs gs v w line owned e frames level =
+    sym (left_some bare gs w line owned e ∙ ap₂ (λ hs u. begun_in hs u line owned) frames level)
+
+-- behind an item's marker, by whether the rest of the line is blank
+pub item_left : (bare : Bool) (fs gs : List Frame) (v w : Level) (line : LineView) (owned : Owned) (m : ItemMarker) (inner : LineView) (column : ℕ)
+    → is_blank line ≡ false → start_of profile line ≡ ItemStart m → inner ≡ first_content m line → column ≡ content_column m line → bare ≡ is_blank inner
+    → gs ≡ fs ++ frame (item_opens v m.kind) (an_item m.kind column) ∷ [] → w ≡ empty_level
+    → begun_in fs v line owned ≡ left_in bare gs w inner owned
+item_left true fs gs v w line owned m inner column some is at reaches none frames level =
+    item_bare fs v line owned m inner column some is at reaches (sym none)
+    ∙ sym (ap₂ (λ hs u. blank_in true hs u owned) frames level)
+item_left false fs gs v w line owned m inner column some is at reaches more frames level =
+    item_next fs v line owned m inner column some is at reaches (sym more)
+    ∙ sym (ap₂ (λ hs u. begun_in hs u inner owned) frames level)
+
+-- what is neither a quote's nor an item's marker
+pub no_container : (start : code_start.Start) → begins_quote_marker (seen start) ≡ false → ((m : code_marker.ItemMarker) → start ≡ variants.Item m → ⊥) → begins_container (seen start) ≡ false
+no_container variants.IndentedCode h k = refl
+no_container variants.QuoteMarker h k = absurd (cc h)
+no_container (variants.Atx x) h k = refl
+no_container (variants.Fence x) h k = refl
+no_container (variants.Html x) h k = refl
+no_container variants.Break h k = refl
+no_container (variants.Item m) h k = absurd (k m refl)
+no_container variants.TextLine h k = refl
+
+-- as many are open as there are containers, or more
+pub left_deep : (bare : Bool) (fs : List Frame) (v : Level) (line : LineView) (owned : Owned) → length fs ≤ nesting (left_in bare fs v line owned).now
+left_deep true fs v line owned = omega (arith, nest-nesting true fs v no_leaf)
+left_deep false fs v line owned = deeper fs v line owned
