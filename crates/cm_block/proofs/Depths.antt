@@ -240,7 +240,7 @@ mutual
         length-append (map suc (depths_of inside)) (zeros blanks),
       )
 
-are-push : (lines : List LineView) (line : LineView) → AreLines lines → is_line line.text ≡ true → AreLines (lines ++ line ∷ [])
+pub are-push : (lines : List LineView) (line : LineView) → AreLines lines → is_line line.text ≡ true → AreLines (lines ++ line ∷ [])
 are-push [] line h e = grind (arith, e)
 are-push (l ∷ ls) line h e = let k : AreLines ls → AreLines (ls ++ line ∷ []) = λ h. are-push ls line h e in grind (arith, h, k)
 
@@ -385,7 +385,7 @@ position-next p (y ∷ ys) x e = position-cons p y (ys ++ x ∷ []) ∙ by (p y)
 
 -- one more line, and more
 
-push_lines-append : (rules : Rules) (st : Stack) (xs ys : List LineView) → push_lines rules st (xs ++ ys) ≡ push_lines rules (push_lines rules st xs) ys
+pub push_lines-append : (rules : Rules) (st : Stack) (xs ys : List LineView) → push_lines rules st (xs ++ ys) ≡ push_lines rules (push_lines rules st xs) ys
 unfolding push_lines
 push_lines-append rules st [] ys = refl
 push_lines-append rules st (x ∷ xs) ys = push_lines-append rules (push_line rules st x) xs ys

@@ -49,16 +49,16 @@ owns bare q (f ∷ fs) s v x = go f.container (λ p. owns bare p fs s v x)
 -- one more line
 
 -- the last containers are closed, and the line begins something in the first ones
-pub pushed_after : Rules → (q : Bool) → List Frame → Level → OpenLeaf → Owned → ℕ × LineView → Stack
+unfoldable pub pushed_after : Rules → (q : Bool) → List Frame → Level → OpenLeaf → Owned → ℕ × LineView → Stack
 pushed_after rules q fs v x s m =
     within (take m.0 fs) (push_begin rules (quoted_by q (take m.0 fs)) (own_open (quoted_by q fs) s (in_leaf x)) (close_frames (drop m.0 fs) (close_open v (in_leaf x))) m.1)
 
 -- the line stays in all of them, and perhaps in the leaf
-pub pushed_to_leaf : Rules → (q : Bool) → List Frame → Level → OpenLeaf → Owned → ℕ × LineView → Option LeafLine → Stack
+unfoldable pub pushed_to_leaf : Rules → (q : Bool) → List Frame → Level → OpenLeaf → Owned → ℕ × LineView → Option LeafLine → Stack
 pushed_to_leaf rules q fs v x s m (Some l) = within fs (push_leaf_line s v l)
 pushed_to_leaf rules q fs v x s m None = pushed_after rules q fs v x s m
 
-pub pushed : Rules → (q : Bool) → List Frame → Level → OpenLeaf → Owned → ℕ × LineView → Stack
+unfoldable pub pushed : Rules → (q : Bool) → List Frame → Level → OpenLeaf → Owned → ℕ × LineView → Stack
 pushed rules q fs v x s m = elim (m.0 == length fs) [
   | true ↦ pushed_to_leaf rules q fs v x s m (line_of_leaf rules x m.1)
   | false ↦ pushed_after rules q fs v x s m

@@ -8,6 +8,7 @@ pub mod Frames
 pub mod FrameBegins
 pub mod Matching
 pub mod Begun
+pub mod ParserLemmas
 pub mod Lazy
 pub mod Depths
 pub mod StartLemmas

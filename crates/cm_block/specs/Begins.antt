@@ -1,11 +1,14 @@
 -- What a line begins in the innermost of the open containers, as the code has them.
-use Rattle.std.specs.Prelude.{◌≡◌, ℕ, ◌<◌, ◌≤◌, Bool, true, false, List, [], ◌∷◌, length}
+use Rattle.std.specs.Prelude.{◌≡◌, ℕ, suc, ◌<◌, ◌≤◌, Bool, true, false, List, [], ◌∷◌, length, ⊤}
 use Rattle.cm_text.specs.Rules.Rules.{profile}
 use Rattle.cm_text.specs.Lines.{LineView}
 use Rattle.cm_text.specs.Views.{line_of}
 use Rattle.cm_tree.specs.declared.tree.Owner.TheVariants.{Marker}
 use Rattle.cm_scan.specs.Lines.{is_blank}
 use Rattle.cm_block.specs.declared.stack.Stack as code
+use Rattle.cm_block.specs.declared.starts.Start.{Start}
+use Rattle.cm_block.specs.declared.fault.BlockFault.{BlockFault}
+use Rattle.cm_block.specs.declared.fault.BlockFault.TheVariants.{BlocksTooDeep, NoMemory}
 use Rattle.cm_block.specs.declared.containers.Innermost.{Innermost}
 use Rattle.cm_block.specs.declared.containers.Innermost.TheVariants.{TooDeep, Blank, Leaf}
 use Rattle.cm_block.specs.OpenLeaf.{LeafLine, no_leaf, begins_leaf, begin_of_start}
@@ -49,3 +52,13 @@ Inside limit before line now (Leaf start inner) =
     (length now.frames ≤ limit) × ((now.bare ≡ false) × ((begins_container (seen start) ≡ false)
     × ((owned : Owned) (l : LeafLine) → begins_leaf l ≡ begin_of_start (seen start) (line_of inner)
     → begun before line owned ≡ within (frames_of now.frames) (push_leaf_line owned (block_opens (level_of now.level)) l))))
+
+-- the first line of a leaf block, in the innermost container
+abbrev pub LeafBegins : Start → LineView → code.Stack → Owned → Stack → Type 0
+LeafBegins start line before owned now =
+    (l : LeafLine) × ((begins_leaf l ≡ begin_of_start (seen start) line) × (now ≡ within (frames_of before.frames) (push_leaf_line owned (block_opens (level_of before.level)) l)))
+
+-- so many containers are open that a line is too deep, which is the next
+abbrev pub DeepIn : BlockFault → ℕ → Stack → Owned → Type 0
+DeepIn (BlocksTooDeep n) limit now owned = (limit < nesting now.now) × (n ≡ suc (length owned.owners))
+DeepIn NoMemory limit now owned = ⊤

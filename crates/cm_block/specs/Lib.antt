@@ -15,3 +15,4 @@ pub mod OwnedCode
 pub mod LeafViews
 pub mod FirstLines
 pub mod Begins
+pub mod Parser

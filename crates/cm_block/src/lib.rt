@@ -3,12 +3,17 @@
 
 mod closed_leaf;
 mod containers;
+mod fault;
 mod first_line;
 pub mod laws;
 mod leaf;
 mod level;
 mod line_owners;
+mod parser;
 mod places;
 mod runs;
 mod stack;
 mod starts;
+
+pub use fault::BlockFault;
+pub use parser::{BlockParser, Outline};

@@ -1,5 +1,5 @@
 //! What the lines so far belong to.
-ghost use Rattle.std.specs.Prelude.{◌≡◌, ◌≤◌, ◌++◌, [], ◌∷◌, length, replicate, OnOk};
+ghost use Rattle.std.specs.Prelude.{◌≡◌, ◌≤◌, ◌++◌, [], ◌∷◌, suc, length, replicate, OnOk};
 ghost use Rattle.std.specs.FinMap as map;
 ghost use Rattle.cm_block.specs.Stack.{own_lines, own_blanks, blank_owner};
 ghost use Rattle.cm_block.specs.LeafViews.{own_plain_leaf, own_definition};
@@ -44,7 +44,7 @@ fn push_times(lines: &mut Items<Owner>, owner: Owner, times: usize) -> Result<()
 }
 
 /// The owner of a blank line, inside a quote or not.
-fn blank_owner(in_a_quote: bool) -> Owner
+pub(crate) fn blank_owner(in_a_quote: bool) -> Owner
     ensures { result ≡ blank_owner in_a_quote }
 {
     if in_a_quote {
@@ -71,6 +71,14 @@ impl Owners {
         ensures { result ≡ length self.now.owners }
     {
         self.lines.len()
+    }
+
+    /// The number of the next line, counted from 1.
+    pub(crate) fn next_line(&self) -> usize
+        ensures { result ≡ suc (length self.now.owners) }
+    {
+        // How many lines fit in memory bounds their number.
+        self.lines.as_slice().len() + 1
     }
 
     /// The lines of one more leaf, which is no definition.

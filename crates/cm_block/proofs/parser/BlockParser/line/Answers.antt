@@ -1,0 +1,22 @@
+use Rattle.std.proofs.Common.{◌≡◌, ◌≤◌, ◌++◌, ◌∷◌, [], ◌∙◌, List, sym, ap, subst, arith}
+use Rattle.std.specs.Result.{OnOk}
+use Rattle.cm_text.specs.Lines.{LineView, view_of}
+use Rattle.cm_text.specs.Views.{line_of}
+use Rattle.cm_block.specs.Levels.{level_of}
+use Rattle.cm_block.specs.FrameViews.{frames_of}
+use Rattle.cm_block.specs.LeafViews.{leaf_of}
+use Rattle.cm_block.specs.Parser.{stack_of, StandsFor}
+use Rattle.cm_block.proofs.ParserLemmas.{tells_deep, stands_next}
+use Rattle.cm_block.proofs.parser.BlockParser.line.Goals as goal
+
+pub returns-in-Err-clause-told : goal.returns-in-Err-clause-told
+returns-in-Err-clause-told c = λ lines h.
+    tells_deep c.args.self.now.limits.blocks (stack_of c.args.self.now) lines (view_of c.args.line.now) (line_of c.view.result) c.view.ensures.line h.are_lines c.args.line.now.one_line h.holds h.within
+    c.in-Err.fault c.in-Err.ensures.deep
+
+pub returns-in_default-result-clause-stands : goal.returns-in_default-result-clause-stands
+returns-in_default-result-clause-stands c =
+    let done = c.in_default-result.ensures in
+    subst (λ r. OnOk r ((lines : List LineView) → StandsFor c.args.self.now lines → StandsFor c.accept-result.new.self (lines ++ view_of c.args.line.now ∷ []))) (sym c.in_default-result.is)
+    (λ lines h. stands_next c.args.self.now c.accept-result.new.self lines (view_of c.args.line.now) (line_of c.view.result) c.view.ensures.line c.args.line.now.one_line h
+    done.pushed (done.few h.few) done.limits done.fault)

@@ -1,0 +1,12 @@
+use Rattle.std.proofs.Common.{◌∙◌, sym, ap, ap₂, refl, arith, length}
+use Rattle.cm_block.proofs.ParserLemmas.{new_holds, new_within}
+use Rattle.cm_block.proofs.parser.BlockParser.new.Goals as goal
+
+pub returns-clause-stands : goal.returns-clause-stands
+returns-clause-stands c = record {
+  going = refl;
+  are_lines = refl;
+  holds = new_holds c.new.result c.new-2.result c.new.ensures.frames c.new.ensures.bare c.new.ensures.level c.new-2.ensures;
+  within = new_within c.args.limits.blocks;
+  few = omega (arith, ap length c.new.ensures.frames);
+}

@@ -1,0 +1,233 @@
+//! The block structure of a document, line by line.
+ghost use Rattle.std.specs.Prelude.{◌≡◌, ◌≢◌, ◌≤◌, ◌∷◌, ◌++◌, [], List, None, true, false, length, suc, IfOk, IfErr, OnOk};
+ghost use Rattle.cm_text.specs.Rules.Rules.{profile};
+ghost use Rattle.cm_text.specs.Lines.{LineView, view_of};
+ghost use Rattle.cm_text.specs.Views.{line_of};
+ghost use Rattle.cm_block.specs.OpenLeaf.{no_leaf};
+ghost use Rattle.cm_block.specs.Machine.{in_leaf};
+ghost use Rattle.cm_block.specs.Levels.{level_of};
+ghost use Rattle.cm_block.specs.Stack.{close_open, own_open, push_line};
+ghost use Rattle.cm_block.specs.Frames.{quoted_by};
+ghost use Rattle.cm_block.specs.FrameViews.{frames_of};
+ghost use Rattle.cm_block.specs.LeafViews.{leaf_of};
+ghost use Rattle.cm_block.specs.StartViews.{seen};
+ghost use Rattle.cm_block.specs.FirstLines.{begins_container};
+ghost use Rattle.cm_block.specs.Begins.{begun, with_blank, LeafBegins, DeepIn};
+ghost use Rattle.cm_block.specs.Parser.{stack_of, StandsFor, Tells, OutlineOf, Ends, answer_of, Deep, TakenToLeaf};
+
+use crate::containers::Innermost;
+use crate::fault::BlockFault;
+use crate::first_line::{FirstLine, begin_leaf};
+use crate::leaf::{LeafLine, OpenLeaf};
+use crate::line_owners::{Owners, blank_owner};
+use crate::stack::Stack;
+use crate::starts::Start;
+use cm_text::{Limits, Line, NoMemory, View};
+use cm_tree::{Block, Definitions, Items, Owner};
+use std::alloc::Global;
+use std::mem;
+
+/// The block structure of a document: its tree, in which the source of a paragraph or heading stands as one
+/// text, the owner of each line, and its link reference definitions.
+#[derive(Debug, Drop)]
+pub struct Outline {
+    pub blocks: Items<Block>,
+    pub owners: Items<Owner>,
+    pub definitions: Definitions,
+}
+
+/// Reads the block structure of a document from its lines (CommonMark 0.31.2, chapters 3 to 5).
+///
+/// Hand over each line once, by `line`, and take the outline by `finish`. Each line is done with when the
+/// call returns: what is open is held, and no line is kept. After a fault each further call answers that
+/// fault.
+#[derive(Debug, Drop)]
+pub struct BlockParser {
+    alloc: Global,
+    limits: Limits,
+    stack: Stack,
+    leaf: OpenLeaf,
+    owners: Owners,
+    fault: Option<BlockFault>,
+}
+
+impl BlockParser {
+    /// A parser of no lines so far. It takes no memory.
+    pub fn new(alloc: Global, limits: Limits) -> BlockParser
+        ensures limits { result.limits ≡ limits }
+        ensures stands { StandsFor result [] }
+    {
+        BlockParser {
+            alloc,
+            limits,
+            stack: Stack::new(alloc),
+            leaf: OpenLeaf::Nothing,
+            owners: Owners::new(alloc),
+            fault: None,
+        }
+    }
+
+    /// Closes the open leaf.
+    fn close_leaf(&mut self) -> Result<(), NoMemory>
+        ensures level { OnOk result (level_of self.new.stack.level ≡ close_open (level_of self.old.stack.level) (in_leaf (leaf_of self.old.leaf))) }
+        ensures owners { OnOk result (self.new.owners ≡ own_open (quoted_by false (frames_of self.old.stack.frames)) self.old.owners (in_leaf (leaf_of self.old.leaf))) }
+        ensures leaf { leaf_of self.new.leaf ≡ no_leaf }
+        ensures frames { self.new.stack.frames ≡ self.old.stack.frames }
+        ensures bare { self.new.stack.bare ≡ self.old.stack.bare }
+        ensures limits { self.new.limits ≡ self.old.limits }
+        ensures fault { self.new.fault ≡ self.old.fault }
+    {
+        let (leaf, blank_lines) = mem::replace(&mut self.leaf, OpenLeaf::Nothing).close();
+        leaf.put(self.alloc, &mut self.stack.level, &mut self.owners)?;
+        if blank_lines > 0 {
+            self.stack.level.push_blank();
+            self.owners.blank_lines(self.stack.is_quoted(), blank_lines)?;
+        }
+        Ok(())
+    }
+
+    /// A blank line in the innermost container.
+    fn push_blank(&mut self) -> Result<(), NoMemory>
+        requires { leaf_of self.old.leaf ≡ no_leaf }
+        ensures pushed { OnOk result (stack_of self.new ≡ with_blank self.old.stack self.old.owners) }
+        ensures frames { self.new.stack.frames ≡ self.old.stack.frames }
+        ensures limits { self.new.limits ≡ self.old.limits }
+        ensures fault { self.new.fault ≡ self.old.fault }
+    {
+        let marked = self.stack.bare || self.stack.is_quoted();
+        if !self.stack.bare {
+            self.stack.level.push_blank();
+        }
+        self.owners.line(blank_owner(marked))?;
+        Ok(())
+    }
+
+    /// The first line of a leaf block in the innermost container.
+    fn open_leaf(&mut self, start: &Start<'_>, line: &View<'_>) -> Result<(), NoMemory>
+        requires plain { self.old.stack.bare ≡ false }
+        requires leaf { leaf_of self.old.leaf ≡ no_leaf }
+        requires start { begins_container (seen start.now) ≡ false }
+        ensures pushed { OnOk result (LeafBegins start.now (line_of line.now) self.old.stack self.old.owners (stack_of self.new)) }
+        ensures frames { self.new.stack.frames ≡ self.old.stack.frames }
+        ensures limits { self.new.limits ≡ self.old.limits }
+        ensures fault { self.new.fault ≡ self.old.fault }
+    {
+        self.stack.level.open_block()?;
+        match begin_leaf(self.alloc, start, line)? {
+            Some(FirstLine::Opens(leaf)) => self.leaf = leaf,
+            Some(FirstLine::Whole(leaf)) => {
+                leaf.put(self.alloc, &mut self.stack.level, &mut self.owners)?;
+            }
+            None => {}
+        }
+        Ok(())
+    }
+
+    /// What a line begins in the innermost container, where no leaf is open.
+    fn begin(&mut self, line: &View<'_>) -> Result<(), BlockFault>
+        requires plain { self.old.stack.bare ≡ false }
+        requires leaf { leaf_of self.old.leaf ≡ no_leaf }
+        ensures pushed { OnOk result (stack_of self.new ≡ begun self.old.stack (line_of line.now) self.old.owners) }
+        ensures few { OnOk result (length self.new.stack.frames ≤ self.old.limits.blocks) }
+        ensures deep { IfErr result (λ fault. DeepIn fault self.old.limits.blocks (begun self.old.stack (line_of line.now) self.old.owners) self.old.owners) }
+        ensures limits { self.new.limits ≡ self.old.limits }
+        ensures fault { self.new.fault ≡ self.old.fault }
+    {
+        let innermost = self
+            .stack
+            .open_containers(self.alloc, self.limits.blocks(), line)?;
+        match innermost {
+            Innermost::TooDeep => Err(BlockFault::BlocksTooDeep {
+                line: self.owners.next_line(),
+            }),
+            Innermost::Blank => Ok(self.push_blank()?),
+            Innermost::Leaf(start, inner) => Ok(self.open_leaf(&start, &inner)?),
+        }
+    }
+
+    /// A line that stays in so many of the open containers, if it is one of the open leaf: whether it is.
+    fn take_to_leaf(&mut self, depth: usize, line: &View<'_>) -> Result<bool, NoMemory>
+        requires plain { self.old.stack.bare ≡ false }
+        ensures taken { IfOk result (λ taken. TakenToLeaf taken depth self.old (line_of line.now) self.new) }
+        ensures frames { self.new.stack.frames ≡ self.old.stack.frames }
+        ensures limits { self.new.limits ≡ self.old.limits }
+        ensures fault { self.new.fault ≡ self.old.fault }
+    {
+        if depth < self.stack.frames.len() {
+            return Ok(false);
+        }
+        match self.leaf.take_line(line)? {
+            LeafLine::Stays => {}
+            LeafLine::Last(leaf) => {
+                leaf.put(self.alloc, &mut self.stack.level, &mut self.owners)?;
+            }
+            LeafLine::Leaves => return Ok(false),
+        }
+        Ok(true)
+    }
+
+    /// One more line.
+    fn accept(&mut self, line: &View<'_>) -> Result<(), BlockFault>
+        ensures pushed { OnOk result (stack_of self.new ≡ push_line profile (stack_of self.old) (line_of line.now)) }
+        ensures few { OnOk result (length self.old.stack.frames ≤ self.old.limits.blocks → length self.new.stack.frames ≤ self.old.limits.blocks) }
+        ensures deep { IfErr result (λ fault. Deep fault self.old.limits.blocks (stack_of self.old) (line_of line.now)) }
+        ensures limits { self.new.limits ≡ self.old.limits }
+        ensures fault { self.new.fault ≡ self.old.fault }
+    {
+        let (depth, inner) = self.stack.matching(line, self.leaf.is_run());
+        self.stack.bare = false;
+        if self.take_to_leaf(depth, &inner)? {
+            return Ok(());
+        }
+        self.close_leaf()?;
+        self.stack.close_to(depth)?;
+        self.begin(&inner)
+    }
+
+    /// Takes in one more line, which is lent and not kept.
+    ///
+    /// # Errors
+    ///
+    /// `BlocksTooDeep` in the call that brings the first line with more quotes and items round it than the
+    /// limit, `NoMemory` where a request for memory was refused; the same fault from then on.
+    pub fn line(&mut self, line: &Line) -> Result<(), BlockFault>
+        ensures stands { OnOk result ((lines : List LineView) → StandsFor self.old lines → StandsFor self.new (lines ++ view_of line.now ∷ [])) }
+        ensures told { IfErr result (λ fault. (lines : List LineView) → StandsFor self.old lines → Tells fault self.old.limits.blocks (lines ++ view_of line.now ∷ [])) }
+        ensures answer { result ≡ answer_of self.new.fault }
+        ensures failed { self.old.fault ≢ None → self.new ≡ self.old }
+        ensures limits { self.new.limits ≡ self.old.limits }
+    {
+        if let Some(fault) = self.fault {
+            return Err(fault);
+        }
+        let result = self.accept(&line.view());
+        if let Err(fault) = result {
+            self.fault = Some(fault);
+        }
+        result
+    }
+
+    /// The outline of the lines so far.
+    ///
+    /// # Errors
+    ///
+    /// The fault that was met, or `NoMemory` where a request for memory was refused.
+    pub fn finish(mut self) -> Result<Outline, BlockFault>
+        ensures outline { IfOk result (λ outline. (lines : List LineView) → StandsFor self lines → OutlineOf outline lines) }
+        ensures fault { IfErr result (λ fault. Ends fault self.fault) }
+    {
+        if let Some(fault) = self.fault {
+            return Err(fault);
+        }
+        self.close_leaf()?;
+        self.stack.close_to(0)?;
+        let BlockParser { stack, owners, .. } = self;
+        let Stack { level, .. } = stack;
+        let (owners, definitions) = owners.into_parts();
+        Ok(Outline {
+            blocks: level.into_blocks()?,
+            owners,
+            definitions,
+        })
+    }
+}
