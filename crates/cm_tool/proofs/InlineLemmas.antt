@@ -1,7 +1,7 @@
 -- The inlines of a source up to its first line feed.
 use Rattle.std.proofs.Common.{◌≡◌, ℕ, zero, suc, ◌+◌, ◌<◌, ◌==◌, Bool, true, false, List, [], ◌∷◌, ◌++◌, length, take, drop, get_or, refl, ◌∙◌, arith, add-one, append_assoc, append-nil}
 use Rattle.memchr.specs.Find.{is_byte, Passes, Nowhere}
-use Rattle.cm_tool.specs.Trim.{is_space, trim_end}
+use Rattle.cm_tool.specs.Trim.{trim_end_spaces}
 use Rattle.cm_tree.specs.declared.tree.Inline.TheVariants.{Soft}
 use Rattle.cm_tool.specs.Inlines.{text_of_run, inlines_after, inlines_of}
 
@@ -11,7 +11,7 @@ not_true b other = elim b as (λ v. ¬ (v ≡ true) → v ≡ false) [ true ↦ 
 
 -- a line feed after a text
 inlines_after-feed : (text : List ℕ) (b : ℕ) (bs : List ℕ) → (b == 10) ≡ true
-    → inlines_after text (b ∷ bs) ≡ text_of_run (trim_end is_space text) ++ Soft ∷ inlines_after [] bs
+    → inlines_after text (b ∷ bs) ≡ text_of_run (trim_end_spaces text) ++ Soft ∷ inlines_after [] bs
 inlines_after-feed text b bs feed = grind arith
 
 -- another byte after a text
@@ -28,7 +28,7 @@ first b bs i plain = not_true (b == 10) (plain 0 (omega arith) (omega arith))
 
 -- a text, and what follows it up to its first line feed
 inlines_after-at : (text bs : List ℕ) (i : ℕ) → i < length bs → (get_or bs i 0 == 10) ≡ true → Nowhere (Passes (is_byte 10) bs) 0 i
-    → inlines_after text bs ≡ text_of_run (trim_end is_space (text ++ take i bs)) ++ Soft ∷ inlines_after [] (drop (suc i) bs)
+    → inlines_after text bs ≡ text_of_run (trim_end_spaces (text ++ take i bs)) ++ Soft ∷ inlines_after [] (drop (suc i) bs)
 inlines_after-at text [] i within feed plain = absurd (omega arith)
 inlines_after-at text (b ∷ bs) zero within feed plain = rw (append-nil text) (inlines_after-feed text b bs feed)
 inlines_after-at text (b ∷ bs) (suc i) within feed plain =
@@ -44,7 +44,7 @@ inlines_after-all text (b ∷ bs) plain =
 
 -- a source up to its first line feed
 pub inlines_of-found : (bs : List ℕ) (i : ℕ) → i < length bs → Passes (is_byte 10) bs i → Nowhere (Passes (is_byte 10) bs) 0 i
-    → inlines_of bs ≡ text_of_run (trim_end is_space (take i bs)) ++ Soft ∷ inlines_of (drop (i + 1) bs)
+    → inlines_of bs ≡ text_of_run (trim_end_spaces (take i bs)) ++ Soft ∷ inlines_of (drop (i + 1) bs)
 inlines_of-found bs i within feed plain = rw add-one (inlines_after-at [] bs i within feed plain)
 
 -- a source of one line

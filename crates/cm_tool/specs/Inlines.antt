@@ -1,6 +1,6 @@
--- The inlines of a paragraph's source: text and soft breaks.
+-- The inlines of a paragraph's or heading's source: text and soft breaks.
 use Rattle.std.specs.Prelude.{ℕ, ◌==◌, true, false, List, [], ◌∷◌, ◌++◌}
-use Rattle.cm_tool.specs.Trim.{is_space, trim_end}
+use Rattle.cm_tool.specs.Trim.{trim_end_spaces}
 use Rattle.cm_tree.specs.declared.tree.Inline.{Inline}
 use Rattle.cm_tree.specs.declared.tree.Inline.TheVariants.{Text, Soft}
 
@@ -14,7 +14,7 @@ text_of_run (b ∷ bs) = Text (b ∷ bs) ∷ []
 abbrev pub inlines_after : List ℕ → List ℕ → List Inline
 inlines_after text [] = text_of_run text
 inlines_after text (b ∷ bs) = elim (b == 10) [
-  | true ↦ text_of_run (trim_end is_space text) ++ Soft ∷ inlines_after [] bs
+  | true ↦ text_of_run (trim_end_spaces text) ++ Soft ∷ inlines_after [] bs
   | false ↦ inlines_after (text ++ b ∷ []) bs
 ]
 

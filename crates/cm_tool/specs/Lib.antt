@@ -1,8 +1,8 @@
 pub mod Trim
 pub mod Inlines
-pub mod Blocks
-pub mod Building
+pub mod Leaves
 pub mod Fault
+pub mod Faults
 pub mod Reading
 pub mod Parsing
 pub mod Convert

@@ -1,18 +1,28 @@
 -- What reading a source to its end answers.
 use Rattle.std.specs.Prelude.{◌≡◌, ℕ, ◌+◌, List, Option, Some, None, Result, Ok, Err, ◌⊎◌}
 use Rattle.std.specs.Io.KnownBytes.{IsAtEnd}
-use Rattle.cm_text.specs.declared.fault.TextFault.{TextFault}
-use Rattle.cm_text.specs.declared.fault.TextFault.TheVariants as text_faults
+use Rattle.cm_text.specs.Rules.Rules.{profile}
+use Rattle.cm_text.specs.Limits.{LimitsView}
 use Rattle.cm_text.specs.Lines.{text_of, plain_lines_of}
-use Rattle.cm_text.specs.Faults.{settled_fault, text_fault}
-use Rattle.cm_tool.specs.declared.fault.Fault.{Fault}
-use Rattle.cm_tool.specs.declared.fault.Fault.TheVariants.{NotUtf8, TooLong, NoMemory, ReadFailed, WriteFailed}
 use Rattle.cm_tree.specs.declared.tree.Block.{Block}
-use Rattle.cm_tool.specs.Blocks.{blocks_of}
+use Rattle.cm_tree.specs.declared.tree.Owner.{Owner}
+use Rattle.cm_tree.specs.declared.tree.Doc.{Doc}
+use Rattle.cm_scan.specs.Blocks.{blocks_of, owners_of}
+use Rattle.cm_tool.specs.declared.fault.Fault.{Fault}
+use Rattle.cm_tool.specs.declared.fault.Fault.TheVariants.{NotUtf8, TooLong, BlocksTooDeep, NoMemory, ReadFailed, WriteFailed}
+use Rattle.cm_tool.specs.Leaves.{with_inlines}
+use Rattle.cm_tool.specs.Faults.{fault_of, settled_fault_of}
 
 -- the tree of a text's bytes
 abbrev pub tree_of : List ℕ → List Block
-tree_of bytes = blocks_of (plain_lines_of (text_of bytes))
+tree_of bytes = with_inlines (blocks_of profile (plain_lines_of (text_of bytes)))
+
+-- the owner of each of its lines
+abbrev pub owners_of_bytes : List ℕ → List Owner
+owners_of_bytes bytes = owners_of profile (plain_lines_of (text_of bytes))
+
+abbrev pub doc_of : List ℕ → Doc
+doc_of bytes = record { blocks = tree_of bytes; owners = owners_of_bytes bytes }
 
 -- a source, by the bytes still to come, where they are known, and the number of failed reads
 pub record SourceView : Type 0 where
@@ -20,31 +30,32 @@ pub record SourceView : Type 0 where
   pub failed : ℕ
 
 -- the text has been read whole, without a failed read, and has no fault
-pub record ReadWhole (limit : ℕ) (bytes : List ℕ) (old new : SourceView) : Type 0 where
+pub record ReadWhole (limits : LimitsView) (bytes : List ℕ) (old new : SourceView) : Type 0 where
   pub same : new.failed ≡ old.failed
   pub at_end : IsAtEnd new.remaining
-  pub sound : text_fault limit bytes ≡ None
+  pub sound : fault_of limits bytes ≡ None
 
--- the text has this fault: the bytes settle it, or they are all
-pub record HasFault (limit : ℕ) (bytes : List ℕ) (old new : SourceView) (fault : TextFault) : Type 0 where
+-- the input has this fault: the bytes settle it, or they are all
+pub record HasFault (limits : LimitsView) (bytes : List ℕ) (old new : SourceView) (fault : Fault) : Type 0 where
   pub same : new.failed ≡ old.failed
-  pub told : (settled_fault limit bytes ≡ Some fault)
-      ⊎ ((settled_fault limit bytes ≡ None) × IsAtEnd new.remaining × (text_fault limit bytes ≡ Some fault))
+  pub told : (settled_fault_of limits bytes ≡ Some fault)
+      ⊎ ((settled_fault_of limits bytes ≡ None) × IsAtEnd new.remaining × (fault_of limits bytes ≡ Some fault))
 
 -- a read failed, and the bytes before it settle no fault
-pub record HasFailed (limit : ℕ) (bytes : List ℕ) (old new : SourceView) : Type 0 where
+pub record HasFailed (limits : LimitsView) (bytes : List ℕ) (old new : SourceView) : Type 0 where
   pub failed : new.failed ≡ old.failed + 1
-  pub sound : settled_fault limit bytes ≡ None
+  pub sound : settled_fault_of limits bytes ≡ None
 
 -- why these bytes aren't a document: on want of memory nothing is said of them
-abbrev pub Refuses : Fault → ℕ → List ℕ → SourceView → SourceView → Type 0
-Refuses (NotUtf8 at) limit bytes old new = HasFault limit bytes old new (text_faults.NotUtf8 at)
-Refuses (TooLong at) limit bytes old new = HasFault limit bytes old new (text_faults.TooLong at)
-Refuses NoMemory limit bytes old new = new.failed ≡ old.failed
-Refuses ReadFailed limit bytes old new = HasFailed limit bytes old new
-Refuses (WriteFailed written) limit bytes old new = ⊥
+abbrev pub Refuses : Fault → LimitsView → List ℕ → SourceView → SourceView → Type 0
+Refuses (NotUtf8 at) limits bytes old new = HasFault limits bytes old new (NotUtf8 at)
+Refuses (TooLong at) limits bytes old new = HasFault limits bytes old new (TooLong at)
+Refuses (BlocksTooDeep line) limits bytes old new = HasFault limits bytes old new (BlocksTooDeep line)
+Refuses NoMemory limits bytes old new = new.failed ≡ old.failed
+Refuses ReadFailed limits bytes old new = HasFailed limits bytes old new
+Refuses (WriteFailed written) limits bytes old new = ⊥
 
--- what reading these bytes answers: their tree, or why there is none
-abbrev pub Reads : Result (List Block) Fault → ℕ → List ℕ → SourceView → SourceView → Type 0
-Reads (Ok blocks) limit bytes old new = ReadWhole limit bytes old new × (blocks ≡ tree_of bytes)
-Reads (Err fault) limit bytes old new = Refuses fault limit bytes old new
+-- what reading these bytes answers: their document, or why there is none
+abbrev pub Reads : Result Doc Fault → LimitsView → List ℕ → SourceView → SourceView → Type 0
+Reads (Ok doc) limits bytes old new = ReadWhole limits bytes old new × (doc ≡ doc_of bytes)
+Reads (Err fault) limits bytes old new = Refuses fault limits bytes old new

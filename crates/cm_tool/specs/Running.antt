@@ -1,6 +1,7 @@
 -- What a run of a task, or of what stands in place of a task, writes and answers.
 use Rattle.std.specs.Prelude.{◌≡◌, ℕ, ◌≤◌, List, Result, Ok, Err, length, take, codes, string_bytes, ◌++◌, ◌⊎◌}
 use Rattle.cm_tool.specs.Reading.{SourceView}
+use Rattle.cm_text.specs.Limits.{LimitsView}
 use Rattle.cm_text.specs.Writing.{SinkView, IsUnwritten, Wrote}
 use Rattle.cm_tool.specs.Convert.{Converts}
 use Rattle.cm_tool.specs.declared.fault.Fault.{Fault}
@@ -30,8 +31,8 @@ Reports (Ok _) old new = IsUnwritten old new
 Reports (Err _) old new = OfferedLine old new
 
 -- the task's conversion has this answer, and the status and the errors tell it
-pub record Answers (answer : Result ℕ Fault) (status limit : ℕ) (bytes : List ℕ) (from left : SourceView) (old new old-errors new-errors : SinkView) : Type 0 where
-  pub converts : Converts answer limit bytes from left old new
+pub record Answers (answer : Result ℕ Fault) (status : ℕ) (limits : LimitsView) (bytes : List ℕ) (from left : SourceView) (old new old-errors new-errors : SinkView) : Type 0 where
+  pub converts : Converts answer limits bytes from left old new
   pub told : status ≡ status_of answer
   pub reports : Reports answer old-errors new-errors
 

@@ -4,10 +4,9 @@ ghost use Rattle.std.specs.Io.KnownBytes.{Consumes};
 ghost use Rattle.cm_tool.specs.Convert.{Converts};
 
 use crate::fault::Fault;
-use crate::read::read;
+use crate::reading::read;
 use cm_html::write_html;
 use cm_text::{Limits, Sink, Source};
-use cm_tree::{Doc, Items};
 use std::alloc::Global;
 
 /// Writes the HTML of the source's text, and answers its length in bytes.
@@ -24,17 +23,12 @@ pub fn convert<R: Source, W: Sink>(
     requires reads { R.failed source.old < 2 ^ 64 - 1 }
     requires writes { W.failed sink.old < 2 ^ 64 - 1 }
     ensures { (bytes : List ℕ) × Consumes (R.remaining source.old) (R.remaining source.new) bytes
-        × Converts result limits.bytes bytes
+        × Converts result limits bytes
         (record { remaining = R.remaining source.old; failed = R.failed source.old })
         (record { remaining = R.remaining source.new; failed = R.failed source.new })
         (record { taken = W.taken sink.old; failed = W.failed sink.old })
         (record { taken = W.taken sink.new; failed = W.failed sink.new }) }
 {
-    let blocks = read(alloc, source, limits)?;
-    // The HTML shows no owners of lines, so none are made.
-    let doc = Doc {
-        blocks,
-        owners: Items::new(alloc),
-    };
+    let doc = read(alloc, source, limits)?;
     Ok(write_html(alloc, &doc, sink)?)
 }

@@ -1,6 +1,7 @@
 //! Faults, and the texts by which they are told.
 ghost use Rattle.std.specs.Prelude.{◌≡◌};
 
+use cm_block::BlockFault;
 use cm_html::HtmlFault;
 use cm_text::TextFault;
 use std::alloc::AllocError;
@@ -15,6 +16,9 @@ pub enum Fault {
     /// There is a byte past the limit, which is `at`.
     #[error("F2 input too long at byte {at}")]
     TooLong { at: usize },
+    /// More quotes and items stand round the line, counted from 1, than the limit.
+    #[error("F3 blocks too deep on line {line}")]
+    BlocksTooDeep { line: usize },
     /// A request for memory was refused.
     #[error("F5 out of memory")]
     NoMemory,
@@ -37,6 +41,20 @@ impl From<TextFault> for Fault {
             TextFault::NotUtf8 { at } => Fault::NotUtf8 { at },
             TextFault::TooLong { at } => Fault::TooLong { at },
             TextFault::NoMemory => Fault::NoMemory,
+        }
+    }
+}
+
+impl From<BlockFault> for Fault {
+    ghost use Rattle.std.specs.Prelude.{◌≡◌};
+    ghost use Rattle.cm_tool.specs.Fault.{refused};
+
+    ghost from_gives = { λ fault e. e ≡ refused fault };
+
+    fn from(fault: BlockFault) -> Fault {
+        match fault {
+            BlockFault::BlocksTooDeep { line } => Fault::BlocksTooDeep { line },
+            BlockFault::NoMemory => Fault::NoMemory,
         }
     }
 }

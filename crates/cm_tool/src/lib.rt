@@ -1,15 +1,15 @@
 //! `cmk`: from the bytes of a CommonMark text to its HTML, and the program round it.
 #![tactic(auto)]
 
-mod blocks;
 mod command_line;
 mod conversion;
 mod fault;
 mod inlines;
 mod job;
 pub mod laws;
+mod leaves;
 mod parser;
-mod read;
+mod reading;
 mod running;
 mod text;
 
@@ -17,4 +17,6 @@ pub use command_line::task;
 pub use conversion::convert;
 pub use fault::Fault;
 pub use job::{Job, Stop, Task};
+pub use parser::Parser;
+pub use reading::read;
 pub use running::{run, tell};

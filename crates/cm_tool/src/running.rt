@@ -69,7 +69,7 @@ pub fn run<R: Source, W: Sink, E: Sink>(
     requires writes { W.failed writer.old < 2 ^ 64 - 1 }
     requires tells { E.failed errors.old < 2 ^ 64 - 1 }
     ensures { (bytes : List ℕ) × Consumes (R.remaining reader.old) (R.remaining reader.new) bytes
-        × (answer : Result ℕ faults.Fault) × Answers answer result task.now.limits.bytes bytes
+        × (answer : Result ℕ faults.Fault) × Answers answer result task.now.limits bytes
         (record { remaining = R.remaining reader.old; failed = R.failed reader.old })
         (record { remaining = R.remaining reader.new; failed = R.failed reader.new })
         (record { taken = W.taken writer.old; failed = W.failed writer.old })
@@ -138,6 +138,10 @@ mod tests {
             (
                 Fault::TooLong { at: usize::MAX },
                 "cmk: F2 input too long at byte 18446744073709551615\n",
+            ),
+            (
+                Fault::BlocksTooDeep { line: 3 },
+                "cmk: F3 blocks too deep on line 3\n",
             ),
             (Fault::NoMemory, "cmk: F5 out of memory\n"),
             (Fault::ReadFailed, "cmk: F6 read failed\n"),

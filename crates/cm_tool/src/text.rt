@@ -1,42 +1,10 @@
 //! Parts of a text, without copying.
 ghost use Rattle.std.specs.Prelude.{◌≡◌, ℕ, ◌+◌, ◌-◌, ◌<◌, ◌≤◌, length, take, drop, slice_index, IsUtf8};
-ghost use Rattle.cm_tool.specs.Trim.{is_space, is_space_or_tab, trim_start, trim_end};
-
-/// Whether a byte is a space or a tab.
-#[inline(always)]
-pub(crate) fn is_space_or_tab(b: u8) -> bool
-    ensures { result ≡ is_space_or_tab b }
-{
-    b == b' ' || b == b'\t'
-}
-
-/// The text without the spaces and tabs at its front.
-pub(crate) fn trim_start(text: &str) -> &str
-    ensures { result.now ≡ trim_start text.now }
-{
-    let bytes = text.as_bytes();
-    let mut start = 0;
-    while start < bytes.len() && is_space_or_tab(bytes[start]) {
-        start += 1;
-    }
-    &text[start..]
-}
-
-/// The text without the spaces and tabs at its end.
-pub(crate) fn trim_end(text: &str) -> &str
-    ensures { result.now ≡ trim_end is_space_or_tab text.now }
-{
-    let bytes = text.as_bytes();
-    let mut end = bytes.len();
-    while end > 0 && is_space_or_tab(bytes[end - 1]) {
-        end -= 1;
-    }
-    &text[..end]
-}
+ghost use Rattle.cm_tool.specs.Trim.{trim_end_spaces};
 
 /// The text without the spaces at its end.
 pub(crate) fn trim_end_spaces(text: &str) -> &str
-    ensures { result.now ≡ trim_end is_space text.now }
+    ensures { result.now ≡ trim_end_spaces text.now }
 {
     let bytes = text.as_bytes();
     let mut end = bytes.len();

@@ -123,3 +123,25 @@ fn limits_of_texts(rt: HostRuntime) -> Result<(), Fail> {
     }
     Ok(())
 }
+
+#[test]
+fn lines_too_deep(rt: HostRuntime) -> Result<(), Fail> {
+    let limits = Limits::new(1000, 2, 100).ok_or("limits")?;
+    let two = "<blockquote>\n<blockquote>\n<p>a</p>\n</blockquote>\n</blockquote>\n";
+    for (text, want) in [
+        (b"> > a\n".as_slice(), Ok(two)),
+        (b"> > > a".as_slice(), Err(Fault::BlocksTooDeep { line: 1 })),
+        (
+            b"a\r\n> - + b".as_slice(),
+            Err(Fault::BlocksTooDeep { line: 2 }),
+        ),
+        (
+            b"> > > a\n\xFF".as_slice(),
+            Err(Fault::BlocksTooDeep { line: 1 }),
+        ),
+        (b"> > > a\xFF".as_slice(), Err(Fault::NotUtf8 { at: 7 })),
+    ] {
+        is_converted(&rt, rt.alloc(), text, limits, want)?;
+    }
+    Ok(())
+}

@@ -1,24 +1,38 @@
 use Rattle.std.proofs.Common.{refl}
+use Rattle.std.specs.Fmt.{digits}
+use Rattle.std.specs.Str.{is_utf8, chars}
+use Rattle.std.specs.Str.Lossy.{utf8_valid_len, utf8_error_len}
 use Rattle.cm_tree.specs.declared.tree.Inline.TheViews.{outs-Text as text, outs-Soft as soft}
 use Rattle.cm_tree.specs.declared.tree.Inline.TheFolds.{fold_out-Inline}
-use Rattle.cm_tree.specs.declared.tree.Block.TheVariants.{outs-Paragraph as paragraph, outs-Break as thematic}
+use Rattle.cm_tree.specs.declared.tree.Block.{Block}
+use Rattle.cm_tree.specs.declared.tree.Block.TheVariants.{outs-Paragraph as paragraph, outs-Heading as heading, outs-Code as code, outs-Break as thematic, outs-Quote as quote, outs-List as items}
 use Rattle.cm_tree.specs.declared.tree.Block.TheFolds.{fold_out-Block}
+use Rattle.cm_scan.proofs.Computing.{block_structure}
+use Rattle.cm_html.specs.Escape.{class_word}
 use Rattle.cm_html.specs.Html.{Spelled, inline_step, Written, block_step}
+use Rattle.cm_tool.specs.Leaves.{read_step}
 use Rattle.cm_tool.proofs.laws.worked_examples.Goals as goal
+use lib.Utf8.{encode}
 
-pub returns : goal.returns
-returns c = record {
+pub returns-clause-html : goal.returns-clause-html
+unfolding block_structure class_word digits
+returns-clause-html c = record {
   no_text = refl;
-  paragraph_over_two_lines = simp (fold_out-Block Written block_step, fold_out-Inline Spelled inline_step, paragraph, text, soft);
-  break_between_paragraphs = simp (fold_out-Block Written block_step, fold_out-Inline Spelled inline_step, paragraph, thematic, text);
-  break_of_underscores = simp (fold_out-Block Written block_step, fold_out-Inline Spelled inline_step, paragraph, thematic, text);
-  break_and_ampersand = simp (fold_out-Block Written block_step, fold_out-Inline Spelled inline_step, paragraph, thematic, text);
-  references = simp (fold_out-Block Written block_step, fold_out-Inline Spelled inline_step, paragraph, text);
-  carriage_return = simp (fold_out-Block Written block_step, fold_out-Inline Spelled inline_step, paragraph, text, soft);
-  carriage_return_line_feed = simp (fold_out-Block Written block_step, fold_out-Inline Spelled inline_step, paragraph, text, soft);
-  nul = simp (fold_out-Block Written block_step, fold_out-Inline Spelled inline_step, paragraph, text);
-  blank_line = simp (fold_out-Block Written block_step, fold_out-Inline Spelled inline_step, paragraph, text);
-  four_columns = simp (fold_out-Block Written block_step, fold_out-Inline Spelled inline_step, paragraph, text);
-  two_markers = simp (fold_out-Block Written block_step, fold_out-Inline Spelled inline_step, paragraph, text);
-  tab_before_soft_break = simp (fold_out-Block Written block_step, fold_out-Inline Spelled inline_step, paragraph, text, soft);
+  paragraph_over_two_lines = simp (fold_out-Block Block read_step, fold_out-Block Written block_step, fold_out-Inline Spelled inline_step, paragraph, text, soft);
+  break_between_paragraphs = simp (fold_out-Block Block read_step, fold_out-Block Written block_step, fold_out-Inline Spelled inline_step, paragraph, thematic, text);
+  heading = simp (fold_out-Block Block read_step, fold_out-Block Written block_step, fold_out-Inline Spelled inline_step, heading, thematic, text);
+  heading_over_two_lines = simp (fold_out-Block Block read_step, fold_out-Block Written block_step, fold_out-Inline Spelled inline_step, heading, text, soft);
+  references = simp (fold_out-Block Block read_step, fold_out-Block Written block_step, fold_out-Inline Spelled inline_step, paragraph, text);
+  carriage_return = simp (fold_out-Block Block read_step, fold_out-Block Written block_step, fold_out-Inline Spelled inline_step, paragraph, text, soft);
+  carriage_return_line_feed = simp (fold_out-Block Block read_step, fold_out-Block Written block_step, fold_out-Inline Spelled inline_step, paragraph, text, soft);
+  nul = simp (fold_out-Block Block read_step, fold_out-Block Written block_step, fold_out-Inline Spelled inline_step, paragraph, text);
+  blank_line = simp (fold_out-Block Block read_step, fold_out-Block Written block_step, fold_out-Inline Spelled inline_step, paragraph, text);
+  indented_code = simp (fold_out-Block Block read_step, fold_out-Block Written block_step, code);
+  lazy_line = simp (fold_out-Block Block read_step, fold_out-Block Written block_step, fold_out-Inline Spelled inline_step, quote, paragraph, text, soft);
+  list_in_a_quote = simp (fold_out-Block Block read_step, fold_out-Block Written block_step, fold_out-Inline Spelled inline_step, quote, items, paragraph, text, soft);
+  tab_before_soft_break = simp (fold_out-Block Block read_step, fold_out-Block Written block_step, fold_out-Inline Spelled inline_step, paragraph, text, soft);
 }
+
+pub returns-clause-faults : goal.returns-clause-faults
+unfolding block_structure utf8_valid_len utf8_error_len is_utf8 chars encode
+returns-clause-faults c = record { line_before_a_fault = refl; line_cut_by_a_fault = refl; past_the_limit = refl; within_the_limit = refl; carriage_return = refl; unended = refl; unended_at_the_end = refl }

@@ -12,7 +12,7 @@ loop-end-preserved c =
     let end = c.loop-end.end in
     let blank : is_space (get_or bytes (end - 1) 0) ≡ true = grind arith in
     record {
-      trimmed = sym (trim_end-step is_space bytes end (omega arith) (omega arith) blank) ∙ c.loop-end.invariant.trimmed;
+      trimmed = sym (trim_end-step bytes end (omega arith) (omega arith) blank) ∙ c.loop-end.invariant.trimmed;
       boundary = IsCharBoundary-before_ascii bytes (end - 1) (omega arith) (space_ascii (get_or bytes (end - 1) 0) blank);
     }
 
@@ -23,6 +23,6 @@ returns c =
     elim c.loop-end-test.branch [
       | then-loop-end-test+else-bytes-end-eq32 w ↦
           let fails : is_space (get_or bytes (end - 1) 0) ≡ false = grind arith in
-          grind (arith, common_steps, trim_end-stop is_space bytes end (omega arith) (omega arith) fails)
-      | else-loop-end-test w ↦ grind (arith, common_steps, trim_end-none is_space bytes end (omega arith))
+          grind (arith, common_steps, trim_end-stop bytes end (omega arith) (omega arith) fails)
+      | else-loop-end-test w ↦ grind (arith, common_steps, trim_end-none bytes end (omega arith))
     ]

@@ -1,11 +1,11 @@
 use Rattle.std.proofs.Common.{◌≡◌, take}
 use Rattle.std.specs.Str.{IsCharBoundary}
-use Rattle.cm_tool.specs.Trim.{is_space, trim_end}
+use Rattle.cm_tool.specs.Trim.{trim_end_spaces}
 use Rattle.cm_tool.proofs.text.trim_end_spaces.Given as goal
 
 abbrev pub invariant-loop-end : goal.invariant-loop-end
 invariant-loop-end l = record {
-  trimmed : trim_end is_space (take l.end l.bytes) ≡ trim_end is_space l.bytes;
+  trimmed : trim_end_spaces (take l.end l.bytes) ≡ trim_end_spaces l.bytes;
   boundary : IsCharBoundary l.bytes l.end;
 }
 
