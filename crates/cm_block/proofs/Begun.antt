@@ -59,7 +59,7 @@ module _ (fs : List Frame) (v : Level) (line : LineView) (owned : Owned) where
       f = frame (block_opens v) a_quote
 
   module _ (m : ItemMarker) (inner : LineView) (column : ℕ) (some : is_blank line ≡ false) (is : start_of profile line ≡ ItemStart m)
-    (at : inner ≡ first_content m line) (reaches : column ≡ content_column m line) where
+      (at : inner ≡ first_content m line) (reaches : column ≡ content_column m line) where
     begins-it : begin_of profile line ≡ begins_item m.kind column inner
     begins-it = begins-as line (ItemStart m) some is ∙ ap₂ (begins_item m.kind) (sym reaches) (sym at)
 

@@ -111,7 +111,7 @@ module _ (bare : Bool) (fs : List Frame) (v : Level) (x : OpenLeaf) (o : Owned) 
 -- one more line behind those so far
 
 module _ (limit : ℕ) (st : Stack) (lines : List LineView) (line l : LineView) (same : l ≡ line) (so_far : AreLines lines) (one_line : is_line line.text ≡ true)
-  (holds : st ≡ push_lines profile empty_stack lines) (within_limit : first_too_deep profile limit lines ≡ None) where
+    (holds : st ≡ push_lines profile empty_stack lines) (within_limit : first_too_deep profile limit lines ≡ None) where
   pub lines_next : AreLines (lines ++ line ∷ [])
   lines_next = are-push lines line so_far one_line
 
@@ -140,7 +140,7 @@ abbrev pub after : List Frame → Level → OpenLeaf → Owned → ℕ × LineVi
 after fs v x s m = begun_in (take m.0 fs) (close_frames (drop m.0 fs) (close_open v (in_leaf x))) m.1 (own_open (quoted_by false fs) s (in_leaf x))
 
 module _ (bare : Bool) (fs : List Frame) (v : Level) (x : OpenLeaf) (s : Owned) (line : LineView) (m : ℕ × LineView)
-  (found : m ≡ matching profile bare (is_open_text x) fs line) where
+    (found : m ≡ matching profile bare (is_open_text x) fs line) where
   pushed-as : push_line profile (stack_with bare fs v x s) line ≡ pushed profile false fs v x s m
   unfolding push_line
   pushed-as = pushes profile bare false fs v x s line ∙ ap (pushed profile false fs v x s) (sym found)
@@ -207,8 +207,8 @@ stands_next old new lines line l same one_line h pushed few limits fault = recor
 -- a line that the parser accepts: one of the open leaf, or else what it begins
 
 module _ (old before now : parser.BlockParser) (line : LineView) (m : ℕ × LineView) (frames : before.stack.frames ≡ old.stack.frames) (level : before.stack.level ≡ old.stack.level)
-  (leaf : before.leaf ≡ old.leaf) (owners : before.owners ≡ old.owners)
-  (found : m ≡ matching profile old.stack.bare (is_open_text (leaf_of old.leaf)) (frames_of old.stack.frames) line) where
+    (leaf : before.leaf ≡ old.leaf) (owners : before.owners ≡ old.owners)
+    (found : m ≡ matching profile old.stack.bare (is_open_text (leaf_of old.leaf)) (frames_of old.stack.frames) line) where
   fs : List Frame
   fs = frames_of old.stack.frames
 
@@ -245,9 +245,10 @@ module _ (old before now : parser.BlockParser) (line : LineView) (m : ℕ × Lin
       × ((leaf_of now.leaf ≡ leaf_of old.leaf) × ((now.stack.frames ≡ old.stack.frames) × ((now.stack.level ≡ old.stack.level) × (now.owners ≡ old.owners))))
   unfolding fs v x
   accept_left true e h = absurd (cc e)
-  accept_left false e h =
-      (by-depth (nat_le (length before.stack.frames) m.0) refl,
-      (h.1.0 ∙ same-leaf, (ap (λ (s : code.Stack). s.frames) h.1.1.0 ∙ frames, (ap (λ (s : code.Stack). s.level) h.1.1.0 ∙ level, h.1.1.1 ∙ owners))))
+  accept_left false e h = (
+    by-depth (nat_le (length before.stack.frames) m.0) refl,
+    (h.1.0 ∙ same-leaf, (ap (λ (s : code.Stack). s.frames) h.1.1.0 ∙ frames, (ap (λ (s : code.Stack). s.level) h.1.1.0 ∙ level, h.1.1.1 ∙ owners))),
+  )
     where
       by-depth : (b : Bool) → nat_le (length before.stack.frames) m.0 ≡ b
           → push_line profile (stack_of old) line ≡ after (frames_of old.stack.frames) (level_of old.stack.level) (leaf_of old.leaf) old.owners m

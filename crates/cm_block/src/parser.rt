@@ -81,7 +81,8 @@ impl BlockParser {
         leaf.put(self.alloc, &mut self.stack.level, &mut self.owners)?;
         if blank_lines > 0 {
             self.stack.level.push_blank();
-            self.owners.blank_lines(self.stack.is_quoted(), blank_lines)?;
+            self.owners
+                .blank_lines(self.stack.is_quoted(), blank_lines)?;
         }
         Ok(())
     }
@@ -300,9 +301,19 @@ mod tests {
         }
         let outline = parser.finish().ok().ok_or("outline")?;
         assert_eq!(rt; outline.blocks.len(), 2);
-        assert!(rt; matches!(outline.blocks.first(), Some(Block::List { tight: true, .. })));
+        assert!(rt;
+            matches!(
+                outline.blocks.first(),
+                Some(Block::List { tight: true, .. })
+            )
+        );
         assert!(rt; matches!(outline.blocks.get(1), Some(Block::Quote(_))));
-        let owners = [Owner::Leaf(1), Owner::Leaf(2), Owner::Leaf(2), Owner::Leaf(2)];
+        let owners = [
+            Owner::Leaf(1),
+            Owner::Leaf(2),
+            Owner::Leaf(2),
+            Owner::Leaf(2),
+        ];
         assert!(rt; outline.owners.as_slice() == owners.as_slice());
         assert!(rt; outline.definitions.find("d")?.is_none());
         Ok(())

@@ -130,7 +130,12 @@ impl Stack {
     }
 
     /// Opens an item.
-    pub(crate) fn open_item(&mut self, alloc: Global, kind: ListKind, column: usize) -> Result<(), AllocError>
+    pub(crate) fn open_item(
+        &mut self,
+        alloc: Global,
+        kind: ListKind,
+        column: usize,
+    ) -> Result<(), AllocError>
         ensures frames { OnOk result (frames_of self.new.frames
             ≡ frames_of self.old.frames ++ record { level = item_opens (level_of self.old.level) kind; container = an_item kind column } ∷ []) }
         ensures level { OnOk result (level_of self.new.level ≡ empty_level) }

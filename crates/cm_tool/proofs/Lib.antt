@@ -5,3 +5,4 @@ pub mod SettledLemmas
 pub mod ParserLemmas
 pub mod ReadLemmas
 pub mod CommandLineLemmas
+pub mod WalkedLemmas

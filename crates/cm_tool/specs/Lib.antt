@@ -8,4 +8,5 @@ pub mod Parsing
 pub mod Convert
 pub mod Examples
 pub mod CommandLine
+pub mod Listing
 pub mod Running

@@ -4,7 +4,10 @@ use Rattle.cm_tool.specs.Reading.{SourceView}
 use Rattle.cm_text.specs.Limits.{LimitsView}
 use Rattle.cm_text.specs.Writing.{SinkView, IsUnwritten, Wrote}
 use Rattle.cm_tool.specs.Convert.{Converts}
+use Rattle.cm_tool.specs.Listing.{Lists}
 use Rattle.cm_tool.specs.declared.fault.Fault.{Fault}
+use Rattle.cm_tool.specs.declared.job.Job.{Job}
+use Rattle.cm_tool.specs.declared.job.Job.TheVariants.{Render, Tree}
 use Rattle.cm_tool.specs.declared.job.Stop.{Stop}
 use Rattle.cm_tool.specs.declared.job.Stop.TheVariants.{Help, Wrong, NoMemory}
 
@@ -30,9 +33,14 @@ abbrev pub Reports : Result ℕ Fault → SinkView → SinkView → Type 0
 Reports (Ok _) old new = IsUnwritten old new
 Reports (Err _) old new = OfferedLine old new
 
--- the task's conversion has this answer, and the status and the errors tell it
-pub record Answers (answer : Result ℕ Fault) (status : ℕ) (limits : LimitsView) (bytes : List ℕ) (from left : SourceView) (old new old-errors new-errors : SinkView) : Type 0 where
-  pub converts : Converts answer limits bytes from left old new
+-- what doing a job answers once these bytes have been read, and what it has written then
+abbrev pub Does : Job → Result ℕ Fault → LimitsView → List ℕ → SourceView → SourceView → SinkView → SinkView → Type 0
+Does Render answer limits bytes from left old new = Converts answer limits bytes from left old new
+Does Tree answer limits bytes from left old new = Lists answer limits bytes from left old new
+
+-- the job has this answer, and the status and the errors tell it
+pub record Answers (answer : Result ℕ Fault) (status : ℕ) (job : Job) (limits : LimitsView) (bytes : List ℕ) (from left : SourceView) (old new old-errors new-errors : SinkView) : Type 0 where
+  pub does : Does job answer limits bytes from left old new
   pub told : status ≡ status_of answer
   pub reports : Reports answer old-errors new-errors
 

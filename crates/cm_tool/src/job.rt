@@ -8,6 +8,8 @@ use std::alloc::AllocError;
 pub enum Job {
     /// The text is written as HTML.
     Render,
+    /// The tree of the text is listed, and the owner of each line.
+    Tree,
 }
 
 /// A job, and what it is done on.

@@ -8,6 +8,7 @@ mod inlines;
 mod job;
 pub mod laws;
 mod leaves;
+mod listing;
 mod parser;
 mod reading;
 mod running;

@@ -2,11 +2,12 @@
 ghost use Rattle.std.specs.Prelude.{◌≡◌, ℕ, ◌+◌, ◌-◌, ◌^◌, ◌<◌, ◌≤◌, ◌++◌, List, Result, IfOk, length, take};
 ghost use Rattle.std.specs.Io.KnownBytes.{Consumes};
 ghost use Rattle.cm_tool.specs.declared.fault.Fault as faults;
-ghost use Rattle.cm_tool.specs.Running.{Answers, Offered, OfferedLine, Tells};
+ghost use Rattle.cm_tool.specs.Running.{Answers, Does, Offered, OfferedLine, Tells};
 
 use crate::conversion::convert;
 use crate::fault::Fault;
 use crate::job::{Job, Stop, Task};
+use crate::listing::list;
 use cm_text::{Sink, Source, WriteFailed, write_all};
 use std::alloc::Global;
 use std::io::{Cursor, Write};
@@ -56,6 +57,28 @@ fn tell_fault<E: Sink>(fault: Fault, errors: &mut E) -> u8
     1
 }
 
+// Does the job of the task.
+fn work<R: Source, W: Sink>(
+    alloc: Global,
+    task: &Task,
+    reader: &mut R,
+    writer: &mut W,
+) -> Result<usize, Fault>
+    requires reads { R.failed reader.old < 2 ^ 64 - 1 }
+    requires writes { W.failed writer.old < 2 ^ 64 - 1 }
+    ensures { (bytes : List ℕ) × Consumes (R.remaining reader.old) (R.remaining reader.new) bytes
+        × Does task.now.job result task.now.limits bytes
+        (record { remaining = R.remaining reader.old; failed = R.failed reader.old })
+        (record { remaining = R.remaining reader.new; failed = R.failed reader.new })
+        (record { taken = W.taken writer.old; failed = W.failed writer.old })
+        (record { taken = W.taken writer.new; failed = W.failed writer.new }) }
+{
+    match task.job {
+        Job::Render => convert(alloc, reader, writer, task.limits),
+        Job::Tree => list(alloc, reader, writer, task.limits),
+    }
+}
+
 /// Does the task and answers the exit status: 0, or 1 after a fault, whose line goes to `errors`. A
 /// failure of `errors` is passed over.
 pub fn run<R: Source, W: Sink, E: Sink>(
@@ -69,7 +92,7 @@ pub fn run<R: Source, W: Sink, E: Sink>(
     requires writes { W.failed writer.old < 2 ^ 64 - 1 }
     requires tells { E.failed errors.old < 2 ^ 64 - 1 }
     ensures { (bytes : List ℕ) × Consumes (R.remaining reader.old) (R.remaining reader.new) bytes
-        × (answer : Result ℕ faults.Fault) × Answers answer result task.now.limits bytes
+        × (answer : Result ℕ faults.Fault) × Answers answer result task.now.job task.now.limits bytes
         (record { remaining = R.remaining reader.old; failed = R.failed reader.old })
         (record { remaining = R.remaining reader.new; failed = R.failed reader.new })
         (record { taken = W.taken writer.old; failed = W.failed writer.old })
@@ -77,10 +100,7 @@ pub fn run<R: Source, W: Sink, E: Sink>(
         (record { taken = E.taken errors.old; failed = E.failed errors.old })
         (record { taken = E.taken errors.new; failed = E.failed errors.new }) }
 {
-    let answer = match task.job {
-        Job::Render => convert(alloc, reader, writer, task.limits),
-    };
-    match answer {
+    match work(alloc, task, reader, writer) {
         Ok(_) => 0,
         Err(fault) => tell_fault(fault, errors),
     }
@@ -160,29 +180,35 @@ mod tests {
     #[test]
     fn runs(rt: HostRuntime) -> Result<(), Fail> {
         let alloc = rt.alloc();
-        let task = Task {
-            job: Job::Render,
-            file: None,
-            limits: Limits::standard(),
-        };
+        let (render, tree) = (Job::Render, Job::Tree);
         let good = b"a & b".as_slice();
         let bad = b"\x61\x80".as_slice();
+        let listing = "paragraph\n  text \"a & b\"\nowner 1 leaf 1\n";
+        let written = "cmk: F7 write failed after 5 bytes\n";
         // The bytes, whether the reader fails after them, and the room of the writer and of the errors.
-        for (bytes, fails, room, line_room, status, output, line) in [
-            (good, false, 99, 99, 0, "<p>a &amp; b</p>\n", ""),
-            (bad, false, 99, 99, 1, "", "cmk: F1 not UTF-8 at byte 1\n"),
-            (good, true, 99, 99, 1, "", "cmk: F6 read failed\n"),
+        for (job, bytes, fails, room, line_room, status, output, line) in [
+            (render, good, false, 99, 99, 0, "<p>a &amp; b</p>\n", ""),
+            (tree, good, false, 99, 99, 0, listing, ""),
             (
-                good,
+                tree,
+                bad,
                 false,
-                5,
+                99,
                 99,
                 1,
-                "<p>a ",
-                "cmk: F7 write failed after 5 bytes\n",
+                "",
+                "cmk: F1 not UTF-8 at byte 1\n",
             ),
-            (bad, false, 99, 7, 1, "", "cmk: F1"),
+            (render, good, true, 99, 99, 1, "", "cmk: F6 read failed\n"),
+            (render, good, false, 5, 99, 1, "<p>a ", written),
+            (tree, good, false, 5, 99, 1, "parag", written),
+            (render, bad, false, 99, 7, 1, "", "cmk: F1"),
         ] {
+            let task = Task {
+                job,
+                file: None,
+                limits: Limits::standard(),
+            };
             let mut reader = source(alloc, bytes, fails)?;
             let mut writer = sink(alloc, room)?;
             let mut errors = sink(alloc, line_room)?;

@@ -20,7 +20,7 @@ returns-then-is_none c =
     let text = c.strip-content.result.rest.now in
     let none = is_not_there (begins_with 62 text) 1 c.quote_marker.result c.quote_marker.ensures.marker (sym c.if-is_none.ensures) in
     let start = starts_near line c.indent-indent.result c.strip-content.result c.if-line.false c.indent-indent.ensures (omega (arith, c.if-indent-ge4.false)) c.strip-content.ensures.line
-        (c.strip-content.ensures.bare (omega (arith, c.indent-indent.ensures))) in
+    (c.strip-content.ensures.bare (omega (arith, c.indent-indent.ensures))) in
     ap begins_quote (sym start) ∙ no-quote text none
 
 pub returns : goal.returns

@@ -1,38 +1,23 @@
-use Rattle.std.proofs.Common.{◌≡◌, ◌∙◌, [], ap, subst, inl, inr, map, option_map, rules, string_bytes}
-use Rattle.clap.specs.Words.{App, fault_of, is_simple_and_free, kind_of, IsAmong}
-use Rattle.cm_tool.specs.CommandLine.{file_named, stops_of}
-use Rattle.cm_tool.proofs.CommandLineLemmas.{cmk_is_simple, alone_is_right, alone_names_none, file_is_right, file_is_named, only_memory}
+use Rattle.std.proofs.Common.{◌≡◌, ◌∙◌, [], ap, sym, subst, Option, IsSomeAnd, inl, inr, map, string_bytes}
+use Rattle.clap.specs.Words.{App, fault_of, is_simple, is_simple_and_free, subcommand_of, kind_of, IsAmong}
+use Rattle.cm_tool.specs.CommandLine.{found_for, stops_of, Found, IsJob, IsTaskOf}
+use Rattle.cm_tool.proofs.CommandLineLemmas.{cmk_is_simple, cmk_reads_simply, asked_right, asked_task, asked_wrong, is_mistake, no_kinds, only_memory}
+use Rattle.cm_tool.proofs.WalkedLemmas.{is_job}
 use Rattle.cm_tool.proofs.command_line.task.Goals as goal
 
-pub returns-in_ok-file_of-in-Ok-clause-right : goal.returns-in_ok-file_of-in-Ok-clause-right
-returns-in_ok-file_of-in-Ok-clause-right c =
+pub task_of-requires : goal.task_of-requires
+task_of-requires c =
+    let is_cmk = c.in_ok-command.ensures in
+    let words = map string_bytes c.args.words.now in
+    let right = subst (λ (a : App). fault_of a words ≡ []) is_cmk (c.in-Ok.ensures.kinds (ap is_simple_and_free is_cmk ∙ cmk_is_simple)) in
+    let found = (c.in-Ok.ensures.matches (ap is_simple is_cmk ∙ cmk_reads_simply)).1 ∙ ap (λ (a : App). subcommand_of a words) is_cmk in
+    subst (λ (f : Option Found). IsSomeAnd f IsJob) (sym found) (is_job words right)
+
+pub returns-in_ok-task_of-in-Ok-clause-right : goal.returns-in_ok-task_of-in-Ok-clause-right
+returns-in_ok-task_of-in-Ok-clause-right c =
     let is_cmk = c.in_ok-command.ensures in
     subst (λ (a : App). fault_of a (map string_bytes c.args.words.now) ≡ []) is_cmk
     (c.in-Ok.ensures.kinds (ap is_simple_and_free is_cmk ∙ cmk_is_simple))
-
-pub returns-in_ok-file_of-in-Ok-clause-alone : goal.returns-in_ok-file_of-in-Ok-clause-alone
-returns-in_ok-file_of-in-Ok-clause-alone c name words_are =
-    let file_is : option_map string_bytes c.in_ok-file_of-in-Ok.field-0 ≡ file_named (map string_bytes c.args.words.now) = search rules in
-    file_is ∙ ap file_named words_are ∙ alone_names_none name
-
-pub returns-in_ok-file_of-in-Ok-clause-named : goal.returns-in_ok-file_of-in-Ok-clause-named
-returns-in_ok-file_of-in-Ok-clause-named c name file words_are plain =
-    let file_is : option_map string_bytes c.in_ok-file_of-in-Ok.field-0 ≡ file_named (map string_bytes c.args.words.now) = search rules in
-    file_is ∙ ap file_named words_are ∙ file_is_named name file plain
-
-pub returns-in-Err-clause-alone : goal.returns-in-Err-clause-alone
-returns-in-Err-clause-alone c name words_are =
-    let is_cmk = c.in_ok-command.ensures in
-    only_memory (kind_of c.in-Err.error) _ c.stop_of.result (c.in-Err.ensures.kinds (ap is_simple_and_free is_cmk ∙ cmk_is_simple))
-    c.stop_of.ensures.memory
-    (ap (λ (a : App). fault_of a (map string_bytes c.args.words.now)) is_cmk ∙ ap stops_of words_are ∙ alone_is_right name)
-
-pub returns-in-Err-clause-named : goal.returns-in-Err-clause-named
-returns-in-Err-clause-named c name file words_are plain =
-    let is_cmk = c.in_ok-command.ensures in
-    only_memory (kind_of c.in-Err.error) _ c.stop_of.result (c.in-Err.ensures.kinds (ap is_simple_and_free is_cmk ∙ cmk_is_simple))
-    c.stop_of.ensures.memory
-    (ap (λ (a : App). fault_of a (map string_bytes c.args.words.now)) is_cmk ∙ ap stops_of words_are ∙ file_is_right name file plain)
 
 pub returns-in-Err-clause-stops : goal.returns-in-Err-clause-stops
 returns-in-Err-clause-stops c =
@@ -41,3 +26,30 @@ returns-in-Err-clause-stops c =
       | inl refused ↦ inl (c.stop_of.ensures.memory refused)
       | inr among ↦ inr (kind_of c.in-Err.error, subst (λ (a : App). IsAmong (kind_of c.in-Err.error) (fault_of a (map string_bytes c.args.words.now))) is_cmk among, c.stop_of.ensures.kind)
     ]
+
+pub returns-in_ok-task_of-in-Ok-clause-asked : goal.returns-in_ok-task_of-in-Ok-clause-asked
+returns-in_ok-task_of-in-Ok-clause-asked c name job limit file words_are number plain =
+    let is_cmk = c.in_ok-command.ensures in
+    let found = (c.in-Ok.ensures.matches (ap is_simple is_cmk ∙ cmk_reads_simply)).1 ∙ ap (λ (a : App). subcommand_of a (map string_bytes c.args.words.now)) is_cmk ∙ ap found_for words_are in
+    asked_task name job limit file c.in_ok-task_of-in-Ok.field-0 number plain
+    (subst (λ (f : Option Found). IsTaskOf f c.in_ok-task_of-in-Ok.field-0) found c.in_ok-task_of-in-Ok.ensures)
+
+pub returns-in_ok-task_of-in-Ok-clause-out_of_range : goal.returns-in_ok-task_of-in-Ok-clause-out_of_range
+returns-in_ok-task_of-in-Ok-clause-out_of_range c name limit job file words_are out number plain =
+    let is_cmk = c.in_ok-command.ensures in
+    let right = subst (λ (a : App). fault_of a (map string_bytes c.args.words.now) ≡ []) is_cmk (c.in-Ok.ensures.kinds (ap is_simple_and_free is_cmk ∙ cmk_is_simple)) in
+    no_kinds _ _ (sym (ap stops_of words_are ∙ asked_wrong name job limit file out number plain) ∙ right)
+
+pub returns-in-Err-clause-asked : goal.returns-in-Err-clause-asked
+returns-in-Err-clause-asked c name job limit file words_are number plain =
+    let is_cmk = c.in_ok-command.ensures in
+    only_memory (kind_of c.in-Err.error) _ c.stop_of.result (c.in-Err.ensures.kinds (ap is_simple_and_free is_cmk ∙ cmk_is_simple))
+    c.stop_of.ensures.memory
+    (ap (λ (a : App). fault_of a (map string_bytes c.args.words.now)) is_cmk ∙ ap stops_of words_are ∙ asked_right name job limit file number plain)
+
+pub returns-in-Err-clause-out_of_range : goal.returns-in-Err-clause-out_of_range
+returns-in-Err-clause-out_of_range c name limit job file words_are out number plain =
+    let is_cmk = c.in_ok-command.ensures in
+    is_mistake (kind_of c.in-Err.error) _ c.stop_of.result (c.in-Err.ensures.kinds (ap is_simple_and_free is_cmk ∙ cmk_is_simple))
+    c.stop_of.ensures.memory c.stop_of.ensures.kind
+    (ap (λ (a : App). fault_of a (map string_bytes c.args.words.now)) is_cmk ∙ ap stops_of words_are ∙ asked_wrong name job limit file out number plain)

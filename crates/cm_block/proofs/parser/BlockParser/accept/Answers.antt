@@ -24,7 +24,7 @@ pub close_to-requires : goal.close_to-requires
 close_to-requires c =
     let s = c.args.self.now in
     let few : c.matching-depth.result.0 ≤ length (frames_of s.stack.frames) =
-        subst (λ (k : ℕ × LineView). k.0 ≤ length (frames_of s.stack.frames)) (sym c.matching-depth.ensures) (matched_few s.stack.bare c.is_run.result (frames_of s.stack.frames) (line_of c.args.line.now)) in
+    subst (λ (k : ℕ × LineView). k.0 ≤ length (frames_of s.stack.frames)) (sym c.matching-depth.ensures) (matched_few s.stack.bare c.is_run.result (frames_of s.stack.frames) (line_of c.args.line.now)) in
     omega (arith, few, length_frames s.stack.frames, ap length c.in_ok-close_leaf.ensures.frames, ap length c.in_ok-take_to_leaf.ensures.frames)
 
 pub returns-clause-pushed : goal.returns-clause-pushed
@@ -35,9 +35,9 @@ returns-clause-pushed c =
     let left = accept_left s _ c.take_to_leaf.new.self (line_of c.args.line.now) m refl refl refl refl found c.in_ok-take_to_leaf.field-0 c.if-branch.false c.in_ok-take_to_leaf.ensures.taken in
     let closed = c.in_ok-close_leaf.ensures in
     on_ok_weaker c.begin.result (λ e.
-        e
-        ∙ begun_after s c.take_to_leaf.new.self c.close_leaf.new.self c.close_to.new.self m left.1 closed.level closed.owners closed.frames c.in_ok-close_to.ensures.frames c.in_ok-close_to.ensures.level
-        ∙ sym left.0) c.begin.ensures.pushed
+    e
+    ∙ begun_after s c.take_to_leaf.new.self c.close_leaf.new.self c.close_to.new.self m left.1 closed.level closed.owners closed.frames c.in_ok-close_to.ensures.frames c.in_ok-close_to.ensures.level
+    ∙ sym left.0) c.begin.ensures.pushed
 
 pub returns-clause-deep : goal.returns-clause-deep
 returns-clause-deep c =

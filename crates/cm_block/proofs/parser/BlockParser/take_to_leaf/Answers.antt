@@ -9,17 +9,29 @@ use Rattle.cm_block.proofs.parser.BlockParser.take_to_leaf.Goals as goal
 pub returns-in-Stays-clause-taken : goal.returns-in-Stays-clause-taken
 returns-in-Stays-clause-taken c =
     let s = c.args.self.now in
-    let y = leaf_of c.take_line.new.self in
-    (omega (arith, c.len.ensures, c.if-depth-len.false), (stays_open y,
-    (sym c.in_ok-take_line.ensures.line ∙ ap (λ t. taken_of t y) c.in-Stays.is,
-    stack_stays s.stack.bare (frames_of s.stack.frames) (level_of s.stack.level) (level_of s.stack.level) y s.owners c.requires.plain refl)))
+    let y = leaf_of c.take_line.new.self in (
+      omega (arith, c.len.ensures, c.if-depth-len.false),
+      (
+        stays_open y,
+        (
+          sym c.in_ok-take_line.ensures.line ∙ ap (λ t. taken_of t y) c.in-Stays.is,
+          stack_stays s.stack.bare (frames_of s.stack.frames) (level_of s.stack.level) (level_of s.stack.level) y s.owners c.requires.plain refl,
+        ),
+      ),
+    )
 
 pub returns-in_ok-put-in-Last-clause-taken : goal.returns-in_ok-put-in-Last-clause-taken
 returns-in_ok-put-in-Last-clause-taken c =
     let s = c.args.self.now in
     let y = leaf_of c.take_line.new.self in
-    let leaf = c.in-Last.leaf in
-    (omega (arith, c.len.ensures, c.if-depth-len.false), (is_last (leaves_of_closed leaf),
-    (sym c.in_ok-take_line.ensures.line ∙ ap (λ t. taken_of t y) c.in-Last.is,
-    stack_ends s.stack.bare (frames_of s.stack.frames) (level_of s.stack.level) (level_of c.put.new.level) y s.owners c.put.new.owners (leaves_of_closed leaf)
-    c.requires.plain (c.in_ok-take_line.ensures.left ∙ ap (λ t. left_open t (leaf_of s.leaf) y) c.in-Last.is) c.in_ok-put-in-Last.ensures.level c.in_ok-put-in-Last.ensures.owners)))
+    let leaf = c.in-Last.leaf in (
+      omega (arith, c.len.ensures, c.if-depth-len.false),
+      (
+        is_last (leaves_of_closed leaf),
+        (
+          sym c.in_ok-take_line.ensures.line ∙ ap (λ t. taken_of t y) c.in-Last.is,
+          stack_ends s.stack.bare (frames_of s.stack.frames) (level_of s.stack.level) (level_of c.put.new.level) y s.owners c.put.new.owners (leaves_of_closed leaf)
+              c.requires.plain (c.in_ok-take_line.ensures.left ∙ ap (λ t. left_open t (leaf_of s.leaf) y) c.in-Last.is) c.in_ok-put-in-Last.ensures.level c.in_ok-put-in-Last.ensures.owners,
+        ),
+      ),
+    )

@@ -14,7 +14,7 @@ loop-self-preserved-in-Continue-1 c =
     let h = c.loop-self.invariant in
     let all : frames_of before ≡ frames_of after ++ frame_of frame ∷ [] = ap frames_of c.in-Some.ensures ∙ frames_last after frame in
     let many : depth ≤ length (frames_of after) =
-        omega (arith, ap length all, length-append (frames_of after) (frame_of frame ∷ []), length_frames before, c.len.ensures, c.loop-self-test.true) in
+    omega (arith, ap length all, length-append (frames_of after) (frame_of frame ∷ []), length_frames before, c.len.ensures, c.loop-self-test.true) in
     let same : frames_of c.close.new.self.frames ≡ frames_of after = ap frames_of c.in_ok-close.ensures.frames in
     record {
       many = subst (λ fs. depth ≤ length fs) (sym same) many;

@@ -13,10 +13,11 @@ use Rattle.cm_block.proofs.stack.Stack.open_containers.Goals as goal
 
 pub returns-then-is_blank : goal.returns-then-is_blank
 returns-then-is_blank c =
-    let s = c.loop-line.self in
-    (omega (arith, c.len.ensures, c.loop-line-test.true),
-    λ owned. c.loop-line.invariant.left owned
-    ∙ left_blank s.bare (frames_of s.frames) (level_of s.level) (line_of c.loop-line.line) owned (sym c.is_blank.ensures ∙ c.if-is_blank.true))
+    let s = c.loop-line.self in (
+      omega (arith, c.len.ensures, c.loop-line-test.true),
+      λ owned. c.loop-line.invariant.left owned
+          ∙ left_blank s.bare (frames_of s.frames) (level_of s.level) (line_of c.loop-line.line) owned (sym c.is_blank.ensures ∙ c.if-is_blank.true),
+    )
 
 pub loop-line-preserved-in-Some : goal.loop-line-preserved-in-Some
 loop-line-preserved-in-Some c =
@@ -40,13 +41,18 @@ returns-in_default-start c =
     let s = c.loop-line.self in
     let line = line_of c.loop-line.line in
     let some = sym c.is_blank.ensures ∙ c.if-is_blank.false in
-    let plain = not_bare s.bare (is_blank line) c.loop-line.invariant.none some in
-    (omega (arith, c.len.ensures, c.loop-line-test.true),
-    (plain,
-    (no_container c.start_of-start.result (ap begins_quote c.start_of-start.ensures ∙ c.in_default.ensures) c.in_default-start.not-Item,
-    λ owned l at. c.loop-line.invariant.left owned
-    ∙ left_some s.bare (frames_of s.frames) (level_of s.level) line owned plain
-    ∙ leaf_next (frames_of s.frames) (level_of s.level) line owned (seen c.start_of-start.result) l some (sym c.start_of-start.ensures) at)))
+    let plain = not_bare s.bare (is_blank line) c.loop-line.invariant.none some in (
+      omega (arith, c.len.ensures, c.loop-line-test.true),
+      (
+        plain,
+        (
+          no_container c.start_of-start.result (ap begins_quote c.start_of-start.ensures ∙ c.in_default.ensures) c.in_default-start.not-Item,
+          λ owned l at. c.loop-line.invariant.left owned
+              ∙ left_some s.bare (frames_of s.frames) (level_of s.level) line owned plain
+              ∙ leaf_next (frames_of s.frames) (level_of s.level) line owned (seen c.start_of-start.result) l some (sym c.start_of-start.ensures) at,
+        ),
+      ),
+    )
 
 pub loop-line-preserved : goal.loop-line-preserved
 loop-line-preserved c =

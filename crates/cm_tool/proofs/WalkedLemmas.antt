@@ -1,0 +1,501 @@
+-- What clap finds in words that call for no stop, at the subcommands of cmk: a number of blocks that lies in its range.
+use Rattle.std.proofs.Common.{◌≡◌, ◌∙◌, ◌⊎◌, List, [], ◌∷◌, ◌++◌, ◌+◌, ◌&&◌, ◌||◌, ℕ, min, zero, suc, length, drop, Option, Some, None, Bool, true, false, not, refl, sym, ap, subst, inl, inr, bytes_eq, true≢false}
+use Rattle.std.specs.Prelude.{codes, cond, encode_utf8, fold, find, is_some, option_map, slice_get, slice_index_or, IfSome, IsSome, IsSomeAnd, ⊤}
+use Rattle.std.specs.List.{AllByRecursion}
+use Rattle.std.specs.Option.{option_map_or}
+use Rattle.std.specs.Str.{chars}
+use Rattle.std.proofs.lemmas.Slice.Eq.{bytes_eq-Decides}
+use Rattle.clap.specs.Lexer.{long_of, short_of}
+use Rattle.clap.specs.Kinds.{Kinds, or_else, range_kinds, value_kinds}
+use Rattle.clap.specs.Walk.{Held, Names, Outcome, Row, Rule, Step, Text, Waiting, Walk, action_of, after_flag, answers_to, finished, arg_by_id, arg_by_index, arg_by_long, arg_by_short, at_row, attached_value, bundle, bundle_met, bundle_step, count_of, default_rows, done, flag_met, has_row, idle, is_pending, long_met, long_or_other, more_values, new_count, next, option, option_met, option_word, plain, plain_word, positional, reacted, reading_by, refused, settled, settled_rows, short_met, short_or_plain, subcommand, subcommand_met, subcommand_or_other, takes_several, takes_values, to_positional, trailing, used, used_as, used_by_id, value, values_or_missing, waits, walk, walk_from, nothing_held, rows_after, walked, walked_from, with_count, with_default, with_values, without, word_met, after_step}
+use Rattle.clap.specs.Simple.{App, Shape, argument_words, built, built_leaf, entered, filled, names_of, rows_at}
+use Rattle.clap.specs.Faults.{bundle_fault, bundle_step_fault, check_fault, defaults_fault, entered_fault, level_fault, flag_word_fault, flags_fault, long_fault, option_fault, other_fault, positional_fault, react_fault, repeat_fault, settle_fault, short_fault, step_fault, stray_fault, turn_fault, use_fault, walk_fault, word_fault}
+use Rattle.clap.specs.declared.builder.action.ArgAction.{ArgAction}
+use Rattle.clap.specs.declared.builder.action.ArgAction.TheVariants as action
+use Rattle.clap.specs.declared.builder.value_parser.Reading.{Reading}
+use Rattle.clap.specs.declared.builder.value_parser.Reading.TheVariants.{AsWritten}
+use Rattle.clap.specs.declared.builder.value_parser.ValueParser.TheVariants.{Unsigned}
+use Rattle.clap.specs.declared.error.kind.ErrorKind.{ErrorKind}
+use Rattle.clap.specs.declared.error.kind.ErrorKind.TheVariants as kind
+use Rattle.clap.specs.declared.parser.matches.ValueSource.{ValueSource}
+use Rattle.clap.specs.declared.parser.matches.ValueSource.TheVariants.{CommandLine, DefaultValue}
+use Rattle.cm_tool.specs.CommandLine.{blocks_rule, cmk_app, found_for, is_limit, job_app, job_of, stops_of, IsJob, IsLimited}
+
+-- ---- kinds that are none
+
+pub no_first : (a b : Kinds) → or_else a b ≡ [] → a ≡ []
+no_first [] b none = refl
+no_first (k ∷ ks) b none = none
+
+pub no_second : (a b : Kinds) → or_else a b ≡ [] → b ≡ []
+no_second [] b none = none
+no_second (k ∷ ks) b none = cc
+
+passes : (b : Bool) (k : ErrorKind) → cond b [] (k ∷ []) ≡ [] → b ≡ true
+passes true k none = refl
+passes false k none = cc
+
+-- ---- rows
+
+-- the first value is a number in its range
+abbrev FirstInRange : List Text → Type 0
+FirstInRange [] = ⊥
+FirstInRange (v ∷ vs) = is_limit v ≡ true
+
+more_in_range : (vs more : List Text) → FirstInRange vs → FirstInRange (vs ++ more)
+more_in_range [] more h = absurd h
+more_in_range (v ∷ vs) more h = h
+
+-- a row of the number of blocks has such a value
+abbrev pub IsFine : Row → Type 0
+IsFine r = bytes_eq r.id (codes "blocks") ≡ true → (r.reading ≡ AsWritten) × FirstInRange r.values
+
+abbrev pub AreFine : List Row → Type 0
+AreFine = AllByRecursion IsFine
+
+both_fine : (xs ys : List Row) → AreFine xs → AreFine ys → AreFine (xs ++ ys)
+both_fine [] ys f g = g
+both_fine (x ∷ xs) ys f g = (f.0, both_fine xs ys f.1 g)
+
+at_row_fine : (id : Text) (change : Row → List Row) (missing rows : List Row) → AreFine rows → ((r : Row) → IsFine r → AreFine (change r))
+    → AreFine missing → AreFine (at_row id change missing rows)
+at_row_fine id change missing [] fine changed added = added
+at_row_fine id change missing (r ∷ rs) fine changed added = go (bytes_eq r.id id) (at_row_fine id change missing rs fine.1 changed added)
+  where
+    go : (b : Bool) → AreFine (at_row id change missing rs) → AreFine (cond b (change r ++ rs) (r ∷ at_row id change missing rs))
+    go true rest = both_fine (change r) rs (changed r fine.0) fine.1
+    go false rest = (fine.0, rest)
+
+with_values_fine : (id : Text) (how : Reading) (s : ValueSource) (values : List Text) (rows : List Row)
+    → (bytes_eq id (codes "blocks") ≡ true → (how ≡ AsWritten) × FirstInRange values) → AreFine rows → AreFine (with_values id how s values rows)
+with_values_fine id how s values rows new fine =
+    at_row_fine id (more_values s values) _ rows fine (λ r f. (λ is. ((f is).0, more_in_range r.values values (f is).1), tt)) (new, tt)
+
+with_count_fine : (id : Text) (how : Reading) (s : ValueSource) (n : ℕ) (rows : List Row)
+    → bytes_eq id (codes "blocks") ≡ false → AreFine rows → AreFine (with_count id how s n rows)
+with_count_fine id how s n rows other fine =
+    at_row_fine id (new_count s n) _ rows fine (λ r f. (λ is. ((f is).0, more_in_range r.values _ (f is).1), tt))
+    (λ is. absurd (true≢false (sym is ∙ other)), tt)
+
+without_fine : (id : Text) (rows : List Row) → AreFine rows → AreFine (without id rows)
+without_fine id rows fine = at_row_fine id (λ _. []) [] rows fine (λ r f. tt) tt
+
+-- ---- one use of an argument
+
+-- the option --blocks, or an argument of another name
+abbrev pub IsFineRule : Rule → Type 0
+IsFineRule a = (bytes_eq a.id (codes "blocks") ≡ false) ⊎ (a ≡ filled blocks_rule)
+
+other_used : (x : ArgAction) (id : Text) (how : Reading) (values : List Text) (rows : List Row) → bytes_eq id (codes "blocks") ≡ false → AreFine rows
+    → AreFine (used_as x id how values rows)
+other_used action.Set id how values rows other fine =
+    with_values_fine id how CommandLine values _ (λ is. absurd (true≢false (sym is ∙ other))) (without_fine id rows fine)
+other_used action.SetTrue id how values rows other fine =
+    with_values_fine id how CommandLine values _ (λ is. absurd (true≢false (sym is ∙ other))) (without_fine id rows fine)
+other_used action.SetFalse id how values rows other fine =
+    with_values_fine id how CommandLine values _ (λ is. absurd (true≢false (sym is ∙ other))) (without_fine id rows fine)
+other_used action.Append id how values rows other fine =
+    with_values_fine id how CommandLine values rows (λ is. absurd (true≢false (sym is ∙ other))) fine
+other_used action.Count id how [] rows other fine =
+    with_count_fine id how CommandLine (min (count_of id rows + 1) 255) _ other (without_fine id rows fine)
+other_used action.Count id how (v ∷ vs) rows other fine =
+    with_values_fine id how CommandLine (v ∷ vs) _ (λ is. absurd (true≢false (sym is ∙ other))) (without_fine id rows fine)
+other_used _ id how values rows other fine = fine
+
+use_in_range : (again : Bool) (values : List Text) (rows : List Row) → use_fault again (filled blocks_rule) values rows ≡ []
+    → FirstInRange (values_or_missing (filled blocks_rule) values)
+use_in_range again [] rows none = cc
+use_in_range again (v ∷ vs) rows none =
+    let set = no_second (range_kinds 1 1 (length (v ∷ vs))) _ none in
+    let fit = no_second (repeat_fault again (codes "blocks") rows) _ set in
+    passes (is_limit v) _ (no_first (value_kinds false (Unsigned 1 200) v) _ fit)
+
+used_fine : (again : Bool) (a : Rule) (values : List Text) (rows : List Row) → IsFineRule a → use_fault again a values rows ≡ [] → AreFine rows
+    → AreFine (used a values rows)
+used_fine again a values rows (inl other) none fine = other_used (action_of a) a.id (reading_by a) (values_or_missing a values) rows other fine
+used_fine again a values rows (inr is) none fine =
+    let none_there = subst (λ (x : Rule). use_fault again x values rows ≡ []) is none in
+    subst (λ (x : Rule). AreFine (used x values rows)) (sym is)
+    (with_values_fine (codes "blocks") AsWritten CommandLine _ _ (λ _. (refl, use_in_range again values rows none_there)) (without_fine (codes "blocks") rows fine))
+
+found_fine : (test : Rule → Bool) (c : List Rule) → AllByRecursion IsFineRule c → IfSome (find test c) IsFineRule
+found_fine test [] fine = tt
+found_fine test (a ∷ c) fine = go (test a) (found_fine test c fine.1)
+  where
+    go : (b : Bool) → IfSome (find test c) IsFineRule → IfSome (cond b (Some a) (find test c)) IsFineRule
+    go true rest = fine.0
+    go false rest = rest
+
+-- ---- the walk
+
+module _ (s : Shape) (rules : AllByRecursion IsFineRule s.rules) where
+  settled_fine : (h : Held) → settle_fault s.rules s.args_override_self h ≡ [] → AreFine h.rows → AreFine (settled s.rules h).rows
+  settled_fine h none fine = pending h.pending none
+    where
+      by_id : (found : Option Rule) (values : List Text) → IfSome found IsFineRule
+          → option_map_or (λ a. use_fault s.args_override_self a values h.rows) found [] ≡ [] → AreFine (used_by_id found values h.rows)
+      by_id None values is none = fine
+      by_id (Some a) values is none = used_fine s.args_override_self a values h.rows is none fine
+
+      pending : (p : Option (Text × List Text))
+          → option_map_or (λ q. option_map_or (λ a. use_fault s.args_override_self a q.1 h.rows) (arg_by_id s.rules q.0) []) p [] ≡ []
+          → AreFine (settled_rows s.rules p h.rows)
+      pending None none = fine
+      pending (Some q) none = by_id (arg_by_id s.rules q.0) q.1 (found_fine _ s.rules rules) none
+
+  reacted_fine : (a : Rule) (values : List Text) (h : Held) → IsFineRule a → react_fault s.rules s.args_override_self a values h ≡ []
+      → AreFine h.rows → AreFine (reacted s.rules a values h).rows
+  reacted_fine a values h is none fine =
+      used_fine s.args_override_self a values (settled s.rules h).rows is (no_second (settle_fault s.rules s.args_override_self h) _ none)
+      (settled_fine h (no_first _ _ none) fine)
+
+  option_fine : (a : Rule) (v : Option Text) (h : Held) → IsFineRule a → option_fault s.rules s.args_override_self a v h ≡ []
+      → AreFine h.rows → AreFine (option_met s.rules a v h).0.rows
+  option_fine a (Some v) h is none fine = reacted_fine a (v ∷ []) h is none fine
+  option_fine a None h is none fine = settled_fine h none fine
+
+  long_fine : (found : Option Rule) (v : Option Text) (h : Held) → IfSome found IsFineRule → long_fault s.rules s.args_override_self found v h ≡ []
+      → AreFine h.rows → AreFine (long_met s.rules found v h).0.rows
+  long_fine None v h is none fine = fine
+  long_fine (Some a) v h is none fine = either (takes_values a) v none
+    where
+      either : (b : Bool) (u : Option Text)
+          → cond b (option_fault s.rules s.args_override_self a u h) (cond (is_some u) (kind.TooManyValues ∷ []) (react_fault s.rules s.args_override_self a [] h)) ≡ []
+          → AreFine (cond b (option_met s.rules a u h) (flag_met s.rules a u h)).0.rows
+      either true u none = option_fine a u h is none fine
+      either false (Some x) none = fine
+      either false None none = reacted_fine a [] h is none fine
+
+  short_fine : (found : Option Rule) (rest : Text) (h : Held) (met : Held → Held × Outcome) (fault : Held → Kinds) → IfSome found IsFineRule
+      → ((g : Held) → fault g ≡ [] → AreFine g.rows → AreFine (met g).0.rows)
+      → short_fault s.rules s.args_override_self found rest h fault ≡ [] → AreFine h.rows → AreFine (short_met s.rules found rest h met).0.rows
+  short_fine None rest h met fault is more none fine = fine
+  short_fine (Some a) rest h met fault is more none fine = either (takes_values a) none
+    where
+      either : (b : Bool)
+          → cond b (option_fault s.rules s.args_override_self a (attached_value rest) h) (or_else (react_fault s.rules s.args_override_self a [] h) (fault (reacted s.rules a [] h))) ≡ []
+          → AreFine (cond b (option_met s.rules a (attached_value rest) h) (met (reacted s.rules a [] h))).0.rows
+      either true none = option_fine a (attached_value rest) h is none fine
+      either false none =
+          more (reacted s.rules a [] h) (no_second (react_fault s.rules s.args_override_self a [] h) _ none) (reacted_fine a [] h is (no_first _ _ none) fine)
+
+  bundle_step_fine : (x : Option ℕ) (flags : Text) (skip : ℕ) (so_far : Outcome) (h : Held) (met : Text → ℕ → Outcome → Held → Held × Outcome) (fault : Text → ℕ → Held → Kinds)
+      → ((left : Text) (n : ℕ) (o : Outcome) (g : Held) → fault left n g ≡ [] → AreFine g.rows → AreFine (met left n o g).0.rows)
+      → bundle_step_fault s.rules s.args_override_self x flags skip h fault ≡ [] → AreFine h.rows → AreFine (bundle_step s.rules x flags skip so_far h met).0.rows
+  bundle_step_fine None flags skip so_far h met fault more none fine = fine
+  bundle_step_fine (Some x) flags zero so_far h met fault more none fine =
+      let rest = drop (length (encode_utf8 x)) flags in
+      short_fine (arg_by_short s.rules x) rest h (met rest 0 done) (fault rest 0) (found_fine _ s.rules rules) (λ g none fine. more rest 0 done g none fine) none fine
+  bundle_step_fine (Some x) flags (suc skip) so_far h met fault more none fine = more (drop (length (encode_utf8 x)) flags) skip so_far h none fine
+
+  bundle_fine : (k : ℕ) (flags : Text) (skip : ℕ) (so_far : Outcome) (h : Held) → flags_fault s.rules s.args_override_self k flags skip h ≡ []
+      → AreFine h.rows → AreFine (bundle_met s.rules k flags skip so_far h).0.rows
+  unfolding bundle_met flags_fault
+  bundle_fine zero flags skip so_far h none fine = fine
+  bundle_fine (suc k) flags skip so_far h none fine =
+      bundle_step_fine (slice_get (chars flags) 0) flags skip so_far h (bundle_met s.rules k) (flags_fault s.rules s.args_override_self k) (bundle_fine k) none fine
+
+  option_rows : (found : Option Rule) (id word : Text) (h : Held) → (option_word found id word h).0.rows ≡ h.rows
+  option_rows None id word h = refl
+  option_rows (Some a) id word h = refl
+
+  plain_rows : (waiting : Waiting) (word : Text) (h : Held) → (plain_word s.rules waiting word h).0.rows ≡ h.rows
+  plain_rows (option id) word h = option_rows (arg_by_id s.rules id) id word h
+  plain_rows idle word h = refl
+  plain_rows positional word h = refl
+
+  flag_rows : (waiting : Waiting) (word : Text) (h : Held) (o : Outcome) → (after_flag s.rules waiting word h o).0.rows ≡ h.rows
+  flag_rows waiting word h done = refl
+  flag_rows waiting word h (waits id) = refl
+  flag_rows waiting word h plain = plain_rows waiting word h
+  flag_rows waiting word h refused = plain_rows waiting word h
+
+  flag_fine : (waiting : Waiting) (word : Text) (long : Option (Text × Option Text)) (h : Held)
+      → flag_word_fault s.rules s.args_override_self long word h ≡ [] → AreFine h.rows → AreFine (long_or_other s.rules waiting word long h).0.rows
+  flag_fine waiting word (Some p) h none fine =
+      subst AreFine (sym (flag_rows waiting word _ (long_met s.rules (arg_by_long s.rules p.0) p.1 h).1))
+      (long_fine (arg_by_long s.rules p.0) p.1 h (found_fine _ s.rules rules) none fine)
+  flag_fine waiting word None h none fine = short (short_of word) none
+    where
+      short : (o : Option Text) → option_map_or (λ flags. bundle_fault s.rules s.args_override_self flags h) o [] ≡ []
+          → AreFine (short_or_plain s.rules waiting word o h).0.rows
+      short (Some flags) none =
+          subst AreFine (sym (flag_rows waiting word _ (bundle s.rules flags h).1))
+          (bundle_fine (length flags) flags h.skip plain (record h { skip = 0 }) none fine)
+      short None none = subst AreFine (sym (plain_rows waiting word h)) fine
+
+  word_fine : (names : Names) (is_trailing : Bool) (waiting : Waiting) (position : ℕ) (word : Text) (h : Held)
+      → word_fault s names is_trailing waiting word h ≡ [] → AreFine h.rows → AreFine (word_met s.rules names is_trailing waiting position word h).0.rows
+  word_fine names true waiting position word h none fine = fine
+  word_fine names false waiting position word h none fine = other (subcommand_met names waiting word) none
+    where
+      hyphens : (b : Bool) → cond b [] (flag_word_fault s.rules s.args_override_self (long_of word) word h) ≡ []
+          → AreFine (cond b (h, trailing position) (long_or_other s.rules waiting word (long_of word) h)).0.rows
+      hyphens true none = fine
+      hyphens false none = flag_fine waiting word (long_of word) h none fine
+
+      other : (o : Option Text) → other_fault s o word h ≡ [] → AreFine (subcommand_or_other s.rules o waiting position word h).0.rows
+      other (Some name) none = fine
+      other None none = hyphens (bytes_eq word (45 ∷ 45 ∷ [])) none
+
+  step_fine : (word : Text) (w : Walk) (h : Held) (step : Step) → step_fault s w.position h step ≡ [] → AreFine h.rows
+      → AreFine (after_step s.rules word w h step).held.rows
+  step_fine word w h (next waiting) none fine = fine
+  step_fine word w h (trailing position) none fine = fine
+  step_fine word w h (subcommand name) none fine = fine
+  step_fine word w h value none fine = place (arg_by_index s.rules w.position) none
+    where
+      goes_on : (a : Rule) (b : Bool) → cond b [] (settle_fault s.rules s.args_override_self h) ≡ [] → AreFine (cond b h (settled s.rules h)).rows
+      goes_on a true none = fine
+      goes_on a false none = settled_fine h none fine
+
+      place : (found : Option Rule) → option_map_or (λ a. positional_fault s.rules s.args_override_self a h) found (stray_fault s) ≡ []
+          → AreFine (to_positional s.rules found word w h).held.rows
+      place None none = fine
+      place (Some a) none = goes_on a (is_pending a h.pending && takes_several a) none
+
+  walked_from_fine : (names : Names) (stopped : Option (Text × List Text)) (w : Walk) (word : Text)
+      → cond (is_some stopped) [] (or_else (word_fault s names w.is_trailing w.waiting word w.held)
+      (step_fault s w.position (word_met s.rules names w.is_trailing w.waiting w.position word w.held).0 (word_met s.rules names w.is_trailing w.waiting w.position word w.held).1)) ≡ []
+      → AreFine w.held.rows → AreFine (walked_from s.rules names stopped w word).held.rows
+  walked_from_fine names (Some p) w word none fine = fine
+  walked_from_fine names None w word none fine =
+      let met = word_met s.rules names w.is_trailing w.waiting w.position word w.held in
+      step_fine word w met.0 met.1 (no_second (word_fault s names w.is_trailing w.waiting word w.held) _ none)
+      (word_fine names w.is_trailing w.waiting w.position word w.held (no_first _ _ none) fine)
+
+  walked_fine : (names : Names) (w : Walk) (word : Text) → turn_fault s names w word ≡ [] → AreFine w.held.rows → AreFine (walked s.rules names w word).held.rows
+  unfolding walked
+  walked_fine names w word none fine = walked_from_fine names w.stopped w word none fine
+
+  pub walk_fine : (names : Names) (w : Walk) (words : List Text) → walk_fault s names w words ≡ [] → AreFine w.held.rows
+      → AreFine (fold (walked s.rules names) w words).held.rows
+  unfolding walk_fault
+  walk_fine names w [] none fine = fine
+  walk_fine names w (word ∷ rest) none fine =
+      walk_fine names (walked s.rules names w word) rest (no_second (turn_fault s names w word) _ none)
+      (walked_fine names w word (no_first _ _ none) fine)
+
+-- ---- defaults, and the value that is read
+
+default_fine : (a : Rule) (rows : List Row) → IsFineRule a → AreFine rows → AreFine (with_default rows a)
+default_fine a rows is fine = either (has_row a.id rows)
+  where
+    named : (values : List Text) → bytes_eq a.id (codes "blocks") ≡ false → AreFine (default_rows a.id (reading_by a) values rows)
+    named [] other = fine
+    named (v ∷ vs) other = with_values_fine a.id (reading_by a) DefaultValue (v ∷ vs) rows (λ is. absurd (true≢false (sym is ∙ other))) fine
+
+    by_rule : IsFineRule a → AreFine (default_rows a.id (reading_by a) a.defaults rows)
+    by_rule (inl other) = named a.defaults other
+    by_rule (inr is) =
+        subst (λ (x : Rule). AreFine (default_rows x.id (reading_by x) x.defaults rows)) (sym is)
+        (with_values_fine (codes "blocks") AsWritten DefaultValue (codes "100" ∷ []) rows (λ _. (refl, refl)) fine)
+
+    either : (b : Bool) → AreFine (cond b rows (default_rows a.id (reading_by a) a.defaults rows))
+    either true = fine
+    either false = by_rule is
+
+defaults_fine : (c : List Rule) (rows : List Row) → AllByRecursion IsFineRule c → AreFine rows → AreFine (fold with_default rows c)
+defaults_fine [] rows rules fine = fine
+defaults_fine (a ∷ c) rows rules fine = defaults_fine c (with_default rows a) rules.1 (default_fine a rows rules.0 fine)
+
+has_values : (how : Reading) (s : ValueSource) (values : List Text) (rows : List Row) → has_row (codes "blocks") (with_values (codes "blocks") how s values rows) ≡ true
+has_values how s values [] = refl
+has_values how s values (r ∷ rs) = either (bytes_eq r.id (codes "blocks")) refl (has_values how s values rs)
+  where
+    either : (b : Bool) → bytes_eq r.id (codes "blocks") ≡ b → has_row (codes "blocks") (with_values (codes "blocks") how s values rs) ≡ true
+        → has_row (codes "blocks") (cond b (more_values s values r ++ rs) (r ∷ with_values (codes "blocks") how s values rs)) ≡ true
+    either true same rest = rw (same) refl
+    either false same rest = rw (same) rest
+
+-- the rules of a job's subcommand, once it is built
+abbrev pub job_rules : List Rule
+job_rules = (built_leaf (job_app []).top).rules
+
+has_after : (given : List Row) (b : Bool) → has_row (codes "blocks") given ≡ true → has_row (codes "blocks") (cond b given given) ≡ true
+has_after given true has = has
+has_after given false has = has
+
+has_default : (rows : List Row) (b : Bool) → has_row (codes "blocks") rows ≡ b
+    → has_row (codes "blocks") (cond b rows (with_values (codes "blocks") AsWritten DefaultValue (codes "100" ∷ []) rows)) ≡ true
+has_default rows true has = has
+has_default rows false has = has_values AsWritten DefaultValue (codes "100" ∷ []) rows
+
+has_blocks : (rows : List Row) → has_row (codes "blocks") (fold with_default rows job_rules) ≡ true
+has_blocks rows = after_file (has_row (codes "file") rows)
+  where
+    given : List Row
+    given = with_default rows (filled blocks_rule)
+
+    with_help : has_row (codes "blocks") (cond (has_row (codes "help") given) given given) ≡ true
+    with_help = has_after given (has_row (codes "help") given) (has_default rows (has_row (codes "blocks") rows) refl)
+
+    after_file : (b : Bool) → has_row (codes "blocks") (fold with_default (cond b rows rows) (drop 1 job_rules)) ≡ true
+    after_file true = with_help
+    after_file false = with_help
+
+first_text : (vs : List Text) → FirstInRange vs → (t : Text) × (slice_get vs 0 ≡ Some t) × (is_limit t ≡ true)
+first_text [] h = absurd h
+first_text (v ∷ vs) h = (v, refl, h)
+
+limited : (rows : List Row) → AreFine rows → has_row (codes "blocks") rows ≡ true → IsLimited rows
+limited [] fine has = cc
+limited (r ∷ rs) fine has = either (bytes_eq r.id (codes "blocks")) refl (limited rs fine.1)
+  where
+    rest : bytes_eq r.id (codes "blocks") ≡ false → IsLimited rs → IsLimited (r ∷ rs)
+    rest other l = record { text = l.text; is_first = rw (other) l.is_first; is_read = rw (other) l.is_read; in_range = l.in_range }
+
+    here : bytes_eq r.id (codes "blocks") ≡ true → IsLimited (r ∷ rs)
+    here same =
+        let got = first_text r.values (fine.0 same).1 in
+        record { text = got.0; is_first = rw (same) got.1; is_read = rw (same, (fine.0 same).0, got.1) refl; in_range = got.2 }
+
+    either : (b : Bool) → bytes_eq r.id (codes "blocks") ≡ b → (has_row (codes "blocks") rs ≡ true → IsLimited rs) → IsLimited (r ∷ rs)
+    either true same later = here same
+    either false other later = rest other (later (rw other at has))
+
+-- what is found for the arguments of a job's subcommand
+job_limited : (s : Shape) (words : List Text) → s.rules ≡ job_rules → level_fault s [] nothing_held words false [] ≡ []
+    → IsLimited (rows_after s.rules [] words)
+job_limited s words rules none =
+    let of_job = both_rules s.rules rules in
+    let walked_so = walk_fine s of_job [] (walk_from nothing_held) words (no_first _ _ none) tt in
+    let settled_none = no_first (settle_fault s.rules s.args_override_self (walk s.rules [] nothing_held words).held) _
+    (no_second (walk_fault s [] (walk_from nothing_held) words) _ none) in
+    let rows = (settled s.rules (walk s.rules [] nothing_held words).held).rows in
+    let fine = settled_fine s of_job (walk s.rules [] nothing_held words).held settled_none walked_so in
+    limited _ (defaults_fine s.rules rows of_job fine)
+    (ap (λ (c : List Rule). has_row (codes "blocks") (fold with_default rows c)) rules ∙ has_blocks rows)
+  where
+    both_rules : (c : List Rule) → c ≡ job_rules → AllByRecursion IsFineRule c
+    both_rules c is = subst (AllByRecursion IsFineRule) (sym is) (inl refl, (inr refl, (inl refl, tt)))
+
+-- ---- the subcommand
+
+-- the word is no subcommand, or one other than `help`
+abbrev IsNoHelp : Step → Type 0
+IsNoHelp (subcommand name) = bytes_eq name (codes "help") ≡ false
+IsNoHelp _ = ⊤
+
+option_no_help : (c : List Rule) (waiting : Waiting) (word : Text) (h : Held) → IsNoHelp (plain_word c waiting word h).1
+option_no_help c (option id) word h = tt
+option_no_help c idle word h = tt
+option_no_help c positional word h = tt
+
+flag_no_help : (c : List Rule) (waiting : Waiting) (word : Text) (h : Held) (o : Outcome) → IsNoHelp (after_flag c waiting word h o).1
+flag_no_help c waiting word h done = tt
+flag_no_help c waiting word h (waits id) = tt
+flag_no_help c waiting word h plain = option_no_help c waiting word h
+flag_no_help c waiting word h refused = option_no_help c waiting word h
+
+long_no_help : (c : List Rule) (waiting : Waiting) (word : Text) (long : Option (Text × Option Text)) (h : Held) → IsNoHelp (long_or_other c waiting word long h).1
+long_no_help c waiting word (Some p) h = flag_no_help c waiting word _ _
+long_no_help c waiting word None h = short (short_of word)
+  where
+    short : (o : Option Text) → IsNoHelp (short_or_plain c waiting word o h).1
+    short (Some flags) = flag_no_help c waiting word _ _
+    short None = option_no_help c waiting word h
+
+module _ (s : Shape) (has_help : s.disable_help_subcommand ≡ false) where
+  word_no_help : (names : Names) (is_trailing : Bool) (waiting : Waiting) (position : ℕ) (word : Text) (h : Held)
+      → word_fault s names is_trailing waiting word h ≡ [] → IsNoHelp (word_met s.rules names is_trailing waiting position word h).1
+  word_no_help names true waiting position word h none = tt
+  word_no_help names false waiting position word h none = other (subcommand_met names waiting word) none
+    where
+      hyphens : (b : Bool) → IsNoHelp (cond b (h, trailing position) (long_or_other s.rules waiting word (long_of word) h)).1
+      hyphens true = tt
+      hyphens false = long_no_help s.rules waiting word (long_of word) h
+
+      named : (b : Bool) → cond (b && not s.disable_help_subcommand) (kind.DisplayHelp ∷ kind.InvalidSubcommand ∷ []) [] ≡ [] → b ≡ false
+      named true none = absurd (let bad = rw has_help at none in cc)
+      named false none = refl
+
+      other : (o : Option Text) → other_fault s o word h ≡ [] → IsNoHelp (subcommand_or_other s.rules o waiting position word h).1
+      other (Some name) none = named (bytes_eq name (codes "help")) none
+      other None none = hyphens (bytes_eq word (45 ∷ 45 ∷ []))
+
+  abbrev EntersNoHelp : Option (Text × List Text) → Type 0
+  EntersNoHelp stopped = IfSome stopped (λ p. bytes_eq p.0 (codes "help") ≡ false)
+
+  placed_no_help : (found : Option Rule) (word : Text) (w : Walk) (h : Held) → w.stopped ≡ None → EntersNoHelp (to_positional s.rules found word w h).stopped
+  placed_no_help None word w h open_still = subst EntersNoHelp (sym open_still) tt
+  placed_no_help (Some a) word w h open_still = tt
+
+  step_no_help : (word : Text) (w : Walk) (h : Held) (step : Step) → w.stopped ≡ None → IsNoHelp step → EntersNoHelp (after_step s.rules word w h step).stopped
+  step_no_help word w h (next waiting) open_still is = subst EntersNoHelp (sym open_still) tt
+  step_no_help word w h (trailing position) open_still is = subst EntersNoHelp (sym open_still) tt
+  step_no_help word w h (subcommand name) open_still is = is
+  step_no_help word w h value open_still is = placed_no_help (arg_by_index s.rules w.position) word w h open_still
+
+  walked_from_no_help : (names : Names) (stopped : Option (Text × List Text)) (w : Walk) (word : Text) → w.stopped ≡ stopped
+      → cond (is_some stopped) [] (or_else (word_fault s names w.is_trailing w.waiting word w.held)
+      (step_fault s w.position (word_met s.rules names w.is_trailing w.waiting w.position word w.held).0 (word_met s.rules names w.is_trailing w.waiting w.position word w.held).1)) ≡ []
+      → EntersNoHelp stopped → EntersNoHelp (walked_from s.rules names stopped w word).stopped
+  walked_from_no_help names (Some p) w word same none is = is
+  walked_from_no_help names None w word same none is =
+      let met = word_met s.rules names w.is_trailing w.waiting w.position word w.held in
+      step_no_help word w met.0 met.1 same (word_no_help names w.is_trailing w.waiting w.position word w.held (no_first _ _ none))
+
+  walked_no_help : (names : Names) (w : Walk) (word : Text) → turn_fault s names w word ≡ [] → EntersNoHelp w.stopped → EntersNoHelp (walked s.rules names w word).stopped
+  unfolding walked
+  walked_no_help names w word none is = walked_from_no_help names w.stopped w word refl none is
+
+  walk_no_help : (names : Names) (w : Walk) (words : List Text) → walk_fault s names w words ≡ [] → EntersNoHelp w.stopped
+      → EntersNoHelp (fold (walked s.rules names) w words).stopped
+  unfolding walk_fault
+  walk_no_help names w [] none is = is
+  walk_no_help names w (word ∷ rest) none is =
+      walk_no_help names (walked s.rules names w word) rest (no_second (turn_fault s names w word) _ none) (walked_no_help names w word (no_first _ _ none) is)
+
+-- ---- the command line
+
+abbrev cmk_built : App
+cmk_built = built cmk_app
+
+entered_job : (s : Shape) (words : List Text) → s.rules ≡ job_rules → IsSome (job_of s.name) → level_fault s [] nothing_held words false [] ≡ [] → IsJob (rows_at s words)
+entered_job s words rules named none = record { named = named; limited = job_limited s words rules none }
+
+names_help : (name : Text) → (bytes_eq (codes "help") name || false) ≡ true → bytes_eq name (codes "help") ≡ false → ⊥
+names_help name same other =
+    let is = (bytes_eq-Decides (codes "help") name).0 (or_false _ same) in
+    true≢false (sym ((bytes_eq-Decides name (codes "help")).1 (sym is)) ∙ other)
+  where
+    or_false : (b : Bool) → (b || false) ≡ true → b ≡ true
+    or_false true e = refl
+    or_false false e = e
+
+entered_is_job : (stop : Option (Text × List Text)) (rows : List Row) → entered_fault cmk_built stop ≡ []
+    → IfSome stop (λ p. bytes_eq p.0 (codes "help") ≡ false) → check_fault cmk_built.top rows (is_some (entered cmk_built stop)) ≡ []
+    → IsSomeAnd (entered cmk_built stop) IsJob
+entered_is_job None rows none is check = cc
+entered_is_job (Some p) rows none is check =
+    named (answers_to p.0 (codes "render", [])) (answers_to p.0 (codes "tree", [])) (answers_to p.0 (codes "help", [])) refl none check
+  where
+    sub : ℕ → Shape
+    sub n = slice_index_or cmk_built.subs n cmk_built.top
+
+    found : Bool → Bool → Bool → Option Shape
+    found is_render is_tree is_help = cond is_render (Some (sub 0)) (cond is_tree (Some (sub 1)) (cond is_help (Some (sub 2)) None))
+
+    named : (is_render is_tree is_help : Bool) → answers_to p.0 (codes "help", []) ≡ is_help
+        → option_map_or (λ s. level_fault s [] nothing_held p.1 false []) (found is_render is_tree is_help) [] ≡ []
+        → check_fault cmk_built.top rows (is_some (option_map (λ s. rows_at s p.1) (found is_render is_tree is_help))) ≡ []
+        → IsSomeAnd (option_map (λ s. rows_at s p.1) (found is_render is_tree is_help)) IsJob
+    named true is_tree is_help same none check = entered_job (sub 0) p.1 refl refl none
+    named false true is_help same none check = entered_job (sub 1) p.1 refl refl none
+    named false false true same none check = absurd (names_help p.0 same is)
+    named false false false same none check = cc
+
+-- words that call for no stop name a job, with a number of blocks in its range
+pub is_job : (words : List Text) → stops_of words ≡ [] → IsSomeAnd (found_for words) IsJob
+is_job words none =
+    let given = argument_words cmk_app words in
+    let names = names_of cmk_built in
+    let end = walk cmk_built.top.rules names nothing_held given in
+    let walk_none = no_first (walk_fault cmk_built.top names (walk_from nothing_held) given) _ none in
+    let below = no_second (walk_fault cmk_built.top names (walk_from nothing_held) given) _ none in
+    let after = no_second (entered_fault cmk_built end.stopped) _ below in
+    let defaults = no_second (settle_fault cmk_built.top.rules cmk_built.top.args_override_self end.held) _ after in
+    let check = no_second (defaults_fault (settled cmk_built.top.rules end.held).rows cmk_built.top.rules) _ defaults in
+    entered_is_job end.stopped (finished cmk_built.top.rules end.held) (no_first (entered_fault cmk_built end.stopped) _ below)
+    (walk_no_help cmk_built.top refl names (walk_from nothing_held) given walk_none tt) check

@@ -1,0 +1,41 @@
+//! From a source of bytes to the listing of its tree.
+ghost use Rattle.std.specs.Prelude.{◌≡◌, ℕ, ◌-◌, ◌^◌, ◌<◌, List};
+ghost use Rattle.std.specs.Io.KnownBytes.{Consumes};
+ghost use Rattle.cm_tool.specs.Listing.{Lists};
+
+use crate::fault::Fault;
+use crate::reading::read;
+use cm_html::listing;
+use cm_text::{Limits, Sink, Source, WriteFailed, write_all};
+use std::alloc::Global;
+
+/// Writes the listing of the source's tree and of the owners of its lines, and answers its length in
+/// bytes.
+///
+/// Nothing is written before the listing is whole. A fault that the bytes settle ends the reading: no
+/// read is made after it. On `Fault::WriteFailed` what went out is the first `written` bytes of the
+/// listing, and on any other fault nothing.
+pub(crate) fn list<R: Source, W: Sink>(
+    alloc: Global,
+    source: &mut R,
+    sink: &mut W,
+    limits: Limits,
+) -> Result<usize, Fault>
+    requires reads { R.failed source.old < 2 ^ 64 - 1 }
+    requires writes { W.failed sink.old < 2 ^ 64 - 1 }
+    ensures { (bytes : List ℕ) × Consumes (R.remaining source.old) (R.remaining source.new) bytes
+        × Lists result limits bytes
+        (record { remaining = R.remaining source.old; failed = R.failed source.old })
+        (record { remaining = R.remaining source.new; failed = R.failed source.new })
+        (record { taken = W.taken sink.old; failed = W.failed sink.old })
+        (record { taken = W.taken sink.new; failed = W.failed sink.new }) }
+{
+    let doc = read(alloc, source, limits)?;
+    let Ok(text) = listing(alloc, &doc) else {
+        return Err(Fault::NoMemory);
+    };
+    match write_all(sink, text.as_bytes()) {
+        Ok(()) => Ok(text.len()),
+        Err(WriteFailed { written }) => Err(Fault::WriteFailed { written }),
+    }
+}
