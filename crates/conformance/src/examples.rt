@@ -76,13 +76,19 @@ impl Examples {
     fn close(&mut self) -> Result<(), NoMemory> {
         self.total = self.total.saturating_add(1);
         if !is_html_of(self.alloc, self.html.as_str(), self.text.as_str())? {
-            self.differ.push(self.total)?;
+            put(&mut self.differ, self.total)?;
         }
         self.part = Part::Outside;
         self.text.clear();
         self.html.clear();
         Ok(())
     }
+}
+
+// Puts an item at the end.
+fn put<T: Drop>(items: &mut Vec<T>, item: T) -> Result<(), AllocError> {
+    items.push(item)?;
+    Ok(())
 }
 
 // Puts a line of an example behind those before it.
@@ -96,7 +102,7 @@ fn push_line(lines: &mut String, line: &str) -> Result<(), AllocError> {
 // The text is converted to this HTML.
 fn is_html_of(alloc: Global, html: &str, text: &str) -> Result<bool, NoMemory> {
     let mut pieces = Vec::new(alloc);
-    pieces.push(Vec::from_slice(alloc, text.as_bytes())?)?;
+    put(&mut pieces, Vec::from_slice(alloc, text.as_bytes())?)?;
     let mut source = Pieces::new(pieces, false);
     let mut room = Room::new(alloc, html.len(), html.len())?;
     let answer = convert(alloc, &mut source, &mut room, Limits::standard());

@@ -6,6 +6,8 @@
 #[cfg(test)]
 mod answers;
 #[cfg(test)]
+mod closings;
+#[cfg(test)]
 mod command_lines;
 #[cfg(test)]
 mod containers;
