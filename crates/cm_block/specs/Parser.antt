@@ -44,11 +44,6 @@ pub record OutlineOf (outline : Outline) (lines : List LineView) : Type 0 where
   pub owners : outline.owners ≡ owners_of profile lines
   pub definitions : outline.definitions ≡ reference_table profile lines
 
--- why there is no outline: the fault that was met, or want of memory
-abbrev pub Ends : BlockFault → Option BlockFault → Type 0
-Ends fault None = fault ≡ NoMemory
-Ends fault (Some met) = fault ≡ met
-
 -- one more line behind this stack is too deep, and it is the next
 abbrev pub Deep : BlockFault → ℕ → Stack → LineView → Type 0
 Deep (BlocksTooDeep n) limit before line = (limit < nesting (push_line profile before line).now) × (n ≡ suc (length (close_stack before).owners))

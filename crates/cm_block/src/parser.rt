@@ -1,8 +1,10 @@
 //! The block structure of a document, line by line.
-ghost use Rattle.std.specs.Prelude.{◌≡◌, ◌≢◌, ◌≤◌, ◌∷◌, ◌++◌, [], List, None, true, false, length, suc, IfOk, IfErr, OnOk};
+ghost use Rattle.std.specs.Prelude.{◌≡◌, ◌≢◌, ◌≤◌, ◌∷◌, ◌++◌, [], List, None, true, false, length, suc, Some, Err, IfOk, IfErr, OnOk};
 ghost use Rattle.cm_text.specs.Rules.Rules.{profile};
 ghost use Rattle.cm_text.specs.Lines.{LineView, view_of};
 ghost use Rattle.cm_text.specs.Views.{line_of};
+ghost use Rattle.cm_block.specs.declared.fault.BlockFault as faults;
+ghost use Rattle.cm_block.specs.declared.fault.BlockFault.TheVariants as block_faults;
 ghost use Rattle.cm_block.specs.OpenLeaf.{no_leaf};
 ghost use Rattle.cm_block.specs.Machine.{in_leaf};
 ghost use Rattle.cm_block.specs.Levels.{level_of};
@@ -13,7 +15,7 @@ ghost use Rattle.cm_block.specs.LeafViews.{leaf_of};
 ghost use Rattle.cm_block.specs.StartViews.{seen};
 ghost use Rattle.cm_block.specs.FirstLines.{begins_container};
 ghost use Rattle.cm_block.specs.Begins.{begun, with_blank, LeafBegins, DeepIn};
-ghost use Rattle.cm_block.specs.Parser.{stack_of, StandsFor, Tells, OutlineOf, Ends, answer_of, Deep, TakenToLeaf};
+ghost use Rattle.cm_block.specs.Parser.{stack_of, StandsFor, Tells, OutlineOf, answer_of, Deep, TakenToLeaf};
 
 use crate::containers::Innermost;
 use crate::fault::BlockFault;
@@ -215,10 +217,11 @@ impl BlockParser {
     /// The fault that was met, or `NoMemory` where a request for memory was refused.
     pub fn finish(mut self) -> Result<Outline, BlockFault>
         ensures outline { IfOk result (λ outline. (lines : List LineView) → StandsFor self lines → OutlineOf outline lines) }
-        ensures fault { IfErr result (λ fault. Ends fault self.fault) }
+        ensures failed { (fault : faults.BlockFault) → self.fault ≡ Some fault → result ≡ Err fault }
+        ensures memory { self.fault ≡ None → IfErr result (λ fault. fault ≡ block_faults.NoMemory) }
     {
-        if let Some(fault) = self.fault {
-            return Err(fault);
+        if let Some(met) = self.fault {
+            return Err(met);
         }
         self.close_leaf()?;
         self.stack.close_to(0)?;
