@@ -27,6 +27,12 @@ places-feeds text i (suc n) e =
 pub feeds_counted : (text : List ℕ) → length (places (is_byte 10) text) ≡ line_feeds text
 feeds_counted text = places-feeds text 0 (length text - 0) (omega arith)
 
+-- one place more is counted
+pub one_counted : (count bound place : ℕ) (before after : List ℕ) → before ≡ place ∷ after → count + length before ≡ bound → count + 1 + length after ≡ bound
+one_counted count bound place before after is sum =
+    let sum' : count + length (place ∷ after) ≡ bound = subst (λ xs. count + length xs ≡ bound) is sum in
+    omega (arith, sum')
+
 -- no text has more line feeds than bytes
 feeds-within : (text : List ℕ) → line_feeds text ≤ length text
 unfolding line_feeds

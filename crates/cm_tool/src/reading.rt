@@ -10,7 +10,7 @@ use cm_tree::Doc;
 use std::alloc::{AllocError, Global};
 
 // How many bytes are asked for at once.
-const PIECE: usize = 65536;
+const PIECE: usize = 8192;
 
 fn zeros(alloc: Global, count: usize) -> Result<Vec<u8>, AllocError>
     ensures { IfOk result (λ zeros. length zeros.items ≡ count) }
