@@ -1,5 +1,5 @@
 -- Containers that a line begins, opened one after another.
-use Rattle.std.proofs.Common.{◌≡◌, ℕ, suc, ◌+◌, ◌<◌, ◌≤◌, Bool, true, false, List, [], ◌∷◌, ◌++◌, length, refl, ◌∙◌, sym, ap, ap₂, arith}
+use Rattle.std.proofs.Common.{◌≡◌, ℕ, ◌≤◌, Bool, true, false, List, [], ◌∷◌, ◌++◌, length, refl, ◌∙◌, sym, ap, ap₂, arith}
 use Rattle.cm_text.specs.Rules.Rules.{profile}
 use Rattle.cm_text.specs.Lines.{LineView}
 use Rattle.cm_tree.specs.declared.tree.Owner.TheVariants.{Marker}
@@ -8,10 +8,9 @@ use Rattle.cm_scan.specs.LineForms.{ItemMarker}
 use Rattle.cm_scan.specs.Starts.{Start, QuoteMarker, ItemStart, start_of, behind_quote_marker, content_column, first_content}
 use Rattle.cm_block.specs.OpenLeaf.{no_leaf, LeafLine, Begin, begins_nothing, begins_leaf, begins_quote, begins_item, begin_of_start, begin_of}
 use Rattle.cm_block.specs.Level.{Level, empty_level, push_blank, block_opens, item_opens}
-use Rattle.cm_block.specs.Stack.{Owned, Stack, stack, own_lines, blank_owner, push_leaf_line, push_by, push_begin}
-use Rattle.cm_block.specs.Machine.{in_leaf}
+use Rattle.cm_block.specs.Stack.{Owned, own_lines, blank_owner, push_leaf_line, push_by, push_begin}
 use Rattle.cm_block.specs.Depths.{nesting}
-use Rattle.cm_block.specs.Frames.{Container, a_quote, an_item, Frame, quoted_in, quoted_by, within, stack_with}
+use Rattle.cm_block.specs.Frames.{a_quote, an_item, Frame, quoted_in, quoted_by, within}
 use Rattle.cm_scan.specs.declared.markers.ItemMarker as code_marker
 use Rattle.cm_block.specs.declared.starts.Start as code_start
 use Rattle.cm_block.specs.declared.starts.Start.TheVariants as variants

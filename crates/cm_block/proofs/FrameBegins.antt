@@ -12,7 +12,7 @@ use Rattle.cm_tree.specs.declared.tree.Owner.TheVariants.{Marker}
 use Rattle.cm_block.specs.OpenLeaf.{OpenLeaf, no_leaf, LeafLine, stays_open, is_last as ends, Begin, begins_nothing, begins_leaf, begins_quote, begins_item, begin_of_start, begin_of}
 use Rattle.cm_block.specs.Machine.{Open, in_leaf, in_quote, in_item}
 use Rattle.cm_block.specs.Level.{Level, OpenList, empty_level, block_opens, block_closes, item_opens, item_opens_in, list_opens, list_goes_on}
-use Rattle.cm_block.specs.Stack.{Owned, Stack, stack, close_leaves, own_lines, blank_owner, push_leaf_line, not_blank, push_by, push_within, push_begin}
+use Rattle.cm_block.specs.Stack.{Owned, Stack, stack, close_leaves, own_lines, push_leaf_line, not_blank, push_by, push_within, push_begin}
 use Rattle.cm_block.specs.Depths.{nesting}
 use Rattle.cm_block.specs.Frames.{Container, a_quote, an_item, Frame, opened, is_last, nest, within, stack_with}
 use Rattle.cm_block.proofs.Begin.{OfInner, inner-less, of-less}

@@ -1,17 +1,15 @@
 -- A row of open containers is the stack in which each stands in the one before.
 use Rattle.std.specs.Prelude.{length, take, drop, ◌==◌}
-use Rattle.std.proofs.Common.{◌≡◌, ℕ, zero, suc, ◌+◌, ◌<◌, Bool, true, false, ◌&&◌, ◌||◌, List, [], ◌∷◌, ◌++◌, refl, ◌∙◌, sym, ap, ap₂, arith, Option, Some, None, le_refl}
+use Rattle.std.proofs.Common.{◌≡◌, ℕ, suc, Bool, true, false, ◌&&◌, List, [], ◌∷◌, refl, ◌∙◌, sym, ap, ap₂, arith, Option, Some, None}
 use Rattle.cm_text.specs.Rules.{Rules}
 use Rattle.cm_text.specs.Lines.{LineView}
-use Rattle.cm_scan.specs.Lines.{is_blank, marks}
 use Rattle.cm_scan.specs.Starts.{place_in_quote, place_in_item}
 use Rattle.cm_scan.specs.Laws.{goes_inward}
-use Rattle.cm_block.specs.OpenLeaf.{OpenLeaf, no_leaf, is_open_text, closed_leaves, blank_lines_behind, LeafLine, stays_open, is_last as ends, line_of_leaf, Begin, begins_nothing, begins_leaf, begins_quote, begins_item, begin_of}
-use Rattle.cm_block.specs.Machine.{Open, in_leaf, in_quote, in_item, has_open_text}
-use Rattle.cm_block.specs.Level.{Level, empty_level, block_opens, item_opens}
-use Rattle.cm_block.specs.Stack.{Owned, Stack, stack, close_open, own_lines, own_open, blank_owner, push_leaf_line, not_blank, push_by, push_within, push_begin, push_after, push_to_leaf, push_in, push_line}
-use Rattle.cm_block.specs.Depths.{nesting}
-use Rattle.cm_block.specs.Frames.{Container, a_quote, an_item, Frame, opened, is_last, nest, place_in, inward, matching, quoted_in, quoted_by, close_container, close_frames, within}
+use Rattle.cm_block.specs.OpenLeaf.{OpenLeaf, is_open_text, LeafLine, line_of_leaf}
+use Rattle.cm_block.specs.Machine.{Open, in_leaf, has_open_text}
+use Rattle.cm_block.specs.Level.{Level}
+use Rattle.cm_block.specs.Stack.{Owned, Stack, stack, close_open, own_open, push_leaf_line, push_begin, push_after, push_to_leaf, push_in}
+use Rattle.cm_block.specs.Frames.{Container, a_quote, an_item, Frame, opened, is_last, nest, inward, matching, quoted_in, quoted_by, close_container, close_frames, within}
 
 open_text_of : (bare : Bool) (fs : List Frame) (v : Level) (x : OpenLeaf) → has_open_text (nest bare fs v x).1 ≡ is_open_text x
 unfolding has_open_text nest

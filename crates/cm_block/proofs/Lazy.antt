@@ -12,10 +12,13 @@ use Rattle.cm_block.specs.Level.{Level}
 use Rattle.cm_block.specs.Stack.{Owned, Stack, stack, push_after, push_to_leaf, push_in}
 use Rattle.cm_block.specs.Lazy.{with_text, LazyLine}
 
+pub starts_text : (rules : Rules) (line : LineView) → line.lazy ≡ true → start_of rules line ≡ TextLine
+unfolding start_of
+starts_text rules line lazy = grind (arith, lazy)
+
 module _ (rules : Rules) (line : LineView) (lazy : line.lazy ≡ true) (some : is_blank line ≡ false) where
   starts-text : start_of rules line ≡ TextLine
-  unfolding start_of
-  starts-text = grind (arith, lazy)
+  starts-text = starts_text rules line lazy
 
   underlines-nothing : underline_of line ≡ None
   unfolding underline_of
@@ -39,11 +42,11 @@ module _ (rules : Rules) (line : LineView) (lazy : line.lazy ≡ true) (some : i
       (let k : place_if_lazy rules line ≡ StaysIfOpen (as_lazy line) = grind (arith, h, some) in k)
       ∙ ap (λ b. StaysIfOpen (record { column = line.column; text = line.text; lazy = b })) (sym lazy)
 
-  place-quote : place_in_quote rules line ≡ StaysIfOpen line
+  pub place-quote : place_in_quote rules line ≡ StaysIfOpen line
   unfolding place_in_quote
   place-quote = ap (λ start. quote_place rules start line) starts-text ∙ place-lazy
 
-  place-item : (column : ℕ) (bare : Bool) → place_in_item rules column bare line ≡ StaysIfOpen line
+  pub place-item : (column : ℕ) (bare : Bool) → place_in_item rules column bare line ≡ StaysIfOpen line
   unfolding place_in_item
   place-item column bare = let h : place_if_lazy rules line ≡ StaysIfOpen line = place-lazy in grind (arith, lazy, h)
 

@@ -1,11 +1,17 @@
 -- The containers that a line stays in, one after another.
-use Rattle.std.proofs.Common.{◌≡◌, ℕ, zero, suc, ◌+◌, ◌-◌, ◌<◌, ◌≤◌, ◌==◌, Bool, true, false, ◌&&◌, List, [], ◌∷◌, ◌++◌, length, take, drop, Option, Some, None, refl, ◌∙◌, sym, ap, ap₂, arith}
+use Rattle.std.proofs.Common.{◌≡◌, ℕ, zero, suc, ◌+◌, ◌-◌, ◌<◌, ◌≤◌, ◌==◌, Bool, true, false, ◌&&◌, not, List, [], ◌∷◌, ◌++◌, length, take, drop, Option, Some, None, refl, ◌∙◌, sym, ap, ap₂, arith}
 use Rattle.cm_text.specs.Rules.{Rules}
 use Rattle.cm_text.specs.Lines.{LineView}
+use Rattle.cm_text.specs.Indentation.{indent_of, strip_columns}
+use Rattle.cm_scan.specs.Lines.{is_blank, past, as_lazy}
+use Rattle.cm_scan.specs.Laws.{goes_inward}
+use Rattle.cm_scan.specs.Starts.{Start, IndentedCode, QuoteMarker, AtxHeading, OpeningFence, HtmlStart, BreakLine, ItemStart, TextLine, start_of, Place, Stays, StaysIfOpen, Leaves, may_be_lazy, place_if_lazy, behind_quote_marker, quote_place, place_in_quote, place_in_item}
+use Rattle.std.specs.Prelude.{nat_le}
 use Rattle.std.specs.List.{slice_index_or}
 use Rattle.cm_block.specs.declared.stack.Frame as code
 use Rattle.cm_block.specs.FrameViews.{frame_of, frames_of}
 use Rattle.cm_block.specs.Level.{Level}
+use Rattle.cm_block.proofs.Lazy.{starts_text, place-quote, place-item}
 use Rattle.cm_block.specs.Frames.{Container, a_quote, an_item, Frame, is_last, inward, matching, quoted_in, quoted_by, close_container, close_frames}
 
 -- behind so many containers
@@ -17,6 +23,10 @@ pub close_last : (fs : List Frame) (f : Frame) (level : Level) → close_frames 
 unfolding close_frames
 close_last [] f level = refl
 close_last (g ∷ fs) f level = ap (close_container g.container g.level) (close_last fs f level)
+
+pub length_frames : (frames : List code.Frame) → length (frames_of frames) ≡ length frames
+length_frames [] = refl
+length_frames (f ∷ fs) = ap suc (length_frames fs)
 
 -- the containers from a place on
 
@@ -88,6 +98,99 @@ match_end rules bare open_text i n from line at is = ap (λ fs. behind i (matchi
     sum : i + 0 ≡ n
     sum = omega (arith, is)
 
+-- a line that has gone into a container as a lazy continuation line
+
+-- the line, where there is one
+held : LineView → Option LineView → LineView
+held other (Some line) = line
+held other None = other
+
+module _ (rules : Rules) (open_text : Bool) (line inner : LineView) where
+  from-lazy : Some inner ≡ goes_inward (place_if_lazy rules line) open_text → (open_text ≡ true) × (is_blank inner ≡ false)
+  unfolding place_if_lazy held
+  from-lazy = go (is_blank line) (may_be_lazy (start_of rules line)) open_text refl
+    where
+      go : (blank may o : Bool) → is_blank line ≡ blank
+          → Some inner ≡ goes_inward (elim (not blank && may) as (λ _. Place) [ true ↦ StaysIfOpen (as_lazy line) | false ↦ Leaves ]) o → (o ≡ true) × (is_blank inner ≡ false)
+      go true may o blank e = absurd (cc e)
+      go false false o blank e = absurd (cc e)
+      go false true false blank e = absurd (cc e)
+      go false true true blank e = (refl, ap (λ l. is_blank (held inner l)) e ∙ blank)
+
+  from-quote : (start : Start) → start_of rules line ≡ start → Some inner ≡ goes_inward (quote_place rules start line) open_text → inner.lazy ≡ true
+      → (open_text ≡ true) × (is_blank inner ≡ false)
+  unfolding behind_quote_marker past held
+  from-quote QuoteMarker is e lazy =
+      let same : inner.lazy ≡ line.lazy = ap (λ l. (held inner l).lazy) e in
+      let text : start_of rules line ≡ TextLine = starts_text rules line (sym same ∙ lazy) in
+      absurd (cc (is, text))
+  from-quote IndentedCode is e lazy = from-lazy e
+  from-quote (AtxHeading h) is e lazy = from-lazy e
+  from-quote (OpeningFence f) is e lazy = from-lazy e
+  from-quote (HtmlStart k) is e lazy = from-lazy e
+  from-quote BreakLine is e lazy = from-lazy e
+  from-quote (ItemStart m) is e lazy = from-lazy e
+  from-quote TextLine is e lazy = from-lazy e
+
+  from-item : (column : ℕ) (bare : Bool) → Some inner ≡ goes_inward (place_in_item rules column bare line) open_text → inner.lazy ≡ true
+      → (open_text ≡ true) × (is_blank inner ≡ false)
+  unfolding place_in_item held
+  from-item column bare = go line.lazy (is_blank line) bare (nat_le column (indent_of line)) refl
+    where
+      stays : line.lazy ≡ false → Some inner ≡ Some (strip_columns column line) → inner.lazy ≡ true → (open_text ≡ true) × (is_blank inner ≡ false)
+      stays marked e lazy =
+          let same : inner.lazy ≡ line.lazy = ap (λ l. (held inner l).lazy) e in
+          absurd (cc (marked, same, lazy))
+
+      go : (l blank b reaches : Bool) → line.lazy ≡ l
+          → Some inner ≡ goes_inward (elim l as (λ _. Place) [
+            | true ↦ place_if_lazy rules line
+            | false ↦ elim blank as (λ _. Place) [
+              | true ↦ elim b as (λ _. Place) [ true ↦ Leaves | false ↦ Stays (strip_columns column line) ]
+              | false ↦ elim reaches as (λ _. Place) [ true ↦ Stays (strip_columns column line) | false ↦ place_if_lazy rules line ]
+            ]
+          ]) open_text → inner.lazy ≡ true → (open_text ≡ true) × (is_blank inner ≡ false)
+      go true blank b reaches marked e lazy = from-lazy e
+      go false true true reaches marked e lazy = absurd (cc e)
+      go false true false reaches marked e lazy = stays marked e lazy
+      go false false b true marked e lazy = stays marked e lazy
+      go false false b false marked e lazy = from-lazy e
+
+  from-container : (c : Container) (bare : Bool) → Some inner ≡ inward rules c bare open_text line → inner.lazy ≡ true → (open_text ≡ true) × (is_blank inner ≡ false)
+  unfolding inward place_in_quote
+  from-container a_quote bare e lazy = from-quote (start_of rules line) refl e lazy
+  from-container (an_item kind column) bare e lazy = from-item column bare e lazy
+
+module _ (rules : Rules) (bare open_text : Bool) (line : LineView) (lazy : line.lazy ≡ true) (some : is_blank line ≡ false) (left_open : open_text ≡ true) where
+  goes-in : (c : Container) (b : Bool) → inward rules c b open_text line ≡ Some line
+  unfolding inward
+  goes-in a_quote b = ap₂ goes_inward (place-quote rules line lazy some) left_open
+  goes-in (an_item kind column) b = ap₂ goes_inward (place-item rules line lazy some column b) left_open
+
+  goes-into-all : (fs : List Frame) → matching rules bare open_text fs line ≡ (length fs, line)
+  unfolding matching
+  goes-into-all [] = refl
+  goes-into-all (f ∷ fs) = ap by_place (goes-in f.container (bare && is_last fs)) ∙ ap (λ (m : ℕ × LineView). (suc m.0, m.1)) (goes-into-all fs)
+    where
+      by_place : Option LineView → ℕ × LineView
+      by_place o = elim o [ Some inner ↦ let inside = matching rules bare open_text fs inner in (suc inside.0, inside.1) | None ↦ (0, line) ]
+
+rest-length : (frames : List code.Frame) (i : ℕ) → i < length frames → suc i + length (drop (suc i) (frames_of frames)) ≡ length frames
+rest-length [] i less = absurd (omega arith)
+rest-length (f ∷ fs) zero less = omega (arith, length_frames fs)
+rest-length (f ∷ fs) (suc i) less = let h : suc i + length (drop (suc i) (frames_of fs)) ≡ length fs = rest-length fs i (omega arith) in omega (arith, h)
+
+-- goes into all of the others
+pub match_lazy : (rules : Rules) (bare open_text : Bool) (c : Container) (is_bare : Bool) (line inner : LineView) (rest : List Frame)
+    → Some inner ≡ inward rules c is_bare open_text line → inner.lazy ≡ true → matching rules bare open_text rest inner ≡ (length rest, inner)
+match_lazy rules bare open_text c is_bare line inner rest stays lazy =
+    let facts = from-container rules open_text line inner c is_bare stays lazy in
+    goes-into-all rules bare open_text inner lazy facts.1 facts.0 rest
+
+pub behind_all : (frames : List code.Frame) (i : ℕ) (m : ℕ × LineView) (line : LineView) → i < length frames → m ≡ (length (drop (suc i) (frames_of frames)), line)
+    → (length frames, line) ≡ behind (suc i) m
+behind_all frames i m line less is = ap (λ n. (n, line)) (sym (rest-length frames i less)) ∙ ap (behind (suc i)) (sym is)
+
 -- quotes
 
 pub quoted_true : (fs : List Frame) → true ≡ quoted_by true fs
@@ -127,7 +230,3 @@ pub closed_last : (n : ℕ) (fs : List Frame) (f : Frame) (level next : Level) �
     → close_frames (drop n fs) next ≡ close_frames (drop n (fs ++ f ∷ [])) level
 closed_last n fs f level next within is =
     ap (close_frames (drop n fs)) is ∙ sym (close_last (drop n fs) f level) ∙ ap (λ gs. close_frames gs level) (sym (drop_last n fs f within))
-
-pub length_frames : (frames : List code.Frame) → length (frames_of frames) ≡ length frames
-length_frames [] = refl
-length_frames (f ∷ fs) = ap suc (length_frames fs)

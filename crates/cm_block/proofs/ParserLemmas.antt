@@ -1,5 +1,5 @@
 -- A parser, line by line.
-use Rattle.std.proofs.Common.{◌≡◌, ℕ, zero, suc, ◌+◌, ◌<◌, ◌≤◌, ◌==◌, Bool, true, false, ◌&&◌, List, [], ◌∷◌, ◌++◌, length, take, drop, refl, ◌∙◌, sym, ap, ap₂, subst, arith, le_refl, Option, Some, None}
+use Rattle.std.proofs.Common.{◌≡◌, ℕ, zero, suc, ◌<◌, ◌≤◌, Bool, true, false, ◌&&◌, List, [], ◌∷◌, ◌++◌, length, take, drop, refl, ◌∙◌, sym, ap, ap₂, subst, arith, le_refl, Option, Some, None}
 use Rattle.std.specs.Prelude.{nat_le, nat_lt, if◌then◌else◌}
 use Rattle.cm_text.specs.Rules.Rules.{profile}
 use Rattle.cm_text.specs.Lines.{LineView}
@@ -16,7 +16,7 @@ use Rattle.cm_scan.specs.Laws.{AreLines}
 use Rattle.cm_block.specs.OpenLeaf.{OpenLeaf, no_leaf, is_open_text, closed_leaves, blank_lines_behind, LeafLine, stays_open, is_last, line_of_leaf}
 use Rattle.cm_block.specs.Machine.{in_leaf}
 use Rattle.cm_block.specs.Level.{Level, empty_level, closed_blocks, push_blank}
-use Rattle.cm_block.specs.Stack.{Owned, Stack, stack, empty_stack, close_leaves, push_blanks, close_open, own_leaves, own_blanks, own_open, close_stack, push_leaf_line, push_begin, push_in, push_line, push_lines}
+use Rattle.cm_block.specs.Stack.{Owned, Stack, empty_stack, close_leaves, push_blanks, close_open, own_leaves, own_blanks, own_open, close_stack, push_leaf_line, push_line, push_lines}
 use Rattle.cm_block.specs.Depths.{nesting}
 use Rattle.cm_block.specs.Frames.{Frame, is_last as is_last_frame, inward, matching, quoted_by, close_frames, within, stack_with, nest}
 use Rattle.cm_block.specs.declared.fault.BlockFault.{BlockFault}

@@ -1,6 +1,7 @@
 -- Places of lines in containers.
-use Rattle.std.specs.Prelude.{min, nat_le}
-use Rattle.std.proofs.Common.{◌≡◌, ℕ, zero, suc, ◌+◌, ◌<◌, ◌≤◌, Bool, true, false, not, ◌&&◌, List, ◌++◌, replicate, drop, None, refl, ◌∙◌, sym, ap, ap₂, arith}
+use Rattle.std.specs.Prelude.{min, nat_le, ◌-◌, ◌==◌, ◌||◌}
+use Rattle.std.proofs.lemmas.Bool.Decides.{nat_tests}
+use Rattle.std.proofs.Common.{◌≡◌, ◌≢◌, ℕ, zero, suc, ◌+◌, ◌<◌, ◌≤◌, Bool, true, false, not, ◌&&◌, List, ◌++◌, replicate, drop, None, refl, ◌∙◌, ap, ap₂, arith}
 use Rattle.cm_text.specs.Rules.Rules.{profile}
 use Rattle.cm_text.specs.Lines.{LineView}
 use Rattle.cm_scan.specs.Words.{is_blank_text}
@@ -86,6 +87,52 @@ module _ (column : ℕ) (bare : Bool) (line : LineView) where
   pub in_item_far : line.lazy ≡ false → is_blank line ≡ false → column ≤ indent_of line → place_in_item profile column bare line ≡ Stays (strip_columns column line)
   unfolding place_in_item
   in_item_far e b n = let h : nat_le column (indent_of line) ≡ true = grind (arith, n) in grind (arith, e, b, h)
+
+  pub in_item_leaves : line.lazy ≡ false → (bare && is_blank line) ≡ true → place_in_item profile column bare line ≡ Leaves
+  in_item_leaves e both = go bare (is_blank line) refl refl both
+    where
+      go : (b k : Bool) → bare ≡ b → is_blank line ≡ k → (b && k) ≡ true → place_in_item profile column bare line ≡ Leaves
+      go true true is blank both = in_item_bare e blank is
+      go true false is blank both = absurd (cc both)
+      go false k is blank both = absurd (cc both)
+
+  pub in_item_stays : line.lazy ≡ false → (bare && is_blank line) ≡ false → (nat_le column (indent_of line) || is_blank line) ≡ true
+      → place_in_item profile column bare line ≡ Stays (strip_columns column line)
+  in_item_stays e more either = go bare (is_blank line) (nat_le column (indent_of line)) refl refl refl more either
+    where
+      go : (b k r : Bool) → bare ≡ b → is_blank line ≡ k → nat_le column (indent_of line) ≡ r → (b && k) ≡ false → (r || k) ≡ true
+          → place_in_item profile column bare line ≡ Stays (strip_columns column line)
+      go true true r is blank reach more either = absurd (cc more)
+      go false true r is blank reach more either = in_item_blank e blank is
+      go b false true is blank reach more either = in_item_far e blank (grind (arith, nat_tests, reach))
+      go b false false is blank reach more either = absurd (cc either)
+
+  pub in_item_lazily : line.lazy ≡ false → (nat_le column (indent_of line) || is_blank line) ≡ false → place_in_item profile column bare line ≡ place_if_lazy profile line
+  in_item_lazily e neither = go (is_blank line) (nat_le column (indent_of line)) refl refl neither
+    where
+      go : (k r : Bool) → is_blank line ≡ k → nat_le column (indent_of line) ≡ r → (r || k) ≡ false → place_in_item profile column bare line ≡ place_if_lazy profile line
+      go true true blank reach neither = absurd (cc neither)
+      go true false blank reach neither = absurd (cc neither)
+      go false true blank reach neither = absurd (cc neither)
+      go false false blank reach neither = in_item_near e blank (grind (arith, nat_tests, reach))
+
+-- a line of which as many columns are taken as there are up to a column
+pub far_enough : (column : ℕ) (line inner : LineView) (blank : Bool) → inner ≡ strip_columns column line → inner.column - line.column ≡ column → (inner.column - line.column == column) ≡ (nat_le column (indent_of line) || blank)
+far_enough column line inner blank is far =
+    let taken : inner.column ≡ line.column + min column (indent_of line) = ap (λ (l : LineView). l.column) is ∙ (strip_takes_columns column line).0 in
+    let reach : nat_le column (indent_of line) ≡ true = grind (arith, nat_tests, taken, far) in
+    grind (arith, nat_tests, reach, far)
+
+pub not_far_enough : (column : ℕ) (line inner : LineView) (blank : Bool) → inner ≡ strip_columns column line → inner.column - line.column ≢ column → blank ≡ (nat_le column (indent_of line) || blank)
+not_far_enough column line inner blank is near =
+    let taken : inner.column ≡ line.column + min column (indent_of line) = ap (λ (l : LineView). l.column) is ∙ (strip_takes_columns column line).0 in
+    let reach : nat_le column (indent_of line) ≡ false = grind (arith, nat_tests, taken, near) in
+    grind (arith, reach)
+
+pub taken_goes_on : (column : ℕ) (line inner : LineView) → inner ≡ strip_columns column line → line.column ≤ inner.column
+taken_goes_on column line inner is =
+    let taken : inner.column ≡ line.column + min column (indent_of line) = ap (λ (l : LineView). l.column) is ∙ (strip_takes_columns column line).0 in
+    grind (arith, taken)
 
 -- a line behind a marker
 

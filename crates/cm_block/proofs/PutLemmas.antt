@@ -1,11 +1,10 @@
 -- Closed leaves, put in place one after the other.
 use Rattle.std.proofs.Common.{◌≡◌, ℕ, zero, suc, ◌+◌, ◌-◌, ◌<◌, ◌≤◌, List, [], ◌∷◌, ◌++◌, length, take, drop, Option, Some, None, refl, sym, ap, ap₂, ◌∙◌, arith}
 use Rattle.std.specs.List.{slice_range}
-use Rattle.std.proofs.Math.Seq.{take-length}
 use Rattle.std.proofs.lemmas.List.{drop_all, take-append-drop, length-drop}
 use Rattle.cm_tree.specs.declared.tree.Block.TheVariants.{Paragraph, Heading}
 use Rattle.cm_scan.specs.Words.{trim_end}
-use Rattle.cm_scan.specs.Links.{LinkDefinition, link_definition, Definitions, definitions_of}
+use Rattle.cm_scan.specs.Links.{link_definition, Definitions, definitions_of}
 use Rattle.cm_scan.specs.Parts.{LeafPart, raw_inlines, leaf_block, definition}
 use Rattle.cm_scan.specs.Blocks.{line_feeds, line_count, definition_leaves, content_leaf, leaves_of_run}
 use Rattle.cm_block.specs.Level.{Level, block_closes}

@@ -4,7 +4,6 @@ use Rattle.cm_text.specs.Rules.Rules.{profile}
 use Rattle.cm_text.specs.Lines.{LineView}
 use Rattle.cm_text.specs.Views.{line_of}
 use Rattle.cm_tree.specs.declared.tree.Owner.TheVariants.{Marker}
-use Rattle.cm_scan.specs.Lines.{is_blank}
 use Rattle.cm_block.specs.declared.stack.Stack as code
 use Rattle.cm_block.specs.declared.starts.Start.{Start}
 use Rattle.cm_block.specs.declared.fault.BlockFault.{BlockFault}

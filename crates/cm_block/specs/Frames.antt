@@ -6,10 +6,10 @@ use Rattle.cm_tree.specs.declared.tree.ListKind.{ListKind}
 use Rattle.cm_tree.specs.declared.tree.Block.TheVariants.{Quote}
 use Rattle.cm_scan.specs.Starts.{Place, place_in_quote, place_in_item}
 use Rattle.cm_scan.specs.Laws.{goes_inward}
-use Rattle.cm_block.specs.OpenLeaf.{OpenLeaf, blank_lines_behind, closed_leaves, line_of_leaf}
+use Rattle.cm_block.specs.OpenLeaf.{OpenLeaf}
 use Rattle.cm_block.specs.Machine.{Open, in_leaf, in_quote, in_item}
 use Rattle.cm_block.specs.Level.{Level, closed_blocks, block_closes, item_closes}
-use Rattle.cm_block.specs.Stack.{Owned, Stack, stack, item_of, own_leaves, own_blanks}
+use Rattle.cm_block.specs.Stack.{Owned, Stack, stack, item_of}
 
 -- a quote, or an item of a list with the column at which its content begins
 pub data Container : Type 0 where

@@ -1,5 +1,6 @@
 //! Where a line stands that follows those of an open container, and how it goes inward.
-ghost use Rattle.std.specs.Prelude.{◌≡◌, ◌≤◌, false, option_map, MatchOption};
+ghost use Rattle.std.specs.Prelude.{◌≡◌, ◌≤◌, ◌&&◌, ◌||◌, nat_le, false, option_map, MatchOption};
+ghost use Rattle.cm_text.specs.Indentation.{indent_of, strip_columns};
 ghost use Rattle.cm_text.specs.Rules.Rules.{profile};
 ghost use Rattle.cm_text.specs.Views.{line_of};
 ghost use Rattle.cm_scan.specs.Words.{is_blank_text};
@@ -91,6 +92,22 @@ pub(crate) fn into_quote<'a>(line: &View<'a>, open_text: bool) -> Option<View<'a
     }
 }
 
+/// Whether a line ends an item of which there is only the marker: it is blank.
+fn ends_bare_item(bare: bool, line: &View<'_>) -> bool
+    ensures { result ≡ (bare && is_blank (line_of line.now)) }
+{
+    bare && is_blank(line)
+}
+
+/// Whether a line reaches a column, of whose columns as many are taken as there are up to that, or is blank.
+/// No more of the line is read.
+fn reaches_or_is_blank(line: &View<'_>, inner: &View<'_>, column: usize) -> bool
+    requires { line_of inner.now ≡ strip_columns column (line_of line.now) }
+    ensures { result ≡ (nat_le column (indent_of (line_of line.now)) || is_blank (line_of line.now)) }
+{
+    inner.column - line.column == column || is_blank(line)
+}
+
 /// The line as it goes into an open item whose content begins at a column, if it stays there: it is blank,
 /// or reaches the column, or is a lazy continuation line. An item is bare as long as there is only its
 /// marker, with nothing on its line; then a blank line ends it (5.2 List items).
@@ -105,14 +122,12 @@ pub(crate) fn into_item<'a>(
     if line.lazy {
         return if_lazy(line, open_text);
     }
-    if is_blank(line) {
-        if bare {
-            return None;
-        }
-        return Some(line.strip(column));
+    if ends_bare_item(bare, line) {
+        return None;
     }
-    if column <= line.indent() {
-        return Some(line.strip(column));
+    let inner = line.strip(column);
+    if reaches_or_is_blank(line, &inner, column) {
+        return Some(inner);
     }
     if_lazy(line, open_text)
 }

@@ -1,10 +1,10 @@
 //! The open quotes and items.
-ghost use Rattle.std.specs.Prelude.{◌≡◌, ◌≤◌, ◌∷◌, ◌++◌, [], false, length, take, drop, option_map, OnOk};
+ghost use Rattle.std.specs.Prelude.{◌≡◌, ◌<◌, ◌≤◌, ◌∷◌, ◌++◌, ◌&&◌, [], false, suc, length, take, drop, option_map, OnOk};
 ghost use Rattle.cm_text.specs.Rules.Rules.{profile};
 ghost use Rattle.cm_text.specs.Views.{line_of};
 ghost use Rattle.cm_block.specs.Level.{empty_level, block_opens, item_opens};
 ghost use Rattle.cm_block.specs.Levels.{level_of};
-ghost use Rattle.cm_block.specs.Frames.{a_quote, an_item, inward, matching, quoted_by, close_container, close_frames};
+ghost use Rattle.cm_block.specs.Frames.{a_quote, an_item, is_last, inward, matching, quoted_by, close_container, close_frames};
 ghost use Rattle.cm_block.specs.FrameViews.{container_of, frame_of, frames_of};
 
 use crate::level::Level;
@@ -41,17 +41,29 @@ pub(crate) struct Frame {
     pub(crate) container: Container,
 }
 
+/// Whether a container is the innermost one and that has only its marker so far.
+fn is_bare_at(frames: &[Frame], depth: usize, bare: bool) -> bool
+    requires { depth < length frames.now }
+    ensures { result ≡ (bare && is_last (drop (suc depth) (frames_of frames.now))) }
+{
+    bare && depth == frames.len() - 1
+}
+
 /// How many of the containers a line stays in, and the line as it goes into the last of these.
 fn matching<'a>(frames: &[Frame], bare: bool, open_text: bool, line: &View<'a>) -> (usize, View<'a>)
     ensures { (result.0, line_of result.1) ≡ matching profile bare open_text (frames_of frames.now) (line_of line.now) }
 {
     let mut line = *line;
     for (depth, frame) in frames.iter().enumerate() {
-        let is_bare = bare && depth == frames.len() - 1;
-        match frame.container.inward(is_bare, open_text, &line) {
-            Some(inner) => line = inner,
-            None => return (depth, line),
+        let is_bare = is_bare_at(frames, depth, bare);
+        let Some(inner) = frame.container.inward(is_bare, open_text, &line) else {
+            return (depth, line);
+        };
+        if inner.lazy {
+            // It goes into the others as it is.
+            return (frames.len(), inner);
         }
+        line = inner;
     }
     (frames.len(), line)
 }

@@ -1,5 +1,4 @@
-use Rattle.std.proofs.Common.{◌∙◌, sym, ap, subst, arith, length, add-one, ◌+◌, refl}
-use Rattle.cm_text.specs.LineText.{tabs}
+use Rattle.std.proofs.Common.{◌∙◌, sym, subst, arith, add-one, ◌+◌, refl}
 use Rattle.cm_text.specs.Views.{line_of}
 use Rattle.cm_scan.specs.Lines.{content_of}
 use Rattle.cm_block.specs.PlaceViews.{marker_of}

@@ -1,8 +1,8 @@
-use Rattle.std.proofs.Common.{◌+◌, ◌∙◌, sym, ap, ap₂, arith}
+use Rattle.std.proofs.Common.{◌∙◌, arith}
 use Rattle.cm_text.specs.Views.{line_of}
 use Rattle.cm_scan.specs.Lines.{content_of}
 use Rattle.cm_block.specs.PlaceViews.{marker_of}
-use Rattle.cm_block.proofs.MarkerPlaces.{Marked, marked, item-begins}
+use Rattle.cm_block.proofs.MarkerPlaces.{marked, item-begins}
 use Rattle.cm_block.proofs.PlaceLemmas.{column_is, first_is_content}
 use Rattle.cm_block.proofs.places.item_content.Goals as goal
 

@@ -1,37 +1,41 @@
-use Rattle.std.proofs.Common.{◌≡◌, ℕ, suc, ◌-◌, ◌<◌, ◌==◌, ◌∙◌, Bool, true, false, ◌&&◌, List, length, sym, ap, arith, drop, add-one}
-use Rattle.cm_block.specs.declared.stack.Frame as code
+use Rattle.std.proofs.Common.{◌≡◌, suc, ◌∙◌, length, sym, arith, drop, add-one}
 use Rattle.cm_text.specs.Rules.Rules.{profile}
 use Rattle.cm_text.specs.Views.{line_of}
-use Rattle.cm_block.specs.Frames.{is_last, matching}
-use Rattle.cm_block.specs.FrameViews.{frame_of, frames_of}
-use Rattle.cm_block.proofs.Matching.{frames_at, frames_end, last_at, match_next, match_stop, match_end}
+use Rattle.cm_block.specs.Frames.{matching}
+use Rattle.cm_block.specs.FrameViews.{container_of, frame_of, frames_of}
+use Rattle.cm_block.proofs.Matching.{behind, frames_at, frames_end, match_next, match_stop, match_end, match_lazy, behind_all}
+use Rattle.cm_block.proofs.stack.matching.Goals.{In-Some}
 use Rattle.cm_block.proofs.stack.matching.Goals as goal
-use Rattle.cm_block.proofs.stack.matching.Goals.{then-bare, else-bare}
 
--- whether the container is bare, as the code tests it
-is_bare_as : (frames : List code.Frame) (bare is_bare : Bool) (i : ℕ) → i < length frames → is_bare ≡ (bare && (i == length frames - 1))
-    → is_bare ≡ (bare && is_last (drop (suc i) (frames_of frames)))
-is_bare_as frames bare is_bare i less is = is ∙ ap (λ b. bare && b) (last_at frames i less)
-
-pub returns-in-None : goal.returns-in-None
-returns-in-None c =
+pub returns-in_default : goal.returns-in_default
+returns-in_default c =
     let frames = c.args.frames.now in
     let i = c.loop-depth.depth in
     sym (match_stop profile c.args.bare c.args.open_text i (frame_of c.index-frames-depth.result) (drop (suc i) (frames_of frames)) (line_of c.loop-depth.line)
-    (drop i (frames_of frames)) c.if-bare.is_bare (frames_at frames i c.index-frames-depth.result c.loop-depth-test.true c.index-frames-depth.is)
-    (is_bare_as frames c.args.bare c.if-bare.is_bare i c.loop-depth-test.true
-    (elim c.if-bare.branch [ then-bare w ↦ w.is_bare-is ∙ ap (λ b. b && (i == length frames - 1)) (sym w.if-bare.true) | else-bare w ↦ w.is_bare-is ∙ w.if-bare.false ∙ ap (λ b. b && (i == length frames - 1)) (sym w.if-bare.false) ])) c.in-None.ensures)
+    (drop i (frames_of frames)) c.is_bare_at-is_bare.result (frames_at frames i c.index-frames-depth.result c.loop-depth-test.true c.index-frames-depth.is)
+    c.is_bare_at-is_bare.ensures c.in_default.ensures)
     ∙ c.loop-depth.invariant
 
-pub loop-depth-preserved : goal.loop-depth-preserved
-loop-depth-preserved c =
+-- one container further
+further : (c : In-Some) → behind (suc c.loop-depth.depth) (matching profile c.args.bare c.args.open_text (drop (suc c.loop-depth.depth) (frames_of c.args.frames.now)) (line_of c.in-Some.inner))
+    ≡ matching profile c.args.bare c.args.open_text (frames_of c.args.frames.now) (line_of c.args.line.now)
+further c =
     let frames = c.args.frames.now in
     let i = c.loop-depth.depth in
-    rw add-one (sym (match_next profile c.args.bare c.args.open_text i (frame_of c.index-frames-depth.result) (drop (suc i) (frames_of frames)) (line_of c.loop-depth.line)
-    (drop i (frames_of frames)) c.if-bare.is_bare (line_of c.in-Some.inner) (frames_at frames i c.index-frames-depth.result c.loop-depth-test.true c.index-frames-depth.is)
-    (is_bare_as frames c.args.bare c.if-bare.is_bare i c.loop-depth-test.true
-    (elim c.if-bare.branch [ then-bare w ↦ w.is_bare-is ∙ ap (λ b. b && (i == length frames - 1)) (sym w.if-bare.true) | else-bare w ↦ w.is_bare-is ∙ w.if-bare.false ∙ ap (λ b. b && (i == length frames - 1)) (sym w.if-bare.false) ])) c.in-Some.ensures)
-    ∙ c.loop-depth.invariant)
+    sym (match_next profile c.args.bare c.args.open_text i (frame_of c.index-frames-depth.result) (drop (suc i) (frames_of frames)) (line_of c.loop-depth.line)
+    (drop i (frames_of frames)) c.is_bare_at-is_bare.result (line_of c.in-Some.inner) (frames_at frames i c.index-frames-depth.result c.loop-depth-test.true c.index-frames-depth.is)
+    c.is_bare_at-is_bare.ensures c.in-Some.ensures)
+    ∙ c.loop-depth.invariant
+
+pub returns-then-inner : goal.returns-then-inner
+returns-then-inner c =
+    behind_all c.args.frames.now c.loop-depth.depth _ (line_of c.in-Some.inner) c.loop-depth-test.true
+    (match_lazy profile c.args.bare c.args.open_text (container_of c.index-frames-depth.result.container) c.is_bare_at-is_bare.result (line_of c.loop-depth.line) (line_of c.in-Some.inner)
+    (drop (suc c.loop-depth.depth) (frames_of c.args.frames.now)) c.in-Some.ensures c.if-inner.true)
+    ∙ further (goal.at.returns-then-inner c).In-Some
+
+pub loop-depth-preserved : goal.loop-depth-preserved
+loop-depth-preserved c = rw add-one (further (goal.at.loop-depth-preserved c).In-Some)
 
 pub returns : goal.returns
 returns c =

@@ -6,7 +6,6 @@ use Rattle.cm_text.specs.Views.{line_of}
 use Rattle.cm_text.specs.Limits.{LimitsView}
 use Rattle.cm_block.specs.Frames.{matching}
 use Rattle.cm_block.specs.FrameViews.{frames_of}
-use Rattle.cm_block.specs.Stack.{Stack, push_line}
 use Rattle.cm_block.specs.Begins.{begun, DeepIn}
 use Rattle.cm_block.specs.Parser.{stack_of, Deep}
 use Rattle.cm_block.proofs.Matching.{length_frames}

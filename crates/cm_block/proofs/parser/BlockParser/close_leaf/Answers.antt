@@ -1,4 +1,4 @@
-use Rattle.std.proofs.Common.{◌∙◌, false, sym, ap}
+use Rattle.std.proofs.Common.{◌∙◌, false, ap}
 use Rattle.cm_block.specs.OpenLeaf.{closed_leaves, blank_lines_behind}
 use Rattle.cm_block.specs.Levels.{level_of}
 use Rattle.cm_block.specs.Frames.{quoted_by}

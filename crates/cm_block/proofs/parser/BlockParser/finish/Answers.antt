@@ -1,4 +1,4 @@
-use Rattle.std.proofs.Common.{◌∙◌, ap, ap₂, drop}
+use Rattle.std.proofs.Common.{◌∙◌, ap₂}
 use Rattle.cm_block.specs.Levels.{level_of}
 use Rattle.cm_block.specs.Frames.{close_frames}
 use Rattle.cm_block.specs.FrameViews.{frames_of}

@@ -1,10 +1,7 @@
-use Rattle.std.proofs.Common.{◌≡◌, ◌≤◌, ◌++◌, ◌∷◌, [], ◌∙◌, List, sym, ap, subst, arith}
+use Rattle.std.proofs.Common.{◌++◌, ◌∷◌, [], List, sym, subst}
 use Rattle.std.specs.Result.{OnOk}
 use Rattle.cm_text.specs.Lines.{LineView, view_of}
 use Rattle.cm_text.specs.Views.{line_of}
-use Rattle.cm_block.specs.Levels.{level_of}
-use Rattle.cm_block.specs.FrameViews.{frames_of}
-use Rattle.cm_block.specs.LeafViews.{leaf_of}
 use Rattle.cm_block.specs.Parser.{stack_of, StandsFor}
 use Rattle.cm_block.proofs.ParserLemmas.{tells_deep, stands_next}
 use Rattle.cm_block.proofs.parser.BlockParser.line.Goals as goal

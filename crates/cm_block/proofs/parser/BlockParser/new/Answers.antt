@@ -1,4 +1,4 @@
-use Rattle.std.proofs.Common.{◌∙◌, sym, ap, ap₂, refl, arith, length}
+use Rattle.std.proofs.Common.{ap, refl, arith, length}
 use Rattle.cm_block.proofs.ParserLemmas.{new_holds, new_within}
 use Rattle.cm_block.proofs.parser.BlockParser.new.Goals as goal
 

@@ -1,4 +1,4 @@
-use Rattle.std.proofs.Common.{◌≡◌, ◌∙◌, sym, ap, subst, false}
+use Rattle.std.proofs.Common.{◌≡◌, ◌∙◌, sym, ap, subst}
 use Rattle.std.specs.Option.{IfSome}
 use Rattle.cm_text.specs.Views.{line_of}
 use Rattle.cm_block.specs.OpenLeaf.{stays_open, is_last, begins_leaf, begin_of_start}

@@ -1,4 +1,4 @@
-use Rattle.std.proofs.Common.{◌≡◌, ◌∙◌, sym, ap, refl, arith}
+use Rattle.std.proofs.Common.{◌∙◌, sym, ap, refl, arith}
 use Rattle.cm_block.specs.OpenLeaf.{stays_open, is_last}
 use Rattle.cm_block.specs.Levels.{level_of}
 use Rattle.cm_block.specs.FrameViews.{frames_of}

@@ -1,5 +1,5 @@
-use Rattle.std.proofs.Common.{◌≡◌, ◌≤◌, ◌<◌, ℕ, List, [], ◌∷◌, ◌++◌, ◌∙◌, length, length-append, sym, ap, arith, drop, take, subst}
-use Rattle.cm_block.specs.Frames.{Frame, close_frames}
+use Rattle.std.proofs.Common.{◌≡◌, ◌≤◌, [], ◌∷◌, ◌++◌, ◌∙◌, length, length-append, sym, ap, arith, drop, take, subst}
+use Rattle.cm_block.specs.Frames.{close_frames}
 use Rattle.cm_block.specs.FrameViews.{frame_of, frames_of}
 use Rattle.cm_block.specs.Levels.{level_of}
 use Rattle.cm_block.proofs.Matching.{frames_end, frames_last, take_last, closed_last, length_frames}

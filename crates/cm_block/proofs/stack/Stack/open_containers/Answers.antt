@@ -1,4 +1,4 @@
-use Rattle.std.proofs.Common.{◌≡◌, ◌≤◌, ◌∙◌, true, false, length, sym, ap, arith}
+use Rattle.std.proofs.Common.{◌∙◌, sym, ap, arith}
 use Rattle.cm_text.specs.Views.{line_of}
 use Rattle.cm_scan.specs.Lines.{is_blank}
 use Rattle.cm_block.specs.PlaceViews.{begins_quote, marker_of}

@@ -1,4 +1,4 @@
-use Rattle.std.proofs.Common.{◌≡◌, ℕ, ◌+◌, ◌-◌, true, length}
+use Rattle.std.proofs.Common.{◌≡◌, ◌+◌, ◌-◌, true, length}
 use Rattle.cm_text.specs.Views.{line_of}
 use Rattle.cm_scan.specs.Lines.{is_blank}
 use Rattle.cm_block.specs.Stack.{Owned}
