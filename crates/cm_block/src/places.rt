@@ -3,7 +3,6 @@ ghost use Rattle.std.specs.Prelude.{◌≡◌, ◌≤◌, ◌&&◌, ◌||◌, na
 ghost use Rattle.cm_text.specs.Indentation.{indent_of, strip_columns};
 ghost use Rattle.cm_text.specs.Rules.Rules.{profile};
 ghost use Rattle.cm_text.specs.Views.{line_of};
-ghost use Rattle.cm_scan.specs.Words.{is_blank_text};
 ghost use Rattle.cm_scan.specs.Lines.{is_blank};
 ghost use Rattle.cm_scan.specs.Starts.{QuoteMarker, ItemStart, start_of, may_be_lazy, place_if_lazy, behind_quote_marker, place_in_quote, content_offset, content_column, first_content, behind_marker, place_in_item};
 ghost use Rattle.cm_scan.specs.Laws.{goes_inward};
@@ -11,15 +10,8 @@ ghost use Rattle.cm_block.specs.StartViews.{seen};
 ghost use Rattle.cm_block.specs.PlaceViews.{begins_quote, marker_of};
 
 use crate::starts::{Start, start_of};
-use cm_scan::{HtmlKind, ItemMarker, quote_marker};
+use cm_scan::{HtmlKind, ItemMarker, is_blank_text, quote_marker};
 use cm_text::View;
-
-/// Whether there are only spaces and tabs.
-pub(crate) fn is_blank_text(text: &[u8]) -> bool
-    ensures { result ≡ is_blank_text text.now }
-{
-    text.iter().all(|b| *b == b' ' || *b == b'\t')
-}
 
 /// Whether a line is blank (2.1 Characters and lines).
 #[tactic(auto, using(crate::proofs::PlaceLemmas::blank_spaces))]

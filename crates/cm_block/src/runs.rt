@@ -12,9 +12,9 @@ ghost use Rattle.cm_block.specs.declared.starts.Start.TheVariants.{Html, Item};
 ghost use Rattle.cm_text.specs.Lines.{LineView};
 ghost use Rattle.cm_block.specs.LeafViews.{next_of, heading_level};
 
-use crate::places::{is_blank, is_blank_text};
+use crate::places::is_blank;
 use crate::starts::{Start, start_of};
-use cm_scan::{HtmlKind, ItemMarker, definition, trim_end, underline};
+use cm_scan::{HtmlKind, ItemMarker, definition, is_blank_text, trim_end, underline};
 use cm_text::View;
 use cm_tree::ListKind;
 use memchr::memchr_iter;

@@ -239,3 +239,21 @@ fn names_of_block_elements(rt: HostRuntime) -> Result<(), Fail> {
     }
     Ok(())
 }
+
+// Of white space only spaces and tabs make a line blank, and go at a paragraph's end.
+#[test]
+fn spaces_and_tabs(rt: HostRuntime) -> Result<(), Fail> {
+    for (text, blank, front) in [
+        ("", true, ""),
+        (" \t ", true, ""),
+        ("\t", true, ""),
+        (" a \t", false, " a"),
+        ("a\tb", false, "a\tb"),
+        ("\u{A0}", false, "\u{A0}"),
+        ("\u{C} ", false, "\u{C}"),
+    ] {
+        assert_eq!(rt; is_blank_text(text.as_bytes()), blank);
+        assert_eq!(rt; trim_end(text), front);
+    }
+    Ok(())
+}

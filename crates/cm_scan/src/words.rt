@@ -54,8 +54,8 @@ pub(crate) fn first_plain(bytes: &[u8]) -> Option<u8>
     bytes.iter().copied().find(|b| !is_space_or_tab(*b))
 }
 
-/// Whether there are only spaces and tabs.
-pub(crate) fn is_blank_text(bytes: &[u8]) -> bool
+/// Whether there are only spaces and tabs, as in a blank line (2.1 Characters and lines).
+pub fn is_blank_text(bytes: &[u8]) -> bool
     ensures { result ≡ is_blank_text bytes.now }
 {
     bytes.iter().all(|b| is_space_or_tab(*b))
@@ -84,7 +84,7 @@ pub(crate) fn trim_start(text: &str) -> &str
     &text[start..]
 }
 
-/// The text without the spaces and tabs at its end.
+/// The text without the spaces and tabs at its end, as in the last line of a paragraph (4.8 Paragraphs).
 pub fn trim_end(text: &str) -> &str
     ensures { result.now ≡ trim_end text.now }
 {
