@@ -1,8 +1,2 @@
-pub mod TrimLemmas
-pub mod InlineLemmas
-pub mod EndedLemmas
-pub mod SettledLemmas
-pub mod ParserLemmas
-pub mod ReadLemmas
 pub mod CommandLineLemmas
 pub mod WalkedLemmas

@@ -1,11 +1,11 @@
 -- What a conversion writes and answers.
 use Rattle.std.specs.Prelude.{◌≡◌, ℕ, ◌≤◌, List, length, take, Result, Ok, Err, ◌⊎◌}
-use Rattle.cm_tool.specs.declared.fault.Fault.{Fault}
-use Rattle.cm_tool.specs.declared.fault.Fault.TheVariants.{NotUtf8, TooLong, BlocksTooDeep, NoMemory, ReadFailed, WriteFailed}
+use Rattle.cm_reader.specs.declared.fault.Fault.{Fault}
+use Rattle.cm_reader.specs.declared.fault.Fault.TheVariants.{NotUtf8, TooLong, BlocksTooDeep, NoMemory, ReadFailed, WriteFailed}
 use Rattle.cm_text.specs.Limits.{LimitsView}
 use Rattle.cm_text.specs.Writing.{SinkView, IsUnwritten, Wrote, WroteBeginning}
 use Rattle.cm_html.specs.Html.{html_of}
-use Rattle.cm_tool.specs.Reading.{SourceView, ReadWhole, Refuses, tree_of}
+use Rattle.cm_reader.specs.Reading.{SourceView, ReadWhole, Refuses, tree_of}
 
 -- the HTML of a text's bytes
 abbrev pub converted : List ℕ → List ℕ

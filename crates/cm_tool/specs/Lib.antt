@@ -1,10 +1,3 @@
-pub mod Trim
-pub mod Inlines
-pub mod Leaves
-pub mod Fault
-pub mod Faults
-pub mod Reading
-pub mod Parsing
 pub mod Convert
 pub mod Examples
 pub mod CommandLine

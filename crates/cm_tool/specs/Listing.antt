@@ -1,11 +1,11 @@
 -- What listing the tree of a text writes and answers.
 use Rattle.std.specs.Prelude.{◌≡◌, ℕ, ◌≤◌, List, length, take, Result, Ok, Err}
-use Rattle.cm_tool.specs.declared.fault.Fault.{Fault}
-use Rattle.cm_tool.specs.declared.fault.Fault.TheVariants.{NotUtf8, TooLong, BlocksTooDeep, NoMemory, ReadFailed, WriteFailed}
+use Rattle.cm_reader.specs.declared.fault.Fault.{Fault}
+use Rattle.cm_reader.specs.declared.fault.Fault.TheVariants.{NotUtf8, TooLong, BlocksTooDeep, NoMemory, ReadFailed, WriteFailed}
 use Rattle.cm_text.specs.Limits.{LimitsView}
 use Rattle.cm_text.specs.Writing.{SinkView, IsUnwritten, Wrote}
 use Rattle.cm_html.specs.Listing.{listing_of}
-use Rattle.cm_tool.specs.Reading.{SourceView, ReadWhole, Refuses, tree_of, owners_of_bytes}
+use Rattle.cm_reader.specs.Reading.{SourceView, ReadWhole, Refuses, tree_of, owners_of_bytes}
 
 -- the listing of the tree of a text's bytes, and of the owners of its lines
 abbrev pub listed : List ℕ → List ℕ

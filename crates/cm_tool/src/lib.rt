@@ -3,21 +3,13 @@
 
 mod command_line;
 mod conversion;
-mod fault;
-mod inlines;
 mod job;
 pub mod laws;
-mod leaves;
 mod listing;
-mod parser;
-mod reading;
 mod running;
-mod text;
 
+pub use cm_reader::{Fault, Parser, read};
 pub use command_line::task;
 pub use conversion::convert;
-pub use fault::Fault;
 pub use job::{Job, Stop, Task};
-pub use parser::Parser;
-pub use reading::read;
 pub use running::{run, tell};

@@ -3,9 +3,8 @@ ghost use Rattle.std.specs.Prelude.{◌≡◌, ℕ, ◌-◌, ◌^◌, ◌<◌, L
 ghost use Rattle.std.specs.Io.KnownBytes.{Consumes};
 ghost use Rattle.cm_tool.specs.Listing.{Lists};
 
-use crate::fault::Fault;
-use crate::reading::read;
 use cm_html::listing;
+use cm_reader::{Fault, read};
 use cm_text::{Limits, Sink, Source, WriteFailed, write_all};
 use std::alloc::Global;
 

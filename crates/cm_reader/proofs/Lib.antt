@@ -1,0 +1,6 @@
+pub mod TrimLemmas
+pub mod InlineLemmas
+pub mod EndedLemmas
+pub mod SettledLemmas
+pub mod ParserLemmas
+pub mod ReadLemmas

@@ -1,0 +1,61 @@
+-- What reading a source to its end answers.
+use Rattle.std.specs.Prelude.{◌≡◌, ℕ, ◌+◌, List, Option, Some, None, Result, Ok, Err, ◌⊎◌}
+use Rattle.std.specs.Io.KnownBytes.{IsAtEnd}
+use Rattle.cm_text.specs.Rules.Rules.{profile}
+use Rattle.cm_text.specs.Limits.{LimitsView}
+use Rattle.cm_text.specs.Lines.{text_of, plain_lines_of}
+use Rattle.cm_tree.specs.declared.tree.Block.{Block}
+use Rattle.cm_tree.specs.declared.tree.Owner.{Owner}
+use Rattle.cm_tree.specs.declared.tree.Doc.{Doc}
+use Rattle.cm_scan.specs.Blocks.{blocks_of, owners_of}
+use Rattle.cm_reader.specs.declared.fault.Fault.{Fault}
+use Rattle.cm_reader.specs.declared.fault.Fault.TheVariants.{NotUtf8, TooLong, BlocksTooDeep, NoMemory, ReadFailed, WriteFailed}
+use Rattle.cm_reader.specs.Leaves.{with_inlines}
+use Rattle.cm_reader.specs.Faults.{fault_of, settled_fault_of}
+
+-- the tree of a text's bytes
+abbrev pub tree_of : List ℕ → List Block
+tree_of bytes = with_inlines (blocks_of profile (plain_lines_of (text_of bytes)))
+
+-- the owner of each of its lines
+abbrev pub owners_of_bytes : List ℕ → List Owner
+owners_of_bytes bytes = owners_of profile (plain_lines_of (text_of bytes))
+
+abbrev pub doc_of : List ℕ → Doc
+doc_of bytes = record { blocks = tree_of bytes; owners = owners_of_bytes bytes }
+
+-- a source, by the bytes still to come, where they are known, and the number of failed reads
+pub record SourceView : Type 0 where
+  pub remaining : Option (List ℕ)
+  pub failed : ℕ
+
+-- the text has been read whole, without a failed read, and has no fault
+pub record ReadWhole (limits : LimitsView) (bytes : List ℕ) (old new : SourceView) : Type 0 where
+  pub same : new.failed ≡ old.failed
+  pub at_end : IsAtEnd new.remaining
+  pub sound : fault_of limits bytes ≡ None
+
+-- the input has this fault: the bytes settle it, or they are all
+pub record HasFault (limits : LimitsView) (bytes : List ℕ) (old new : SourceView) (fault : Fault) : Type 0 where
+  pub same : new.failed ≡ old.failed
+  pub told : (settled_fault_of limits bytes ≡ Some fault)
+      ⊎ ((settled_fault_of limits bytes ≡ None) × IsAtEnd new.remaining × (fault_of limits bytes ≡ Some fault))
+
+-- a read failed, and the bytes before it settle no fault
+pub record HasFailed (limits : LimitsView) (bytes : List ℕ) (old new : SourceView) : Type 0 where
+  pub failed : new.failed ≡ old.failed + 1
+  pub sound : settled_fault_of limits bytes ≡ None
+
+-- why these bytes aren't a document: on want of memory nothing is said of them
+abbrev pub Refuses : Fault → LimitsView → List ℕ → SourceView → SourceView → Type 0
+Refuses (NotUtf8 at) limits bytes old new = HasFault limits bytes old new (NotUtf8 at)
+Refuses (TooLong at) limits bytes old new = HasFault limits bytes old new (TooLong at)
+Refuses (BlocksTooDeep line) limits bytes old new = HasFault limits bytes old new (BlocksTooDeep line)
+Refuses NoMemory limits bytes old new = new.failed ≡ old.failed
+Refuses ReadFailed limits bytes old new = HasFailed limits bytes old new
+Refuses (WriteFailed written) limits bytes old new = ⊥
+
+-- what reading these bytes answers: their document, or why there is none
+abbrev pub Reads : Result Doc Fault → LimitsView → List ℕ → SourceView → SourceView → Type 0
+Reads (Ok doc) limits bytes old new = ReadWhole limits bytes old new × (doc ≡ doc_of bytes)
+Reads (Err fault) limits bytes old new = Refuses fault limits bytes old new

@@ -1,0 +1,58 @@
+//! The inlines of a paragraph's source.
+ghost use Rattle.std.specs.Prelude.{◌≡◌, ℕ, List, ◌++◌, IfOk, OnOk};
+ghost use Rattle.cm_reader.specs.Inlines.{text_of_run, inlines_of};
+
+use crate::text::{cut_at, trim_end_spaces};
+use cm_tree::{Inline, Items, Text};
+use memchr::memchr;
+use std::alloc::{AllocError, Global};
+
+/// Adds a text, if it is not empty.
+fn push_text(alloc: Global, content: &mut Items<Inline>, text: &str) -> Result<(), AllocError>
+    ensures { OnOk result (content.new ≡ content.old ++ text_of_run text.now) }
+{
+    if !text.is_empty() {
+        content.push(Inline::Text(Text::from_str(alloc, text)?))?;
+    }
+    Ok(())
+}
+
+/// The texts and soft breaks of a source, whose lines are parted by line feeds.
+pub(crate) fn inlines(alloc: Global, source: &str) -> Result<Items<Inline>, AllocError>
+    ensures { IfOk result (λ content. content ≡ inlines_of source.now) }
+{
+    let mut content = Items::new(alloc);
+    let mut rest = source;
+    while let Some(at) = memchr(b'\n', rest.as_bytes()) {
+        let (before, after) = cut_at(rest, at);
+        push_text(alloc, &mut content, trim_end_spaces(before))?;
+        content.push(Inline::Soft)?;
+        rest = after;
+    }
+    push_text(alloc, &mut content, rest)?;
+    Ok(content)
+}
+
+#[cfg(test)]
+mod tests {
+    use super::*;
+    use std::test::Fail;
+
+    #[test]
+    fn texts_and_soft_breaks(rt: HostRuntime) -> Result<(), Fail> {
+        let alloc = rt.alloc();
+        for (source, want) in [
+            ("", "[]"),
+            ("a", "[Text(\"a\")]"),
+            ("a \t", "[Text(\"a \\t\")]"),
+            ("a\nb", "[Text(\"a\"), Soft, Text(\"b\")]"),
+            ("a \t  \nb", "[Text(\"a \\t\"), Soft, Text(\"b\")]"),
+            ("é  \n日本", "[Text(\"é\"), Soft, Text(\"日本\")]"),
+            ("  \n\n", "[Soft, Soft]"),
+        ] {
+            let content = inlines(alloc, source)?;
+            assert_eq!(rt; format!(in alloc; "{content:?}")?.as_str(), want);
+        }
+        Ok(())
+    }
+}

@@ -1,0 +1,92 @@
+//! The inlines of an outline's leaves.
+ghost use Rattle.std.specs.Prelude.{◌≡◌, map, IfOk, OnOk};
+ghost use Rattle.cm_reader.specs.Leaves.{content_read, block_read, with_inlines};
+
+use crate::inlines::inlines;
+use cm_tree::{Block, Inline, Items};
+use std::alloc::{AllocError, Global};
+use std::mem;
+
+/// Puts the inlines of a paragraph or heading in the place of its source.
+fn read_content(alloc: Global, content: &mut Items<Inline>) -> Result<(), AllocError>
+    ensures { OnOk result (content.new ≡ content_read content.old) }
+{
+    let read = match content.as_slice() {
+        [Inline::Text(source)] => inlines(alloc, source.as_str())?,
+        _ => return Ok(()),
+    };
+    *content = read;
+    Ok(())
+}
+
+/// The blocks with the inlines of their leaves, at every depth.
+#[cycle(leaves)]
+pub(crate) fn with_inlines(alloc: Global, blocks: Items<Block>) -> Result<Items<Block>, AllocError>
+    ensures { IfOk result (λ read. read ≡ with_inlines blocks) }
+{
+    let mut blocks = blocks.into_vec();
+    for block in blocks.iter_mut() {
+        read_block(alloc, block)?;
+    }
+    Ok(Items::from(blocks))
+}
+
+#[cycle(leaves)]
+fn read_block(alloc: Global, block: &mut Block) -> Result<(), AllocError>
+    ensures { OnOk result (block.new ≡ block_read block.old) }
+{
+    match block {
+        Block::Paragraph(content) => read_content(alloc, content),
+        Block::Heading { content, .. } => read_content(alloc, content),
+        Block::Quote(blocks) => {
+            let inside = mem::replace(blocks, Items::new(alloc));
+            *blocks = with_inlines(alloc, inside)?;
+            Ok(())
+        }
+        Block::List { items, .. } => {
+            let mut read = mem::replace(items, Items::new(alloc)).into_vec();
+            for item in read.iter_mut() {
+                let inside = mem::replace(item, Items::new(alloc));
+                *item = with_inlines(alloc, inside)?;
+            }
+            *items = Items::from(read);
+            Ok(())
+        }
+        _ => Ok(()),
+    }
+}
+
+#[cfg(test)]
+mod tests {
+    use super::*;
+    use cm_tree::{ListKind, Text};
+    use std::test::Fail;
+
+    fn paragraph(alloc: Global, source: &str) -> Result<Block, Fail> {
+        let text = Inline::Text(Text::from_str(alloc, source)?);
+        Ok(Block::Paragraph(Items::from(vec![in alloc; text]?)))
+    }
+
+    #[test]
+    fn leaves_at_every_depth(rt: HostRuntime) -> Result<(), Fail> {
+        let alloc = rt.alloc();
+        let item = Items::from(vec![in alloc; paragraph(alloc, "c")?]?);
+        let list = Block::List {
+            kind: ListKind::Dash,
+            tight: true,
+            items: Items::from(vec![in alloc; item]?),
+        };
+        let inside = vec![in alloc; paragraph(alloc, "a  \nb")?, list]?;
+        let heading = Block::Heading {
+            level: 1,
+            content: Items::new(alloc),
+        };
+        let blocks = vec![in alloc; Block::Quote(Items::from(inside)), heading, Block::Break]?;
+        let read = with_inlines(alloc, Items::from(blocks))?;
+        assert_eq!(rt;
+            format!(in alloc; "{read:?}")?.as_str(),
+            "[Quote([Paragraph([Text(\"a\"), Soft, Text(\"b\")]), List { kind: Dash, tight: true, items: [[Paragraph([Text(\"c\")])]] }]), Heading { level: 1, content: [] }, Break]"
+        );
+        Ok(())
+    }
+}
