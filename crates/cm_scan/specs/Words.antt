@@ -3,6 +3,7 @@ use Rattle.std.specs.Prelude.{ℕ, suc, ◌+◌, Bool, true, false, ◌&&◌, �
 use Rattle.std.specs.List.{list_all, list_any}
 use Rattle.cm_text.specs.Characters.{within}
 pub use Rattle.cm_text.specs.Characters.{is_space_or_tab}
+unfoldable pub use Rattle.cm_text.specs.References.{after_word}
 pub use Rattle.cm_text.specs.References.{begins_with}
 
 -- An ASCII control character is a character between U+0000 and U+001F or U+007F (2.1).
@@ -68,12 +69,6 @@ is_at_gap (b ∷ bs) = is_space_or_tab b
 abbrev pub is_empty : List ℕ → Bool
 is_empty [] = true
 is_empty (b ∷ bs) = false
-
--- what follows the word, if it comes next
-unfoldable pub after_word : List ℕ → List ℕ → Option (List ℕ)
-after_word [] text = Some text
-after_word (w ∷ ws) [] = None
-after_word (w ∷ ws) (b ∷ bs) = elim (b == w) [ true ↦ after_word ws bs | false ↦ None ]
 
 -- the word comes next
 unfoldable pub is_at_word : List ℕ → List ℕ → Bool

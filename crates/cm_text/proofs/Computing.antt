@@ -5,7 +5,7 @@ use Rattle.cm_text.specs.Labels.{case_fold, settle_gaps, fold_label}
 use Rattle.ucd_category.proofs.Computing.{ucd_category}
 use Rattle.cm_text.specs.Characters.{is_punct_by, is_space}
 use Rattle.cm_text.specs.NamedReferences.{names}
-use Rattle.cm_text.specs.References.{reference}
+use Rattle.cm_text.specs.References.{after_word, reference}
 use Rattle.cm_text.specs.Unescaping.{special, unescape_after}
 use lib.Utf8.{encode}
 
@@ -21,5 +21,5 @@ character_kinds = tt
 
 -- `unfolding reading_references` lets it compute references, and a text with them resolved
 unfoldable pub reading_references : Unit {0}
-unfolding names reference special unescape_after encode
+unfolding names after_word reference special unescape_after encode
 reading_references = tt

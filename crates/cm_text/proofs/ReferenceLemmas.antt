@@ -13,7 +13,7 @@ use Rattle.std.specs.Str.{IsCharBoundary, IsUtf8}
 use Rattle.std.proofs.lemmas.Str.{IsCharBoundary-after_ascii}
 use Rattle.cm_text.specs.Characters.{within}
 use Rattle.cm_text.specs.NamedReferences.{names}
-use Rattle.cm_text.specs.References.{rest_after, begins_with, before_semicolon, between, numbered_character, numbered, named, entry, decimal_reference, hexadecimal_reference, entity_reference, first_of_all, reference}
+use Rattle.cm_text.specs.References.{after_word, begins_with, before_semicolon, between, numbered_character, numbered, named, entry, decimal_reference, hexadecimal_reference, entity_reference, first_of_all, reference}
 
 -- a byte that passes is a digit of the radix
 abbrev pub MeansDigit : ℕ → (ℕ → Bool) → Type 0
@@ -107,17 +107,20 @@ forms text d x y e p q r s =
 
 -- a front of which a byte differs
 front-differs : (c b : ℕ) (cs bs : List ℕ) (passes : ℕ → Bool) → (b == c) ≡ false → between (c ∷ cs) passes (b ∷ bs) ≡ None
+unfolding after_word
 front-differs c b cs bs passes h =
-    ap (λ t. elim (elim t as (λ _. Option (List ℕ)) [ true ↦ rest_after cs bs | false ↦ None ]) as (λ _. Option (List ℕ)) [ None ↦ None | Some rest ↦ before_semicolon passes rest ]) h
+    ap (λ t. elim (elim t as (λ _. Option (List ℕ)) [ true ↦ after_word cs bs | false ↦ None ]) as (λ _. Option (List ℕ)) [ None ↦ None | Some rest ↦ before_semicolon passes rest ]) h
 
 no-number : (radix most round : ℕ) (o : Option (List ℕ)) → o ≡ None → numbered radix most round o ≡ None
 no-number radix most round o h = ap (λ t. numbered radix most round t) h
 
 hexadecimal-small : (bs : List ℕ) → reference (38 ∷ 35 ∷ 120 ∷ bs) ≡ numbered 16 6 4 (before_semicolon is_ascii_hexdigit bs)
+unfolding after_word
 hexadecimal-small bs = forms (38 ∷ 35 ∷ 120 ∷ bs) None (numbered 16 6 4 (before_semicolon is_ascii_hexdigit bs)) None None refl refl refl refl
     ∙ alone_2 (numbered 16 6 4 (before_semicolon is_ascii_hexdigit bs))
 
 hexadecimal-great : (bs : List ℕ) → reference (38 ∷ 35 ∷ 88 ∷ bs) ≡ numbered 16 6 4 (before_semicolon is_ascii_hexdigit bs)
+unfolding after_word
 hexadecimal-great bs = forms (38 ∷ 35 ∷ 88 ∷ bs) None None (numbered 16 6 4 (before_semicolon is_ascii_hexdigit bs)) None refl refl refl refl
     ∙ alone_3 (numbered 16 6 4 (before_semicolon is_ascii_hexdigit bs))
 
@@ -129,6 +132,7 @@ reference-great_x text h = ap (λ t. reference (38 ∷ 35 ∷ t)) (begins-cons 8
 
 pub reference-decimal : (text : List ℕ) → begins_with 120 text ≡ false → begins_with 88 text ≡ false
     → reference (38 ∷ 35 ∷ text) ≡ numbered 10 7 3 (before_semicolon is_ascii_digit text)
+unfolding after_word
 reference-decimal [] h k = forms (38 ∷ 35 ∷ []) None None None None refl refl refl refl
 reference-decimal (b ∷ bs) h k =
     let text = b ∷ bs in
@@ -137,6 +141,7 @@ reference-decimal (b ∷ bs) h k =
     ∙ alone_1 (numbered 10 7 3 (before_semicolon is_ascii_digit text))
 
 pub reference-named : (text : List ℕ) → begins_with 35 text ≡ false → reference (38 ∷ text) ≡ named (before_semicolon is_ascii_alphanumeric text)
+unfolding after_word
 reference-named [] h = forms (38 ∷ []) None None None None refl refl refl refl
 reference-named (b ∷ bs) h =
     let text = b ∷ bs in
@@ -147,6 +152,7 @@ reference-named (b ∷ bs) h =
 
 -- without an ampersand there is no reference
 pub reference-none : (text : List ℕ) → begins_with 38 text ≡ false → reference text ≡ None
+unfolding after_word
 reference-none [] h = forms [] None None None None refl refl refl refl
 reference-none (b ∷ bs) h =
     forms (b ∷ bs) None None None None
@@ -186,11 +192,12 @@ inside-more n b bs (Some content) h =
     rw long (omega (arith, h.0), h.1)
 
 inside-step : (passes : ℕ → Bool) (b : ℕ) (cs bs : List ℕ) (same : Bool) → Inside (length cs) bs (between cs passes bs)
-    → Inside (suc (length cs)) (b ∷ bs) (elim (elim same as (λ _. Option (List ℕ)) [ true ↦ rest_after cs bs | false ↦ None ]) as (λ _. Option (List ℕ)) [ None ↦ None | Some rest ↦ before_semicolon passes rest ])
+    → Inside (suc (length cs)) (b ∷ bs) (elim (elim same as (λ _. Option (List ℕ)) [ true ↦ after_word cs bs | false ↦ None ]) as (λ _. Option (List ℕ)) [ None ↦ None | Some rest ↦ before_semicolon passes rest ])
 inside-step passes b cs bs true h = inside-more (length cs) b bs (between cs passes bs) h
 inside-step passes b cs bs false h = tt
 
 inside : (passes : ℕ → Bool) (front text : List ℕ) → Inside (length front) text (between front passes text)
+unfolding after_word
 inside passes [] text = inside-choice (prefix_len passes text) text (begins_with 59 (drop (prefix_len passes text) text)) refl
 inside passes (c ∷ cs) [] = tt
 inside passes (c ∷ cs) (b ∷ bs) = inside-step passes b cs bs (b == c) (inside passes cs bs)

@@ -9,11 +9,11 @@ use Rattle.cm_text.specs.declared.references.Chars.{Chars}
 use Rattle.cm_text.specs.Characters.{within}
 use Rattle.cm_text.specs.NamedReferences.{names}
 
--- what follows a front, in a text that begins with it
-abbrev pub rest_after : List ℕ → List ℕ → Option (List ℕ)
-rest_after [] text = Some text
-rest_after (c ∷ cs) [] = None
-rest_after (c ∷ cs) (b ∷ bs) = elim (b == c) [ true ↦ rest_after cs bs | false ↦ None ]
+-- what follows the word, if it comes next
+unfoldable pub after_word : List ℕ → List ℕ → Option (List ℕ)
+after_word [] text = Some text
+after_word (w ∷ ws) [] = None
+after_word (w ∷ ws) (b ∷ bs) = elim (b == w) [ true ↦ after_word ws bs | false ↦ None ]
 
 abbrev pub begins_with : ℕ → List ℕ → Bool
 begins_with c [] = false
@@ -26,7 +26,7 @@ before_semicolon passes text =
 
 -- what stands between this front and a semicolon
 abbrev pub between : List ℕ → (ℕ → Bool) → List ℕ → Option (List ℕ)
-between front passes text = elim (rest_after front text) [ None ↦ None | Some rest ↦ before_semicolon passes rest ]
+between front passes text = elim (after_word front text) [ None ↦ None | Some rest ↦ before_semicolon passes rest ]
 
 -- The character with a number. "Invalid Unicode code points will be replaced by the REPLACEMENT CHARACTER (U+FFFD). For
 -- security reasons, the code point U+0000 will also be replaced by U+FFFD."
