@@ -250,14 +250,10 @@ mod tests {
         Ok(feed.next_line().ok_or("line")?)
     }
 
-    fn limits(blocks: usize) -> Result<Limits, Fail> {
-        Ok(Limits::new(100, blocks, 1).ok_or("limits")?)
-    }
-
     #[test]
     fn held_behind_three_lines(rt: HostRuntime) -> Result<(), Fail> {
         let alloc = rt.alloc();
-        let mut parser = BlockParser::new(alloc, limits(1)?);
+        let mut parser = BlockParser::new(alloc, Limits::standard());
         for text in ["a", "***", "> b"] {
             assert_eq!(rt; parser.line(&line(alloc, text)?), Ok(()));
         }
@@ -280,45 +276,6 @@ mod tests {
         assert!(rt; matches!(&leaf, OpenLeaf::Run { source } if source.as_str() == "b"));
         assert_eq!(rt; owners.len(), 2);
         assert_eq!(rt; fault, None);
-        Ok(())
-    }
-
-    #[test]
-    fn too_deep_in_its_line(rt: HostRuntime) -> Result<(), Fail> {
-        let alloc = rt.alloc();
-        let mut parser = BlockParser::new(alloc, limits(1)?);
-        assert_eq!(rt; parser.line(&line(alloc, "> a")?), Ok(()));
-        let fault = BlockFault::BlocksTooDeep { line: 2 };
-        assert_eq!(rt; parser.line(&line(alloc, "> - a")?), Err(fault));
-        assert_eq!(rt; parser.line(&line(alloc, "a")?), Err(fault));
-        assert!(rt; matches!(parser.finish(), Err(told) if told == fault));
-        Ok(())
-    }
-
-    #[test]
-    fn outline_of_lines(rt: HostRuntime) -> Result<(), Fail> {
-        let alloc = rt.alloc();
-        let mut parser = BlockParser::new(alloc, Limits::standard());
-        for text in ["- a", "> b", "c", "> [d]: /e 'f'"] {
-            assert_eq!(rt; parser.line(&line(alloc, text)?), Ok(()));
-        }
-        let outline = parser.finish().ok().ok_or("outline")?;
-        assert_eq!(rt; outline.blocks.len(), 2);
-        assert!(rt;
-            matches!(
-                outline.blocks.first(),
-                Some(Block::List { tight: true, .. })
-            )
-        );
-        assert!(rt; matches!(outline.blocks.get(1), Some(Block::Quote(_))));
-        let owners = [
-            Owner::Leaf(1),
-            Owner::Leaf(2),
-            Owner::Leaf(2),
-            Owner::Leaf(2),
-        ];
-        assert!(rt; outline.owners.as_slice() == owners.as_slice());
-        assert!(rt; outline.definitions.find("d")?.is_none());
         Ok(())
     }
 }

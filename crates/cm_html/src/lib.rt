@@ -9,8 +9,6 @@ pub mod laws;
 mod quoting;
 pub mod rendering;
 mod search;
-#[cfg(test)]
-mod tests;
 pub mod tree_lines;
 
 pub use fault::HtmlFault;

@@ -32,27 +32,3 @@ pub(crate) fn inlines(alloc: Global, source: &str) -> Result<Items<Inline>, Allo
     push_text(alloc, &mut content, rest)?;
     Ok(content)
 }
-
-#[cfg(test)]
-mod tests {
-    use super::*;
-    use std::test::Fail;
-
-    #[test]
-    fn texts_and_soft_breaks(rt: HostRuntime) -> Result<(), Fail> {
-        let alloc = rt.alloc();
-        for (source, want) in [
-            ("", "[]"),
-            ("a", "[Text(\"a\")]"),
-            ("a \t", "[Text(\"a \\t\")]"),
-            ("a\nb", "[Text(\"a\"), Soft, Text(\"b\")]"),
-            ("a \t  \nb", "[Text(\"a \\t\"), Soft, Text(\"b\")]"),
-            ("é  \n日本", "[Text(\"é\"), Soft, Text(\"日本\")]"),
-            ("  \n\n", "[Soft, Soft]"),
-        ] {
-            let content = inlines(alloc, source)?;
-            assert_eq!(rt; format!(in alloc; "{content:?}")?.as_str(), want);
-        }
-        Ok(())
-    }
-}

@@ -2,7 +2,7 @@
 ghost use Rattle.cm_reader.specs.Examples.{Examples};
 ghost use Rattle.cm_reader.specs.Faults.{SettledIsTold};
 
-/// Worked examples of faults, by computation.
+/// Worked examples of faults and inlines, by computation.
 pub fn worked_examples()
     ensures { Examples }
 {}

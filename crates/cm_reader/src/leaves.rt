@@ -55,38 +55,3 @@ fn read_block(alloc: Global, block: &mut Block) -> Result<(), AllocError>
         _ => Ok(()),
     }
 }
-
-#[cfg(test)]
-mod tests {
-    use super::*;
-    use cm_tree::{ListKind, Text};
-    use std::test::Fail;
-
-    fn paragraph(alloc: Global, source: &str) -> Result<Block, Fail> {
-        let text = Inline::Text(Text::from_str(alloc, source)?);
-        Ok(Block::Paragraph(Items::from(vec![in alloc; text]?)))
-    }
-
-    #[test]
-    fn leaves_at_every_depth(rt: HostRuntime) -> Result<(), Fail> {
-        let alloc = rt.alloc();
-        let item = Items::from(vec![in alloc; paragraph(alloc, "c")?]?);
-        let list = Block::List {
-            kind: ListKind::Dash,
-            tight: true,
-            items: Items::from(vec![in alloc; item]?),
-        };
-        let inside = vec![in alloc; paragraph(alloc, "a  \nb")?, list]?;
-        let heading = Block::Heading {
-            level: 1,
-            content: Items::new(alloc),
-        };
-        let blocks = vec![in alloc; Block::Quote(Items::from(inside)), heading, Block::Break]?;
-        let read = with_inlines(alloc, Items::from(blocks))?;
-        assert_eq!(rt;
-            format!(in alloc; "{read:?}")?.as_str(),
-            "[Quote([Paragraph([Text(\"a\"), Soft, Text(\"b\")]), List { kind: Dash, tight: true, items: [[Paragraph([Text(\"c\")])]] }]), Heading { level: 1, content: [] }, Break]"
-        );
-        Ok(())
-    }
-}

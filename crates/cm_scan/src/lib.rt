@@ -8,8 +8,6 @@ mod line_forms;
 mod links;
 mod markers;
 mod tags;
-#[cfg(test)]
-mod tests;
 mod words;
 
 pub use html_blocks::{HtmlKind, html_end, html_start};

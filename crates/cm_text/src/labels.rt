@@ -55,26 +55,3 @@ fn put(settled: &mut String, after_gap: bool, c: char) -> Result<(), AllocError>
     settled.push(c)?;
     Ok(())
 }
-
-#[cfg(test)]
-mod tests {
-    use super::*;
-    use std::test::Fail;
-
-    #[test]
-    fn labels(rt: HostRuntime) -> Result<(), Fail> {
-        let alloc = rt.alloc();
-        for (label, want) in [
-            ("\u{1E9E}", "ss"),
-            ("SS", "ss"),
-            (" A\t\nb ", "a b"),
-            ("\t \n", ""),
-            ("", ""),
-            ("Foo*bar\\]", "foo*bar\\]"),
-            ("\u{A0}\u{3A3}\u{3C2}\r", "\u{A0}\u{3C3}\u{3C3}"),
-        ] {
-            assert_eq!(rt; fold_label(alloc, label)?.as_str(), want);
-        }
-        Ok(())
-    }
-}

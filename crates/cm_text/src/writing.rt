@@ -33,36 +33,3 @@ pub fn write_all<W: Sink>(sink: &mut W, bytes: &[u8]) -> Result<(), WriteFailed>
     }
     Ok(())
 }
-
-#[cfg(test)]
-mod tests {
-    use super::*;
-    use crate::device::Room;
-    use std::alloc::Global;
-    use std::test::Fail;
-
-    fn room(alloc: Global, capacity: usize, at_most: usize) -> Result<Room, Fail>
-        ensures { IfOk result (λ room. ⟦<Room as Sink>⟧.failed room ≡ 0) }
-    {
-        Ok(Room::new(alloc, capacity, at_most).ok().ok_or("room")?)
-    }
-
-    #[test]
-    fn whole_or_a_front(rt: HostRuntime) -> Result<(), Fail> {
-        let alloc = rt.alloc();
-        for (capacity, at_most, want, taken) in [
-            (9, 9, Ok(()), b"abcde".as_slice()),
-            (9, 1, Ok(()), b"abcde".as_slice()),
-            (5, 2, Ok(()), b"abcde".as_slice()),
-            (4, 3, Err(WriteFailed { written: 4 }), b"abcd".as_slice()),
-            (9, 0, Err(WriteFailed { written: 0 }), b"".as_slice()),
-        ] {
-            let mut sink = room(alloc, capacity, at_most)?;
-            assert_eq!(rt; write_all(&mut sink, b"abcde"), want);
-            assert_eq!(rt; sink.taken(), taken);
-        }
-        let mut sink = room(alloc, 9, 0)?;
-        assert_eq!(rt; write_all(&mut sink, b""), Ok(()));
-        Ok(())
-    }
-}

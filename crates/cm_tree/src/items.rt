@@ -172,33 +172,3 @@ impl<T: PartialEq> PartialEq for Items<T> {
 impl<T: Eq> Eq for Items<T> {
     ghost laws = { lists_equiv T.Eq.laws };
 }
-
-#[cfg(test)]
-mod tests {
-    use super::*;
-    use std::test::Fail;
-
-    #[test]
-    fn grows_and_is_given_back(rt: HostRuntime) -> Result<(), Fail> {
-        let alloc = rt.alloc();
-        let mut items = Items::new(alloc);
-        assert!(rt; items.is_empty());
-        items.push(3_u8)?;
-        items.push(5)?;
-        assert_eq!(rt; items.len(), 2);
-        assert_eq!(rt; items.get(1), Some(&5));
-        let mut sum = 0_u32;
-        for item in &items {
-            sum = sum.saturating_add(u32::from(*item));
-        }
-        assert_eq!(rt; sum, 8);
-        assert_eq!(rt; items.iter().next_back(), Some(&5));
-        assert_eq!(rt; items.first(), Some(&3));
-        assert!(rt; items.clone()? == items);
-        assert!(rt; items == Items::from(vec![in alloc; 3, 5]?));
-        assert_eq!(rt; items.pop(), Some(5));
-        assert!(rt; items == Items::from(vec![in alloc; 3]?));
-        assert_eq!(rt; items.into_vec().len(), 1);
-        Ok(())
-    }
-}

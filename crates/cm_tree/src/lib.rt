@@ -52,10 +52,6 @@
 mod clones;
 pub mod definitions;
 pub mod depth;
-#[cfg(test)]
-mod equality;
-#[cfg(test)]
-mod example;
 pub mod items;
 pub mod laws;
 pub mod text;

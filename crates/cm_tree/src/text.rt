@@ -137,24 +137,3 @@ impl PartialEq for Text {
 impl Eq for Text {
     ghost laws = { nat_list_eq_equiv };
 }
-
-#[cfg(test)]
-mod tests {
-    use super::*;
-    use std::test::Fail;
-
-    #[test]
-    fn grows_and_is_given_back(rt: HostRuntime) -> Result<(), Fail> {
-        let alloc = rt.alloc();
-        let mut text = Text::new(alloc);
-        assert!(rt; text.is_empty());
-        text.push_str("\u{E9}")?;
-        assert_eq!(rt; text.len(), 2);
-        assert_eq!(rt; text.as_str(), "\u{E9}");
-        assert!(rt; text.ends_with('\u{E9}'));
-        assert!(rt; text == Text::from_str(alloc, "\u{E9}")?);
-        assert!(rt; text == Text::from(String::from_str(alloc, "\u{E9}")?));
-        assert_eq!(rt; text.into_string().as_str(), "\u{E9}");
-        Ok(())
-    }
-}

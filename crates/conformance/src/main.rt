@@ -1,44 +1,45 @@
-//! Reads examples of texts and their HTML from standard input, and says how many of them agree. Its
-//! tests cross crates, as tables: whole texts through `convert` and the listing of their tree, in every
-//! cut, and the faults of texts, command lines and devices.
+//! Reads tables of cases from the files that its arguments name, and says how many of them come out as
+//! the tables say, and for each other what was wanted and what came. A file `.txt` has examples in the
+//! form of the CommonMark specification, `.cases` cases of several lines, `.calls` calls of one line.
+//!
+//! Its tests have what needs calls: devices, and values that are moved and compared.
 #![tactic(auto)]
 
-#[cfg(test)]
-mod answers;
-#[cfg(test)]
-mod closings;
-#[cfg(test)]
-mod command_lines;
-#[cfg(test)]
-mod containers;
-#[cfg(test)]
-mod definitions;
-#[cfg(test)]
-mod depths;
-#[cfg(test)]
-mod devices;
+mod calls;
+mod cases;
+mod commands;
+mod cuts;
+mod escapes;
 mod examples;
+mod listed;
+mod tally;
 #[cfg(test)]
-mod leaf_blocks;
-#[cfg(test)]
-mod paragraphs;
-#[cfg(test)]
-mod pieces;
-#[cfg(test)]
+mod tests;
 mod texts;
+mod trees;
+mod trouble;
+mod words;
 
-use examples::Examples;
 use std::process::ExitCode;
+use std::{env, fs};
+use tally::tally_of;
 
 fn main(rt: HostRuntime) -> anyhow::Result<ExitCode> {
-    let mut examples = Examples::new(rt.alloc());
-    for line in rt.lines(rt.alloc()) {
-        examples.line(line?.as_str())?;
+    let (mut agree, mut total) = (0_usize, 0_usize);
+    for name in env::args(&rt)?.skip(1) {
+        let table = fs::read_to_string(&rt, name.as_str())?;
+        let tally = tally_of(rt.alloc(), name.as_str(), table.as_str())?;
+        for told in tally.differ() {
+            println!(rt; "{told}")?;
+        }
+        println!(rt; "{name}: {} of {} agree", tally.agree(), tally.total())?;
+        agree = agree.saturating_add(tally.agree());
+        total = total.saturating_add(tally.total());
     }
-    for number in examples.differ() {
-        println!(rt; "example {number} differs")?;
-    }
-    let total = examples.total();
-    println!(rt; "{} of {total} agree", examples.agree())?;
-    Ok(ExitCode::SUCCESS)
+    println!(rt; "{agree} of {total} agree")?;
+    Ok(if agree == total {
+        ExitCode::SUCCESS
+    } else {
+        ExitCode::FAILURE
+    })
 }

@@ -1,48 +1,310 @@
-//! Texts that aren't UTF-8, or too long.
-ghost use Rattle.std.specs.Prelude.{◌≡◌};
+//! Whole texts: their HTML, their listing and their fault, in every cut, and with writers that fail.
 
-use crate::answers::{is_read, is_refused};
-use cm_text::Limits;
-use cm_tool::Fault;
-use std::test::Fail;
+use crate::cases::Case;
+use crate::cuts::{Counted, Cut, cuts, pieces};
+use crate::trouble::{Trouble, same, wrong};
+use cm_html::{html, listing};
+use cm_text::{Limits, Room};
+use cm_tool::{Fault, Job, Parser, Task, convert, run};
+use cm_tree::{Doc, block_depth};
+use std::alloc::{AllocError, Global};
 
-#[test]
-fn texts_that_are_not_utf8(rt: HostRuntime) -> Result<(), Fail> {
-    for (text, at) in [
-        (b"a\x80".as_slice(), 1),
-        (b"a\xC3".as_slice(), 1),
-        (b"a\xE2\x82".as_slice(), 1),
-        (b"a\n\nb\xFFc".as_slice(), 4),
-        (b"\xC0\x80".as_slice(), 0),
-        (b"\xED\xA0\x80".as_slice(), 0),
-        (b"\xF4\x90\x80\x80".as_slice(), 0),
-        (b"\xE2\x82A".as_slice(), 0),
-    ] {
-        let fault = Fault::NotUtf8 { at };
-        is_refused(&rt, rt.alloc(), text, Limits::standard(), fault)?;
-    }
-    Ok(())
+// Writers fail behind each byte of an output that is no longer than this.
+const SHORT: usize = 200;
+
+/// What a text comes to.
+#[derive(Clone, Copy, Debug)]
+pub(crate) enum Outcome<'a> {
+    /// A document with this HTML and this listing, each where the table has it.
+    Document {
+        html: Option<&'a [u8]>,
+        listing: Option<&'a str>,
+    },
+    /// The fault of this line, which is told as soon as the bytes are there, or only at the end.
+    Fault {
+        line: &'a str,
+        is_late: bool,
+    },
 }
 
-#[test]
-fn texts_of_three_bytes_at_most(rt: HostRuntime) -> Result<(), Fail> {
-    let limits = Limits::new(3, 100, 100).ok_or("limits")?;
-    for (text, fault) in [
-        (b"abcd".as_slice(), Fault::TooLong { at: 3 }),
-        (b"a\xE2\x82\xAC".as_slice(), Fault::TooLong { at: 3 }),
-        (b"a\xE2AA".as_slice(), Fault::NotUtf8 { at: 1 }),
-        (b"ab\xE2".as_slice(), Fault::NotUtf8 { at: 2 }),
-    ] {
-        is_refused(&rt, rt.alloc(), text, limits, fault)?;
+/// A text, and what it comes to under these limits.
+#[derive(Drop)]
+pub(crate) struct Text<'a> {
+    pub(crate) alloc: Global,
+    pub(crate) input: &'a [u8],
+    pub(crate) limits: Limits,
+    /// Whether the reader fails behind the text.
+    pub(crate) fails: bool,
+    /// How many reads are made where the text comes byte by byte.
+    pub(crate) reads: Option<usize>,
+    pub(crate) depth: Option<usize>,
+    pub(crate) outcome: Outcome<'a>,
+}
+
+// Room for an output: so many bytes, at most so many a call.
+#[derive(Clone, Copy)]
+struct Space {
+    capacity: usize,
+    at_most: usize,
+}
+
+impl Space {
+    // How much of an output of so many bytes it takes.
+    fn taken(self, len: usize) -> usize {
+        if self.at_most == 0 {
+            0
+        } else {
+            self.capacity.min(len)
+        }
     }
-    let (tree, owners) = ("paragraph\n  text \"abc\"\n", "owner 1 leaf 1\n");
-    is_read(
-        &rt,
-        rt.alloc(),
-        b"abc",
-        limits,
-        "<p>abc</p>\n",
-        tree,
-        owners,
-    )
+}
+
+// More than an output of so many bytes needs.
+fn ample(len: usize) -> Space {
+    let capacity = len.saturating_add(1_000);
+    Space {
+        capacity,
+        at_most: capacity,
+    }
+}
+
+impl Text<'_> {
+    // The whole output of the job, where the table has it.
+    fn whole(&self, job: Job) -> Option<&[u8]> {
+        match (self.outcome, job) {
+            (Outcome::Document { html, .. }, Job::Render) => html,
+            (Outcome::Document { listing, .. }, Job::Tree) => Some(listing?.as_bytes()),
+            (Outcome::Fault { .. }, _) => Some(b""),
+        }
+    }
+
+    // What is to be told of an output of which so much is taken: the fault, or nothing.
+    fn told(&self, whole: &[u8], taken: usize) -> Result<String, AllocError> {
+        match self.outcome {
+            Outcome::Fault { line, .. } => String::from_str(self.alloc, line),
+            _ if taken < whole.len() => {
+                format!(in self.alloc; "F7 write failed after {taken} bytes")
+            }
+            _ => Ok(String::new(self.alloc)),
+        }
+    }
+
+    // That the job, as the program runs it, gives what is wanted.
+    fn runs(&self, job: Job, cut: Cut, space: Space) -> Result<(), Trouble> {
+        let Some(whole) = self.whole(job) else {
+            return Ok(());
+        };
+        let alloc = self.alloc;
+        let taken = space.taken(whole.len());
+        let told = self.told(whole, taken)?;
+        let mut source = Counted::new(pieces(alloc, self.input, cut)?, self.fails);
+        let mut output = Room::new(alloc, space.capacity, space.at_most)?;
+        let mut errors = Room::new(alloc, SHORT, SHORT)?;
+        let limits = self.limits;
+        let file = None;
+        let task = Task { job, file, limits };
+        let status = run(alloc, &task, &mut source, &mut output, &mut errors);
+        let is_well = told.is_empty();
+        let line = if is_well {
+            told
+        } else {
+            format!(in alloc; "cmk: {told}\n")?
+        };
+        same(alloc, "fault", line.as_bytes(), errors.taken())?;
+        same(
+            alloc,
+            "output",
+            whole.get(..taken).unwrap_or(whole),
+            output.taken(),
+        )?;
+        if (status == 0) != is_well || status > 1 {
+            return Err(wrong(alloc, "the exit status is wrong"));
+        }
+        Ok(())
+    }
+
+    // That `convert` answers what is wanted, and makes as many reads.
+    fn converts(&self, cut: Cut, space: Space) -> Result<(), Trouble> {
+        let Some(whole) = self.whole(Job::Render) else {
+            return Ok(());
+        };
+        let alloc = self.alloc;
+        let taken = space.taken(whole.len());
+        let told = self.told(whole, taken)?;
+        let mut source = Counted::new(pieces(alloc, self.input, cut)?, self.fails);
+        let mut output = Room::new(alloc, space.capacity, space.at_most)?;
+        let (answer, len) = match convert(alloc, &mut source, &mut output, self.limits) {
+            Ok(len) => (String::new(alloc), len),
+            Err(fault) => (format!(in alloc; "{fault}")?, whole.len()),
+        };
+        same(alloc, "fault", told.as_bytes(), answer.as_bytes())?;
+        same(
+            alloc,
+            "HTML",
+            whole.get(..taken).unwrap_or(whole),
+            output.taken(),
+        )?;
+        match (cut, self.reads) {
+            (Cut::BehindEachByte, Some(reads)) if source.reads() != reads => {
+                Err(wrong(alloc, "the number of reads is wrong"))
+            }
+            _ if len != whole.len() => Err(wrong(alloc, "the length told is wrong")),
+            _ => Ok(()),
+        }
+    }
+
+    // Feeds the pieces to the parser, and answers the first fault, which each further call has to tell.
+    fn feed(&self, parser: &mut Parser, cut: Cut) -> Result<Option<Fault>, Trouble> {
+        let mut first = None;
+        for piece in &pieces(self.alloc, self.input, cut)? {
+            match (parser.feed(piece.as_slice()), first) {
+                (Ok(()), None) => {}
+                (Err(fault), None) => first = Some(fault),
+                (Err(fault), Some(told)) if fault == told => {}
+                _ => return Err(wrong(self.alloc, "the parser forgets its fault")),
+            }
+        }
+        Ok(first)
+    }
+
+    // That a document is the one that is wanted.
+    fn is_document(&self, doc: &Doc) -> Result<(), Trouble> {
+        if let Some(whole) = self.whole(Job::Render) {
+            let written = html(self.alloc, doc)?;
+            same(self.alloc, "HTML", whole, written.as_bytes())?;
+        }
+        if let Some(whole) = self.whole(Job::Tree) {
+            let written = listing(self.alloc, doc)?;
+            same(self.alloc, "listing", whole, written.as_bytes())?;
+        }
+        match self.depth {
+            Some(depth) if block_depth(doc.blocks.as_slice()) != depth => {
+                Err(wrong(self.alloc, "the depth is wrong"))
+            }
+            _ => Ok(()),
+        }
+    }
+
+    // That the parser gives what is wanted.
+    fn parses(&self, cut: Cut) -> Result<(), Trouble> {
+        let alloc = self.alloc;
+        let mut parser = Parser::new(alloc, self.limits);
+        let first = self.feed(&mut parser, cut)?;
+        let fault = match parser.finish() {
+            Ok(doc) => return self.is_document(&doc),
+            Err(fault) => fault,
+        };
+        let told = format!(in alloc; "{fault}")?;
+        let (line, is_late) = match self.outcome {
+            Outcome::Fault { line, is_late } => (line, is_late),
+            Outcome::Document { .. } => ("", false),
+        };
+        same(
+            alloc,
+            "fault of the parser",
+            line.as_bytes(),
+            told.as_bytes(),
+        )?;
+        if first != (if is_late { None } else { Some(fault) }) {
+            return Err(wrong(alloc, "the fault is told too early or too late"));
+        }
+        Ok(())
+    }
+
+    // That all calls give what is wanted of the text, cut so.
+    fn is_read(&self, cut: Cut) -> Result<(), Trouble> {
+        for job in [Job::Render, Job::Tree] {
+            let len = self.whole(job).map_or(0, |whole| whole.len());
+            self.runs(job, cut, ample(len))?;
+        }
+        let len = self.whole(Job::Render).map_or(0, |whole| whole.len());
+        self.converts(cut, ample(len))?;
+        if self.fails {
+            return Ok(());
+        }
+        self.parses(cut)
+    }
+
+    // That each call tells how much went out where writes fail.
+    fn is_written(&self, job: Job) -> Result<(), Trouble> {
+        let len = self.whole(job).map_or(0, |whole| whole.len());
+        if len > SHORT {
+            return Ok(());
+        }
+        for capacity in 0..len.saturating_add(1) {
+            for at_most in [0, 1, 3, SHORT] {
+                let space = Space { capacity, at_most };
+                self.runs(job, Cut::Nowhere, space)?;
+                if job == Job::Render {
+                    self.converts(Cut::Nowhere, space)?;
+                }
+            }
+        }
+        Ok(())
+    }
+
+    /// That it comes to what is wanted, however it is cut and however much of the output is taken.
+    pub(crate) fn agrees(&self) -> Result<(), Trouble> {
+        for cut in &cuts(self.alloc, self.input.len())? {
+            match self.is_read(*cut) {
+                Err(Trouble::Told(text)) => {
+                    return Err(Trouble::Told(format!(in self.alloc; "{text}(read {cut})\n")?));
+                }
+                answer => answer?,
+            }
+        }
+        self.is_written(Job::Render)?;
+        self.is_written(Job::Tree)
+    }
+}
+
+const PARTS: [&str; 10] = [
+    "input", "bytes", "blocks", "inlines", "fails", "reads", "depth", "html", "tree", "fault",
+];
+
+// The limits of a case: the standard ones but for what it names.
+fn limits_of(alloc: Global, case: &Case) -> Result<Limits, Trouble> {
+    let standard = Limits::standard();
+    let bytes = case.number("bytes")?.unwrap_or(standard.bytes());
+    let blocks = case.number("blocks")?.unwrap_or(standard.blocks());
+    let inlines = case.number("inlines")?.unwrap_or(standard.inlines());
+    Limits::new(bytes, blocks, inlines).ok_or(wrong(alloc, "the limits are out of range"))
+}
+
+// The outcome that a case names.
+fn outcome_of<'a>(
+    alloc: Global,
+    case: &'a Case,
+    html: Option<&'a [u8]>,
+) -> Result<Outcome<'a>, Trouble> {
+    let listing = case.lines("tree");
+    match case.rest("fault") {
+        None if html.is_some() || listing.is_some() => Ok(Outcome::Document { html, listing }),
+        Some(line) if html.is_none() && listing.is_none() => {
+            let (line, is_late) = match line.strip_suffix(", at the end") {
+                Some(line) => (line, true),
+                None => (line, false),
+            };
+            Ok(Outcome::Fault { line, is_late })
+        }
+        _ => Err(wrong(alloc, "a case of a text names no outcome, or two")),
+    }
+}
+
+/// That a text comes to what its case wants.
+pub(crate) fn agrees(alloc: Global, case: &Case) -> Result<(), Trouble> {
+    case.has_only(&PARTS)?;
+    let input = case.bytes("input")?.unwrap_or(Vec::new(alloc));
+    let html = case.bytes("html")?;
+    let html = html.as_ref().map(|html| html.as_slice());
+    Text {
+        alloc,
+        input: input.as_slice(),
+        limits: limits_of(alloc, case)?,
+        fails: case.has("fails"),
+        reads: case.number("reads")?,
+        depth: case.number("depth")?,
+        outcome: outcome_of(alloc, case, html)?,
+    }
+    .agrees()
 }

@@ -44,22 +44,3 @@ impl<R: Read> Source for FromRead<R> {
         self.failures
     }
 }
-
-#[cfg(test)]
-mod tests {
-    use super::*;
-    use std::test::Fail;
-
-    #[test]
-    fn gives_the_bytes_of_a_reader(rt: HostRuntime) -> Result<(), Fail> {
-        let mut source = FromRead::new(b"abc".as_slice());
-        let mut buf = [0; 2];
-        assert_eq!(rt; source.read(&mut buf), Ok(2));
-        assert_eq!(rt; buf, *b"ab");
-        assert_eq!(rt; source.read(&mut buf), Ok(1));
-        assert_eq!(rt; buf[0], b'c');
-        assert_eq!(rt; source.read(&mut buf), Ok(0));
-        assert_eq!(rt; source.failures(), 0);
-        Ok(())
-    }
-}

@@ -45,21 +45,3 @@ impl<W: Write> Sink for FromWrite<W> {
         self.failures
     }
 }
-
-#[cfg(test)]
-mod tests {
-    use super::*;
-    use std::test::Fail;
-
-    #[test]
-    fn hands_bytes_to_a_writer(rt: HostRuntime) -> Result<(), Fail> {
-        let mut bytes = Vec::new(rt.alloc());
-        let mut sink = FromWrite::new(&mut bytes);
-        assert_eq!(rt; sink.write(b"ab"), Ok(2));
-        assert_eq!(rt; sink.write(b""), Ok(0));
-        assert_eq!(rt; sink.write(b"c"), Ok(1));
-        assert_eq!(rt; sink.failures(), 0);
-        assert_eq!(rt; bytes.as_slice(), b"abc".as_slice());
-        Ok(())
-    }
-}

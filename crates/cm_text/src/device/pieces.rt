@@ -87,28 +87,3 @@ impl Source for Pieces {
         self.failures
     }
 }
-
-#[cfg(test)]
-mod tests {
-    use super::*;
-    use std::test::Fail;
-
-    #[test]
-    fn gives_pieces_and_then_fails(rt: HostRuntime) -> Result<(), Fail> {
-        let alloc = rt.alloc();
-        let first = vec![in alloc; b'a', b'b', b'c']?;
-        let pieces = vec![in alloc; first, Vec::new(alloc), vec![in alloc; b'd']?]?;
-        let mut source = Pieces::new(pieces, true);
-        let mut buf = [0; 2];
-        assert_eq!(rt; source.read(&mut buf), Ok(2));
-        assert_eq!(rt; buf, *b"ab");
-        assert_eq!(rt; source.read(&mut buf), Ok(1));
-        assert_eq!(rt; buf[0], b'c');
-        assert_eq!(rt; source.read(&mut buf), Ok(1));
-        assert_eq!(rt; buf[0], b'd');
-        assert_eq!(rt; source.failures(), 0);
-        assert_eq!(rt; source.read(&mut buf), Err(DeviceFailed));
-        assert_eq!(rt; source.failures(), 1);
-        Ok(())
-    }
-}

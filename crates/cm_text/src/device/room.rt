@@ -78,21 +78,3 @@ impl Sink for Room {
         self.failures
     }
 }
-
-#[cfg(test)]
-mod tests {
-    use super::*;
-    use std::test::Fail;
-
-    #[test]
-    fn takes_what_it_has_room_for(rt: HostRuntime) -> Result<(), Fail> {
-        let mut room = Room::new(rt.alloc(), 3, 2).ok().ok_or("room")?;
-        assert_eq!(rt; room.write(b"abcd"), Ok(2));
-        assert_eq!(rt; room.write(b"cd"), Ok(1));
-        assert_eq!(rt; room.failures(), 0);
-        assert_eq!(rt; room.write(b"d"), Err(DeviceFailed));
-        assert_eq!(rt; room.failures(), 1);
-        assert_eq!(rt; room.taken(), b"abc".as_slice());
-        Ok(())
-    }
-}

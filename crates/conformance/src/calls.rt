@@ -1,0 +1,48 @@
+//! Calls of one line: the name of a function, what it is called with, `=`, and its answer. A table of
+//! them is described at the front of `text.calls`.
+
+mod answer;
+mod of_command_line;
+mod of_scan;
+mod of_text;
+
+use crate::trouble::{Trouble, wrong};
+use crate::words::{Word, words};
+use answer::Answer;
+use std::alloc::Global;
+
+// What a call answers.
+fn called(alloc: Global, asked: &[Word]) -> Result<Answer, Trouble> {
+    let Some((Word::Plain(name), given)) = asked.split_first() else {
+        return Err(wrong(alloc, "a call has no name"));
+    };
+    let mut answer = Answer::new(alloc);
+    let name = name.as_str();
+    let is_known = of_text::answers(&mut answer, name, given)?
+        || of_scan::answers(&mut answer, name, given)?
+        || of_command_line::answers(&mut answer, name, given)?;
+    if is_known {
+        return Ok(answer);
+    }
+    Err(wrong(alloc, "no call has this name and such words"))
+}
+
+/// That the call of a line gives its answer.
+pub(crate) fn agrees(alloc: Global, line: &str) -> Result<(), Trouble> {
+    let (mut asked, mut wanted) = (Vec::new(alloc), Vec::new(alloc));
+    let mut is_answer = false;
+    for word in words(alloc, line)? {
+        if is_answer {
+            wanted.push(word)?;
+        } else if word.is("=") {
+            is_answer = true;
+        } else {
+            asked.push(word)?;
+        }
+    }
+    let got = called(alloc, asked.as_slice())?.words;
+    if got == wanted {
+        return Ok(());
+    }
+    Err(Trouble::Told(format!(in alloc; "{line}\nwanted: {wanted:?}\ngot: {got:?}\n")?))
+}

@@ -1,0 +1,61 @@
+//! The words of an answer.
+
+use crate::trouble::Trouble;
+use crate::words::Word;
+use std::alloc::Global;
+
+/// The words so far.
+#[derive(Drop)]
+pub(crate) struct Answer {
+    pub(super) alloc: Global,
+    pub(super) words: Vec<Word>,
+}
+
+impl Answer {
+    pub(super) fn new(alloc: Global) -> Answer {
+        Answer {
+            alloc,
+            words: Vec::new(alloc),
+        }
+    }
+
+    /// A text between quotation marks.
+    pub(super) fn text(&mut self, text: &str) -> Result<(), Trouble> {
+        let text = String::from_str(self.alloc, text)?;
+        Ok(self.words.push(Word::Text(text))?)
+    }
+
+    /// A word as it stands.
+    pub(super) fn word(&mut self, word: &str) -> Result<(), Trouble> {
+        let word = String::from_str(self.alloc, word)?;
+        Ok(self.words.push(Word::Plain(word))?)
+    }
+
+    pub(super) fn number(&mut self, number: usize) -> Result<(), Trouble> {
+        let word = format!(in self.alloc; "{number}")?;
+        Ok(self.words.push(Word::Plain(word))?)
+    }
+
+    pub(super) fn truth(&mut self, is_true: bool) -> Result<(), Trouble> {
+        self.word(if is_true { "yes" } else { "no" })
+    }
+
+    /// A place, or that there is none.
+    pub(super) fn place(&mut self, place: Option<usize>) -> Result<(), Trouble> {
+        match place {
+            Some(place) => self.number(place),
+            None => self.word("none"),
+        }
+    }
+
+    /// A text and the place where it ends, or that there is none.
+    pub(super) fn slice(&mut self, slice: Option<(&str, usize)>) -> Result<(), Trouble> {
+        match slice {
+            Some((text, end)) => {
+                self.text(text)?;
+                self.number(end)
+            }
+            None => self.word("none"),
+        }
+    }
+}

@@ -1,0 +1,182 @@
+//! Calls of `cm_scan`.
+ghost use Rattle.std.specs.Prelude.{◌≤◌, length};
+ghost use Rattle.std.specs.Str.{IsCharBoundary};
+
+use crate::calls::answer::Answer;
+use crate::trouble::{Trouble, wrong};
+use crate::words::{Word, number};
+use cm_scan::{
+    FenceKind, HtmlKind, atx, definition, destination, fence, fence_end, html_end, html_start,
+    is_blank_text, item_marker, label, quote_marker, thematic, title, trim_end, underline,
+};
+use cm_tree::ListKind;
+
+const KINDS: [(&str, HtmlKind); 7] = [
+    ("raw_text", HtmlKind::RawText),
+    ("comment", HtmlKind::Comment),
+    ("instruction", HtmlKind::Instruction),
+    ("declaration", HtmlKind::Declaration),
+    ("character_data", HtmlKind::CharacterData),
+    ("block_tag", HtmlKind::BlockTag),
+    ("any_tag", HtmlKind::AnyTag),
+];
+
+// An ATX heading: its level, its content, its end.
+fn heading(answer: &mut Answer, text: &str, at: usize) -> Result<(), Trouble>
+    requires { IsCharBoundary text.now at }
+{
+    match atx(text, at) {
+        Some((heading, end)) => {
+            answer.number(usize::from(heading.level))?;
+            answer.slice(Some((heading.content, end)))
+        }
+        None => answer.word("none"),
+    }
+}
+
+// An opening fence: its character, how many, the info string, its end.
+fn opening(answer: &mut Answer, text: &str, at: usize) -> Result<(), Trouble>
+    requires { IsCharBoundary text.now at }
+{
+    match fence(text, at) {
+        Some((open, end)) => {
+            answer.word(if open.kind.marker == b'`' { "`" } else { "~" })?;
+            answer.number(open.kind.count)?;
+            answer.slice(Some((open.info, end)))
+        }
+        None => answer.word("none"),
+    }
+}
+
+// An item's marker: what marks the list, how many digits, its end.
+fn marker(answer: &mut Answer, text: &str, at: usize) -> Result<(), Trouble>
+    requires { at ≤ length text.now }
+{
+    let Some((marker, end)) = item_marker(text, at) else {
+        return answer.word("none");
+    };
+    match marker.kind {
+        ListKind::Dash => answer.word("-")?,
+        ListKind::Plus => answer.word("+")?,
+        ListKind::Star => answer.word("*")?,
+        ListKind::Dot { start } => {
+            answer.number(start as usize)?;
+            answer.word(".")?;
+        }
+        ListKind::Paren { start } => {
+            answer.number(start as usize)?;
+            answer.word(")")?;
+        }
+    }
+    answer.number(marker.digits)?;
+    answer.number(end)
+}
+
+// A definition: label, destination, title, its end.
+fn link_definition(answer: &mut Answer, text: &str, at: usize) -> Result<(), Trouble>
+    requires { IsCharBoundary text.now at }
+{
+    match definition(text, at) {
+        Some((read, end)) => {
+            answer.text(read.label)?;
+            answer.text(read.dest)?;
+            answer.slice(Some((read.title, end)))
+        }
+        None => answer.word("none"),
+    }
+}
+
+// The kind of an HTML block that starts.
+fn html_kind(answer: &mut Answer, text: &str, at: usize) -> Result<(), Trouble>
+    requires { at ≤ length text.now }
+{
+    let started = html_start(text, at);
+    match KINDS.iter().find(|(_, kind)| Some(*kind) == started) {
+        Some((name, _)) => answer.word(name),
+        None => answer.word("none"),
+    }
+}
+
+// A scanner at a boundary of characters.
+fn scans(answer: &mut Answer, name: &str, text: &String, at: usize) -> Result<bool, Trouble> {
+    if !text.is_char_boundary(at) {
+        return Err(wrong(answer.alloc, "the place is no boundary"));
+    }
+    let text = text.as_str();
+    match name {
+        "thematic" => answer.place(thematic(text, at))?,
+        "quote_marker" => answer.place(quote_marker(text, at))?,
+        "atx" => heading(answer, text, at)?,
+        "fence" => opening(answer, text, at)?,
+        "item_marker" => marker(answer, text, at)?,
+        "html_start" => html_kind(answer, text, at)?,
+        "label" => answer.slice(label(text, at))?,
+        "destination" => answer.slice(destination(text, at))?,
+        "title" => answer.slice(title(text, at))?,
+        "definition" => link_definition(answer, text, at)?,
+        "underline" => match underline(text, at) {
+            Some((level, end)) => {
+                answer.number(usize::from(level))?;
+                answer.number(end)?;
+            }
+            None => answer.word("none")?,
+        },
+        _ => return Ok(false),
+    }
+    Ok(true)
+}
+
+// The end of a fence of this marker and so many of it.
+fn closing(
+    answer: &mut Answer,
+    (marker, count): (&str, usize),
+    text: &String,
+    at: usize,
+) -> Result<(), Trouble> {
+    let marker = if marker == "`" { b'`' } else { b'~' };
+    if text.len() < at {
+        return Err(wrong(answer.alloc, "the place is past the text"));
+    }
+    let kind = FenceKind { marker, count };
+    answer.place(fence_end(kind, text.as_str(), at))
+}
+
+// The end of an HTML block of the kind with this name.
+fn html_ends(answer: &mut Answer, name: &str, text: &String, at: usize) -> Result<(), Trouble> {
+    let kind = KINDS.iter().find(|(known, _)| *known == name);
+    match kind {
+        Some((_, kind)) if at <= text.len() => { answer.place(html_end(*kind, text.as_str(), at)) }
+        _ => Err(wrong(answer.alloc, "the kind or the place is wrong")),
+    }
+}
+
+/// Answers the call, if it is one of `cm_scan`.
+pub(super) fn answers(answer: &mut Answer, name: &str, given: &[Word]) -> Result<bool, Trouble> {
+    let alloc = answer.alloc;
+    match (name, given) {
+        ("is_blank_text", [Word::Text(text)]) => {
+            answer.truth(is_blank_text(text.as_bytes()))?;
+        }
+        ("trim_end", [Word::Text(text)]) => answer.text(trim_end(text.as_str()))?,
+        (
+            "fence_end",
+            [
+                Word::Plain(marker),
+                Word::Plain(count),
+                Word::Text(text),
+                Word::Plain(at),
+            ],
+        ) => {
+            let kind = (marker.as_str(), number(alloc, count.as_str())?);
+            closing(answer, kind, text, number(alloc, at.as_str())?)?;
+        }
+        ("html_end", [Word::Plain(kind), Word::Text(text), Word::Plain(at)]) => {
+            html_ends(answer, kind.as_str(), text, number(alloc, at.as_str())?)?;
+        }
+        (_, [Word::Text(text), Word::Plain(at)]) => {
+            return scans(answer, name, text, number(alloc, at.as_str())?);
+        }
+        _ => return Ok(false),
+    }
+    Ok(true)
+}

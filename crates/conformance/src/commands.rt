@@ -1,0 +1,78 @@
+//! Command lines, from their words to the exit status.
+
+use crate::cases::Case;
+use crate::cuts::{Counted, Cut, pieces};
+use crate::trouble::{Trouble, same, wrong};
+use crate::words::{Word, words};
+use cm_text::Room;
+use cm_tool::{run, task, tell};
+use std::alloc::Global;
+
+// More than any output.
+const AMPLE: usize = 20_000;
+
+const PARTS: [&str; 9] = [
+    "words",
+    "input",
+    "room",
+    "room_for_errors",
+    "output",
+    "output_holds",
+    "errors",
+    "errors_hold",
+    "status",
+];
+
+// The words of a command line.
+fn words_of(alloc: Global, line: &str) -> Result<Vec<String>, Trouble> {
+    let mut all = Vec::new(alloc);
+    for word in words(alloc, line)? {
+        match word {
+            Word::Text(text) => all.push(text)?,
+            Word::Plain(text) => all.push(text)?,
+        }
+    }
+    Ok(all)
+}
+
+// That what was written is what the case wants whole, or holds what it wants somewhere, or is nothing.
+fn is_written(
+    alloc: Global,
+    case: &Case,
+    (whole, part): (&str, &str),
+    got: &[u8],
+) -> Result<(), Trouble> {
+    if let Some(part) = case.rest(part) {
+        let holds = got
+            .windows(part.len().max(1))
+            .any(|bytes| bytes == part.as_bytes());
+        if holds && got.ends_with(b"\n") {
+            return Ok(());
+        }
+        return same(alloc, whole, part.as_bytes(), got);
+    }
+    let wanted = case.bytes(whole)?.unwrap_or(Vec::new(alloc));
+    same(alloc, whole, wanted.as_slice(), got)
+}
+
+/// That a command line is answered as its case wants.
+pub(crate) fn agrees(alloc: Global, case: &Case) -> Result<(), Trouble> {
+    case.has_only(&PARTS)?;
+    let all = words_of(alloc, case.rest("words").unwrap_or(""))?;
+    let input = case.bytes("input")?.unwrap_or(Vec::new(alloc));
+    let room = case.number("room")?.unwrap_or(AMPLE);
+    let room_for_errors = case.number("room_for_errors")?.unwrap_or(AMPLE);
+    let mut source = Counted::new(pieces(alloc, input.as_slice(), Cut::Nowhere)?, false);
+    let mut output = Room::new(alloc, room, AMPLE)?;
+    let mut errors = Room::new(alloc, room_for_errors, AMPLE)?;
+    let status = match task(alloc, &all) {
+        Ok(task) => run(alloc, &task, &mut source, &mut output, &mut errors),
+        Err(stop) => tell(&stop, &mut output, &mut errors),
+    };
+    is_written(alloc, case, ("output", "output_holds"), output.taken())?;
+    is_written(alloc, case, ("errors", "errors_hold"), errors.taken())?;
+    if case.number("status")?.unwrap_or(0) != usize::from(status) {
+        return Err(wrong(alloc, "the exit status is wrong"));
+    }
+    Ok(())
+}

@@ -1,0 +1,261 @@
+//! Documents from their listings, also those that no text gives.
+
+use crate::trouble::{Trouble, wrong};
+use crate::words::{Word, number, words};
+use cm_tree::{Block, Doc, Inline, Items, ListKind, Owner, Text};
+use std::alloc::Global;
+
+// A node with children.
+#[derive(Drop)]
+enum Node {
+    Paragraph,
+    Heading(u8),
+    Quote,
+    List { kind: ListKind, tight: bool },
+    Item,
+    Emph,
+    Strong,
+    Link { dest: Text, title: Text },
+    Image { dest: Text, title: Text },
+}
+
+// A node that is read, and its children so far. Children of another kind than the node has are lost, so
+// that the listing of the document differs.
+#[derive(Drop)]
+struct Open {
+    node: Node,
+    blocks: Items<Block>,
+    inlines: Items<Inline>,
+    items: Items<Items<Block>>,
+}
+
+// The nodes that are read, from the outside in, and the document so far.
+#[derive(Drop)]
+struct Reading {
+    alloc: Global,
+    open: Vec<Open>,
+    doc: Doc,
+}
+
+impl Reading {
+    fn open(&mut self, node: Node) -> Result<bool, Trouble> {
+        self.open.push(Open {
+            node,
+            blocks: Items::new(self.alloc),
+            inlines: Items::new(self.alloc),
+            items: Items::new(self.alloc),
+        })?;
+        Ok(true)
+    }
+
+    fn block(&mut self, block: Block) -> Result<bool, Trouble> {
+        match self.open.last_mut() {
+            Some(open) => open.blocks.push(block)?,
+            None => self.doc.blocks.push(block)?,
+        }
+        Ok(true)
+    }
+
+    fn inline(&mut self, inline: Inline) -> Result<bool, Trouble> {
+        match self.open.last_mut() {
+            Some(open) => open.inlines.push(inline)?,
+            None => return Err(wrong(self.alloc, "an inline stands outside a block")),
+        }
+        Ok(true)
+    }
+
+    // Puts the innermost node that is read to the children of the one around it.
+    fn close(&mut self) -> Result<bool, Trouble> {
+        let Some(open) = self.open.pop() else {
+            return Ok(false);
+        };
+        let Open {
+            node,
+            blocks,
+            inlines: content,
+            items,
+        } = open;
+        match node {
+            Node::Paragraph => self.block(Block::Paragraph(content)),
+            Node::Heading(level) => self.block(Block::Heading { level, content }),
+            Node::Quote => self.block(Block::Quote(blocks)),
+            Node::List { kind, tight } => self.block(Block::List { kind, tight, items }),
+            Node::Item => {
+                if let Some(list) = self.open.last_mut() {
+                    list.items.push(blocks)?;
+                }
+                Ok(true)
+            }
+            Node::Emph => self.inline(Inline::Emph(content)),
+            Node::Strong => self.inline(Inline::Strong(content)),
+            Node::Link { dest, title } => self.inline(Inline::Link {
+                dest,
+                title,
+                content,
+            }),
+            Node::Image { dest, title } => self.inline(Inline::Image {
+                dest,
+                title,
+                content,
+            }),
+        }
+    }
+
+    // Closes the nodes inside so many.
+    fn close_to(&mut self, depth: usize) -> Result<(), Trouble> {
+        for _ in depth..self.open.len() {
+            self.close()?;
+        }
+        Ok(())
+    }
+
+    fn is_in_inlines(&self) -> bool {
+        match self.open.last() {
+            None => false,
+            Some(open) => !matches!(open.node, Node::Quote | Node::List { .. } | Node::Item),
+        }
+    }
+
+    fn text(&self, text: &String) -> Result<Text, Trouble> {
+        Ok(Text::from_str(self.alloc, text.as_str())?)
+    }
+
+    // `list bullet * tight`
+    fn bullet_list(&mut self, bullet: &str, width: &str) -> Result<bool, Trouble> {
+        let kind = match bullet {
+            "-" => ListKind::Dash,
+            "+" => ListKind::Plus,
+            _ => ListKind::Star,
+        };
+        let tight = width == "tight";
+        self.open(Node::List { kind, tight })
+    }
+
+    // `list ordered . 1 tight`
+    fn ordered_list(&mut self, mark: &str, start: &str, width: &str) -> Result<bool, Trouble> {
+        let start = match u32::try_from(number(self.alloc, start)?) {
+            Ok(start) => start,
+            Err(_) => return Err(wrong(self.alloc, "a list begins past 32 bits")),
+        };
+        let kind = if mark == "." {
+            ListKind::Dot { start }
+        } else {
+            ListKind::Paren { start }
+        };
+        let tight = width == "tight";
+        self.open(Node::List { kind, tight })
+    }
+
+    // A node without words between quotation marks, if the line is one.
+    fn plain_line(&mut self, name: &str, words: &[Word]) -> Result<bool, Trouble> {
+        match (name, words) {
+            ("paragraph", []) => self.open(Node::Paragraph),
+            ("quote", []) => self.open(Node::Quote),
+            ("item", []) => self.open(Node::Item),
+            ("emph", []) => self.open(Node::Emph),
+            ("strong", []) => self.open(Node::Strong),
+            ("break", []) => self.block(Block::Break),
+            ("soft", []) => self.inline(Inline::Soft),
+            ("hard", []) => self.inline(Inline::Hard),
+            ("heading", [Word::Plain(level)]) => {
+                let level = number(self.alloc, level.as_str())?;
+                self.open(Node::Heading(u8::try_from(level).unwrap_or(0)))
+            }
+            ("list", [_, Word::Plain(bullet), Word::Plain(width)]) => {
+                self.bullet_list(bullet.as_str(), width.as_str())
+            }
+            ("list", [_, Word::Plain(mark), Word::Plain(start), Word::Plain(width)]) => {
+                self.ordered_list(mark.as_str(), start.as_str(), width.as_str())
+            }
+            _ => Ok(false),
+        }
+    }
+
+    // A node with texts, if the line is one.
+    fn text_line(&mut self, name: &str, words: &[Word]) -> Result<bool, Trouble> {
+        match (name, words) {
+            ("text", [Word::Text(text)]) => {
+                let text = self.text(text)?;
+                self.inline(Inline::Text(text))
+            }
+            ("code", [Word::Text(text)]) => {
+                let text = self.text(text)?;
+                self.inline(Inline::Code(text))
+            }
+            ("html", [Word::Text(text)]) => {
+                let text = self.text(text)?;
+                if self.is_in_inlines() {
+                    self.inline(Inline::Html(text))
+                } else {
+                    self.block(Block::Html { text })
+                }
+            }
+            ("code", [Word::Text(info), Word::Text(text)]) => {
+                let (info, text) = (self.text(info)?, self.text(text)?);
+                self.block(Block::Code { info, text })
+            }
+            ("link", [Word::Text(dest), Word::Text(title)]) => {
+                let (dest, title) = (self.text(dest)?, self.text(title)?);
+                self.open(Node::Link { dest, title })
+            }
+            ("image", [Word::Text(dest), Word::Text(title)]) => {
+                let (dest, title) = (self.text(dest)?, self.text(title)?);
+                self.open(Node::Image { dest, title })
+            }
+            ("definition", [Word::Text(label), Word::Text(dest), Word::Text(title)]) => {
+                let (label, dest) = (self.text(label)?, self.text(dest)?);
+                let title = self.text(title)?;
+                self.block(Block::Definition { label, dest, title })
+            }
+            _ => Ok(false),
+        }
+    }
+
+    // The owner of a line, if the line is one.
+    fn owner_line(&mut self, name: &str, words: &[Word]) -> Result<bool, Trouble> {
+        let owner = match (name, words) {
+            ("owner", [_, Word::Plain(_), Word::Plain(leaf)]) => {
+                Owner::Leaf(number(self.alloc, leaf.as_str())?)
+            }
+            ("owner", [_, word]) if word.is("marker") => Owner::Marker,
+            ("owner", [_, _]) => Owner::Blank,
+            _ => return Ok(false),
+        };
+        self.doc.owners.push(owner)?;
+        Ok(true)
+    }
+
+    fn line(&mut self, line: &str) -> Result<(), Trouble> {
+        let depth = line.chars().take_while(|c| *c == ' ').count() / 2;
+        self.close_to(depth)?;
+        let all = words(self.alloc, line)?;
+        let Some((Word::Plain(name), rest)) = all.split_first() else {
+            return Err(wrong(self.alloc, "a line of a listing has no name"));
+        };
+        let name = name.as_str();
+        let is_read = self.plain_line(name, rest)?
+            || self.text_line(name, rest)?
+            || self.owner_line(name, rest)?;
+        if is_read {
+            return Ok(());
+        }
+        Err(wrong(self.alloc, "a line of a listing is no node"))
+    }
+}
+
+/// The document with this listing. (Whether it has it, `listing` tells.)
+pub(crate) fn listed(alloc: Global, text: &str) -> Result<Doc, Trouble> {
+    let mut reading = Reading {
+        alloc,
+        open: Vec::new(alloc),
+        doc: Doc {
+            blocks: Items::new(alloc),
+            owners: Items::new(alloc),
+        },
+    };
+    for line in text.lines() {
+        reading.line(line)?;
+    }
+    reading.close_to(0)?;
+    Ok(reading.doc)
+}

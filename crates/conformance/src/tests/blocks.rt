@@ -1,0 +1,41 @@
+//! The block parser, line by line.
+
+use cm_block::{BlockFault, BlockParser};
+use cm_text::{Limits, Line};
+use cm_tree::Owner;
+use std::alloc::Global;
+use std::test::Fail;
+
+fn line(alloc: Global, text: &str) -> Result<Line, Fail> {
+    let mut feed = cm_text::LineFeed::new(alloc, Limits::standard());
+    feed.push(text.as_bytes()).ok().ok_or("push")?;
+    feed.end().ok().ok_or("end")?;
+    Ok(feed.next_line().ok_or("line")?)
+}
+
+#[test]
+fn outline_of_lines(rt: HostRuntime) -> Result<(), Fail> {
+    let alloc = rt.alloc();
+    let mut parser = BlockParser::new(alloc, Limits::standard());
+    for text in ["- a", "> b", "c", "> [d]: /e 'f'", " ", "[g]: /h"] {
+        assert_eq!(rt; parser.line(&line(alloc, text)?), Ok(()));
+    }
+    let outline = parser.finish().ok().ok_or("outline")?;
+    assert_eq!(rt; outline.blocks.len(), 3);
+    assert_eq!(rt; outline.owners.as_slice().first(), Some(&Owner::Leaf(1)));
+    assert!(rt; outline.definitions.find("d")?.is_none());
+    assert_eq!(rt; outline.definitions.find("G")?, Some(("/h", "")));
+    Ok(())
+}
+
+#[test]
+fn too_deep_in_its_line(rt: HostRuntime) -> Result<(), Fail> {
+    let alloc = rt.alloc();
+    let mut parser = BlockParser::new(alloc, Limits::new(100, 1, 1).ok_or("limits")?);
+    assert_eq!(rt; parser.line(&line(alloc, "> a")?), Ok(()));
+    let fault = BlockFault::BlocksTooDeep { line: 2 };
+    assert_eq!(rt; parser.line(&line(alloc, "> - a")?), Err(fault));
+    assert_eq!(rt; parser.line(&line(alloc, "a")?), Err(fault));
+    assert!(rt; matches!(parser.finish(), Err(told) if told == fault));
+    Ok(())
+}
