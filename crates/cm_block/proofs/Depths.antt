@@ -22,7 +22,7 @@ use Rattle.cm_block.specs.Machine.{Piece, blank_piece, leaf_piece, quote_piece, 
 use Rattle.cm_block.specs.Level.{Level, empty_level}
 use Rattle.cm_block.specs.Stack.{Owned, Stack, empty_stack, push_line, push_lines}
 use Rattle.cm_block.specs.Depths.{nesting, line_depths, DepthsOfLines, TooDeepAtOnce, TooDeepStays, TooDeepNext}
-use Rattle.cm_block.proofs.Begin.{OfInner, inner-less, of-less}
+use Rattle.cm_block.proofs.BeginCases.{OfInner, inner-less, of-less}
 use Rattle.cm_block.proofs.OpenEnd.{given-is, Fit, fit-new, fits-step}
 use Rattle.cm_block.proofs.OnePass.{one_pass, take_lines-append}
 use Rattle.cm_block.proofs.Owners.{replicate-push}

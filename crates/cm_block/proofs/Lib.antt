@@ -1,13 +1,13 @@
-pub mod Begin
+pub mod BeginCases
 pub mod OpenEnd
 pub mod OnePass
-pub mod Levels
+pub mod LevelLaws
 pub mod Owners
 pub mod Stacks
 pub mod Frames
-pub mod FrameBegins
+pub mod FrameStartLemmas
 pub mod Matching
-pub mod Begun
+pub mod OpenedInTurn
 pub mod ParserLemmas
 pub mod Lazy
 pub mod Depths

@@ -9,11 +9,11 @@ use Rattle.cm_text.specs.LineText.{tabs}
 use Rattle.cm_text.specs.Indentation.{indent_of}
 use Rattle.cm_scan.specs.Words.{begins_with, is_digit, front_of, skip, is_at_gap, given, ◌<|>◌}
 use Rattle.cm_scan.specs.Lines.{content_of}
-use Rattle.cm_scan.specs.LineForms.{Heading, Fence, ItemMarker, is_thematic_break, atx_heading, opening_fence, bullet_kind, ordered_kind, marker_of, bullet_marker, decimal_value, is_number, marker_behind, ordered_marker, item_marker}
+use Rattle.cm_scan.specs.LineForms.{Heading, Fence, ItemMarker, is_thematic_break, atx_heading, opening_fence, bullet_kind, ordered_kind, marker_at_gap, bullet_marker, decimal_value, is_number, marker_behind, ordered_marker, item_marker}
 use Rattle.cm_tree.specs.declared.tree.ListKind.{ListKind}
 use Rattle.cm_scan.specs.HtmlBlocks.{HtmlKind, html_start}
 use Rattle.cm_scan.specs.Starts.{Start, IndentedCode, QuoteMarker, ItemStart, TextLine, start_of_content, start_of}
-use Rattle.cm_block.specs.PlaceViews.{begins_quote}
+use Rattle.cm_block.specs.steps.PlaceViews.{begins_quote}
 use Rattle.cm_block.proofs.StartLemmas.{first}
 
 -- a marker at the front of a text
@@ -23,7 +23,7 @@ pub record Marked (text : List ℕ) (marker : ItemMarker) : Type 0 where
   pub plain : tabs (take (suc marker.digits) text) ≡ 0
   pub gap : is_at_gap (drop (suc marker.digits) text) ≡ true
 
-marker-is : (kind : Option ListKind) (digits : ℕ) (behind : List ℕ) (m : ItemMarker) → marker_of kind digits behind ≡ Some m
+marker-is : (kind : Option ListKind) (digits : ℕ) (behind : List ℕ) (m : ItemMarker) → marker_at_gap kind digits behind ≡ Some m
     → (m.digits ≡ digits) × (is_at_gap behind ≡ true)
 marker-is None digits behind m e = absurd (cc e)
 marker-is (Some kind) digits behind m e = go (is_at_gap behind) refl e
@@ -75,7 +75,7 @@ of-width ds cs c m width few plain gap = record {
 one-plain : (b : ℕ) → (b == 9) ≡ false → tabs (b ∷ []) ≡ 0
 one-plain b h = grind (arith, h)
 
-kind-plain : (n c digits : ℕ) (behind : List ℕ) (m : ItemMarker) → marker_of (ordered_kind n c) digits behind ≡ Some m → (c == 9) ≡ false
+kind-plain : (n c digits : ℕ) (behind : List ℕ) (m : ItemMarker) → marker_at_gap (ordered_kind n c) digits behind ≡ Some m → (c == 9) ≡ false
 kind-plain n c digits behind m e = grind (arith, e)
 
 number-few : (ds : List ℕ) → is_number ds ≡ true → length ds ≤ 9
@@ -92,7 +92,7 @@ ordered-marked text (c ∷ cs) m is e = go (is_number ds) refl e
     whole : ds ++ c ∷ cs ≡ text
     whole = ap (λ r. ds ++ r) (sym is) ∙ front-skip is_digit text
 
-    go : (b : Bool) → is_number ds ≡ b → (elim b as (λ _. Option ItemMarker) [ true ↦ marker_of (ordered_kind (decimal_value ds) c) (length ds) cs | false ↦ None ]) ≡ Some m → Marked text m
+    go : (b : Bool) → is_number ds ≡ b → (elim b as (λ _. Option ItemMarker) [ true ↦ marker_at_gap (ordered_kind (decimal_value ds) c) (length ds) cs | false ↦ None ]) ≡ Some m → Marked text m
     go false n e = absurd (cc e)
     go true n e =
         let h = marker-is (ordered_kind (decimal_value ds) c) (length ds) cs m e in

@@ -12,7 +12,8 @@ use Rattle.cm_block.specs.declared.stack.Frame as code
 use Rattle.cm_block.specs.FrameViews.{frame_of, frames_of}
 use Rattle.cm_block.specs.Level.{Level}
 use Rattle.cm_block.proofs.Lazy.{starts_text, place-quote, place-item}
-use Rattle.cm_block.specs.Frames.{Container, a_quote, an_item, Frame, is_last, inward, matching, quoted_in, quoted_by, close_container, close_frames}
+use Rattle.cm_block.specs.Frames.{Container, a_quote, an_item, Frame, is_last}
+use Rattle.cm_block.specs.steps.FrameSteps.{inward, matching, quoted_in, quoted_by, close_container, close_frames}
 
 -- behind so many containers
 abbrev pub behind : ℕ → ℕ × LineView → ℕ × LineView

@@ -14,7 +14,7 @@ use Rattle.cm_scan.specs.Starts.{Start, start_of, ItemStart, starts_at_one, can_
 use Rattle.cm_scan.specs.Blocks.{rest_of, NextLine, Ends, Underlines, by_interruption, by_underline, next_line}
 use Rattle.std.specs.List.{slice_range}
 use Rattle.cm_scan.proofs.HtmlLemmas.{slice_from}
-use Rattle.cm_block.specs.LeafViews.{level_above, heading_level}
+use Rattle.cm_block.specs.steps.LeafSteps.{level_above, heading_level}
 
 -- an underline
 

@@ -20,7 +20,7 @@ use Rattle.cm_scan.proofs.Cases.{no_lines, blank_case, starting, inside-in, insi
 use Rattle.cm_block.specs.OpenLeaf.{OpenLeaf, no_leaf, open_text, open_code, open_fence, open_html, run_leaves, closed_leaves, blank_lines_behind, LeafLine, stays_open, is_last, line_of_text, line_of_code, line_of_fence, line_of_html, line_of_leaf, Begin, begins_nothing, begin_of_start, begin_of}
 use Rattle.cm_block.specs.Machine.{Piece, blank_piece, quote_piece, item_piece, put, put_all, Open, in_leaf, in_quote, in_item, has_open_text, Change, change, leaf_pieces, closing, leaf_change, begin_by, begin, after_closing, leaf_step, step, Machine, new_machine, take_line, take_lines, close, parts_in_one_pass}
 use Rattle.cm_block.specs.Laws.{OnePass}
-use Rattle.cm_block.proofs.Begin.{begin-cases}
+use Rattle.cm_block.proofs.BeginCases.{begin-cases}
 use Rattle.cm_block.proofs.OpenEnd.{true-false, Fit, fit-open, fit-lines}
 
 -- pieces

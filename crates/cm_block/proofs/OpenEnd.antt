@@ -6,7 +6,7 @@ use Rattle.cm_text.specs.Rules.{Rules}
 use Rattle.cm_text.specs.Lines.{LineView}
 use Rattle.cm_text.specs.Indentation.{indent_of}
 use Rattle.cm_tree.specs.declared.tree.ListKind.{ListKind}
-use Rattle.cm_scan.specs.Words.{is_space_or_tab, is_empty, keep_byte, trim_end, given}
+use Rattle.cm_scan.specs.Words.{is_space_or_tab, is_empty, keep_byte, trim_end_by, trim_end, given}
 use Rattle.cm_scan.specs.Lines.{is_blank, marks}
 use Rattle.cm_scan.specs.LineForms.{is_same_kind}
 use Rattle.cm_scan.specs.HtmlBlocks.{HtmlKind, is_html_end, ends_at_blank_line}
@@ -18,7 +18,7 @@ use Rattle.cm_scan.specs.Laws.{goes_inward}
 use Rattle.cm_scan.proofs.Counted.{Firm, firm-content, firm-add_text, underlined}
 use Rattle.cm_block.specs.OpenLeaf.{OpenLeaf, no_leaf, open_text, open_code, open_fence, open_html, run_leaves, closed_leaves, is_open_text, LeafLine, stays_open, is_last, line_of_text, line_of_code, line_of_fence, line_of_html, line_of_leaf, Begin, begins_nothing, begins_leaf, begins_quote, begins_item, begin_of_start, begin_of}
 use Rattle.cm_block.specs.Machine.{Piece, blank_piece, leaf_piece, quote_piece, item_piece, put, put_all, Open, in_leaf, in_quote, in_item, has_open_text, Change, change, leaf_pieces, closing, leaf_change, begin_by, begin_within, begin, after_closing, leaf_step, step, Machine, new_machine, take_line, take_lines}
-use Rattle.cm_block.proofs.Begin.{OfInner, inner-less, of-less}
+use Rattle.cm_block.proofs.BeginCases.{OfInner, inner-less, of-less}
 
 -- whether the last line of some pieces is a paragraph's or a definition's; the mark is the answer for the lines before
 abbrev pub piece_open : Piece → Bool
@@ -73,12 +73,12 @@ ends-open ps = put_all-open ps false none
 
 -- the source of a run of text
 
-some-keep_byte : (b : ℕ) (bs : List ℕ) → is_space_or_tab b ≡ false → is_empty (keep_byte b bs) ≡ false
+some-keep_byte : (b : ℕ) (bs : List ℕ) → is_space_or_tab b ≡ false → is_empty (keep_byte true b bs) ≡ false
 some-keep_byte b [] e = grind (arith, e)
 some-keep_byte b (c ∷ cs) e = refl
 
 some-trim_end : (text : List ℕ) → Firm text → is_empty (trim_end text) ≡ false
-unfolding trim_end
+unfolding trim_end_by
 some-trim_end [] h = absurd h
 some-trim_end (b ∷ bs) h = some-keep_byte b (trim_end bs) h
 

@@ -10,7 +10,7 @@ use Rattle.cm_scan.specs.Parts.{LeafPart, depths_of}
 use Rattle.cm_scan.specs.Blocks.{parts_within, parts_of, blocks_of, owners_of, reference_table, first_too_deep}
 use Rattle.cm_block.specs.declared.stack.Stack as code
 use Rattle.cm_block.specs.declared.stack.Frame as code_frame
-use Rattle.cm_block.specs.Levels.{level_of}
+use Rattle.cm_block.specs.LevelViews.{level_of}
 use Rattle.cm_block.specs.FrameViews.{frames_of}
 use Rattle.cm_scan.specs.Laws.{AreLines}
 use Rattle.cm_block.specs.OpenLeaf.{OpenLeaf, no_leaf, is_open_text, closed_leaves, blank_lines_behind, LeafLine, stays_open, is_last, line_of_leaf}
@@ -18,17 +18,19 @@ use Rattle.cm_block.specs.Machine.{in_leaf}
 use Rattle.cm_block.specs.Level.{Level, empty_level, closed_blocks, push_blank}
 use Rattle.cm_block.specs.Stack.{Owned, Stack, empty_stack, close_leaves, push_blanks, close_open, own_leaves, own_blanks, own_open, close_stack, push_leaf_line, push_line, push_lines}
 use Rattle.cm_block.specs.Depths.{nesting}
-use Rattle.cm_block.specs.Frames.{Frame, is_last as is_last_frame, inward, matching, quoted_by, close_frames, within, stack_with, nest}
+use Rattle.cm_block.specs.Frames.{Frame, is_last as is_last_frame, within, stack_with, nest}
+use Rattle.cm_block.specs.steps.FrameSteps.{inward, matching, quoted_by, close_frames}
 use Rattle.cm_block.specs.declared.fault.BlockFault.{BlockFault}
 use Rattle.cm_block.specs.declared.fault.BlockFault.TheVariants.{BlocksTooDeep, NoMemory}
-use Rattle.cm_block.specs.Begins.{begun_in, DeepIn}
+use Rattle.cm_block.specs.steps.FrameStarts.{begun_in, DeepIn}
 use Rattle.cm_block.specs.declared.parser.BlockParser as parser
 use Rattle.cm_text.specs.Limits.{LimitsView}
 use Rattle.cm_block.specs.LeafViews.{leaf_of}
-use Rattle.cm_block.specs.Parser.{stack_of, StandsFor, Tells, Deep, TakenToLeaf}
+use Rattle.cm_block.specs.Parser.{stack_of, StandsFor, TellsDepth}
+use Rattle.cm_block.specs.steps.ParserSteps.{Deep, TakenToLeaf}
 use Rattle.cm_block.proofs.Matching.{length_frames}
 use Rattle.cm_block.proofs.Frames.{closes, owns, pushed, pushed_after, pushed_to_leaf, pushed-left, pushed-all, pushes}
-use Rattle.cm_block.proofs.FrameBegins.{nest-within, nest-nesting}
+use Rattle.cm_block.proofs.FrameStartLemmas.{nest-within, nest-nesting}
 use Rattle.cm_block.proofs.Depths.{too_deep_next, are-push, push_lines-append}
 use Rattle.cm_block.proofs.Stacks.{stack_blocks, stack_owners, stack_table, one_owner_each}
 
@@ -128,7 +130,7 @@ module _ (limit : ℕ) (st : Stack) (lines : List LineView) (line l : LineView) 
   pub within_next : nesting (push_line profile st l).now ≤ limit → first_too_deep profile limit (lines ++ line ∷ []) ≡ None
   within_next few = by_depth false (grind (arith, few))
 
-  pub tells_deep : (fault : BlockFault) → Deep fault limit st l → Tells fault limit (lines ++ line ∷ [])
+  pub tells_deep : (fault : BlockFault) → Deep fault limit st l → TellsDepth fault limit (lines ++ line ∷ [])
   tells_deep NoMemory h = tt
   tells_deep (BlocksTooDeep n) h =
       by_depth true (grind (arith, h.0))

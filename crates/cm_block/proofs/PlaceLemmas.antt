@@ -13,7 +13,7 @@ use Rattle.cm_text.specs.Indentation.{indent_of, strip_columns}
 use Rattle.cm_text.specs.Views.{line_of}
 use Rattle.cm_text.specs.declared.view.View.{View}
 use Rattle.cm_text.proofs.StripLemmas.{strip_takes_columns}
-use Rattle.cm_block.specs.PlaceViews.{begins_quote}
+use Rattle.cm_block.specs.steps.PlaceViews.{begins_quote}
 use Rattle.cm_block.proofs.StartLemmas.{content_left}
 
 pub blank_spaces : (n : ℕ) (text : List ℕ) → is_blank_text (replicate n 32 ++ text) ≡ is_blank_text text

@@ -10,7 +10,7 @@ use Rattle.cm_scan.specs.Blocks.{line_feeds, line_count, definition_leaves, cont
 use Rattle.cm_block.specs.Level.{Level, block_closes}
 use Rattle.cm_block.specs.OpenLeaf.{run_leaves}
 use Rattle.cm_block.specs.Stack.{Owned, table_with, close_leaves, own_leaf, own_leaves}
-use Rattle.cm_block.specs.LeafViews.{own_plain_leaf}
+use Rattle.cm_block.specs.steps.LeafSteps.{own_plain_leaf}
 use Rattle.cm_block.proofs.LeafLemmas.{feeds_append}
 use Rattle.cm_block.proofs.RunLemmas.{read_at, definitions_some, definitions_none, fewer_lines}
 

@@ -6,10 +6,10 @@ use Rattle.std.proofs.lemmas.Str.{IsCharBoundary-from_take}
 use Rattle.std.specs.Str.{IsUtf8, IsCharBoundary}
 use Rattle.std.proofs.lemmas.Bool.Decides.{nat_tests}
 use Rattle.memchr.specs.Find.{is_byte, places, places_from}
-use Rattle.cm_scan.specs.Words.{keep_byte, trim_end}
+use Rattle.cm_scan.specs.Words.{keep_byte, trim_end_by, trim_end}
 use Rattle.cm_scan.specs.Links.{LinkDefinition, label, link_definition, Definitions, definitions_within, definitions_of}
 use Rattle.cm_scan.specs.Blocks.{line_feeds, line_count}
-use Rattle.cm_scan.specs.LinkSteps.{definition_with}
+use Rattle.cm_scan.specs.Scanned.{definition_with}
 use Rattle.cm_scan.proofs.Feeds.{takes_a_line}
 
 -- the places of line feeds are as many as these
@@ -41,12 +41,12 @@ feeds-within (b ∷ bs) = let h : line_feeds bs ≤ length bs = feeds-within bs 
 
 -- the front of a text without its trailing spaces and tabs
 
-trimmed-front : (b : ℕ) (bs t : List ℕ) → take (length t) bs ≡ t → take (length (keep_byte b t)) (b ∷ bs) ≡ keep_byte b t
+trimmed-front : (b : ℕ) (bs t : List ℕ) → take (length t) bs ≡ t → take (length (keep_byte true b t)) (b ∷ bs) ≡ keep_byte true b t
 trimmed-front b bs [] h = grind arith
 trimmed-front b bs (c ∷ cs) h = ap (λ x. b ∷ x) h
 
 pub trimmed_take : (text : List ℕ) → take (length (trim_end text)) text ≡ trim_end text
-unfolding trim_end
+unfolding trim_end_by
 trimmed_take [] = refl
 trimmed_take (b ∷ bs) = trimmed-front b bs (trim_end bs) (trimmed_take bs)
 

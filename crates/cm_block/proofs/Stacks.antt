@@ -20,10 +20,10 @@ use Rattle.cm_block.specs.Machine.{Piece, blank_piece, leaf_piece, quote_piece, 
 use Rattle.cm_block.specs.Level.{Level, empty_level, closed_blocks, push_blank, separated_next, block_opens, item_opens, block_closes, Item, push_block, push_item, item_of_parts, add, add_all}
 use Rattle.cm_block.specs.Stack.{Owned, Stack, stack, empty_stack, close_leaves, push_blanks, item_of, close_open, own_lines, own_blanks, own_open, close_stack, push_leaf_line, not_blank, push_by, push_within, push_begin, push_after, push_to_leaf, push_in, push_line, push_lines}
 use Rattle.cm_block.specs.Laws.{StackBlocks, StackOwners, StackTable, OneOwnerEach}
-use Rattle.cm_block.proofs.Begin.{OfInner, inner-less, of-less}
+use Rattle.cm_block.proofs.BeginCases.{OfInner, inner-less, of-less}
 use Rattle.cm_block.proofs.OpenEnd.{Fit, FitLeaf, NotFresh, run-open, HasLeaves, some-closed, some-open, fits-step, fit-new, SoundLeaf, SoundLine, sound-line, SoundLineOf, SoundBegin, begin-sound}
 use Rattle.cm_block.proofs.OnePass.{one_pass}
-use Rattle.cm_block.proofs.Levels.{level_of_parts}
+use Rattle.cm_block.proofs.LevelLaws.{level_of_parts}
 use Rattle.cm_block.proofs.Owners.{mark-none, own_pieces, own-append, own-law, own-leaves, own-blanks, quote-owned, own_item, item-owned}
 
 -- pieces from the left

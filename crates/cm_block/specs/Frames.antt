@@ -38,41 +38,6 @@ nest bare (f ∷ fs) level leaf = let inside = nest bare fs level leaf in (f.lev
 abbrev pub stack_with : Bool → List Frame → Level → OpenLeaf → Owned → Stack
 stack_with bare frames level leaf owned = stack (nest bare frames level leaf).0 (nest bare frames level leaf).1 owned
 
-abbrev pub place_in : Rules → Container → (bare : Bool) → LineView → Place
-place_in rules a_quote bare line = place_in_quote rules line
-place_in rules (an_item kind column) bare line = place_in_item rules column bare line
-
--- the line as it goes into the container, if it stays there
-unfoldable pub inward : Rules → Container → (bare open_text : Bool) → LineView → Option LineView
-inward rules container bare open_text line = goes_inward (place_in rules container bare line) open_text
-
--- how many of the containers the line stays in, and the line as it goes into the last of these
-unfoldable pub matching : Rules → (bare open_text : Bool) → List Frame → LineView → ℕ × LineView
-matching rules bare open_text [] line = (0, line)
-matching rules bare open_text (f ∷ fs) line = elim (inward rules f.container (bare && is_last fs) open_text line) [
-  | Some inner ↦ let inside = matching rules bare open_text fs inner in (suc inside.0, inside.1)
-  | None ↦ (0, line)
-]
-
-abbrev pub quoted_in : Container → Bool → Bool
-quoted_in a_quote quoted = true
-quoted_in (an_item kind column) quoted = quoted
-
--- inside a quote, where these containers stand in one or not
-unfoldable pub quoted_by : Bool → List Frame → Bool
-quoted_by quoted [] = quoted
-quoted_by quoted (f ∷ fs) = quoted_by (quoted_in f.container quoted) fs
-
--- the level in which the container stands, once that is closed
-abbrev pub close_container : Container → Level → Level → Level
-close_container a_quote outside inside = block_closes outside (Quote (closed_blocks inside))
-close_container (an_item kind column) outside inside = item_closes outside (item_of inside)
-
--- the level in which the first of these containers stands, once all are closed
-unfoldable pub close_frames : List Frame → Level → Level
-close_frames [] level = level
-close_frames (f ∷ fs) level = close_container f.container f.level (close_frames fs level)
-
 -- what a stack in the innermost of these containers is to the document
 unfoldable pub within : List Frame → Stack → Stack
 within [] inside = inside

@@ -7,12 +7,9 @@ pub mod Lazy
 pub mod Depths
 pub mod Laws
 pub mod WorkedExamples
-pub mod Levels
-pub mod StartViews
-pub mod PlaceViews
+pub mod LevelViews
 pub mod FrameViews
 pub mod OwnedCode
 pub mod LeafViews
-pub mod FirstLines
-pub mod Begins
 pub mod Parser
+pub mod steps

@@ -6,10 +6,10 @@ ghost use Rattle.cm_scan.specs.Links.{definitions_of};
 ghost use Rattle.cm_scan.specs.Parts.{leaf_block, raw_inlines, definition, code};
 ghost use Rattle.cm_scan.specs.Blocks.{line_count, definition_leaves, content_leaf};
 ghost use Rattle.cm_block.specs.Level.{block_closes};
-ghost use Rattle.cm_block.specs.Levels.{level_of};
+ghost use Rattle.cm_block.specs.LevelViews.{level_of};
 ghost use Rattle.cm_block.specs.OpenLeaf.{run_leaves};
 ghost use Rattle.cm_block.specs.Stack.{close_leaves, own_leaf, own_leaves};
-ghost use Rattle.cm_block.specs.LeafViews.{fence_lines, leaves_of_closed, own_plain_leaf};
+ghost use Rattle.cm_block.specs.steps.LeafSteps.{fence_lines, leaves_of_closed, own_plain_leaf};
 
 use crate::level::Level;
 use crate::line_owners::Owners;

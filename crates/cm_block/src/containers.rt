@@ -1,7 +1,7 @@
 //! The quotes and items that a line begins.
 ghost use Rattle.std.specs.Prelude.{◌≡◌, false, IfOk};
 ghost use Rattle.cm_text.specs.Views.{line_of};
-ghost use Rattle.cm_block.specs.Begins.{Inside};
+ghost use Rattle.cm_block.specs.steps.FrameStarts.{Inside};
 
 use crate::places::{is_blank, item_content, quote_content};
 use crate::stack::Stack;

@@ -7,8 +7,8 @@ ghost use Rattle.cm_scan.specs.HtmlKinds.{kind_of};
 ghost use Rattle.cm_scan.specs.HtmlBlocks.{is_html_end};
 ghost use Rattle.cm_scan.specs.Starts as starts;
 ghost use Rattle.cm_block.specs.OpenLeaf.{begin_of_start, begins_leaf};
-ghost use Rattle.cm_block.specs.StartViews.{seen};
-ghost use Rattle.cm_block.specs.FirstLines.{first_of, begins_container};
+ghost use Rattle.cm_block.specs.steps.StartViews.{seen};
+ghost use Rattle.cm_block.specs.steps.FirstLines.{first_of, begins_container};
 
 use crate::closed_leaf::ClosedLeaf;
 use crate::leaf::{OpenLeaf, ends_html, push_line};

@@ -8,7 +8,8 @@ ghost use Rattle.cm_scan.specs.HtmlBlocks.{is_html_end, ends_at_blank_line};
 ghost use Rattle.cm_scan.specs.HtmlKinds.{kind_of};
 ghost use Rattle.cm_scan.specs.Blocks.{line_feeds, closes_fence};
 ghost use Rattle.cm_block.specs.OpenLeaf.{closed_leaves, blank_lines_behind, is_open_text, stays_open, line_of_leaf};
-ghost use Rattle.cm_block.specs.LeafViews.{leaf_of, code_of, leaves_of_closed, closed_as, taken_of, left_open};
+ghost use Rattle.cm_block.specs.LeafViews.{leaf_of, code_of};
+ghost use Rattle.cm_block.specs.steps.LeafSteps.{leaves_of_closed, closed_as, taken_of, left_open};
 ghost use Rattle.cm_block.specs.declared.leaf.OpenLeaf.TheVariants.{Nothing};
 ghost use Rattle.cm_block.specs.declared.leaf.LeafLine.TheVariants.{Last};
 

@@ -2,7 +2,8 @@
 ghost use Rattle.std.specs.Prelude.{◌≡◌, OnOk, IfOk, Some, None, Option};
 ghost use Rattle.cm_scan.specs.LineForms.{is_same_kind};
 ghost use Rattle.cm_block.specs.Level.{empty_level, closed_blocks, push_blank, separated_next, block_opens, list_opens, item_opens, block_closes, item_closes};
-ghost use Rattle.cm_block.specs.Levels.{level_of, item_with, without_list, has_list_of, goes_on};
+ghost use Rattle.cm_block.specs.LevelViews.{level_of};
+ghost use Rattle.cm_block.specs.steps.LevelSteps.{item_with, without_list, has_list_of, goes_on};
 
 use cm_tree::{Block, Items, ListKind};
 use std::alloc::{AllocError, Global};

@@ -2,7 +2,7 @@
 ghost use Rattle.std.specs.Prelude.{◌≡◌, ◌≤◌, ◌++◌, [], ◌∷◌, suc, length, replicate, OnOk};
 ghost use Rattle.std.specs.FinMap as map;
 ghost use Rattle.cm_block.specs.Stack.{own_lines, own_blanks, blank_owner};
-ghost use Rattle.cm_block.specs.LeafViews.{own_plain_leaf, own_definition};
+ghost use Rattle.cm_block.specs.steps.LeafSteps.{own_plain_leaf, own_definition};
 
 use cm_text::NoMemory;
 use cm_tree::{Definitions, Items, Owner};

@@ -1,5 +1,6 @@
 //! The block structure of a document, line by line.
 ghost use Rattle.std.specs.Prelude.{◌≡◌, ◌≢◌, ◌≤◌, ◌∷◌, ◌++◌, [], List, None, true, false, length, suc, Some, Err, IfOk, IfErr, OnOk};
+ghost use Rattle.cm_text.specs.Answers.{answer_after};
 ghost use Rattle.cm_text.specs.Rules.Rules.{profile};
 ghost use Rattle.cm_text.specs.Lines.{LineView, view_of};
 ghost use Rattle.cm_text.specs.Views.{line_of};
@@ -7,15 +8,16 @@ ghost use Rattle.cm_block.specs.declared.fault.BlockFault as faults;
 ghost use Rattle.cm_block.specs.declared.fault.BlockFault.TheVariants as block_faults;
 ghost use Rattle.cm_block.specs.OpenLeaf.{no_leaf};
 ghost use Rattle.cm_block.specs.Machine.{in_leaf};
-ghost use Rattle.cm_block.specs.Levels.{level_of};
+ghost use Rattle.cm_block.specs.LevelViews.{level_of};
 ghost use Rattle.cm_block.specs.Stack.{close_open, own_open, push_line};
-ghost use Rattle.cm_block.specs.Frames.{quoted_by};
+ghost use Rattle.cm_block.specs.steps.FrameSteps.{quoted_by};
 ghost use Rattle.cm_block.specs.FrameViews.{frames_of};
 ghost use Rattle.cm_block.specs.LeafViews.{leaf_of};
-ghost use Rattle.cm_block.specs.StartViews.{seen};
-ghost use Rattle.cm_block.specs.FirstLines.{begins_container};
-ghost use Rattle.cm_block.specs.Begins.{begun, with_blank, LeafBegins, DeepIn};
-ghost use Rattle.cm_block.specs.Parser.{stack_of, StandsFor, Tells, OutlineOf, answer_of, Deep, TakenToLeaf};
+ghost use Rattle.cm_block.specs.steps.StartViews.{seen};
+ghost use Rattle.cm_block.specs.steps.FirstLines.{begins_container};
+ghost use Rattle.cm_block.specs.steps.FrameStarts.{begun, with_blank, LeafBegins, DeepIn};
+ghost use Rattle.cm_block.specs.Parser.{stack_of, StandsFor, TellsDepth, OutlineOf};
+ghost use Rattle.cm_block.specs.steps.ParserSteps.{Deep, TakenToLeaf};
 
 use crate::containers::Innermost;
 use crate::fault::BlockFault;
@@ -195,8 +197,8 @@ impl BlockParser {
     /// limit, `NoMemory` where a request for memory was refused; the same fault from then on.
     pub fn line(&mut self, line: &Line) -> Result<(), BlockFault>
         ensures stands { OnOk result ((lines : List LineView) → StandsFor self.old lines → StandsFor self.new (lines ++ view_of line.now ∷ [])) }
-        ensures told { IfErr result (λ fault. (lines : List LineView) → StandsFor self.old lines → Tells fault self.old.limits.blocks (lines ++ view_of line.now ∷ [])) }
-        ensures answer { result ≡ answer_of self.new.fault }
+        ensures told { IfErr result (λ fault. (lines : List LineView) → StandsFor self.old lines → TellsDepth fault self.old.limits.blocks (lines ++ view_of line.now ∷ [])) }
+        ensures answer { result ≡ answer_after self.new.fault }
         ensures failed { self.old.fault ≢ None → self.new ≡ self.old }
         ensures limits { self.new.limits ≡ self.old.limits }
     {

@@ -6,8 +6,8 @@ ghost use Rattle.cm_text.specs.Views.{line_of};
 ghost use Rattle.cm_scan.specs.Lines.{is_blank};
 ghost use Rattle.cm_scan.specs.Starts.{QuoteMarker, ItemStart, start_of, may_be_lazy, place_if_lazy, behind_quote_marker, place_in_quote, content_offset, content_column, first_content, behind_marker, place_in_item};
 ghost use Rattle.cm_scan.specs.Laws.{goes_inward};
-ghost use Rattle.cm_block.specs.StartViews.{seen};
-ghost use Rattle.cm_block.specs.PlaceViews.{begins_quote, marker_of};
+ghost use Rattle.cm_block.specs.steps.StartViews.{seen};
+ghost use Rattle.cm_block.specs.steps.PlaceViews.{begins_quote, seen_marker};
 
 use crate::starts::{Start, start_of};
 use cm_scan::{HtmlKind, ItemMarker, is_blank_text, quote_marker};
@@ -126,8 +126,8 @@ pub(crate) fn into_item<'a>(
 
 /// The line behind the marker of the item that it begins.
 fn behind_marker<'a>(line: &View<'a>, marker: &ItemMarker) -> View<'a>
-    requires { start_of profile (line_of line.now) ≡ ItemStart (marker_of marker.now) }
-    ensures { line_of result ≡ behind_marker (marker_of marker.now) (line_of line.now) }
+    requires { start_of profile (line_of line.now) ≡ ItemStart (seen_marker marker.now) }
+    ensures { line_of result ≡ behind_marker (seen_marker marker.now) (line_of line.now) }
 {
     line.strip(line.indent()).past(marker.digits + 1)
 }
@@ -151,9 +151,9 @@ fn content_offset(behind: &View<'_>) -> usize
 /// Of the item that a line begins, the column at which its content begins, and the line as it goes into it
 /// (5.2 List items).
 pub(crate) fn item_content<'a>(line: &View<'a>, marker: &ItemMarker) -> (usize, View<'a>)
-    requires { start_of profile (line_of line.now) ≡ ItemStart (marker_of marker.now) }
-    ensures column { result.0 ≡ content_column (marker_of marker.now) (line_of line.now) }
-    ensures first { line_of result.1 ≡ first_content (marker_of marker.now) (line_of line.now) }
+    requires { start_of profile (line_of line.now) ≡ ItemStart (seen_marker marker.now) }
+    ensures column { result.0 ≡ content_column (seen_marker marker.now) (line_of line.now) }
+    ensures first { line_of result.1 ≡ first_content (seen_marker marker.now) (line_of line.now) }
 {
     let behind = behind_marker(line, marker);
     let offset = content_offset(&behind);

@@ -7,10 +7,10 @@ ghost use Rattle.cm_scan.specs.Lines.{content_of};
 ghost use Rattle.cm_scan.specs.Links.{definitions_of};
 ghost use Rattle.cm_scan.specs.Starts.{starts_at_one, can_interrupt, interrupts_paragraph, underline_of};
 ghost use Rattle.cm_scan.specs.Blocks.{line_feeds, rest_of, add_text, next_line};
-ghost use Rattle.cm_block.specs.StartViews.{seen};
+ghost use Rattle.cm_block.specs.steps.StartViews.{seen};
 ghost use Rattle.cm_block.specs.declared.starts.Start.TheVariants.{Html, Item};
 ghost use Rattle.cm_text.specs.Lines.{LineView};
-ghost use Rattle.cm_block.specs.LeafViews.{next_of, heading_level};
+ghost use Rattle.cm_block.specs.steps.LeafSteps.{next_of, heading_level};
 
 use crate::places::is_blank;
 use crate::starts::{Start, start_of};

@@ -3,8 +3,9 @@ ghost use Rattle.std.specs.Prelude.{◌≡◌, ◌<◌, ◌≤◌, ◌∷◌, �
 ghost use Rattle.cm_text.specs.Rules.Rules.{profile};
 ghost use Rattle.cm_text.specs.Views.{line_of};
 ghost use Rattle.cm_block.specs.Level.{empty_level, block_opens, item_opens};
-ghost use Rattle.cm_block.specs.Levels.{level_of};
-ghost use Rattle.cm_block.specs.Frames.{a_quote, an_item, is_last, inward, matching, quoted_by, close_container, close_frames};
+ghost use Rattle.cm_block.specs.LevelViews.{level_of};
+ghost use Rattle.cm_block.specs.Frames.{a_quote, an_item, is_last};
+ghost use Rattle.cm_block.specs.steps.FrameSteps.{inward, matching, quoted_by, close_container, close_frames};
 ghost use Rattle.cm_block.specs.FrameViews.{container_of, frame_of, frames_of};
 
 use crate::level::Level;

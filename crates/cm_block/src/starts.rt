@@ -3,7 +3,7 @@ ghost use Rattle.std.specs.Prelude.{◌≡◌};
 ghost use Rattle.cm_text.specs.Views.{line_of};
 ghost use Rattle.cm_text.specs.Rules.Rules.{profile};
 ghost use Rattle.cm_scan.specs.Starts.{start_of_content, start_of};
-ghost use Rattle.cm_block.specs.StartViews.{seen};
+ghost use Rattle.cm_block.specs.steps.StartViews.{seen};
 
 use cm_scan::{
     AtxHeading, HtmlKind, ItemMarker, OpeningFence, atx, fence, html_start, item_marker,

@@ -4,6 +4,7 @@ use Rattle.std.specs.Prelude.{flat_map}
 use Rattle.std.specs.List.{position, position_or_len}
 use Rattle.std.proofs.lemmas.List.Quantifiers.{position-Some}
 use Rattle.std.proofs.lemmas.List.Sums.{fails_before_first}
+use Rattle.cm_html.proofs.Words.{none_left}
 
 -- each byte that fails the test stands for itself
 abbrev pub Keeps : (ℕ → Bool) → (ℕ → List ℕ) → Type 0
@@ -34,10 +35,6 @@ pub replaced-found : (p : ℕ → Bool) (f : ℕ → List ℕ) → Keeps p f →
 replaced-found p f keeps bs i found =
     let first = position-Some p bs i 0 found in
     rw add-one (replaced-at p f keeps bs i first.0 first.2)
-
--- a search that finds nothing has passed over the whole text
-none_left : (p : ℕ → Bool) (bs : List ℕ) → position p bs ≡ None → length bs ≤ position_or_len p bs
-none_left p bs none = grind arith
 
 -- a text in which it finds none
 pub replaced-none : (p : ℕ → Bool) (f : ℕ → List ℕ) → Keeps p f → (bs : List ℕ) → position p bs ≡ None → flat_map f bs ≡ bs

@@ -76,18 +76,18 @@ abbrev pub tightness : Bool → List ℕ
 tightness true = codes "tight"
 tightness false = codes "loose"
 
-abbrev pub marker_of : ListKind → List ℕ
-marker_of Dash = codes "bullet -"
-marker_of Plus = codes "bullet +"
-marker_of Star = codes "bullet *"
-marker_of (Dot start) = codes "ordered . " ++ decimal start
-marker_of (Paren start) = codes "ordered ) " ++ decimal start
+abbrev pub list_mark : ListKind → List ℕ
+list_mark Dash = codes "bullet -"
+list_mark Plus = codes "bullet +"
+list_mark Star = codes "bullet *"
+list_mark (Dot start) = codes "ordered . " ++ decimal start
+list_mark (Paren start) = codes "ordered ) " ++ decimal start
 
 abbrev pub heading_line : ℕ → ℕ → List ℕ
 heading_line depth level = line depth (codes "heading " ++ decimal level) []
 
 abbrev pub list_line : ℕ → ListKind → Bool → List ℕ
-list_line depth kind tight = line depth (codes "list " ++ marker_of kind ++ codes " " ++ tightness tight) []
+list_line depth kind tight = line depth (codes "list " ++ list_mark kind ++ codes " " ++ tightness tight) []
 
 abbrev pub all_items : ℕ → List (List Listed) → List ℕ
 all_items depth [] = []

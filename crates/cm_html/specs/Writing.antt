@@ -1,12 +1,24 @@
--- What writing the HTML of a tree to a sink answers, and what has gone out then.
+-- What writing a text to a sink answers, and what has gone out then.
 use Rattle.std.specs.Prelude.{◌≡◌, ℕ, ◌≤◌, List, length, take, Result, Ok, Err}
-use Rattle.cm_text.specs.Writing.{SinkView, Wrote, WroteBeginning}
+use Rattle.cm_text.specs.Writing.{SinkView, IsUnwritten, Wrote, WroteBeginning}
 use Rattle.cm_html.specs.declared.fault.HtmlFault.{HtmlFault}
 use Rattle.cm_html.specs.declared.fault.HtmlFault.TheVariants.{NoMemory, WriteFailed}
 
--- All of the HTML went out, and its length is the answer; or one write failed, and the first
--- `written` bytes went out; or memory ran out, and a beginning went out.
+-- All of the text went out, and its length is the answer; or one write failed, and the first `written` bytes went out; or memory ran
+-- out, and then `Lost` says what may have gone out.
+abbrev pub Writes : (Lost : SinkView → SinkView → List ℕ → Type 0) → Result ℕ HtmlFault → List ℕ → SinkView → SinkView → Type 0
+Writes Lost (Ok n) text old new = Wrote old new text 0 × (n ≡ length text)
+Writes Lost (Err (WriteFailed written)) text old new = Wrote old new (take written text) 1 × (written ≤ length text)
+Writes Lost (Err NoMemory) text old new = Lost old new text
+
+-- a beginning of the HTML may have gone out
 abbrev pub WritesHtml : Result ℕ HtmlFault → List ℕ → SinkView → SinkView → Type 0
-WritesHtml (Ok n) html old new = Wrote old new html 0 × (n ≡ length html)
-WritesHtml (Err (WriteFailed written)) html old new = Wrote old new (take written html) 1 × (written ≤ length html)
-WritesHtml (Err NoMemory) html old new = WroteBeginning old new html
+WritesHtml = Writes WroteBeginning
+
+-- nothing of the listing has gone out
+abbrev pub WritesListing : Result ℕ HtmlFault → List ℕ → SinkView → SinkView → Type 0
+WritesListing = Writes (λ old new text. IsUnwritten old new)
+
+-- memory can't run out
+abbrev pub WritesText : Result ℕ HtmlFault → List ℕ → SinkView → SinkView → Type 0
+WritesText = Writes (λ old new text. ⊥)

@@ -3,19 +3,9 @@ ghost use Rattle.std.specs.Prelude.{◌≡◌, ℕ, ◌+◌, ◌==◌, ◌||◌,
 ghost use Rattle.cm_html.specs.Escape.{is_escaped, escape_byte, escape, destination_html, is_space_or_tab, class_word};
 
 use crate::search::find_escaped;
+use cm_text::cut_at;
 use percent_encoding::{AsciiSet, NON_ALPHANUMERIC, ascii_set, utf8_percent_encode};
 use std::alloc::AllocError;
-
-/// What stands before an ASCII character, and what stands after it.
-pub(crate) fn cut_at(text: &str, at: usize) -> (&str, &str)
-    requires within { at < length text.now }
-    requires ascii { slice_index text.now at < 128 }
-    ensures before { result.0.now ≡ take at text.now }
-    ensures after { result.1.now ≡ drop (at + 1) text.now }
-    ensures after_utf8 { IsUtf8 result.1.now }
-{
-    (&text[..at], &text[at + 1..])
-}
 
 /// Writes the reference of a byte.
 fn push_reference(out: &mut String, b: u8) -> Result<(), AllocError>

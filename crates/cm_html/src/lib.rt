@@ -3,14 +3,14 @@
 
 mod blocks;
 mod escape;
-pub mod fault;
+mod fault;
 mod inlines;
 pub mod laws;
+mod listings;
 mod quoting;
-pub mod rendering;
+mod rendering;
 mod search;
-pub mod tree_lines;
 
 pub use fault::HtmlFault;
-pub use rendering::{html, write_html};
-pub use tree_lines::listing;
+pub use listings::listing;
+pub use rendering::{html, write_html, write_listing};

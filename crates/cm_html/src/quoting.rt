@@ -2,7 +2,7 @@
 ghost use Rattle.std.specs.Prelude.{◌≡◌, ℕ, ◌==◌, ◌||◌, position, IsTrue, ◌++◌, string_bytes, OnOk, flat_map};
 ghost use Rattle.cm_html.specs.Listing.{has_escape, quote_byte, quoted};
 
-use crate::escape::cut_at;
+use cm_text::cut_at;
 use std::alloc::AllocError;
 
 /// Where the first byte stands that is written by an escape.

@@ -1,8 +1,8 @@
 -- The inlines of a source up to its first line feed.
 use Rattle.std.proofs.Common.{◌≡◌, ℕ, zero, suc, ◌+◌, ◌<◌, ◌==◌, Bool, true, false, List, [], ◌∷◌, ◌++◌, length, take, drop, get_or, refl, ◌∙◌, arith, add-one, append_assoc, append-nil}
 use Rattle.memchr.specs.Find.{is_byte, Passes, Nowhere}
-use Rattle.cm_reader.specs.Trim.{trim_end_spaces}
-use Rattle.cm_tree.specs.declared.tree.Inline.TheVariants.{Soft}
+use Rattle.cm_scan.specs.Words.{trim_end_spaces}
+use Rattle.cm_tree.specs.declared.tree.Inline.TheVariants.{Soft, Text}
 use Rattle.cm_reader.specs.Inlines.{text_of_run, inlines_after, inlines_of}
 
 -- what is not true is false
@@ -50,3 +50,8 @@ inlines_of-found bs i within feed plain = rw add-one (inlines_after-at [] bs i w
 -- a source of one line
 pub inlines_of-none : (bs : List ℕ) → Nowhere (Passes (is_byte 10) bs) 0 (length bs) → inlines_of bs ≡ text_of_run bs
 inlines_of-none bs plain = inlines_after-all [] bs plain
+
+-- a source of one line that isn't empty is its own text
+pub inlines_of-one : (bs : List ℕ) → (length bs ≡ 0 → ⊥) → Nowhere (Passes (is_byte 10) bs) 0 (length bs) → inlines_of bs ≡ Text bs ∷ []
+inlines_of-one [] some plain = absurd (some refl)
+inlines_of-one (b ∷ bs) some plain = inlines_of-none (b ∷ bs) plain

@@ -1,6 +1,7 @@
-pub mod TrimLemmas
 pub mod InlineLemmas
 pub mod EndedLemmas
 pub mod SettledLemmas
 pub mod ParserLemmas
 pub mod ReadLemmas
+pub mod OrderLemmas
+pub mod PartLemmas

@@ -1,6 +1,7 @@
 -- What a parser stands for, as more bytes come.
 use Rattle.std.proofs.Common.{◌≡◌, ℕ, ◌+◌, Bool, true, false, List, [], ◌∷◌, ◌++◌, length, drop, map, refl, sym, ap, ap₂, subst, ◌∙◌, append_assoc, length-append, Some, None}
 use Rattle.std.specs.Prelude.{Option, Ok, Err}
+use Rattle.cm_text.specs.Answers.{answer_after}
 use Rattle.std.specs.Option.{option_map, option_or}
 use Rattle.cm_text.specs.declared.fault.TextFault.{TextFault}
 use Rattle.cm_text.specs.declared.fault.TextFault.TheVariants as text
@@ -9,28 +10,29 @@ use Rattle.cm_text.specs.Limits.{LimitsView}
 use Rattle.cm_text.specs.Lines.{LineView, plain_line, last_line, plain_lines_of, text_of}
 use Rattle.cm_text.specs.Cut.{Cut, IsFront}
 use Rattle.cm_text.specs.Faults.{settled_fault, text_fault}
-use Rattle.cm_text.specs.Feed.{Feed, StandsFor as FeedStandsFor, StandsAs, HasEnded, Answers as FeedAnswers, answer_of, cut_bytes, with_ready}
+use Rattle.cm_text.specs.Feed.{Feed, StandsFor as FeedStandsFor, StandsAs, HasEnded, Answers as FeedAnswers, cut_bytes, with_ready}
 use Rattle.cm_text.proofs.FeedLemmas.{goes, goes_on, whole_lines}
 use Rattle.cm_scan.specs.Blocks.{first_too_deep}
 use Rattle.cm_scan.specs.Laws.{AreLines}
 use Rattle.cm_block.specs.declared.fault.BlockFault.{BlockFault}
 use Rattle.cm_block.specs.declared.fault.BlockFault.TheVariants as blocks
 use Rattle.cm_block.specs.declared.parser.BlockParser.{BlockParser}
-use Rattle.cm_block.specs.Parser.{StandsFor as HasTaken, Tells as BlocksTell}
+use Rattle.cm_block.specs.Parser.{StandsFor as HasTaken, TellsDepth}
 use Rattle.cm_block.proofs.Depths.{too_deep_stays}
 use Rattle.cm_reader.specs.declared.fault.Fault.TheVariants.{BlocksTooDeep}
 use Rattle.cm_reader.specs.Fault.{told, refused}
 use Rattle.cm_reader.specs.Faults.{fault_of, settled_fault_of}
-use Rattle.cm_reader.specs.Parsing.{Goes, Tells}
+use Rattle.cm_reader.specs.Parsing.{Goes, TellsFault}
 use Rattle.cm_reader.proofs.EndedLemmas.{all_are_lines, ended_are_lines, ended_stay}
-use Rattle.cm_reader.proofs.SettledLemmas.{of_three}
+use Rattle.cm_reader.specs.steps.FaultOrder.{of_three}
+use Rattle.cm_reader.proofs.OrderLemmas.{faults_in_order}
 
 -- an answer without a fault, and with one
-pub no_fault : (x : Unit {0}) (of : Option TextFault) → Ok x ≡ answer_of of → of ≡ None
+pub no_fault : (x : Unit {0}) (of : Option TextFault) → Ok x ≡ answer_after of → of ≡ None
 no_fault x None is = refl
 no_fault x (Some fault) is = cc
 
-pub its_fault : (fault : TextFault) (of : Option TextFault) → Err fault ≡ answer_of of → of ≡ Some fault
+pub its_fault : (fault : TextFault) (of : Option TextFault) → Err fault ≡ answer_after of → of ≡ Some fault
 its_fault fault None is = cc
 its_fault fault (Some other) is = cc
 
@@ -54,15 +56,15 @@ ready_lines (Some text.NoMemory) ended feed bytes taken memory going h = absurd 
 
 -- A line isn't taken in: so it is with those that follow it too.
 pub taken_told : (fault : BlockFault) (limit now : ℕ) (lines front next all : List LineView) (line : LineView) → now ≡ limit → front ++ line ∷ next ≡ all
-    → BlocksTell fault now ((lines ++ front) ++ line ∷ []) → AreLines (lines ++ all) → BlocksTell fault limit (lines ++ all)
+    → TellsDepth fault now ((lines ++ front) ++ line ∷ []) → AreLines (lines ++ all) → TellsDepth fault limit (lines ++ all)
 taken_told fault limit now lines front next all line same parts tells are =
-    subst (BlocksTell fault limit) whole (more fault (subst (λ l. BlocksTell fault l ((lines ++ front) ++ line ∷ [])) same tells) (subst AreLines (sym whole) are))
+    subst (TellsDepth fault limit) whole (more fault (subst (λ l. TellsDepth fault l ((lines ++ front) ++ line ∷ [])) same tells) (subst AreLines (sym whole) are))
   where
     whole : ((lines ++ front) ++ line ∷ []) ++ next ≡ lines ++ all
     whole = append_assoc (lines ++ front) (line ∷ []) next ∙ append_assoc lines front (line ∷ next) ∙ ap (λ t. lines ++ t) parts
 
-    more : (fault : BlockFault) → BlocksTell fault limit ((lines ++ front) ++ line ∷ []) → AreLines (((lines ++ front) ++ line ∷ []) ++ next)
-        → BlocksTell fault limit (((lines ++ front) ++ line ∷ []) ++ next)
+    more : (fault : BlockFault) → TellsDepth fault limit ((lines ++ front) ++ line ∷ []) → AreLines (((lines ++ front) ++ line ∷ []) ++ next)
+        → TellsDepth fault limit (((lines ++ front) ++ line ∷ []) ++ next)
     more (blocks.BlocksTooDeep n) e are = too_deep_stays profile limit n ((lines ++ front) ++ line ∷ []) next are e
     more blocks.NoMemory e are = tt
 
@@ -86,7 +88,8 @@ module _ (limits : LimitsView) where
   -- so nothing is settled
   pub nothing_settled : (feed : Feed) (before : BlockParser) (bytes : List ℕ) → Goes limits feed before bytes → settled_fault_of limits bytes ≡ None
   nothing_settled feed before bytes g =
-      ap₂ (λ o t. option_or (option_map BlocksTooDeep o) (option_map told t))
+      (faults_in_order limits bytes).1
+      ∙ ap₂ (λ o t. option_or (option_map BlocksTooDeep o) (option_map told t))
       (none_deep before (ended_of bytes) g.depth g.handed) (ap (λ l. settled_fault l bytes) (sym g.limit) ∙ g.feeds.sound)
 
   -- the lines that had ended, and those that are ready behind a piece
@@ -120,16 +123,16 @@ module _ (limits : LimitsView) where
   pub text_told : (fault : TextFault) (pushed : Feed) (after : BlockParser) (bytes piece : List ℕ) → pushed.limit ≡ limits.bytes → pushed.ended ≡ false
       → (pushed.fault ≡ Some text.NoMemory → ⊥) → FeedStandsFor pushed (bytes ++ piece) (count_of bytes)
       → after.limits.blocks ≡ limits.blocks → HasTaken after (ended_of bytes ++ pushed.cut.ended)
-      → FeedAnswers (Err fault) (settled_fault limits.bytes (bytes ++ piece)) → Tells (told fault) (settled_fault_of limits (bytes ++ piece))
+      → FeedAnswers (Err fault) (settled_fault limits.bytes (bytes ++ piece)) → TellsFault (told fault) (settled_fault_of limits (bytes ++ piece))
   text_told fault pushed after bytes piece limit going memory was depth taken answers = by_fault fault answers
     where
       none : deep (ended_of (bytes ++ piece)) ≡ None
       none = ap deep (sym (all_ended pushed bytes piece limit going memory was)) ∙ none_deep after (ended_of bytes ++ pushed.cut.ended) depth taken
 
       settled : (fault : TextFault) → settled_fault limits.bytes (bytes ++ piece) ≡ Some fault → settled_fault_of limits (bytes ++ piece) ≡ Some (told fault)
-      settled fault e = ap₂ (λ o t. option_or (option_map BlocksTooDeep o) (option_map told t)) none e
+      settled fault e = (faults_in_order limits (bytes ++ piece)).1 ∙ ap₂ (λ o t. option_or (option_map BlocksTooDeep o) (option_map told t)) none e
 
-      by_fault : (fault : TextFault) → FeedAnswers (Err fault) (settled_fault limits.bytes (bytes ++ piece)) → Tells (told fault) (settled_fault_of limits (bytes ++ piece))
+      by_fault : (fault : TextFault) → FeedAnswers (Err fault) (settled_fault limits.bytes (bytes ++ piece)) → TellsFault (told fault) (settled_fault_of limits (bytes ++ piece))
       by_fault (text.NotUtf8 at) e = settled (text.NotUtf8 at) e
       by_fault (text.TooLong at) e = settled (text.TooLong at) e
       by_fault text.NoMemory e = tt
@@ -137,28 +140,29 @@ module _ (limits : LimitsView) where
   -- A piece has been pushed, and one of its lines not taken in.
   pub line_told : (fault : BlockFault) (pushed : Feed) (bytes piece : List ℕ) → pushed.limit ≡ limits.bytes → pushed.ended ≡ false
       → (pushed.fault ≡ Some text.NoMemory → ⊥) → FeedStandsFor pushed (bytes ++ piece) (count_of bytes)
-      → (AreLines (ended_of bytes ++ pushed.cut.ended) → BlocksTell fault limits.blocks (ended_of bytes ++ pushed.cut.ended))
-      → Tells (refused fault) (settled_fault_of limits (bytes ++ piece))
+      → (AreLines (ended_of bytes ++ pushed.cut.ended) → TellsDepth fault limits.blocks (ended_of bytes ++ pushed.cut.ended))
+      → TellsFault (refused fault) (settled_fault_of limits (bytes ++ piece))
   line_told fault pushed bytes piece limit going memory was tells =
-      by_fault fault (subst (λ lines. AreLines lines → BlocksTell fault limits.blocks lines) whole tells (ended_are_lines limits.bytes (bytes ++ piece)))
+      by_fault fault (subst (λ lines. AreLines lines → TellsDepth fault limits.blocks lines) whole tells (ended_are_lines limits.bytes (bytes ++ piece)))
     where
       whole : ended_of bytes ++ pushed.cut.ended ≡ ended_of (bytes ++ piece)
       whole = all_ended pushed bytes piece limit going memory was
 
-      by_fault : (fault : BlockFault) → BlocksTell fault limits.blocks (ended_of (bytes ++ piece)) → Tells (refused fault) (settled_fault_of limits (bytes ++ piece))
-      by_fault (blocks.BlocksTooDeep line) e = ap (λ o. option_or (option_map BlocksTooDeep o) (option_map told (settled_fault limits.bytes (bytes ++ piece)))) e
+      by_fault : (fault : BlockFault) → TellsDepth fault limits.blocks (ended_of (bytes ++ piece)) → TellsFault (refused fault) (settled_fault_of limits (bytes ++ piece))
+      by_fault (blocks.BlocksTooDeep line) e = (faults_in_order limits (bytes ++ piece)).1 ∙ ap (λ o. option_or (option_map BlocksTooDeep o) (option_map told (settled_fault limits.bytes (bytes ++ piece)))) e
       by_fault blocks.NoMemory e = tt
 
   -- The text ends with a fault,
   pub end_told : (fault : TextFault) (feed : Feed) (before : BlockParser) (bytes : List ℕ) → Goes limits feed before bytes
-      → FeedAnswers (Err fault) (text_fault limits.bytes bytes) → Tells (told fault) (fault_of limits bytes)
+      → FeedAnswers (Err fault) (text_fault limits.bytes bytes) → TellsFault (told fault) (fault_of limits bytes)
   end_told fault feed before bytes g answers = by_fault fault answers
     where
       fault_is : (fault : TextFault) → text_fault limits.bytes bytes ≡ Some fault → fault_of limits bytes ≡ Some (told fault)
       fault_is fault e =
-          ap₂ (λ o t. of_three o t (deep (plain_lines_of (text_of bytes)))) (none_deep before (ended_of bytes) g.depth g.handed) e
+          (faults_in_order limits bytes).0
+          ∙ ap₂ (λ o t. of_three o t (deep (plain_lines_of (text_of bytes)))) (none_deep before (ended_of bytes) g.depth g.handed) e
 
-      by_fault : (fault : TextFault) → FeedAnswers (Err fault) (text_fault limits.bytes bytes) → Tells (told fault) (fault_of limits bytes)
+      by_fault : (fault : TextFault) → FeedAnswers (Err fault) (text_fault limits.bytes bytes) → TellsFault (told fault) (fault_of limits bytes)
       by_fault (text.NotUtf8 at) e = fault_is (text.NotUtf8 at) e
       by_fault (text.TooLong at) e = fault_is (text.TooLong at) e
       by_fault text.NoMemory e = tt
@@ -181,19 +185,20 @@ module _ (limits : LimitsView) where
   fault_by_lines : (feed : Feed) (before : BlockParser) (bytes : List ℕ) (all : Option ℕ) → Goes limits feed before bytes → text_fault limits.bytes bytes ≡ None
       → deep (plain_lines_of (text_of bytes)) ≡ all → fault_of limits bytes ≡ option_map BlocksTooDeep all
   fault_by_lines feed before bytes all g sound e =
-      ap₂ (λ o t. of_three o t (deep (plain_lines_of (text_of bytes)))) (none_deep before (ended_of bytes) g.depth g.handed) sound ∙ ap (option_map BlocksTooDeep) e
+      (faults_in_order limits bytes).0
+      ∙ ap₂ (λ o t. of_three o t (deep (plain_lines_of (text_of bytes)))) (none_deep before (ended_of bytes) g.depth g.handed) sound ∙ ap (option_map BlocksTooDeep) e
 
   -- the last line isn't taken in
   pub last_line_told : (fault : BlockFault) (feed ended : Feed) (before : BlockParser) (bytes : List ℕ) → Goes limits feed before bytes → Ended ended bytes
-      → (AreLines (ended_of bytes ++ ended.cut.ended) → BlocksTell fault before.limits.blocks (ended_of bytes ++ ended.cut.ended))
-      → Tells (refused fault) (fault_of limits bytes)
+      → (AreLines (ended_of bytes ++ ended.cut.ended) → TellsDepth fault before.limits.blocks (ended_of bytes ++ ended.cut.ended))
+      → TellsFault (refused fault) (fault_of limits bytes)
   last_line_told fault feed ended before bytes g end tells = by_fault fault (all_told (all_are_lines (text_of bytes)))
     where
-      all_told : AreLines (plain_lines_of (text_of bytes)) → BlocksTell fault limits.blocks (plain_lines_of (text_of bytes))
-      all_told = subst (λ l. AreLines (plain_lines_of (text_of bytes)) → BlocksTell fault l (plain_lines_of (text_of bytes))) g.depth
-          (subst (λ lines. AreLines lines → BlocksTell fault before.limits.blocks lines) end.whole tells)
+      all_told : AreLines (plain_lines_of (text_of bytes)) → TellsDepth fault limits.blocks (plain_lines_of (text_of bytes))
+      all_told = subst (λ l. AreLines (plain_lines_of (text_of bytes)) → TellsDepth fault l (plain_lines_of (text_of bytes))) g.depth
+          (subst (λ lines. AreLines lines → TellsDepth fault before.limits.blocks lines) end.whole tells)
 
-      by_fault : (fault : BlockFault) → BlocksTell fault limits.blocks (plain_lines_of (text_of bytes)) → Tells (refused fault) (fault_of limits bytes)
+      by_fault : (fault : BlockFault) → TellsDepth fault limits.blocks (plain_lines_of (text_of bytes)) → TellsFault (refused fault) (fault_of limits bytes)
       by_fault (blocks.BlocksTooDeep line) e = fault_by_lines feed before bytes (Some line) g end.sound e
       by_fault blocks.NoMemory e = tt
 

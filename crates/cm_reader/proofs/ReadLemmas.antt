@@ -1,5 +1,5 @@
 -- A reading, piece by piece.
-use Rattle.std.proofs.Common.{◌≡◌, ℕ, List, [], ◌++◌, take, refl, sym, ap, subst, ◌∙◌, append_assoc, append-nil, Some, None, inl, inr}
+use Rattle.std.proofs.Common.{◌≡◌, ℕ, ◌+◌, List, [], ◌++◌, take, refl, sym, ap, subst, ◌∙◌, append_assoc, append-nil, Some, None, inl, inr}
 use Rattle.std.specs.Prelude.{Option, Result, Ok, Err}
 use Rattle.std.specs.Io.KnownBytes.{Consumes, Keeps, IsAtEnd}
 use Rattle.cm_text.specs.Limits.{LimitsView}
@@ -7,8 +7,8 @@ use Rattle.cm_tree.specs.declared.tree.Doc.{Doc}
 use Rattle.cm_reader.specs.declared.fault.Fault.{Fault}
 use Rattle.cm_reader.specs.declared.fault.Fault.TheVariants.{NotUtf8, TooLong, BlocksTooDeep, NoMemory, ReadFailed, WriteFailed}
 use Rattle.cm_reader.specs.Faults.{settled_fault_of}
-use Rattle.cm_reader.specs.Parsing.{ParserView, StandsFor, Tells, Finishes}
-use Rattle.cm_reader.specs.Reading.{SourceView, Refuses, Reads}
+use Rattle.cm_reader.specs.Parsing.{ParserView, StandsFor, TellsFault, Finishes}
+use Rattle.cm_reader.specs.Reading.{SourceView, HasFailed, Refuses, Reads}
 use Rattle.cm_reader.proofs.ParserLemmas.{nothing_settled}
 
 -- what has been read so far
@@ -65,14 +65,14 @@ whole_read limits r parser source now later read so_far failed at_end finishes =
 
 -- the bytes settle a fault
 pub fault_told : (limits : LimitsView) (fault : Fault) (parser : ParserView) (source now later : SourceView) (read piece : List ℕ)
-    → SoFar limits parser source now read → later.failed ≡ now.failed → Tells fault (settled_fault_of limits (read ++ piece))
+    → SoFar limits parser source now read → later.failed ≡ now.failed → TellsFault fault (settled_fault_of limits (read ++ piece))
     → Refuses fault limits (read ++ piece) source later
 fault_told limits fault parser source now later read piece so_far failed told = by_fault fault told
   where
     same : later.failed ≡ source.failed
     same = failed ∙ so_far.failed
 
-    by_fault : (fault : Fault) → Tells fault (settled_fault_of limits (read ++ piece)) → Refuses fault limits (read ++ piece) source later
+    by_fault : (fault : Fault) → TellsFault fault (settled_fault_of limits (read ++ piece)) → Refuses fault limits (read ++ piece) source later
     by_fault (NotUtf8 at) h = record { same = same; told = inl h }
     by_fault (TooLong at) h = record { same = same; told = inl h }
     by_fault (BlocksTooDeep line) h = record { same = same; told = inl h }
@@ -93,3 +93,14 @@ last_read limits parser source now later read buffer n so_far none consumed =
     let P : ℕ → Type 0 = λ k. Consumes now.remaining later (take k buffer) in
     let Q : List ℕ → Type 0 = λ t. Consumes source.remaining later t in
     subst Q (append-nil read) (more_read limits parser source now later read [] so_far (subst P none consumed))
+
+-- a read that failed
+pub read_lost : (limits : LimitsView) (parser : ParserView) (source now later : SourceView) (read : List ℕ)
+    → SoFar limits parser source now read → Keeps now.remaining later.remaining → later.failed ≡ now.failed + 1
+    → (bytes : List ℕ) × Consumes source.remaining later.remaining bytes × HasFailed limits bytes source later
+read_lost limits parser source now later read so_far keeps failed =
+    let P : List ℕ → Type 0 = λ t. Consumes source.remaining later.remaining t in (
+      read,
+      subst P (append-nil read) (consumes-append source.remaining now.remaining later.remaining read [] so_far.next (consumes-keeps now.remaining later.remaining keeps)),
+      record { failed = failed ∙ ap (λ n. n + 1) so_far.failed; sound = nothing_settled limits parser.feed parser.blocks read so_far.stands.goes },
+    )

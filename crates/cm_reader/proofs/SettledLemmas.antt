@@ -26,13 +26,11 @@ use Rattle.cm_block.proofs.Depths.{too_deep_stays}
 use Rattle.cm_reader.specs.declared.fault.Fault.{Fault}
 use Rattle.cm_reader.specs.declared.fault.Fault.TheVariants.{BlocksTooDeep}
 use Rattle.cm_reader.specs.Fault.{told}
-use Rattle.cm_reader.specs.Faults.{fault_of, settled_fault_of, Settles, SettledIsTold}
+use Rattle.cm_reader.specs.Faults.{SettledIsTold}
+use Rattle.cm_reader.specs.steps.FaultOrder.{of_three, fault_met, settled_fault_met, ended_deep, all_deep}
+use Rattle.cm_reader.proofs.OrderLemmas.{faults_in_order}
 use Rattle.cm_reader.proofs.EndedLemmas.{wider, cut_on, ended_stay, ended_are_lines}
 use lib.Utf8.{encode}
-
--- the fault of bytes, by the first line too deep of those that have ended, what is wrong with the text, and the first of all lines
-abbrev pub of_three : Option ℕ → Option TextFault → Option ℕ → Option Fault
-of_three ended wrong all = option_or (option_map BlocksTooDeep ended) (option_or (option_map told wrong) (option_map BlocksTooDeep all))
 
 -- a line that is too deep is no fault of a text
 not_told : (n : ℕ) (f : TextFault) → BlocksTooDeep n ≡ told f → ⊥
@@ -144,77 +142,77 @@ no_line_ends limit bytes sound =
     too_short n all valid e f fits p = omega (arith, e, f, fits p)
 
 module _ (limits : LimitsView) where
-  -- the first line too deep of those that have ended, and of all
-  abbrev ended_deep : List ℕ → Option ℕ
-  ended_deep bytes = first_too_deep profile limits.blocks (cut_bytes limits.bytes bytes).ended
-
-  abbrev all_deep : List ℕ → Option ℕ
-  all_deep bytes = first_too_deep profile limits.blocks (plain_lines_of (text_of bytes))
+  -- every input that begins with the bytes has the fault
+  abbrev SettlesMet : List ℕ → Fault → Type 0
+  SettlesMet bytes fault = (more : List ℕ) → AreBytes more → fault_met limits (bytes ++ more) ≡ Some fault
 
   -- what is told stays so
-  stays : (bytes more : List ℕ) (fault : Fault) → AreBytes more → settled_fault_of limits bytes ≡ Some fault → fault_of limits (bytes ++ more) ≡ Some fault
-  stays bytes more fault are is = by_cases (ended_deep bytes) (settled_fault limits.bytes bytes) refl refl is
+  stays : (bytes more : List ℕ) (fault : Fault) → AreBytes more → settled_fault_met limits bytes ≡ Some fault → fault_met limits (bytes ++ more) ≡ Some fault
+  stays bytes more fault are is = by_cases (ended_deep limits bytes) (settled_fault limits.bytes bytes) refl refl is
     where
-      by_cases : (ended : Option ℕ) (wrong : Option TextFault) → ended_deep bytes ≡ ended → settled_fault limits.bytes bytes ≡ wrong
-          → option_or (option_map BlocksTooDeep ended) (option_map told wrong) ≡ Some fault → fault_of limits (bytes ++ more) ≡ Some fault
+      by_cases : (ended : Option ℕ) (wrong : Option TextFault) → ended_deep limits bytes ≡ ended → settled_fault limits.bytes bytes ≡ wrong
+          → option_or (option_map BlocksTooDeep ended) (option_map told wrong) ≡ Some fault → fault_met limits (bytes ++ more) ≡ Some fault
       by_cases (Some n) wrong e s is =
           let lines = (cut_bytes limits.bytes bytes).ended in
           let front = ended_stay limits.bytes bytes more in
           let P : List LineView → Type 0 = λ all. first_too_deep profile limits.blocks all ≡ Some n in
-          let still : ended_deep (bytes ++ more) ≡ Some n =
+          let still : ended_deep limits (bytes ++ more) ≡ Some n =
           subst P (sym front.1) (too_deep_stays profile limits.blocks n lines front.0 (subst AreLines front.1 (ended_are_lines limits.bytes (bytes ++ more))) e) in
-          ap (λ o. of_three o (text_fault limits.bytes (bytes ++ more)) (all_deep (bytes ++ more))) still ∙ is
+          ap (λ o. of_three o (text_fault limits.bytes (bytes ++ more)) (all_deep limits (bytes ++ more))) still ∙ is
       by_cases None (Some f) e s is =
-          let still : ended_deep (bytes ++ more) ≡ None = ap (λ (d : Cut). first_too_deep profile limits.blocks d.ended) (same_cut limits.bytes bytes more f are s) ∙ e in
+          let still : ended_deep limits (bytes ++ more) ≡ None = ap (λ (d : Cut). first_too_deep profile limits.blocks d.ended) (same_cut limits.bytes bytes more f are s) ∙ e in
           let wrong = (text_is_told limits.bytes bytes f).0 s more are in
-          ap (λ o. of_three o (text_fault limits.bytes (bytes ++ more)) (all_deep (bytes ++ more))) still
-          ∙ ap (λ t. of_three None t (all_deep (bytes ++ more))) wrong ∙ is
+          ap (λ o. of_three o (text_fault limits.bytes (bytes ++ more)) (all_deep limits (bytes ++ more))) still
+          ∙ ap (λ t. of_three None t (all_deep limits (bytes ++ more))) wrong ∙ is
       by_cases None None e s is = cc
 
   -- What every input has that begins with the bytes is told. Where nothing is told, the byte 255, which stands in no text, makes the
   -- input faulty and ends no line.
-  not_settled : (bytes : List ℕ) (fault : Fault) → ended_deep bytes ≡ None → settled_fault limits.bytes bytes ≡ None → Settles limits bytes fault → ⊥
+  not_settled : (bytes : List ℕ) (fault : Fault) → ended_deep limits bytes ≡ None → settled_fault limits.bytes bytes ≡ None → SettlesMet bytes fault → ⊥
   not_settled bytes fault none nothing settles = by_cases (text_fault limits.bytes bytes) refl
     where
-      now : fault_of limits bytes ≡ Some fault
-      now = ap (fault_of limits) (sym (append-nil bytes)) ∙ settles [] (All-nil (λ n. n < 256))
+      now : fault_met limits bytes ≡ Some fault
+      now = ap (fault_met limits) (sym (append-nil bytes)) ∙ settles [] (All-nil (λ n. n < 256))
 
       next : List ℕ
       next = bytes ++ 255 ∷ []
 
-      by_next : (all : Option ℕ) (wrong : Option TextFault) → of_three None None all ≡ Some fault → of_three None wrong (all_deep next) ≡ Some fault → (wrong ≡ None → ⊥) → ⊥
+      by_next : (all : Option ℕ) (wrong : Option TextFault) → of_three None None all ≡ Some fault → of_three None wrong (all_deep limits next) ≡ Some fault → (wrong ≡ None → ⊥) → ⊥
       by_next None wrong e f some = cc
       by_next (Some n) None e f some = some refl
       by_next (Some n) (Some g) e f some = not_told n g (some_same (e ∙ sym f))
 
       by_cases : (wrong : Option TextFault) → text_fault limits.bytes bytes ≡ wrong → ⊥
       by_cases (Some f) t =
-          let at_end : Some (told f) ≡ Some fault = sym (ap (λ o. of_three o (Some f) (all_deep bytes)) none) ∙ sym (ap (λ w. of_three (ended_deep bytes) w (all_deep bytes)) t) ∙ now in
+          let at_end : Some (told f) ≡ Some fault = sym (ap (λ o. of_three o (Some f) (all_deep limits bytes)) none) ∙ sym (ap (λ w. of_three (ended_deep limits bytes) w (all_deep limits bytes)) t) ∙ now in
           let told_now : settled_fault limits.bytes bytes ≡ Some f =
-          (text_is_told limits.bytes bytes f).1 (λ more are. from_text (ended_deep (bytes ++ more)) (text_fault limits.bytes (bytes ++ more)) (all_deep (bytes ++ more)) f (settles more are ∙ sym at_end)) in
+          (text_is_told limits.bytes bytes f).1 (λ more are. from_text (ended_deep limits (bytes ++ more)) (text_fault limits.bytes (bytes ++ more)) (all_deep limits (bytes ++ more)) f (settles more are ∙ sym at_end)) in
           let both : None ≡ Some f = sym nothing ∙ told_now in
           cc
       by_cases None t =
           let broken = no_line_ends limits.bytes bytes t in
-          let still : ended_deep next ≡ None = ap (λ (d : Cut). first_too_deep profile limits.blocks d.ended) broken.0 ∙ none in
-          by_next (all_deep bytes) (text_fault limits.bytes next)
-          (sym (ap (λ o. of_three o None (all_deep bytes)) none) ∙ sym (ap (λ w. of_three (ended_deep bytes) w (all_deep bytes)) t) ∙ now)
-          (sym (ap (λ o. of_three o (text_fault limits.bytes next) (all_deep next)) still) ∙ settles (255 ∷ []) (All-cons (λ n. n < 256) 255 [] (omega arith) (All-nil (λ n. n < 256))))
+          let still : ended_deep limits next ≡ None = ap (λ (d : Cut). first_too_deep profile limits.blocks d.ended) broken.0 ∙ none in
+          by_next (all_deep limits bytes) (text_fault limits.bytes next)
+          (sym (ap (λ o. of_three o None (all_deep limits bytes)) none) ∙ sym (ap (λ w. of_three (ended_deep limits bytes) w (all_deep limits bytes)) t) ∙ now)
+          (sym (ap (λ o. of_three o (text_fault limits.bytes next) (all_deep limits next)) still) ∙ settles (255 ∷ []) (All-cons (λ n. n < 256) 255 [] (omega arith) (All-nil (λ n. n < 256))))
           broken.1
 
-  comes_back : (bytes : List ℕ) (fault : Fault) → Settles limits bytes fault → settled_fault_of limits bytes ≡ Some fault
-  comes_back bytes fault settles = by_cases (ended_deep bytes) (settled_fault limits.bytes bytes) refl refl
+  comes_back : (bytes : List ℕ) (fault : Fault) → SettlesMet bytes fault → settled_fault_met limits bytes ≡ Some fault
+  comes_back bytes fault settles = by_cases (ended_deep limits bytes) (settled_fault limits.bytes bytes) refl refl
     where
-      now : fault_of limits bytes ≡ Some fault
-      now = ap (fault_of limits) (sym (append-nil bytes)) ∙ settles [] (All-nil (λ n. n < 256))
+      now : fault_met limits bytes ≡ Some fault
+      now = ap (fault_met limits) (sym (append-nil bytes)) ∙ settles [] (All-nil (λ n. n < 256))
 
-      by_cases : (ended : Option ℕ) (wrong : Option TextFault) → ended_deep bytes ≡ ended → settled_fault limits.bytes bytes ≡ wrong
+      by_cases : (ended : Option ℕ) (wrong : Option TextFault) → ended_deep limits bytes ≡ ended → settled_fault limits.bytes bytes ≡ wrong
           → option_or (option_map BlocksTooDeep ended) (option_map told wrong) ≡ Some fault
-      by_cases (Some n) wrong e s = sym (ap (λ o. of_three o (text_fault limits.bytes bytes) (all_deep bytes)) e) ∙ now
+      by_cases (Some n) wrong e s = sym (ap (λ o. of_three o (text_fault limits.bytes bytes) (all_deep limits bytes)) e) ∙ now
       by_cases None (Some f) e s =
-          sym (ap (λ o. of_three o (Some f) (all_deep bytes)) e)
-          ∙ sym (ap (λ w. of_three (ended_deep bytes) w (all_deep bytes)) (settled_text limits.bytes bytes f s)) ∙ now
+          sym (ap (λ o. of_three o (Some f) (all_deep limits bytes)) e)
+          ∙ sym (ap (λ w. of_three (ended_deep limits bytes) w (all_deep limits bytes)) (settled_text limits.bytes bytes f s)) ∙ now
       by_cases None None e s = absurd (not_settled bytes fault e s settles)
 
 pub settled_is_told : SettledIsTold
-settled_is_told limits bytes fault = (λ is more are. stays limits bytes more fault are is, comes_back limits bytes fault)
+settled_is_told limits bytes fault = (
+  λ is more are. (faults_in_order limits (bytes ++ more)).0 ∙ stays limits bytes more fault are (sym (faults_in_order limits bytes).1 ∙ is),
+  λ settles. (faults_in_order limits bytes).1 ∙ comes_back limits bytes fault (λ more are. sym (faults_in_order limits (bytes ++ more)).0 ∙ settles more are),
+)

@@ -1,11 +1,11 @@
 -- The fault of an input: a line that stands too deep, or what is wrong with its text.
-use Rattle.std.specs.Prelude.{◌≡◌, ◌↔◌, ℕ, List, ◌++◌, Option, Some}
+use Rattle.std.specs.Prelude.{◌≡◌, ◌↔◌, ℕ, List, ◌++◌, take, Option, Some, None}
 use Rattle.std.specs.Option.{option_map, option_or}
+use Rattle.cm_text.specs.declared.fault.TextFault.{TextFault}
 use Rattle.cm_text.specs.Rules.Rules.{profile}
 use Rattle.cm_text.specs.Limits.{LimitsView}
-use Rattle.cm_text.specs.Lines.{LineView, text_of, plain_lines_of}
-use Rattle.cm_text.specs.Faults.{settled_fault, text_fault}
-use Rattle.cm_text.specs.Feed.{cut_bytes}
+use Rattle.cm_text.specs.Lines.{LineView, text_of, plain_lines_of, ended_lines_of}
+use Rattle.cm_text.specs.Faults.{valid_len, settled_fault, text_fault}
 use Rattle.cm_text.specs.Settled.{AreBytes}
 use Rattle.cm_scan.specs.Blocks.{first_too_deep}
 use Rattle.cm_reader.specs.declared.fault.Fault.{Fault}
@@ -16,16 +16,23 @@ use Rattle.cm_reader.specs.Fault.{told}
 abbrev pub too_deep : ℕ → List LineView → Option Fault
 too_deep limit lines = option_map BlocksTooDeep (first_too_deep profile limit lines)
 
--- the same among the lines that end before what is wrong with the text
-abbrev pub ended_too_deep : LimitsView → List ℕ → Option Fault
-ended_too_deep limits bytes = too_deep limits.blocks (cut_bytes limits.bytes bytes).ended
+-- the longest well-formed front of the bytes within the limit, behind which stands what is wrong with the text
+abbrev pub sound_front : ℕ → List ℕ → List ℕ
+sound_front limit bytes = take (valid_len limit bytes) (take limit bytes)
 
--- The fault of the bytes where they end: a line that is too deep goes before what is wrong with the text behind it. A line that this
--- cuts isn't judged.
+-- the first line too deep of those that have ended in it
+abbrev pub ended_too_deep : LimitsView → List ℕ → Option Fault
+ended_too_deep limits bytes = too_deep limits.blocks (ended_lines_of (text_of (sound_front limits.bytes bytes)))
+
+-- Where something is wrong with the text: the first line too deep of those that have ended before it, else that; a line that it
+-- cuts isn't judged. Where nothing is: the first line too deep of all.
+abbrev pub fault_by : Option TextFault → LimitsView → List ℕ → Option Fault
+fault_by (Some fault) limits bytes = option_or (ended_too_deep limits bytes) (Some (told fault))
+fault_by None limits bytes = too_deep limits.blocks (plain_lines_of (text_of bytes))
+
+-- the fault of the bytes where they end
 abbrev pub fault_of : LimitsView → List ℕ → Option Fault
-fault_of limits bytes =
-    option_or (ended_too_deep limits bytes)
-    (option_or (option_map told (text_fault limits.bytes bytes)) (too_deep limits.blocks (plain_lines_of (text_of bytes))))
+fault_of limits bytes = fault_by (text_fault limits.bytes bytes) limits bytes
 
 -- The fault of the bytes however they go on: the last line, which hasn't ended, isn't judged.
 abbrev pub settled_fault_of : LimitsView → List ℕ → Option Fault

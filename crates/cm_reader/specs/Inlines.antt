@@ -1,6 +1,6 @@
 -- The inlines of a paragraph's or heading's source: text and soft breaks.
 use Rattle.std.specs.Prelude.{ℕ, ◌==◌, true, false, List, [], ◌∷◌, ◌++◌}
-use Rattle.cm_reader.specs.Trim.{trim_end_spaces}
+use Rattle.cm_scan.specs.Words.{trim_end_spaces}
 use Rattle.cm_tree.specs.declared.tree.Inline.{Inline}
 use Rattle.cm_tree.specs.declared.tree.Inline.TheVariants.{Text, Soft}
 

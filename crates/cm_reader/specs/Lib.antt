@@ -1,4 +1,3 @@
-pub mod Trim
 pub mod Inlines
 pub mod Leaves
 pub mod Fault
@@ -6,3 +5,4 @@ pub mod Faults
 pub mod Examples
 pub mod Reading
 pub mod Parsing
+pub mod steps

@@ -31,24 +31,19 @@ pub record StandsFor (limits : LimitsView) (parser : ParserView) (bytes : List �
   pub goes : Goes limits parser.feed parser.blocks bytes
 
 -- a call answers this fault where the input has the other, or none; memory may be refused
-abbrev pub Tells : Fault → Option Fault → Type 0
-Tells (NotUtf8 at) told = told ≡ Some (NotUtf8 at)
-Tells (TooLong at) told = told ≡ Some (TooLong at)
-Tells (BlocksTooDeep line) told = told ≡ Some (BlocksTooDeep line)
-Tells NoMemory told = ⊤
-Tells ReadFailed told = ⊥
-Tells (WriteFailed written) told = ⊥
+abbrev pub TellsFault : Fault → Option Fault → Type 0
+TellsFault (NotUtf8 at) told = told ≡ Some (NotUtf8 at)
+TellsFault (TooLong at) told = told ≡ Some (TooLong at)
+TellsFault (BlocksTooDeep line) told = told ≡ Some (BlocksTooDeep line)
+TellsFault NoMemory told = ⊤
+TellsFault ReadFailed told = ⊥
+TellsFault (WriteFailed written) told = ⊥
 
 abbrev pub Answers : Result (Unit {0}) Fault → Option Fault → Type 0
 Answers (Ok _) told = told ≡ None
-Answers (Err fault) told = Tells fault told
-
--- what the calls answer from then on
-abbrev pub answer_of : Option Fault → Result (Unit {0}) Fault
-answer_of None = Ok tt
-answer_of (Some fault) = Err fault
+Answers (Err fault) told = TellsFault fault told
 
 -- the end of the input: its document, or its fault
 abbrev pub Finishes : Result Doc Fault → LimitsView → List ℕ → Type 0
 Finishes (Ok doc) limits bytes = (fault_of limits bytes ≡ None) × (doc ≡ doc_of bytes)
-Finishes (Err fault) limits bytes = Tells fault (fault_of limits bytes)
+Finishes (Err fault) limits bytes = TellsFault fault (fault_of limits bytes)

@@ -9,7 +9,7 @@ use Rattle.cm_tree.specs.declared.tree.Owner.{Owner}
 use Rattle.cm_tree.specs.declared.tree.Doc.{Doc}
 use Rattle.cm_scan.specs.Blocks.{blocks_of, owners_of}
 use Rattle.cm_reader.specs.declared.fault.Fault.{Fault}
-use Rattle.cm_reader.specs.declared.fault.Fault.TheVariants.{NotUtf8, TooLong, BlocksTooDeep, NoMemory, ReadFailed, WriteFailed}
+use Rattle.cm_reader.specs.declared.fault.Fault.TheVariants.{NoMemory, ReadFailed, WriteFailed}
 use Rattle.cm_reader.specs.Leaves.{with_inlines}
 use Rattle.cm_reader.specs.Faults.{fault_of, settled_fault_of}
 
@@ -46,14 +46,12 @@ pub record HasFailed (limits : LimitsView) (bytes : List ℕ) (old new : SourceV
   pub failed : new.failed ≡ old.failed + 1
   pub sound : settled_fault_of limits bytes ≡ None
 
--- why these bytes aren't a document: on want of memory nothing is said of them
+-- Why these bytes aren't a document. On want of memory nothing is said of them, and reading writes nothing.
 abbrev pub Refuses : Fault → LimitsView → List ℕ → SourceView → SourceView → Type 0
-Refuses (NotUtf8 at) limits bytes old new = HasFault limits bytes old new (NotUtf8 at)
-Refuses (TooLong at) limits bytes old new = HasFault limits bytes old new (TooLong at)
-Refuses (BlocksTooDeep line) limits bytes old new = HasFault limits bytes old new (BlocksTooDeep line)
 Refuses NoMemory limits bytes old new = new.failed ≡ old.failed
 Refuses ReadFailed limits bytes old new = HasFailed limits bytes old new
 Refuses (WriteFailed written) limits bytes old new = ⊥
+Refuses fault limits bytes old new = HasFault limits bytes old new fault
 
 -- what reading these bytes answers: their document, or why there is none
 abbrev pub Reads : Result Doc Fault → LimitsView → List ℕ → SourceView → SourceView → Type 0

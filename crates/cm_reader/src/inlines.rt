@@ -1,8 +1,10 @@
 //! The inlines of a paragraph's source.
-ghost use Rattle.std.specs.Prelude.{◌≡◌, ℕ, List, ◌++◌, IfOk, OnOk};
+ghost use Rattle.std.specs.Prelude.{◌≡◌, ℕ, List, [], ◌∷◌, ◌++◌, IfOk, OnOk, IsTrue};
+ghost use Rattle.cm_tree.specs.declared.tree.Inline.TheVariants as inline;
 ghost use Rattle.cm_reader.specs.Inlines.{text_of_run, inlines_of};
 
-use crate::text::{cut_at, trim_end_spaces};
+use cm_scan::trim_end_spaces;
+use cm_text::cut_at;
 use cm_tree::{Inline, Items, Text};
 use memchr::memchr;
 use std::alloc::{AllocError, Global};
@@ -15,6 +17,16 @@ fn push_text(alloc: Global, content: &mut Items<Inline>, text: &str) -> Result<(
         content.push(Inline::Text(Text::from_str(alloc, text)?))?;
     }
     Ok(())
+}
+
+/// Whether a source is its own text: one line, which isn't empty.
+pub(crate) fn is_one_text(source: &str) -> bool
+    ensures { IsTrue result → inlines_of source.now ≡ inline.Text source.now ∷ [] }
+{
+    match memchr(b'\n', source.as_bytes()) {
+        Some(_) => false,
+        None => !source.is_empty(),
+    }
 }
 
 /// The texts and soft breaks of a source, whose lines are parted by line feeds.

@@ -2,7 +2,7 @@
 ghost use Rattle.std.specs.Prelude.{◌≡◌, map, IfOk, OnOk};
 ghost use Rattle.cm_reader.specs.Leaves.{content_read, block_read, with_inlines};
 
-use crate::inlines::inlines;
+use crate::inlines::{inlines, is_one_text};
 use cm_tree::{Block, Inline, Items};
 use std::alloc::{AllocError, Global};
 use std::mem;
@@ -11,11 +11,13 @@ use std::mem;
 fn read_content(alloc: Global, content: &mut Items<Inline>) -> Result<(), AllocError>
     ensures { OnOk result (content.new ≡ content_read content.old) }
 {
-    let read = match content.as_slice() {
-        [Inline::Text(source)] => inlines(alloc, source.as_str())?,
-        _ => return Ok(()),
+    let [Inline::Text(source)] = content.as_slice() else {
+        return Ok(());
     };
-    *content = read;
+    if is_one_text(source.as_str()) {
+        return Ok(());
+    }
+    *content = inlines(alloc, source.as_str())?;
     Ok(())
 }
 

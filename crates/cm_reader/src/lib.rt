@@ -7,7 +7,6 @@ pub mod laws;
 mod leaves;
 mod parser;
 mod reading;
-mod text;
 
 pub use fault::Fault;
 pub use parser::Parser;

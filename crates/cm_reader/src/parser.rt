@@ -1,13 +1,14 @@
 //! A document that comes in pieces.
 ghost use Rattle.std.specs.Prelude.{◌≡◌, ◌≢◌, ℕ, ◌+◌, ◌≤◌, List, [], ◌++◌, length, IfErr, OnOk, Some, None, Err, false};
+ghost use Rattle.cm_text.specs.Answers.{answer_after};
 ghost use Rattle.cm_text.specs.Limits.{LimitsView};
 ghost use Rattle.cm_text.specs.Lines.{LineView};
 ghost use Rattle.cm_text.specs.Feed.{StandsFor as FeedStandsFor, with_ready, count};
 ghost use Rattle.cm_scan.specs.Laws.{AreLines};
-ghost use Rattle.cm_block.specs.Parser.{StandsFor as HasTaken, Tells as BlocksTell};
+ghost use Rattle.cm_block.specs.Parser.{StandsFor as HasTaken, TellsDepth};
 ghost use Rattle.cm_reader.specs.declared.fault.Fault as faults;
 ghost use Rattle.cm_reader.specs.Faults.{settled_fault_of};
-ghost use Rattle.cm_reader.specs.Parsing.{Goes, StandsFor, Answers, Finishes, answer_of};
+ghost use Rattle.cm_reader.specs.Parsing.{Goes, StandsFor, Answers, Finishes};
 
 use crate::fault::Fault;
 use crate::leaves::with_inlines;
@@ -16,6 +17,9 @@ use cm_text::{Limits, LineFeed, TextFault};
 use cm_tree::Doc;
 use std::alloc::Global;
 use std::marker::Model;
+
+/// How many bytes are taken in at once.
+pub(crate) const PART: usize = 8192;
 
 /// Reads a document that comes in pieces. Each line is taken in once, as soon as it has ended.
 ///
@@ -58,7 +62,8 @@ impl Parser {
         }
     }
 
-    /// Goes on with one more piece, which may be empty and may end anywhere.
+    /// Goes on with one more piece, which may be empty and may end anywhere. Of a long piece no more lines
+    /// are held at once than of a short one.
     ///
     /// A fault is answered as soon as the bytes settle it, however they go on.
     pub fn feed(&mut self, piece: &[u8]) -> Result<(), Fault>
@@ -69,7 +74,7 @@ impl Parser {
         ensures settled { (limits : LimitsView) (bytes : List ℕ) → StandsFor limits self.old bytes →
             Answers result (settled_fault_of limits (bytes ++ piece.now)) }
         // From then on it is answered again.
-        ensures answer { result ≡ answer_of self.new.fault }
+        ensures answer { result ≡ answer_after self.new.fault }
         ensures failed { self.old.fault ≢ None → self.new ≡ self.old }
         ensures limit { self.new.feed.limit ≡ self.old.feed.limit }
         ensures count { OnOk result (count self.new.feed ≡ count self.old.feed + length piece.now) }
@@ -104,9 +109,29 @@ impl Parser {
     }
 }
 
-// Goes on with one more piece, as far as it goes. The lines that end before a fault of the text are taken
-// in first, since one that is too deep goes before it.
+// Goes on with one more piece, part by part, as far as it goes.
 fn push(feed: &mut LineFeed, blocks: &mut BlockParser, piece: &[u8]) -> Result<(), Fault>
+    requires { feed.old.ended ≡ false }
+    ensures goes { OnOk result ((limits : LimitsView) (bytes : List ℕ) → Goes limits feed.old blocks.old bytes →
+        Goes limits feed.new blocks.new (bytes ++ piece.now)) }
+    ensures settled { (limits : LimitsView) (bytes : List ℕ) → Goes limits feed.old blocks.old bytes →
+        Answers result (settled_fault_of limits (bytes ++ piece.now)) }
+    ensures going { feed.new.ended ≡ false }
+    ensures limit { feed.new.limit ≡ feed.old.limit }
+    ensures count { OnOk result (count feed.new ≡ count feed.old + length piece.now) }
+    ensures within { OnOk result (count feed.new ≤ feed.new.limit) }
+{
+    let mut rest = piece;
+    while let Some((part, behind)) = rest.split_at_checked(PART) {
+        push_part(feed, blocks, part)?;
+        rest = behind;
+    }
+    push_part(feed, blocks, rest)
+}
+
+// Goes on with one more part of a piece, as far as it goes. The lines that end before a fault of the text
+// are taken in first, since one that is too deep goes before it.
+fn push_part(feed: &mut LineFeed, blocks: &mut BlockParser, piece: &[u8]) -> Result<(), Fault>
     requires { feed.old.ended ≡ false }
     ensures goes { OnOk result ((limits : LimitsView) (bytes : List ℕ) → Goes limits feed.old blocks.old bytes →
         Goes limits feed.new blocks.new (bytes ++ piece.now)) }
@@ -153,7 +178,7 @@ fn hand_over(feed: &mut LineFeed, blocks: &mut BlockParser) -> Result<(), BlockF
         HasTaken blocks.new (lines ++ feed.old.cut.ended)) }
     ensures told { IfErr result (λ fault. (lines : List LineView) → HasTaken blocks.old lines →
         AreLines (lines ++ feed.old.cut.ended) →
-        BlocksTell fault blocks.old.limits.blocks (lines ++ feed.old.cut.ended)) }
+        TellsDepth fault blocks.old.limits.blocks (lines ++ feed.old.cut.ended)) }
 {
     while let Some(line) = feed.next_line() {
         blocks.line(&line)?;

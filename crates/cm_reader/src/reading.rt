@@ -4,13 +4,10 @@ ghost use Rattle.std.specs.Io.KnownBytes.{Consumes};
 ghost use Rattle.cm_reader.specs.Reading.{Reads};
 
 use crate::fault::Fault;
-use crate::parser::Parser;
+use crate::parser::{PART, Parser};
 use cm_text::{Limits, Source};
 use cm_tree::Doc;
 use std::alloc::{AllocError, Global};
-
-// How many bytes are asked for at once.
-const PIECE: usize = 8192;
 
 fn zeros(alloc: Global, count: usize) -> Result<Vec<u8>, AllocError>
     ensures { IfOk result (λ zeros. length zeros.items ≡ count) }
@@ -28,7 +25,7 @@ pub fn read<R: Source>(alloc: Global, source: &mut R, limits: Limits) -> Result<
         (record { remaining = R.remaining source.old; failed = R.failed source.old })
         (record { remaining = R.remaining source.new; failed = R.failed source.new }) }
 {
-    let mut buffer = zeros(alloc, PIECE)?;
+    let mut buffer = zeros(alloc, PART)?;
     read_to_end(alloc, source, limits, buffer.as_mut_slice())
 }
 

@@ -5,7 +5,7 @@ use Rattle.std.proofs.lemmas.List.{append-nil, drop_all}
 use Rattle.std.proofs.lemmas.Bool.Decides.{nat_tests}
 use Rattle.cm_scan.specs.Words.{given}
 use Rattle.cm_scan.specs.Links.{behind, opened_by, bare_run}
-use Rattle.cm_scan.specs.LinkSteps.{ended_at, ends_bare}
+use Rattle.cm_scan.specs.steps.LinkSteps.{ended_at, ends_bare}
 use Rattle.cm_scan.proofs.ClosedLemmas.{mark, ahead, ahead_from, ahead-behind, slice-more}
 
 -- how many parentheses are open behind a byte that may be escaped

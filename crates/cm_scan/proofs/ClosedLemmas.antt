@@ -10,7 +10,7 @@ use Rattle.cm_text.specs.Characters.{is_ascii_punct}
 use Rattle.cm_scan.specs.Words.{is_space_or_tab, skip, trim_start, begins_with}
 use Rattle.cm_scan.specs.Tags.{is_blank_byte}
 use Rattle.cm_scan.specs.Links.{Reading, behind, keep_if, escapes_next, closed_by, characters, has_blank_line}
-use Rattle.cm_scan.specs.LinkSteps.{closed_at, begins_character, fits, is_barred, blank_follows, is_refused}
+use Rattle.cm_scan.specs.steps.LinkSteps.{closed_at, begins_character, fits, is_barred, blank_follows, is_refused}
 
 -- whether the byte behind this one is escaped
 abbrev pub mark : Bool → ℕ → List ℕ → Bool

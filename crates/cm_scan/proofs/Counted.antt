@@ -7,7 +7,7 @@ use Rattle.cm_text.specs.LineText.{is_line}
 use Rattle.cm_text.specs.Lines.{LineView}
 use Rattle.cm_text.specs.Indentation.{indent_of, blank_width, strip_from, strip_columns}
 use Rattle.cm_tree.specs.declared.tree.ListKind.{ListKind}
-use Rattle.cm_scan.specs.Words.{is_space_or_tab, is_blank_text, is_empty, skip, trim_start, keep_byte, trim_end}
+use Rattle.cm_scan.specs.Words.{is_space_or_tab, is_blank_text, is_empty, skip, trim_start, keep_byte, trim_end_by, trim_end}
 use Rattle.cm_scan.specs.Lines.{is_blank, content_of, past, marks}
 use Rattle.cm_scan.specs.LineForms.{Fence, ItemMarker}
 use Rattle.cm_scan.specs.HtmlBlocks.{HtmlKind}
@@ -354,25 +354,25 @@ text_run-of rules source (line ∷ lines) h p =
 
 -- trimming takes no line feed, and not all
 
-feeds-keep_byte : (b : ℕ) (bs : List ℕ) → line_feeds (keep_byte b bs) ≡ line_feeds (b ∷ bs)
+feeds-keep_byte : (b : ℕ) (bs : List ℕ) → line_feeds (keep_byte true b bs) ≡ line_feeds (b ∷ bs)
 unfolding line_feeds
 feeds-keep_byte b [] = grind arith
 feeds-keep_byte b (c ∷ cs) = refl
 
 feeds-trim_end : (text : List ℕ) → line_feeds (trim_end text) ≡ line_feeds text
-unfolding trim_end line_feeds
+unfolding trim_end_by line_feeds
 feeds-trim_end [] = refl
 feeds-trim_end (b ∷ bs) =
     let h : line_feeds (trim_end bs) ≡ line_feeds bs = feeds-trim_end bs in
-    let k : line_feeds (keep_byte b (trim_end bs)) ≡ line_feeds (b ∷ trim_end bs) = feeds-keep_byte b (trim_end bs) in
+    let k : line_feeds (keep_byte true b (trim_end bs)) ≡ line_feeds (b ∷ trim_end bs) = feeds-keep_byte b (trim_end bs) in
     grind (arith, h, k)
 
-firm-keep_byte : (b : ℕ) (bs : List ℕ) → is_space_or_tab b ≡ false → Firm (keep_byte b bs)
+firm-keep_byte : (b : ℕ) (bs : List ℕ) → is_space_or_tab b ≡ false → Firm (keep_byte true b bs)
 firm-keep_byte b [] e = grind (arith, e)
 firm-keep_byte b (c ∷ cs) e = e
 
 firm-trim_end : (text : List ℕ) → Firm text → Firm (trim_end text)
-unfolding trim_end
+unfolding trim_end_by
 firm-trim_end [] h = absurd h
 firm-trim_end (b ∷ bs) h = firm-keep_byte b (trim_end bs) h
 

@@ -3,7 +3,7 @@ use Rattle.std.proofs.Common.{◌≡◌, ℕ, suc, ◌+◌, Bool, true, false, L
 use Rattle.cm_scan.specs.Words.{begins_with, after_word, ◌<|>◌}
 use Rattle.cm_scan.specs.Tags.{is_blank_next, after_gap}
 use Rattle.cm_scan.specs.Links.{Reading, LinkDefinition, label, destination, title, after_line, defined, titled, untitled, link_definition}
-use Rattle.cm_scan.specs.LinkSteps.{definition_with}
+use Rattle.cm_scan.specs.Scanned.{definition_with}
 use Rattle.cm_scan.proofs.ReadingLemmas.{begins-at}
 
 -- a place behind a gap, in a text and its copy

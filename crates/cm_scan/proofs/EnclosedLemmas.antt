@@ -5,7 +5,7 @@ use Rattle.std.proofs.lemmas.List.Sums.{count_by-le-length}
 use Rattle.std.proofs.lemmas.Bool.Decides.{nat_tests}
 use Rattle.cm_scan.specs.Words.{begins_with}
 use Rattle.cm_scan.specs.Links.{Reading, behind, keep_if, escapes_next, closed_by, characters, has_no_blank_line, bare_run, is_some, destination, title_in, title}
-use Rattle.cm_scan.specs.LinkSteps.{fits, is_barred, title_end, begins_character}
+use Rattle.cm_scan.specs.steps.LinkSteps.{fits, is_barred, title_end, begins_character}
 use Rattle.cm_scan.proofs.ReadingLemmas.{begins-at}
 
 -- what is forbidden matters of bytes alone that don't close

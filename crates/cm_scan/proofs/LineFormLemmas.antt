@@ -5,7 +5,7 @@ use Rattle.std.specs.List.{list_all, list_any, find}
 use Rattle.std.proofs.lemmas.Bool.{cases_eq, cases_Bool, false_from_ne_true}
 use Rattle.std.proofs.lemmas.List.{drop_all}
 use Rattle.cm_scan.specs.Words.{is_space_or_tab, run_length, after_run, trim, is_at_gap, is_blank_text, begins_with, given}
-use Rattle.cm_scan.specs.Scanned.{is_plain, is_break_marker}
+use Rattle.cm_scan.specs.steps.LineSteps.{is_plain, is_break_marker}
 use Rattle.cm_scan.specs.LineForms.{is_break_of, is_thematic_break, without_closing, atx_heading, is_underline_of, underline, Fence, fence_of, opening_fence, is_closing_fence}
 
 -- thematic breaks

@@ -6,8 +6,8 @@ use Rattle.std.proofs.lemmas.Bool.{cases_Bool}
 use Rattle.std.proofs.lemmas.List.{drop_all}
 use Rattle.cm_tree.specs.declared.tree.ListKind.{ListKind}
 use Rattle.cm_scan.specs.Words.{is_digit, front_of, skip, ◌<|>◌}
-use Rattle.cm_scan.specs.LineForms.{ItemMarker, bullet_kind, ordered_kind, marker_of, bullet_marker, decimal_value, marker_behind, ordered_marker, item_marker}
-use Rattle.cm_scan.specs.Scanned.{with_digit}
+use Rattle.cm_scan.specs.LineForms.{ItemMarker, bullet_kind, ordered_kind, marker_at_gap, bullet_marker, decimal_value, marker_behind, ordered_marker, item_marker}
+use Rattle.cm_scan.specs.steps.LineSteps.{with_digit}
 
 -- digits
 
@@ -99,7 +99,7 @@ unfolding item_marker bullet_marker ordered_marker marker_behind front_of skip
 marker-parts [] = refl
 marker-parts (b ∷ bs) = ⊎_elim
     (λ (e : is_digit b ≡ true). grind (arith, e, no_bullet b e))
-    (λ (e : is_digit b ≡ false). grind (arith, e, or_none (marker_of (bullet_kind b) 0 bs)))
+    (λ (e : is_digit b ≡ false). grind (arith, e, or_none (marker_at_gap (bullet_kind b) 0 bs)))
     (cases_Bool (is_digit b))
 
 parts-nothing : (ds : List ℕ) → by_parts ds [] ≡ None
@@ -121,7 +121,7 @@ kind-digit : (n number b : ℕ) → is_digit b ≡ true → kind_at n number b �
 kind-digit n number b digit = grind (arith, digit)
 
 parts-kind : (ds : List ℕ) (b : ℕ) (behind : List ℕ) → length ds ≤ 9
-    → by_parts ds (b ∷ behind) ≡ marker_of (kind_at (length ds) (decimal_value ds) b) (length ds) behind
+    → by_parts ds (b ∷ behind) ≡ marker_at_gap (kind_at (length ds) (decimal_value ds) b) (length ds) behind
 unfolding bullet_marker marker_behind
 parts-kind [] b behind few = refl
 parts-kind (d ∷ ds) b behind few = grind (arith, few)
@@ -152,7 +152,7 @@ module _ (bs : List ℕ) (at e number : ℕ)
         marker-parts (drop at bs) ∙ parts-many (front_of is_digit (drop at bs)) (skip is_digit (drop at bs)) (omega (arith, one, count, nine))
 
     after-number : is_digit (get_or bs e 0) ≡ false
-        → item_marker (drop at bs) ≡ marker_of (kind_at (e - at) number (get_or bs e 0)) (e - at) (drop (e + 1) bs)
+        → item_marker (drop at bs) ≡ marker_at_gap (kind_at (e - at) number (get_or bs e 0)) (e - at) (drop (e + 1) bs)
     after-number other =
         let none : front_of is_digit (drop e bs) ≡ [] = front_stop bs e within other in
         let ds : List ℕ = front_of is_digit (drop at bs) in
@@ -160,13 +160,13 @@ module _ (bs : List ℕ) (at e number : ℕ)
         let v : decimal_value ds ≡ number = sym value ∙ ap (fold with_digit number) none in
         let rest : skip is_digit (drop at bs) ≡ get_or bs e 0 ∷ drop (e + 1) bs = sym left ∙ skip_stop bs e within other in
         marker-parts (drop at bs) ∙ ap (by_parts ds) rest ∙ parts-kind ds (get_or bs e 0) (drop (e + 1) bs) (omega (arith, n, few))
-        ∙ ap (λ k. marker_of (kind_at k (decimal_value ds) (get_or bs e 0)) k (drop (e + 1) bs)) n
-        ∙ ap (λ k. marker_of (kind_at (e - at) k (get_or bs e 0)) (e - at) (drop (e + 1) bs)) v
+        ∙ ap (λ k. marker_at_gap (kind_at k (decimal_value ds) (get_or bs e 0)) k (drop (e + 1) bs)) n
+        ∙ ap (λ k. marker_at_gap (kind_at (e - at) k (get_or bs e 0)) (e - at) (drop (e + 1) bs)) v
 
     -- with a byte behind them
-    pub marker-at : item_marker (drop at bs) ≡ marker_of (kind_at (e - at) number (get_or bs e 0)) (e - at) (drop (e + 1) bs)
+    pub marker-at : item_marker (drop at bs) ≡ marker_at_gap (kind_at (e - at) number (get_or bs e 0)) (e - at) (drop (e + 1) bs)
     marker-at = ⊎_elim
         (λ (digit : is_digit (get_or bs e 0) ≡ true). after-digits digit
-        ∙ ap (λ kind. marker_of kind (e - at) (drop (e + 1) bs)) (sym (kind-digit (e - at) number (get_or bs e 0) digit)))
+        ∙ ap (λ kind. marker_at_gap kind (e - at) (drop (e + 1) bs)) (sym (kind-digit (e - at) number (get_or bs e 0) digit)))
         (λ (other : is_digit (get_or bs e 0) ≡ false). after-number other)
         (cases_Bool (is_digit (get_or bs e 0)))

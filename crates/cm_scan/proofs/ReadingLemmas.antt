@@ -5,7 +5,7 @@ use Rattle.std.proofs.lemmas.Bool.Decides.{nat_tests}
 use Rattle.cm_scan.specs.Words.{begins_with, given}
 use Rattle.cm_scan.specs.Tags.{is_blank_byte}
 use Rattle.cm_scan.specs.Links.{Reading, keep_if, closed_by, characters, is_label, label}
-use Rattle.cm_scan.specs.LinkSteps.{fits}
+use Rattle.cm_scan.specs.steps.LinkSteps.{fits}
 
 -- a byte that comes next stands at the place
 pub begins-at : (b : ℕ) (text : List ℕ) (at : ℕ) → begins_with b (drop at text) ≡ true → (at < length text) × (drop at text ≡ b ∷ drop (suc at) text) × (get_or text at 0 ≡ b)

@@ -3,7 +3,7 @@ use Rattle.std.proofs.Common.{⊎_elim, ◌≡◌, ℕ, zero, suc, ◌+◌, ◌-
 use Rattle.std.proofs.lemmas.Bool.{cases_Bool}
 use Rattle.cm_scan.specs.Words.{is_letter, skip, front_of, after_word}
 use Rattle.cm_scan.specs.Tags.{Named, after_quoted, is_blank_next, after_gap, after_attribute, after_tag_end, after_attributes, tag_name, open_tag, closing_tag, with_rest}
-use Rattle.cm_scan.specs.TagNames.{continues_name}
+use Rattle.cm_scan.specs.steps.TagNames.{continues_name}
 
 -- quoted values
 

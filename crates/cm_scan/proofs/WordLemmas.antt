@@ -1,8 +1,8 @@
 -- Runs, gaps and ends of a text.
-use Rattle.std.proofs.Common.{◌≡◌, ℕ, suc, ◌+◌, ◌-◌, ◌<◌, ◌≤◌, true, false, List, [], ◌∷◌, ◌++◌, length, take, drop, get_or, refl, sym, ap, ◌∙◌, arith, add-one, drop-cons}
+use Rattle.std.proofs.Common.{Bool, ◌≡◌, ℕ, suc, ◌+◌, ◌-◌, ◌<◌, ◌≤◌, true, false, List, [], ◌∷◌, ◌++◌, length, take, drop, get_or, refl, sym, ap, ◌∙◌, arith, add-one, drop-cons}
 use Rattle.std.proofs.Math.Seq.{take-suc}
 use Rattle.std.proofs.lemmas.List.{drop_all}
-use Rattle.cm_scan.specs.Words.{is_space_or_tab, skip, run_length, after_run, trim_start, keep_byte, trim_end}
+use Rattle.cm_scan.specs.Words.{is_space_or_tab, skip, run_length, after_run, trim_start, is_trimmed, keep_byte, trim_end_by}
 
 -- a space or tab is ASCII
 pub blank_ascii : (b : ℕ) → is_space_or_tab b ≡ true → b < 128
@@ -78,22 +78,22 @@ trim_start-none bs none = rw none refl
 pub trim_start-end : (bs : List ℕ) (i : ℕ) → length bs ≤ i → trim_start (drop i bs) ≡ drop i bs
 trim_start-end bs i past = trim_start-none (drop i bs) (drop_all i bs past)
 
--- a last space or tab goes
-trim_end-last : (xs : List ℕ) (b : ℕ) → is_space_or_tab b ≡ true → trim_end (xs ++ b ∷ []) ≡ trim_end xs
-unfolding trim_end
-trim_end-last [] b passes = grind arith
-trim_end-last (x ∷ xs) b passes = ap (keep_byte x) (trim_end-last xs b passes)
+-- a last byte that is trimmed goes
+trim_end-last : (tabs : Bool) (xs : List ℕ) (b : ℕ) → is_trimmed tabs b ≡ true → trim_end_by tabs (xs ++ b ∷ []) ≡ trim_end_by tabs xs
+unfolding trim_end_by
+trim_end-last tabs [] b passes = rw passes refl
+trim_end-last tabs (x ∷ xs) b passes = ap (keep_byte tabs x) (trim_end-last tabs xs b passes)
 
 -- before a last byte that stays, each byte stays
-keep_byte-last : (x : ℕ) (xs : List ℕ) (b : ℕ) → keep_byte x (xs ++ b ∷ []) ≡ x ∷ (xs ++ b ∷ [])
-keep_byte-last x [] b = refl
-keep_byte-last x (y ∷ ys) b = refl
+keep_byte-last : (tabs : Bool) (x : ℕ) (xs : List ℕ) (b : ℕ) → keep_byte tabs x (xs ++ b ∷ []) ≡ x ∷ (xs ++ b ∷ [])
+keep_byte-last tabs x [] b = refl
+keep_byte-last tabs x (y ∷ ys) b = refl
 
 -- another last byte stays
-trim_end-kept : (xs : List ℕ) (b : ℕ) → is_space_or_tab b ≡ false → trim_end (xs ++ b ∷ []) ≡ xs ++ b ∷ []
-unfolding trim_end
-trim_end-kept [] b fails = grind arith
-trim_end-kept (x ∷ xs) b fails = ap (keep_byte x) (trim_end-kept xs b fails) ∙ keep_byte-last x xs b
+trim_end-kept : (tabs : Bool) (xs : List ℕ) (b : ℕ) → is_trimmed tabs b ≡ false → trim_end_by tabs (xs ++ b ∷ []) ≡ xs ++ b ∷ []
+unfolding trim_end_by
+trim_end-kept tabs [] b fails = rw fails refl
+trim_end-kept tabs (x ∷ xs) b fails = ap (keep_byte tabs x) (trim_end-kept tabs xs b fails) ∙ keep_byte-last tabs x xs b
 
 -- a front of a text, with its last byte apart
 front_last : (bs : List ℕ) (n : ℕ) → 0 < n → n ≤ length bs → take n bs ≡ take (n - 1) bs ++ get_or bs (n - 1) 0 ∷ []
@@ -101,18 +101,26 @@ front_last bs n some within =
     let last : n ≡ suc (n - 1) = omega arith in
     ap (λ k. take k bs) last ∙ take-suc bs (n - 1) 0 (omega arith)
 
--- a space or tab at the end goes
-pub trim_end-step : (bs : List ℕ) (n : ℕ) → 0 < n → n ≤ length bs → is_space_or_tab (get_or bs (n - 1) 0) ≡ true → trim_end (take n bs) ≡ trim_end (take (n - 1) bs)
-trim_end-step bs n some within passes = ap trim_end (front_last bs n some within) ∙ trim_end-last (take (n - 1) bs) (get_or bs (n - 1) 0) passes
+-- a byte at the end that is trimmed goes
+pub trim_end-step : (tabs : Bool) (bs : List ℕ) (n : ℕ) → 0 < n → n ≤ length bs → is_trimmed tabs (get_or bs (n - 1) 0) ≡ true
+    → trim_end_by tabs (take n bs) ≡ trim_end_by tabs (take (n - 1) bs)
+trim_end-step tabs bs n some within passes =
+    ap (trim_end_by tabs) (front_last bs n some within) ∙ trim_end-last tabs (take (n - 1) bs) (get_or bs (n - 1) 0) passes
 
 -- another byte at the end stays
-pub trim_end-stop : (bs : List ℕ) (n : ℕ) → 0 < n → n ≤ length bs → is_space_or_tab (get_or bs (n - 1) 0) ≡ false → trim_end (take n bs) ≡ take n bs
-trim_end-stop bs n some within fails =
-    ap trim_end (front_last bs n some within) ∙ trim_end-kept (take (n - 1) bs) (get_or bs (n - 1) 0) fails ∙ sym (front_last bs n some within)
+pub trim_end-stop : (tabs : Bool) (bs : List ℕ) (n : ℕ) → 0 < n → n ≤ length bs → is_trimmed tabs (get_or bs (n - 1) 0) ≡ false
+    → trim_end_by tabs (take n bs) ≡ take n bs
+trim_end-stop tabs bs n some within fails =
+    ap (trim_end_by tabs) (front_last bs n some within) ∙ trim_end-kept tabs (take (n - 1) bs) (get_or bs (n - 1) 0) fails ∙ sym (front_last bs n some within)
+
+-- a byte that is trimmed is ASCII
+pub trimmed_ascii : (tabs : Bool) (b : ℕ) → is_trimmed tabs b ≡ true → b < 128
+trimmed_ascii true b h = blank_ascii b h
+trimmed_ascii false b h = grind (arith, h)
 
 -- of no bytes nothing is left
-pub trim_end-none : (bs : List ℕ) (n : ℕ) → n ≤ 0 → trim_end (take n bs) ≡ take n bs
-unfolding trim_end
-trim_end-none bs n none =
+pub trim_end-none : (tabs : Bool) (bs : List ℕ) (n : ℕ) → n ≤ 0 → trim_end_by tabs (take n bs) ≡ take n bs
+unfolding trim_end_by
+trim_end-none tabs bs n none =
     let nothing : n ≡ 0 = omega arith in
     rw nothing refl

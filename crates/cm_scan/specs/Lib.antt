@@ -11,5 +11,4 @@ pub mod WorkedExamples
 pub mod Laws
 pub mod HtmlKinds
 pub mod Scanned
-pub mod TagNames
-pub mod LinkSteps
+pub mod steps

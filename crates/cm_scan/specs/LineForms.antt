@@ -79,13 +79,13 @@ bullet_kind b = given (b == 45) Dash <|> given (b == 43) Plus <|> given (b == 42
 abbrev pub ordered_kind : ℕ → ℕ → Option ListKind
 ordered_kind number b = given (b == 46) (Dot number) <|> given (b == 41) (Paren number)
 
-abbrev pub marker_of : Option ListKind → ℕ → List ℕ → Option ItemMarker
-marker_of None digits behind = None
-marker_of (Some kind) digits behind = given (is_at_gap behind) (record { kind = kind; digits = digits })
+abbrev pub marker_at_gap : Option ListKind → ℕ → List ℕ → Option ItemMarker
+marker_at_gap None digits behind = None
+marker_at_gap (Some kind) digits behind = given (is_at_gap behind) (record { kind = kind; digits = digits })
 
 unfoldable pub bullet_marker : List ℕ → Option ItemMarker
 bullet_marker [] = None
-bullet_marker (b ∷ bs) = marker_of (bullet_kind b) 0 bs
+bullet_marker (b ∷ bs) = marker_at_gap (bullet_kind b) 0 bs
 
 -- the number that decimal digits write
 abbrev pub decimal_value : List ℕ → ℕ
@@ -98,7 +98,7 @@ is_number digits = nat_le 1 (length digits) && nat_le (length digits) 9
 unfoldable pub marker_behind : List ℕ → List ℕ → Option ItemMarker
 marker_behind digits [] = None
 marker_behind digits (b ∷ bs) = elim (is_number digits) [
-  | true ↦ marker_of (ordered_kind (decimal_value digits) b) (length digits) bs
+  | true ↦ marker_at_gap (ordered_kind (decimal_value digits) b) (length digits) bs
   | false ↦ None
 ]
 

@@ -1,20 +1,17 @@
 -- What a scanner answers.
-use Rattle.std.specs.Prelude.{ℕ, ◌+◌, ◌-◌, ◌*◌, Bool, not, ◌||◌, ◌==◌, Option, Some, None}
-use Rattle.cm_scan.specs.Words.{is_space_or_tab}
+use Rattle.std.specs.Prelude.{List, drop, option_map, ℕ, ◌+◌, ◌-◌, ◌*◌, Bool, not, ◌||◌, ◌==◌, Option, Some, None}
+use Rattle.std.specs.Borrow.{Bor}
+use Rattle.cm_scan.specs.Links.{Reading, LinkDefinition}
 
 -- what was read, if it was, with the place where it ends
 abbrev pub ending : {A : Type 0} → Option A → ℕ → Option (A × ℕ)
 ending None end = None
 ending (Some x) end = Some (x, end)
 
--- neither a space nor a tab
-abbrev pub is_plain : ℕ → Bool
-is_plain b = not (is_space_or_tab b)
+-- what a scanner answers: the part that it read, and what is left behind the place where it ended
+abbrev pub reading_of : List ℕ → Option (Bor (List ℕ) × ℕ) → Option Reading
+reading_of text read = option_map (λ r. record { text = r.0.now; rest = drop r.1 text }) read
 
--- `-`, `_` or `*`, which a thematic break is made of
-abbrev pub is_break_marker : ℕ → Bool
-is_break_marker b = b == 45 || b == 95 || b == 42
-
--- a number with one more digit behind it
-abbrev pub with_digit : ℕ → ℕ → ℕ
-with_digit n b = n * 10 + (b - 48)
+-- a definition of these parts
+abbrev pub definition_with : List ℕ → List ℕ → List ℕ → List ℕ → LinkDefinition
+definition_with label dest title rest = record { label = label; dest = dest; title = title; rest = rest }

@@ -43,15 +43,27 @@ after_run marker (b ∷ bs) = elim (b == marker) [ true ↦ after_run marker bs 
 abbrev pub trim_start : List ℕ → List ℕ
 trim_start text = skip is_space_or_tab text
 
+-- a byte that goes from the end of a text: a space, and a tab where tabs go too
+abbrev pub is_trimmed : (tabs : Bool) → ℕ → Bool
+is_trimmed true b = is_space_or_tab b
+is_trimmed false b = b == 32
+
 -- a byte before what is left of the text after it
-abbrev pub keep_byte : ℕ → List ℕ → List ℕ
-keep_byte b [] = if is_space_or_tab b then [] else b ∷ []
-keep_byte b (c ∷ cs) = b ∷ c ∷ cs
+abbrev pub keep_byte : (tabs : Bool) → ℕ → List ℕ → List ℕ
+keep_byte tabs b [] = if is_trimmed tabs b then [] else b ∷ []
+keep_byte tabs b (c ∷ cs) = b ∷ c ∷ cs
+
+unfoldable pub trim_end_by : (tabs : Bool) → List ℕ → List ℕ
+trim_end_by tabs [] = []
+trim_end_by tabs (b ∷ bs) = keep_byte tabs b (trim_end_by tabs bs)
 
 -- without the spaces and tabs at the end
-unfoldable pub trim_end : List ℕ → List ℕ
-trim_end [] = []
-trim_end (b ∷ bs) = keep_byte b (trim_end bs)
+abbrev pub trim_end : List ℕ → List ℕ
+trim_end text = trim_end_by true text
+
+-- without the spaces at the end
+abbrev pub trim_end_spaces : List ℕ → List ℕ
+trim_end_spaces text = trim_end_by false text
 
 -- without those at both ends
 abbrev pub trim : List ℕ → List ℕ

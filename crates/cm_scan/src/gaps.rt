@@ -2,7 +2,7 @@
 ghost use Rattle.std.specs.Prelude.{◌≡◌, ℕ, ◌≤◌, length, drop, option_map, IfSome, IsUtf8};
 ghost use Rattle.std.specs.Str.{IsCharBoundary};
 ghost use Rattle.cm_scan.specs.Words.{is_space_or_tab, trim_start};
-ghost use Rattle.cm_scan.specs.Tags.{is_blank_byte, after_gap};
+ghost use Rattle.cm_scan.specs.Tags.{is_blank_byte, is_blank_next, after_gap};
 ghost use Rattle.cm_scan.specs.Links.{after_line};
 
 use crate::words::is_space_or_tab;
@@ -13,6 +13,14 @@ pub(crate) fn is_blank_byte(b: u8) -> bool
     ensures { result ≡ is_blank_byte b }
 {
     is_space_or_tab(b) || b == b'\n'
+}
+
+// Whether a space, a tab or a line feed stands there.
+#[inline(always)]
+pub(crate) fn is_blank_next(text: &[u8], at: usize) -> bool
+    ensures { result ≡ is_blank_next (drop at text.now) }
+{
+    at < text.len() && is_blank_byte(text[at])
 }
 
 // The place behind the spaces and tabs.

@@ -5,7 +5,8 @@ ghost use Rattle.std.specs.List.{list_any};
 ghost use Rattle.std.specs.Str.{IsCharBoundary};
 ghost use Rattle.cm_scan.specs.Words.{given, begins_with};
 ghost use Rattle.cm_scan.specs.LineForms.{is_break_of, is_thematic_break, without_closing, atx_heading, is_underline_of, underline, fence_of, opening_fence, is_closing_fence};
-ghost use Rattle.cm_scan.specs.Scanned.{ending, is_break_marker};
+ghost use Rattle.cm_scan.specs.Scanned.{ending};
+ghost use Rattle.cm_scan.specs.steps.LineSteps.{is_break_marker};
 
 use crate::words::{
     after_run, bytes_from, first_plain, is_at_gap, is_blank_text, is_space_or_tab, trim,

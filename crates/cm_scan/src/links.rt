@@ -3,12 +3,13 @@
 ghost use Rattle.std.specs.Prelude.{◌≡◌, ℕ, List, ◌==◌, ◌&&◌, ◌||◌, not, false, ◌≤◌, ◌<◌, suc, length, drop, slice_index, option_map, IfSome, IsUtf8, if◌then◌else◌};
 ghost use Rattle.std.specs.List.{list_all};
 ghost use Rattle.std.specs.Str.{IsCharBoundary};
-ghost use Rattle.cm_scan.specs.Tags.{is_blank_byte, is_blank_next};
+ghost use Rattle.cm_scan.specs.Tags.{is_blank_byte};
 ghost use Rattle.cm_scan.specs.Words.{begins_with, ◌<|>◌};
 ghost use Rattle.cm_scan.specs.Links.{escapes_next, keep_if, closed_by, label, destination, title, bare_run, is_some, opened_by, titled, untitled, link_definition};
-ghost use Rattle.cm_scan.specs.LinkSteps.{reading_of, closed_at, ended_at, title_end, ends_bare, definition_with, begins_character, is_barred, fits, blank_follows, is_refused};
+ghost use Rattle.cm_scan.specs.Scanned.{reading_of, definition_with};
+ghost use Rattle.cm_scan.specs.steps.LinkSteps.{closed_at, ended_at, title_end, ends_bare, begins_character, is_barred, fits, blank_follows, is_refused};
 
-use crate::gaps::{after_blanks, after_gap, after_line, is_blank_byte};
+use crate::gaps::{after_blanks, after_gap, after_line, is_blank_byte, is_blank_next};
 use cm_text::is_ascii_punct;
 
 /// The link label at a place in a text, which is the boundary of a character: what stands between its
@@ -319,13 +320,6 @@ fn begins_blank_line(text: &[u8], at: usize) -> bool
     ensures { result ≡ blank_follows (slice_index text.now at) (drop (suc at) text.now) }
 {
     text[at] == b'\n' && is_next(text, after_blanks(text, at + 1), b'\n')
-}
-
-// Whether a space, a tab or a line feed stands there.
-fn is_blank_next(text: &[u8], at: usize) -> bool
-    ensures { result ≡ is_blank_next (drop at text.now) }
-{
-    at < text.len() && is_blank_byte(text[at])
 }
 
 // Whether the byte stands there.

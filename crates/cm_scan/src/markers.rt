@@ -4,7 +4,7 @@ ghost use Rattle.std.specs.List.{fold};
 ghost use Rattle.std.specs.Str.{IsCharBoundary};
 ghost use Rattle.cm_scan.specs.Words.{is_digit, front_of, skip};
 ghost use Rattle.cm_scan.specs.LineForms.{item_marker, bullet_kind, ordered_kind, decimal_value};
-ghost use Rattle.cm_scan.specs.Scanned.{with_digit};
+ghost use Rattle.cm_scan.specs.steps.LineSteps.{with_digit};
 
 use crate::words::{bytes_from, is_at_gap, is_digit};
 use cm_tree::ListKind;

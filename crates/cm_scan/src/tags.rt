@@ -1,10 +1,11 @@
 //! Tags of HTML (6.6 Raw HTML). Each reading answers what is left behind what it read.
 ghost use Rattle.std.specs.Prelude.{◌≡◌, suc, [], ◌∷◌, Some, None, length, codes, MatchOption};
-ghost use Rattle.cm_scan.specs.Words.{is_letter, skip, trim_start, after_word};
-ghost use Rattle.cm_scan.specs.Tags.{is_blank_byte, is_blank_next, begins_attribute, continues_attribute, is_unquoted, after_gap, after_quoted, after_value, after_specification, after_attribute, after_tag_end, after_attributes, tag_name, open_tag, closing_tag};
-ghost use Rattle.cm_scan.specs.TagNames.{continues_name};
+ghost use Rattle.cm_scan.specs.Words.{is_letter, skip, after_word};
+ghost use Rattle.cm_scan.specs.Tags.{begins_attribute, continues_attribute, is_unquoted, after_gap, after_quoted, after_value, after_specification, after_attribute, after_tag_end, after_attributes, tag_name, open_tag, closing_tag};
+ghost use Rattle.cm_scan.specs.steps.TagNames.{continues_name};
 
-use crate::words::{is_digit, is_space_or_tab};
+use crate::gaps::{self, is_blank_byte, is_blank_next};
+use crate::words::is_digit;
 use memchr::memchr;
 
 /// A tag's name, and what is left behind the tag or the name.
@@ -48,14 +49,6 @@ fn continues_attribute(b: u8) -> bool
     begins_attribute(b) || is_digit(b) || b == b'.' || b == b'-'
 }
 
-/// Whether a byte is a space, a tab or a line feed.
-#[inline(always)]
-fn is_blank_byte(b: u8) -> bool
-    ensures { result ≡ is_blank_byte b }
-{
-    is_space_or_tab(b) || b == b'\n'
-}
-
 /// Whether a byte may stand in an unquoted value.
 #[inline(always)]
 fn is_unquoted(b: u8) -> bool
@@ -79,18 +72,6 @@ pub(crate) fn first_of(bytes: &[u8]) -> Option<(u8, &[u8])>
         return None;
     };
     Some((*b, &bytes[1..]))
-}
-
-/// What is left behind spaces and tabs.
-fn skip_blanks(bytes: &[u8]) -> &[u8]
-    ensures { result.now ≡ trim_start bytes.now }
-{
-    for (i, b) in bytes.iter().enumerate() {
-        if !is_space_or_tab(*b) {
-            return &bytes[i..];
-        }
-    }
-    &[]
 }
 
 /// What is left behind the bytes that go on with a tag's name.
@@ -130,28 +111,10 @@ fn skip_unquoted(bytes: &[u8]) -> &[u8]
 }
 
 /// What is left behind spaces, tabs, and up to one line ending.
-#[tactic(auto, unfolding(crate::specs::Tags::after_gap))]
 fn after_gap(bytes: &[u8]) -> &[u8]
     ensures { result.now ≡ after_gap bytes.now }
 {
-    let rest = skip_blanks(bytes);
-    let Some((b, behind)) = first_of(rest) else {
-        return rest;
-    };
-    if b != b'\n' {
-        return rest;
-    }
-    skip_blanks(behind)
-}
-
-/// Whether a space, a tab or a line ending comes next.
-fn is_blank_next(bytes: &[u8]) -> bool
-    ensures { result ≡ is_blank_next bytes.now }
-{
-    let Some((b, _)) = first_of(bytes) else {
-        return false;
-    };
-    is_blank_byte(b)
+    &bytes[gaps::after_gap(bytes, 0)..]
 }
 
 /// What is left behind a value that this quotation mark ends.
@@ -238,7 +201,7 @@ fn after_attributes(bytes: &[u8]) -> Option<&[u8]>
         if let Some(rest) = after_tag_end(inside) {
             return Some(rest);
         }
-        if !is_blank_next(text) {
+        if !is_blank_next(text, 0) {
             return None;
         }
         text = after_attribute(inside)?;

@@ -2,8 +2,8 @@
 ghost use Rattle.std.specs.Prelude.{◌≡◌, ◌+◌, ◌<◌, ◌≤◌, length, drop};
 ghost use Rattle.std.specs.List.{find};
 ghost use Rattle.std.specs.Str.{IsCharBoundary};
-ghost use Rattle.cm_scan.specs.Words.{is_space_or_tab, is_digit, run_length, after_run, trim_start, trim_end, trim, is_blank_text, is_at_gap};
-ghost use Rattle.cm_scan.specs.Scanned.{is_plain};
+ghost use Rattle.cm_scan.specs.Words.{is_space_or_tab, is_digit, run_length, after_run, trim_start, is_trimmed, trim_end_by, trim_end, trim_end_spaces, trim, is_blank_text, is_at_gap};
+ghost use Rattle.cm_scan.specs.steps.LineSteps.{is_plain};
 
 /// Whether a byte is a space or a tab.
 #[inline(always)]
@@ -84,16 +84,39 @@ pub(crate) fn trim_start(text: &str) -> &str
     &text[start..]
 }
 
+// Whether a byte goes from the end of a text: a space, and a tab where tabs go too.
+#[inline(always)]
+fn is_trimmed(tabs: bool, b: u8) -> bool
+    ensures { result ≡ is_trimmed tabs b }
+{
+    b == b' ' || tabs && b == b'\t'
+}
+
+// The text without the spaces at its end, and without the tabs where these go too.
+#[inline(always)]
+fn trim_end_by(tabs: bool, text: &str) -> &str
+    ensures { result.now ≡ trim_end_by tabs text.now }
+{
+    let bytes = text.as_bytes();
+    let mut end = bytes.len();
+    while end > 0 && is_trimmed(tabs, bytes[end - 1]) {
+        end -= 1;
+    }
+    &text[..end]
+}
+
 /// The text without the spaces and tabs at its end, as in the last line of a paragraph (4.8 Paragraphs).
 pub fn trim_end(text: &str) -> &str
     ensures { result.now ≡ trim_end text.now }
 {
-    let bytes = text.as_bytes();
-    let mut end = bytes.len();
-    while end > 0 && is_space_or_tab(bytes[end - 1]) {
-        end -= 1;
-    }
-    &text[..end]
+    trim_end_by(true, text)
+}
+
+/// The text without the spaces at its end, as before a soft line break (6.8 Soft line breaks).
+pub fn trim_end_spaces(text: &str) -> &str
+    ensures { result.now ≡ trim_end_spaces text.now }
+{
+    trim_end_by(false, text)
 }
 
 /// The text without those at both ends.

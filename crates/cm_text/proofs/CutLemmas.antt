@@ -8,7 +8,7 @@ use Rattle.std.proofs.lemmas.Bool.Decides.{nat_tests}
 use Rattle.cm_text.specs.LineText.{is_line, is_line_ending}
 use Rattle.cm_text.specs.Lines.{LineView, text_of, text_of_byte, plain_line}
 use Rattle.cm_text.specs.Cut.{Cut, cut_byte, cut_more, end_line, IsFront}
-use Rattle.cm_text.specs.Runs.{is_special, is_plain}
+use Rattle.cm_text.specs.steps.Runs.{is_special, is_plain}
 
 -- the cut with more text on its last line
 abbrev pub went_on : Cut → List ℕ → Cut

@@ -15,7 +15,7 @@ use Rattle.cm_text.specs.Lines.{LineView, view_of, plain_lines_of, last_line, pl
 use Rattle.cm_text.specs.Cut.{Cut, cut_byte, end_line, IsFront, cut_more, nothing_cut, without}
 use Rattle.cm_text.specs.Faults.{left_of, valid_len, after_valid, settled_fault, text_fault}
 use Rattle.cm_text.specs.Feed.{Feed, Goes, StandsAs, StandsFor, Answers, HasFailed, LostMemory, cut_valid, cut_bytes, with_ready}
-use Rattle.cm_text.specs.FeedSteps.{Steps, Refused, joined_of, next_cut, next_feed, next_fault}
+use Rattle.cm_text.specs.steps.FeedSteps.{Steps, Refused, joined_of, next_cut, next_feed, next_fault}
 use Rattle.cm_text.proofs.CutLemmas.{ended_stays, cut_text-append}
 use Rattle.cm_text.proofs.LinesLemmas.{lines_are_cut}
 use Rattle.cm_text.proofs.Utf8Lemmas.{error_len-nil, utf8_valid_len-cases, valid_front-IsUtf8, IsUtf8-cancel}

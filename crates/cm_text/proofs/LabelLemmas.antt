@@ -5,7 +5,7 @@ use Rattle.std.proofs.lemmas.Str.{inside_one, encode_ascii, length-encode, len_u
 use Rattle.std.proofs.lemmas.List.{append-nil}
 use Rattle.std.proofs.lemmas.Bool.Decides.{nat_tests}
 use Rattle.cm_text.specs.Labels.{is_gap, strip_leading, keep_before, strip_trailing, collapse_after, settle_gaps}
-use Rattle.cm_text.specs.LabelSteps.{put_after}
+use Rattle.cm_text.specs.steps.LabelSteps.{put_after}
 
 -- what a text gives of which a front has been read, where a gap was read last or wasn't
 abbrev pub after : (after_gap : Bool) → List ℕ → List ℕ

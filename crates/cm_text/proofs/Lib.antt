@@ -14,3 +14,4 @@ pub mod ReferenceLemmas
 pub mod UnescapingLemmas
 pub mod StripLemmas
 pub mod ViewLemmas
+pub mod EndedLines

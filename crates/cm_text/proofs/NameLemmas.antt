@@ -14,7 +14,7 @@ use Rattle.std.specs.Str.{bytes_eq}
 use Rattle.std.proofs.lemmas.Slice.Eq.{bytes_eq-Decides}
 use Rattle.cm_text.specs.NamedReferences.{names}
 use Rattle.cm_text.specs.References.{entry}
-use Rattle.cm_text.specs.NameTable.{names_joined, start_at, first_at, name_at, characters_at}
+use Rattle.cm_text.specs.steps.NameTable.{names_joined, start_at, first_at, name_at, characters_at}
 
 -- so many numbers from one on pass a test
 pub passes : (ℕ → Bool) → ℕ → ℕ → Bool

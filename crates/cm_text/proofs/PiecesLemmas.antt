@@ -1,9 +1,11 @@
 -- What is left of a list of pieces.
-use Rattle.std.proofs.Common.{[], Some, length-append, ◌≡◌, ℕ, ◌+◌, ◌-◌, ◌<◌, ◌≤◌, List, ◌++◌, length, take, drop, get_or, refl, sym, ap, ◌∙◌, arith, add-one, drop-cons, drop-drop, take-append-drop, append_assoc, take_all, length-drop, min}
+use Rattle.std.proofs.Common.{[], true, false, nat_lt, subst, Some, length-append, ◌≡◌, ℕ, ◌+◌, ◌-◌, ◌<◌, ◌≤◌, List, ◌++◌, length, take, drop, get_or, refl, sym, ap, ◌∙◌, arith, add-one, drop-cons, drop-drop, take-append-drop, append_assoc, take_all, length-drop, min}
 use Rattle.std.specs.List.{flat_map}
 use Rattle.std.proofs.lemmas.List.{drop-append-le}
 use Rattle.std.proofs.Math.Seq.{drop-append-add}
 use Rattle.std.proofs.Math.ListN.{drop_of_length-le}
+use Rattle.std.proofs.lemmas.Bool.{lt-ltb, le-ltb}
+use Rattle.cm_text.specs.Devices.{piece_after}
 
 pub joined_next : {X : Type 0} (f : X → List ℕ) (ps : List X) (i : ℕ) (d : X) → i < length ps
     → flat_map f (drop i ps) ≡ f (get_or ps i d) ++ flat_map f (drop (i + 1) ps)
@@ -51,3 +53,26 @@ none_left f ps i s past =
 
 pub unwrapped : (xs ys : List ℕ) → Some xs ≡ Some ys → xs ≡ ys
 unwrapped xs ys same = cc
+
+-- the piece that comes next, where the one at a place isn't used up
+pub piece_here : {X : Type 0} (f : X → List ℕ) (ps : List X) (i start : ℕ) (d : X) (piece : List ℕ) → i < length ps → f (get_or ps i d) ≡ piece → start < length piece
+    → piece_after f start (drop i ps) ≡ drop start piece
+piece_here f ps i start d piece within is inside =
+    let first : nat_lt start (length (f (get_or ps i d))) ≡ true = lt-ltb start _ (subst (λ t. start < length t) (sym is) inside) in
+    rw (drop-cons ps i d within) (grind (arith, first, is))
+
+-- or where it is
+pub piece_later : {X : Type 0} (f : X → List ℕ) (ps : List X) (i start : ℕ) (d : X) (piece : List ℕ) → i < length ps → f (get_or ps i d) ≡ piece → length piece ≤ start
+    → piece_after f start (drop i ps) ≡ piece_after f (start - length piece) (drop (i + 1) ps)
+piece_later f ps i start d piece within is past =
+    let first : nat_lt start (length (f (get_or ps i d))) ≡ false = le-ltb start _ (subst (λ t. length t ≤ start) (sym is) past) in
+    rw (drop-cons ps i d within, add-one) (grind (arith, first, is))
+
+-- past the last piece none comes
+pub piece_none : {X : Type 0} (f : X → List ℕ) (ps : List X) (i start : ℕ) → length ps ≤ i → piece_after f start (drop i ps) ≡ []
+piece_none f ps i start past = ap (piece_after f start) (drop_of_length-le ps past)
+
+-- how much of it is given
+pub given_of_piece : {next : List ℕ} (piece : List ℕ) (s n room : ℕ) → next ≡ drop s piece
+    → n ≡ min (length (take (length piece - s) (drop s piece))) room → n ≡ min (length next) room
+given_of_piece piece s n room is count = count ∙ ap (λ t. min (length t) room) (rest_of_piece piece s ∙ sym is)

@@ -3,7 +3,7 @@ use Rattle.std.specs.Prelude.{◌≡◌, ℕ, Bool, true, false, ◌==◌, if◌
 use Rattle.std.specs.List.{fold}
 use Rattle.std.specs.String.{string_bytes}
 use Rattle.cm_text.specs.declared.cutter.Cutter.{Cutter}
-use Rattle.cm_text.specs.Lines.{LineView, plain_line, view_of, last_line, plain_lines_of}
+use Rattle.cm_text.specs.Lines.{LineView, plain_line, view_of, last_line, plain_lines_of, ended_lines_of}
 
 -- the lines that have ended, the text of the line after them, and whether a carriage return came last
 pub record Cut : Type 0 where
@@ -45,3 +45,7 @@ IsFront front all = (rest : List LineView) × (all ≡ front ++ rest)
 abbrev pub LinesAreCut : Type 0
 LinesAreCut = (text : List ℕ)
     → plain_lines_of text ≡ (cut_more nothing_cut text).ended ++ map plain_line (last_line (cut_more nothing_cut text).partial)
+
+-- Those that its cut has ended are those that have ended.
+abbrev pub EndedLinesAreCut : Type 0
+EndedLinesAreCut = (text : List ℕ) → (cut_more nothing_cut text).ended ≡ ended_lines_of text

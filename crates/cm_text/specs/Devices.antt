@@ -1,5 +1,5 @@
 -- What the devices in memory hold.
-use Rattle.std.specs.Prelude.{ℕ, ◌-◌, ◌==◌, ◌&&◌, not, min, Bool, List, length, Result, Ok, Err, if◌then◌else◌}
+use Rattle.std.specs.Prelude.{ℕ, ◌-◌, ◌==◌, ◌&&◌, not, min, nat_lt, Bool, true, false, List, [], ◌∷◌, length, drop, Result, Ok, Err, if◌then◌else◌}
 use Rattle.cm_text.specs.declared.device.DeviceFailed.{DeviceFailed}
 use Rattle.cm_text.specs.declared.device.pieces.Pieces.{Pieces}
 use Rattle.cm_text.specs.declared.device.room.Room.{Room}
@@ -10,6 +10,18 @@ device_failed = record {}
 -- whether reads fail once the pieces are used up
 abbrev pub fails_of : Pieces → Bool
 fails_of pieces = pieces.fails
+
+-- what is left of the piece that holds the byte behind so many
+abbrev pub piece_after : {X : Type 0} (bytes_of : X → List ℕ) → ℕ → List X → List ℕ
+piece_after bytes_of start [] = []
+piece_after bytes_of start (piece ∷ pieces) = elim (nat_lt start (length (bytes_of piece))) [
+  | true ↦ drop start (bytes_of piece)
+  | false ↦ piece_after bytes_of (start - length (bytes_of piece)) pieces
+]
+
+-- what is left of the piece that comes next, empty ones passed over
+abbrev pub next_piece : Pieces → List ℕ
+next_piece pieces = piece_after (λ piece. piece.items) pieces.start (drop pieces.index pieces.pieces.items)
 
 -- how many bytes the room takes in all
 abbrev pub capacity_of : Room → ℕ
@@ -24,7 +36,7 @@ abbrev pub part_of : Room → ℕ → ℕ
 part_of room count = min (min count (room.capacity - length room.bytes.items)) room.at_most
 
 -- what it answers to these bytes: to take nothing of some is a failure
-abbrev pub answer_of : Room → List ℕ → Result ℕ DeviceFailed
-answer_of room bytes =
+abbrev pub room_answer : Room → List ℕ → Result ℕ DeviceFailed
+room_answer room bytes =
     let part = part_of room (length bytes) in
     if part == 0 && not (length bytes == 0) then Err device_failed else Ok part

@@ -67,11 +67,6 @@ Answers (Err NoMemory) told = ⊤
 Answers (Err (NotUtf8 at)) told = told ≡ Some (NotUtf8 at)
 Answers (Err (TooLong at)) told = told ≡ Some (TooLong at)
 
--- what the calls answer from then on
-abbrev pub answer_of : Option TextFault → Result (Unit {0}) TextFault
-answer_of None = Ok tt
-answer_of (Some fault) = Err fault
-
 -- the feed with these lines to be taken
 abbrev pub with_ready : List LineView → Feed → Feed
 with_ready ready feed = record {

@@ -4,7 +4,7 @@ use Rattle.std.specs.List.{flat_map}
 use Rattle.std.specs.Str.Lossy.{replacement_bytes}
 use Rattle.std.specs.String.{string_bytes}
 use Rattle.cm_text.specs.declared.lines.Line.{Line}
-use Rattle.cm_text.specs.LineText.{is_line}
+use Rattle.cm_text.specs.LineText.{is_line, is_line_ending}
 
 -- The text of UTF-8 bytes: U+0000 is read as U+FFFD (2.3 Insecure characters).
 abbrev pub text_of_byte : ℕ → List ℕ
@@ -72,6 +72,21 @@ plain_line text = record { column = 0; text = text; lazy = false }
 -- the lines of a text, as they are handed out
 abbrev pub plain_lines_of : List ℕ → List LineView
 plain_lines_of text = map plain_line (lines_of text)
+
+-- a line feed or a carriage return stands at the end of the text
+abbrev pub ends_a_line : List ℕ → Bool
+ends_a_line [] = false
+ends_a_line (b ∷ []) = is_line_ending b
+ends_a_line (b ∷ c ∷ bs) = ends_a_line (c ∷ bs)
+
+abbrev pub but_last : {X : Type 0} → List X → List X
+but_last [] = []
+but_last (x ∷ []) = []
+but_last (x ∷ y ∷ ys) = x ∷ but_last (y ∷ ys)
+
+-- the lines of a text that have ended: all, or all but the last where no line-ending character ends it
+abbrev pub ended_lines_of : List ℕ → List LineView
+ended_lines_of text = if ends_a_line text then plain_lines_of text else but_last (plain_lines_of text)
 
 -- A text has one list of lines,
 abbrev pub LinesAreDetermined : Type 0

@@ -2,7 +2,7 @@
 use Rattle.std.specs.Prelude.{◌≡◌, ◌^◌, true, false, [], ◌∷◌, Some, None, length, codes}
 use Rattle.std.specs.List.{filter, range_with_len}
 use Rattle.cm_text.specs.declared.fault.TextFault.TheVariants.{NotUtf8, TooLong}
-use Rattle.cm_text.specs.Lines.{text_of, lines_of}
+use Rattle.cm_text.specs.Lines.{text_of, lines_of, plain_line, ended_lines_of}
 use Rattle.cm_text.specs.Faults.{settled_fault, text_fault}
 use Rattle.cm_text.specs.Rules.Rules.{profile}
 use Rattle.cm_text.specs.Characters.{is_ascii_punct, is_punct_by, is_space}
@@ -19,6 +19,9 @@ pub record LineExamples : Type 0 where
   pub line_feed : lines_of (codes "a\nb\n") ≡ codes "a" ∷ codes "b" ∷ []
   pub carriage_return_line_feed : lines_of (codes "a\r\nb") ≡ codes "a" ∷ codes "b" ∷ []
   pub carriage_return : lines_of (codes "a\rb\r") ≡ codes "a" ∷ codes "b" ∷ []
+  pub ended : ended_lines_of (codes "a\nb") ≡ plain_line (codes "a") ∷ []
+  pub ended_by_a_carriage_return : ended_lines_of (codes "a\r") ≡ plain_line (codes "a") ∷ []
+  pub none_ended : ended_lines_of (codes "a") ≡ []
   pub empty_lines : lines_of (codes "\n\r\r\n\n\r") ≡ [] ∷ [] ∷ [] ∷ [] ∷ [] ∷ []
   pub nul : text_of (97 ∷ 0 ∷ []) ≡ 97 ∷ 0xEF ∷ 0xBF ∷ 0xBD ∷ []
 

@@ -21,7 +21,7 @@ pub(crate) struct Cutter {
 impl Cutter {
     ghost use Rattle.cm_text.specs.Lines.{text_of, plain_line, last_line};
     ghost use Rattle.cm_text.specs.Cut.{Cut, cut_of, cut_more, end_line, IsFront};
-    ghost use Rattle.cm_text.specs.Runs.{is_plain, is_special};
+    ghost use Rattle.cm_text.specs.steps.Runs.{is_plain, is_special};
 
     pub(crate) fn end_line(&mut self, after_return: bool) -> Result<(), AllocError>
         requires { string_len self.old.partial ≤ 2 ^ 61 }

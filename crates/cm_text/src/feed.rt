@@ -1,9 +1,10 @@
 //! Lines of a text that comes in pieces.
 ghost use Rattle.std.specs.Prelude.{◌≡◌, ◌≢◌, ℕ, ◌+◌, ◌≤◌, List, [], ◌∷◌, ◌++◌, length, OnOk, is_some, is_ok, IfSome, IfNone, if◌then◌else◌, None, false};
+ghost use Rattle.cm_text.specs.Answers.{answer_after};
 ghost use Rattle.cm_text.specs.Lines.{view_of};
 ghost use Rattle.cm_text.specs.Faults.{settled_fault, text_fault};
-ghost use Rattle.cm_text.specs.Feed.{StandsFor, Answers, answer_of, with_ready, count};
-ghost use Rattle.cm_text.specs.FeedSteps.{Steps};
+ghost use Rattle.cm_text.specs.Feed.{StandsFor, Answers, with_ready, count};
+ghost use Rattle.cm_text.specs.steps.FeedSteps.{Steps};
 
 use crate::cutter::Cutter;
 use crate::fault::TextFault;
@@ -108,7 +109,7 @@ impl LineFeed {
         ensures settled { self.old.fault ≡ None → (bytes : List ℕ) (taken : ℕ) →
             StandsFor self.old bytes taken → Answers result (settled_fault self.old.limit (bytes ++ piece.now)) }
         // From then on it is answered again.
-        ensures answer { result ≡ answer_of self.new.fault }
+        ensures answer { result ≡ answer_after self.new.fault }
         ensures failed { self.old.fault ≢ None → self.new ≡ self.old }
         ensures limit { self.new.limit ≡ self.old.limit }
         ensures ended { self.new.ended ≡ false }
@@ -153,7 +154,7 @@ impl LineFeed {
             StandsFor self.old bytes taken → StandsFor self.new bytes taken }
         ensures told { self.old.fault ≡ None → (bytes : List ℕ) (taken : ℕ) →
             StandsFor self.old bytes taken → Answers result (text_fault self.old.limit bytes) }
-        ensures answer { result ≡ answer_of self.new.fault }
+        ensures answer { result ≡ answer_after self.new.fault }
         ensures failed { self.old.fault ≢ None → self.new ≡ self.old }
         ensures limit { self.new.limit ≡ self.old.limit }
         ensures ended { self.new.ended ≡ is_ok result }

@@ -1,7 +1,7 @@
 //! Labels as they are compared.
 ghost use Rattle.std.specs.Prelude.{◌≡◌, ◌++◌, string_bytes, encode_utf8, IfOk, OnOk};
 ghost use Rattle.cm_text.specs.Labels.{fold_label, is_gap, settle_gaps};
-ghost use Rattle.cm_text.specs.LabelSteps.{put_after};
+ghost use Rattle.cm_text.specs.steps.LabelSteps.{put_after};
 
 use crate::device::NoMemory;
 use caseless::default_case_fold_str;

@@ -1,6 +1,6 @@
 //! Laws of the definitions, each the contract of a function that does nothing.
 ghost use Rattle.cm_text.specs.Lines.{LinesAreComputed, LinesAreDetermined};
-ghost use Rattle.cm_text.specs.Cut.{LinesAreCut};
+ghost use Rattle.cm_text.specs.Cut.{EndedLinesAreCut, LinesAreCut};
 ghost use Rattle.cm_text.specs.Indentation.{StripTakesColumns, StripInParts};
 ghost use Rattle.cm_text.specs.Settled.{SettledIsTold};
 ghost use Rattle.cm_text.specs.WorkedExamples.{LineExamples, FaultExamples, IndentationExamples, LabelExamples, CharacterExamples, StripExamples, ReferenceExamples, UnescapeExamples};
@@ -18,6 +18,11 @@ pub fn lines_are_computed()
 /// The lines that a feed hands out are those that are computed.
 pub fn lines_are_cut()
     ensures { LinesAreCut }
+{}
+
+/// The lines that a feed has ready before the text has ended are those that have ended.
+pub fn ended_lines_are_cut()
+    ensures { EndedLinesAreCut }
 {}
 
 /// A feed tells a fault just where every text that begins with the bytes so far has it.

@@ -1,6 +1,6 @@
 //! The names of references, in the order of their bytes.
 ghost use Rattle.std.specs.Prelude.{◌≡◌, ◌≢◌, ℕ, ◌<◌, IfSome, IfNone};
-ghost use Rattle.cm_text.specs.NameTable.{names_joined, start_at, first_at, name_at, characters_at};
+ghost use Rattle.cm_text.specs.steps.NameTable.{names_joined, start_at, first_at, name_at, characters_at};
 ghost use Rattle.cm_text.specs.NamedReferences.{names};
 ghost use Rattle.cm_text.specs.References.{entry, chars_of, characters_of};
 
@@ -80,14 +80,14 @@ fn name_at(place: usize) -> &'static [u8]
     &names_joined()[start_at(place)..start_at(place + 1)]
 }
 
-#[tactic(auto, unfolding(crate::specs::NameTable::names_joined))]
+#[tactic(auto, unfolding(crate::specs::steps::NameTable::names_joined))]
 fn names_joined() -> &'static [u8]
     ensures { result.now ≡ names_joined }
 {
     NAMES
 }
 
-#[tactic(auto, unfolding(crate::specs::NameTable::start_at))]
+#[tactic(auto, unfolding(crate::specs::steps::NameTable::start_at))]
 fn start_at(place: usize) -> usize
     requires { place < 129 }
     ensures { result ≡ start_at place }
@@ -95,7 +95,7 @@ fn start_at(place: usize) -> usize
     STARTS[place] as usize
 }
 
-#[tactic(auto, unfolding(crate::specs::NameTable::first_at))]
+#[tactic(auto, unfolding(crate::specs::steps::NameTable::first_at))]
 fn first_at(place: usize) -> char
     requires { place < 128 }
     ensures { result ≡ first_at place }
@@ -103,7 +103,7 @@ fn first_at(place: usize) -> char
     CHARACTERS[place]
 }
 
-#[tactic(auto, unfolding(crate::specs::NameTable::characters_at))]
+#[tactic(auto, unfolding(crate::specs::steps::NameTable::characters_at))]
 fn characters_at(place: usize) -> Chars
     requires { place < 128 }
     ensures { chars_of result ≡ characters_at place }

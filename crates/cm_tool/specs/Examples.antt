@@ -1,6 +1,6 @@
 -- Worked examples: from the bytes of a text to its HTML.
 use Rattle.std.specs.Prelude.{◌≡◌, [], ◌∷◌, ◌++◌, codes}
-use Rattle.cm_tool.specs.Convert.{converted}
+use Rattle.cm_tool.specs.Writing.{converted}
 
 pub record Examples : Type 0 where
   pub no_text : converted [] ≡ []

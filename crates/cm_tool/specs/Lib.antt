@@ -1,5 +1,4 @@
-pub mod Convert
+pub mod Writing
 pub mod Examples
 pub mod CommandLine
-pub mod Listing
 pub mod Running

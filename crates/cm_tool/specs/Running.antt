@@ -3,8 +3,8 @@ use Rattle.std.specs.Prelude.{◌≡◌, ℕ, ◌≤◌, List, Result, Ok, Err, 
 use Rattle.cm_reader.specs.Reading.{SourceView}
 use Rattle.cm_text.specs.Limits.{LimitsView}
 use Rattle.cm_text.specs.Writing.{SinkView, IsUnwritten, Wrote}
-use Rattle.cm_tool.specs.Convert.{Converts}
-use Rattle.cm_tool.specs.Listing.{Lists}
+use Rattle.cm_tool.specs.Writing.{Converts}
+use Rattle.cm_tool.specs.Writing.{Lists}
 use Rattle.cm_reader.specs.declared.fault.Fault.{Fault}
 use Rattle.cm_tool.specs.declared.job.Job.{Job}
 use Rattle.cm_tool.specs.declared.job.Job.TheVariants.{Render, Tree}

@@ -1,7 +1,7 @@
 //! From a source of bytes to HTML.
 ghost use Rattle.std.specs.Prelude.{◌≡◌, ℕ, ◌-◌, ◌^◌, ◌<◌, List};
 ghost use Rattle.std.specs.Io.KnownBytes.{Consumes};
-ghost use Rattle.cm_tool.specs.Convert.{Converts};
+ghost use Rattle.cm_tool.specs.Writing.{Converts};
 
 use cm_html::write_html;
 use cm_reader::{Fault, read};

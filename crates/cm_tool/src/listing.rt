@@ -1,11 +1,11 @@
 //! From a source of bytes to the listing of its tree.
 ghost use Rattle.std.specs.Prelude.{◌≡◌, ℕ, ◌-◌, ◌^◌, ◌<◌, List};
 ghost use Rattle.std.specs.Io.KnownBytes.{Consumes};
-ghost use Rattle.cm_tool.specs.Listing.{Lists};
+ghost use Rattle.cm_tool.specs.Writing.{Lists};
 
-use cm_html::listing;
+use cm_html::write_listing;
 use cm_reader::{Fault, read};
-use cm_text::{Limits, Sink, Source, WriteFailed, write_all};
+use cm_text::{Limits, Sink, Source};
 use std::alloc::Global;
 
 /// Writes the listing of the source's tree and of the owners of its lines, and answers its length in
@@ -30,11 +30,5 @@ pub(crate) fn list<R: Source, W: Sink>(
         (record { taken = W.taken sink.new; failed = W.failed sink.new }) }
 {
     let doc = read(alloc, source, limits)?;
-    let Ok(text) = listing(alloc, &doc) else {
-        return Err(Fault::NoMemory);
-    };
-    match write_all(sink, text.as_bytes()) {
-        Ok(()) => Ok(text.len()),
-        Err(WriteFailed { written }) => Err(Fault::WriteFailed { written }),
-    }
+    Ok(write_listing(alloc, &doc, sink)?)
 }

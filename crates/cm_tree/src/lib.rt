@@ -50,12 +50,12 @@
 //! `blocks.iter().any(..)`, one would have to prove by hand that the walk ends.)
 
 mod clones;
-pub mod definitions;
-pub mod depth;
-pub mod items;
+mod definitions;
+mod depth;
+mod items;
 pub mod laws;
-pub mod text;
-pub mod tree;
+mod text;
+mod tree;
 
 pub use definitions::Definitions;
 pub use depth::{block_depth, inline_depth};

@@ -3,12 +3,12 @@
 use crate::cases::Case;
 use crate::listed::listed;
 use crate::trouble::{Trouble, same, wrong};
-use cm_html::{HtmlFault, html, listing, write_html};
+use cm_html::{HtmlFault, html, listing, write_html, write_listing};
 use cm_text::Room;
 use cm_tree::{Block, Doc, block_depth, inline_depth};
 use std::alloc::Global;
 
-// Writers fail behind each byte of HTML that is no longer than this.
+// Writers fail behind each byte of an output that is no longer than this.
 const SHORT: usize = 200;
 
 // How deep the inlines of the first block nest.
@@ -20,16 +20,26 @@ fn depth_of_inlines(doc: &Doc) -> usize {
     }
 }
 
+// What is written of a tree.
+#[derive(Clone, Copy)]
+enum Output {
+    Html,
+    Listing,
+}
+
 // That a writer which takes so much, at most so much a call, is told of as it should be.
 fn is_written(
     alloc: Global,
-    doc: &Doc,
-    whole: &[u8],
+    (doc, output, whole): (&Doc, Output, &[u8]),
     capacity: usize,
     at_most: usize,
 ) -> Result<(), Trouble> {
     let mut room = Room::new(alloc, capacity, at_most)?;
-    let told = match write_html(alloc, doc, &mut room) {
+    let answer = match output {
+        Output::Html => write_html(alloc, doc, &mut room),
+        Output::Listing => write_listing(alloc, doc, &mut room),
+    };
+    let told = match answer {
         Ok(len) if len == whole.len() => len,
         Err(HtmlFault::WriteFailed { written }) if written < whole.len() => written,
         Err(HtmlFault::NoMemory) => return Err(Trouble::NoMemory),
@@ -41,18 +51,17 @@ fn is_written(
         return Err(wrong(alloc, "what went out is told wrong"));
     }
     let front = whole.get(..wanted).unwrap_or(whole);
-    same(alloc, "HTML", front, room.taken())
+    same(alloc, "output", front, room.taken())
 }
 
-// That the tree has this HTML, also where writes fail.
-fn has_html(alloc: Global, doc: &Doc, whole: &[u8]) -> Result<(), Trouble> {
-    same(alloc, "HTML", whole, html(alloc, doc)?.as_bytes())?;
+// That the tree is written so, also where writes fail.
+fn has_output(alloc: Global, doc: &Doc, output: Output, whole: &[u8]) -> Result<(), Trouble> {
     if whole.len() > SHORT {
-        return is_written(alloc, doc, whole, whole.len(), whole.len());
+        return is_written(alloc, (doc, output, whole), whole.len(), whole.len());
     }
     for capacity in 0..whole.len().saturating_add(1) {
         for at_most in [0, 1, SHORT] {
-            is_written(alloc, doc, whole, capacity, at_most)?;
+            is_written(alloc, (doc, output, whole), capacity, at_most)?;
         }
     }
     Ok(())
@@ -65,8 +74,15 @@ pub(crate) fn agrees(alloc: Global, case: &Case) -> Result<Doc, Trouble> {
     let doc = listed(alloc, text)?;
     let got = listing(alloc, &doc)?;
     same(alloc, "listing", text.as_bytes(), got.as_bytes())?;
+    has_output(alloc, &doc, Output::Listing, text.as_bytes())?;
     if let Some(whole) = case.bytes("html")? {
-        has_html(alloc, &doc, whole.as_slice())?;
+        same(
+            alloc,
+            "HTML",
+            whole.as_slice(),
+            html(alloc, &doc)?.as_bytes(),
+        )?;
+        has_output(alloc, &doc, Output::Html, whole.as_slice())?;
     }
     let depth = block_depth(doc.blocks.as_slice());
     let of_inlines = depth_of_inlines(&doc);

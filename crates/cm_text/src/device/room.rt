@@ -45,7 +45,7 @@ impl Room {
 }
 
 impl Sink for Room {
-    ghost use Rattle.cm_text.specs.Devices.{answer_of, capacity_of, at_most_of};
+    ghost use Rattle.cm_text.specs.Devices.{room_answer, capacity_of, at_most_of};
 
     ghost taken = { λ s. Some s.bytes.items };
 
@@ -58,7 +58,7 @@ impl Sink for Room {
         ensures bytes { WriteAppends (⟦<Room as Sink>⟧.taken self.old) (⟦<Room as Sink>⟧.taken self.new) result bytes.now }
         ensures failures { ⟦<Room as Sink>⟧.failed self.new
             ≡ (if is_ok result then ⟦<Room as Sink>⟧.failed self.old else ⟦<Room as Sink>⟧.failed self.old + 1) }
-        ensures answer { result ≡ answer_of self.old bytes.now }
+        ensures answer { result ≡ room_answer self.old bytes.now }
         ensures capacity { capacity_of self.new ≡ capacity_of self.old }
         ensures at_most { at_most_of self.new ≡ at_most_of self.old }
     {

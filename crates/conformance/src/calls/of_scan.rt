@@ -7,7 +7,8 @@ use crate::trouble::{Trouble, wrong};
 use crate::words::{Word, number};
 use cm_scan::{
     FenceKind, HtmlKind, atx, definition, destination, fence, fence_end, html_end, html_start,
-    is_blank_text, item_marker, label, quote_marker, thematic, title, trim_end, underline,
+    is_blank_text, item_marker, label, quote_marker, thematic, title, trim_end, trim_end_spaces,
+    underline,
 };
 use cm_tree::ListKind;
 
@@ -158,6 +159,7 @@ pub(super) fn answers(answer: &mut Answer, name: &str, given: &[Word]) -> Result
             answer.truth(is_blank_text(text.as_bytes()))?;
         }
         ("trim_end", [Word::Text(text)]) => answer.text(trim_end(text.as_str()))?,
+        ("trim_end_spaces", [Word::Text(text)]) => answer.text(trim_end_spaces(text.as_str()))?,
         (
             "fence_end",
             [

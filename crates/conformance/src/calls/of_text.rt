@@ -4,8 +4,8 @@ use crate::calls::answer::Answer;
 use crate::trouble::{Trouble, wrong};
 use crate::words::{Word, number};
 use cm_text::{
-    Limits, Line, LineFeed, fold_label, indent, is_ascii_punct, is_punct, is_space, reference_at,
-    strip, unescape,
+    Limits, Line, LineFeed, cut_at, fold_label, indent, is_ascii_punct, is_punct, is_space,
+    reference_at, strip, unescape,
 };
 use std::alloc::Global;
 
@@ -90,6 +90,18 @@ fn characters(answer: &mut Answer, text: &str, kind: Kind) -> Result<(), Trouble
     answer.text(found.as_str())
 }
 
+// What stands before an ASCII character, and what stands after it.
+fn cut(answer: &mut Answer, text: &String, at: usize) -> Result<(), Trouble> {
+    match text.as_bytes().get(at) {
+        Some(b) if *b < 128 => {
+            let (before, after) = cut_at(text.as_str(), at);
+            answer.text(before)?;
+            answer.text(after)
+        }
+        _ => Err(wrong(answer.alloc, "there is no ASCII character")),
+    }
+}
+
 // A reference: what it stands for, and its end.
 fn reference(answer: &mut Answer, text: &String, at: usize) -> Result<(), Trouble> {
     if !text.is_char_boundary(at) {
@@ -156,6 +168,9 @@ pub(super) fn answers(answer: &mut Answer, name: &str, given: &[Word]) -> Result
         ("strip", [Word::Plain(column), Word::Text(text), Word::Plain(columns)]) => {
             let line = line_at(alloc, number(alloc, column.as_str())?, text.as_str())?;
             stripped(answer, &line, number(alloc, columns.as_str())?)?;
+        }
+        ("cut_at", [Word::Text(text), Word::Plain(at)]) => {
+            cut(answer, text, number(alloc, at.as_str())?)?;
         }
         ("reference_at", [Word::Text(text), Word::Plain(at)]) => {
             reference(answer, text, number(alloc, at.as_str())?)?;

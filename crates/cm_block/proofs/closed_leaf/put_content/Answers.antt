@@ -4,7 +4,7 @@ use Rattle.std.proofs.lemmas.Result.{on_ok_weaker}
 use Rattle.cm_tree.specs.declared.tree.Block.TheVariants.{Paragraph, Heading}
 use Rattle.cm_scan.specs.Blocks.{line_feeds, content_leaf}
 use Rattle.cm_block.specs.Level.{block_closes}
-use Rattle.cm_block.specs.Levels.{level_of}
+use Rattle.cm_block.specs.LevelViews.{level_of}
 use Rattle.cm_block.specs.Stack.{close_leaves, own_leaves}
 use Rattle.cm_block.proofs.PutLemmas.{none_closes, none_owns, content_closes, heading_closes, content_owns, heading_owns}
 use Rattle.cm_block.proofs.closed_leaf.put_content.Goals as goal

@@ -1,6 +1,6 @@
 use Rattle.std.proofs.Common.{◌∙◌, sym}
 use Rattle.std.proofs.lemmas.Str.{IsCharBoundary-start}
-use Rattle.cm_block.specs.Levels.{level_of}
+use Rattle.cm_block.specs.LevelViews.{level_of}
 use Rattle.cm_block.proofs.RunLemmas.{next_fewer, next_left, none_left}
 use Rattle.cm_block.proofs.PutLemmas.{definition_closes, definition_owns, nothing_closes, nothing_owns, still_whole, no_longer, some_definition, some_taken}
 use Rattle.cm_block.proofs.closed_leaf.put_definitions.Goals as goal

@@ -3,7 +3,7 @@ use denote.Text.{Utf8}
 use denote.Shadow.{shadow}
 use Rattle.cm_scan.specs.Links.{definitions_of}
 use Rattle.cm_scan.specs.Blocks.{line_count, definition_leaves}
-use Rattle.cm_block.specs.Levels.{level_of}
+use Rattle.cm_block.specs.LevelViews.{level_of}
 use Rattle.cm_block.specs.Stack.{close_leaves, own_leaves}
 use Rattle.cm_block.proofs.closed_leaf.put_definitions.Given as goal
 

@@ -1,7 +1,7 @@
 use Rattle.std.proofs.Common.{◌≤◌, length, string_bytes, sym, ap, ◌∙◌, arith}
 use Rattle.std.proofs.lemmas.Grind.{common_steps}
 use Rattle.cm_scan.specs.Blocks.{content_leaf}
-use Rattle.cm_block.specs.Levels.{level_of}
+use Rattle.cm_block.specs.LevelViews.{level_of}
 use Rattle.cm_block.specs.Stack.{close_leaves, own_leaves}
 use Rattle.cm_block.proofs.PutLemmas.{run_closes, run_owns}
 use Rattle.cm_block.proofs.closed_leaf.put_run.Goals as goal

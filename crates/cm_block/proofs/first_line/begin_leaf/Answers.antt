@@ -1,7 +1,7 @@
 use Rattle.std.proofs.Common.{sym, ap, ◌∙◌}
 use Rattle.cm_text.specs.Views.{line_of}
 use Rattle.cm_block.specs.OpenLeaf.{begin_of_start}
-use Rattle.cm_block.specs.StartViews.{seen}
+use Rattle.cm_block.specs.steps.StartViews.{seen}
 use Rattle.cm_block.proofs.first_line.begin_leaf.Goals as goal
 
 pub returns-in_ok-begin_heading-in-Atx-clause-leaf : goal.returns-in_ok-begin_heading-in-Atx-clause-leaf

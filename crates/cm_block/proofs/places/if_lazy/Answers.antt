@@ -4,7 +4,7 @@ use Rattle.cm_text.specs.Views.{line_of}
 use Rattle.cm_scan.specs.Lines.{as_lazy}
 use Rattle.cm_scan.specs.Starts.{StaysIfOpen, place_if_lazy}
 use Rattle.cm_scan.specs.Laws.{goes_inward}
-use Rattle.cm_block.specs.StartViews.{seen}
+use Rattle.cm_block.specs.steps.StartViews.{seen}
 use Rattle.cm_block.proofs.PlaceLemmas.{lazy_closed, lazy_blank, lazy_other, lazy_stays}
 use Rattle.cm_block.proofs.places.if_lazy.Goals as goal
 

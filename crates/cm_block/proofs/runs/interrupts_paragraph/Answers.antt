@@ -1,6 +1,6 @@
 use Rattle.std.proofs.Common.{◌∙◌, sym, ap, refl, true, false, inl, inr}
 use Rattle.cm_text.specs.Views.{line_of}
-use Rattle.cm_block.specs.StartViews.{seen}
+use Rattle.cm_block.specs.steps.StartViews.{seen}
 use Rattle.cm_block.proofs.NextLineLemmas.{interrupts}
 use Rattle.cm_block.proofs.runs.interrupts_paragraph.Goals as goal
 

@@ -1,5 +1,5 @@
 use Rattle.std.proofs.Common.{◌≡◌, false, drop}
-use Rattle.cm_block.specs.Frames.{quoted_by}
+use Rattle.cm_block.specs.steps.FrameSteps.{quoted_by}
 use Rattle.cm_block.specs.FrameViews.{frames_of}
 use Rattle.cm_block.proofs.stack.has_quote.Given as goal
 

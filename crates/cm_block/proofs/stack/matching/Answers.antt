@@ -1,7 +1,7 @@
 use Rattle.std.proofs.Common.{◌≡◌, suc, ◌∙◌, length, sym, arith, drop, add-one}
 use Rattle.cm_text.specs.Rules.Rules.{profile}
 use Rattle.cm_text.specs.Views.{line_of}
-use Rattle.cm_block.specs.Frames.{matching}
+use Rattle.cm_block.specs.steps.FrameSteps.{matching}
 use Rattle.cm_block.specs.FrameViews.{container_of, frame_of, frames_of}
 use Rattle.cm_block.proofs.Matching.{behind, frames_at, frames_end, match_next, match_stop, match_end, match_lazy, behind_all}
 use Rattle.cm_block.proofs.stack.matching.Goals.{In-Some}

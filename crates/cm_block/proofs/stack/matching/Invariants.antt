@@ -1,7 +1,7 @@
 use Rattle.std.proofs.Common.{◌≡◌, drop}
 use Rattle.cm_text.specs.Rules.Rules.{profile}
 use Rattle.cm_text.specs.Views.{line_of}
-use Rattle.cm_block.specs.Frames.{matching}
+use Rattle.cm_block.specs.steps.FrameSteps.{matching}
 use Rattle.cm_block.specs.FrameViews.{frames_of}
 use Rattle.cm_block.proofs.Matching.{behind}
 use Rattle.cm_block.proofs.stack.matching.Given as goal

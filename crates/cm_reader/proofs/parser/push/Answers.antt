@@ -1,37 +1,42 @@
-use Rattle.std.proofs.Common.{◌∙◌, ap, sym, true≢false}
+use Rattle.std.proofs.Common.{◌≡◌, ◌<◌, ◌+◌, ◌++◌, ℕ, List, refl, arith, length, length-append, get_or, Fits, w8, take-append-drop, sym, ap, ap₂, ◌∙◌}
+use Rattle.std.specs.List.{IsSplitAt}
+use Rattle.std.proofs.lemmas.List.Elements.{All-from_get_or}
 use Rattle.std.proofs.lemmas.Result.{err_from_is_err_and}
-use Rattle.cm_text.specs.Feed.{answer_of}
-use Rattle.cm_reader.proofs.ParserLemmas.{no_fault, stands, push_goes, nothing_settled, text_told, line_told, count_of, ended_of}
+use Rattle.cm_text.specs.Settled.{AreBytes}
+use Rattle.cm_reader.proofs.PartLemmas.{none_pushed, part_pushed, last_part, part_told}
 use Rattle.cm_reader.proofs.parser.push.Goals as goal
 
-pub returns-in_err-hand_over-clause-settled : goal.returns-in_err-hand_over-clause-settled
-returns-in_err-hand_over-clause-settled c =
-    let p = err_from_is_err_and c.from_residual.result c.from_residual.ensures.1 in
-    let pushed = c.push-pushed.ensures in
-    rw (p.1, p.2) (λ limits bytes g.
-    line_told limits c.in_err-hand_over.field-0.0 c.push-pushed.new.self bytes c.args.piece.now (pushed.limit ∙ g.limit) pushed.ended
-    (λ e. true≢false (sym (rw (pushed.answer ∙ ap answer_of e) at c.eq.ensures) ∙ c.if-eq.false))
-    (pushed.stands g.sound bytes (count_of limits bytes) (stands limits _ _ bytes g))
-    (rw g.depth at (c.in_err-hand_over.ensures.told (ended_of limits bytes) g.handed)))
+pub loop-part-init : goal.loop-part-init
+loop-part-init c =
+    record { going = c.requires; limit = refl; count = refl; so_far = none_pushed c.args.feed.now c.args.blocks.now c.args.piece.now }
 
-pub returns-in_err-pushed-clause-settled : goal.returns-in_err-pushed-clause-settled
-returns-in_err-pushed-clause-settled c =
-    let p = err_from_is_err_and c.from_residual-in_err-pushed.result c.from_residual-in_err-pushed.ensures.1 in
-    let pushed = c.push-pushed.ensures in
-    rw (p.1, p.2) (λ limits bytes g.
-    let was = pushed.stands g.sound bytes (count_of limits bytes) (stands limits _ _ bytes g) in
-    text_told limits c.in_err-pushed.field-0.0 c.push-pushed.new.self c.hand_over.new.blocks bytes c.args.piece.now (pushed.limit ∙ g.limit) pushed.ended
-    (λ e. true≢false (sym (rw (pushed.answer ∙ ap answer_of e) at c.eq.ensures) ∙ c.if-eq.false))
-    was (c.in_ok-hand_over.ensures.depth ∙ g.depth) (c.in_ok-hand_over.ensures.handed (ended_of limits bytes) g.handed)
-    (rw (c.in_err-pushed.was, g.limit) at (pushed.settled g.sound bytes (count_of limits bytes) (stands limits _ _ bytes g))))
+are_bytes : (piece : List ℕ) → ((k : ℕ) → Fits w8 (get_or piece k 0)) → AreBytes piece
+are_bytes piece fits = All-from_get_or (λ b. b < 256) piece 0 (λ k within. (fits k).fits)
+
+-- what the piece was cut into
+cut : (rest part behind : List ℕ) → IsSplitAt rest 8192 part behind → rest ≡ part ++ behind
+cut rest part behind is = sym (take-append-drop 8192 rest) ∙ ap₂ (λ x y. x ++ y) (sym is.1) (sym is.2)
+
+pub returns-in_err-push_part-clause-settled : goal.returns-in_err-push_part-clause-settled
+returns-in_err-push_part-clause-settled c =
+    let p = err_from_is_err_and c.from_residual.result c.from_residual.ensures.1 in
+    rw (p.1, p.2) (part_told c.args.feed.now c.args.blocks.now c.args.piece.now c.loop-part.rest.now c.in-Some.part.now c.in-Some.behind.now c.loop-part.feed c.loop-part.blocks
+    c.in_err-push_part.field-0.0 c.loop-part.invariant.so_far (cut c.loop-part.rest.now c.in-Some.part.now c.in-Some.behind.now c.in-Some.ensures.cases)
+    (are_bytes c.args.piece.now c.type_inv.piece) c.in_err-push_part.ensures.settled)
+
+pub loop-part-preserved : goal.loop-part-preserved
+loop-part-preserved c =
+    let i = c.loop-part.invariant in
+    let parts = cut c.loop-part.rest.now c.in-Some.part.now c.in-Some.behind.now c.in-Some.ensures.cases in
+    let total : length c.loop-part.rest.now ≡ length c.in-Some.part.now + length c.in-Some.behind.now = ap length parts ∙ length-append c.in-Some.part.now c.in-Some.behind.now in
+    record {
+      going = c.in_ok-push_part.ensures.going;
+      limit = c.in_ok-push_part.ensures.limit ∙ i.limit;
+      count = omega (arith, total, c.in_ok-push_part.ensures.count, i.count);
+      so_far = part_pushed c.args.feed.now c.args.blocks.now c.args.piece.now c.loop-part.rest.now c.in-Some.part.now c.in-Some.behind.now c.loop-part.feed c.push_part.new.feed
+          c.loop-part.blocks c.push_part.new.blocks i.so_far parts c.in_ok-push_part.ensures.goes;
+    }
 
 pub returns-clause-goes : goal.returns-clause-goes
-returns-clause-goes c = λ limits bytes g.
-    let pushed = c.push-pushed.ensures in
-    let was = pushed.stands g.sound bytes (count_of limits bytes) (stands limits _ _ bytes g) in
-    push_goes limits c.args.feed.now c.push-pushed.new.self c.hand_over.new.feed c.args.blocks.now c.hand_over.new.blocks bytes c.args.piece.now g
-    pushed.limit pushed.ended (no_fault _ _ (sym c.in_ok-pushed.was ∙ pushed.answer)) was
-    c.in_ok-hand_over.ensures.ready (c.in_ok-hand_over.ensures.stands _ _ was) c.in_ok-hand_over.ensures.depth (c.in_ok-hand_over.ensures.handed (ended_of limits bytes) g.handed)
-
-pub returns-clause-settled : goal.returns-clause-settled
-returns-clause-settled c = λ limits bytes g. nothing_settled limits _ _ _ (returns-clause-goes c limits bytes g)
+returns-clause-goes c = last_part c.push_part-2.result c.args.feed.now c.args.blocks.now c.args.piece.now c.loop-part.rest.now c.loop-part.feed c.push_part-2.new.feed
+    c.loop-part.blocks c.push_part-2.new.blocks c.loop-part.invariant.so_far c.push_part-2.ensures.goes

@@ -1,5 +1,5 @@
 use Rattle.std.proofs.Common.{◌∙◌, ◌==◌, sym, ap, arith, get_or, cond}
-use Rattle.cm_scan.specs.LinkSteps.{is_barred}
+use Rattle.cm_scan.specs.steps.LinkSteps.{is_barred}
 use Rattle.cm_scan.proofs.ClosedLemmas.{part-none, part-end, part-stop, part-kept, closes-no_blanks, barred-no_spaces, bool_byte-is, ended}
 use Rattle.cm_scan.proofs.links.closed.Goals as goal
 

@@ -1,5 +1,5 @@
 use Rattle.std.proofs.Common.{◌≡◌, ◌-◌, ◌≤◌, ◌==◌, false, length, drop}
-use Rattle.cm_scan.specs.LinkSteps.{is_barred}
+use Rattle.cm_scan.specs.steps.LinkSteps.{is_barred}
 use Rattle.cm_scan.proofs.ClosedLemmas.{part, ahead_from}
 use Rattle.cm_scan.proofs.links.closed.Given as goal
 

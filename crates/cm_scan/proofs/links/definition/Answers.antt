@@ -2,7 +2,7 @@ use Rattle.std.proofs.Common.{◌∙◌, ◌+◌, ap, drop, option_map, subst, s
 use Rattle.std.specs.Str.{IsCharBoundary}
 use Rattle.std.proofs.lemmas.Str.{IsCharBoundary-after_ascii}
 use Rattle.cm_scan.specs.Words.{begins_with}
-use Rattle.cm_scan.specs.LinkSteps.{definition_with}
+use Rattle.cm_scan.specs.Scanned.{definition_with}
 use Rattle.cm_scan.proofs.ReadingLemmas.{begins-at}
 use Rattle.cm_scan.proofs.DefinitionLemmas.{gap-of, no-label, label-alone, no-destination, whole-definition}
 use Rattle.cm_scan.proofs.links.definition.Goals as goal

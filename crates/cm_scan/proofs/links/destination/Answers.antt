@@ -1,6 +1,6 @@
 use Rattle.std.proofs.Common.{◌∙◌, ap, drop}
 use Rattle.cm_scan.specs.Words.{begins_with}
-use Rattle.cm_scan.specs.LinkSteps.{reading_of}
+use Rattle.cm_scan.specs.Scanned.{reading_of}
 use Rattle.cm_scan.proofs.EnclosedLemmas.{destination-bare, destination-angle}
 use Rattle.cm_scan.proofs.links.destination.Goals as goal
 

@@ -1,7 +1,8 @@
 use Rattle.std.proofs.Common.{◌∙◌, ◌==◌, false, ap, subst, get_or, ◌<◌, arith}
 use Rattle.std.proofs.lemmas.Str.{IsCharBoundary-after_ascii}
 use Rattle.cm_scan.specs.Links.{keep_if, closed_by}
-use Rattle.cm_scan.specs.LinkSteps.{reading_of, fits, is_barred}
+use Rattle.cm_scan.specs.Scanned.{reading_of}
+use Rattle.cm_scan.specs.steps.LinkSteps.{fits, is_barred}
 use Rattle.cm_scan.proofs.ReadingLemmas.{enclosed-none, enclosed-some}
 use Rattle.cm_scan.proofs.links.enclosed.Goals as goal
 

@@ -1,6 +1,6 @@
 use Rattle.std.proofs.Common.{◌∙◌, ap, drop}
 use Rattle.cm_scan.specs.Words.{begins_with}
-use Rattle.cm_scan.specs.LinkSteps.{reading_of}
+use Rattle.cm_scan.specs.Scanned.{reading_of}
 use Rattle.cm_scan.proofs.ReadingLemmas.{label-not_next, label-absent, label-blank, label-some}
 use Rattle.cm_scan.proofs.links.label.Goals as goal
 

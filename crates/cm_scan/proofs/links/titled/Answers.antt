@@ -1,7 +1,7 @@
 use Rattle.std.proofs.Common.{◌≡◌, ◌∙◌, ap, drop, option_map, subst, Some, None}
 use Rattle.cm_scan.specs.Tags.{is_blank_next}
 use Rattle.cm_scan.specs.Links.{after_line}
-use Rattle.cm_scan.specs.LinkSteps.{definition_with}
+use Rattle.cm_scan.specs.Scanned.{definition_with}
 use Rattle.cm_scan.proofs.DefinitionLemmas.{gap-of, titled-no, titled-absent, titled-open, titled-some}
 use Rattle.cm_scan.proofs.links.titled.Goals as goal
 

@@ -1,6 +1,6 @@
 use Rattle.std.proofs.Common.{◌≡◌, ◌∙◌, get_or, true, false, sym, arith}
 use Rattle.std.proofs.lemmas.Grind.{common_steps}
-use Rattle.cm_scan.specs.TagNames.{continues_name}
+use Rattle.cm_scan.specs.steps.TagNames.{continues_name}
 use Rattle.cm_scan.proofs.SkipLemmas.{skip_on, skip_to, skip_all}
 use Rattle.cm_scan.proofs.tags.skip_name.Goals as goal
 

@@ -1,6 +1,6 @@
 use Rattle.std.proofs.Common.{◌≡◌, drop}
 use Rattle.cm_scan.specs.Words.{skip}
-use Rattle.cm_scan.specs.TagNames.{continues_name}
+use Rattle.cm_scan.specs.steps.TagNames.{continues_name}
 use Rattle.cm_scan.proofs.tags.skip_name.Given as goal
 
 abbrev pub invariant-loop-i : goal.invariant-loop-i

@@ -6,7 +6,7 @@ use lib.Utf8.{encode}
 use Rattle.cm_text.proofs.laws.worked_examples.Goals as goal
 
 pub returns-clause-lines : goal.returns-clause-lines
-returns-clause-lines c = record { no_text = refl; no_further_line = refl; unended = refl; line_feed = refl; carriage_return_line_feed = refl; carriage_return = refl; empty_lines = refl; nul = refl }
+returns-clause-lines c = record { no_text = refl; no_further_line = refl; unended = refl; line_feed = refl; carriage_return_line_feed = refl; carriage_return = refl; ended = refl; ended_by_a_carriage_return = refl; none_ended = refl; empty_lines = refl; nul = refl }
 
 pub returns-clause-faults : goal.returns-clause-faults
 unfolding utf8_valid_len utf8_error_len is_utf8 chars encode

@@ -1,5 +1,5 @@
 use Rattle.std.proofs.Common.{◌≡◌, ℕ, ◌<◌, ◌≤◌, ◌-◌}
-use Rattle.cm_text.specs.NameTable.{name_at}
+use Rattle.cm_text.specs.steps.NameTable.{name_at}
 use Rattle.cm_text.proofs.names.place_of.Given as goal
 
 -- the name stands nowhere else

@@ -4,9 +4,10 @@ use Rattle.cm_tree.specs.declared.tree.Block.TheVariants.{Heading, Html}
 use Rattle.cm_scan.specs.Parts.{leaf_block, heading, thematic_break, code, html}
 use Rattle.cm_scan.specs.Blocks.{line_feeds}
 use Rattle.cm_block.specs.Level.{block_closes}
-use Rattle.cm_block.specs.Levels.{level_of}
+use Rattle.cm_block.specs.LevelViews.{level_of}
 use Rattle.cm_block.specs.Stack.{close_leaves, own_leaves}
-use Rattle.cm_block.specs.LeafViews.{ended, fence_lines, leaves_of_closed, own_plain_leaf}
+use Rattle.cm_block.specs.LeafViews.{ended}
+use Rattle.cm_block.specs.steps.LeafSteps.{fence_lines, leaves_of_closed, own_plain_leaf}
 use Rattle.cm_block.proofs.PutLemmas.{none_closes, none_owns, one_closes, one_owns}
 use Rattle.cm_block.proofs.closed_leaf.ClosedLeaf.put.Goals as goal
 

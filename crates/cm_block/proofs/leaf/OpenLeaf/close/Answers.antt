@@ -1,5 +1,5 @@
 use Rattle.std.proofs.Common.{◌∙◌, ap}
-use Rattle.cm_block.specs.LeafViews.{leaves_of_closed}
+use Rattle.cm_block.specs.steps.LeafSteps.{leaves_of_closed}
 use Rattle.cm_block.proofs.LeafLemmas.{closes}
 use Rattle.cm_block.proofs.leaf.OpenLeaf.close.Goals as goal
 

@@ -7,7 +7,8 @@ use Rattle.cm_scan.specs.HtmlKinds.{kind_of}
 use Rattle.cm_scan.specs.Parts.{html}
 use Rattle.cm_scan.specs.Blocks.{line_feeds, next_line}
 use Rattle.cm_block.specs.OpenLeaf.{open_text, open_fence, open_html, stays_open, is_last, line_of_leaf}
-use Rattle.cm_block.specs.LeafViews.{ended, leaf_of, taken_of}
+use Rattle.cm_block.specs.LeafViews.{ended, leaf_of}
+use Rattle.cm_block.specs.steps.LeafSteps.{taken_of}
 use Rattle.cm_block.proofs.LeafLemmas.{no_line, text_line, fence_line, html_out, html_line, one_more}
 use Rattle.cm_block.proofs.leaf.OpenLeaf.take_line.Goals as goal
 

@@ -4,10 +4,11 @@ use Rattle.cm_text.specs.Lines.{LineView}
 use Rattle.cm_text.specs.Rules.Rules.{profile}
 use Rattle.cm_text.specs.Views.{line_of}
 use Rattle.cm_text.specs.Limits.{LimitsView}
-use Rattle.cm_block.specs.Frames.{matching}
+use Rattle.cm_block.specs.steps.FrameSteps.{matching}
 use Rattle.cm_block.specs.FrameViews.{frames_of}
-use Rattle.cm_block.specs.Begins.{begun, DeepIn}
-use Rattle.cm_block.specs.Parser.{stack_of, Deep}
+use Rattle.cm_block.specs.steps.FrameStarts.{begun, DeepIn}
+use Rattle.cm_block.specs.Parser.{stack_of}
+use Rattle.cm_block.specs.steps.ParserSteps.{Deep}
 use Rattle.cm_block.proofs.Matching.{length_frames}
 use Rattle.cm_block.proofs.ParserLemmas.{accept_taken, accept_left, begun_after, owners_after, deep_after, matched_few}
 use Rattle.cm_block.proofs.parser.BlockParser.accept.Goals as goal

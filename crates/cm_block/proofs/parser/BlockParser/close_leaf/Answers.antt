@@ -1,9 +1,10 @@
 use Rattle.std.proofs.Common.{◌∙◌, false, ap}
 use Rattle.cm_block.specs.OpenLeaf.{closed_leaves, blank_lines_behind}
-use Rattle.cm_block.specs.Levels.{level_of}
-use Rattle.cm_block.specs.Frames.{quoted_by}
+use Rattle.cm_block.specs.LevelViews.{level_of}
+use Rattle.cm_block.specs.steps.FrameSteps.{quoted_by}
 use Rattle.cm_block.specs.FrameViews.{frames_of}
-use Rattle.cm_block.specs.LeafViews.{leaf_of, leaves_of_closed}
+use Rattle.cm_block.specs.LeafViews.{leaf_of}
+use Rattle.cm_block.specs.steps.LeafSteps.{leaves_of_closed}
 use Rattle.cm_block.proofs.ParserLemmas.{level_with_blanks, level_without, owners_with_blanks, owners_without}
 use Rattle.cm_block.proofs.parser.BlockParser.close_leaf.Goals as goal
 

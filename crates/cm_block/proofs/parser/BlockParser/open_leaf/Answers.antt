@@ -3,12 +3,13 @@ use Rattle.std.specs.Option.{IfSome}
 use Rattle.cm_text.specs.Views.{line_of}
 use Rattle.cm_block.specs.OpenLeaf.{stays_open, is_last, begins_leaf, begin_of_start}
 use Rattle.cm_block.specs.Level.{block_opens}
-use Rattle.cm_block.specs.Levels.{level_of}
+use Rattle.cm_block.specs.LevelViews.{level_of}
 use Rattle.cm_block.specs.Stack.{close_leaves}
 use Rattle.cm_block.specs.FrameViews.{frames_of}
-use Rattle.cm_block.specs.LeafViews.{leaf_of, leaves_of_closed}
-use Rattle.cm_block.specs.StartViews.{seen}
-use Rattle.cm_block.specs.FirstLines.{first_of}
+use Rattle.cm_block.specs.LeafViews.{leaf_of}
+use Rattle.cm_block.specs.steps.LeafSteps.{leaves_of_closed}
+use Rattle.cm_block.specs.steps.StartViews.{seen}
+use Rattle.cm_block.specs.steps.FirstLines.{first_of}
 use Rattle.cm_block.proofs.ParserLemmas.{stack_stays, stack_ends}
 use Rattle.cm_block.proofs.parser.BlockParser.open_leaf.Goals as goal
 

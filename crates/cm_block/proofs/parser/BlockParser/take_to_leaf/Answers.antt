@@ -1,8 +1,9 @@
 use Rattle.std.proofs.Common.{◌∙◌, sym, ap, refl, arith}
 use Rattle.cm_block.specs.OpenLeaf.{stays_open, is_last}
-use Rattle.cm_block.specs.Levels.{level_of}
+use Rattle.cm_block.specs.LevelViews.{level_of}
 use Rattle.cm_block.specs.FrameViews.{frames_of}
-use Rattle.cm_block.specs.LeafViews.{leaf_of, leaves_of_closed, taken_of, left_open}
+use Rattle.cm_block.specs.LeafViews.{leaf_of}
+use Rattle.cm_block.specs.steps.LeafSteps.{leaves_of_closed, taken_of, left_open}
 use Rattle.cm_block.proofs.ParserLemmas.{stack_stays, stack_ends}
 use Rattle.cm_block.proofs.parser.BlockParser.take_to_leaf.Goals as goal
 

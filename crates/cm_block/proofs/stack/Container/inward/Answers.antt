@@ -1,7 +1,7 @@
 use Rattle.cm_text.specs.Rules.Rules.{profile}
 use Rattle.std.proofs.Common.{◌∙◌, sym, ap}
 use Rattle.cm_text.specs.Views.{line_of}
-use Rattle.cm_block.specs.Frames.{inward}
+use Rattle.cm_block.specs.steps.FrameSteps.{inward}
 use Rattle.cm_block.specs.FrameViews.{container_of}
 use Rattle.cm_block.proofs.stack.Container.inward.Goals as goal
 

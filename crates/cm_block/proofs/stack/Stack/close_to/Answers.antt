@@ -1,7 +1,7 @@
 use Rattle.std.proofs.Common.{◌≡◌, ◌≤◌, [], ◌∷◌, ◌++◌, ◌∙◌, length, length-append, sym, ap, arith, drop, take, subst}
-use Rattle.cm_block.specs.Frames.{close_frames}
+use Rattle.cm_block.specs.steps.FrameSteps.{close_frames}
 use Rattle.cm_block.specs.FrameViews.{frame_of, frames_of}
-use Rattle.cm_block.specs.Levels.{level_of}
+use Rattle.cm_block.specs.LevelViews.{level_of}
 use Rattle.cm_block.proofs.Matching.{frames_end, frames_last, take_last, closed_last, length_frames}
 use Rattle.cm_block.proofs.stack.Stack.close_to.Goals as goal
 

@@ -1,6 +1,6 @@
 use Rattle.std.proofs.Common.{◌≡◌, ◌≤◌, ◌-◌, length, drop, take}
-use Rattle.cm_block.specs.Frames.{close_frames}
-use Rattle.cm_block.specs.Levels.{level_of}
+use Rattle.cm_block.specs.steps.FrameSteps.{close_frames}
+use Rattle.cm_block.specs.LevelViews.{level_of}
 use Rattle.cm_block.specs.FrameViews.{frames_of}
 use Rattle.cm_block.proofs.stack.Stack.close_to.Given as goal
 

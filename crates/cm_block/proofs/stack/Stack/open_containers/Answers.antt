@@ -1,12 +1,12 @@
 use Rattle.std.proofs.Common.{◌∙◌, sym, ap, arith}
 use Rattle.cm_text.specs.Views.{line_of}
 use Rattle.cm_scan.specs.Lines.{is_blank}
-use Rattle.cm_block.specs.PlaceViews.{begins_quote, marker_of}
-use Rattle.cm_block.specs.StartViews.{seen}
-use Rattle.cm_block.specs.Levels.{level_of}
+use Rattle.cm_block.specs.steps.PlaceViews.{begins_quote, seen_marker}
+use Rattle.cm_block.specs.steps.StartViews.{seen}
+use Rattle.cm_block.specs.LevelViews.{level_of}
 use Rattle.cm_block.specs.FrameViews.{frames_of}
 use Rattle.cm_block.proofs.Matching.{length_frames}
-use Rattle.cm_block.proofs.Begun.{left_blank, left_some, leaf_next, quote_next, not_bare, stays_left, item_left, no_container, left_deep}
+use Rattle.cm_block.proofs.OpenedInTurn.{left_blank, left_some, leaf_next, quote_next, not_bare, stays_left, item_left, no_container, left_deep}
 use Rattle.cm_block.specs.Stack.{Stack}
 use Rattle.cm_block.specs.Depths.{nesting}
 use Rattle.cm_block.proofs.stack.Stack.open_containers.Goals as goal
@@ -67,7 +67,7 @@ loop-line-preserved c =
           c.loop-line.invariant.left owned
           ∙ left_some s.bare (frames_of s.frames) (level_of s.level) line owned plain
           ∙ item_left c.is_blank-self.result (frames_of s.frames) (frames_of c.open_item.new.self.frames) (level_of s.level) (level_of c.open_item.new.self.level) line owned
-          (marker_of c.in-Item.marker) inner c.item_content-column.result.0 some (sym c.start_of-start.ensures ∙ ap seen c.in-Item.is) c.item_content-column.ensures.first c.item_content-column.ensures.column c.is_blank-self.ensures
+          (seen_marker c.in-Item.marker) inner c.item_content-column.result.0 some (sym c.start_of-start.ensures ∙ ap seen c.in-Item.is) c.item_content-column.ensures.first c.item_content-column.ensures.column c.is_blank-self.ensures
           c.in_ok-open_item.ensures.frames c.in_ok-open_item.ensures.level;
     }
 

@@ -2,7 +2,7 @@ use Rattle.std.proofs.Common.{◌≡◌, ◌+◌, ◌-◌, true, length}
 use Rattle.cm_text.specs.Views.{line_of}
 use Rattle.cm_scan.specs.Lines.{is_blank}
 use Rattle.cm_block.specs.Stack.{Owned}
-use Rattle.cm_block.specs.Begins.{begun, left_of}
+use Rattle.cm_block.specs.steps.FrameStarts.{begun, left_of}
 use Rattle.cm_block.proofs.stack.Stack.open_containers.Given as goal
 
 -- what is left in the innermost container comes to the same

@@ -5,7 +5,7 @@ use Rattle.memchr.specs.Find.{IsFirstByte, is_byte3}
 use Rattle.cm_text.specs.Lines.{text_of}
 use Rattle.cm_text.specs.Cut.{cut_of, cut_more}
 use Rattle.cm_text.proofs.CutLemmas.{on_err, front_of, IsCutAt, cut_run, cut_special, plain_before, plain_whole, slice_from_start, special_is_ascii}
-use Rattle.cm_text.specs.Runs.{is_special}
+use Rattle.cm_text.specs.steps.Runs.{is_special}
 use Rattle.cm_text.proofs.cutter.Cutter.take.Goals as goal
 
 pub put_run-requires : goal.put_run-requires

@@ -1,0 +1,48 @@
+-- Steps of the code over the open containers in a row.
+use Rattle.std.specs.Prelude.{ℕ, suc, Bool, true, false, ◌&&◌, List, [], ◌∷◌, Option, Some, None}
+use Rattle.cm_text.specs.Rules.{Rules}
+use Rattle.cm_text.specs.Lines.{LineView}
+use Rattle.cm_tree.specs.declared.tree.ListKind.{ListKind}
+use Rattle.cm_tree.specs.declared.tree.Block.TheVariants.{Quote}
+use Rattle.cm_scan.specs.Starts.{Place, place_in_quote, place_in_item}
+use Rattle.cm_scan.specs.Laws.{goes_inward}
+use Rattle.cm_block.specs.OpenLeaf.{OpenLeaf}
+use Rattle.cm_block.specs.Machine.{Open, in_leaf, in_quote, in_item}
+use Rattle.cm_block.specs.Level.{Level, closed_blocks, block_closes, item_closes}
+use Rattle.cm_block.specs.Stack.{Owned, Stack, stack, item_of}
+use Rattle.cm_block.specs.Frames.{a_quote, an_item, Container, Frame, is_last}
+
+abbrev pub place_in : Rules → Container → (bare : Bool) → LineView → Place
+place_in rules a_quote bare line = place_in_quote rules line
+place_in rules (an_item kind column) bare line = place_in_item rules column bare line
+
+-- the line as it goes into the container, if it stays there
+unfoldable pub inward : Rules → Container → (bare open_text : Bool) → LineView → Option LineView
+inward rules container bare open_text line = goes_inward (place_in rules container bare line) open_text
+
+-- how many of the containers the line stays in, and the line as it goes into the last of these
+unfoldable pub matching : Rules → (bare open_text : Bool) → List Frame → LineView → ℕ × LineView
+matching rules bare open_text [] line = (0, line)
+matching rules bare open_text (f ∷ fs) line = elim (inward rules f.container (bare && is_last fs) open_text line) [
+  | Some inner ↦ let inside = matching rules bare open_text fs inner in (suc inside.0, inside.1)
+  | None ↦ (0, line)
+]
+
+abbrev pub quoted_in : Container → Bool → Bool
+quoted_in a_quote quoted = true
+quoted_in (an_item kind column) quoted = quoted
+
+-- inside a quote, where these containers stand in one or not
+unfoldable pub quoted_by : Bool → List Frame → Bool
+quoted_by quoted [] = quoted
+quoted_by quoted (f ∷ fs) = quoted_by (quoted_in f.container quoted) fs
+
+-- the level in which the container stands, once that is closed
+abbrev pub close_container : Container → Level → Level → Level
+close_container a_quote outside inside = block_closes outside (Quote (closed_blocks inside))
+close_container (an_item kind column) outside inside = item_closes outside (item_of inside)
+
+-- the level in which the first of these containers stands, once all are closed
+unfoldable pub close_frames : List Frame → Level → Level
+close_frames [] level = level
+close_frames (f ∷ fs) level = close_container f.container f.level (close_frames fs level)

@@ -1,0 +1,33 @@
+-- Steps of the parser.
+use Rattle.std.specs.Prelude.{◌≡◌, ℕ, suc, ◌<◌, ◌≤◌, Bool, true, false, List, length, Option, Some, None, Result, Ok, Err, ⊤}
+use Rattle.cm_text.specs.Rules.Rules.{profile}
+use Rattle.cm_text.specs.Lines.{LineView}
+use Rattle.cm_scan.specs.Blocks.{blocks_of, owners_of, reference_table, first_too_deep}
+use Rattle.cm_scan.specs.Laws.{AreLines}
+use Rattle.cm_block.specs.declared.parser.BlockParser as code
+use Rattle.cm_block.specs.declared.parser.Outline.{Outline}
+use Rattle.cm_block.specs.declared.fault.BlockFault.{BlockFault}
+use Rattle.cm_block.specs.declared.fault.BlockFault.TheVariants.{BlocksTooDeep, NoMemory}
+use Rattle.cm_block.specs.LevelViews.{level_of}
+use Rattle.cm_block.specs.Stack.{Stack, empty_stack, close_stack, push_leaf_line, push_line, push_lines}
+use Rattle.cm_block.specs.Depths.{nesting}
+use Rattle.cm_block.specs.Frames.{within, stack_with}
+use Rattle.cm_block.specs.OpenLeaf.{LeafLine, line_of_leaf}
+use Rattle.cm_block.specs.FrameViews.{frames_of}
+use Rattle.cm_block.specs.LeafViews.{leaf_of}
+use Rattle.cm_block.specs.Parser.{stack_of}
+
+-- one more line behind this stack is too deep, and it is the next
+abbrev pub Deep : BlockFault → ℕ → Stack → LineView → Type 0
+Deep (BlocksTooDeep n) limit before line = (limit < nesting (push_line profile before line).now) × (n ≡ suc (length (close_stack before).owners))
+Deep NoMemory limit before line = ⊤
+
+-- A line that stays in so many containers is one of the open leaf, or not: it stays in all then.
+abbrev pub TakenToLeaf : Bool → ℕ → code.BlockParser → LineView → code.BlockParser → Type 0
+TakenToLeaf true depth before line now =
+    (length before.stack.frames ≤ depth)
+    × ((l : LeafLine) × ((line_of_leaf profile (leaf_of before.leaf) line ≡ Some l)
+    × (stack_of now ≡ within (frames_of before.stack.frames) (push_leaf_line before.owners (level_of before.stack.level) l))))
+TakenToLeaf false depth before line now =
+    (length before.stack.frames ≤ depth → line_of_leaf profile (leaf_of before.leaf) line ≡ None)
+    × ((leaf_of now.leaf ≡ leaf_of before.leaf) × ((now.stack ≡ before.stack) × (now.owners ≡ before.owners)))

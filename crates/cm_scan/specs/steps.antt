@@ -1,0 +1,3 @@
+pub mod LineSteps
+pub mod TagNames
+pub mod LinkSteps

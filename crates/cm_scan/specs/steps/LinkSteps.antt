@@ -1,0 +1,44 @@
+-- The steps that the scanners of link reference definitions take.
+use Rattle.std.specs.Prelude.{ℕ, suc, Bool, true, false, not, ◌&&◌, ◌||◌, List, drop, Option, Some, None, if◌then◌else◌, option_map, ◌==◌, nat_le}
+use Rattle.std.specs.Borrow.{Bor}
+use Rattle.std.specs.List.{slice_range}
+use Rattle.cm_text.specs.Characters.{within}
+use Rattle.cm_scan.specs.Words.{is_control, begins_with, trim_start}
+use Rattle.cm_scan.specs.Links.{Reading, LinkDefinition, characters, has_no_blank_line}
+
+-- the part between two places, of which a closing byte stands at the second
+abbrev pub closed_at : List ℕ → ℕ → Option ℕ → Option Reading
+closed_at text from end = option_map (λ e. record { text = slice_range text from e; rest = drop (suc e) text }) end
+
+-- the part between two places
+abbrev pub ended_at : List ℕ → ℕ → Option ℕ → Option Reading
+ended_at text from end = option_map (λ e. record { text = slice_range text from e; rest = drop e text }) end
+
+-- the byte that ends the title which a byte begins
+abbrev pub title_end : ℕ → Option ℕ
+title_end b = if b == 34 then Some 34 else (if b == 39 then Some 39 else (if b == 40 then Some 41 else None))
+
+-- a byte with which a bare destination ends
+abbrev pub ends_bare : ℕ → ℕ → Bool
+ends_bare opened b = b == 32 || is_control b || (b == 41 && opened == 0)
+
+-- a byte that begins a character
+abbrev pub begins_character : ℕ → Bool
+begins_character b = not (within 128 191 b)
+
+-- what a part between brackets may not hold unescaped
+abbrev pub is_barred : ℕ → (one_line : Bool) → ℕ → Bool
+is_barred open_byte true b = b == open_byte || b == 10
+is_barred open_byte false b = b == open_byte
+
+-- at most so many characters, and no blank line save where those may stand
+abbrev pub fits : ℕ → (blank_lines : Bool) → Reading → Bool
+fits most blank_lines r = nat_le (characters r.text) most && (blank_lines || has_no_blank_line r)
+
+-- a line feed with which a blank line begins
+abbrev pub blank_follows : ℕ → List ℕ → Bool
+blank_follows b bs = b == 10 && begins_with 10 (trim_start bs)
+
+-- a byte that no part can hold: one that may not stand there, one character too many, or a line feed before a blank line
+abbrev pub is_refused : ℕ → (blank_lines barred : Bool) → ℕ → List ℕ → Bool
+is_refused left blank_lines barred b bs = barred || (left == 0 && begins_character b) || (not blank_lines && blank_follows b bs)

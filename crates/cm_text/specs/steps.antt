@@ -1,0 +1,4 @@
+pub mod FeedSteps
+pub mod LabelSteps
+pub mod NameTable
+pub mod Runs
