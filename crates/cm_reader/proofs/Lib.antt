@@ -1,4 +1,5 @@
 pub mod InlineLemmas
+pub mod OwnerLemmas
 pub mod EndedLemmas
 pub mod SettledLemmas
 pub mod ParserLemmas

@@ -15,7 +15,7 @@ use Rattle.cm_block.proofs.Depths.{too_deep_stays}
 use Rattle.cm_reader.specs.declared.fault.Fault.TheVariants.{BlocksTooDeep}
 use Rattle.cm_reader.specs.Fault.{told}
 use Rattle.cm_reader.specs.Faults.{too_deep, sound_front, ended_too_deep, fault_by}
-use Rattle.cm_reader.specs.steps.FaultOrder.{ended_deep, all_deep, of_three, fault_met, settled_fault_met, FaultsInOrder}
+use Rattle.cm_reader.specs.steps.FaultOrder.{ended_deep, all_deep, of_three, fault_met, FaultsInOrder}
 use Rattle.cm_reader.proofs.EndedLemmas.{all_are_lines}
 
 module _ (limits : LimitsView) (bytes : List ℕ) where

@@ -12,7 +12,7 @@ use Rattle.cm_text.specs.declared.fault.TextFault.{TextFault}
 use Rattle.cm_text.specs.declared.fault.TextFault.TheVariants as text
 use Rattle.cm_text.specs.Rules.Rules.{profile}
 use Rattle.cm_text.specs.Limits.{LimitsView}
-use Rattle.cm_text.specs.Lines.{LineView, text_of, plain_lines_of}
+use Rattle.cm_text.specs.Lines.{LineView, text_of}
 use Rattle.cm_text.specs.Cut.{Cut, cut_more, nothing_cut}
 use Rattle.cm_text.specs.Faults.{left_of, valid_len, after_valid, settled_fault, text_fault}
 use Rattle.cm_text.specs.Feed.{cut_valid, cut_bytes}

@@ -4,5 +4,6 @@ pub mod Fault
 pub mod Faults
 pub mod Examples
 pub mod Reading
+pub mod Owners
 pub mod Parsing
 pub mod steps

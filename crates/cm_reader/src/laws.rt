@@ -1,6 +1,7 @@
 //! Laws of the definitions.
 ghost use Rattle.cm_reader.specs.Examples.{Examples};
 ghost use Rattle.cm_reader.specs.Faults.{SettledIsTold};
+ghost use Rattle.cm_reader.specs.Owners.{OneOwnerALine, RunsInOrder};
 ghost use Rattle.cm_reader.specs.steps.FaultOrder.{FaultsInOrder};
 
 /// Worked examples of faults and inlines, by computation.
@@ -17,4 +18,12 @@ pub fn faults_in_order()
 /// A parser tells a fault just where every input that begins with the bytes so far has it.
 pub fn settled_is_told()
     ensures { SettledIsTold }
+{}
+
+/// Each line of a text has one owner in its document, and the leaves of the document's tree are those that
+/// the lines name: each leaf's lines are one nonempty unbroken run, and the runs stand in the order of the
+/// leaves' numbers.
+pub fn owners_of_lines()
+    ensures one_a_line { OneOwnerALine }
+    ensures runs { RunsInOrder }
 {}

@@ -20,10 +20,11 @@ use Rattle.cm_scan.specs.Blocks.{code_line, quote_parts, item_parts, fence_parts
 use Rattle.cm_scan.specs.Parts.{line_owners}
 use Rattle.cm_scan.specs.Lines.{size}
 use Rattle.cm_scan.specs.Laws.{OneOwnerALine, RunsInOrder}
-use Rattle.cm_scan.proofs.Sizes.{by_place, marks-behind_quote_marker, marks-first_content, keeps-quote, keeps-item, size-fenced, size-html_lines, size-indented, size-text_run, size-following, size-inner}
+use Rattle.cm_scan.proofs.Sizes.{by_place, marks-behind_quote_marker, marks-first_content, keeps-quote, keeps-item, size-fenced, size-html_lines, size-indented, size-text_run, size-following, size-inner, some-inner}
 use Rattle.cm_scan.proofs.Cases.{no_lines, blank_case, starting}
 use Rattle.cm_scan.proofs.Feeds.{feeds-skip, takes_a_line}
-use Rattle.cm_scan.proofs.Owners.{line_total, items_total, Full, AllFull, one_owner_a_line, leaves_in_order, tree-leaves}
+use Rattle.cm_scan.specs.Looseness.{line_total, items_total, HaveLines, ItemsHaveLines, PartsHaveLines}
+use Rattle.cm_scan.proofs.Owners.{one_owner_a_line, leaves_in_order, tree-leaves}
 
 -- lines without line feeds
 
@@ -475,10 +476,10 @@ unfolding put_leaves line_total lines_of_leaves
 leaves-count [] p = omega arith
 leaves-count (x ∷ xs) p = omega (arith, leaves-count xs p)
 
-leaves-full : (xs : List (LeafPart × ℕ)) (p : Parts) → AllSome xs → Full p → Full (put_leaves xs p)
-unfolding put_leaves Full AllSome
-leaves-full [] p h k = k
-leaves-full (x ∷ xs) p h k = (h.0, leaves-full xs p h.1 k)
+leaves-have : (xs : List (LeafPart × ℕ)) (p : Parts) → AllSome xs → HaveLines p → HaveLines (put_leaves xs p)
+unfolding put_leaves HaveLines AllSome
+leaves-have [] p h k = k
+leaves-have (x ∷ xs) p h k = (h.0, leaves-have xs p h.1 k)
 
 -- an item in front of what follows it
 
@@ -496,16 +497,16 @@ next-count kind n (leaf x lines rest) = tt
 next-count kind n (quote inside rest) = tt
 next-count kind n (list other items rest) = grind arith
 
-abbrev AllFullOn : Option Following → Type 0
-AllFullOn found = IfSome found (λ (f : Following). AllFull f.1 × Full f.2)
+abbrev ItemsHaveLinesOn : Option Following → Type 0
+ItemsHaveLinesOn found = IfSome found (λ (f : Following). ItemsHaveLines f.1 × HaveLines f.2)
 
-next-full : (kind : ListKind) (n : ℕ) (p : Parts) → Full p → AllFullOn (next_items kind n p)
-unfolding next_items Full
-next-full kind n none h = tt
-next-full kind n (blank rest) h = next-full kind (suc n) rest h
-next-full kind n (leaf x lines rest) h = tt
-next-full kind n (quote inside rest) h = tt
-next-full kind n (list other items rest) h = grind (arith, h)
+next-have : (kind : ListKind) (n : ℕ) (p : Parts) → HaveLines p → ItemsHaveLinesOn (next_items kind n p)
+unfolding next_items HaveLines
+next-have kind n none h = tt
+next-have kind n (blank rest) h = next-have kind (suc n) rest h
+next-have kind n (leaf x lines rest) h = tt
+next-have kind n (quote inside rest) h = tt
+next-have kind n (list other items rest) h = grind (arith, h)
 
 item-count : (kind : ListKind) (inside p : Parts) → line_total (put_item kind inside p) ≡ line_total inside + line_total p
 unfolding put_item line_total items_total
@@ -515,19 +516,19 @@ item-count kind inside p = go (next_items kind 0 p) (next-count kind 0 p)
     go None h = omega arith
     go (Some f) h = omega (arith, h)
 
-item-full : (kind : ListKind) (inside p : Parts) → Full inside → Full p → Full (put_item kind inside p)
-unfolding put_item Full AllFull
-item-full kind inside p h k = go (next_items kind 0 p) (next-full kind 0 p k)
+item-have : (kind : ListKind) (inside p : Parts) → 0 < line_total inside → HaveLines inside → HaveLines p → HaveLines (put_item kind inside p)
+unfolding put_item HaveLines ItemsHaveLines
+item-have kind inside p some h k = go (next_items kind 0 p) (next-have kind 0 p k)
   where
-    go : (found : Option Following) → AllFullOn found → Full (put_before kind inside p found)
-    go None l = (h, k)
-    go (Some f) l = ((h, l.0), l.1)
+    go : (found : Option Following) → ItemsHaveLinesOn found → HaveLines (put_before kind inside p found)
+    go None l = ((some, h), k)
+    go (Some f) l = ((some, h, l.0), l.1)
 
 -- all lines
 
 -- parts that have just these lines, where each leaf has one at least
 abbrev Good : Parts → ℕ → Type 0
-Good p n = (line_total p ≡ n) × Full p
+Good p n = (line_total p ≡ n) × HaveLines p
 
 module _ (rules : Rules) (line : LineView) (lines : List LineView) (plain : Plain (line ∷ lines)) (firm : is_blank line ≡ false)
     (good : (ls : List LineView) → size ls < size (line ∷ lines) → Plain ls → Good (parts_of rules ls) (length ls)) where
@@ -538,7 +539,7 @@ module _ (rules : Rules) (line : LineView) (lines : List LineView) (plain : Plai
   -- a leaf of so many lines, and what follows it
   good-leaf : (x : LeafPart) (n : ℕ) (following : List LineView) → 0 < n → size following < size (line ∷ lines) → Plain following
       → n + length following ≡ suc (length lines) → Good (leaf x n (parts_of rules following)) (suc (length lines))
-  unfolding line_total Full
+  unfolding line_total HaveLines
   good-leaf x n following some less p counted = let g = good following less p in (omega (arith, g.0, counted), (some, g.1))
 
   good-one : (x : LeafPart) → Good (leaf x 1 (parts_of rules lines)) (suc (length lines))
@@ -580,11 +581,11 @@ module _ (rules : Rules) (line : LineView) (lines : List LineView) (plain : Plai
       let g = good run.following (omega (arith, less)) r.plain in
       let none : line_feeds (content_of line) ≡ 0 = zero-le _ _ (feeds-skip is_space_or_tab line.text) plain.0 in (
         omega (arith, leaves-count (leaves_of_run run) (parts_of rules run.following), run-count _ run r, g.0, none),
-        leaves-full (leaves_of_run run) (parts_of rules run.following) (run-some run) g.1,
+        leaves-have (leaves_of_run run) (parts_of rules run.following) (run-some run) g.1,
       )
 
   good-quote : Good (quote_parts rules (parts_of rules) line lines) (suc (length lines))
-  unfolding quote_parts size line_total Full
+  unfolding quote_parts size line_total HaveLines
   good-quote =
       let place : Bool → LineView → Place = λ bare l. place_in_quote rules l in
       let first = behind_quote_marker line in
@@ -594,7 +595,8 @@ module _ (rules : Rules) (line : LineView) (lines : List LineView) (plain : Plai
       (zero-le _ _ (feeds-behind_quote_marker line) plain.0, tt) plain.1 in
       let g = good i.inner (omega (arith, size-inner rules (parts_of rules) place (λ bare l. keeps-quote rules l) (first ∷ []) lines)) w.1 in
       let h = good i.following (omega (arith, size-following rules (parts_of rules) place (first ∷ []) lines)) w.2 in
-      (omega (arith, w.0, g.0, h.0), (g.1, h.1))
+      let some : 0 < length i.inner = some-inner rules (parts_of rules) place (first ∷ []) lines (omega arith) in
+      (omega (arith, w.0, g.0, h.0), (omega (arith, g.0, some), g.1, h.1))
 
   good-item : (marker : ItemMarker) → Good (item_parts rules (parts_of rules) marker line lines) (suc (length lines))
   unfolding item_parts size
@@ -606,9 +608,10 @@ module _ (rules : Rules) (line : LineView) (lines : List LineView) (plain : Plai
       let w = inside-whole rules (parts_of rules) place (keeps_feeds-item rules (content_column marker line)) (first ∷ []) lines
       (zero-le _ _ (feeds-first_content marker line) plain.0, tt) plain.1 in
       let g = good i.inner (omega (arith, size-inner rules (parts_of rules) place (keeps-item rules (content_column marker line)) (first ∷ []) lines)) w.1 in
-      let h = good i.following (omega (arith, size-following rules (parts_of rules) place (first ∷ []) lines)) w.2 in (
+      let h = good i.following (omega (arith, size-following rules (parts_of rules) place (first ∷ []) lines)) w.2 in
+      let some : 0 < length i.inner = some-inner rules (parts_of rules) place (first ∷ []) lines (omega arith) in (
         omega (arith, item-count marker.kind (parts_of rules i.inner) (parts_of rules i.following), w.0, g.0, h.0),
-        item-full marker.kind (parts_of rules i.inner) (parts_of rules i.following) g.1 h.1,
+        item-have marker.kind (parts_of rules i.inner) (parts_of rules i.following) (omega (arith, g.0, some)) g.1 h.1,
       )
 
   good-start : (start : Start) → Good (parts_by_start rules (parts_of rules) start line lines) (suc (length lines))
@@ -623,7 +626,7 @@ module _ (rules : Rules) (line : LineView) (lines : List LineView) (plain : Plai
   good-start TextLine = good-text
 
 good-within : (rules : Rules) (n : ℕ) (lines : List LineView) → size lines ≤ n → Plain lines → Good (parts_of rules lines) (length lines)
-unfolding size line_total Full
+unfolding size line_total HaveLines
 good-within rules zero [] h p = rw (no_lines rules) (refl, tt)
 good-within rules zero (line ∷ lines) h p = absurd (omega arith)
 good-within rules (suc n) [] h p = rw (no_lines rules) (refl, tt)
@@ -639,8 +642,11 @@ unfolding owners_of line_owners
 one_owner rules lines e =
     one_owner_a_line 0 (parts_of rules lines) ∙ (good-within rules (size lines) lines (le_refl _) (plain_lines lines e)).0
 
+pub parts_have_lines : PartsHaveLines
+parts_have_lines rules lines e = (good-within rules (size lines) lines (le_refl _) (plain_lines lines e)).1
+
 pub in_order : RunsInOrder
 unfolding owners_of line_owners blocks_of
 in_order rules lines e =
-    leaves_in_order (parts_of rules lines) (good-within rules (size lines) lines (le_refl _) (plain_lines lines e)).1
+    leaves_in_order (parts_of rules lines) (parts_have_lines rules lines e)
     ∙ ap Some (sym (tree-leaves (parts_of rules lines)))

@@ -2,6 +2,7 @@ pub mod Sizes
 pub mod Cases
 pub mod Feeds
 pub mod Owners
+pub mod LooseLemmas
 pub mod Counted
 pub mod Computing
 pub mod HtmlLemmas

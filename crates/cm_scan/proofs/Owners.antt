@@ -1,6 +1,6 @@
 -- Owners of lines: one a line, and leaves in unbroken runs.
 use Rattle.std.proofs.Common.{◌≡◌, ℕ, zero, suc, ◌+◌, ◌<◌, Bool, true, false, List, [], ◌∷◌, ◌++◌, length, map, refl, ◌∙◌, ap, arith, Some, None, length-append}
-use Rattle.std.specs.Prelude.{⊤, not, Option, replicate}
+use Rattle.std.specs.Prelude.{not, Option, replicate}
 use Rattle.std.specs.Option.{option_map}
 use Rattle.cm_tree.specs.declared.tree.Block.{Block}
 use Rattle.cm_tree.specs.declared.tree.Block.TheFolds.{fold-Block, fold_out-Block}
@@ -9,30 +9,18 @@ use Rattle.cm_tree.specs.declared.tree.ListKind.{ListKind}
 use Rattle.cm_tree.specs.declared.tree.Owner.{Owner}
 use Rattle.cm_tree.specs.declared.tree.Owner.TheVariants.{Leaf, Marker, Blank}
 use Rattle.cm_scan.specs.Parts.{LeafPart, paragraph, heading, code, html, thematic_break, definition, Parts, none, blank, leaf, quote, list, ItemParts, last_item, item, leaf_block, is_loose, tree_of, items_of, leaf_count, item_leaf_count, marked, owners_after, item_owners_after, marked_first}
+use Rattle.cm_scan.specs.Looseness.{line_total, items_total, HaveLines, ItemsHaveLines}
 use Rattle.cm_scan.specs.Laws.{Named, name_next, name_lines, leaves_named, total_of_all, leaves_step, leaves_in}
 
--- how many lines the parts have
-unfoldable mutual
-  pub line_total : Parts → ℕ
-  line_total none = 0
-  line_total (blank rest) = suc (line_total rest)
-  line_total (leaf x lines rest) = lines + line_total rest
-  line_total (quote inside rest) = line_total inside + line_total rest
-  line_total (list kind items rest) = items_total items + line_total rest
-
-  pub items_total : ItemParts → ℕ
-  items_total (last_item inside) = line_total inside
-  items_total (item inside blanks items) = line_total inside + (blanks + items_total items)
-
-length-replicate : {A : Type 0} (n : ℕ) (x : A) → length (replicate n x) ≡ n
+pub length-replicate : {A : Type 0} (n : ℕ) (x : A) → length (replicate n x) ≡ n
 length-replicate zero x = refl
 length-replicate (suc n) x = ap suc (length-replicate n x)
 
-length-marked : (owners : List Owner) → length (map marked owners) ≡ length owners
+pub length-marked : (owners : List Owner) → length (map marked owners) ≡ length owners
 length-marked [] = refl
 length-marked (o ∷ os) = ap suc (length-marked os)
 
-length-first : (p : Parts) (owners : List Owner) → length (marked_first p owners) ≡ length owners
+pub length-first : (p : Parts) (owners : List Owner) → length (marked_first p owners) ≡ length owners
 length-first none owners = refl
 length-first (blank rest) [] = refl
 length-first (blank rest) (o ∷ os) = refl
@@ -59,7 +47,7 @@ mutual
   one_owner_a_line n (list kind items rest) =
       omega (arith, length-append (item_owners_after n items) (owners_after (n + item_leaf_count items) rest), items_owners n items, one_owner_a_line (n + item_leaf_count items) rest)
 
-  items_owners : (n : ℕ) (items : ItemParts) → length (item_owners_after n items) ≡ items_total items
+  pub items_owners : (n : ℕ) (items : ItemParts) → length (item_owners_after n items) ≡ items_total items
   items_owners n (last_item inside) = length-first inside (owners_after n inside) ∙ one_owner_a_line n inside
   items_owners n (item inside blanks items) =
       let first = marked_first inside (owners_after n inside) in
@@ -128,19 +116,6 @@ name-head b n (leaf x lines rest) = refl
 name-head b n (quote inside rest) = refl
 name-head b n (list kind items rest) = refl
 
--- each leaf has a line
-unfoldable mutual
-  pub Full : Parts → Type 0
-  Full none = ⊤
-  Full (blank rest) = Full rest
-  Full (leaf x lines rest) = (0 < lines) × Full rest
-  Full (quote inside rest) = Full inside × Full rest
-  Full (list kind items rest) = AllFull items × Full rest
-
-  pub AllFull : ItemParts → Type 0
-  AllFull (last_item inside) = Full inside
-  AllFull (item inside blanks items) = Full inside × AllFull items
-
 -- whether the last line of parts is a leaf's, where the line before is one or isn't
 unfoldable mutual
   in_leaf_after : Bool → Parts → Bool
@@ -155,40 +130,40 @@ unfoldable mutual
   items_in_leaf b (item inside blanks items) = items_in_leaf (after_blanks (in_leaf_after b inside) blanks) items
 
 mutual
-  unfolding owners_after item_owners_after leaf_count item_leaf_count Full AllFull in_leaf_after items_in_leaf
+  unfolding owners_after item_owners_after leaf_count item_leaf_count HaveLines ItemsHaveLines in_leaf_after items_in_leaf
 
-  name-parts : (b : Bool) (n : ℕ) (p : Parts) → Full p → name_lines (named b n) (owners_after n p) ≡ named (in_leaf_after b p) (n + leaf_count p)
-  name-parts b n none full = ap (named b) (omega arith)
-  name-parts b n (blank rest) full = name-parts false n rest full
-  name-parts b n (leaf x lines rest) full =
+  name-parts : (b : Bool) (n : ℕ) (p : Parts) → HaveLines p → name_lines (named b n) (owners_after n p) ≡ named (in_leaf_after b p) (n + leaf_count p)
+  name-parts b n none have = ap (named b) (omega arith)
+  name-parts b n (blank rest) have = name-parts false n rest have
+  name-parts b n (leaf x lines rest) have =
       name-append (named b n) (replicate lines (Leaf (suc n))) (owners_after (suc n) rest)
-      ∙ ap (λ s. name_lines s (owners_after (suc n) rest)) (name-leaf b n lines full.0)
-      ∙ name-parts true (suc n) rest full.1 ∙ ap (named (in_leaf_after true rest)) (omega arith)
-  name-parts b n (quote inside rest) full =
+      ∙ ap (λ s. name_lines s (owners_after (suc n) rest)) (name-leaf b n lines have.0)
+      ∙ name-parts true (suc n) rest have.1 ∙ ap (named (in_leaf_after true rest)) (omega arith)
+  name-parts b n (quote inside rest) have =
       name-append (named b n) (map marked (owners_after n inside)) (owners_after (n + leaf_count inside) rest)
-      ∙ ap (λ s. name_lines s (owners_after (n + leaf_count inside) rest)) (name-all_marked (named b n) (owners_after n inside) ∙ name-parts b n inside full.0)
-      ∙ name-parts (in_leaf_after b inside) (n + leaf_count inside) rest full.1 ∙ ap (named _) (omega arith)
-  name-parts b n (list kind items rest) full =
+      ∙ ap (λ s. name_lines s (owners_after (n + leaf_count inside) rest)) (name-all_marked (named b n) (owners_after n inside) ∙ name-parts b n inside have.1)
+      ∙ name-parts (in_leaf_after b inside) (n + leaf_count inside) rest have.2 ∙ ap (named _) (omega arith)
+  name-parts b n (list kind items rest) have =
       name-append (named b n) (item_owners_after n items) (owners_after (n + item_leaf_count items) rest)
-      ∙ ap (λ s. name_lines s (owners_after (n + item_leaf_count items) rest)) (name-items b n items full.0)
-      ∙ name-parts (items_in_leaf b items) (n + item_leaf_count items) rest full.1 ∙ ap (named _) (omega arith)
+      ∙ ap (λ s. name_lines s (owners_after (n + item_leaf_count items) rest)) (name-items b n items have.0)
+      ∙ name-parts (items_in_leaf b items) (n + item_leaf_count items) rest have.1 ∙ ap (named _) (omega arith)
 
-  name-items : (b : Bool) (n : ℕ) (items : ItemParts) → AllFull items → name_lines (named b n) (item_owners_after n items) ≡ named (items_in_leaf b items) (n + item_leaf_count items)
-  name-items b n (last_item inside) full = name-head b n inside ∙ name-parts b n inside full
-  name-items b n (item inside blanks items) full =
+  name-items : (b : Bool) (n : ℕ) (items : ItemParts) → ItemsHaveLines items → name_lines (named b n) (item_owners_after n items) ≡ named (items_in_leaf b items) (n + item_leaf_count items)
+  name-items b n (last_item inside) have = name-head b n inside ∙ name-parts b n inside have.1
+  name-items b n (item inside blanks items) have =
       name-append (named b n) (marked_first inside (owners_after n inside) ++ replicate blanks Blank) (item_owners_after (n + leaf_count inside) items)
       ∙ ap (λ s. name_lines s (item_owners_after (n + leaf_count inside) items))
       (name-append (named b n) (marked_first inside (owners_after n inside)) (replicate blanks Blank)
-      ∙ ap (λ s. name_lines s (replicate blanks Blank)) (name-head b n inside ∙ name-parts b n inside full.0)
+      ∙ ap (λ s. name_lines s (replicate blanks Blank)) (name-head b n inside ∙ name-parts b n inside have.1)
       ∙ name-blanks (in_leaf_after b inside) (n + leaf_count inside) blanks)
-      ∙ name-items (after_blanks (in_leaf_after b inside) blanks) (n + leaf_count inside) items full.1 ∙ ap (named _) (omega arith)
+      ∙ name-items (after_blanks (in_leaf_after b inside) blanks) (n + leaf_count inside) items have.2 ∙ ap (named _) (omega arith)
 
-pub leaves_in_order : (p : Parts) → Full p → leaves_named (owners_after 0 p) ≡ Some (leaf_count p)
-leaves_in_order p full = ap (λ s. option_map (λ (t : Named). t.count) s) (name-parts false 0 p full) ∙ ap Some (omega arith)
+pub leaves_in_order : (p : Parts) → HaveLines p → leaves_named (owners_after 0 p) ≡ Some (leaf_count p)
+leaves_in_order p have = ap (λ s. option_map (λ (t : Named). t.count) s) (name-parts false 0 p have) ∙ ap Some (omega arith)
 
 -- the leaves of the tree
 
-leaf-one : (x : LeafPart) → fold-Block ℕ leaves_step (leaf_block x) ≡ 1
+pub leaf-one : (x : LeafPart) → fold-Block ℕ leaves_step (leaf_block x) ≡ 1
 leaf-one (paragraph source) = simp (fold_out-Block ℕ leaves_step, outs-Paragraph)
 leaf-one (heading level source) = simp (fold_out-Block ℕ leaves_step, outs-Heading)
 leaf-one (code info text) = simp (fold_out-Block ℕ leaves_step, outs-Code)
@@ -196,10 +171,10 @@ leaf-one (html text) = simp (fold_out-Block ℕ leaves_step, outs-Html)
 leaf-one thematic_break = simp (fold_out-Block ℕ leaves_step, outs-Break)
 leaf-one (definition label dest title) = simp (fold_out-Block ℕ leaves_step, outs-Definition)
 
-quote-leaves : (bs : List Block) → fold-Block ℕ leaves_step (Quote bs) ≡ leaves_in bs
+pub quote-leaves : (bs : List Block) → fold-Block ℕ leaves_step (Quote bs) ≡ leaves_in bs
 quote-leaves bs = simp (fold_out-Block ℕ leaves_step, outs-Quote)
 
-list-leaves : (kind : ListKind) (tight : Bool) (items : List (List Block))
+pub list-leaves : (kind : ListKind) (tight : Bool) (items : List (List Block))
     → fold-Block ℕ leaves_step (ListBlock kind tight items) ≡ total_of_all (map (map (fold-Block ℕ leaves_step)) items)
 list-leaves kind tight items = simp (fold_out-Block ℕ leaves_step, outs-List)
 

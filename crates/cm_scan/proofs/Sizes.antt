@@ -1,5 +1,5 @@
 -- What a container's lines and the lines behind a block come to in size.
-use Rattle.std.proofs.Common.{◌≡◌, ℕ, zero, suc, ◌+◌, ◌-◌, ◌<◌, ◌≤◌, Bool, true, false, List, [], ◌∷◌, ◌++◌, drop, refl, arith, le_refl}
+use Rattle.std.proofs.Common.{◌≡◌, ℕ, zero, suc, ◌+◌, ◌-◌, ◌<◌, ◌≤◌, Bool, true, false, List, [], ◌∷◌, ◌++◌, drop, length, length-append, refl, arith, le_refl}
 use Rattle.std.specs.Prelude.{⊤, replicate}
 use Rattle.cm_text.specs.Rules.{Rules}
 use Rattle.cm_text.specs.Lines.{LineView}
@@ -197,6 +197,20 @@ size-inner rules parts place keeps so_far (line ∷ lines) =
         let appended : size (so_far ++ inner ∷ []) ≡ size so_far + size (inner ∷ []) = size-append so_far (inner ∷ []) in
         grind (arith, longer, k, appended)
     go Leaves k h = omega arith
+
+-- the lines inside are some, where those so far are
+pub some-inner : (rules : Rules) (parts : List LineView → Parts) (place : Bool → LineView → Place) (so_far lines : List LineView)
+    → 0 < length so_far → 0 < length (inside rules parts place so_far lines).inner
+unfolding inside
+some-inner rules parts place so_far [] some = some
+some-inner rules parts place so_far (line ∷ lines) some =
+    go (place (is_bare so_far) line) (λ inner. some-inner rules parts place (so_far ++ inner ∷ []) lines (omega (arith, some, length-append so_far (inner ∷ []))))
+  where
+    go : (p : Place) → ((inner : LineView) → 0 < length (inside rules parts place (so_far ++ inner ∷ []) lines).inner)
+        → 0 < length (by_place rules parts place so_far line lines p).inner
+    go (Stays inner) h = h inner
+    go (StaysIfOpen inner) h = let longer = h inner in grind (arith, longer, some)
+    go Leaves h = some
 
 -- two functions that agree on what is short enough let the same lines in
 pub inside-agree : (rules : Rules) (f g : List LineView → Parts) (place : Bool → LineView → Place) (n : ℕ)

@@ -9,6 +9,7 @@ pub mod Parts
 pub mod Blocks
 pub mod WorkedExamples
 pub mod Laws
+pub mod Looseness
 pub mod HtmlKinds
 pub mod Scanned
 pub mod steps

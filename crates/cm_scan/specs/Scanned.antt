@@ -1,5 +1,5 @@
 -- What a scanner answers.
-use Rattle.std.specs.Prelude.{List, drop, option_map, ℕ, ◌+◌, ◌-◌, ◌*◌, Bool, not, ◌||◌, ◌==◌, Option, Some, None}
+use Rattle.std.specs.Prelude.{List, drop, option_map, ℕ, Option, Some, None}
 use Rattle.std.specs.Borrow.{Bor}
 use Rattle.cm_scan.specs.Links.{Reading, LinkDefinition}
 

@@ -1,5 +1,6 @@
 //! Laws of the definitions, each the contract of a function that does nothing.
 ghost use Rattle.cm_scan.specs.Laws.{NoLines, FixedPoint, BlankCase, BreakCase, HeadingCase, FenceCase, HtmlCase, CodeCase, TextCase, OneMoreStays, QuoteCase, ItemCase, OneOwnerALine, RunsInOrder};
+ghost use Rattle.cm_scan.specs.Looseness.{PartsHaveLines, LooseByOwners};
 ghost use Rattle.cm_scan.specs.WorkedExamples.{LeafExamples, ContainerExamples, DefinitionExamples, DepthExamples, BoundExamples};
 
 /// The parts of a list of lines are given by the cases on its first line, in which the parts of fewer
@@ -45,4 +46,11 @@ pub fn worked_examples()
 pub fn owners_of_lines()
     ensures one_a_line { OneOwnerALine }
     ensures runs { RunsInOrder }
+{}
+
+/// A list is loose just where the owners of its lines say it: a blank line stands right before its second
+/// or a later item, or right before the second or a later block of one of its items (5.3 Lists).
+pub fn loose_lists()
+    ensures lines { PartsHaveLines }
+    ensures loose { LooseByOwners }
 {}

@@ -1,5 +1,5 @@
 -- The steps that the scanners of one line take.
-use Rattle.std.specs.Prelude.{ℕ, ◌+◌, ◌-◌, ◌*◌, Bool, not, ◌||◌, ◌==◌, Option, Some, None}
+use Rattle.std.specs.Prelude.{ℕ, ◌+◌, ◌-◌, ◌*◌, Bool, not, ◌||◌, ◌==◌}
 use Rattle.cm_scan.specs.Words.{is_space_or_tab}
 
 -- neither a space nor a tab

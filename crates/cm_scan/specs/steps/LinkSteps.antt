@@ -1,10 +1,9 @@
 -- The steps that the scanners of link reference definitions take.
 use Rattle.std.specs.Prelude.{ℕ, suc, Bool, true, false, not, ◌&&◌, ◌||◌, List, drop, Option, Some, None, if◌then◌else◌, option_map, ◌==◌, nat_le}
-use Rattle.std.specs.Borrow.{Bor}
 use Rattle.std.specs.List.{slice_range}
 use Rattle.cm_text.specs.Characters.{within}
 use Rattle.cm_scan.specs.Words.{is_control, begins_with, trim_start}
-use Rattle.cm_scan.specs.Links.{Reading, LinkDefinition, characters, has_no_blank_line}
+use Rattle.cm_scan.specs.Links.{Reading, characters, has_no_blank_line}
 
 -- the part between two places, of which a closing byte stands at the second
 abbrev pub closed_at : List ℕ → ℕ → Option ℕ → Option Reading

@@ -1,4 +1,4 @@
-use Rattle.std.proofs.Common.{◌≡◌, sym, ap, length, ◌∙◌, arith}
+use Rattle.std.proofs.Common.{sym, ap, length, arith}
 use Rattle.std.proofs.lemmas.Grind.{common_steps}
 use Rattle.cm_reader.proofs.InlineLemmas.{inlines_of-one}
 use Rattle.cm_reader.proofs.inlines.is_one_text.Goals as goal

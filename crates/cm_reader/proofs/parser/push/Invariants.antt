@@ -1,5 +1,4 @@
-use Rattle.std.proofs.Common.{◌≡◌, ℕ, ◌+◌, List, ◌++◌, length, false}
-use Rattle.cm_text.specs.Limits.{LimitsView}
+use Rattle.std.proofs.Common.{◌≡◌, ◌+◌, length, false}
 use Rattle.cm_text.specs.Feed.{count}
 use Rattle.cm_reader.proofs.PartLemmas.{PushedSoFar}
 use Rattle.cm_reader.proofs.parser.push.Given as goal
