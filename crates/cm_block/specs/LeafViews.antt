@@ -1,24 +1,9 @@
 -- The open leaf and the closed ones, as the code has them: their lines are counted by the line feeds of their texts.
-use Rattle.std.specs.Prelude.{ℕ, suc, replicate, Bool, true, false, List, [], ◌∷◌, ◌++◌, not, Option, Some, None, string_bytes}
-use Rattle.cm_text.specs.Lines.{LineView}
-use Rattle.cm_text.specs.Labels.{fold_label}
-use Rattle.cm_tree.specs.Definitions.{Target, add_first}
-use Rattle.cm_tree.specs.declared.tree.Owner.TheVariants as owner
-use Rattle.cm_block.specs.Stack.{Owned}
-use Rattle.cm_scan.specs.Words.{is_empty}
+use Rattle.std.specs.Prelude.{ℕ, suc, List, [], ◌∷◌, ◌++◌, string_bytes}
 use Rattle.cm_scan.specs.HtmlKinds.{kind_of}
-use Rattle.cm_scan.specs.Starts.{underline_of}
-use Rattle.cm_scan.specs.Parts.{LeafPart, heading, code, html, thematic_break}
-use Rattle.cm_scan.specs.Blocks as blocks
-use Rattle.cm_scan.specs.Blocks.{line_feeds, rest_of}
-use Rattle.cm_block.specs.declared.runs.NextLine.{NextLine}
-use Rattle.cm_block.specs.declared.runs.NextLine.TheVariants.{GoesOn, Ends, Underlines}
-use Rattle.cm_block.specs.declared.closed_leaf.ClosedLeaf.{ClosedLeaf}
-use Rattle.cm_block.specs.declared.closed_leaf.ClosedLeaf.TheVariants as closed
+use Rattle.cm_scan.specs.Blocks.{line_feeds}
 use Rattle.cm_block.specs.declared.leaf.OpenLeaf.{OpenLeaf}
 use Rattle.cm_block.specs.declared.leaf.OpenLeaf.TheVariants.{Nothing, Run, Code, Fence, Html}
-use Rattle.cm_block.specs.declared.leaf.LeafLine.{LeafLine}
-use Rattle.cm_block.specs.declared.leaf.LeafLine.TheVariants.{Stays, Last, Leaves}
 use Rattle.cm_block.specs.OpenLeaf as spec
 use Rattle.cm_block.specs.OpenLeaf.{no_leaf, open_text, open_code, open_fence, open_html, run_leaves, stays_open, is_last}
 

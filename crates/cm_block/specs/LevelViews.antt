@@ -1,12 +1,8 @@
 -- A level as the code has it.
-use Rattle.std.specs.Prelude.{Bool, true, false, ◌||◌, List, Option, Some, None}
 use Rattle.std.specs.Option.{option_map}
-use Rattle.cm_tree.specs.declared.tree.Block.{Block}
-use Rattle.cm_tree.specs.declared.tree.ListKind.{ListKind}
-use Rattle.cm_scan.specs.LineForms.{is_same_kind}
 use Rattle.cm_block.specs.declared.level.Level as code
 use Rattle.cm_block.specs.declared.level.OpenList as code_list
-use Rattle.cm_block.specs.Level.{OpenList, Level, closed_blocks, Item}
+use Rattle.cm_block.specs.Level.{OpenList, Level}
 
 abbrev pub list_of : code_list.OpenList → OpenList
 list_of list = record { kind = list.kind; loose = list.loose; items = list.items }

@@ -1,5 +1,5 @@
 -- What a parser stands for: the lines that it has been given.
-use Rattle.std.specs.Prelude.{◌≡◌, ℕ, suc, ◌<◌, ◌≤◌, Bool, true, false, List, length, Option, Some, None, Result, Ok, Err, ⊤}
+use Rattle.std.specs.Prelude.{◌≡◌, ℕ, ◌≤◌, List, length, Some, None, ⊤}
 use Rattle.cm_text.specs.Rules.Rules.{profile}
 use Rattle.cm_text.specs.Lines.{LineView}
 use Rattle.cm_scan.specs.Blocks.{blocks_of, owners_of, reference_table, first_too_deep}
@@ -9,10 +9,8 @@ use Rattle.cm_block.specs.declared.parser.Outline.{Outline}
 use Rattle.cm_block.specs.declared.fault.BlockFault.{BlockFault}
 use Rattle.cm_block.specs.declared.fault.BlockFault.TheVariants.{BlocksTooDeep, NoMemory}
 use Rattle.cm_block.specs.LevelViews.{level_of}
-use Rattle.cm_block.specs.Stack.{Stack, empty_stack, close_stack, push_leaf_line, push_line, push_lines}
-use Rattle.cm_block.specs.Depths.{nesting}
-use Rattle.cm_block.specs.Frames.{within, stack_with}
-use Rattle.cm_block.specs.OpenLeaf.{LeafLine, line_of_leaf}
+use Rattle.cm_block.specs.Stack.{Stack, empty_stack, push_lines}
+use Rattle.cm_block.specs.Frames.{stack_with}
 use Rattle.cm_block.specs.FrameViews.{frames_of}
 use Rattle.cm_block.specs.LeafViews.{leaf_of}
 

@@ -1,17 +1,17 @@
-//! Faults, and the texts by which they are told.
+//! What can go wrong with a writing.
 ghost use Rattle.std.specs.Prelude.{◌≡◌};
 
 use cm_text::NoMemory;
 use thiserror::Error;
 
-/// Why HTML isn't written whole. Its `Display` is what the program prints after `cmk: `.
+/// Why HTML or a listing isn't written whole.
 #[derive(Clone, Copy, Debug, PartialEq, Eq, Drop, Error)]
 pub enum HtmlFault {
     /// A request for memory was refused.
-    #[error("F5 out of memory")]
+    #[error("out of memory")]
     NoMemory,
     /// The writer failed, or took no byte of a nonempty piece, after it had taken so many bytes.
-    #[error("F7 write failed after {written} bytes")]
+    #[error("write failed after {written} bytes")]
     WriteFailed { written: usize },
 }
 

@@ -20,7 +20,7 @@ pub fn html(alloc: Global, doc: &Doc) -> Result<String, NoMemory>
     Ok(out)
 }
 
-// Writes a text, and answers its length in bytes.
+/// Writes a text, and answers its length in bytes.
 fn emit<W: Sink>(text: &str, sink: &mut W) -> Result<usize, HtmlFault>
     requires { W.failed sink.old < 2 ^ 64 - 1 }
     ensures { WritesText result text.now

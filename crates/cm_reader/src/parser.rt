@@ -109,7 +109,7 @@ impl Parser {
     }
 }
 
-// Goes on with one more piece, part by part, as far as it goes.
+/// Goes on with one more piece, part by part, as far as it goes.
 fn push(feed: &mut LineFeed, blocks: &mut BlockParser, piece: &[u8]) -> Result<(), Fault>
     requires { feed.old.ended ≡ false }
     ensures goes { OnOk result ((limits : LimitsView) (bytes : List ℕ) → Goes limits feed.old blocks.old bytes →
@@ -129,8 +129,8 @@ fn push(feed: &mut LineFeed, blocks: &mut BlockParser, piece: &[u8]) -> Result<(
     push_part(feed, blocks, rest)
 }
 
-// Goes on with one more part of a piece, as far as it goes. The lines that end before a fault of the text
-// are taken in first, since one that is too deep goes before it.
+/// Goes on with one more part of a piece, as far as it goes. The lines that end before a fault of the text
+/// are taken in first, since one that is too deep goes before it.
 fn push_part(feed: &mut LineFeed, blocks: &mut BlockParser, piece: &[u8]) -> Result<(), Fault>
     requires { feed.old.ended ≡ false }
     ensures goes { OnOk result ((limits : LimitsView) (bytes : List ℕ) → Goes limits feed.old blocks.old bytes →
@@ -151,7 +151,7 @@ fn push_part(feed: &mut LineFeed, blocks: &mut BlockParser, piece: &[u8]) -> Res
     Ok(())
 }
 
-// The document of the bytes.
+/// The document of the bytes.
 fn finish(alloc: Global, mut feed: LineFeed, mut blocks: BlockParser) -> Result<Doc, Fault>
     requires { feed.ended ≡ false }
     ensures { (limits : LimitsView) (bytes : List ℕ) → Goes limits feed blocks bytes →
@@ -166,7 +166,7 @@ fn finish(alloc: Global, mut feed: LineFeed, mut blocks: BlockParser) -> Result<
     })
 }
 
-// Hands the lines that are ready to the blocks.
+/// Hands the lines that are ready to the blocks.
 fn hand_over(feed: &mut LineFeed, blocks: &mut BlockParser) -> Result<(), BlockFault>
     ensures ready { OnOk result (feed.new ≡ with_ready [] feed.old) }
     ensures ended { feed.new.ended ≡ feed.old.ended }

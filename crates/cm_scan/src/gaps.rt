@@ -7,7 +7,7 @@ ghost use Rattle.cm_scan.specs.Links.{after_line};
 
 use crate::words::is_space_or_tab;
 
-// Whether a byte is a space, a tab or a line feed.
+/// Whether a byte is a space, a tab or a line feed.
 #[inline(always)]
 pub(crate) fn is_blank_byte(b: u8) -> bool
     ensures { result ≡ is_blank_byte b }
@@ -15,7 +15,7 @@ pub(crate) fn is_blank_byte(b: u8) -> bool
     is_space_or_tab(b) || b == b'\n'
 }
 
-// Whether a space, a tab or a line feed stands there.
+/// Whether a space, a tab or a line feed stands there.
 #[inline(always)]
 pub(crate) fn is_blank_next(text: &[u8], at: usize) -> bool
     ensures { result ≡ is_blank_next (drop at text.now) }
@@ -23,7 +23,7 @@ pub(crate) fn is_blank_next(text: &[u8], at: usize) -> bool
     at < text.len() && is_blank_byte(text[at])
 }
 
-// The place behind the spaces and tabs.
+/// The place behind the spaces and tabs.
 pub(crate) fn after_blanks(text: &[u8], at: usize) -> usize
     requires { at ≤ length text.now }
     ensures skipped { drop result text.now ≡ trim_start (drop at text.now) }
@@ -37,7 +37,7 @@ pub(crate) fn after_blanks(text: &[u8], at: usize) -> usize
     end
 }
 
-// The place behind spaces, tabs and up to one line feed.
+/// The place behind spaces, tabs and up to one line feed.
 pub(crate) fn after_gap(text: &[u8], at: usize) -> usize
     requires { at ≤ length text.now }
     ensures skipped { drop result text.now ≡ after_gap (drop at text.now) }
@@ -51,7 +51,7 @@ pub(crate) fn after_gap(text: &[u8], at: usize) -> usize
     end
 }
 
-// The place behind the end of the line, where nothing but spaces and tabs stand before it.
+/// The place behind the end of the line, where nothing but spaces and tabs stand before it.
 pub(crate) fn after_line(text: &[u8], at: usize) -> Option<usize>
     requires { at ≤ length text.now }
     ensures ended { option_map (λ end. drop end text.now) result ≡ after_line (drop at text.now) }

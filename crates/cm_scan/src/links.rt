@@ -116,7 +116,7 @@ pub fn definition<'a>(text: &'a str, at: usize) -> Option<(LinkDefinition<'a>, u
     Some((LinkDefinition { label, dest, title }, end))
 }
 
-// What stands behind a destination: a title and the end of its line, or the end of the line.
+/// What stands behind a destination: a title and the end of its line, or the end of the line.
 fn end_of_definition<'a>(text: &'a str, at: usize) -> Option<(&'a str, usize)>
     requires { IsCharBoundary text.now at }
     ensures read { (label dest : List ℕ) → option_map (λ r. definition_with label dest r.0.now (drop r.1 text.now)) result
@@ -131,7 +131,7 @@ fn end_of_definition<'a>(text: &'a str, at: usize) -> Option<(&'a str, usize)>
     Some(("", end))
 }
 
-// A title behind a destination, and the place behind its line.
+/// A title behind a destination, and the place behind its line.
 fn titled<'a>(text: &'a str, at: usize) -> Option<(&'a str, usize)>
     requires { IsCharBoundary text.now at }
     ensures read { (label dest : List ℕ) → option_map (λ r. definition_with label dest r.0.now (drop r.1 text.now)) result ≡ titled label dest (drop at text.now) }
@@ -147,7 +147,7 @@ fn titled<'a>(text: &'a str, at: usize) -> Option<(&'a str, usize)>
     Some((title, end))
 }
 
-// The byte that ends the title which a byte begins.
+/// The byte that ends the title which a byte begins.
 fn end_of_title(b: u8) -> Option<u8>
     ensures { result ≡ title_end b }
 {
@@ -159,14 +159,14 @@ fn end_of_title(b: u8) -> Option<u8>
     }
 }
 
-// Whether there is nothing but spaces, tabs and line feeds.
+/// Whether there is nothing but spaces, tabs and line feeds.
 fn is_blank(text: &str) -> bool
     ensures { result ≡ list_all is_blank_byte text.now }
 {
     text.bytes().all(is_blank_byte)
 }
 
-// The part between the byte there and the one that ends it, and the place behind that.
+/// The part between the byte there and the one that ends it, and the place behind that.
 fn enclosed<'a>(text: &'a str, at: usize, bounds: Bounds) -> Option<(&'a str, usize)>
     requires within { at < length text.now }
     requires ascii { (slice_index text.now at < 128) × (bounds.close < 128) }
@@ -180,7 +180,7 @@ fn enclosed<'a>(text: &'a str, at: usize, bounds: Bounds) -> Option<(&'a str, us
     Some((&text[at + 1..end], end + 1))
 }
 
-// What a part of a text stands between, and what it may hold.
+/// What a part of a text stands between, and what it may hold.
 #[derive(Clone, Copy, Drop)]
 struct Bounds {
     // The byte that begins the part, which may not stand in it unescaped.
@@ -195,7 +195,7 @@ struct Bounds {
     blank_lines: bool,
 }
 
-// The place of the byte that ends a part.
+/// The place of the byte that ends a part.
 fn closed(text: &[u8], from: usize, bounds: Bounds) -> Option<usize>
     requires within { from ≤ length text.now }
     requires no_blanks { (is_blank_byte bounds.open ≡ false) × (is_blank_byte bounds.close ≡ false) }
@@ -221,7 +221,7 @@ fn closed(text: &[u8], from: usize, bounds: Bounds) -> Option<usize>
     None
 }
 
-// The destination that no `<` begins.
+/// The destination that no `<` begins.
 fn bare<'a>(text: &'a str, at: usize) -> Option<(&'a str, usize)>
     requires { IsCharBoundary text.now at }
     ensures read { reading_of text.now result ≡ keep_if is_some (bare_run 0 false (drop at text.now)) }
@@ -235,7 +235,7 @@ fn bare<'a>(text: &'a str, at: usize) -> Option<(&'a str, usize)>
     Some((&text[at..end], end))
 }
 
-// The place where a run of a destination ends.
+/// The place where a run of a destination ends.
 fn bare_end(text: &[u8], from: usize) -> Option<usize>
     requires { from ≤ length text.now }
     ensures read { ended_at text.now from result ≡ bare_run 0 false (drop from text.now) }
@@ -259,7 +259,7 @@ fn bare_end(text: &[u8], from: usize) -> Option<usize>
     Some(at)
 }
 
-// A space, an ASCII control character, or a right parenthesis that no left one opened.
+/// A space, an ASCII control character, or a right parenthesis that no left one opened.
 fn is_bare_end(b: u8, opened: usize, escaped: bool) -> bool
     ensures { result ≡ (not escaped && ends_bare opened b) }
 {
@@ -272,7 +272,7 @@ fn is_too_deep(b: u8, opened: usize, escaped: bool) -> bool
     !escaped && b == b'(' && opened == 32
 }
 
-// How many parentheses are open behind a byte.
+/// How many parentheses are open behind a byte.
 fn opened_by(b: u8, opened: usize, escaped: bool) -> usize
     requires { opened ≤ 32 }
     ensures { result ≡ (if escaped then opened else opened_by opened b) }
@@ -290,7 +290,7 @@ fn is_end(b: u8, escaped: bool, bounds: Bounds) -> bool
     !escaped && b == bounds.close
 }
 
-// Whether no part can hold the byte there.
+/// Whether no part can hold the byte there.
 fn is_refused(text: &[u8], at: usize, left: usize, escaped: bool, bounds: Bounds) -> bool
     requires { at < length text.now }
     ensures { result ≡ is_refused left bounds.blank_lines (not escaped && is_barred bounds.open bounds.one_line (slice_index text.now at))
@@ -314,7 +314,7 @@ fn begins_character(b: u8) -> bool
     !(128..=191).contains(&b)
 }
 
-// Whether a blank line follows the line feed there.
+/// Whether a blank line follows the line feed there.
 fn begins_blank_line(text: &[u8], at: usize) -> bool
     requires { at < length text.now }
     ensures { result ≡ blank_follows (slice_index text.now at) (drop (suc at) text.now) }
@@ -322,14 +322,14 @@ fn begins_blank_line(text: &[u8], at: usize) -> bool
     text[at] == b'\n' && is_next(text, after_blanks(text, at + 1), b'\n')
 }
 
-// Whether the byte stands there.
+/// Whether the byte stands there.
 fn is_next(text: &[u8], at: usize, b: u8) -> bool
     ensures { result ≡ begins_with b (drop at text.now) }
 {
     text.get(at) == Some(&b)
 }
 
-// Whether the byte there escapes the one behind it (2.4 Backslash escapes), where it isn't escaped itself.
+/// Whether the byte there escapes the one behind it (2.4 Backslash escapes), where it isn't escaped itself.
 fn escapes_next(text: &[u8], at: usize, escaped: bool) -> bool
     requires { at < length text.now }
     ensures { result ≡ (not escaped && escapes_next (slice_index text.now at) (drop (suc at) text.now)) }

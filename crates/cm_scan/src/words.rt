@@ -84,7 +84,7 @@ pub(crate) fn trim_start(text: &str) -> &str
     &text[start..]
 }
 
-// Whether a byte goes from the end of a text: a space, and a tab where tabs go too.
+/// Whether a byte goes from the end of a text: a space, and a tab where tabs go too.
 #[inline(always)]
 fn is_trimmed(tabs: bool, b: u8) -> bool
     ensures { result ≡ is_trimmed tabs b }
@@ -92,7 +92,7 @@ fn is_trimmed(tabs: bool, b: u8) -> bool
     b == b' ' || tabs && b == b'\t'
 }
 
-// The text without the spaces at its end, and without the tabs where these go too.
+/// The text without the spaces at its end, and without the tabs where these go too.
 #[inline(always)]
 fn trim_end_by(tabs: bool, text: &str) -> &str
     ensures { result.now ≡ trim_end_by tabs text.now }

@@ -41,7 +41,7 @@ pub(crate) fn indent_from(column: usize, text: &str) -> usize
     indent
 }
 
-// Without so many columns of a text that begins at this column: the column after what is taken, how many columns a cut tab leaves there, and how many bytes are taken.
+/// Without so many columns of a text that begins at this column: the column after what is taken, how many columns a cut tab leaves there, and how many bytes are taken.
 pub(crate) fn take_columns(n: usize, column: usize, text: &str) -> (usize, usize, usize)
     requires { column + length text.now + 3 * tabs text.now < 2 ^ 64 }
     ensures taken { strip_from n column text.now

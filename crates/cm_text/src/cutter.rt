@@ -8,7 +8,7 @@ use std::alloc::{AllocError, Global};
 use std::collections::VecDeque;
 use std::mem;
 
-// The lines that have ended, the text of the line after them, and whether a carriage return came last.
+/// The lines that have ended, the text of the line after them, and whether a carriage return came last.
 #[derive(Drop)]
 pub(crate) struct Cutter {
     pub(crate) alloc: Global,
@@ -39,7 +39,7 @@ impl Cutter {
         Ok(())
     }
 
-    // Ends the last line, unless it is empty.
+    /// Ends the last line, unless it is empty.
     pub(crate) fn end_text(&mut self) -> Result<(), AllocError>
         requires { string_len self.old.partial ≤ 2 ^ 61 }
         ensures len { string_len self.new.partial ≤ string_len self.old.partial }
@@ -53,7 +53,7 @@ impl Cutter {
         self.end_line(false)
     }
 
-    // Puts a text without line endings and U+0000 to the end of the line.
+    /// Puts a text without line endings and U+0000 to the end of the line.
     fn put_run(&mut self, run: &str) -> Result<(), AllocError>
         requires { is_plain run.now ≡ true }
         ensures len { string_len self.new.partial ≤ string_len self.old.partial + length run.now }
@@ -67,7 +67,7 @@ impl Cutter {
         self.partial.push_str(run)
     }
 
-    // Takes a line ending, or U+0000.
+    /// Takes a line ending, or U+0000.
     fn put_special(&mut self, special: u8) -> Result<(), AllocError>
         requires special { is_special special ≡ true }
         requires room { string_len self.old.partial ≤ 2 ^ 61 }
@@ -89,7 +89,7 @@ impl Cutter {
         }
     }
 
-    // Cuts a text off. Where memory is refused, the lines are a front of those that have ended.
+    /// Cuts a text off. Where memory is refused, the lines are a front of those that have ended.
     pub(crate) fn take(&mut self, text: &str) -> Result<(), AllocError>
         requires { string_len self.old.partial + 4 * length text.now ≤ 2 ^ 61 }
         ensures len { string_len self.new.partial ≤ string_len self.old.partial + 4 * length text.now }

@@ -47,7 +47,7 @@ impl Model for LineFeed {
 }
 
 impl LineFeed {
-    // Takes the bytes of a piece up to the limit.
+    /// Takes the bytes of a piece up to the limit.
     fn accept(&mut self, piece: &[u8]) -> Result<(), TextFault>
         ensures step { Steps result self.old piece.now self.new }
         ensures count { OnOk result (count self.new ≡ count self.old + length piece.now) }

@@ -16,7 +16,7 @@ const NAMES: &[u8] =
     ngEnotntildeoacuteocircograveordfordmoslashotildeoumlparapermilplusmnpoundquotraquorarrrdquoreg\
     rsaquorsquosbquosectshysup1sup2sup3szligthorntimestradeuacuteuarrucircugraveumluumlyacuteyenyuml";
 
-// Where each begins, and where the last ends.
+/// Where each begins, and where the last ends.
 const STARTS: [u16; 129] = [
     0, 5, 11, 16, 22, 27, 33, 37, 43, 67, 73, 79, 92, 95, 101, 106, 112, 116, 128, 134, 139, 145,
     149, 155, 161, 166, 172, 178, 184, 188, 193, 199, 204, 210, 214, 220, 226, 231, 236, 241, 247,
@@ -27,7 +27,7 @@ const STARTS: [u16; 129] = [
     614, 619, 624, 630, 634, 639, 645, 648, 652, 658, 661, 665,
 ];
 
-// What each stands for, or the first of two characters.
+/// What each stands for, or the first of two characters.
 const CHARACTERS: [char; 128] = [
     '\u{C6}', '\u{C1}', '\u{C2}', '\u{C0}', '\u{C5}', '\u{C3}', '\u{C4}', '\u{C7}', '\u{2232}',
     '\u{2021}', '\u{10E}', '\u{2146}', '\u{D0}', '\u{C9}', '\u{CA}', '\u{C8}', '\u{CB}',
@@ -46,7 +46,7 @@ const CHARACTERS: [char; 128] = [
     '\u{F9}', '\u{A8}', '\u{FC}', '\u{FD}', '\u{A5}', '\u{FF}',
 ];
 
-// The place of the one name that stands for two characters.
+/// The place of the one name that stands for two characters.
 const PAIR: usize = 87;
 
 /// The characters of a reference with this name, if it is one of the names.

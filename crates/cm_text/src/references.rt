@@ -30,7 +30,7 @@ pub fn reference_at(text: &str, place: usize) -> Option<(Chars, usize)>
     Some((chars, place + len))
 }
 
-// The reference with which a text begins, and how many bytes it takes.
+/// The reference with which a text begins, and how many bytes it takes.
 pub(crate) fn reference(text: &[u8]) -> Option<(Chars, usize)>
     ensures { read_of result ≡ reference text.now }
 {
@@ -106,7 +106,7 @@ fn count_alphanumeric(text: &[u8]) -> usize
         .count()
 }
 
-// What stands before a semicolon, if one stands after so many bytes.
+/// What stands before a semicolon, if one stands after so many bytes.
 fn before_semicolon(text: &[u8], len: usize) -> Option<&[u8]>
     requires { len ≤ length text.now }
     ensures { option_copied result ≡ (if begins_with 59 (drop len text.now) then Some (take len text.now) else None) }
@@ -117,7 +117,7 @@ fn before_semicolon(text: &[u8], len: usize) -> Option<&[u8]>
     Some(&text[..len])
 }
 
-// The character with a number of at most so many digits; so many bytes stand round them.
+/// The character with a number of at most so many digits; so many bytes stand round them.
 fn numbered(digits: &[u8], radix: u32, most: usize, round: usize) -> Option<(Chars, usize)>
     requires radix { (2 ≤ radix) × (radix ≤ 16) }
     requires most { (most ≤ 7) × (round ≤ 4) }

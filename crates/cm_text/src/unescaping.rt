@@ -34,7 +34,7 @@ pub fn unescape(alloc: Global, text: &str) -> Result<String, NoMemory>
     Ok(unescaped)
 }
 
-// Writes what the escape or the reference at the front gives, or the one byte there, and answers how many bytes were read.
+/// Writes what the escape or the reference at the front gives, or the one byte there, and answers how many bytes were read.
 fn push_special(out: &mut String, text: &str) -> Result<usize, AllocError>
     requires some { 0 < length text.now }
     requires ascii { slice_index text.now 0 < 128 }
@@ -60,7 +60,7 @@ fn push_chars(out: &mut String, chars: Chars) -> Result<(), AllocError>
     Ok(())
 }
 
-// The escape or the reference with which a text begins, and how many bytes it takes.
+/// The escape or the reference with which a text begins, and how many bytes it takes.
 fn special(text: &[u8]) -> Option<(Chars, usize)>
     ensures { read_of result ≡ special text.now }
 {
@@ -74,7 +74,7 @@ fn special(text: &[u8]) -> Option<(Chars, usize)>
     reference(text)
 }
 
-// The character behind a backslash.
+/// The character behind a backslash.
 fn escaped(text: &[u8]) -> Option<char>
     ensures { option_map (λ c. (c ∷ [], 2)) result ≡ escape text.now }
 {

@@ -10,8 +10,8 @@ use simdutf8::compat::from_utf8;
 use std::alloc::AllocError;
 
 impl Cutter {
-    // Cuts the longest well-formed front off, and answers its length, and whether no character can
-    // begin with the bytes after it, however they go on.
+    /// Cuts the longest well-formed front off, and answers its length, and whether no character can
+    /// begin with the bytes after it, however they go on.
     pub(crate) fn take_utf8(&mut self, bytes: &[u8]) -> Result<(usize, bool), AllocError>
         requires { string_len self.old.partial + 4 * length bytes.now ≤ 2 ^ 61 }
         ensures most { string_len self.new.partial ≤ string_len self.old.partial + 4 * length bytes.now }
@@ -39,7 +39,7 @@ impl Cutter {
         }
     }
 
-    // The same of the pending bytes and those of a piece. What is left of them is pending then.
+    /// The same of the pending bytes and those of a piece. What is left of them is pending then.
     pub(crate) fn take_more(
         &mut self,
         pending: &mut Vec<u8>,

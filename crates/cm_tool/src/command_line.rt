@@ -14,7 +14,7 @@ use clap::{Arg, ArgMatches, Command, Error};
 use cm_text::Limits;
 use std::alloc::{AllocError, Global};
 
-// The subcommand of this name, which reads a text.
+/// The subcommand of this name, which reads a text.
 fn job_command<'a>(alloc: Global, name: &'a str, about: &'a str) -> Result<Command<'a>, AllocError>
     ensures app { IfOk result (λ c. app_of c ≡ job_app name.now) }
     ensures local { IfOk result (λ c. (out-Command c).has_globals ≡ false) }
@@ -34,7 +34,7 @@ fn job_command<'a>(alloc: Global, name: &'a str, about: &'a str) -> Result<Comma
         .arg(blocks)
 }
 
-// The command line of `cmk`.
+/// The command line of `cmk`.
 fn command<'a>(alloc: Global) -> Result<Command<'a>, AllocError>
     ensures { IfOk result (λ c. app_of c ≡ cmk_app) }
 {
@@ -47,7 +47,7 @@ fn command<'a>(alloc: Global) -> Result<Command<'a>, AllocError>
         .subcommand(job_command(alloc, "tree", tree)?)
 }
 
-// The job of this name.
+/// The job of this name.
 fn job_of(name: &str) -> Option<Job>
     ensures { result ≡ job_of name.now }
 {
@@ -60,7 +60,7 @@ fn job_of(name: &str) -> Option<Job>
     }
 }
 
-// Why there are no matches. Want of memory comes first, since it has a text and a status too.
+/// Why there are no matches. Want of memory comes first, since it has a text and a status too.
 fn stop_of(alloc: Global, error: &Error) -> Stop
     ensures memory { kind_of error.now ≡ ErrorKind.OutOfMemory → result ≡ Stop.NoMemory }
     ensures kind { StopsBy (kind_of error.now) result }
@@ -78,7 +78,7 @@ fn stop_of(alloc: Global, error: &Error) -> Stop
     }
 }
 
-// The file that the words of a subcommand name.
+/// The file that the words of a subcommand name.
 fn file_of(alloc: Global, found: &ArgMatches<'_>) -> Result<Option<String>, AllocError>
     ensures { IfOk result (λ file. option_map string_bytes file
         ≡ first_of (codes "file") (rows_of (found_of found.now))) }
@@ -89,7 +89,7 @@ fn file_of(alloc: Global, found: &ArgMatches<'_>) -> Result<Option<String>, Allo
     }
 }
 
-// The limits that the words of a subcommand ask for.
+/// The limits that the words of a subcommand ask for.
 fn limits_of(found: &ArgMatches<'_>) -> Limits
     requires { IsLimited (rows_of (found_of found.now)) }
     ensures { option_and_then limits_of (first_of (codes "blocks") (rows_of (found_of found.now)))
@@ -100,7 +100,7 @@ fn limits_of(found: &ArgMatches<'_>) -> Limits
     Limits::new(standard.bytes(), blocks, standard.inlines()).unwrap()
 }
 
-// The task of the words in which this was found.
+/// The task of the words in which this was found.
 fn task_of(alloc: Global, matches: &ArgMatches<'_>) -> Result<Task, AllocError>
     requires { IsSomeAnd (subcommand_rows_of matches.now) IsJob }
     ensures { IfOk result (λ task. IsTaskOf (subcommand_rows_of matches.now) task) }

@@ -12,10 +12,10 @@ use cm_text::{Sink, Source, WriteFailed, write_all};
 use std::alloc::Global;
 use std::io::{Cursor, Write};
 
-// Room for the text of each fault.
+/// Room for the text of each fault.
 const ROOM: usize = 120;
 
-// Writes the text, and passes over a failure.
+/// Writes the text, and passes over a failure.
 fn offer<E: Sink>(errors: &mut E, text: &[u8])
     requires { E.failed errors.old < 2 ^ 64 - 1 }
     ensures { Offered
@@ -26,7 +26,7 @@ fn offer<E: Sink>(errors: &mut E, text: &[u8])
     let _ = write_all(errors, text);
 }
 
-// Puts the bytes into the line after so many, and answers how many it has then.
+/// Puts the bytes into the line after so many, and answers how many it has then.
 fn put(line: &mut [u8], after: usize, bytes: &[u8]) -> usize
     requires { after + length bytes.now ≤ length line.old }
     ensures end { result ≡ after + length bytes.now }
@@ -38,7 +38,7 @@ fn put(line: &mut [u8], after: usize, bytes: &[u8]) -> usize
     end
 }
 
-// Writes the fault's line, and answers the exit status. It passes over a failure, and takes no memory.
+/// Writes the fault's line, and answers the exit status. It passes over a failure, and takes no memory.
 fn tell_fault<E: Sink>(fault: Fault, errors: &mut E) -> u8
     requires { E.failed errors.old < 2 ^ 64 - 1 }
     ensures status { result ≡ 1 }
@@ -57,7 +57,7 @@ fn tell_fault<E: Sink>(fault: Fault, errors: &mut E) -> u8
     1
 }
 
-// Does the job of the task.
+/// Does the job of the task.
 fn work<R: Source, W: Sink>(
     alloc: Global,
     task: &Task,

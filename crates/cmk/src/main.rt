@@ -12,7 +12,7 @@ use std::fs::File;
 use std::io::ErrorKind;
 use std::process::ExitCode;
 
-// A file that couldn't be opened: each read of it fails.
+/// A file that couldn't be opened: each read of it fails.
 #[derive(Drop)]
 struct UnopenedFile {
     failures: u64,
@@ -33,7 +33,7 @@ impl Source for UnopenedFile {
     }
 }
 
-// The task that the program's words ask for.
+/// The task that the program's words ask for.
 fn asked<R: Env + AllocGlobal>(rt: &R) -> Result<Task, Stop> {
     match env::args(rt) {
         Ok(words) => {
@@ -48,7 +48,7 @@ fn asked<R: Env + AllocGlobal>(rt: &R) -> Result<Task, Stop> {
     }
 }
 
-// Each read and write is one call of the system, so a count of bytes written is true.
+/// Each read and write is one call of the system, so a count of bytes written is true.
 fn main(rt: HostRuntime) -> ExitCode {
     let alloc = rt.alloc();
     let mut output = FromWrite::new(rt.stdout());

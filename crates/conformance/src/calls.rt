@@ -11,7 +11,7 @@ use crate::words::{Word, words};
 use answer::Answer;
 use std::alloc::Global;
 
-// What a call answers.
+/// What a call answers.
 fn called(alloc: Global, asked: &[Word]) -> Result<Answer, Trouble> {
     let Some((Word::Plain(name), given)) = asked.split_first() else {
         return Err(wrong(alloc, "a call has no name"));

@@ -5,7 +5,7 @@ use crate::trouble::{Trouble, wrong};
 use crate::words::number;
 use std::alloc::Global;
 
-// A line `@name rest`, and the lines below it.
+/// A line `@name rest`, and the lines below it.
 #[derive(Drop)]
 struct Part {
     name: String,
@@ -77,7 +77,7 @@ impl Case {
     }
 }
 
-// The cases so far, and the one that is read.
+/// The cases so far, and the one that is read.
 #[derive(Drop)]
 struct Reading {
     alloc: Global,
@@ -105,7 +105,7 @@ impl Reading {
         }
     }
 
-    // A line that begins a part.
+    /// A line that begins a part.
     fn part(&mut self, name: &str, rest: &str) -> Result<(), Trouble> {
         let Some(case) = &mut self.open else {
             return Err(wrong(self.alloc, "no case is open"));
@@ -119,7 +119,7 @@ impl Reading {
         )
     }
 
-    // A line of a part, or one between cases.
+    /// A line of a part, or one between cases.
     fn text(&mut self, line: &str) -> Result<(), Trouble> {
         match &mut self.open {
             Some(case) => match case.parts.last_mut() {

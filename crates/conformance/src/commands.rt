@@ -8,7 +8,7 @@ use cm_text::Room;
 use cm_tool::{run, task, tell};
 use std::alloc::Global;
 
-// More than any output.
+/// More than any output.
 const AMPLE: usize = 20_000;
 
 const PARTS: [&str; 9] = [
@@ -23,7 +23,7 @@ const PARTS: [&str; 9] = [
     "status",
 ];
 
-// The words of a command line.
+/// The words of a command line.
 fn words_of(alloc: Global, line: &str) -> Result<Vec<String>, Trouble> {
     let mut all = Vec::new(alloc);
     for word in words(alloc, line)? {
@@ -35,7 +35,7 @@ fn words_of(alloc: Global, line: &str) -> Result<Vec<String>, Trouble> {
     Ok(all)
 }
 
-// That what was written is what the case wants whole, or holds what it wants somewhere, or is nothing.
+/// That what was written is what the case wants whole, or holds what it wants somewhere, or is nothing.
 fn is_written(
     alloc: Global,
     case: &Case,

@@ -7,7 +7,7 @@ use cm_text::{DeviceFailed, Pieces, Source};
 use std::alloc::{AllocError, Global};
 use std::{fmt, mem};
 
-// A longer text is not cut in two at each place.
+/// A longer text is not cut in two at each place.
 const LONG: usize = 2_000;
 
 /// Where a text is cut.

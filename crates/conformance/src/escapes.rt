@@ -3,7 +3,7 @@
 use crate::trouble::{Trouble, wrong};
 use std::alloc::Global;
 
-// What the next character belongs to.
+/// What the next character belongs to.
 #[derive(Clone, Copy, Drop)]
 enum Place {
     Plain,
@@ -18,7 +18,7 @@ enum Place {
     Count(usize),
 }
 
-// The bytes so far.
+/// The bytes so far.
 #[derive(Drop)]
 struct Unescaping {
     alloc: Global,
@@ -41,7 +41,7 @@ impl Unescaping {
         Ok(())
     }
 
-    // Puts what is repeated at the end, as often as it is still wanted.
+    /// Puts what is repeated at the end, as often as it is still wanted.
     fn repeat(&mut self, count: usize, from: usize) -> Result<(), Trouble> {
         let part = match self.bytes.get(from..) {
             Some(part) => Vec::from_slice(self.alloc, part)?,
@@ -87,7 +87,7 @@ impl Unescaping {
         c.to_digit(16).ok_or(self.bad())
     }
 
-    // A second digit of `\x`.
+    /// A second digit of `\x`.
     fn byte(&mut self, high: u32, c: char) -> Result<(), Trouble> {
         let low = self.digit(c)?;
         let value = u8::try_from(high.wrapping_mul(16).wrapping_add(low));
@@ -96,7 +96,7 @@ impl Unescaping {
         Ok(())
     }
 
-    // A digit of `\u{..}`, or its end.
+    /// A digit of `\u{..}`, or its end.
     fn scalar(&mut self, value: u32, c: char) -> Result<(), Trouble> {
         if c == '}' {
             let c = char::from_u32(value).ok_or(self.bad())?;
@@ -107,7 +107,7 @@ impl Unescaping {
         Ok(())
     }
 
-    // A digit of `\{..|`, or its end.
+    /// A digit of `\{..|`, or its end.
     fn count(&mut self, count: usize, c: char) -> Result<(), Trouble> {
         if c == '|' {
             self.repeated = Some((count, self.bytes.len()));

@@ -37,7 +37,7 @@ impl Example {
     }
 }
 
-// Where a line stands.
+/// Where a line stands.
 #[derive(Clone, Copy, PartialEq, Eq, Drop)]
 enum Place {
     Outside,
@@ -45,7 +45,7 @@ enum Place {
     Html,
 }
 
-// The examples so far, and the one that is read.
+/// The examples so far, and the one that is read.
 #[derive(Drop)]
 struct Reading {
     alloc: Global,
@@ -62,7 +62,7 @@ fn empty(alloc: Global) -> Example {
     }
 }
 
-// Puts a line of an example behind those before it.
+/// Puts a line of an example behind those before it.
 fn push_line(lines: &mut String, line: &str) -> Result<(), AllocError> {
     for c in line.chars() {
         lines.push(if c == '→' { '\t' } else { c })?;

@@ -5,7 +5,7 @@ use crate::words::{Word, number, words};
 use cm_tree::{Block, Doc, Inline, Items, ListKind, Owner, Text};
 use std::alloc::Global;
 
-// A node with children.
+/// A node with children.
 #[derive(Drop)]
 enum Node {
     Paragraph,
@@ -19,8 +19,8 @@ enum Node {
     Image { dest: Text, title: Text },
 }
 
-// A node that is read, and its children so far. Children of another kind than the node has are lost, so
-// that the listing of the document differs.
+/// A node that is read, and its children so far. Children of another kind than the node has are lost, so
+/// that the listing of the document differs.
 #[derive(Drop)]
 struct Open {
     node: Node,
@@ -29,7 +29,7 @@ struct Open {
     items: Items<Items<Block>>,
 }
 
-// The nodes that are read, from the outside in, and the document so far.
+/// The nodes that are read, from the outside in, and the document so far.
 #[derive(Drop)]
 struct Reading {
     alloc: Global,
@@ -64,7 +64,7 @@ impl Reading {
         Ok(true)
     }
 
-    // Puts the innermost node that is read to the children of the one around it.
+    /// Puts the innermost node that is read to the children of the one around it.
     fn close(&mut self) -> Result<bool, Trouble> {
         let Some(open) = self.open.pop() else {
             return Ok(false);
@@ -101,7 +101,7 @@ impl Reading {
         }
     }
 
-    // Closes the nodes inside so many.
+    /// Closes the nodes inside so many.
     fn close_to(&mut self, depth: usize) -> Result<(), Trouble> {
         for _ in depth..self.open.len() {
             self.close()?;
@@ -120,7 +120,7 @@ impl Reading {
         Ok(Text::from_str(self.alloc, text.as_str())?)
     }
 
-    // `list bullet * tight`
+    /// `list bullet * tight`
     fn bullet_list(&mut self, bullet: &str, width: &str) -> Result<bool, Trouble> {
         let kind = match bullet {
             "-" => ListKind::Dash,
@@ -131,7 +131,7 @@ impl Reading {
         self.open(Node::List { kind, tight })
     }
 
-    // `list ordered . 1 tight`
+    /// `list ordered . 1 tight`
     fn ordered_list(&mut self, mark: &str, start: &str, width: &str) -> Result<bool, Trouble> {
         let start = match u32::try_from(number(self.alloc, start)?) {
             Ok(start) => start,
@@ -146,7 +146,7 @@ impl Reading {
         self.open(Node::List { kind, tight })
     }
 
-    // A node without words between quotation marks, if the line is one.
+    /// A node without words between quotation marks, if the line is one.
     fn plain_line(&mut self, name: &str, words: &[Word]) -> Result<bool, Trouble> {
         match (name, words) {
             ("paragraph", []) => self.open(Node::Paragraph),
@@ -171,7 +171,7 @@ impl Reading {
         }
     }
 
-    // A node with texts, if the line is one.
+    /// A node with texts, if the line is one.
     fn text_line(&mut self, name: &str, words: &[Word]) -> Result<bool, Trouble> {
         match (name, words) {
             ("text", [Word::Text(text)]) => {
@@ -211,7 +211,7 @@ impl Reading {
         }
     }
 
-    // The owner of a line, if the line is one.
+    /// The owner of a line, if the line is one.
     fn owner_line(&mut self, name: &str, words: &[Word]) -> Result<bool, Trouble> {
         let owner = match (name, words) {
             ("owner", [_, Word::Plain(_), Word::Plain(leaf)]) => {

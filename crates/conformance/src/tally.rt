@@ -31,7 +31,7 @@ impl Tally {
         self.differ.as_slice()
     }
 
-    // Counts a case, and what is to be told of it under its title.
+    /// Counts a case, and what is to be told of it under its title.
     fn count(&mut self, title: &str, answer: Result<(), Trouble>) -> Result<(), NoMemory> {
         self.total = self.total.saturating_add(1);
         match answer {
@@ -68,7 +68,7 @@ impl Tally {
         Ok(())
     }
 
-    // Judges a case by the part that says what it is of.
+    /// Judges a case by the part that says what it is of.
     fn case(&self, case: &Case, docs: &mut Vec<cm_tree::Doc>) -> Result<(), Trouble> {
         if case.has("words") {
             return commands::agrees(self.alloc, case);

@@ -9,7 +9,7 @@ use cm_tool::{Fault, Job, Parser, Task, convert, run};
 use cm_tree::{Doc, block_depth};
 use std::alloc::{AllocError, Global};
 
-// Writers fail behind each byte of an output that is no longer than this.
+/// Writers fail behind each byte of an output that is no longer than this.
 const SHORT: usize = 200;
 
 /// What a text comes to.
@@ -41,7 +41,7 @@ pub(crate) struct Text<'a> {
     pub(crate) outcome: Outcome<'a>,
 }
 
-// Room for an output: so many bytes, at most so many a call.
+/// Room for an output: so many bytes, at most so many a call.
 #[derive(Clone, Copy)]
 struct Space {
     capacity: usize,
@@ -49,7 +49,7 @@ struct Space {
 }
 
 impl Space {
-    // How much of an output of so many bytes it takes.
+    /// How much of an output of so many bytes it takes.
     fn taken(self, len: usize) -> usize {
         if self.at_most == 0 {
             0
@@ -59,7 +59,7 @@ impl Space {
     }
 }
 
-// More than an output of so many bytes needs.
+/// More than an output of so many bytes needs.
 fn ample(len: usize) -> Space {
     let capacity = len.saturating_add(1_000);
     Space {
@@ -69,7 +69,7 @@ fn ample(len: usize) -> Space {
 }
 
 impl Text<'_> {
-    // The whole output of the job, where the table has it.
+    /// The whole output of the job, where the table has it.
     fn whole(&self, job: Job) -> Option<&[u8]> {
         match (self.outcome, job) {
             (Outcome::Document { html, .. }, Job::Render) => html,
@@ -78,7 +78,7 @@ impl Text<'_> {
         }
     }
 
-    // What is to be told of an output of which so much is taken: the fault, or nothing.
+    /// What is to be told of an output of which so much is taken: the fault, or nothing.
     fn told(&self, whole: &[u8], taken: usize) -> Result<String, AllocError> {
         match self.outcome {
             Outcome::Fault { line, .. } => String::from_str(self.alloc, line),
@@ -89,7 +89,7 @@ impl Text<'_> {
         }
     }
 
-    // That the job, as the program runs it, gives what is wanted.
+    /// That the job, as the program runs it, gives what is wanted.
     fn runs(&self, job: Job, cut: Cut, space: Space) -> Result<(), Trouble> {
         let Some(whole) = self.whole(job) else {
             return Ok(());
@@ -123,7 +123,7 @@ impl Text<'_> {
         Ok(())
     }
 
-    // That `convert` answers what is wanted, and makes as many reads.
+    /// That `convert` answers what is wanted, and makes as many reads.
     fn converts(&self, cut: Cut, space: Space) -> Result<(), Trouble> {
         let Some(whole) = self.whole(Job::Render) else {
             return Ok(());
@@ -153,7 +153,7 @@ impl Text<'_> {
         }
     }
 
-    // Feeds the pieces to the parser, and answers the first fault, which each further call has to tell.
+    /// Feeds the pieces to the parser, and answers the first fault, which each further call has to tell.
     fn feed(&self, parser: &mut Parser, cut: Cut) -> Result<Option<Fault>, Trouble> {
         let mut first = None;
         for piece in &pieces(self.alloc, self.input, cut)? {
@@ -167,7 +167,7 @@ impl Text<'_> {
         Ok(first)
     }
 
-    // That a document is the one that is wanted.
+    /// That a document is the one that is wanted.
     fn is_document(&self, doc: &Doc) -> Result<(), Trouble> {
         if let Some(whole) = self.whole(Job::Render) {
             let written = html(self.alloc, doc)?;
@@ -185,7 +185,7 @@ impl Text<'_> {
         }
     }
 
-    // That the parser gives what is wanted.
+    /// That the parser gives what is wanted.
     fn parses(&self, cut: Cut) -> Result<(), Trouble> {
         let alloc = self.alloc;
         let mut parser = Parser::new(alloc, self.limits);
@@ -211,7 +211,7 @@ impl Text<'_> {
         Ok(())
     }
 
-    // That all calls give what is wanted of the text, cut so.
+    /// That all calls give what is wanted of the text, cut so.
     fn is_read(&self, cut: Cut) -> Result<(), Trouble> {
         for job in [Job::Render, Job::Tree] {
             let len = self.whole(job).map_or(0, |whole| whole.len());
@@ -225,7 +225,7 @@ impl Text<'_> {
         self.parses(cut)
     }
 
-    // That each call tells how much went out where writes fail.
+    /// That each call tells how much went out where writes fail.
     fn is_written(&self, job: Job) -> Result<(), Trouble> {
         let len = self.whole(job).map_or(0, |whole| whole.len());
         if len > SHORT {
@@ -262,7 +262,7 @@ const PARTS: [&str; 10] = [
     "input", "bytes", "blocks", "inlines", "fails", "reads", "depth", "html", "tree", "fault",
 ];
 
-// The limits of a case: the standard ones but for what it names.
+/// The limits of a case: the standard ones but for what it names.
 fn limits_of(alloc: Global, case: &Case) -> Result<Limits, Trouble> {
     let standard = Limits::standard();
     let bytes = case.number("bytes")?.unwrap_or(standard.bytes());
@@ -271,7 +271,7 @@ fn limits_of(alloc: Global, case: &Case) -> Result<Limits, Trouble> {
     Limits::new(bytes, blocks, inlines).ok_or(wrong(alloc, "the limits are out of range"))
 }
 
-// The outcome that a case names.
+/// The outcome that a case names.
 fn outcome_of<'a>(
     alloc: Global,
     case: &'a Case,

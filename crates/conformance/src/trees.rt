@@ -8,10 +8,10 @@ use cm_text::Room;
 use cm_tree::{Block, Doc, block_depth, inline_depth};
 use std::alloc::Global;
 
-// Writers fail behind each byte of an output that is no longer than this.
+/// Writers fail behind each byte of an output that is no longer than this.
 const SHORT: usize = 200;
 
-// How deep the inlines of the first block nest.
+/// How deep the inlines of the first block nest.
 fn depth_of_inlines(doc: &Doc) -> usize {
     match doc.blocks.first() {
         Some(Block::Paragraph(content)) => inline_depth(content.as_slice()),
@@ -20,14 +20,14 @@ fn depth_of_inlines(doc: &Doc) -> usize {
     }
 }
 
-// What is written of a tree.
+/// What is written of a tree.
 #[derive(Clone, Copy)]
 enum Output {
     Html,
     Listing,
 }
 
-// That a writer which takes so much, at most so much a call, is told of as it should be.
+/// That a writer which takes so much, at most so much a call, is told of as it should be.
 fn is_written(
     alloc: Global,
     (doc, output, whole): (&Doc, Output, &[u8]),
@@ -54,7 +54,7 @@ fn is_written(
     same(alloc, "output", front, room.taken())
 }
 
-// That the tree is written so, also where writes fail.
+/// That the tree is written so, also where writes fail.
 fn has_output(alloc: Global, doc: &Doc, output: Output, whole: &[u8]) -> Result<(), Trouble> {
     if whole.len() > SHORT {
         return is_written(alloc, (doc, output, whole), whole.len(), whole.len());

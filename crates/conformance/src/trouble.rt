@@ -39,7 +39,7 @@ pub(crate) fn wrong(alloc: Global, text: &str) -> Trouble {
     }
 }
 
-// Bytes as they are told.
+/// Bytes as they are told.
 fn shown(bytes: &[u8]) -> &str {
     str::from_utf8(bytes).unwrap_or("(no UTF-8)")
 }

@@ -22,7 +22,7 @@ impl Word {
     }
 }
 
-// The words so far, and the one that is read.
+/// The words so far, and the one that is read.
 #[derive(Drop)]
 struct Line {
     alloc: Global,
@@ -33,7 +33,7 @@ struct Line {
 }
 
 impl Line {
-    // Ends the word that is read.
+    /// Ends the word that is read.
     fn end_word(&mut self) -> Result<(), Trouble> {
         let word = mem::replace(&mut self.word, String::new(self.alloc));
         if self.is_quoted {

@@ -1,15 +1,12 @@
 -- Steps of the code over the open containers in a row.
-use Rattle.std.specs.Prelude.{ℕ, suc, Bool, true, false, ◌&&◌, List, [], ◌∷◌, Option, Some, None}
+use Rattle.std.specs.Prelude.{ℕ, suc, Bool, true, ◌&&◌, List, [], ◌∷◌, Option, Some, None}
 use Rattle.cm_text.specs.Rules.{Rules}
 use Rattle.cm_text.specs.Lines.{LineView}
-use Rattle.cm_tree.specs.declared.tree.ListKind.{ListKind}
 use Rattle.cm_tree.specs.declared.tree.Block.TheVariants.{Quote}
 use Rattle.cm_scan.specs.Starts.{Place, place_in_quote, place_in_item}
 use Rattle.cm_scan.specs.Laws.{goes_inward}
-use Rattle.cm_block.specs.OpenLeaf.{OpenLeaf}
-use Rattle.cm_block.specs.Machine.{Open, in_leaf, in_quote, in_item}
 use Rattle.cm_block.specs.Level.{Level, closed_blocks, block_closes, item_closes}
-use Rattle.cm_block.specs.Stack.{Owned, Stack, stack, item_of}
+use Rattle.cm_block.specs.Stack.{item_of}
 use Rattle.cm_block.specs.Frames.{a_quote, an_item, Container, Frame, is_last}
 
 abbrev pub place_in : Rules → Container → (bare : Bool) → LineView → Place

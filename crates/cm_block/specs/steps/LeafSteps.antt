@@ -6,7 +6,6 @@ use Rattle.cm_tree.specs.Definitions.{Target, add_first}
 use Rattle.cm_tree.specs.declared.tree.Owner.TheVariants as owner
 use Rattle.cm_block.specs.Stack.{Owned}
 use Rattle.cm_scan.specs.Words.{is_empty}
-use Rattle.cm_scan.specs.HtmlKinds.{kind_of}
 use Rattle.cm_scan.specs.Starts.{underline_of}
 use Rattle.cm_scan.specs.Parts.{LeafPart, heading, code, html, thematic_break}
 use Rattle.cm_scan.specs.Blocks as blocks

@@ -4,8 +4,6 @@ use Rattle.std.specs.Option.{option_map}
 use Rattle.cm_tree.specs.declared.tree.Block.{Block}
 use Rattle.cm_tree.specs.declared.tree.ListKind.{ListKind}
 use Rattle.cm_scan.specs.LineForms.{is_same_kind}
-use Rattle.cm_block.specs.declared.level.Level as code
-use Rattle.cm_block.specs.declared.level.OpenList as code_list
 use Rattle.cm_block.specs.Level.{OpenList, Level, closed_blocks, Item}
 
 -- the list at the end of the blocks

@@ -38,7 +38,7 @@ impl Pieces {
     }
 }
 
-// Copies as many of the bytes as the buffer holds.
+/// Copies as many of the bytes as the buffer holds.
 fn give(bytes: &[u8], buf: &mut [u8]) -> usize
     ensures count { result ≡ min (length bytes.now) (length buf.old) }
     ensures given { take result buf.new ≡ take result bytes.now }

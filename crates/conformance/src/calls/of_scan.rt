@@ -22,7 +22,7 @@ const KINDS: [(&str, HtmlKind); 7] = [
     ("any_tag", HtmlKind::AnyTag),
 ];
 
-// An ATX heading: its level, its content, its end.
+/// An ATX heading: its level, its content, its end.
 fn heading(answer: &mut Answer, text: &str, at: usize) -> Result<(), Trouble>
     requires { IsCharBoundary text.now at }
 {
@@ -35,7 +35,7 @@ fn heading(answer: &mut Answer, text: &str, at: usize) -> Result<(), Trouble>
     }
 }
 
-// An opening fence: its character, how many, the info string, its end.
+/// An opening fence: its character, how many, the info string, its end.
 fn opening(answer: &mut Answer, text: &str, at: usize) -> Result<(), Trouble>
     requires { IsCharBoundary text.now at }
 {
@@ -49,7 +49,7 @@ fn opening(answer: &mut Answer, text: &str, at: usize) -> Result<(), Trouble>
     }
 }
 
-// An item's marker: what marks the list, how many digits, its end.
+/// An item's marker: what marks the list, how many digits, its end.
 fn marker(answer: &mut Answer, text: &str, at: usize) -> Result<(), Trouble>
     requires { at ≤ length text.now }
 {
@@ -73,7 +73,7 @@ fn marker(answer: &mut Answer, text: &str, at: usize) -> Result<(), Trouble>
     answer.number(end)
 }
 
-// A definition: label, destination, title, its end.
+/// A definition: label, destination, title, its end.
 fn link_definition(answer: &mut Answer, text: &str, at: usize) -> Result<(), Trouble>
     requires { IsCharBoundary text.now at }
 {
@@ -87,7 +87,7 @@ fn link_definition(answer: &mut Answer, text: &str, at: usize) -> Result<(), Tro
     }
 }
 
-// The kind of an HTML block that starts.
+/// The kind of an HTML block that starts.
 fn html_kind(answer: &mut Answer, text: &str, at: usize) -> Result<(), Trouble>
     requires { at ≤ length text.now }
 {
@@ -98,7 +98,7 @@ fn html_kind(answer: &mut Answer, text: &str, at: usize) -> Result<(), Trouble>
     }
 }
 
-// A scanner at a boundary of characters.
+/// A scanner at a boundary of characters.
 fn scans(answer: &mut Answer, name: &str, text: &String, at: usize) -> Result<bool, Trouble> {
     if !text.is_char_boundary(at) {
         return Err(wrong(answer.alloc, "the place is no boundary"));
@@ -127,7 +127,7 @@ fn scans(answer: &mut Answer, name: &str, text: &String, at: usize) -> Result<bo
     Ok(true)
 }
 
-// The end of a fence of this marker and so many of it.
+/// The end of a fence of this marker and so many of it.
 fn closing(
     answer: &mut Answer,
     (marker, count): (&str, usize),
@@ -142,7 +142,7 @@ fn closing(
     answer.place(fence_end(kind, text.as_str(), at))
 }
 
-// The end of an HTML block of the kind with this name.
+/// The end of an HTML block of the kind with this name.
 fn html_ends(answer: &mut Answer, name: &str, text: &String, at: usize) -> Result<(), Trouble> {
     let kind = KINDS.iter().find(|(known, _)| *known == name);
     match kind {

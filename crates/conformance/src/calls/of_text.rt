@@ -9,7 +9,7 @@ use cm_text::{
 };
 use std::alloc::Global;
 
-// A kind of characters.
+/// A kind of characters.
 #[derive(Clone, Copy)]
 enum Kind {
     AsciiPunctuation,
@@ -17,7 +17,7 @@ enum Kind {
     Space,
 }
 
-// The lines of a text that comes in these pieces.
+/// The lines of a text that comes in these pieces.
 fn lines(answer: &mut Answer, pieces: &[Word]) -> Result<(), Trouble> {
     let alloc = answer.alloc;
     let mut feed = LineFeed::new(alloc, Limits::standard());
@@ -44,7 +44,7 @@ fn lines(answer: &mut Answer, pieces: &[Word]) -> Result<(), Trouble> {
     answer.truth(feed.ended())
 }
 
-// A line that begins at this column.
+/// A line that begins at this column.
 fn line_at(alloc: Global, column: usize, text: &str) -> Result<Line, Trouble> {
     let mut whole = " ".repeat(alloc, column)?;
     whole.push_str(text)?;
@@ -58,7 +58,7 @@ fn line_at(alloc: Global, column: usize, text: &str) -> Result<Line, Trouble> {
     }
 }
 
-// What `strip` leaves of a line: its column and its text. The line seen without a copy is the same.
+/// What `strip` leaves of a line: its column and its text. The line seen without a copy is the same.
 fn stripped(answer: &mut Answer, line: &Line, columns: usize) -> Result<(), Trouble> {
     let left = strip(answer.alloc, columns, line)?;
     answer.number(left.column)?;
@@ -70,7 +70,7 @@ fn stripped(answer: &mut Answer, line: &Line, columns: usize) -> Result<(), Trou
     answer.number(seen.indent())
 }
 
-// Whether a character is of this kind.
+/// Whether a character is of this kind.
 fn is_of_kind(kind: Kind, c: char) -> bool {
     match kind {
         Kind::AsciiPunctuation => is_ascii_punct(c),
@@ -79,7 +79,7 @@ fn is_of_kind(kind: Kind, c: char) -> bool {
     }
 }
 
-// The characters of the text that are of this kind.
+/// The characters of the text that are of this kind.
 fn characters(answer: &mut Answer, text: &str, kind: Kind) -> Result<(), Trouble> {
     let mut found = String::new(answer.alloc);
     for c in text.chars() {
@@ -90,7 +90,7 @@ fn characters(answer: &mut Answer, text: &str, kind: Kind) -> Result<(), Trouble
     answer.text(found.as_str())
 }
 
-// What stands before an ASCII character, and what stands after it.
+/// What stands before an ASCII character, and what stands after it.
 fn cut(answer: &mut Answer, text: &String, at: usize) -> Result<(), Trouble> {
     match text.as_bytes().get(at) {
         Some(b) if *b < 128 => {
@@ -102,7 +102,7 @@ fn cut(answer: &mut Answer, text: &String, at: usize) -> Result<(), Trouble> {
     }
 }
 
-// A reference: what it stands for, and its end.
+/// A reference: what it stands for, and its end.
 fn reference(answer: &mut Answer, text: &String, at: usize) -> Result<(), Trouble> {
     if !text.is_char_boundary(at) {
         return Err(wrong(answer.alloc, "the place is no boundary"));
@@ -118,7 +118,7 @@ fn reference(answer: &mut Answer, text: &String, at: usize) -> Result<(), Troubl
     answer.slice(Some((read.as_str(), end)))
 }
 
-// The limits of these numbers.
+/// The limits of these numbers.
 fn limits(answer: &mut Answer, bytes: usize, blocks: usize, inlines: usize) -> Result<(), Trouble> {
     match Limits::new(bytes, blocks, inlines) {
         Some(limits) => {
@@ -130,7 +130,7 @@ fn limits(answer: &mut Answer, bytes: usize, blocks: usize, inlines: usize) -> R
     }
 }
 
-// A call with a text alone, if it is one.
+/// A call with a text alone, if it is one.
 fn of_one_text(answer: &mut Answer, name: &str, text: &str) -> Result<bool, Trouble> {
     let alloc = answer.alloc;
     match name {

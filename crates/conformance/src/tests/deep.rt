@@ -8,7 +8,7 @@ use std::test::Fail;
 
 const DEPTH: usize = 200;
 
-// A text in so many emphases in so many quotes.
+/// A text in so many emphases in so many quotes.
 fn nested(alloc: Global) -> Result<Block, AllocError> {
     let text = Inline::Text(Text::from_str(alloc, "a")?);
     let mut content = Items::from(vec![in alloc; text]?);
@@ -22,7 +22,7 @@ fn nested(alloc: Global) -> Result<Block, AllocError> {
     Ok(block)
 }
 
-// The lines of nodes of one kind with so many nodes round each.
+/// The lines of nodes of one kind with so many nodes round each.
 fn lines(alloc: Global, depths: Range<usize>, word: &str) -> Result<String, AllocError> {
     let mut text = String::new(alloc);
     for depth in depths {

@@ -7,7 +7,7 @@ use cm_tree::{Block, Inline, Items, Text, block_depth};
 use std::alloc::{AllocError, Global};
 use std::test::Fail;
 
-// A heading of the first level.
+/// A heading of the first level.
 fn title(alloc: Global, text: &str) -> Result<Block, AllocError>
     ensures { IfOk result (λ made. made ≡ block.Heading 1 (inline.Text text.now ∷ [])) }
 {
@@ -18,7 +18,7 @@ fn title(alloc: Global, text: &str) -> Result<Block, AllocError>
     })
 }
 
-// Whether a heading of the first level stands among the blocks, or in quotes.
+/// Whether a heading of the first level stands among the blocks, or in quotes.
 #[cycle(has_title)]
 fn has_title(blocks: &Items<Block>) -> bool {
     for block in blocks {
