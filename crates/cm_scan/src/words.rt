@@ -119,7 +119,7 @@ pub fn trim_end_spaces(text: &str) -> &str
     trim_end_by(false, text)
 }
 
-/// The text without those at both ends.
+/// The text without the spaces and tabs at both ends.
 pub(crate) fn trim(text: &str) -> &str
     ensures { result.now ≡ trim text.now }
 {
