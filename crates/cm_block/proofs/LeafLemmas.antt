@@ -4,7 +4,7 @@ use Rattle.std.specs.Prelude.{nat_le, ◌&&◌, if◌then◌else◌, Result, Ok,
 use Rattle.std.specs.Option.{is_some}
 use Rattle.std.proofs.lemmas.List.{append_assoc}
 use Rattle.std.proofs.lemmas.Bool.Decides.{nat_tests}
-use Rattle.cm_text.specs.Rules.Rules.{profile}
+use Rattle.cm_text.specs.Rules.{Rules}
 use Rattle.cm_text.specs.Lines.{LineView}
 use Rattle.cm_text.specs.LineText.{is_line}
 use Rattle.cm_text.specs.Indentation.{indent_of, strip_columns}
@@ -93,61 +93,63 @@ closes (leaf.Html kind text) = refl
 
 -- a line behind indented code
 
-line-of-code : (text blanks : List ℕ) (line : LineView) (blank indented : Bool) → is_blank line ≡ blank → nat_le 4 (indent_of line) ≡ indented
-    → line_of_code (ended text) (suc (line_feeds text)) blanks (line_feeds blanks) line blank indented ≡ line_of_leaf profile (code_of text blanks) line
-unfolding line_of_leaf
-line-of-code text blanks line blank indented b i =
-    sym (λ k. line_of_code (ended text) (suc (line_feeds text)) blanks (line_feeds blanks) line (b k) (i k))
+module _ (rules : Rules) where
+  line-of-code : (text blanks : List ℕ) (line : LineView) (blank indented : Bool) → is_blank line ≡ blank → nat_le 4 (indent_of line) ≡ indented
+      → line_of_code (ended text) (suc (line_feeds text)) blanks (line_feeds blanks) line blank indented ≡ line_of_leaf rules (code_of text blanks) line
+  unfolding line_of_leaf
+  line-of-code text blanks line blank indented b i =
+      sym (λ k. line_of_code (ended text) (suc (line_feeds text)) blanks (line_feeds blanks) line (b k) (i k))
 
-pub waits : (text blanks after : List ℕ) (line : LineView) → is_blank line ≡ true → after ≡ blanks ++ with_ending (strip_columns 4 line) → line_feeds after ≡ suc (line_feeds blanks)
-    → given true (stays_open (code_of text after)) ≡ line_of_leaf profile (code_of text blanks) line
-waits text blanks after line blank e feeds =
-    let same : code_of text after ≡ open_code (ended text) (suc (line_feeds text)) (blanks ++ with_ending (strip_columns 4 line)) (suc (line_feeds blanks)) =
-    ap₂ (open_code (ended text) (suc (line_feeds text))) e feeds in
-    ap (λ x. Some (stays_open x)) same ∙ line-of-code text blanks line true (nat_le 4 (indent_of line)) blank refl
+  pub waits : (text blanks after : List ℕ) (line : LineView) → is_blank line ≡ true → after ≡ blanks ++ with_ending (strip_columns 4 line) → line_feeds after ≡ suc (line_feeds blanks)
+      → given true (stays_open (code_of text after)) ≡ line_of_leaf rules (code_of text blanks) line
+  waits text blanks after line blank e feeds =
+      let same : code_of text after ≡ open_code (ended text) (suc (line_feeds text)) (blanks ++ with_ending (strip_columns 4 line)) (suc (line_feeds blanks)) =
+      ap₂ (open_code (ended text) (suc (line_feeds text))) e feeds in
+      ap (λ x. Some (stays_open x)) same ∙ line-of-code text blanks line true (nat_le 4 (indent_of line)) blank refl
 
-pub no_code : (text blanks : List ℕ) (line : LineView) → is_blank line ≡ false → indent_of line < 4
-    → given false (stays_open (code_of text blanks)) ≡ line_of_leaf profile (code_of text blanks) line
-no_code text blanks line blank near =
-    let far : nat_le 4 (indent_of line) ≡ false = grind (arith, nat_tests, near) in
-    line-of-code text blanks line false false blank far
+  pub no_code : (text blanks : List ℕ) (line : LineView) → is_blank line ≡ false → indent_of line < 4
+      → given false (stays_open (code_of text blanks)) ≡ line_of_leaf rules (code_of text blanks) line
+  no_code text blanks line blank near =
+      let far : nat_le 4 (indent_of line) ≡ false = grind (arith, nat_tests, near) in
+      line-of-code text blanks line false false blank far
 
-pub goes_on : (text blanks after : List ℕ) (line : LineView) → is_blank line ≡ false → 4 ≤ indent_of line
-    → after ≡ ((text ++ 10 ∷ []) ++ blanks) ++ (strip_columns 4 line).text → line_feeds after ≡ line_feeds ((text ++ 10 ∷ []) ++ blanks)
-    → given true (stays_open (code_of after [])) ≡ line_of_leaf profile (code_of text blanks) line
-unfolding line_feeds
-goes_on text blanks after line blank far e feeds =
-    let indented : nat_le 4 (indent_of line) ≡ true = grind (arith, nat_tests, far) in
-    let ends : ended after ≡ ended text ++ blanks ++ with_ending (strip_columns 4 line) = ap ended e ∙ append_assoc ((text ++ 10 ∷ []) ++ blanks) (strip_columns 4 line).text (10 ∷ []) in
-    let lines : suc (line_feeds after) ≡ suc (line_feeds text) + line_feeds blanks + 1 = omega (arith, feeds, feeds_append (text ++ 10 ∷ []) blanks, feeds_ended text) in
-    ap₂ (λ t n. Some (stays_open (open_code t n [] 0))) ends lines ∙ line-of-code text blanks line false true blank indented
+  pub goes_on : (text blanks after : List ℕ) (line : LineView) → is_blank line ≡ false → 4 ≤ indent_of line
+      → after ≡ ((text ++ 10 ∷ []) ++ blanks) ++ (strip_columns 4 line).text → line_feeds after ≡ line_feeds ((text ++ 10 ∷ []) ++ blanks)
+      → given true (stays_open (code_of after [])) ≡ line_of_leaf rules (code_of text blanks) line
+  unfolding line_feeds
+  goes_on text blanks after line blank far e feeds =
+      let indented : nat_le 4 (indent_of line) ≡ true = grind (arith, nat_tests, far) in
+      let ends : ended after ≡ ended text ++ blanks ++ with_ending (strip_columns 4 line) = ap ended e ∙ append_assoc ((text ++ 10 ∷ []) ++ blanks) (strip_columns 4 line).text (10 ∷ []) in
+      let lines : suc (line_feeds after) ≡ suc (line_feeds text) + line_feeds blanks + 1 = omega (arith, feeds, feeds_append (text ++ 10 ∷ []) blanks, feeds_ended text) in
+      ap₂ (λ t n. Some (stays_open (open_code t n [] 0))) ends lines ∙ line-of-code text blanks line false true blank indented
 
 -- a line behind each other kind of leaf
 
-pub no_line : (line : LineView) → None ≡ line_of_leaf profile no_leaf line
-unfolding line_of_leaf
-no_line line = refl
+module _ (rules : Rules) where
+  pub no_line : (line : LineView) → None ≡ line_of_leaf rules no_leaf line
+  unfolding line_of_leaf
+  no_line line = refl
 
-pub text_line : (source : List ℕ) (line : LineView) (next : NextLine) → next ≡ next_line profile source line → line_of_text source line next ≡ line_of_leaf profile (open_text source) line
-unfolding line_of_leaf
-text_line source line next e = ap (line_of_text source line) e
+  pub text_line : (source : List ℕ) (line : LineView) (next : NextLine) → next ≡ next_line rules source line → line_of_text source line next ≡ line_of_leaf rules (open_text source) line
+  unfolding line_of_leaf
+  text_line source line next e = ap (line_of_text source line) e
 
-pub fence_line : (fence : Fence) (columns : ℕ) (text : List ℕ) (lines : ℕ) (line : LineView) (closes : Bool) → closes ≡ closes_fence fence line
-    → Some (line_of_fence fence columns text lines line closes) ≡ line_of_leaf profile (open_fence fence columns text lines) line
-unfolding line_of_leaf
-fence_line fence columns text lines line closes e = ap (λ b. Some (line_of_fence fence columns text lines line b)) e
+  pub fence_line : (fence : Fence) (columns : ℕ) (text : List ℕ) (lines : ℕ) (line : LineView) (closes : Bool) → closes ≡ closes_fence fence line
+      → Some (line_of_fence fence columns text lines line closes) ≡ line_of_leaf rules (open_fence fence columns text lines) line
+  unfolding line_of_leaf
+  fence_line fence columns text lines line closes e = ap (λ b. Some (line_of_fence fence columns text lines line b)) e
 
-pub html_out : (kind : HtmlKind) (text : List ℕ) (lines : ℕ) (line : LineView) → (ends_at_blank_line kind && is_blank line) ≡ true → None ≡ line_of_leaf profile (open_html kind text lines) line
-unfolding line_of_leaf
-html_out kind text lines line e =
-    sym (ap (λ b. elim b as (λ _. Option LeafLine) [ true ↦ None | false ↦ Some (line_of_html kind text lines line (is_html_end kind line.text)) ]) e)
+  pub html_out : (kind : HtmlKind) (text : List ℕ) (lines : ℕ) (line : LineView) → (ends_at_blank_line kind && is_blank line) ≡ true → None ≡ line_of_leaf rules (open_html kind text lines) line
+  unfolding line_of_leaf
+  html_out kind text lines line e =
+      sym (ap (λ b. elim b as (λ _. Option LeafLine) [ true ↦ None | false ↦ Some (line_of_html kind text lines line (is_html_end kind line.text)) ]) e)
 
-pub html_line : (kind : HtmlKind) (text : List ℕ) (lines : ℕ) (line : LineView) (ends : Bool) → (ends_at_blank_line kind && is_blank line) ≡ false → ends ≡ is_html_end kind line.text
-    → Some (line_of_html kind text lines line ends) ≡ line_of_leaf profile (open_html kind text lines) line
-unfolding line_of_leaf
-html_line kind text lines line ends e k =
-    ap (λ b. Some (line_of_html kind text lines line b)) k
-    ∙ sym (ap (λ b. elim b as (λ _. Option LeafLine) [ true ↦ None | false ↦ Some (line_of_html kind text lines line (is_html_end kind line.text)) ]) e)
+  pub html_line : (kind : HtmlKind) (text : List ℕ) (lines : ℕ) (line : LineView) (ends : Bool) → (ends_at_blank_line kind && is_blank line) ≡ false → ends ≡ is_html_end kind line.text
+      → Some (line_of_html kind text lines line ends) ≡ line_of_leaf rules (open_html kind text lines) line
+  unfolding line_of_leaf
+  html_line kind text lines line ends e k =
+      ap (λ b. Some (line_of_html kind text lines line b)) k
+      ∙ sym (ap (λ b. elim b as (λ _. Option LeafLine) [ true ↦ None | false ↦ Some (line_of_html kind text lines line (is_html_end kind line.text)) ]) e)
 
 -- lines that line feeds part, and one more
 pub one_more : (text after line : List ℕ) → after ≡ text ++ 10 ∷ line → ended after ≡ ended text ++ (line ++ 10 ∷ [])

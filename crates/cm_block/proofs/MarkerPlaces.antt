@@ -3,7 +3,7 @@ use Rattle.std.proofs.Common.{◌≡◌, ℕ, zero, suc, ◌+◌, ◌<◌, ◌�
 use Rattle.std.specs.Prelude.{nat_le}
 use Rattle.std.specs.Str.{IsCharBoundary}
 use Rattle.std.specs.List.{slice_index}
-use Rattle.cm_text.specs.Rules.Rules.{profile}
+use Rattle.cm_text.specs.Rules.{Rules}
 use Rattle.cm_text.specs.Lines.{LineView}
 use Rattle.cm_text.specs.LineText.{tabs}
 use Rattle.cm_text.specs.Indentation.{indent_of}
@@ -122,22 +122,23 @@ first-item false None None None true i m e = absurd (cc e)
 first-item false None None None false (Some n) m e = ap (λ (s : Start). elim s [ ItemStart x ↦ Some x | _ ↦ None ]) e
 first-item false None None None false None m e = absurd (cc e)
 
-pub item-begins : (line : LineView) (m : ItemMarker) → start_of profile line ≡ ItemStart m → (indent_of line < 4) × (item_marker (content_of line) ≡ Some m)
-unfolding start_of start_of_content
-item-begins line m e = go line.lazy (nat_le 4 (indent_of line)) refl e
-  where
-    text : List ℕ
-    text = content_of line
+module _ (rules : Rules) where
+  pub item-begins : (line : LineView) (m : ItemMarker) → start_of rules line ≡ ItemStart m → (indent_of line < 4) × (item_marker (content_of line) ≡ Some m)
+  unfolding start_of start_of_content
+  item-begins line m e = go line.lazy (nat_le 4 (indent_of line)) refl e
+    where
+      text : List ℕ
+      text = content_of line
 
-    near : nat_le 4 (indent_of line) ≡ false → indent_of line < 4
-    near h = grind (arith, h)
+      near : nat_le 4 (indent_of line) ≡ false → indent_of line < 4
+      near h = grind (arith, h)
 
-    go : (lazy far : Bool) → nat_le 4 (indent_of line) ≡ far
-        → (elim lazy as (λ _. Start) [ true ↦ TextLine | false ↦ elim far as (λ _. Start) [ true ↦ IndentedCode | false ↦ start_of_content profile text ] ]) ≡ ItemStart m
-        → (indent_of line < 4) × (item_marker text ≡ Some m)
-    go true far h e = absurd (cc e)
-    go false true h e = absurd (cc e)
-    go false false h e = (near h, first-item (begins_with 62 text) (atx_heading text) (opening_fence text) (html_start profile text) (is_thematic_break text) (item_marker text) m e)
+      go : (lazy far : Bool) → nat_le 4 (indent_of line) ≡ far
+          → (elim lazy as (λ _. Start) [ true ↦ TextLine | false ↦ elim far as (λ _. Start) [ true ↦ IndentedCode | false ↦ start_of_content rules text ] ]) ≡ ItemStart m
+          → (indent_of line < 4) × (item_marker text ≡ Some m)
+      go true far h e = absurd (cc e)
+      go false true h e = absurd (cc e)
+      go false false h e = (near h, first-item (begins_with 62 text) (atx_heading text) (opening_fence text) (html_start rules text) (is_thematic_break text) (item_marker text) m e)
 
 -- a quote begins just where a `>` stands behind at most 3 columns
 
@@ -149,15 +150,16 @@ quote-first None None None true i = refl
 quote-first None None None false (Some i) = refl
 quote-first None None None false None = refl
 
-pub no-quote : (text : List ℕ) → begins_with 62 text ≡ false → begins_quote (start_of_content profile text) ≡ false
-unfolding start_of_content
-no-quote text e =
-    ap (λ q. begins_quote (first q (atx_heading text) (opening_fence text) (html_start profile text) (is_thematic_break text) (item_marker text))) e
-    ∙ quote-first (atx_heading text) (opening_fence text) (html_start profile text) (is_thematic_break text) (item_marker text)
+module _ (rules : Rules) where
+  pub no-quote : (text : List ℕ) → begins_with 62 text ≡ false → begins_quote (start_of_content rules text) ≡ false
+  unfolding start_of_content
+  no-quote text e =
+      ap (λ q. begins_quote (first q (atx_heading text) (opening_fence text) (html_start rules text) (is_thematic_break text) (item_marker text))) e
+      ∙ quote-first (atx_heading text) (opening_fence text) (html_start rules text) (is_thematic_break text) (item_marker text)
 
-pub a-quote : (text : List ℕ) → begins_with 62 text ≡ true → start_of_content profile text ≡ QuoteMarker
-unfolding start_of_content
-a-quote text e = ap (λ q. first q (atx_heading text) (opening_fence text) (html_start profile text) (is_thematic_break text) (item_marker text)) e
+  pub a-quote : (text : List ℕ) → begins_with 62 text ≡ true → start_of_content rules text ≡ QuoteMarker
+  unfolding start_of_content
+  a-quote text e = ap (λ q. first q (atx_heading text) (opening_fence text) (html_start rules text) (is_thematic_break text) (item_marker text)) e
 
 gap-byte : (b : ℕ) (bs : List ℕ) → is_at_gap (b ∷ bs) ≡ true → b < 128
 gap-byte b bs e = grind (arith, e)

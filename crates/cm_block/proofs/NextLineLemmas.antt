@@ -2,7 +2,7 @@
 use Rattle.std.proofs.Common.{◌≡◌, ℕ, zero, suc, ◌-◌, ◌<◌, ◌≤◌, Bool, true, false, List, [], ◌∷◌, length, take, drop, Option, Some, None, refl, sym, ap, subst, ◌∙◌, arith, option_map}
 use Rattle.std.specs.Prelude.{not, ◌==◌}
 use Rattle.std.proofs.lemmas.Bool.Decides.{nat_tests}
-use Rattle.cm_text.specs.Rules.Rules.{profile}
+use Rattle.cm_text.specs.Rules.{Rules}
 use Rattle.cm_text.specs.Lines.{LineView}
 use Rattle.cm_text.specs.Indentation.{indent_of}
 use Rattle.cm_scan.specs.Words.{is_blank_text, is_empty, trim_end}
@@ -47,9 +47,10 @@ underline_some line text end level at lazy near is some = an-ending (underline t
 
 -- an interruption
 
-pub interrupts : (start : Start) (line : LineView) (b : Bool) → start ≡ start_of profile line → b ≡ can_interrupt start line → b ≡ interrupts_paragraph profile line
-unfolding interrupts_paragraph
-interrupts start line b is e = e ∙ ap (λ s. can_interrupt s line) is
+module _ (rules : Rules) where
+  pub interrupts : (start : Start) (line : LineView) (b : Bool) → start ≡ start_of rules line → b ≡ can_interrupt start line → b ≡ interrupts_paragraph rules line
+  unfolding interrupts_paragraph
+  interrupts start line b is e = e ∙ ap (λ s. can_interrupt s line) is
 
 pub item_interrupts : (marker : ItemMarker) (line : LineView) (text : List ℕ) → text ≡ content_of line → starts_at_one marker.kind ≡ true
     → not (is_blank_text (drop (suc marker.digits) text)) ≡ can_interrupt (ItemStart marker) line
@@ -77,35 +78,36 @@ level_there source line rest level u e some = grind (arith, u, e, some)
 
 -- the line
 
-pub ends_blank : (source : List ℕ) (line : LineView) → is_blank line ≡ true → Ends ≡ next_line profile source line
-unfolding next_line
-ends_blank source line blank = grind (arith, blank)
+module _ (rules : Rules) where
+  pub ends_blank : (source : List ℕ) (line : LineView) → is_blank line ≡ true → Ends ≡ next_line rules source line
+  unfolding next_line
+  ends_blank source line blank = grind (arith, blank)
 
-by_blank : (P : NextLine → Type 0) (source : List ℕ) (line : LineView) → is_blank line ≡ false
-    → P (by_underline (underline_of line) (not (is_empty (rest_of source))) (interrupts_paragraph profile line)) → P (next_line profile source line)
-unfolding next_line
-by_blank P source line blank h =
-    subst (λ (b : Bool). P (elim b as (λ _. NextLine) [
-      | true ↦ Ends
-      | false ↦ by_underline (underline_of line) (not (is_empty (rest_of source))) (interrupts_paragraph profile line)
-    ])) (sym blank) h
+  by_blank : (P : NextLine → Type 0) (source : List ℕ) (line : LineView) → is_blank line ≡ false
+      → P (by_underline (underline_of line) (not (is_empty (rest_of source))) (interrupts_paragraph rules line)) → P (next_line rules source line)
+  unfolding next_line
+  by_blank P source line blank h =
+      subst (λ (b : Bool). P (elim b as (λ _. NextLine) [
+        | true ↦ Ends
+        | false ↦ by_underline (underline_of line) (not (is_empty (rest_of source))) (interrupts_paragraph rules line)
+      ])) (sym blank) h
 
-pub underlines : (source : List ℕ) (line : LineView) (level : ℕ) → is_blank line ≡ false → Some level ≡ heading_level source line → Underlines level ≡ next_line profile source line
-underlines source line level blank e = by_blank (λ x. Underlines level ≡ x) source line blank (go (underline_of line) (not (is_empty (rest_of source))) e)
-  where
-    go : (u : Option ℕ) (rest : Bool) → Some level ≡ level_above rest u → Underlines level ≡ by_underline u rest (interrupts_paragraph profile line)
-    go u false e = absurd (cc)
-    go None true e = absurd (cc)
-    go (Some other) true e = cc
+  pub underlines : (source : List ℕ) (line : LineView) (level : ℕ) → is_blank line ≡ false → Some level ≡ heading_level source line → Underlines level ≡ next_line rules source line
+  underlines source line level blank e = by_blank (λ x. Underlines level ≡ x) source line blank (go (underline_of line) (not (is_empty (rest_of source))) e)
+    where
+      go : (u : Option ℕ) (rest : Bool) → Some level ≡ level_above rest u → Underlines level ≡ by_underline u rest (interrupts_paragraph rules line)
+      go u false e = absurd (cc)
+      go None true e = absurd (cc)
+      go (Some other) true e = cc
 
-pub interrupted : (source : List ℕ) (line : LineView) → is_blank line ≡ false → None ≡ heading_level source line → by_interruption (interrupts_paragraph profile line) ≡ next_line profile source line
-interrupted source line blank e = by_blank (λ x. by_interruption (interrupts_paragraph profile line) ≡ x) source line blank (go (underline_of line) (not (is_empty (rest_of source))) e)
-  where
-    go : (u : Option ℕ) (rest : Bool) → None ≡ level_above rest u → by_interruption (interrupts_paragraph profile line) ≡ by_underline u rest (interrupts_paragraph profile line)
-    go None false e = refl
-    go (Some other) false e = refl
-    go None true e = refl
-    go (Some other) true e = absurd (cc)
+  pub interrupted : (source : List ℕ) (line : LineView) → is_blank line ≡ false → None ≡ heading_level source line → by_interruption (interrupts_paragraph rules line) ≡ next_line rules source line
+  interrupted source line blank e = by_blank (λ x. by_interruption (interrupts_paragraph rules line) ≡ x) source line blank (go (underline_of line) (not (is_empty (rest_of source))) e)
+    where
+      go : (u : Option ℕ) (rest : Bool) → None ≡ level_above rest u → by_interruption (interrupts_paragraph rules line) ≡ by_underline u rest (interrupts_paragraph rules line)
+      go None false e = refl
+      go (Some other) false e = refl
+      go None true e = refl
+      go (Some other) true e = absurd (cc)
 
 -- what is behind the first byte of a part
 

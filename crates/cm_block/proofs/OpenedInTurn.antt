@@ -1,6 +1,6 @@
 -- Containers that a line begins, opened one after another.
 use Rattle.std.proofs.Common.{◌≡◌, ℕ, ◌≤◌, Bool, true, false, List, [], ◌∷◌, ◌++◌, length, refl, ◌∙◌, sym, ap, ap₂, arith}
-use Rattle.cm_text.specs.Rules.Rules.{profile}
+use Rattle.cm_text.specs.Rules.{Rules}
 use Rattle.cm_text.specs.Lines.{LineView}
 use Rattle.cm_tree.specs.declared.tree.Owner.TheVariants.{Marker}
 use Rattle.cm_scan.specs.Lines.{is_blank}
@@ -23,106 +23,109 @@ use Rattle.cm_block.proofs.FrameStartLemmas.{frame, push-cases, not-nothing, IsB
 
 -- a line that isn't blank doesn't ask whether a marker was taken
 
-marked-by : (q p : Bool) (s : Owned) (v : Level) (b : Begin) → IsBegin b → push_by (push_begin profile) q s v b ≡ push_by (push_begin profile) p s v b
-marked-by q p s v begins_nothing h = absurd h
-marked-by q p s v (begins_leaf l) h = refl
-marked-by q p s v (begins_quote inner) h = refl
-marked-by q p s v (begins_item kind column inner) h = refl
+module _ (rules : Rules) where
+  marked-by : (q p : Bool) (s : Owned) (v : Level) (b : Begin) → IsBegin b → push_by (push_begin rules) q s v b ≡ push_by (push_begin rules) p s v b
+  marked-by q p s v begins_nothing h = absurd h
+  marked-by q p s v (begins_leaf l) h = refl
+  marked-by q p s v (begins_quote inner) h = refl
+  marked-by q p s v (begins_item kind column inner) h = refl
 
-marked-same : (q p : Bool) (s : Owned) (v : Level) (line : LineView) → is_blank line ≡ false → push_begin profile q s v line ≡ push_begin profile p s v line
-marked-same q p s v line some =
-    push-cases profile q s v line ∙ marked-by q p s v (begin_of profile line) (not-nothing profile line some) ∙ sym (push-cases profile p s v line)
+  marked-same : (q p : Bool) (s : Owned) (v : Level) (line : LineView) → is_blank line ≡ false → push_begin rules q s v line ≡ push_begin rules p s v line
+  marked-same q p s v line some =
+      push-cases rules q s v line ∙ marked-by q p s v (begin_of rules line) (not-nothing rules line some) ∙ sym (push-cases rules p s v line)
 
--- what it begins, by its start
-begins-as : (line : LineView) (start : Start) → is_blank line ≡ false → start_of profile line ≡ start → begin_of profile line ≡ begin_of_start start line
-unfolding begin_of
-begins-as line start some is = go (is_blank line) some
-  where
-    go : (b : Bool) → b ≡ false → (elim b as (λ _. Begin) [ true ↦ begins_nothing | false ↦ begin_of_start (start_of profile line) line ]) ≡ begin_of_start start line
-    go true e = absurd (cc e)
-    go false e = ap (λ s. begin_of_start s line) is
+  -- what it begins, by its start
+  begins-as : (line : LineView) (start : Start) → is_blank line ≡ false → start_of rules line ≡ start → begin_of rules line ≡ begin_of_start start line
+  unfolding begin_of
+  begins-as line start some is = go (is_blank line) some
+    where
+      go : (b : Bool) → b ≡ false → (elim b as (λ _. Begin) [ true ↦ begins_nothing | false ↦ begin_of_start (start_of rules line) line ]) ≡ begin_of_start start line
+      go true e = absurd (cc e)
+      go false e = ap (λ s. begin_of_start s line) is
 
 quoted-last : (q : Bool) (fs : List Frame) (f : Frame) → quoted_by q (fs ++ f ∷ []) ≡ quoted_in f.container (quoted_by q fs)
 unfolding quoted_by
 quoted-last q [] f = refl
 quoted-last q (g ∷ gs) f = quoted-last (quoted_in g.container q) gs f
 
-module _ (fs : List Frame) (v : Level) (line : LineView) (owned : Owned) where
-  pub quote_next : (inner : LineView) → is_blank line ≡ false → start_of profile line ≡ QuoteMarker → inner ≡ behind_quote_marker line
-      → begun_in fs v line owned ≡ begun_in (fs ++ frame (block_opens v) a_quote ∷ []) empty_level inner owned
+module _ (rules : Rules) (fs : List Frame) (v : Level) (line : LineView) (owned : Owned) where
+  pub quote_next : (inner : LineView) → is_blank line ≡ false → start_of rules line ≡ QuoteMarker → inner ≡ behind_quote_marker line
+      → begun_in rules fs v line owned ≡ begun_in rules (fs ++ frame (block_opens v) a_quote ∷ []) empty_level inner owned
   quote_next inner some is at =
-      ap (within fs) (begins-quote profile (quoted_by false fs) owned v line inner (begins-as line QuoteMarker some is ∙ ap begins_quote (sym at)))
-      ∙ sym (within-append fs (f ∷ []) (push_begin profile true owned empty_level inner))
-      ∙ ap (λ q. within (fs ++ f ∷ []) (push_begin profile q owned empty_level inner)) (sym (quoted-last false fs f))
+      ap (within fs) (begins-quote rules (quoted_by false fs) owned v line inner (begins-as _ line QuoteMarker some is ∙ ap begins_quote (sym at)))
+      ∙ sym (within-append fs (f ∷ []) (push_begin rules true owned empty_level inner))
+      ∙ ap (λ q. within (fs ++ f ∷ []) (push_begin rules q owned empty_level inner)) (sym (quoted-last false fs f))
     where
       f : Frame
       f = frame (block_opens v) a_quote
 
-  module _ (m : ItemMarker) (inner : LineView) (column : ℕ) (some : is_blank line ≡ false) (is : start_of profile line ≡ ItemStart m)
+  module _ (m : ItemMarker) (inner : LineView) (column : ℕ) (some : is_blank line ≡ false) (is : start_of rules line ≡ ItemStart m)
       (at : inner ≡ first_content m line) (reaches : column ≡ content_column m line) where
-    begins-it : begin_of profile line ≡ begins_item m.kind column inner
-    begins-it = begins-as line (ItemStart m) some is ∙ ap₂ (begins_item m.kind) (sym reaches) (sym at)
+    begins-it : begin_of rules line ≡ begins_item m.kind column inner
+    begins-it = begins-as _ line (ItemStart m) some is ∙ ap₂ (begins_item m.kind) (sym reaches) (sym at)
 
     opened-frame : Frame
     opened-frame = frame (item_opens v m.kind) (an_item m.kind column)
 
     pub item_next : is_blank inner ≡ false
-        → begun_in fs v line owned ≡ begun_in (fs ++ frame (item_opens v m.kind) (an_item m.kind column) ∷ []) empty_level inner owned
+        → begun_in rules fs v line owned ≡ begun_in rules (fs ++ frame (item_opens v m.kind) (an_item m.kind column) ∷ []) empty_level inner owned
     unfolding opened-frame
     item_next more =
-        ap (within fs) (begins-item profile (quoted_by false fs) owned v line inner m.kind column begins-it more)
-        ∙ sym (within-append fs (opened-frame ∷ []) (push_begin profile true owned empty_level inner))
-        ∙ ap (within (fs ++ opened-frame ∷ [])) (marked-same true (quoted_by false (fs ++ opened-frame ∷ [])) owned empty_level inner more)
+        ap (within fs) (begins-item rules (quoted_by false fs) owned v line inner m.kind column begins-it more)
+        ∙ sym (within-append fs (opened-frame ∷ []) (push_begin rules true owned empty_level inner))
+        ∙ ap (within (fs ++ opened-frame ∷ [])) (marked-same _ true (quoted_by false (fs ++ opened-frame ∷ [])) owned empty_level inner more)
 
     pub item_bare : is_blank inner ≡ true
-        → begun_in fs v line owned ≡ blank_in true (fs ++ frame (item_opens v m.kind) (an_item m.kind column) ∷ []) empty_level owned
+        → begun_in rules fs v line owned ≡ blank_in true (fs ++ frame (item_opens v m.kind) (an_item m.kind column) ∷ []) empty_level owned
     unfolding opened-frame
     item_bare none =
-        ap (within fs) (begins-bare-item profile (quoted_by false fs) owned v line inner m.kind column begins-it none)
+        ap (within fs) (begins-bare-item rules (quoted_by false fs) owned v line inner m.kind column begins-it none)
         ∙ sym (nest-last true fs opened-frame empty_level no_leaf (own_lines owned (Marker ∷ [])))
 
-  pub blank_next : is_blank line ≡ true → begun_in fs v line owned ≡ blank_in false fs v owned
+  pub blank_next : is_blank line ≡ true → begun_in rules fs v line owned ≡ blank_in false fs v owned
   blank_next none =
-      ap (within fs) (begins-nothing profile (quoted_by false fs) owned v line (blank-begins profile line none))
+      ap (within fs) (begins-nothing rules (quoted_by false fs) owned v line (blank-begins rules line none))
       ∙ sym (nest-within fs (push_blank v) no_leaf (own_lines owned (blank_owner (quoted_by false fs) ∷ [])))
 
-  pub leaf_next : (start : Start) (l : LeafLine) → is_blank line ≡ false → start_of profile line ≡ start → begins_leaf l ≡ begin_of_start start line
-      → begun_in fs v line owned ≡ within fs (push_leaf_line owned (block_opens v) l)
-  leaf_next start l some is at = ap (within fs) (begins-leaf profile (quoted_by false fs) owned v line l (begins-as line start some is ∙ sym at))
+  pub leaf_next : (start : Start) (l : LeafLine) → is_blank line ≡ false → start_of rules line ≡ start → begins_leaf l ≡ begin_of_start start line
+      → begun_in rules fs v line owned ≡ within fs (push_leaf_line owned (block_opens v) l)
+  leaf_next start l some is at = ap (within fs) (begins-leaf rules (quoted_by false fs) owned v line l (begins-as _ line start some is ∙ sym at))
 
-  pub deeper : length fs ≤ nesting (begun_in fs v line owned).now
-  deeper = omega (arith, within-nesting fs (push_begin profile (quoted_by false fs) owned v line))
+  pub deeper : length fs ≤ nesting (begun_in rules fs v line owned).now
+  deeper = omega (arith, within-nesting fs (push_begin rules (quoted_by false fs) owned v line))
 
 -- what is left, where the line is blank or not
 
-pub left_blank : (bare : Bool) (fs : List Frame) (v : Level) (line : LineView) (owned : Owned) → is_blank line ≡ true → left_in bare fs v line owned ≡ blank_in bare fs v owned
-left_blank true fs v line owned none = refl
-left_blank false fs v line owned none = blank_next fs v line owned none
+module _ (rules : Rules) where
+  pub left_blank : (bare : Bool) (fs : List Frame) (v : Level) (line : LineView) (owned : Owned) → is_blank line ≡ true → left_in rules bare fs v line owned ≡ blank_in bare fs v owned
+  left_blank true fs v line owned none = refl
+  left_blank false fs v line owned none = blank_next _ fs v line owned none
 
-pub left_some : (bare : Bool) (fs : List Frame) (v : Level) (line : LineView) (owned : Owned) → bare ≡ false → left_in bare fs v line owned ≡ begun_in fs v line owned
-left_some true fs v line owned e = absurd (cc e)
-left_some false fs v line owned e = refl
+  pub left_some : (bare : Bool) (fs : List Frame) (v : Level) (line : LineView) (owned : Owned) → bare ≡ false → left_in rules bare fs v line owned ≡ begun_in rules fs v line owned
+  left_some true fs v line owned e = absurd (cc e)
+  left_some false fs v line owned e = refl
 
 pub not_bare : (bare blank : Bool) → (bare ≡ true → blank ≡ true) → blank ≡ false → bare ≡ false
 not_bare true blank h e = absurd (cc (h refl, e))
 not_bare false blank h e = refl
 
-pub stays_left : (bare : Bool) (fs gs : List Frame) (v w : Level) (line : LineView) (owned : Owned) → bare ≡ false → gs ≡ fs → w ≡ v
-    → begun_in fs v line owned ≡ left_in bare gs w line owned
-stays_left bare fs gs v w line owned e frames level =
-    sym (left_some bare gs w line owned e ∙ ap₂ (λ hs u. begun_in hs u line owned) frames level)
+module _ (rules : Rules) where
+  pub stays_left : (bare : Bool) (fs gs : List Frame) (v w : Level) (line : LineView) (owned : Owned) → bare ≡ false → gs ≡ fs → w ≡ v
+      → begun_in rules fs v line owned ≡ left_in rules bare gs w line owned
+  stays_left bare fs gs v w line owned e frames level =
+      sym (left_some _ bare gs w line owned e ∙ ap₂ (λ hs u. begun_in rules hs u line owned) frames level)
 
--- behind an item's marker, by whether the rest of the line is blank
-pub item_left : (bare : Bool) (fs gs : List Frame) (v w : Level) (line : LineView) (owned : Owned) (m : ItemMarker) (inner : LineView) (column : ℕ)
-    → is_blank line ≡ false → start_of profile line ≡ ItemStart m → inner ≡ first_content m line → column ≡ content_column m line → bare ≡ is_blank inner
-    → gs ≡ fs ++ frame (item_opens v m.kind) (an_item m.kind column) ∷ [] → w ≡ empty_level
-    → begun_in fs v line owned ≡ left_in bare gs w inner owned
-item_left true fs gs v w line owned m inner column some is at reaches none frames level =
-    item_bare fs v line owned m inner column some is at reaches (sym none)
-    ∙ sym (ap₂ (λ hs u. blank_in true hs u owned) frames level)
-item_left false fs gs v w line owned m inner column some is at reaches more frames level =
-    item_next fs v line owned m inner column some is at reaches (sym more)
-    ∙ sym (ap₂ (λ hs u. begun_in hs u inner owned) frames level)
+  -- behind an item's marker, by whether the rest of the line is blank
+  pub item_left : (bare : Bool) (fs gs : List Frame) (v w : Level) (line : LineView) (owned : Owned) (m : ItemMarker) (inner : LineView) (column : ℕ)
+      → is_blank line ≡ false → start_of rules line ≡ ItemStart m → inner ≡ first_content m line → column ≡ content_column m line → bare ≡ is_blank inner
+      → gs ≡ fs ++ frame (item_opens v m.kind) (an_item m.kind column) ∷ [] → w ≡ empty_level
+      → begun_in rules fs v line owned ≡ left_in rules bare gs w inner owned
+  item_left true fs gs v w line owned m inner column some is at reaches none frames level =
+      item_bare _ fs v line owned m inner column some is at reaches (sym none)
+      ∙ sym (ap₂ (λ hs u. blank_in true hs u owned) frames level)
+  item_left false fs gs v w line owned m inner column some is at reaches more frames level =
+      item_next _ fs v line owned m inner column some is at reaches (sym more)
+      ∙ sym (ap₂ (λ hs u. begun_in rules hs u inner owned) frames level)
 
 -- what is neither a quote's nor an item's marker
 pub no_container : (start : code_start.Start) → begins_quote_marker (seen start) ≡ false → ((m : code_marker.ItemMarker) → start ≡ variants.Item m → ⊥) → begins_container (seen start) ≡ false
@@ -135,7 +138,8 @@ no_container variants.Break h k = refl
 no_container (variants.Item m) h k = absurd (k m refl)
 no_container variants.TextLine h k = refl
 
--- as many are open as there are containers, or more
-pub left_deep : (bare : Bool) (fs : List Frame) (v : Level) (line : LineView) (owned : Owned) → length fs ≤ nesting (left_in bare fs v line owned).now
-left_deep true fs v line owned = omega (arith, nest-nesting true fs v no_leaf)
-left_deep false fs v line owned = deeper fs v line owned
+module _ (rules : Rules) where
+  -- as many are open as there are containers, or more
+  pub left_deep : (bare : Bool) (fs : List Frame) (v : Level) (line : LineView) (owned : Owned) → length fs ≤ nesting (left_in rules bare fs v line owned).now
+  left_deep true fs v line owned = omega (arith, nest-nesting true fs v no_leaf)
+  left_deep false fs v line owned = deeper _ fs v line owned

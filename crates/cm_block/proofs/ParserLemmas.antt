@@ -1,7 +1,7 @@
 -- A parser, line by line.
 use Rattle.std.proofs.Common.{◌≡◌, ℕ, zero, suc, ◌<◌, ◌≤◌, Bool, true, false, ◌&&◌, List, [], ◌∷◌, ◌++◌, length, take, drop, refl, ◌∙◌, sym, ap, ap₂, subst, arith, le_refl, Option, Some, None}
 use Rattle.std.specs.Prelude.{nat_le, nat_lt, if◌then◌else◌}
-use Rattle.cm_text.specs.Rules.Rules.{profile}
+use Rattle.cm_text.specs.Rules.{Rules}
 use Rattle.cm_text.specs.Lines.{LineView}
 use Rattle.cm_text.specs.LineText.{is_line}
 use Rattle.std.specs.FinMap as map
@@ -81,118 +81,119 @@ stack_ends bare fs v u y s t leaves plain none level owners =
 
 -- a new parser
 
-pub new_holds : (s : code.Stack) (o : Owned) → s.frames ≡ [] → s.bare ≡ false → level_of s.level ≡ empty_level → o ≡ record { owners = []; leaves = 0; table = map.empty }
-    → stack_with s.bare (frames_of s.frames) (level_of s.level) no_leaf o ≡ push_lines profile empty_stack []
+pub new_holds : (rules : Rules) (s : code.Stack) (o : Owned) → s.frames ≡ [] → s.bare ≡ false → level_of s.level ≡ empty_level → o ≡ record { owners = []; leaves = 0; table = map.empty }
+    → stack_with s.bare (frames_of s.frames) (level_of s.level) no_leaf o ≡ push_lines rules empty_stack []
 unfolding push_lines nest
-new_holds s o frames bare level owners =
+new_holds rules s o frames bare level owners =
     ap₂ (λ b (fs : List code_frame.Frame). stack_with b (frames_of fs) (level_of s.level) no_leaf o) bare frames
     ∙ ap₂ (λ v w. stack_with false [] v no_leaf w) level owners
 
-pub new_within : (limit : ℕ) → first_too_deep profile limit [] ≡ None
+pub new_within : (rules : Rules) (limit : ℕ) → first_too_deep rules limit [] ≡ None
 unfolding first_too_deep depths_of parts_of parts_within size
-new_within limit = refl
+new_within rules limit = refl
 
 -- the outline
 
-module _ (bare : Bool) (fs : List Frame) (v : Level) (x : OpenLeaf) (o : Owned) (lines : List LineView) (holds : stack_with bare fs v x o ≡ push_lines profile empty_stack lines) where
-  pub all_blocks : (w : Level) → w ≡ close_frames fs (close_open v (in_leaf x)) → closed_blocks w ≡ blocks_of profile lines
+module _ (rules : Rules) (bare : Bool) (fs : List Frame) (v : Level) (x : OpenLeaf) (o : Owned) (lines : List LineView) (holds : stack_with bare fs v x o ≡ push_lines rules empty_stack lines) where
+  pub all_blocks : (w : Level) → w ≡ close_frames fs (close_open v (in_leaf x)) → closed_blocks w ≡ blocks_of rules lines
   unfolding close_stack
   all_blocks w is =
-      ap closed_blocks (is ∙ sym (closes bare fs v x)) ∙ ap (λ s. (close_stack s).blocks) holds ∙ stack_blocks profile lines
+      ap closed_blocks (is ∙ sym (closes bare fs v x)) ∙ ap (λ s. (close_stack s).blocks) holds ∙ stack_blocks rules lines
 
-  pub all_owners : (p : Owned) → p ≡ own_open (quoted_by false fs) o (in_leaf x) → p.owners ≡ owners_of profile lines
+  pub all_owners : (p : Owned) → p ≡ own_open (quoted_by false fs) o (in_leaf x) → p.owners ≡ owners_of rules lines
   unfolding close_stack
   all_owners p is =
-      ap (λ (t : Owned). t.owners) (is ∙ sym (owns bare false fs o v x)) ∙ ap (λ s. (close_stack s).owners) holds ∙ stack_owners profile lines
+      ap (λ (t : Owned). t.owners) (is ∙ sym (owns bare false fs o v x)) ∙ ap (λ s. (close_stack s).owners) holds ∙ stack_owners rules lines
 
-  pub all_definitions : (p : Owned) → p ≡ own_open (quoted_by false fs) o (in_leaf x) → p.table ≡ reference_table profile lines
+  pub all_definitions : (p : Owned) → p ≡ own_open (quoted_by false fs) o (in_leaf x) → p.table ≡ reference_table rules lines
   unfolding close_stack
   all_definitions p is =
-      ap (λ (t : Owned). t.table) (is ∙ sym (owns bare false fs o v x)) ∙ ap (λ s. (close_stack s).definitions) holds ∙ stack_table profile lines
+      ap (λ (t : Owned). t.table) (is ∙ sym (owns bare false fs o v x)) ∙ ap (λ s. (close_stack s).definitions) holds ∙ stack_table rules lines
 
 -- one more line behind those so far
 
-module _ (limit : ℕ) (st : Stack) (lines : List LineView) (line l : LineView) (same : l ≡ line) (so_far : AreLines lines) (one_line : is_line line.text ≡ true)
-    (holds : st ≡ push_lines profile empty_stack lines) (within_limit : first_too_deep profile limit lines ≡ None) where
+module _ (limits : LimitsView) (st : Stack) (lines : List LineView) (line l : LineView) (same : l ≡ line) (so_far : AreLines lines) (one_line : is_line line.text ≡ true)
+    (holds : st ≡ push_lines limits.rules empty_stack lines) (within_limit : first_too_deep limits.rules limits.blocks lines ≡ None) where
   pub lines_next : AreLines (lines ++ line ∷ [])
   lines_next = are-push lines line so_far one_line
 
-  pub holds_next : push_line profile st l ≡ push_lines profile empty_stack (lines ++ line ∷ [])
+  pub holds_next : push_line limits.rules st l ≡ push_lines limits.rules empty_stack (lines ++ line ∷ [])
   unfolding push_lines
-  holds_next = ap₂ (push_line profile) holds same ∙ sym (push_lines-append profile empty_stack lines (line ∷ []))
+  holds_next = ap₂ (push_line limits.rules) holds same ∙ sym (push_lines-append limits.rules empty_stack lines (line ∷ []))
 
-  by_depth : (deep : Bool) → nat_lt limit (nesting (push_line profile st l).now) ≡ deep
-      → first_too_deep profile limit (lines ++ line ∷ []) ≡ (if deep then Some (suc (length lines)) else None)
+  by_depth : (deep : Bool) → nat_lt limits.blocks (nesting (push_line limits.rules st l).now) ≡ deep
+      → first_too_deep limits.rules limits.blocks (lines ++ line ∷ []) ≡ (if deep then Some (suc (length lines)) else None)
   by_depth deep e =
-      too_deep_next profile limit lines line lines_next within_limit
-      ∙ ap (λ b. if b then Some (suc (length lines)) else None) (ap (λ (s : Stack). nat_lt limit (nesting s.now)) (sym holds_next) ∙ e)
+      too_deep_next limits.rules limits.blocks lines line lines_next within_limit
+      ∙ ap (λ b. if b then Some (suc (length lines)) else None) (ap (λ (s : Stack). nat_lt limits.blocks (nesting s.now)) (sym holds_next) ∙ e)
 
-  pub within_next : nesting (push_line profile st l).now ≤ limit → first_too_deep profile limit (lines ++ line ∷ []) ≡ None
+  pub within_next : nesting (push_line limits.rules st l).now ≤ limits.blocks → first_too_deep limits.rules limits.blocks (lines ++ line ∷ []) ≡ None
   within_next few = by_depth false (grind (arith, few))
 
-  pub tells_deep : (fault : BlockFault) → Deep fault limit st l → TellsDepth fault limit (lines ++ line ∷ [])
+  pub tells_deep : (fault : BlockFault) → Deep fault limits st l → TellsDepth fault limits (lines ++ line ∷ [])
   tells_deep NoMemory h = tt
   tells_deep (BlocksTooDeep n) h =
       by_depth true (grind (arith, h.0))
-      ∙ ap Some (sym (h.1 ∙ ap suc (ap (λ s. length (close_stack s).owners) holds ∙ one_owner_each profile lines so_far)))
+      ∙ ap Some (sym (h.1 ∙ ap suc (ap (λ s. length (close_stack s).owners) holds ∙ one_owner_each limits.rules lines so_far)))
 
 -- a line, by how far it stays in the containers
 
-abbrev pub after : List Frame → Level → OpenLeaf → Owned → ℕ × LineView → Stack
-after fs v x s m = begun_in (take m.0 fs) (close_frames (drop m.0 fs) (close_open v (in_leaf x))) m.1 (own_open (quoted_by false fs) s (in_leaf x))
+abbrev pub after : Rules → List Frame → Level → OpenLeaf → Owned → ℕ × LineView → Stack
+after rules fs v x s m = begun_in rules (take m.0 fs) (close_frames (drop m.0 fs) (close_open v (in_leaf x))) m.1 (own_open (quoted_by false fs) s (in_leaf x))
 
-module _ (bare : Bool) (fs : List Frame) (v : Level) (x : OpenLeaf) (s : Owned) (line : LineView) (m : ℕ × LineView)
-    (found : m ≡ matching profile bare (is_open_text x) fs line) where
-  pushed-as : push_line profile (stack_with bare fs v x s) line ≡ pushed profile false fs v x s m
+module _ (rules : Rules) (bare : Bool) (fs : List Frame) (v : Level) (x : OpenLeaf) (s : Owned) (line : LineView) (m : ℕ × LineView)
+    (found : m ≡ matching rules bare (is_open_text x) fs line) where
+  pushed-as : push_line rules (stack_with bare fs v x s) line ≡ pushed rules false fs v x s m
   unfolding push_line
-  pushed-as = pushes profile bare false fs v x s line ∙ ap (pushed profile false fs v x s) (sym found)
+  pushed-as = pushes rules bare false fs v x s line ∙ ap (pushed rules false fs v x s) (sym found)
 
-  pub pushed_to : (l : LeafLine) → m.0 ≡ length fs → line_of_leaf profile x m.1 ≡ Some l → push_line profile (stack_with bare fs v x s) line ≡ within fs (push_leaf_line s v l)
+  pub pushed_to : (l : LeafLine) → m.0 ≡ length fs → line_of_leaf rules x m.1 ≡ Some l → push_line rules (stack_with bare fs v x s) line ≡ within fs (push_leaf_line s v l)
   unfolding pushed_to_leaf
   pushed_to l all is =
-      pushed-as ∙ pushed-all profile false fs v x s m (grind (arith, all)) ∙ ap (pushed_to_leaf profile false fs v x s m) is
+      pushed-as ∙ pushed-all rules false fs v x s m (grind (arith, all)) ∙ ap (pushed_to_leaf rules false fs v x s m) is
 
-  pub pushed_no_leaf : m.0 ≡ length fs → line_of_leaf profile x m.1 ≡ None → push_line profile (stack_with bare fs v x s) line ≡ after fs v x s m
+  pub pushed_no_leaf : m.0 ≡ length fs → line_of_leaf rules x m.1 ≡ None → push_line rules (stack_with bare fs v x s) line ≡ after rules fs v x s m
   unfolding pushed_to_leaf pushed_after
   pushed_no_leaf all is =
-      pushed-as ∙ pushed-all profile false fs v x s m (grind (arith, all)) ∙ ap (pushed_to_leaf profile false fs v x s m) is
+      pushed-as ∙ pushed-all rules false fs v x s m (grind (arith, all)) ∙ ap (pushed_to_leaf rules false fs v x s m) is
 
-  pub pushed_left : (m.0 ≡ length fs → ⊥) → push_line profile (stack_with bare fs v x s) line ≡ after fs v x s m
+  pub pushed_left : (m.0 ≡ length fs → ⊥) → push_line rules (stack_with bare fs v x s) line ≡ after rules fs v x s m
   unfolding pushed_after
-  pushed_left fewer = pushed-as ∙ pushed-left profile false fs v x s m (grind (arith, fewer))
+  pushed_left fewer = pushed-as ∙ pushed-left rules false fs v x s m (grind (arith, fewer))
 
   pub owners_closed : (close_stack (stack_with bare fs v x s)).owners ≡ (own_open (quoted_by false fs) s (in_leaf x)).owners
   unfolding close_stack
   owners_closed = ap (λ (t : Owned). t.owners) (owns bare false fs s v x)
 
-pub matched_few : (bare open_text : Bool) (fs : List Frame) (line : LineView) → (matching profile bare open_text fs line).0 ≤ length fs
+pub matched_few : (rules : Rules) (bare open_text : Bool) (fs : List Frame) (line : LineView) → (matching rules bare open_text fs line).0 ≤ length fs
 unfolding matching
-matched_few bare open_text [] line = le_refl 0
-matched_few bare open_text (f ∷ fs) line = go (inward profile f.container (bare && is_last_frame fs) open_text line) (λ inner. matched_few bare open_text fs inner)
+matched_few rules bare open_text [] line = le_refl 0
+matched_few rules bare open_text (f ∷ fs) line = go (inward rules f.container (bare && is_last_frame fs) open_text line) (λ inner. matched_few rules bare open_text fs inner)
   where
-    go : (o : Option LineView) → ((inner : LineView) → (matching profile bare open_text fs inner).0 ≤ length fs)
-        → (elim o as (λ _. ℕ × LineView) [ Some inner ↦ let inside = matching profile bare open_text fs inner in (suc inside.0, inside.1) | None ↦ (0, line) ]).0 ≤ suc (length fs)
+    go : (o : Option LineView) → ((inner : LineView) → (matching rules bare open_text fs inner).0 ≤ length fs)
+        → (elim o as (λ _. ℕ × LineView) [ Some inner ↦ let inside = matching rules bare open_text fs inner in (suc inside.0, inside.1) | None ↦ (0, line) ]).0 ≤ suc (length fs)
     go None h = omega arith
     go (Some inner) h = omega (arith, h inner)
 
--- begun_in of what was closed
-pub deep_after : (fault : BlockFault) (limit : ℕ) (before now : Stack) (line : LineView) (o : Owned) → push_line profile before line ≡ now → (close_stack before).owners ≡ o.owners
-    → DeepIn fault limit now o → Deep fault limit before line
-deep_after NoMemory limit before now line o is owners h = tt
-deep_after (BlocksTooDeep n) limit before now line o is owners h =
-    (subst (λ (s : Stack). limit < nesting s.now) (sym is) h.0, h.1 ∙ ap (λ os. suc (length os)) (sym owners))
+-- what was begun, of what was closed
+pub deep_after : (fault : BlockFault) (limits : LimitsView) (before now : Stack) (line : LineView) (o : Owned) → push_line limits.rules before line ≡ now → (close_stack before).owners ≡ o.owners
+    → DeepIn fault limits.blocks now o → Deep fault limits before line
+deep_after NoMemory limits before now line o is owners h = tt
+deep_after (BlocksTooDeep n) limits before now line o is owners h =
+    (subst (λ (s : Stack). limits.blocks < nesting s.now) (sym is) h.0, h.1 ∙ ap (λ os. suc (length os)) (sym owners))
 
 -- the parser stands for one line more
 
 pub stands_next : (old new : parser.BlockParser) (lines : List LineView) (line l : LineView) → l ≡ line → is_line line.text ≡ true → StandsFor old lines
-    → stack_of new ≡ push_line profile (stack_of old) l → length new.stack.frames ≤ old.limits.blocks → new.limits ≡ old.limits → new.fault ≡ old.fault
+    → stack_of new ≡ push_line old.limits.rules (stack_of old) l → length new.stack.frames ≤ old.limits.blocks → new.limits ≡ old.limits → new.fault ≡ old.fault
     → StandsFor new (lines ++ line ∷ [])
 stands_next old new lines line l same one_line h pushed few limits fault = record {
   going = fault ∙ h.going;
   are_lines = are-push lines line h.are_lines one_line;
-  holds = pushed ∙ holds_next old.limits.blocks (stack_of old) lines line l same h.are_lines one_line h.holds h.within;
-  within = subst (λ n. first_too_deep profile n (lines ++ line ∷ []) ≡ None) (sym blocks)
-      (within_next old.limits.blocks (stack_of old) lines line l same h.are_lines one_line h.holds h.within
+  holds = subst (λ (k : LimitsView). stack_of new ≡ push_lines k.rules empty_stack (lines ++ line ∷ [])) (sym limits)
+      (pushed ∙ holds_next old.limits (stack_of old) lines line l same h.are_lines one_line h.holds h.within);
+  within = subst (λ (k : LimitsView). first_too_deep k.rules k.blocks (lines ++ line ∷ []) ≡ None) (sym limits)
+      (within_next old.limits (stack_of old) lines line l same h.are_lines one_line h.holds h.within
       (omega (arith, few, depth)));
   few = omega (arith, few, blocks);
 }
@@ -200,7 +201,7 @@ stands_next old new lines line l same one_line h pushed few limits fault = recor
     blocks : new.limits.blocks ≡ old.limits.blocks
     blocks = ap (λ (k : LimitsView). k.blocks) limits
 
-    depth : nesting (push_line profile (stack_of old) l).now ≡ length new.stack.frames
+    depth : nesting (push_line old.limits.rules (stack_of old) l).now ≡ length new.stack.frames
     depth =
         ap (λ (t : Stack). nesting t.now) (sym pushed)
         ∙ nest-nesting new.stack.bare (frames_of new.stack.frames) (level_of new.stack.level) (leaf_of new.leaf)
@@ -209,8 +210,8 @@ stands_next old new lines line l same one_line h pushed few limits fault = recor
 -- a line that the parser accepts: one of the open leaf, or else what it begins
 
 module _ (old before now : parser.BlockParser) (line : LineView) (m : ℕ × LineView) (frames : before.stack.frames ≡ old.stack.frames) (level : before.stack.level ≡ old.stack.level)
-    (leaf : before.leaf ≡ old.leaf) (owners : before.owners ≡ old.owners)
-    (found : m ≡ matching profile old.stack.bare (is_open_text (leaf_of old.leaf)) (frames_of old.stack.frames) line) where
+    (leaf : before.leaf ≡ old.leaf) (owners : before.owners ≡ old.owners) (limits : before.limits ≡ old.limits)
+    (found : m ≡ matching old.limits.rules old.stack.bare (is_open_text (leaf_of old.leaf)) (frames_of old.stack.frames) line) where
   fs : List Frame
   fs = frames_of old.stack.frames
 
@@ -226,24 +227,24 @@ module _ (old before now : parser.BlockParser) (line : LineView) (m : ℕ × Lin
 
   no-more : m.0 ≤ length fs
   unfolding fs
-  no-more = subst (λ (k : ℕ × LineView). k.0 ≤ length (frames_of old.stack.frames)) (sym found) (matched_few old.stack.bare (is_open_text (leaf_of old.leaf)) (frames_of old.stack.frames) line)
+  no-more = subst (λ (k : ℕ × LineView). k.0 ≤ length (frames_of old.stack.frames)) (sym found) (matched_few old.limits.rules old.stack.bare (is_open_text (leaf_of old.leaf)) (frames_of old.stack.frames) line)
 
   at-all : length before.stack.frames ≤ m.0 → m.0 ≡ length fs
   unfolding fs
   at-all many = omega (arith, many, no-more, length_frames old.stack.frames, ap length frames)
 
-  pub accept_taken : (taken : Bool) → taken ≡ true → TakenToLeaf taken m.0 before m.1 now → stack_of now ≡ push_line profile (stack_of old) line
+  pub accept_taken : (taken : Bool) → taken ≡ true → TakenToLeaf taken m.0 before m.1 now → stack_of now ≡ push_line old.limits.rules (stack_of old) line
   unfolding fs v x
   accept_taken true e h =
       h.1.1.1
       ∙ ap₂ (λ (gs : List code_frame.Frame) (w : Level). within (frames_of gs) (push_leaf_line before.owners w h.1.0)) frames (ap level_of level)
       ∙ ap (λ o. within (frames_of old.stack.frames) (push_leaf_line o (level_of old.stack.level) h.1.0)) owners
-      ∙ sym (pushed_to old.stack.bare (frames_of old.stack.frames) (level_of old.stack.level) (leaf_of old.leaf) old.owners line m found h.1.0 (at-all h.0)
-      (ap (λ y. line_of_leaf profile y m.1) (sym same-leaf) ∙ h.1.1.0))
+      ∙ sym (pushed_to _ old.stack.bare (frames_of old.stack.frames) (level_of old.stack.level) (leaf_of old.leaf) old.owners line m found h.1.0 (at-all h.0)
+      (ap₂ (λ (k : LimitsView) y. line_of_leaf k.rules y m.1) (sym limits) (sym same-leaf) ∙ h.1.1.0))
   accept_taken false e h = absurd (cc e)
 
   pub accept_left : (taken : Bool) → taken ≡ false → TakenToLeaf taken m.0 before m.1 now
-      → (push_line profile (stack_of old) line ≡ after (frames_of old.stack.frames) (level_of old.stack.level) (leaf_of old.leaf) old.owners m)
+      → (push_line old.limits.rules (stack_of old) line ≡ after old.limits.rules (frames_of old.stack.frames) (level_of old.stack.level) (leaf_of old.leaf) old.owners m)
       × ((leaf_of now.leaf ≡ leaf_of old.leaf) × ((now.stack.frames ≡ old.stack.frames) × ((now.stack.level ≡ old.stack.level) × (now.owners ≡ old.owners))))
   unfolding fs v x
   accept_left true e h = absurd (cc e)
@@ -253,14 +254,14 @@ module _ (old before now : parser.BlockParser) (line : LineView) (m : ℕ × Lin
   )
     where
       by-depth : (b : Bool) → nat_le (length before.stack.frames) m.0 ≡ b
-          → push_line profile (stack_of old) line ≡ after (frames_of old.stack.frames) (level_of old.stack.level) (leaf_of old.leaf) old.owners m
+          → push_line old.limits.rules (stack_of old) line ≡ after old.limits.rules (frames_of old.stack.frames) (level_of old.stack.level) (leaf_of old.leaf) old.owners m
       by-depth true le =
           let many : length before.stack.frames ≤ m.0 = grind (arith, le) in
-          pushed_no_leaf old.stack.bare (frames_of old.stack.frames) (level_of old.stack.level) (leaf_of old.leaf) old.owners line m found (at-all many)
-          (ap (λ y. line_of_leaf profile y m.1) (sym same-leaf) ∙ h.0 many)
+          pushed_no_leaf _ old.stack.bare (frames_of old.stack.frames) (level_of old.stack.level) (leaf_of old.leaf) old.owners line m found (at-all many)
+          (ap₂ (λ (k : LimitsView) y. line_of_leaf k.rules y m.1) (sym limits) (sym same-leaf) ∙ h.0 many)
       by-depth false le =
           let fewer : m.0 < length before.stack.frames = grind (arith, le) in
-          pushed_left old.stack.bare (frames_of old.stack.frames) (level_of old.stack.level) (leaf_of old.leaf) old.owners line m found
+          pushed_left _ old.stack.bare (frames_of old.stack.frames) (level_of old.stack.level) (leaf_of old.leaf) old.owners line m found
           (λ all. absurd (omega (arith, fewer, all, length_frames old.stack.frames, ap length frames)))
 
 -- what was closed, from what it was closed of
@@ -271,11 +272,11 @@ pub begun_after : (old mid closed : parser.BlockParser) (st : code.Stack) (m : �
     → closed.stack.frames ≡ mid.stack.frames
     → frames_of st.frames ≡ take m.0 (frames_of closed.stack.frames)
     → level_of st.level ≡ close_frames (drop m.0 (frames_of closed.stack.frames)) (level_of closed.stack.level)
-    → begun_in (frames_of st.frames) (level_of st.level) m.1 closed.owners ≡ after (frames_of old.stack.frames) (level_of old.stack.level) (leaf_of old.leaf) old.owners m
+    → begun_in old.limits.rules (frames_of st.frames) (level_of st.level) m.1 closed.owners ≡ after old.limits.rules (frames_of old.stack.frames) (level_of old.stack.level) (leaf_of old.leaf) old.owners m
 begun_after old mid closed st m same level owners frames first rest =
-    ap₂ (λ f w. begun_in f w m.1 closed.owners) (first ∙ ap (λ g. take m.0 (frames_of g)) all)
+    ap₂ (λ f w. begun_in old.limits.rules f w m.1 closed.owners) (first ∙ ap (λ g. take m.0 (frames_of g)) all)
     (rest ∙ ap₂ (λ g w. close_frames (drop m.0 (frames_of g)) w) all (level ∙ ap₂ (λ w y. close_open (level_of w) (in_leaf y)) same.1.1.0 same.0))
-    ∙ ap (begun_in (take m.0 (frames_of old.stack.frames)) (close_frames (drop m.0 (frames_of old.stack.frames)) (close_open (level_of old.stack.level) (in_leaf (leaf_of old.leaf)))) m.1)
+    ∙ ap (begun_in old.limits.rules (take m.0 (frames_of old.stack.frames)) (close_frames (drop m.0 (frames_of old.stack.frames)) (close_open (level_of old.stack.level) (in_leaf (leaf_of old.leaf)))) m.1)
     (owners ∙ ap₂ (λ g o. own_open (quoted_by false (frames_of g)) o (in_leaf (leaf_of mid.leaf))) same.1.0 same.1.1.1 ∙ ap (λ y. own_open (quoted_by false (frames_of old.stack.frames)) old.owners (in_leaf y)) same.0)
   where
     all : closed.stack.frames ≡ old.stack.frames

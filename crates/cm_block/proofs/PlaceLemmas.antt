@@ -2,7 +2,7 @@
 use Rattle.std.specs.Prelude.{min, nat_le, ◌-◌, ◌==◌, ◌||◌}
 use Rattle.std.proofs.lemmas.Bool.Decides.{nat_tests}
 use Rattle.std.proofs.Common.{◌≡◌, ◌≢◌, ℕ, zero, suc, ◌+◌, ◌<◌, ◌≤◌, Bool, true, false, not, ◌&&◌, List, ◌++◌, replicate, drop, None, refl, ◌∙◌, ap, ap₂, arith}
-use Rattle.cm_text.specs.Rules.Rules.{profile}
+use Rattle.cm_text.specs.Rules.{Rules}
 use Rattle.cm_text.specs.Lines.{LineView}
 use Rattle.cm_scan.specs.Words.{is_blank_text}
 use Rattle.cm_scan.specs.Lines.{is_blank, content_of, past, as_lazy}
@@ -20,97 +20,99 @@ pub blank_spaces : (n : ℕ) (text : List ℕ) → is_blank_text (replicate n 32
 blank_spaces zero text = refl
 blank_spaces (suc n) text = let h : is_blank_text (replicate n 32 ++ text) ≡ is_blank_text text = blank_spaces n text in grind (arith, h)
 
-pub lazy_blank : (line : LineView) → is_blank line ≡ true → Leaves ≡ place_if_lazy profile line
-unfolding place_if_lazy
-lazy_blank line blank = grind (arith, blank)
+module _ (rules : Rules) where
+  pub lazy_blank : (line : LineView) → is_blank line ≡ true → Leaves ≡ place_if_lazy rules line
+  unfolding place_if_lazy
+  lazy_blank line blank = grind (arith, blank)
 
-pub lazy_other : (line : LineView) (start : Start) → is_blank line ≡ false → start ≡ start_of profile line → may_be_lazy start ≡ false → Leaves ≡ place_if_lazy profile line
-unfolding place_if_lazy
-lazy_other line start some is other =
-    let e : may_be_lazy (start_of profile line) ≡ false = rw is at other in
-    grind (arith, some, e)
+  pub lazy_other : (line : LineView) (start : Start) → is_blank line ≡ false → start ≡ start_of rules line → may_be_lazy start ≡ false → Leaves ≡ place_if_lazy rules line
+  unfolding place_if_lazy
+  lazy_other line start some is other =
+      let e : may_be_lazy (start_of rules line) ≡ false = rw is at other in
+      grind (arith, some, e)
 
-pub lazy_stays : (line : LineView) (start : Start) → is_blank line ≡ false → start ≡ start_of profile line → may_be_lazy start ≡ true → StaysIfOpen (as_lazy line) ≡ place_if_lazy profile line
-unfolding place_if_lazy
-lazy_stays line start some is may =
-    let e : may_be_lazy (start_of profile line) ≡ true = rw is at may in
-    grind (arith, some, e)
+  pub lazy_stays : (line : LineView) (start : Start) → is_blank line ≡ false → start ≡ start_of rules line → may_be_lazy start ≡ true → StaysIfOpen (as_lazy line) ≡ place_if_lazy rules line
+  unfolding place_if_lazy
+  lazy_stays line start some is may =
+      let e : may_be_lazy (start_of rules line) ≡ true = rw is at may in
+      grind (arith, some, e)
 
--- a lazy continuation line goes inward only where a paragraph is left open
-pub lazy_closed : (line : LineView) → None ≡ goes_inward (place_if_lazy profile line) false
-unfolding place_if_lazy
-lazy_closed line = go (not (is_blank line) && may_be_lazy (start_of profile line))
-  where
-    go : (b : Bool) → None ≡ goes_inward (elim b as (λ _. Place) [ true ↦ StaysIfOpen (as_lazy line) | false ↦ Leaves ]) false
-    go true = refl
-    go false = refl
+  -- a lazy continuation line goes inward only where a paragraph is left open
+  pub lazy_closed : (line : LineView) → None ≡ goes_inward (place_if_lazy rules line) false
+  unfolding place_if_lazy
+  lazy_closed line = go (not (is_blank line) && may_be_lazy (start_of rules line))
+    where
+      go : (b : Bool) → None ≡ goes_inward (elim b as (λ _. Place) [ true ↦ StaysIfOpen (as_lazy line) | false ↦ Leaves ]) false
+      go true = refl
+      go false = refl
 
 -- places in a quote
 
-pub in_quote_as : (line : LineView) → start_of profile line ≡ QuoteMarker → place_in_quote profile line ≡ Stays (behind_quote_marker line)
-unfolding place_in_quote
-in_quote_as line e = ap (λ start. quote_place profile start line) e
+module _ (rules : Rules) where
+  pub in_quote_as : (line : LineView) → start_of rules line ≡ QuoteMarker → place_in_quote rules line ≡ Stays (behind_quote_marker line)
+  unfolding place_in_quote
+  in_quote_as line e = ap (λ start. quote_place rules start line) e
 
-pub in_quote_if_lazy : (line : LineView) → begins_quote (start_of profile line) ≡ false → place_in_quote profile line ≡ place_if_lazy profile line
-unfolding place_in_quote
-in_quote_if_lazy line e = go (start_of profile line) e
-  where
-    go : (start : Start) → begins_quote start ≡ false → quote_place profile start line ≡ place_if_lazy profile line
-    go IndentedCode e = refl
-    go QuoteMarker e = absurd (cc e)
-    go (AtxHeading h) e = refl
-    go (OpeningFence f) e = refl
-    go (HtmlStart k) e = refl
-    go BreakLine e = refl
-    go (ItemStart m) e = refl
-    go TextLine e = refl
+  pub in_quote_if_lazy : (line : LineView) → begins_quote (start_of rules line) ≡ false → place_in_quote rules line ≡ place_if_lazy rules line
+  unfolding place_in_quote
+  in_quote_if_lazy line e = go (start_of rules line) e
+    where
+      go : (start : Start) → begins_quote start ≡ false → quote_place rules start line ≡ place_if_lazy rules line
+      go IndentedCode e = refl
+      go QuoteMarker e = absurd (cc e)
+      go (AtxHeading h) e = refl
+      go (OpeningFence f) e = refl
+      go (HtmlStart k) e = refl
+      go BreakLine e = refl
+      go (ItemStart m) e = refl
+      go TextLine e = refl
 
 -- places in an item
 
-module _ (column : ℕ) (bare : Bool) (line : LineView) where
-  pub in_item_lazy : line.lazy ≡ true → place_in_item profile column bare line ≡ place_if_lazy profile line
+module _ (rules : Rules) (column : ℕ) (bare : Bool) (line : LineView) where
+  pub in_item_lazy : line.lazy ≡ true → place_in_item rules column bare line ≡ place_if_lazy rules line
   unfolding place_in_item
   in_item_lazy e = grind (arith, e)
 
-  pub in_item_blank : line.lazy ≡ false → is_blank line ≡ true → bare ≡ false → place_in_item profile column bare line ≡ Stays (strip_columns column line)
+  pub in_item_blank : line.lazy ≡ false → is_blank line ≡ true → bare ≡ false → place_in_item rules column bare line ≡ Stays (strip_columns column line)
   unfolding place_in_item
   in_item_blank e b n = grind (arith, e, b, n)
 
-  pub in_item_bare : line.lazy ≡ false → is_blank line ≡ true → bare ≡ true → place_in_item profile column bare line ≡ Leaves
+  pub in_item_bare : line.lazy ≡ false → is_blank line ≡ true → bare ≡ true → place_in_item rules column bare line ≡ Leaves
   unfolding place_in_item
   in_item_bare e b n = grind (arith, e, b, n)
 
-  pub in_item_near : line.lazy ≡ false → is_blank line ≡ false → indent_of line < column → place_in_item profile column bare line ≡ place_if_lazy profile line
+  pub in_item_near : line.lazy ≡ false → is_blank line ≡ false → indent_of line < column → place_in_item rules column bare line ≡ place_if_lazy rules line
   unfolding place_in_item
   in_item_near e b n = let h : nat_le column (indent_of line) ≡ false = grind (arith, n) in grind (arith, e, b, h)
 
-  pub in_item_far : line.lazy ≡ false → is_blank line ≡ false → column ≤ indent_of line → place_in_item profile column bare line ≡ Stays (strip_columns column line)
+  pub in_item_far : line.lazy ≡ false → is_blank line ≡ false → column ≤ indent_of line → place_in_item rules column bare line ≡ Stays (strip_columns column line)
   unfolding place_in_item
   in_item_far e b n = let h : nat_le column (indent_of line) ≡ true = grind (arith, n) in grind (arith, e, b, h)
 
-  pub in_item_leaves : line.lazy ≡ false → (bare && is_blank line) ≡ true → place_in_item profile column bare line ≡ Leaves
+  pub in_item_leaves : line.lazy ≡ false → (bare && is_blank line) ≡ true → place_in_item rules column bare line ≡ Leaves
   in_item_leaves e both = go bare (is_blank line) refl refl both
     where
-      go : (b k : Bool) → bare ≡ b → is_blank line ≡ k → (b && k) ≡ true → place_in_item profile column bare line ≡ Leaves
+      go : (b k : Bool) → bare ≡ b → is_blank line ≡ k → (b && k) ≡ true → place_in_item rules column bare line ≡ Leaves
       go true true is blank both = in_item_bare e blank is
       go true false is blank both = absurd (cc both)
       go false k is blank both = absurd (cc both)
 
   pub in_item_stays : line.lazy ≡ false → (bare && is_blank line) ≡ false → (nat_le column (indent_of line) || is_blank line) ≡ true
-      → place_in_item profile column bare line ≡ Stays (strip_columns column line)
+      → place_in_item rules column bare line ≡ Stays (strip_columns column line)
   in_item_stays e more either = go bare (is_blank line) (nat_le column (indent_of line)) refl refl refl more either
     where
       go : (b k r : Bool) → bare ≡ b → is_blank line ≡ k → nat_le column (indent_of line) ≡ r → (b && k) ≡ false → (r || k) ≡ true
-          → place_in_item profile column bare line ≡ Stays (strip_columns column line)
+          → place_in_item rules column bare line ≡ Stays (strip_columns column line)
       go true true r is blank reach more either = absurd (cc more)
       go false true r is blank reach more either = in_item_blank e blank is
       go b false true is blank reach more either = in_item_far e blank (grind (arith, nat_tests, reach))
       go b false false is blank reach more either = absurd (cc either)
 
-  pub in_item_lazily : line.lazy ≡ false → (nat_le column (indent_of line) || is_blank line) ≡ false → place_in_item profile column bare line ≡ place_if_lazy profile line
+  pub in_item_lazily : line.lazy ≡ false → (nat_le column (indent_of line) || is_blank line) ≡ false → place_in_item rules column bare line ≡ place_if_lazy rules line
   in_item_lazily e neither = go (is_blank line) (nat_le column (indent_of line)) refl refl neither
     where
-      go : (k r : Bool) → is_blank line ≡ k → nat_le column (indent_of line) ≡ r → (r || k) ≡ false → place_in_item profile column bare line ≡ place_if_lazy profile line
+      go : (k r : Bool) → is_blank line ≡ k → nat_le column (indent_of line) ≡ r → (r || k) ≡ false → place_in_item rules column bare line ≡ place_if_lazy rules line
       go true true blank reach neither = absurd (cc neither)
       go true false blank reach neither = absurd (cc neither)
       go false true blank reach neither = absurd (cc neither)

@@ -7,7 +7,7 @@ use Rattle.cm_text.specs.declared.view.View.{View}
 use Rattle.cm_text.proofs.StripLemmas.{strip_takes_columns}
 use Rattle.cm_scan.specs.Lines.{content_of}
 use Rattle.std.specs.Option.{is_some}
-use Rattle.cm_text.specs.Rules.Rules.{profile}
+use Rattle.cm_text.specs.Rules.{Rules}
 use Rattle.cm_scan.specs.Words.{begins_with, given, ◌<|>◌, skip, trim_start}
 use Rattle.cm_scan.specs.LineForms.{Heading, Fence, ItemMarker, is_thematic_break, atx_heading, opening_fence, item_marker}
 use Rattle.cm_scan.specs.HtmlBlocks.{HtmlKind, html_start}
@@ -23,12 +23,13 @@ first quote heading fence kind break_line marker = or_text (
     <|> given break_line BreakLine
     <|> seen_as ItemStart marker)
 
-pub first_is : (text : List ℕ) (quote : Bool) (heading : Option Heading) (fence : Option Fence) (kind : Option HtmlKind) (break_line : Bool) (marker : Option ItemMarker)
-    → begins_with 62 text ≡ quote → atx_heading text ≡ heading → opening_fence text ≡ fence → html_start profile text ≡ kind
-    → is_thematic_break text ≡ break_line → item_marker text ≡ marker → first quote heading fence kind break_line marker ≡ start_of_content profile text
-unfolding start_of_content
-first_is text quote heading fence kind break_line marker q h f k b m =
-    sym (λ i. first (q i) (h i) (f i) (k i) (b i) (m i))
+module _ (rules : Rules) where
+  pub first_is : (text : List ℕ) (quote : Bool) (heading : Option Heading) (fence : Option Fence) (kind : Option HtmlKind) (break_line : Bool) (marker : Option ItemMarker)
+      → begins_with 62 text ≡ quote → atx_heading text ≡ heading → opening_fence text ≡ fence → html_start rules text ≡ kind
+      → is_thematic_break text ≡ break_line → item_marker text ≡ marker → first quote heading fence kind break_line marker ≡ start_of_content rules text
+  unfolding start_of_content
+  first_is text quote heading fence kind break_line marker q h f k b m =
+      sym (λ i. first (q i) (h i) (f i) (k i) (b i) (m i))
 
 -- a scanner that answers a place alone
 
@@ -42,17 +43,18 @@ is_not_there false place read e h = refl
 
 -- by the line's mark and its indentation
 
-pub starts_lazy : (line : LineView) → line.lazy ≡ true → TextLine ≡ start_of profile line
-unfolding start_of
-starts_lazy line lazy = grind (arith, lazy)
+module _ (rules : Rules) where
+  pub starts_lazy : (line : LineView) → line.lazy ≡ true → TextLine ≡ start_of rules line
+  unfolding start_of
+  starts_lazy line lazy = grind (arith, lazy)
 
-pub starts_code : (line : LineView) → line.lazy ≡ false → 4 ≤ indent_of line → IndentedCode ≡ start_of profile line
-unfolding start_of
-starts_code line lazy far = grind (arith, lazy, far)
+  pub starts_code : (line : LineView) → line.lazy ≡ false → 4 ≤ indent_of line → IndentedCode ≡ start_of rules line
+  unfolding start_of
+  starts_code line lazy far = grind (arith, lazy, far)
 
-starts_content : (line : LineView) → line.lazy ≡ false → indent_of line < 4 → start_of_content profile (content_of line) ≡ start_of profile line
-unfolding start_of
-starts_content line lazy near = grind (arith, lazy, near)
+  starts_content : (line : LineView) → line.lazy ≡ false → indent_of line < 4 → start_of_content rules (content_of line) ≡ start_of rules line
+  unfolding start_of
+  starts_content line lazy near = grind (arith, lazy, near)
 
 -- a line without its indentation has its content left
 
@@ -73,7 +75,8 @@ content_left line n view all left none =
     let nothing : indent_of (strip_columns n line) ≡ 0 = omega (arith, law.1, all) in
     bare ∙ sym (no_indent _ (strip_columns n line).text nothing) ∙ law.2 ∙ content-after line.text
 
-pub starts_near : (line : LineView) (n : ℕ) (view : View) → line.lazy ≡ false → n ≡ indent_of line → n < 4 → line_of view ≡ strip_columns n line → view.spaces ≡ 0
-    → start_of_content profile view.rest.now ≡ start_of profile line
-starts_near line n view lazy all near left none =
-    ap (start_of_content profile) (content_left line n view all left none) ∙ starts_content line lazy (omega (arith, all, near))
+module _ (rules : Rules) where
+  pub starts_near : (line : LineView) (n : ℕ) (view : View) → line.lazy ≡ false → n ≡ indent_of line → n < 4 → line_of view ≡ strip_columns n line → view.spaces ≡ 0
+      → start_of_content rules view.rest.now ≡ start_of rules line
+  starts_near line n view lazy all near left none =
+      ap (start_of_content rules) (content_left line n view all left none) ∙ starts_content _ line lazy (omega (arith, all, near))

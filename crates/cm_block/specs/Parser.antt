@@ -1,6 +1,7 @@
 -- What a parser stands for: the lines that it has been given.
-use Rattle.std.specs.Prelude.{◌≡◌, ℕ, ◌≤◌, List, length, Some, None, ⊤}
-use Rattle.cm_text.specs.Rules.Rules.{profile}
+use Rattle.std.specs.Prelude.{◌≡◌, ◌≤◌, List, length, Some, None, ⊤}
+use Rattle.cm_text.specs.Rules.{Rules}
+use Rattle.cm_text.specs.Limits.{LimitsView}
 use Rattle.cm_text.specs.Lines.{LineView}
 use Rattle.cm_scan.specs.Blocks.{blocks_of, owners_of, reference_table, first_too_deep}
 use Rattle.cm_scan.specs.Laws.{AreLines}
@@ -18,21 +19,21 @@ use Rattle.cm_block.specs.LeafViews.{leaf_of}
 abbrev pub stack_of : code.BlockParser → Stack
 stack_of parser = stack_with parser.stack.bare (frames_of parser.stack.frames) (level_of parser.stack.level) (leaf_of parser.leaf) parser.owners
 
--- The parser has been given these lines, none of which is too deep, and can be given more.
+-- The parser has been given these lines, none of which is too deep by its limits and their rules, and can be given more.
 pub record StandsFor (parser : code.BlockParser) (lines : List LineView) : Type 0 where
   pub going : parser.fault ≡ None
   pub are_lines : AreLines lines
-  pub holds : stack_of parser ≡ push_lines profile empty_stack lines
-  pub within : first_too_deep profile parser.limits.blocks lines ≡ None
+  pub holds : stack_of parser ≡ push_lines parser.limits.rules empty_stack lines
+  pub within : first_too_deep parser.limits.rules parser.limits.blocks lines ≡ None
   pub few : length parser.stack.frames ≤ parser.limits.blocks
 
 -- why the lines are refused; memory may be refused
-abbrev pub TellsDepth : BlockFault → ℕ → List LineView → Type 0
-TellsDepth (BlocksTooDeep line) limit lines = first_too_deep profile limit lines ≡ Some line
-TellsDepth NoMemory limit lines = ⊤
+abbrev pub TellsDepth : BlockFault → LimitsView → List LineView → Type 0
+TellsDepth (BlocksTooDeep line) limits lines = first_too_deep limits.rules limits.blocks lines ≡ Some line
+TellsDepth NoMemory limits lines = ⊤
 
--- the outline of the lines
-pub record OutlineOf (outline : Outline) (lines : List LineView) : Type 0 where
-  pub blocks : outline.blocks ≡ blocks_of profile lines
-  pub owners : outline.owners ≡ owners_of profile lines
-  pub definitions : outline.definitions ≡ reference_table profile lines
+-- the outline of the lines by these rules
+pub record OutlineOf (outline : Outline) (rules : Rules) (lines : List LineView) : Type 0 where
+  pub blocks : outline.blocks ≡ blocks_of rules lines
+  pub owners : outline.owners ≡ owners_of rules lines
+  pub definitions : outline.definitions ≡ reference_table rules lines

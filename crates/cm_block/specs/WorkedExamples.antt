@@ -1,7 +1,7 @@
 -- Worked examples: what the stack holds behind the lines of a text.
 use Rattle.std.specs.FinMap.{empty, insert}
 use Rattle.std.specs.Prelude.{◌≡◌, ℕ, true, false, List, [], ◌∷◌, codes, Some, None}
-use Rattle.cm_text.specs.Rules.Rules.{profile}
+use Rattle.cm_text.specs.Rules.{profile}
 use Rattle.cm_text.specs.Lines.{plain_lines_of}
 use Rattle.cm_tree.specs.declared.tree.Block.TheVariants.{Heading, Definition, Quote}
 use Rattle.cm_tree.specs.declared.tree.Inline.TheVariants.{Text}

@@ -6,7 +6,7 @@ ghost use Rattle.cm_block.specs.steps.FrameStarts.{Inside};
 use crate::places::{is_blank, item_content, quote_content};
 use crate::stack::Stack;
 use crate::starts::{Start, start_of};
-use cm_text::View;
+use cm_text::{Rules, View};
 use std::alloc::{AllocError, Global};
 
 /// What stands in the innermost of the quotes and items that a line begins.
@@ -26,11 +26,12 @@ impl Stack {
     pub(crate) fn open_containers<'a>(
         &mut self,
         alloc: Global,
+        rules: Rules,
         limit: usize,
         line: &View<'a>,
     ) -> Result<Innermost<'a>, AllocError>
         requires { self.old.bare ≡ false }
-        ensures { IfOk result (λ innermost. Inside limit self.old (line_of line.now) self.new innermost) }
+        ensures { IfOk result (λ innermost. Inside rules limit self.old (line_of line.now) self.new innermost) }
     {
         let mut line = *line;
         while self.frames.len() <= limit {
@@ -42,7 +43,7 @@ impl Stack {
                 line = inner;
                 continue;
             }
-            let start = start_of(&line);
+            let start = start_of(rules, &line);
             let Start::Item(marker) = start else {
                 return Ok(Innermost::Leaf(start, line));
             };

@@ -1,6 +1,6 @@
 //! The leaf block that is open, and what one more line does to it (chapter 4).
 ghost use Rattle.std.specs.Prelude.{◌≡◌, ◌&&◌, ◌++◌, ◌∷◌, [], ℕ, List, Some, None, suc, true, false, string_bytes, IfOk, OnOk};
-ghost use Rattle.cm_text.specs.Rules.Rules.{profile};
+ghost use Rattle.cm_text.specs.Rules as all;
 ghost use Rattle.cm_text.specs.Views.{line_of};
 ghost use Rattle.cm_scan.specs.Words.{given};
 ghost use Rattle.cm_scan.specs.Lines.{is_blank, with_ending};
@@ -17,7 +17,7 @@ use crate::closed_leaf::ClosedLeaf;
 use crate::places::is_blank;
 use crate::runs::{NextLine, add_text, content, line_feeds, next_line};
 use cm_scan::{FenceKind, HtmlKind, fence_end, html_end};
-use cm_text::View;
+use cm_text::{Rules, View};
 use std::alloc::AllocError;
 use std::mem;
 
@@ -97,8 +97,8 @@ fn take_code_line(
     blank_lines: &mut String,
     line: &View<'_>,
 ) -> Result<bool, AllocError>
-    ensures taken { IfOk result (λ taken. given taken (stays_open (code_of (string_bytes text.new) (string_bytes blank_lines.new)))
-        ≡ line_of_leaf profile (code_of (string_bytes text.old) (string_bytes blank_lines.old)) (line_of line.now)) }
+    ensures taken { (by : all.Rules) → IfOk result (λ taken. given taken (stays_open (code_of (string_bytes text.new) (string_bytes blank_lines.new)))
+        ≡ line_of_leaf by (code_of (string_bytes text.old) (string_bytes blank_lines.old)) (line_of line.now)) }
     ensures kept { IfOk result (λ taken. taken ≡ false → text.new ≡ text.old) }
     ensures waiting { IfOk result (λ taken. taken ≡ false → blank_lines.new ≡ blank_lines.old) }
 {
@@ -186,13 +186,17 @@ impl OpenLeaf {
     }
 
     /// One more line.
-    pub(crate) fn take_line(&mut self, line: &View<'_>) -> Result<LeafLine, AllocError>
-        ensures line { IfOk result (λ taken. taken_of taken (leaf_of self.new) ≡ line_of_leaf profile (leaf_of self.old) (line_of line.now)) }
+    pub(crate) fn take_line(
+        &mut self,
+        rules: Rules,
+        line: &View<'_>,
+    ) -> Result<LeafLine, AllocError>
+        ensures line { IfOk result (λ taken. taken_of taken (leaf_of self.new) ≡ line_of_leaf rules (leaf_of self.old) (line_of line.now)) }
         ensures left { IfOk result (λ taken. leaf_of self.new ≡ left_open taken (leaf_of self.old) (leaf_of self.new)) }
     {
         match self {
             OpenLeaf::Nothing => Ok(LeafLine::Leaves),
-            OpenLeaf::Run { source } => match next_line(source, line) {
+            OpenLeaf::Run { source } => match next_line(rules, source, line) {
                 NextLine::GoesOn => {
                     add_text(source, line)?;
                     Ok(LeafLine::Stays)

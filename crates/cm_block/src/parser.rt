@@ -1,7 +1,6 @@
 //! The block structure of a document, line by line.
 ghost use Rattle.std.specs.Prelude.{◌≡◌, ◌≢◌, ◌≤◌, ◌∷◌, ◌++◌, [], List, None, true, false, length, suc, Some, Err, IfOk, IfErr, OnOk};
 ghost use Rattle.cm_text.specs.Answers.{answer_after};
-ghost use Rattle.cm_text.specs.Rules.Rules.{profile};
 ghost use Rattle.cm_text.specs.Lines.{LineView, view_of};
 ghost use Rattle.cm_text.specs.Views.{line_of};
 ghost use Rattle.cm_block.specs.declared.fault.BlockFault as faults;
@@ -40,7 +39,8 @@ pub struct Outline {
     pub definitions: Definitions,
 }
 
-/// Reads the block structure of a document from its lines (CommonMark 0.31.2, chapters 3 to 5).
+/// Reads the block structure of a document from its lines, by the rules of its limits (CommonMark 0.31.2,
+/// chapters 3 to 5).
 ///
 /// Hand over each line once, by `line`, and take the outline by `finish`. Each line is done with when the
 /// call returns: what is open is held, and no line is kept. After a fault each further call answers that
@@ -132,15 +132,18 @@ impl BlockParser {
     fn begin(&mut self, line: &View<'_>) -> Result<(), BlockFault>
         requires plain { self.old.stack.bare ≡ false }
         requires leaf { leaf_of self.old.leaf ≡ no_leaf }
-        ensures pushed { OnOk result (stack_of self.new ≡ begun self.old.stack (line_of line.now) self.old.owners) }
+        ensures pushed { OnOk result (stack_of self.new ≡ begun self.old.limits.rules self.old.stack (line_of line.now) self.old.owners) }
         ensures few { OnOk result (length self.new.stack.frames ≤ self.old.limits.blocks) }
-        ensures deep { IfErr result (λ fault. DeepIn fault self.old.limits.blocks (begun self.old.stack (line_of line.now) self.old.owners) self.old.owners) }
+        ensures deep { IfErr result (λ fault. DeepIn fault self.old.limits.blocks (begun self.old.limits.rules self.old.stack (line_of line.now) self.old.owners) self.old.owners) }
         ensures limits { self.new.limits ≡ self.old.limits }
         ensures fault { self.new.fault ≡ self.old.fault }
     {
-        let innermost = self
-            .stack
-            .open_containers(self.alloc, self.limits.blocks(), line)?;
+        let innermost = self.stack.open_containers(
+            self.alloc,
+            self.limits.rules(),
+            self.limits.blocks(),
+            line,
+        )?;
         match innermost {
             Innermost::TooDeep => Err(BlockFault::BlocksTooDeep {
                 line: self.owners.next_line(),
@@ -161,7 +164,7 @@ impl BlockParser {
         if depth < self.stack.frames.len() {
             return Ok(false);
         }
-        match self.leaf.take_line(line)? {
+        match self.leaf.take_line(self.limits.rules(), line)? {
             LeafLine::Stays => {}
             LeafLine::Last(leaf) => {
                 leaf.put(self.alloc, &mut self.stack.level, &mut self.owners)?;
@@ -173,13 +176,15 @@ impl BlockParser {
 
     /// One more line.
     fn accept(&mut self, line: &View<'_>) -> Result<(), BlockFault>
-        ensures pushed { OnOk result (stack_of self.new ≡ push_line profile (stack_of self.old) (line_of line.now)) }
+        ensures pushed { OnOk result (stack_of self.new ≡ push_line self.old.limits.rules (stack_of self.old) (line_of line.now)) }
         ensures few { OnOk result (length self.old.stack.frames ≤ self.old.limits.blocks → length self.new.stack.frames ≤ self.old.limits.blocks) }
-        ensures deep { IfErr result (λ fault. Deep fault self.old.limits.blocks (stack_of self.old) (line_of line.now)) }
+        ensures deep { IfErr result (λ fault. Deep fault self.old.limits (stack_of self.old) (line_of line.now)) }
         ensures limits { self.new.limits ≡ self.old.limits }
         ensures fault { self.new.fault ≡ self.old.fault }
     {
-        let (depth, inner) = self.stack.matching(line, self.leaf.is_run());
+        let (depth, inner) = self
+            .stack
+            .matching(self.limits.rules(), line, self.leaf.is_run());
         self.stack.bare = false;
         if self.take_to_leaf(depth, &inner)? {
             return Ok(());
@@ -197,7 +202,7 @@ impl BlockParser {
     /// limit, `NoMemory` where a request for memory was refused; the same fault from then on.
     pub fn line(&mut self, line: &Line) -> Result<(), BlockFault>
         ensures stands { OnOk result ((lines : List LineView) → StandsFor self.old lines → StandsFor self.new (lines ++ view_of line.now ∷ [])) }
-        ensures told { IfErr result (λ fault. (lines : List LineView) → StandsFor self.old lines → TellsDepth fault self.old.limits.blocks (lines ++ view_of line.now ∷ [])) }
+        ensures told { IfErr result (λ fault. (lines : List LineView) → StandsFor self.old lines → TellsDepth fault self.old.limits (lines ++ view_of line.now ∷ [])) }
         ensures answer { result ≡ answer_after self.new.fault }
         ensures failed { self.old.fault ≢ None → self.new ≡ self.old }
         ensures limits { self.new.limits ≡ self.old.limits }
@@ -218,7 +223,7 @@ impl BlockParser {
     ///
     /// The fault that was met, or `NoMemory` where a request for memory was refused.
     pub fn finish(mut self) -> Result<Outline, BlockFault>
-        ensures outline { IfOk result (λ outline. (lines : List LineView) → StandsFor self lines → OutlineOf outline lines) }
+        ensures outline { IfOk result (λ outline. (lines : List LineView) → StandsFor self lines → OutlineOf outline self.limits.rules lines) }
         ensures failed { (fault : faults.BlockFault) → self.fault ≡ Some fault → result ≡ Err fault }
         ensures memory { self.fault ≡ None → IfErr result (λ fault. fault ≡ block_faults.NoMemory) }
     {

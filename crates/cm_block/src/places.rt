@@ -1,7 +1,7 @@
 //! Where a line stands that follows those of an open container, and how it goes inward.
 ghost use Rattle.std.specs.Prelude.{◌≡◌, ◌≤◌, ◌&&◌, ◌||◌, nat_le, false, option_map, MatchOption};
 ghost use Rattle.cm_text.specs.Indentation.{indent_of, strip_columns};
-ghost use Rattle.cm_text.specs.Rules.Rules.{profile};
+ghost use Rattle.cm_text.specs.Rules as all;
 ghost use Rattle.cm_text.specs.Views.{line_of};
 ghost use Rattle.cm_scan.specs.Lines.{is_blank};
 ghost use Rattle.cm_scan.specs.Starts.{QuoteMarker, ItemStart, start_of, may_be_lazy, place_if_lazy, behind_quote_marker, place_in_quote, content_offset, content_column, first_content, behind_marker, place_in_item};
@@ -11,7 +11,7 @@ ghost use Rattle.cm_block.specs.steps.PlaceViews.{begins_quote, seen_marker};
 
 use crate::starts::{Start, start_of};
 use cm_scan::{HtmlKind, ItemMarker, is_blank_text, quote_marker};
-use cm_text::View;
+use cm_text::{Rules, View};
 
 /// Whether a line is blank (2.1 Characters and lines).
 #[tactic(auto, using(crate::proofs::PlaceLemmas::blank_spaces))]
@@ -33,8 +33,8 @@ fn may_be_lazy(start: &Start<'_>) -> bool
 
 /// The line as a lazy continuation line, if it can be one: `open_text` says whether the lines so far leave
 /// a paragraph open (5.1 Block quotes, 5.2 List items).
-fn if_lazy<'a>(line: &View<'a>, open_text: bool) -> Option<View<'a>>
-    ensures { option_map line_of result ≡ goes_inward (place_if_lazy profile (line_of line.now)) open_text }
+fn if_lazy<'a>(rules: Rules, line: &View<'a>, open_text: bool) -> Option<View<'a>>
+    ensures { option_map line_of result ≡ goes_inward (place_if_lazy rules (line_of line.now)) open_text }
 {
     if !open_text {
         return None;
@@ -42,7 +42,7 @@ fn if_lazy<'a>(line: &View<'a>, open_text: bool) -> Option<View<'a>>
     if is_blank(line) {
         return None;
     }
-    if !may_be_lazy(&start_of(line)) {
+    if !may_be_lazy(&start_of(rules, line)) {
         return None;
     }
     Some(View {
@@ -56,8 +56,8 @@ fn if_lazy<'a>(line: &View<'a>, open_text: bool) -> Option<View<'a>>
 /// The line behind the marker of a quote with which it begins, and one column of space, if there is one
 /// (5.1 Block quotes).
 pub(crate) fn quote_content<'a>(line: &View<'a>) -> Option<View<'a>>
-    ensures { MatchOption result (begins_quote (start_of profile (line_of line.now)) ≡ false)
-        (λ inner. (start_of profile (line_of line.now) ≡ QuoteMarker) × (line_of inner ≡ behind_quote_marker (line_of line.now))) }
+    ensures { (by : all.Rules) → MatchOption result (begins_quote (start_of by (line_of line.now)) ≡ false)
+        (λ inner. (start_of by (line_of line.now) ≡ QuoteMarker) × (line_of inner ≡ behind_quote_marker (line_of line.now))) }
 {
     if line.lazy {
         return None;
@@ -75,12 +75,12 @@ pub(crate) fn quote_content<'a>(line: &View<'a>) -> Option<View<'a>>
 
 /// The line as it goes into an open quote, if it stays there: behind its marker, or as a lazy continuation
 /// line (5.1 Block quotes).
-pub(crate) fn into_quote<'a>(line: &View<'a>, open_text: bool) -> Option<View<'a>>
-    ensures { option_map line_of result ≡ goes_inward (place_in_quote profile (line_of line.now)) open_text }
+pub(crate) fn into_quote<'a>(rules: Rules, line: &View<'a>, open_text: bool) -> Option<View<'a>>
+    ensures { option_map line_of result ≡ goes_inward (place_in_quote rules (line_of line.now)) open_text }
 {
     match quote_content(line) {
         Some(inner) => Some(inner),
-        None => if_lazy(line, open_text),
+        None => if_lazy(rules, line, open_text),
     }
 }
 
@@ -104,15 +104,16 @@ fn reaches_or_is_blank(line: &View<'_>, inner: &View<'_>, column: usize) -> bool
 /// or reaches the column, or is a lazy continuation line. An item is bare as long as there is only its
 /// marker, with nothing on its line; then a blank line ends it (5.2 List items).
 pub(crate) fn into_item<'a>(
+    rules: Rules,
     line: &View<'a>,
     column: usize,
     bare: bool,
     open_text: bool,
 ) -> Option<View<'a>>
-    ensures { option_map line_of result ≡ goes_inward (place_in_item profile column bare (line_of line.now)) open_text }
+    ensures { option_map line_of result ≡ goes_inward (place_in_item rules column bare (line_of line.now)) open_text }
 {
     if line.lazy {
-        return if_lazy(line, open_text);
+        return if_lazy(rules, line, open_text);
     }
     if ends_bare_item(bare, line) {
         return None;
@@ -121,12 +122,12 @@ pub(crate) fn into_item<'a>(
     if reaches_or_is_blank(line, &inner, column) {
         return Some(inner);
     }
-    if_lazy(line, open_text)
+    if_lazy(rules, line, open_text)
 }
 
 /// The line behind the marker of the item that it begins.
 fn behind_marker<'a>(line: &View<'a>, marker: &ItemMarker) -> View<'a>
-    requires { start_of profile (line_of line.now) ≡ ItemStart (seen_marker marker.now) }
+    requires { (by : all.Rules) × (start_of by (line_of line.now) ≡ ItemStart (seen_marker marker.now)) }
     ensures { line_of result ≡ behind_marker (seen_marker marker.now) (line_of line.now) }
 {
     line.strip(line.indent()).past(marker.digits + 1)
@@ -151,7 +152,7 @@ fn content_offset(behind: &View<'_>) -> usize
 /// Of the item that a line begins, the column at which its content begins, and the line as it goes into it
 /// (5.2 List items).
 pub(crate) fn item_content<'a>(line: &View<'a>, marker: &ItemMarker) -> (usize, View<'a>)
-    requires { start_of profile (line_of line.now) ≡ ItemStart (seen_marker marker.now) }
+    requires { (by : all.Rules) × (start_of by (line_of line.now) ≡ ItemStart (seen_marker marker.now)) }
     ensures column { result.0 ≡ content_column (seen_marker marker.now) (line_of line.now) }
     ensures first { line_of result.1 ≡ first_content (seen_marker marker.now) (line_of line.now) }
 {

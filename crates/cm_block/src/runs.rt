@@ -1,6 +1,5 @@
 //! Runs of text, whose source has link reference definitions at its front.
 ghost use Rattle.std.specs.Prelude.{◌≡◌, ◌<◌, ◌≤◌, ◌^◌, ◌++◌, ◌∷◌, [], suc, length, take, drop, not, string_bytes, OnOk};
-ghost use Rattle.cm_text.specs.Rules.Rules.{profile};
 ghost use Rattle.cm_text.specs.Views.{line_of};
 ghost use Rattle.cm_scan.specs.Words.{is_empty, is_blank_text, trim_end};
 ghost use Rattle.cm_scan.specs.Lines.{content_of};
@@ -15,7 +14,7 @@ ghost use Rattle.cm_block.specs.steps.LeafSteps.{next_of, heading_level};
 use crate::places::is_blank;
 use crate::starts::{Start, start_of};
 use cm_scan::{HtmlKind, ItemMarker, definition, is_blank_text, trim_end, underline};
-use cm_text::View;
+use cm_text::{Rules, View};
 use cm_tree::ListKind;
 use memchr::memchr_iter;
 use std::alloc::AllocError;
@@ -103,10 +102,10 @@ fn html_interrupts(kind: HtmlKind) -> bool
 }
 
 /// Whether the line can interrupt a paragraph.
-fn interrupts_paragraph(line: &View<'_>) -> bool
-    ensures { result ≡ interrupts_paragraph profile (line_of line.now) }
+fn interrupts_paragraph(rules: Rules, line: &View<'_>) -> bool
+    ensures { result ≡ interrupts_paragraph rules (line_of line.now) }
 {
-    match start_of(line) {
+    match start_of(rules, line) {
         Start::QuoteMarker | Start::Atx(_) | Start::Fence(_) | Start::Break => true,
         Start::Html(kind) => html_interrupts(kind),
         Start::Item(marker) => item_interrupts(marker, line),
@@ -150,8 +149,8 @@ fn heading_level(source: &str, line: &View<'_>) -> Option<u8>
 }
 
 /// What the next line is to a run with this source. An underline wins over a thematic break and an item.
-pub(crate) fn next_line(source: &str, line: &View<'_>) -> NextLine
-    ensures { next_of result ≡ next_line profile source.now (line_of line.now) }
+pub(crate) fn next_line(rules: Rules, source: &str, line: &View<'_>) -> NextLine
+    ensures { next_of result ≡ next_line rules source.now (line_of line.now) }
 {
     if is_blank(line) {
         return NextLine::Ends;
@@ -159,7 +158,7 @@ pub(crate) fn next_line(source: &str, line: &View<'_>) -> NextLine
     if let Some(level) = heading_level(source, line) {
         return NextLine::Underlines(level);
     }
-    if interrupts_paragraph(line) {
+    if interrupts_paragraph(rules, line) {
         return NextLine::Ends;
     }
     NextLine::GoesOn

@@ -1,6 +1,5 @@
 //! The open quotes and items.
 ghost use Rattle.std.specs.Prelude.{◌≡◌, ◌<◌, ◌≤◌, ◌∷◌, ◌++◌, ◌&&◌, [], false, suc, length, take, drop, option_map, OnOk};
-ghost use Rattle.cm_text.specs.Rules.Rules.{profile};
 ghost use Rattle.cm_text.specs.Views.{line_of};
 ghost use Rattle.cm_block.specs.Level.{empty_level, block_opens, item_opens};
 ghost use Rattle.cm_block.specs.LevelViews.{level_of};
@@ -10,7 +9,7 @@ ghost use Rattle.cm_block.specs.FrameViews.{container_of, frame_of, frames_of};
 
 use crate::level::Level;
 use crate::places::{into_item, into_quote};
-use cm_text::View;
+use cm_text::{Rules, View};
 use cm_tree::{Block, Items, ListKind};
 use std::alloc::{AllocError, Global};
 use std::mem;
@@ -25,12 +24,18 @@ pub(crate) enum Container {
 impl Container {
     /// The line as it goes into the container, if it stays there. `bare` says of an item that there is only
     /// its marker so far, with nothing on its line, and `open_text` that a paragraph is left open.
-    fn inward<'a>(&self, bare: bool, open_text: bool, line: &View<'a>) -> Option<View<'a>>
-        ensures { option_map line_of result ≡ inward profile (container_of self.now) bare open_text (line_of line.now) }
+    fn inward<'a>(
+        &self,
+        rules: Rules,
+        bare: bool,
+        open_text: bool,
+        line: &View<'a>,
+    ) -> Option<View<'a>>
+        ensures { option_map line_of result ≡ inward rules (container_of self.now) bare open_text (line_of line.now) }
     {
         match *self {
-            Container::Quote => into_quote(line, open_text),
-            Container::Item { column, .. } => into_item(line, column, bare, open_text),
+            Container::Quote => into_quote(rules, line, open_text),
+            Container::Item { column, .. } => into_item(rules, line, column, bare, open_text),
         }
     }
 }
@@ -51,13 +56,19 @@ fn is_bare_at(frames: &[Frame], depth: usize, bare: bool) -> bool
 }
 
 /// How many of the containers a line stays in, and the line as it goes into the last of these.
-fn matching<'a>(frames: &[Frame], bare: bool, open_text: bool, line: &View<'a>) -> (usize, View<'a>)
-    ensures { (result.0, line_of result.1) ≡ matching profile bare open_text (frames_of frames.now) (line_of line.now) }
+fn matching<'a>(
+    rules: Rules,
+    frames: &[Frame],
+    bare: bool,
+    open_text: bool,
+    line: &View<'a>,
+) -> (usize, View<'a>)
+    ensures { (result.0, line_of result.1) ≡ matching rules bare open_text (frames_of frames.now) (line_of line.now) }
 {
     let mut line = *line;
     for (depth, frame) in frames.iter().enumerate() {
         let is_bare = is_bare_at(frames, depth, bare);
-        let Some(inner) = frame.container.inward(is_bare, open_text, &line) else {
+        let Some(inner) = frame.container.inward(rules, is_bare, open_text, &line) else {
             return (depth, line);
         };
         if inner.lazy {
@@ -106,11 +117,16 @@ impl Stack {
     }
 
     /// How many of the containers a line stays in, and the line as it goes into the last of these.
-    pub(crate) fn matching<'a>(&self, line: &View<'a>, open_text: bool) -> (usize, View<'a>)
+    pub(crate) fn matching<'a>(
+        &self,
+        rules: Rules,
+        line: &View<'a>,
+        open_text: bool,
+    ) -> (usize, View<'a>)
         ensures { (result.0, line_of result.1)
-            ≡ matching profile self.now.bare open_text (frames_of self.now.frames) (line_of line.now) }
+            ≡ matching rules self.now.bare open_text (frames_of self.now.frames) (line_of line.now) }
     {
-        matching(self.frames.as_slice(), self.bare, open_text, line)
+        matching(rules, self.frames.as_slice(), self.bare, open_text, line)
     }
 
     /// Whether one of the open containers is a quote.

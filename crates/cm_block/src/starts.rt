@@ -1,15 +1,14 @@
 //! What a line begins.
 ghost use Rattle.std.specs.Prelude.{◌≡◌};
 ghost use Rattle.cm_text.specs.Views.{line_of};
-ghost use Rattle.cm_text.specs.Rules.Rules.{profile};
 ghost use Rattle.cm_scan.specs.Starts.{start_of_content, start_of};
 ghost use Rattle.cm_block.specs.steps.StartViews.{seen};
 
 use cm_scan::{
-    AtxHeading, HtmlKind, ItemMarker, OpeningFence, atx, fence, html_start, item_marker,
+    AtxHeading, HtmlKind, ItemMarker, OpeningFence, atx, fence, html_start_by, item_marker,
     quote_marker, thematic,
 };
-use cm_text::View;
+use cm_text::{Rules, View};
 
 /// What a line that is neither blank nor lazy begins (chapters 4 and 5).
 #[derive(Clone, Copy, Debug)]
@@ -24,9 +23,9 @@ pub(crate) enum Start<'a> {
     TextLine,
 }
 
-/// The first that fits, with up to 3 columns of indentation.
-fn start_of_content(text: &str) -> Start<'_>
-    ensures { seen result ≡ start_of_content profile text.now }
+/// The first that fits by these rules, with up to 3 columns of indentation.
+fn start_of_content(rules: Rules, text: &str) -> Start<'_>
+    ensures { seen result ≡ start_of_content rules text.now }
 {
     if quote_marker(text, 0).is_some() {
         return Start::QuoteMarker;
@@ -37,7 +36,7 @@ fn start_of_content(text: &str) -> Start<'_>
     if let Some((fence, _)) = fence(text, 0) {
         return Start::Fence(fence);
     }
-    if let Some(kind) = html_start(text, 0) {
+    if let Some(kind) = html_start_by(rules, text, 0) {
         return Start::Html(kind);
     }
     if thematic(text, 0).is_some() {
@@ -50,8 +49,8 @@ fn start_of_content(text: &str) -> Start<'_>
 }
 
 /// What a line begins: four columns of indentation make code, and a lazy continuation line is text.
-pub(crate) fn start_of<'a>(line: &View<'a>) -> Start<'a>
-    ensures { seen result ≡ start_of profile (line_of line.now) }
+pub(crate) fn start_of<'a>(rules: Rules, line: &View<'a>) -> Start<'a>
+    ensures { seen result ≡ start_of rules (line_of line.now) }
 {
     if line.lazy {
         return Start::TextLine;
@@ -60,5 +59,5 @@ pub(crate) fn start_of<'a>(line: &View<'a>) -> Start<'a>
     if indent >= 4 {
         return Start::IndentedCode;
     }
-    start_of_content(line.strip(indent).rest)
+    start_of_content(rules, line.strip(indent).rest)
 }

@@ -28,11 +28,18 @@ join_plain (inline ∷ inlines) = inline.plain ++ join_plain inlines
 abbrev pub code_span_html : List ℕ → List ℕ
 code_span_html text = codes "<code>" ++ escape text ++ codes "</code>"
 
+-- between a start and an end tag
+abbrev pub between : List ℕ → List ℕ → List ℕ → List ℕ
+between start html end = start ++ html ++ end
+
 abbrev pub emph_html : List ℕ → List ℕ
-emph_html html = codes "<em>" ++ html ++ codes "</em>"
+emph_html html = between (codes "<em>") html (codes "</em>")
 
 abbrev pub strong_html : List ℕ → List ℕ
-strong_html html = codes "<strong>" ++ html ++ codes "</strong>"
+strong_html html = between (codes "<strong>") html (codes "</strong>")
+
+abbrev pub strike_html : List ℕ → List ℕ
+strike_html html = between (codes "<del>") html (codes "</del>")
 
 -- an empty title has no attribute
 abbrev pub title_html : List ℕ → List ℕ
@@ -60,6 +67,7 @@ inline_step inline.Soft = record { html = codes "\n"; plain = codes " " }
 inline_step inline.Hard = record { html = codes "<br />\n"; plain = codes " " }
 inline_step (inline.Emph content) = record { html = emph_html (join_html content); plain = join_plain content }
 inline_step (inline.Strong content) = record { html = strong_html (join_html content); plain = join_plain content }
+inline_step (inline.Strike content) = record { html = strike_html (join_html content); plain = join_plain content }
 inline_step (inline.Link dest title content) = record { html = link_html dest title (join_html content); plain = join_plain content }
 inline_step (inline.Image dest title content) = record { html = image_html dest title (join_plain content); plain = join_plain content }
 

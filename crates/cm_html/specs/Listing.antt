@@ -63,6 +63,7 @@ listed_inline_step inline.Soft depth = line depth (codes "soft") []
 listed_inline_step inline.Hard depth = line depth (codes "hard") []
 listed_inline_step (inline.Emph content) depth = holder depth (codes "emph") [] content
 listed_inline_step (inline.Strong content) depth = holder depth (codes "strong") [] content
+listed_inline_step (inline.Strike content) depth = holder depth (codes "strike") [] content
 listed_inline_step (inline.Link dest title content) depth = holder depth (codes "link") (dest ∷ title ∷ []) content
 listed_inline_step (inline.Image dest title content) depth = holder depth (codes "image") (dest ∷ title ∷ []) content
 

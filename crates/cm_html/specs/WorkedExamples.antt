@@ -27,9 +27,11 @@ pub record InlineExamples : Type 0 where
   pub code_span : inlines_html (inlines.Code (codes "<&") ∷ []) ≡ codes "<code>&lt;&amp;</code>"
   pub raw : inlines_html (inlines.Html (codes "<b a=\"c\">") ∷ []) ≡ codes "<b a=\"c\">"
   pub breaks : inlines_html (inlines.Soft ∷ inlines.Hard ∷ []) ≡ codes "\n<br />\n"
+  pub strike : inlines_html (inlines.Strike (inlines.Emph (word (codes "a")) ∷ []) ∷ []) ≡ codes "<del><em>a</em></del>"
   pub emphasis : inlines_html (inlines.Emph (inlines.Strong (word (codes "a")) ∷ []) ∷ []) ≡ codes "<em><strong>a</strong></em>"
   pub link : inlines_html (inlines.Link (codes "b c") (codes "t") (word (codes "a")) ∷ []) ≡ codes "<a href=\"b%20c\" title=\"t\">a</a>"
   pub link_in_link : inlines_html (inlines.Link (codes "d") [] (inlines.Link (codes "ab:c") [] (word (codes "ab:c")) ∷ []) ∷ []) ≡ codes "<a href=\"d\"><a href=\"ab:c\">ab:c</a></a>"
+  pub strike_in_an_image : inlines_html (inlines.Image (codes "/u") [] (inlines.Strike (word (codes "a")) ∷ []) ∷ []) ≡ codes "<img src=\"/u\" alt=\"a\" />"
   pub image : inlines_html (inlines.Image (codes "/u") [] (inlines.Text (codes "a ") ∷ inlines.Emph (word (codes "b")) ∷ []) ∷ []) ≡ codes "<img src=\"/u\" alt=\"a b\" />"
   pub image_in_image : inlines_html (inlines.Image (codes "/u") (codes "\"") (inlines.Image (codes "/v") (codes "t") (word (codes "&")) ∷ inlines.Hard ∷ inlines.Html (codes "<b>") ∷ []) ∷ []) ≡ codes "<img src=\"/u\" alt=\"&amp; &lt;b&gt;\" title=\"&quot;\" />"
 
@@ -54,6 +56,7 @@ pub record ContainerExamples : Type 0 where
 
 pub record ListingExamples : Type 0 where
   pub quotes : quoted (codes "a\\\"\n\t" ++ 0x7F ∷ 0xC3 ∷ 0xA4 ∷ []) ≡ codes "\"a\\\\\\\"\\n\\x09\\x7f" ++ 0xC3 ∷ 0xA4 ∷ codes "\""
+  pub strike : listing_of (Paragraph (inlines.Strike (word (codes "a")) ∷ []) ∷ []) (Leaf 1 ∷ []) ≡ codes "paragraph\n  strike\n    text \"a\"\nowner 1 leaf 1\n"
   pub emphasis : listing_of (Paragraph (inlines.Emph (inlines.Strong (word (codes "a")) ∷ []) ∷ []) ∷ []) (Leaf 1 ∷ []) ≡ codes "paragraph\n  emph\n    strong\n      text \"a\"\nowner 1 leaf 1\n"
   pub quote_in_item : listing_of (ListBlock Star true ((Paragraph (word (codes "a")) ∷ Quote (Paragraph (word (codes "b")) ∷ []) ∷ []) ∷ (Paragraph (word (codes "c")) ∷ []) ∷ []) ∷ []) (Leaf 1 ∷ Leaf 2 ∷ Marker ∷ Leaf 3 ∷ []) ≡ codes "list bullet * tight\n  item\n    paragraph\n      text \"a\"\n    quote\n      paragraph\n        text \"b\"\n  item\n    paragraph\n      text \"c\"\nowner 1 leaf 1\nowner 2 leaf 2\nowner 3 marker\nowner 4 leaf 3\n"
   pub leaves : listing_of (Heading 2 [] ∷ Code (codes "i") (codes "t\n") ∷ Html (codes "<b>") ∷ Break ∷ Definition (codes "l") (codes "/u") [] ∷ []) (Blank ∷ []) ≡ codes "heading 2\ncode \"i\" \"t\\n\"\nhtml \"<b>\"\nbreak\ndefinition \"l\" \"/u\" \"\"\nowner 1 blank\n"

@@ -1,7 +1,7 @@
 //! The HTML of inlines.
 ghost use Rattle.std.specs.Prelude.{◌≡◌, ◌++◌, string_bytes, OnOk};
 ghost use Rattle.cm_html.specs.Escape.{escape};
-ghost use Rattle.cm_html.specs.Html.{Spelled, spelled, inlines_html, alternative_text, code_span_html, emph_html, strong_html, title_html, link_start, link_html, image_start, image_html};
+ghost use Rattle.cm_html.specs.Html.{Spelled, spelled, inlines_html, alternative_text, code_span_html, between, title_html, link_start, link_html, image_start, image_html};
 
 use crate::escape::{push_destination, push_escaped};
 use cm_tree::Inline;
@@ -29,8 +29,9 @@ fn push_inline(out: &mut String, inline: &Inline) -> Result<(), AllocError>
         Inline::Html(text) => out.push_str(text.as_str()),
         Inline::Soft => out.push_str("\n"),
         Inline::Hard => out.push_str("<br />\n"),
-        Inline::Emph(content) => push_emph(out, content.as_slice()),
-        Inline::Strong(content) => push_strong(out, content.as_slice()),
+        Inline::Emph(content) => push_between(out, "<em>", content.as_slice(), "</em>"),
+        Inline::Strong(content) => push_between(out, "<strong>", content.as_slice(), "</strong>"),
+        Inline::Strike(content) => push_between(out, "<del>", content.as_slice(), "</del>"),
         Inline::Link {
             dest,
             title,
@@ -52,22 +53,20 @@ fn push_code_span(out: &mut String, text: &str) -> Result<(), AllocError>
     out.push_str("</code>")
 }
 
+/// Writes inlines between two tags.
 #[cycle(inlines)]
-fn push_emph(out: &mut String, content: &[Inline]) -> Result<(), AllocError>
-    ensures { OnOk result (string_bytes out.new ≡ string_bytes out.old ++ emph_html (inlines_html content.now)) }
+fn push_between(
+    out: &mut String,
+    start: &str,
+    content: &[Inline],
+    end: &str,
+) -> Result<(), AllocError>
+    ensures { OnOk result (string_bytes out.new
+        ≡ string_bytes out.old ++ between start.now (inlines_html content.now) end.now) }
 {
-    out.push_str("<em>")?;
+    out.push_str(start)?;
     push_inlines(out, content)?;
-    out.push_str("</em>")
-}
-
-#[cycle(inlines)]
-fn push_strong(out: &mut String, content: &[Inline]) -> Result<(), AllocError>
-    ensures { OnOk result (string_bytes out.new ≡ string_bytes out.old ++ strong_html (inlines_html content.now)) }
-{
-    out.push_str("<strong>")?;
-    push_inlines(out, content)?;
-    out.push_str("</strong>")
+    out.push_str(end)
 }
 
 /// Writes the attribute of a title, unless it is empty.
@@ -154,6 +153,7 @@ fn push_plain(out: &mut String, inline: &Inline) -> Result<(), AllocError>
         Inline::Soft | Inline::Hard => out.push_str(" "),
         Inline::Emph(content) => push_alternative_text(out, content.as_slice()),
         Inline::Strong(content) => push_alternative_text(out, content.as_slice()),
+        Inline::Strike(content) => push_alternative_text(out, content.as_slice()),
         Inline::Link { content, .. } => push_alternative_text(out, content.as_slice()),
         Inline::Image { content, .. } => push_alternative_text(out, content.as_slice()),
     }

@@ -95,6 +95,9 @@ fn push_inline(out: &mut String, depth: usize, inline: &Inline) -> Result<(), Al
         Inline::Strong(content) => {
             push_with_inlines(out, depth, "strong", &[], content.as_slice())
         }
+        Inline::Strike(content) => {
+            push_with_inlines(out, depth, "strike", &[], content.as_slice())
+        }
         Inline::Link {
             dest,
             title,

@@ -2,7 +2,6 @@
 use Rattle.std.proofs.Common.{◌≡◌, ℕ, List, ◌++◌, map, refl, sym, ap, subst, ◌∙◌, Option, Some, None}
 use Rattle.std.specs.Option.{option_map, option_or}
 use Rattle.cm_text.specs.declared.fault.TextFault.{TextFault}
-use Rattle.cm_text.specs.Rules.Rules.{profile}
 use Rattle.cm_text.specs.Limits.{LimitsView}
 use Rattle.cm_text.specs.Lines.{text_of, plain_line, last_line, plain_lines_of}
 use Rattle.cm_text.specs.Faults.{settled_fault, text_fault}
@@ -20,7 +19,7 @@ use Rattle.cm_reader.proofs.EndedLemmas.{all_are_lines}
 
 module _ (limits : LimitsView) (bytes : List ℕ) where
   ended_are : ended_too_deep limits bytes ≡ option_map BlocksTooDeep (ended_deep limits bytes)
-  ended_are = ap (too_deep limits.blocks) (sym (ended_lines_are_cut (text_of (sound_front limits.bytes bytes))))
+  ended_are = ap (too_deep limits) (sym (ended_lines_are_cut (text_of (sound_front limits.bytes bytes))))
 
   -- without a fault of the text, the lines that have ended are the first of all
   all_after_ended : (ended : Option ℕ) → ended_deep limits bytes ≡ ended → text_fault limits.bytes bytes ≡ None
@@ -30,8 +29,8 @@ module _ (limits : LimitsView) (bytes : List ℕ) where
       let lines = (cut_bytes limits.bytes bytes).ended in
       let rest = map plain_line (last_line (cut_bytes limits.bytes bytes).partial) in
       let whole : plain_lines_of (text_of bytes) ≡ lines ++ rest = whole_lines limits.bytes bytes sound in
-      let first = too_deep_stays profile limits.blocks n lines rest (subst AreLines whole (all_are_lines (text_of bytes))) deep in
-      sym (ap (λ all. option_map BlocksTooDeep (first_too_deep profile limits.blocks all)) whole ∙ ap (option_map BlocksTooDeep) first)
+      let first = too_deep_stays limits.rules limits.blocks n lines rest (subst AreLines whole (all_are_lines (text_of bytes))) deep in
+      sym (ap (λ all. option_map BlocksTooDeep (first_too_deep limits.rules limits.blocks all)) whole ∙ ap (option_map BlocksTooDeep) first)
 
   by_text : (wrong : Option TextFault) → text_fault limits.bytes bytes ≡ wrong
       → fault_by wrong limits bytes ≡ of_three (ended_deep limits bytes) wrong (all_deep limits bytes)

@@ -2,7 +2,6 @@
 use Rattle.std.proofs.Common.{◌≡◌, ℕ, List, map, refl, sym, ◌∙◌, ap, arith, Some}
 use Rattle.std.specs.Prelude.{Bool, not}
 use Rattle.std.proofs.lemmas.List.{length-map}
-use Rattle.cm_text.specs.Rules.Rules.{profile}
 use Rattle.cm_text.specs.Lines.{plain_line, plain_lines_of, text_of, lines_of}
 use Rattle.cm_tree.specs.declared.tree.Block.{Block}
 use Rattle.cm_tree.specs.declared.tree.Block.TheFolds.{fold-Block, fold_out-Block}
@@ -60,12 +59,12 @@ mutual
   items-read (item inside blanks items) = omega (arith, leaves-read inside, items-read items)
 
 pub one_owner_a_line : OneOwnerALine
-one_owner_a_line bytes =
-    one_owner profile (plain_lines_of (text_of bytes)) (all_are_lines (text_of bytes)) ∙ length-map (lines_of (text_of bytes)) plain_line
+one_owner_a_line rules bytes =
+    one_owner rules (plain_lines_of (text_of bytes)) (all_are_lines (text_of bytes)) ∙ length-map (lines_of (text_of bytes)) plain_line
 
 pub runs_in_order : RunsInOrder
 unfolding blocks_of
-runs_in_order bytes =
-    let parts = parts_of profile (plain_lines_of (text_of bytes)) in
-    in_order profile (plain_lines_of (text_of bytes)) (all_are_lines (text_of bytes))
+runs_in_order rules bytes =
+    let parts = parts_of rules (plain_lines_of (text_of bytes)) in
+    in_order rules (plain_lines_of (text_of bytes)) (all_are_lines (text_of bytes))
     ∙ ap Some (tree-leaves parts ∙ sym (leaves-read parts))

@@ -10,7 +10,6 @@ use Rattle.std.proofs.lemmas.Str.{utf8_valid_len_le}
 use Rattle.std.proofs.Math.ListN.{drop_of_length-le}
 use Rattle.cm_text.specs.declared.fault.TextFault.{TextFault}
 use Rattle.cm_text.specs.declared.fault.TextFault.TheVariants as text
-use Rattle.cm_text.specs.Rules.Rules.{profile}
 use Rattle.cm_text.specs.Limits.{LimitsView}
 use Rattle.cm_text.specs.Lines.{LineView, text_of}
 use Rattle.cm_text.specs.Cut.{Cut, cut_more, nothing_cut}
@@ -155,12 +154,12 @@ module _ (limits : LimitsView) where
       by_cases (Some n) wrong e s is =
           let lines = (cut_bytes limits.bytes bytes).ended in
           let front = ended_stay limits.bytes bytes more in
-          let P : List LineView → Type 0 = λ all. first_too_deep profile limits.blocks all ≡ Some n in
+          let P : List LineView → Type 0 = λ all. first_too_deep limits.rules limits.blocks all ≡ Some n in
           let still : ended_deep limits (bytes ++ more) ≡ Some n =
-          subst P (sym front.1) (too_deep_stays profile limits.blocks n lines front.0 (subst AreLines front.1 (ended_are_lines limits.bytes (bytes ++ more))) e) in
+          subst P (sym front.1) (too_deep_stays limits.rules limits.blocks n lines front.0 (subst AreLines front.1 (ended_are_lines limits.bytes (bytes ++ more))) e) in
           ap (λ o. of_three o (text_fault limits.bytes (bytes ++ more)) (all_deep limits (bytes ++ more))) still ∙ is
       by_cases None (Some f) e s is =
-          let still : ended_deep limits (bytes ++ more) ≡ None = ap (λ (d : Cut). first_too_deep profile limits.blocks d.ended) (same_cut limits.bytes bytes more f are s) ∙ e in
+          let still : ended_deep limits (bytes ++ more) ≡ None = ap (λ (d : Cut). first_too_deep limits.rules limits.blocks d.ended) (same_cut limits.bytes bytes more f are s) ∙ e in
           let wrong = (text_is_told limits.bytes bytes f).0 s more are in
           ap (λ o. of_three o (text_fault limits.bytes (bytes ++ more)) (all_deep limits (bytes ++ more))) still
           ∙ ap (λ t. of_three None t (all_deep limits (bytes ++ more))) wrong ∙ is
@@ -191,7 +190,7 @@ module _ (limits : LimitsView) where
           cc
       by_cases None t =
           let broken = no_line_ends limits.bytes bytes t in
-          let still : ended_deep limits next ≡ None = ap (λ (d : Cut). first_too_deep profile limits.blocks d.ended) broken.0 ∙ none in
+          let still : ended_deep limits next ≡ None = ap (λ (d : Cut). first_too_deep limits.rules limits.blocks d.ended) broken.0 ∙ none in
           by_next (all_deep limits bytes) (text_fault limits.bytes next)
           (sym (ap (λ o. of_three o None (all_deep limits bytes)) none) ∙ sym (ap (λ w. of_three (ended_deep limits bytes) w (all_deep limits bytes)) t) ∙ now)
           (sym (ap (λ o. of_three o (text_fault limits.bytes next) (all_deep limits next)) still) ∙ settles (255 ∷ []) (All-cons (λ n. n < 256) 255 [] (omega arith) (All-nil (λ n. n < 256))))

@@ -1,5 +1,6 @@
 -- Worked examples: the faults of inputs, and inlines of sources that no paragraph has.
 use Rattle.std.specs.Prelude.{◌≡◌, ℕ, ◌^◌, [], ◌∷◌, ◌++◌, codes, Some, None}
+use Rattle.cm_text.specs.Rules.{profile}
 use Rattle.cm_text.specs.Limits.{LimitsView}
 use Rattle.cm_reader.specs.declared.fault.Fault.TheVariants.{NotUtf8, BlocksTooDeep}
 use Rattle.cm_reader.specs.Faults.{fault_of, settled_fault_of}
@@ -8,7 +9,7 @@ use Rattle.cm_tree.specs.declared.tree.Inline.TheVariants.{Text, Soft}
 
 -- the limits with so many quotes and items round a line
 abbrev pub at_most : ℕ → LimitsView
-at_most blocks = record { bytes = 2 ^ 28; blocks = blocks; inlines = 100 }
+at_most blocks = record { bytes = 2 ^ 28; blocks = blocks; inlines = 100; rules = profile }
 
 pub record Examples : Type 0 where
   pub line_before_a_fault : settled_fault_of (at_most 1) (codes "> > a\n" ++ 0xFF ∷ []) ≡ Some (BlocksTooDeep 1)

@@ -2,7 +2,6 @@
 use Rattle.std.specs.Prelude.{◌≡◌, ◌↔◌, ℕ, List, ◌++◌, take, Option, Some, None}
 use Rattle.std.specs.Option.{option_map, option_or}
 use Rattle.cm_text.specs.declared.fault.TextFault.{TextFault}
-use Rattle.cm_text.specs.Rules.Rules.{profile}
 use Rattle.cm_text.specs.Limits.{LimitsView}
 use Rattle.cm_text.specs.Lines.{LineView, text_of, plain_lines_of, ended_lines_of}
 use Rattle.cm_text.specs.Faults.{valid_len, settled_fault, text_fault}
@@ -12,9 +11,9 @@ use Rattle.cm_reader.specs.declared.fault.Fault.{Fault}
 use Rattle.cm_reader.specs.declared.fault.Fault.TheVariants.{BlocksTooDeep}
 use Rattle.cm_reader.specs.Fault.{told}
 
--- the first of the lines that has more quotes and items round it than the limit
-abbrev pub too_deep : ℕ → List LineView → Option Fault
-too_deep limit lines = option_map BlocksTooDeep (first_too_deep profile limit lines)
+-- the first of the lines that has more quotes and items round it than the limit, by the rules of the limits
+abbrev pub too_deep : LimitsView → List LineView → Option Fault
+too_deep limits lines = option_map BlocksTooDeep (first_too_deep limits.rules limits.blocks lines)
 
 -- the longest well-formed front of the bytes within the limit, behind which stands what is wrong with the text
 abbrev pub sound_front : ℕ → List ℕ → List ℕ
@@ -22,13 +21,13 @@ sound_front limit bytes = take (valid_len limit bytes) (take limit bytes)
 
 -- the first line too deep of those that have ended in it
 abbrev pub ended_too_deep : LimitsView → List ℕ → Option Fault
-ended_too_deep limits bytes = too_deep limits.blocks (ended_lines_of (text_of (sound_front limits.bytes bytes)))
+ended_too_deep limits bytes = too_deep limits (ended_lines_of (text_of (sound_front limits.bytes bytes)))
 
 -- Where something is wrong with the text: the first line too deep of those that have ended before it, else that; a line that it
 -- cuts isn't judged. Where nothing is: the first line too deep of all.
 abbrev pub fault_by : Option TextFault → LimitsView → List ℕ → Option Fault
 fault_by (Some fault) limits bytes = option_or (ended_too_deep limits bytes) (Some (told fault))
-fault_by None limits bytes = too_deep limits.blocks (plain_lines_of (text_of bytes))
+fault_by None limits bytes = too_deep limits (plain_lines_of (text_of bytes))
 
 -- the fault of the bytes where they end
 abbrev pub fault_of : LimitsView → List ℕ → Option Fault

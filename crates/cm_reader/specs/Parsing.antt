@@ -19,7 +19,7 @@ pub record ParserView : Type 0 where
 -- the feed holds what the bytes leave in it, and the blocks have taken in the lines that have ended
 pub record Goes (limits : LimitsView) (feed : Feed) (blocks : BlockParser) (bytes : List ℕ) : Type 0 where
   pub limit : feed.limit ≡ limits.bytes
-  pub depth : blocks.limits.blocks ≡ limits.blocks
+  pub same_limits : blocks.limits ≡ limits
   pub going : feed.ended ≡ false
   pub sound : feed.fault ≡ None
   pub feeds : FeedGoes feed bytes (length (cut_bytes limits.bytes bytes).ended)
@@ -45,5 +45,5 @@ Answers (Err fault) told = TellsFault fault told
 
 -- the end of the input: its document, or its fault
 abbrev pub Finishes : Result Doc Fault → LimitsView → List ℕ → Type 0
-Finishes (Ok doc) limits bytes = (fault_of limits bytes ≡ None) × (doc ≡ doc_of bytes)
+Finishes (Ok doc) limits bytes = (fault_of limits bytes ≡ None) × (doc ≡ doc_of limits.rules bytes)
 Finishes (Err fault) limits bytes = TellsFault fault (fault_of limits bytes)

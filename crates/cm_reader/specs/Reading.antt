@@ -1,7 +1,7 @@
 -- What reading a source to its end answers.
 use Rattle.std.specs.Prelude.{◌≡◌, ℕ, ◌+◌, List, Option, Some, None, Result, Ok, Err, ◌⊎◌}
 use Rattle.std.specs.Io.KnownBytes.{IsAtEnd}
-use Rattle.cm_text.specs.Rules.Rules.{profile}
+use Rattle.cm_text.specs.Rules.{Rules}
 use Rattle.cm_text.specs.Limits.{LimitsView}
 use Rattle.cm_text.specs.Lines.{text_of, plain_lines_of}
 use Rattle.cm_tree.specs.declared.tree.Block.{Block}
@@ -13,16 +13,16 @@ use Rattle.cm_reader.specs.declared.fault.Fault.TheVariants.{NoMemory, ReadFaile
 use Rattle.cm_reader.specs.Leaves.{with_inlines}
 use Rattle.cm_reader.specs.Faults.{fault_of, settled_fault_of}
 
--- the tree of a text's bytes
-abbrev pub tree_of : List ℕ → List Block
-tree_of bytes = with_inlines (blocks_of profile (plain_lines_of (text_of bytes)))
+-- the tree of a text's bytes, by these rules
+abbrev pub tree_of : Rules → List ℕ → List Block
+tree_of rules bytes = with_inlines (blocks_of rules (plain_lines_of (text_of bytes)))
 
 -- the owner of each of its lines
-abbrev pub owners_of_bytes : List ℕ → List Owner
-owners_of_bytes bytes = owners_of profile (plain_lines_of (text_of bytes))
+abbrev pub owners_of_bytes : Rules → List ℕ → List Owner
+owners_of_bytes rules bytes = owners_of rules (plain_lines_of (text_of bytes))
 
-abbrev pub doc_of : List ℕ → Doc
-doc_of bytes = record { blocks = tree_of bytes; owners = owners_of_bytes bytes }
+abbrev pub doc_of : Rules → List ℕ → Doc
+doc_of rules bytes = record { blocks = tree_of rules bytes; owners = owners_of_bytes rules bytes }
 
 -- a source, by the bytes still to come, where they are known, and the number of failed reads
 pub record SourceView : Type 0 where
@@ -55,5 +55,5 @@ Refuses fault limits bytes old new = HasFault limits bytes old new fault
 
 -- what reading these bytes answers: their document, or why there is none
 abbrev pub Reads : Result Doc Fault → LimitsView → List ℕ → SourceView → SourceView → Type 0
-Reads (Ok doc) limits bytes old new = ReadWhole limits bytes old new × (doc ≡ doc_of bytes)
+Reads (Ok doc) limits bytes old new = ReadWhole limits bytes old new × (doc ≡ doc_of limits.rules bytes)
 Reads (Err fault) limits bytes old new = Refuses fault limits bytes old new

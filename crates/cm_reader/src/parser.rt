@@ -171,14 +171,14 @@ fn hand_over(feed: &mut LineFeed, blocks: &mut BlockParser) -> Result<(), BlockF
     ensures ready { OnOk result (feed.new ≡ with_ready [] feed.old) }
     ensures ended { feed.new.ended ≡ feed.old.ended }
     ensures limit { feed.new.limit ≡ feed.old.limit }
-    ensures depth { blocks.new.limits.blocks ≡ blocks.old.limits.blocks }
+    ensures limits { blocks.new.limits ≡ blocks.old.limits }
     ensures stands { OnOk result ((bytes : List ℕ) (taken : ℕ) → FeedStandsFor feed.old bytes taken →
         FeedStandsFor feed.new bytes (taken + length feed.old.cut.ended)) }
     ensures handed { OnOk result ((lines : List LineView) → HasTaken blocks.old lines →
         HasTaken blocks.new (lines ++ feed.old.cut.ended)) }
     ensures told { IfErr result (λ fault. (lines : List LineView) → HasTaken blocks.old lines →
         AreLines (lines ++ feed.old.cut.ended) →
-        TellsDepth fault blocks.old.limits.blocks (lines ++ feed.old.cut.ended)) }
+        TellsDepth fault blocks.old.limits (lines ++ feed.old.cut.ended)) }
 {
     while let Some(line) = feed.next_line() {
         blocks.line(&line)?;

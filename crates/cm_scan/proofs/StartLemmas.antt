@@ -1,20 +1,20 @@
 -- What starts an HTML block, behind its `<`.
 use Rattle.std.proofs.Common.{◌≡◌, ℕ, false, ◌&&◌, List, [], ◌∷◌, Some, None, codes, refl, sym, arith}
 use Rattle.std.specs.Prelude.{not}
-use Rattle.cm_text.specs.Rules.Rules.{profile}
+use Rattle.cm_text.specs.Rules.{Rules}
 use Rattle.cm_scan.specs.Words.{is_at_word, is_blank_text, is_among, after_word, given, ◌<|>◌}
 use Rattle.cm_scan.specs.Tags.{Named, tag_name, open_tag, closing_tag}
 use Rattle.cm_scan.specs.HtmlBlocks.{RawText, Comment, Instruction, Declaration, CharacterData, BlockTag, AnyTag, lower, raw_text_names, block_names, is_at_tag_end, is_raw_text_start, is_declaration_start, is_block_tag_start, is_any_tag_start, html_start}
 
 -- condition 6
 
-module _ (behind inside : List ℕ) (name : Some inside ≡ (after_word (codes "</") (60 ∷ behind) <|> after_word (codes "<") (60 ∷ behind))) where
-  pub block_none : tag_name inside ≡ None → is_block_tag_start profile (60 ∷ behind) ≡ false
+module _ (rules : Rules) (behind inside : List ℕ) (name : Some inside ≡ (after_word (codes "</") (60 ∷ behind) <|> after_word (codes "<") (60 ∷ behind))) where
+  pub block_none : tag_name inside ≡ None → is_block_tag_start rules (60 ∷ behind) ≡ false
   unfolding is_block_tag_start
   block_none none = grind (arith, sym name, none)
 
   pub block_named : (tag : Named) → tag_name inside ≡ Some tag
-      → is_block_tag_start profile (60 ∷ behind) ≡ (is_among (block_names profile) (lower tag.name) && is_at_tag_end tag.rest)
+      → is_block_tag_start rules (60 ∷ behind) ≡ (is_among (block_names rules) (lower tag.name) && is_at_tag_end tag.rest)
   unfolding is_block_tag_start
   block_named tag found = grind (arith, sym name, found)
 
@@ -53,21 +53,21 @@ module _ (b : ℕ) (bs : List ℕ) (other : b ≡ 47 → ⊥) where
 
 -- all seven
 
-pub starts : (behind : List ℕ) → html_start profile (60 ∷ behind)
+pub starts : (rules : Rules) (behind : List ℕ) → html_start rules (60 ∷ behind)
     ≡ (given (is_raw_text_start (60 ∷ behind)) RawText
     <|> given (is_at_word (codes "!--") behind) Comment
     <|> given (is_at_word (codes "?") behind) Instruction
     <|> given (is_declaration_start (60 ∷ behind)) Declaration
     <|> given (is_at_word (codes "![CDATA[") behind) CharacterData
-    <|> given (is_block_tag_start profile (60 ∷ behind)) BlockTag
+    <|> given (is_block_tag_start rules (60 ∷ behind)) BlockTag
     <|> given (is_any_tag_start (60 ∷ behind)) AnyTag)
 unfolding html_start is_at_word
-starts behind = refl
+starts rules behind = refl
 
-pub no_start : (b : ℕ) (bs : List ℕ) → (b ≡ 60 → ⊥) → html_start profile (b ∷ bs) ≡ None
+pub no_start : (rules : Rules) (b : ℕ) (bs : List ℕ) → (b ≡ 60 → ⊥) → html_start rules (b ∷ bs) ≡ None
 unfolding html_start
-no_start b bs other = grind (arith, other)
+no_start rules b bs other = grind (arith, other)
 
-pub no_start_at_end : html_start profile [] ≡ None
+pub no_start_at_end : (rules : Rules) → html_start rules [] ≡ None
 unfolding html_start
-no_start_at_end = refl
+no_start_at_end rules = refl

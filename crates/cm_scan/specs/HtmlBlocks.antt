@@ -1,9 +1,8 @@
 -- HTML blocks: the seven start conditions, and what ends each (CommonMark 0.31.2, 4.6 HTML blocks). A start is read behind the
 -- line's indentation.
-use Rattle.std.specs.Prelude.{ℕ, Bool, true, false, not, ◌&&◌, ◌||◌, List, [], ◌∷◌, ◌++◌, Option, Some, None, ◌==◌, map, codes}
+use Rattle.std.specs.Prelude.{ℕ, Bool, true, false, not, ◌&&◌, ◌||◌, List, [], ◌∷◌, ◌++◌, Option, Some, None, ◌==◌, map, codes, if◌then◌else◌}
 use Rattle.std.specs.List.{list_any}
 use Rattle.cm_text.specs.Rules.{Rules}
-use Rattle.cm_text.specs.Rules.Rules.{profile}
 use Rattle.cm_scan.specs.Words.{is_space_or_tab, is_letter, is_blank_text, after_word, is_at_word, holds_word, is_among, to_lower, given, ◌<|>◌}
 use Rattle.cm_scan.specs.Tags.{tag_name, open_tag, closing_tag}
 
@@ -25,18 +24,26 @@ lower text = map to_lower text
 abbrev pub raw_text_names : List (List ℕ)
 raw_text_names = codes "pre" ∷ codes "script" ∷ codes "style" ∷ codes "textarea" ∷ []
 
--- the names of start condition 6
-unfoldable pub block_names : Rules → List (List ℕ)
-block_names profile =
+-- the names of start condition 6 by all rules
+unfoldable pub common_block_names : List (List ℕ)
+common_block_names =
     codes "address" ∷ codes "article" ∷ codes "aside" ∷ codes "base" ∷ codes "basefont" ∷ codes "blockquote" ∷ codes "body" ∷
     codes "caption" ∷ codes "center" ∷ codes "col" ∷ codes "colgroup" ∷ codes "dd" ∷ codes "details" ∷ codes "dialog" ∷
     codes "dir" ∷ codes "div" ∷ codes "dl" ∷ codes "dt" ∷ codes "fieldset" ∷ codes "figcaption" ∷ codes "figure" ∷
     codes "footer" ∷ codes "form" ∷ codes "frame" ∷ codes "frameset" ∷ codes "h1" ∷ codes "h2" ∷ codes "h3" ∷ codes "h4" ∷
     codes "h5" ∷ codes "h6" ∷ codes "head" ∷ codes "header" ∷ codes "hr" ∷ codes "html" ∷ codes "iframe" ∷ codes "legend" ∷
     codes "li" ∷ codes "link" ∷ codes "main" ∷ codes "menu" ∷ codes "menuitem" ∷ codes "nav" ∷ codes "noframes" ∷ codes "ol" ∷
-    codes "optgroup" ∷ codes "option" ∷ codes "p" ∷ codes "param" ∷ codes "search" ∷ codes "section" ∷ codes "summary" ∷
+    codes "optgroup" ∷ codes "option" ∷ codes "p" ∷ codes "param" ∷ codes "section" ∷ codes "summary" ∷
     codes "table" ∷ codes "tbody" ∷ codes "td" ∷ codes "tfoot" ∷ codes "th" ∷ codes "thead" ∷ codes "title" ∷ codes "tr" ∷
     codes "track" ∷ codes "ul" ∷ []
+
+-- the one that differs: by the older rules `source` is one in place of `search`
+abbrev pub block_name_by : Rules → List ℕ
+block_name_by rules = if rules.older then codes "source" else codes "search"
+
+-- the names of start condition 6
+unfoldable pub block_names : Rules → List (List ℕ)
+block_names rules = block_name_by rules ∷ common_block_names
 
 -- a space, a tab, the end of the line or `>` comes next
 abbrev pub is_at_name_end : List ℕ → Bool

@@ -65,7 +65,7 @@ trim_end text = trim_end_by true text
 abbrev pub trim_end_spaces : List ℕ → List ℕ
 trim_end_spaces text = trim_end_by false text
 
--- without those at both ends
+-- without the spaces and tabs at both ends
 abbrev pub trim : List ℕ → List ℕ
 trim text = trim_end (trim_start text)
 

@@ -1,7 +1,7 @@
 -- Worked examples: the blocks of texts, and the owners of their lines.
 use Rattle.std.specs.Prelude.{◌≡◌, ℕ, true, false, List, [], ◌∷◌, codes, Some, None, replicate, ◌++◌}
 use Rattle.std.specs.List.{flat_map}
-use Rattle.cm_text.specs.Rules.Rules.{profile}
+use Rattle.cm_text.specs.Rules.{Rules, profile, older_rules}
 use Rattle.cm_text.specs.Lines.{plain_lines_of}
 use Rattle.cm_tree.specs.declared.tree.Inline.TheVariants.{Text}
 use Rattle.cm_tree.specs.declared.tree.Block.{Block}
@@ -15,10 +15,13 @@ use Rattle.cm_scan.specs.Blocks.{blocks_of, owners_of, first_too_deep}
 abbrev pub text_paragraph : List ℕ → Block
 text_paragraph text = Paragraph (Text text ∷ [])
 
--- The text has these blocks, and its lines these owners.
-pub record Reads (text : List ℕ) (blocks : List Block) (owners : List Owner) : Type 0 where
-  pub tree : blocks_of profile (plain_lines_of text) ≡ blocks
-  pub lines : owners_of profile (plain_lines_of text) ≡ owners
+-- By these rules the text has these blocks, and its lines these owners.
+pub record ReadsBy (rules : Rules) (text : List ℕ) (blocks : List Block) (owners : List Owner) : Type 0 where
+  pub tree : blocks_of rules (plain_lines_of text) ≡ blocks
+  pub lines : owners_of rules (plain_lines_of text) ≡ owners
+
+abbrev pub Reads : List ℕ → List Block → List Owner → Type 0
+Reads = ReadsBy profile
 
 pub record LeafExamples : Type 0 where
   pub no_lines : Reads [] ([]) ([])
@@ -38,6 +41,10 @@ pub record LeafExamples : Type 0 where
   pub escaped_closing_sequence : Reads (codes "# a \\#\n") (Heading 1 (Text (codes "a \\#") ∷ []) ∷ []) (Leaf 1 ∷ [])
   pub gap_in_an_underline : Reads (codes "a\n= =\n") (text_paragraph (codes "a\n= =") ∷ []) (Leaf 1 ∷ Leaf 1 ∷ [])
   pub backtick_in_an_info_string : Reads (codes "``` a`b\n") (text_paragraph (codes "``` a`b") ∷ []) (Leaf 1 ∷ [])
+  pub search_interrupts_a_paragraph : Reads (codes "a\n<search>\n") (text_paragraph (codes "a") ∷ Html (codes "<search>\n") ∷ []) (Leaf 1 ∷ Leaf 2 ∷ [])
+  pub source_interrupts_nothing : Reads (codes "a\n<source>\n") (text_paragraph (codes "a\n<source>") ∷ []) (Leaf 1 ∷ Leaf 1 ∷ [])
+  pub older_search : ReadsBy older_rules (codes "a\n<search>\n") (text_paragraph (codes "a\n<search>") ∷ []) (Leaf 1 ∷ Leaf 1 ∷ [])
+  pub older_source : ReadsBy older_rules (codes "a\n<source>\n") (text_paragraph (codes "a") ∷ Html (codes "<source>\n") ∷ []) (Leaf 1 ∷ Leaf 2 ∷ [])
   pub info_string_resolved : Reads (codes "``` a&amp;b c\n") (Code (codes "a&b c") (codes "") ∷ []) (Leaf 1 ∷ [])
 
 pub record ContainerExamples : Type 0 where

@@ -1,13 +1,14 @@
 //! HTML blocks: what starts one and what ends it (4.6 HTML blocks).
 ghost use Rattle.std.specs.Prelude.{◌≡◌, ◌+◌, ◌<◌, ◌≤◌, ◌∷◌, false, length, drop, slice_index, ◌++◌, codes, Some, option_map};
 ghost use Rattle.std.specs.List.{list_any};
-ghost use Rattle.cm_text.specs.Rules.Rules.{profile};
+ghost use Rattle.cm_text.specs.Rules.{profile};
 ghost use Rattle.cm_scan.specs.Words.{is_letter, is_at_word, holds_word, after_word, same_bytes, is_among, given, ◌<|>◌};
-ghost use Rattle.cm_scan.specs.HtmlBlocks.{lower, raw_text_names, block_names, is_at_name_end, is_at_tag_end, is_named_start, is_raw_text_start, is_declaration_start, is_block_tag_start, is_any_tag_start, html_start, is_html_end};
+ghost use Rattle.cm_scan.specs.HtmlBlocks.{lower, raw_text_names, common_block_names, block_name_by, block_names, is_at_name_end, is_at_tag_end, is_named_start, is_raw_text_start, is_declaration_start, is_block_tag_start, is_any_tag_start, html_start, is_html_end};
 ghost use Rattle.cm_scan.specs.HtmlKinds.{kind_of};
 
 use crate::tags::{closing_tag, first_of, is_letter, open_tag, tag_name};
 use crate::words::{bytes_from, is_blank_text, is_space_or_tab};
+use cm_text::Rules;
 use memchr::memchr;
 
 /// The kind of an HTML block, by the condition that starts it, in the standard's order (4.6 HTML blocks).
@@ -60,8 +61,8 @@ fn holds_word(word: &[u8], bytes: &[u8]) -> bool
 /// The names of the elements whose text is not markup.
 const RAW_TEXT_NAMES: [&str; 4] = ["pre", "script", "style", "textarea"];
 
-/// The names of start condition 6.
-const BLOCK_NAMES: [&str; 62] = [
+/// The names of start condition 6 by all rules.
+const COMMON_BLOCK_NAMES: [&str; 61] = [
     "address",
     "article",
     "aside",
@@ -111,7 +112,6 @@ const BLOCK_NAMES: [&str; 62] = [
     "option",
     "p",
     "param",
-    "search",
     "section",
     "summary",
     "table",
@@ -154,12 +154,27 @@ fn is_raw_text_name(name: &[u8]) -> bool
     is_among(words.as_slice(), name)
 }
 
-/// Whether a name is one of start condition 6.
-fn is_block_name(name: &[u8]) -> bool
-    ensures { result ≡ is_among (block_names profile) (lower name.now) }
+/// The name of start condition 6 that differs by the rules.
+fn block_name_by(rules: Rules) -> &'static str
+    ensures { result.now ≡ block_name_by rules }
 {
-    let words: [&str; 62] = BLOCK_NAMES;
+    if rules.is_older() { "source" } else { "search" }
+}
+
+/// Whether a name is one of start condition 6 by all rules.
+fn is_common_block_name(name: &[u8]) -> bool
+    ensures { result ≡ is_among common_block_names (lower name.now) }
+{
+    let words: [&str; 61] = COMMON_BLOCK_NAMES;
     is_among(words.as_slice(), name)
+}
+
+/// Whether a name is one of start condition 6.
+#[tactic(auto, unfolding(crate::specs::HtmlBlocks::block_names))]
+fn is_block_name(rules: Rules, name: &[u8]) -> bool
+    ensures { result ≡ is_among (block_names rules) (lower name.now) }
+{
+    is_name(block_name_by(rules), name) || is_common_block_name(name)
 }
 
 /// Whether a space, a tab, the end of the line or `>` comes next.
@@ -232,13 +247,13 @@ fn name_of_tag(behind: &[u8]) -> &[u8]
 }
 
 /// Start condition 6, behind the `<`.
-fn is_block_tag_start(behind: &[u8]) -> bool
-    ensures { result ≡ is_block_tag_start profile (60 ∷ behind.now) }
+fn is_block_tag_start(rules: Rules, behind: &[u8]) -> bool
+    ensures { result ≡ is_block_tag_start rules (60 ∷ behind.now) }
 {
     let Some(tag) = tag_name(name_of_tag(behind)) else {
         return false;
     };
-    is_block_name(tag.name) && is_at_tag_end(tag.rest)
+    is_block_name(rules, tag.name) && is_at_tag_end(tag.rest)
 }
 
 /// Start condition 7, behind the `<`.
@@ -266,6 +281,14 @@ pub fn html_start(text: &str, at: usize) -> Option<HtmlKind>
     requires within { at ≤ length text.now }
     ensures { option_map kind_of result ≡ html_start profile (drop at text.now) }
 {
+    html_start_by(Rules::profile(), text, at)
+}
+
+/// The same by these rules, which decide which names start condition 6 has.
+pub fn html_start_by(rules: Rules, text: &str, at: usize) -> Option<HtmlKind>
+    requires within { at ≤ length text.now }
+    ensures { option_map kind_of result ≡ html_start rules (drop at text.now) }
+{
     let (b, behind) = first_of(bytes_from(text, at))?;
     if b != b'<' {
         return None;
@@ -285,7 +308,7 @@ pub fn html_start(text: &str, at: usize) -> Option<HtmlKind>
     if behind.starts_with(b"![CDATA[") {
         return Some(HtmlKind::CharacterData);
     }
-    if is_block_tag_start(behind) {
+    if is_block_tag_start(rules, behind) {
         return Some(HtmlKind::BlockTag);
     }
     if is_any_tag_start(behind) {

@@ -10,7 +10,7 @@ mod markers;
 mod tags;
 mod words;
 
-pub use html_blocks::{HtmlKind, html_end, html_start};
+pub use html_blocks::{HtmlKind, html_end, html_start, html_start_by};
 pub use line_forms::{
     AtxHeading, FenceKind, OpeningFence, atx, fence, fence_end, quote_marker, thematic, underline,
 };

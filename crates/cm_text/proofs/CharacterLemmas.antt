@@ -1,5 +1,5 @@
 -- Kinds of ASCII characters, by a walk over the tables.
-use Rattle.std.proofs.Common.{◌≡◌, ◌≢◌, ◌<◌, ℕ, Bool, true, false, ◌||◌, ◌==◌, refl, ap, sym, arith}
+use Rattle.std.proofs.Common.{◌≡◌, ◌≢◌, ◌<◌, ℕ, Bool, true, false, ◌||◌, ◌&&◌, ◌==◌, not, if◌then◌else◌, refl, ap, sym, arith}
 use Rattle.std.specs.Bool.{beq}
 use Rattle.std.proofs.lemmas.Bool.Decides.{nat_tests}
 use Rattle.ucd_table.proofs.Computing.{tables}
@@ -12,22 +12,40 @@ use Rattle.unicode.specs.GeneralCategoryGroup.{in_group}
 use Rattle.ucd_category.specs.declared.GeneralCategory.TheVariants.{SpaceSeparator}
 use Rattle.ucd_category.specs.declared.GeneralCategoryGroup.TheVariants.{Punctuation, Symbol}
 use Rattle.ucd_category.proofs.GeneralCategoryLemmas.{general_category_stepped, general_category_number_injective}
-use Rattle.cm_text.specs.Rules.Rules.{profile}
+use Rattle.cm_text.specs.Rules.{Rules}
 use Rattle.cm_text.specs.Characters.{is_ascii_punct, is_punct_by, is_space}
 
-unfoldable pub is_punct_stepped : Stepped (is_punct_by profile)
-unfolding is_punct_by general_category_stepped
-is_punct_stepped = map_stepped (λ g. in_group Punctuation g || in_group Symbol g) general_category general_category_stepped
+unfoldable pub is_symbol_stepped : Stepped (λ c. in_group Punctuation (general_category c) || in_group Symbol (general_category c))
+unfolding general_category_stepped
+is_symbol_stepped = map_stepped (λ g. in_group Punctuation g || in_group Symbol g) general_category general_category_stepped
+
+unfoldable pub is_of_punctuation_stepped : Stepped (λ c. in_group Punctuation (general_category c))
+unfolding general_category_stepped
+is_of_punctuation_stepped = map_stepped (in_group Punctuation) general_category general_category_stepped
 
 unfoldable pub is_separator_stepped : Stepped (λ c. general_category_eq (general_category c) SpaceSeparator)
 unfolding general_category_stepped
 is_separator_stepped = map_stepped (λ g. general_category_eq g SpaceSeparator) general_category general_category_stepped
 
 -- among ASCII characters those of the categories P and S are the ASCII punctuation characters
-pub is_punct-ascii : (c : ℕ) → c < 128 → is_ascii_punct c ≡ is_punct_by profile c
-unfolding tables is_punct_stepped
-is_punct-ascii c h =
-    sym (same_from_beq _ _ (Stepped-below (is_punct_by profile) is_punct_stepped (λ x v. beq v (is_ascii_punct x)) 128 refl c h))
+symbols-ascii : (c : ℕ) → c < 128 → (in_group Punctuation (general_category c) || in_group Symbol (general_category c)) ≡ is_ascii_punct c
+unfolding tables is_symbol_stepped
+symbols-ascii c h =
+    same_from_beq _ _ (Stepped-below (λ c. in_group Punctuation (general_category c) || in_group Symbol (general_category c)) is_symbol_stepped (λ x v. beq v (is_ascii_punct x)) 128 refl c h)
+
+-- and so each of the category P is one
+punctuation-ascii : (c : ℕ) → c < 128 → (in_group Punctuation (general_category c) || is_ascii_punct c) ≡ is_ascii_punct c
+unfolding tables is_of_punctuation_stepped
+punctuation-ascii c h =
+    same_from_beq _ _ (Stepped-below (λ c. in_group Punctuation (general_category c)) is_of_punctuation_stepped (λ x v. beq (v || is_ascii_punct x) (is_ascii_punct x)) 128 refl c h)
+
+pub is_punct-ascii : (rules : Rules) (c : ℕ) → c < 128 → is_ascii_punct c ≡ is_punct_by rules c
+unfolding is_punct_by
+is_punct-ascii rules c h = go rules.older
+  where
+    go : (older : Bool) → is_ascii_punct c ≡ (in_group Punctuation (general_category c) || (if older then is_ascii_punct c else in_group Symbol (general_category c)))
+    go true = sym (punctuation-ascii c h)
+    go false = sym (symbols-ascii c h)
 
 -- the one ASCII character of the category Zs is the space
 pub is_separator-ascii : (c : ℕ) → c < 128 → general_category_eq (general_category c) SpaceSeparator ≡ (c == 32)
@@ -45,10 +63,18 @@ pub is_space-beyond : (c : ℕ) (separator : Bool) → is_ascii c ≡ false → 
 unfolding is_space
 is_space-beyond c separator h e = grind (arith, nat_tests, h, e)
 
-pub is_punct-groups : (c : ℕ) (category : GeneralCategory) (punctuation symbol : Bool) → category ≡ general_category c
-    → punctuation ≡ in_group Punctuation category → symbol ≡ in_group Symbol category → (punctuation || symbol) ≡ is_punct_by profile c
+-- beyond ASCII the categories alone decide, by the older rules the category P
+pub is_punct-groups : (rules : Rules) (c : ℕ) (category : GeneralCategory) (older punctuation symbol : Bool) → is_ascii c ≡ false → category ≡ general_category c
+    → older ≡ rules.older → punctuation ≡ in_group Punctuation category → symbol ≡ in_group Symbol category → (punctuation || not older && symbol) ≡ is_punct_by rules c
 unfolding is_punct_by
-is_punct-groups c category punctuation symbol k p s = rw (p, s, k)
+is_punct-groups rules c category older punctuation symbol beyond k o p s = rw (p, s, k, o) (go rules.older)
+  where
+    none : is_ascii_punct c ≡ false
+    none = grind (arith, nat_tests, beyond)
+    go : (o : Bool) → (in_group Punctuation (general_category c) || not o && in_group Symbol (general_category c))
+        ≡ (in_group Punctuation (general_category c) || (if o then is_ascii_punct c else in_group Symbol (general_category c)))
+    go true = ap (λ t. in_group Punctuation (general_category c) || t) (sym none)
+    go false = refl
 
 pub below_ascii : (c : ℕ) → is_ascii c ≡ true → c < 128
 below_ascii c h = grind (arith, nat_tests, h)

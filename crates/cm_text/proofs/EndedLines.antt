@@ -1,7 +1,6 @@
 -- The lines of a text that have ended, by the cut of the text.
 use Rattle.std.proofs.Common.{◌≡◌, ℕ, Bool, true, false, cond, ◌||◌, ◌==◌, List, [], ◌∷◌, ◌++◌, map, refl, sym, ap, ◌∙◌, append-nil}
-use Rattle.cm_text.specs.LineText.{is_line_ending}
-use Rattle.cm_text.specs.Lines.{LineView, last_line, plain_line, plain_lines_of, ends_a_line, but_last, ended_lines_of}
+use Rattle.cm_text.specs.Lines.{LineView, last_line, plain_line, plain_lines_of, ends_a_line, but_last}
 use Rattle.cm_text.specs.Cut.{Cut, cut_byte, cut_more, end_line, nothing_cut, EndedLinesAreCut}
 use Rattle.cm_text.proofs.LinesLemmas.{lines_are_cut}
 

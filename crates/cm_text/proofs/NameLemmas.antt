@@ -38,50 +38,50 @@ passes-at test from (suc count) h i above below =
 
 -- each name lies within the text of all
 rises : ℕ → Bool
-rises i = nat_le (start_at i) (start_at (i + 1)) && nat_le (start_at (i + 1)) 665
+rises i = nat_le (start_at i) (start_at (i + 1)) && nat_le (start_at (i + 1)) 871
 
-all_rise : passes rises 0 128 ≡ true
+all_rise : passes rises 0 177 ≡ true
 unfolding passes rises start_at
 all_rise = refl
 
-pub length-names : length names_joined ≡ 665
+pub length-names : length names_joined ≡ 871
 unfolding names_joined
 length-names = refl
 
-pub starts_rise : (i : ℕ) → i < 128 → (start_at i ≤ start_at (i + 1)) × (start_at (i + 1) ≤ length names_joined)
+pub starts_rise : (i : ℕ) → i < 177 → (start_at i ≤ start_at (i + 1)) × (start_at (i + 1) ≤ length names_joined)
 unfolding rises
 starts_rise i within =
-    let both : (nat_le (start_at i) (start_at (i + 1)) && nat_le (start_at (i + 1)) 665) ≡ true = passes-at rises 0 128 all_rise i (omega arith) (omega arith) in
+    let both : (nat_le (start_at i) (start_at (i + 1)) && nat_le (start_at (i + 1)) 871) ≡ true = passes-at rises 0 177 all_rise i (omega arith) (omega arith) in
     (grind (arith, nat_tests, both), rw length-names (grind (arith, nat_tests, both)))
 
 keys : List (List ℕ)
-keys = map name_at (range_with_len 0 128)
+keys = map name_at (range_with_len 0 177)
 
-length-keys : length keys ≡ 128
+length-keys : length keys ≡ 177
 unfolding keys
-length-keys = length-map-range_with_len name_at 0 128
+length-keys = length-map-range_with_len name_at 0 177
 
-key_at : (i : ℕ) (d : List ℕ) → i < 128 → get_or keys i d ≡ name_at i
+key_at : (i : ℕ) (d : List ℕ) → i < 177 → get_or keys i d ≡ name_at i
 unfolding keys
-key_at i d within = get_or-map-range_with_len name_at 0 128 i i d within (omega arith)
+key_at i d within = get_or-map-range_with_len name_at 0 177 i i d within (omega arith)
 
 -- the names ascend by their bytes
 ascends : ℕ → Bool
 ascends i = not (is_lt (slice_cmp nat_cmp (name_at (i + 1)) (name_at i)))
 
-all_ascend : passes ascends 0 127 ≡ true
+all_ascend : passes ascends 0 176 ≡ true
 unfolding passes ascends name_at start_at names_joined
 all_ascend = refl
 
 keys-sorted : IsSortedBy (λ a b. is_lt (slice_cmp nat_cmp a b)) keys
 unfolding ascends
 keys-sorted k d low high =
-    let next : k + 1 < 128 = omega (arith, high, length-keys) in
-    let up : not (is_lt (slice_cmp nat_cmp (name_at (k + 1)) (name_at k))) ≡ true = passes-at ascends 0 127 all_ascend k (omega arith) (omega arith) in
+    let next : k + 1 < 177 = omega (arith, high, length-keys) in
+    let up : not (is_lt (slice_cmp nat_cmp (name_at (k + 1)) (name_at k))) ≡ true = passes-at ascends 0 176 all_ascend k (omega arith) (omega arith) in
     rw (key_at (k + 1) d next, key_at k d (omega arith)) (grind (arith, up))
 
 -- so what a comparison with a name answers doesn't fall along the table
-compared : (name : List ℕ) (i j : ℕ) → i ≤ j → j < 128
+compared : (name : List ℕ) (i j : ℕ) → i ≤ j → j < 177
     → ordering_index (slice_cmp nat_cmp (name_at i) name) ≤ ordering_index (slice_cmp nat_cmp (name_at j) name)
 compared name i j up within =
     let rise : IsNonDecreasingBy (λ y. ordering_index (slice_cmp nat_cmp y name)) keys = searchable_from_sorted nat_list_cmp_total (λ k. k) keys name keys-sorted in
@@ -91,7 +91,7 @@ compared name i j up within =
 itself : (name : List ℕ) (j : ℕ) → name_at j ≡ name → ordering_index (slice_cmp nat_cmp (name_at j) name) ≡ 1
 itself name j same = ap (λ t. ordering_index (slice_cmp nat_cmp t name)) same ∙ ap ordering_index (tied_itself nat_list_cmp_total name)
 
-apart-low : (name : List ℕ) (middle j : ℕ) (before : Bool) → nat_le j middle ≡ before → middle < 128
+apart-low : (name : List ℕ) (middle j : ℕ) (before : Bool) → nat_le j middle ≡ before → middle < 177
     → slice_cmp nat_cmp (name_at middle) name ≡ Less → name_at j ≡ name → middle < j
 apart-low name middle j true e m less same =
     let one = itself name j same in
@@ -101,10 +101,10 @@ apart-low name middle j true e m less same =
 apart-low name middle j false e m less same = grind (arith, nat_tests, e)
 
 -- a name that comes after the one in the middle stands after it
-pub after_middle : (name : List ℕ) (middle j : ℕ) → middle < 128 → slice_cmp nat_cmp (name_at middle) name ≡ Less → name_at j ≡ name → middle < j
+pub after_middle : (name : List ℕ) (middle j : ℕ) → middle < 177 → slice_cmp nat_cmp (name_at middle) name ≡ Less → name_at j ≡ name → middle < j
 after_middle name middle j = apart-low name middle j (nat_le j middle) refl
 
-apart-high : (name : List ℕ) (middle j : ℕ) (behind : Bool) → nat_le middle j ≡ behind → j < 128
+apart-high : (name : List ℕ) (middle j : ℕ) (behind : Bool) → nat_le middle j ≡ behind → j < 177
     → slice_cmp nat_cmp (name_at middle) name ≡ Greater → name_at j ≡ name → j < middle
 apart-high name middle j true e within greater same =
     let one = itself name j same in
@@ -114,7 +114,7 @@ apart-high name middle j true e within greater same =
 apart-high name middle j false e within greater same = grind (arith, nat_tests, e)
 
 -- and one that comes before it before it
-pub before_middle : (name : List ℕ) (middle j : ℕ) → j < 128 → slice_cmp nat_cmp (name_at middle) name ≡ Greater → name_at j ≡ name → j < middle
+pub before_middle : (name : List ℕ) (middle j : ℕ) → j < 177 → slice_cmp nat_cmp (name_at middle) name ≡ Greater → name_at j ≡ name → j < middle
 before_middle name middle j = apart-high name middle j (nat_le middle j) refl
 
 -- the same characters
@@ -131,13 +131,13 @@ same_entry-is (Some found) characters h = ap (λ t. Some t) ((bytes_eq-Decides f
 agrees : ℕ → Bool
 agrees i = same_entry (entry names (name_at i)) (characters_at i)
 
-all_agree : passes agrees 0 128 ≡ true
+all_agree : passes agrees 0 177 ≡ true
 unfolding passes agrees same_entry names name_at start_at names_joined characters_at first_at
 all_agree = refl
 
-pub place-entry : (i : ℕ) → i < 128 → entry names (name_at i) ≡ Some (characters_at i)
+pub place-entry : (i : ℕ) → i < 177 → entry names (name_at i) ≡ Some (characters_at i)
 unfolding agrees
-place-entry i within = same_entry-is (entry names (name_at i)) (characters_at i) (passes-at agrees 0 128 all_agree i (omega arith) (omega arith))
+place-entry i within = same_entry-is (entry names (name_at i)) (characters_at i) (passes-at agrees 0 177 all_agree i (omega arith) (omega arith))
 
 -- a name stands in the table
 stands : List ℕ → ℕ → ℕ → Bool
@@ -145,7 +145,7 @@ stands name from zero = false
 stands name from (suc count) = bytes_eq (name_at from) name || stands name (from + 1) count
 
 -- each name of a reference does
-all_stand : list_all (λ e. stands e.0 0 128) names ≡ true
+all_stand : list_all (λ e. stands e.0 0 177) names ≡ true
 unfolding stands names name_at start_at names_joined
 all_stand = refl
 
@@ -167,19 +167,19 @@ both_true false b h = absurd (cc)
 
 -- so what stands nowhere in the table is no name
 entry-step : (name : List ℕ) (e : List ℕ × List ℕ) (es : List (List ℕ × List ℕ)) (same : Bool) → bytes_eq e.0 name ≡ same
-    → stands name 0 128 ≡ false → stands e.0 0 128 ≡ true → entry es name ≡ None
+    → stands name 0 177 ≡ false → stands e.0 0 177 ≡ true → entry es name ≡ None
     → elim same as (λ _. Option (List ℕ)) [ true ↦ Some e.1 | false ↦ entry es name ] ≡ None
 entry-step name e es true q h placed rest =
     let alike : e.0 ≡ name = (bytes_eq-Decides e.0 name).0 q in
-    let never : true ≡ false = sym placed ∙ ap (λ t. stands t 0 128) alike ∙ h in
+    let never : true ≡ false = sym placed ∙ ap (λ t. stands t 0 177) alike ∙ h in
     absurd (cc)
 entry-step name e es false q h placed rest = rest
 
-entry-none : (name : List ℕ) (entries : List (List ℕ × List ℕ)) → stands name 0 128 ≡ false → list_all (λ e. stands e.0 0 128) entries ≡ true → entry entries name ≡ None
+entry-none : (name : List ℕ) (entries : List (List ℕ × List ℕ)) → stands name 0 177 ≡ false → list_all (λ e. stands e.0 0 177) entries ≡ true → entry entries name ≡ None
 entry-none name [] h all = refl
 entry-none name (e ∷ es) h all =
-    let both = both_true (stands e.0 0 128) (list_all (λ x. stands x.0 0 128) es) all in
+    let both = both_true (stands e.0 0 177) (list_all (λ x. stands x.0 0 177) es) all in
     entry-step name e es (bytes_eq e.0 name) refl h both.0 (entry-none name es h both.1)
 
-pub no-entry : (name : List ℕ) → ((i : ℕ) → i < 128 → name_at i ≢ name) → entry names name ≡ None
-no-entry name h = entry-none name names (stands-not name 0 128 (λ i below. h i (omega arith))) all_stand
+pub no-entry : (name : List ℕ) → ((i : ℕ) → i < 177 → name_at i ≢ name) → entry names name ≡ None
+no-entry name h = entry-none name names (stands-not name 0 177 (λ i below. h i (omega arith))) all_stand

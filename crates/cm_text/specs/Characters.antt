@@ -1,11 +1,10 @@
 -- Kinds of characters (CommonMark 0.31.2, 2.1 Characters and lines).
-use Rattle.std.specs.Prelude.{ℕ, Bool, ◌==◌, ◌&&◌, ◌||◌, nat_le}
+use Rattle.std.specs.Prelude.{ℕ, Bool, ◌==◌, ◌&&◌, ◌||◌, nat_le, if◌then◌else◌}
 use Rattle.unicode.specs.GeneralCategory.{general_category, general_category_eq}
 use Rattle.unicode.specs.GeneralCategoryGroup.{in_group}
 use Rattle.ucd_category.specs.declared.GeneralCategory.TheVariants.{SpaceSeparator}
 use Rattle.ucd_category.specs.declared.GeneralCategoryGroup.TheVariants.{Punctuation, Symbol}
 use Rattle.cm_text.specs.Rules.{Rules}
-use Rattle.cm_text.specs.Rules.Rules.{profile}
 
 -- a number between two others, both included
 abbrev pub within : ℕ → ℕ → ℕ → Bool
@@ -20,9 +19,10 @@ is_space_or_tab c = c == 32 || c == 9
 abbrev pub is_ascii_punct : ℕ → Bool
 is_ascii_punct c = within 0x21 0x2F c || within 0x3A 0x40 c || within 0x5B 0x60 c || within 0x7B 0x7E c
 
--- A Unicode punctuation character is a character in the Unicode P (punctuation) or S (symbol) general categories.
+-- A Unicode punctuation character is a character in the Unicode P (punctuation) or S (symbol) general categories. By the older
+-- rules of the symbols only those of ASCII are.
 unfoldable pub is_punct_by : Rules → ℕ → Bool
-is_punct_by profile c = in_group Punctuation (general_category c) || in_group Symbol (general_category c)
+is_punct_by rules c = in_group Punctuation (general_category c) || (if rules.older then is_ascii_punct c else in_group Symbol (general_category c))
 
 -- A Unicode whitespace character is a character in the Unicode Zs general category, or a tab (U+0009), line feed
 -- (U+000A), form feed (U+000C), or carriage return (U+000D).

@@ -1,5 +1,15 @@
--- The rules of a reading, where dialects of CommonMark differ.
+-- The rules of a reading, where readers of CommonMark differ. Each of the two marks goes with either value of the other.
+use Rattle.std.specs.Prelude.{Bool, true, false}
 
--- The one value stands for CommonMark 0.31.2 as this project reads it.
-pub data Rules : Type 0 where
-  profile : Rules
+pub record Rules : Type 0 where
+  -- this project's older rules of Unicode punctuation, of comments and of the names that begin an HTML block
+  pub older : Bool
+  -- this project's own extension: strikethrough between two tildes and two tildes
+  pub strike : Bool
+
+-- CommonMark 0.31.2 as this project reads it
+abbrev pub profile : Rules
+profile = record { older = false; strike = false }
+
+abbrev pub older_rules : Rules
+older_rules = record { older = true; strike = false }

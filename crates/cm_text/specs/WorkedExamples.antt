@@ -4,7 +4,8 @@ use Rattle.std.specs.List.{filter, range_with_len}
 use Rattle.cm_text.specs.declared.fault.TextFault.TheVariants.{NotUtf8, TooLong}
 use Rattle.cm_text.specs.Lines.{text_of, lines_of, plain_line, ended_lines_of}
 use Rattle.cm_text.specs.Faults.{settled_fault, text_fault}
-use Rattle.cm_text.specs.Rules.Rules.{profile}
+use Rattle.cm_text.specs.Rules.{profile, older_rules}
+use Rattle.cm_text.specs.Limits.{limits_for}
 use Rattle.cm_text.specs.Characters.{is_ascii_punct, is_punct_by, is_space}
 use Rattle.cm_text.specs.Indentation.{indent_from, strip_from, strip_columns}
 use Rattle.cm_text.specs.NamedReferences.{names}
@@ -57,6 +58,10 @@ pub record CharacterExamples : Type 0 where
   pub punctuation : filter (is_punct_by profile) (range_with_len 0 128) ≡ codes "!\"#$%&'()*+,-./:;<=>?@[\\]^_`{|}~"
   pub spaces : filter is_space (range_with_len 0 128) ≡ 9 ∷ 10 ∷ 12 ∷ 13 ∷ 32 ∷ []
   pub pound_sign : is_punct_by profile 0xA3 ≡ true
+  pub older_pound_sign : is_punct_by older_rules 0xA3 ≡ false
+  pub older_euro_sign : is_punct_by older_rules 0x20AC ≡ false
+  pub older_quotation_mark : is_punct_by older_rules 0xAB ≡ true
+  pub older_dollar_sign : is_punct_by older_rules 0x24 ≡ true
   pub dash : is_punct_by profile 0x2014 ≡ true
   pub letter : is_punct_by profile 0xE4 ≡ false
   pub no_break_space : is_space 0xA0 ≡ true
@@ -91,10 +96,13 @@ pub record ReferenceExamples : Type 0 where
   pub two_characters : reference (codes "&ngE;") ≡ Some (0x2267 ∷ 0x338 ∷ [], 5)
   pub no_name : reference (codes "&nosuch;") ≡ None
   pub no_semicolon : reference (codes "&amp &") ≡ None
+  pub greek : reference (codes "&Alpha;") ≡ Some (0x391 ∷ [], 7)
+  pub final_sigma : reference (codes "&sigmaf;") ≡ Some (0x3C2 ∷ [], 8)
+  pub no_small_alpha : reference (codes "&alpha") ≡ None
   pub case_counts : reference (codes "&AMP;") ≡ None
   pub first_alone : reference (codes "&amp;amp;") ≡ Some (38 ∷ [], 5)
   pub no_ampersand : reference (codes "amp;") ≡ None
-  pub number_of_names : length names ≡ 128
+  pub number_of_names : length names ≡ 177
   pub within_a_text : reference_at (codes "a &lt; b") 2 ≡ Some (60 ∷ [], 6)
 
 pub record UnescapeExamples : Type 0 where
@@ -105,3 +113,9 @@ pub record UnescapeExamples : Type 0 where
   pub references : unescape (codes "&#65; &nosuch; &quot;") ≡ codes "A &nosuch; \""
   pub backslash_given : unescape (codes "&#92;*") ≡ codes "\\*"
   pub beyond_ascii : unescape (codes "&copy;") ≡ 0xC2 ∷ 0xA9 ∷ []
+  pub greek : unescape (codes "&Alpha;&sigmaf;&omega; &alpha") ≡ 0xCE ∷ 0x91 ∷ 0xCF ∷ 0x82 ∷ 0xCF ∷ 0x89 ∷ codes " &alpha"
+
+pub record LimitExamples : Type 0 where
+  pub greatest : limits_for 1 500 500 ≡ Some (record { bytes = 1; blocks = 500; inlines = 500; rules = profile })
+  pub too_many_blocks : limits_for 1 501 500 ≡ None
+  pub too_many_inlines : limits_for 1 500 501 ≡ None

@@ -1,8 +1,9 @@
 //! Kinds of characters.
 ghost use Rattle.std.specs.Prelude.{◌≡◌, ◌==◌, ◌||◌};
 ghost use Rattle.cm_text.specs.Characters.{is_ascii_punct, is_punct_by, is_space};
-ghost use Rattle.cm_text.specs.Rules.Rules.{profile};
+ghost use Rattle.cm_text.specs.Rules.{profile};
 
+use crate::rules::Rules;
 use unicode::properties::{GeneralCategory, GeneralCategoryGroup};
 
 /// Whether this is ASCII punctuation: U+0021 to U+002F, U+003A to U+0040, U+005B to U+0060 or U+007B to
@@ -14,16 +15,25 @@ pub fn is_ascii_punct(c: char) -> bool
 }
 
 /// Whether this is Unicode punctuation: a character of a general category P (punctuation) or S (symbol)
-/// (2.1 Characters and lines). An ASCII character is judged without the table of categories.
+/// (2.1 Characters and lines).
 pub fn is_punct(c: char) -> bool
     ensures { result ≡ is_punct_by profile c }
+{
+    is_punct_by(Rules::profile(), c)
+}
+
+/// Whether this is Unicode punctuation by these rules: by the older ones a character of a general category P or
+/// ASCII punctuation, else of a general category P or S (2.1 Characters and lines). An ASCII character is judged
+/// without the table of categories.
+pub fn is_punct_by(rules: Rules, c: char) -> bool
+    ensures { result ≡ is_punct_by rules c }
 {
     if c.is_ascii() {
         return is_ascii_punct(c);
     }
     let category = GeneralCategory::for_char(c);
     GeneralCategoryGroup::Punctuation.contains(category)
-        || GeneralCategoryGroup::Symbol.contains(category)
+        || !rules.is_older() && GeneralCategoryGroup::Symbol.contains(category)
 }
 
 /// Whether this is Unicode whitespace: a character of the general category Zs, a tab, a line feed, a form

@@ -3,7 +3,7 @@ ghost use Rattle.cm_text.specs.Lines.{LinesAreComputed, LinesAreDetermined};
 ghost use Rattle.cm_text.specs.Cut.{EndedLinesAreCut, LinesAreCut};
 ghost use Rattle.cm_text.specs.Indentation.{StripTakesColumns, StripInParts};
 ghost use Rattle.cm_text.specs.Settled.{SettledIsTold};
-ghost use Rattle.cm_text.specs.WorkedExamples.{LineExamples, FaultExamples, IndentationExamples, LabelExamples, CharacterExamples, StripExamples, ReferenceExamples, UnescapeExamples};
+ghost use Rattle.cm_text.specs.WorkedExamples.{LineExamples, FaultExamples, IndentationExamples, LabelExamples, CharacterExamples, StripExamples, ReferenceExamples, UnescapeExamples, LimitExamples};
 
 /// A text has one list of lines.
 pub fn lines_are_determined()
@@ -50,4 +50,5 @@ pub fn worked_examples()
     ensures strip { StripExamples }
     ensures references { ReferenceExamples }
     ensures unescape { UnescapeExamples }
+    ensures limits { LimitExamples }
 {}

@@ -1,17 +1,15 @@
--- What clap finds in words that call for no stop, at the subcommands of cmk: a number of blocks that lies in its range.
-use Rattle.std.proofs.Common.{◌≡◌, ◌∙◌, ◌⊎◌, List, [], ◌∷◌, ◌++◌, ◌+◌, ◌&&◌, ◌||◌, ℕ, min, zero, suc, length, drop, Option, Some, None, Bool, true, false, not, refl, sym, ap, subst, inl, inr, bytes_eq, true≢false}
+-- What clap finds in words that call for no stop, at the subcommands of cmk: values of the options that fit them.
+use Rattle.std.proofs.Common.{◌≡◌, ◌∙◌, List, [], ◌∷◌, ◌++◌, ◌&&◌, ◌||◌, ℕ, zero, suc, length, drop, Option, Some, None, Bool, true, false, not, refl, sym, subst, bytes_eq, true≢false, ◌==◌, arith, ne_eqb}
 use Rattle.std.specs.Prelude.{codes, cond, encode_utf8, fold, find, is_some, option_map, slice_get, slice_index_or, IfSome, IsSome, IsSomeAnd, ⊤}
 use Rattle.std.specs.List.{AllByRecursion}
-use Rattle.std.specs.Option.{option_map_or}
+use Rattle.std.specs.Option.{option_map_or, option_or}
 use Rattle.std.specs.Str.{chars}
 use Rattle.std.proofs.lemmas.Slice.Eq.{bytes_eq-Decides}
 use Rattle.clap.specs.Lexer.{long_of, short_of}
 use Rattle.clap.specs.Kinds.{Kinds, or_else, range_kinds, value_kinds}
-use Rattle.clap.specs.Walk.{Held, Names, Outcome, Row, Rule, Step, Text, Waiting, Walk, action_of, after_flag, answers_to, finished, arg_by_id, arg_by_index, arg_by_long, arg_by_short, at_row, attached_value, bundle, bundle_met, bundle_step, count_of, default_rows, done, flag_met, has_row, idle, is_pending, long_met, long_or_other, more_values, new_count, next, option, option_met, option_word, plain, plain_word, positional, reacted, reading_by, refused, settled, settled_rows, short_met, short_or_plain, subcommand, subcommand_met, subcommand_or_other, takes_several, takes_values, to_positional, trailing, used, used_as, used_by_id, value, values_or_missing, waits, walk, walk_from, nothing_held, rows_after, walked, walked_from, with_count, with_default, with_values, without, word_met, after_step}
-use Rattle.clap.specs.Simple.{App, Shape, argument_words, built, built_leaf, entered, filled, names_of, rows_at}
+use Rattle.clap.specs.Walk.{Held, Names, Outcome, Row, Rule, Step, Text, Waiting, Walk, after_flag, answers_to, finished, arg_by_id, arg_by_index, arg_by_long, arg_by_short, at_row, attached_value, bundle, bundle_met, bundle_step, default_rows, done, flag_met, has_row, idle, is_pending, long_met, long_or_other, more_values, next, option, option_met, option_word, plain, plain_word, positional, reacted, reading_by, refused, settled, settled_rows, short_met, short_or_plain, subcommand, subcommand_met, subcommand_or_other, takes_several, takes_values, to_positional, trailing, used, used_by_id, value, values_or_missing, waits, walk, walk_from, nothing_held, rows_after, walked, walked_from, with_default, with_values, without, word_met, after_step}
+use Rattle.clap.specs.Simple.{App, Shape, argument_words, built, built_leaf, entered, filled, help_rule, names_of, rows_at, with_index}
 use Rattle.clap.specs.Faults.{bundle_fault, bundle_step_fault, check_fault, defaults_fault, entered_fault, level_fault, flag_word_fault, flags_fault, long_fault, option_fault, other_fault, positional_fault, react_fault, repeat_fault, settle_fault, short_fault, step_fault, stray_fault, turn_fault, use_fault, walk_fault, word_fault}
-use Rattle.clap.specs.declared.builder.action.ArgAction.{ArgAction}
-use Rattle.clap.specs.declared.builder.action.ArgAction.TheVariants as action
 use Rattle.clap.specs.declared.builder.value_parser.Reading.{Reading}
 use Rattle.clap.specs.declared.builder.value_parser.Reading.TheVariants.{AsWritten}
 use Rattle.clap.specs.declared.builder.value_parser.ValueParser.TheVariants.{Unsigned}
@@ -19,7 +17,8 @@ use Rattle.clap.specs.declared.error.kind.ErrorKind.{ErrorKind}
 use Rattle.clap.specs.declared.error.kind.ErrorKind.TheVariants as kind
 use Rattle.clap.specs.declared.parser.matches.ValueSource.{ValueSource}
 use Rattle.clap.specs.declared.parser.matches.ValueSource.TheVariants.{CommandLine, DefaultValue}
-use Rattle.cm_tool.specs.CommandLine.{blocks_rule, cmk_app, found_for, is_limit, job_app, job_of, stops_of, IsJob, IsLimited}
+use Rattle.cm_tool.specs.CommandLine.{blocks_rule, cmk_app, file_rule, fits, flag_rule, found_for, is_limit, job_app, job_of, stops_of, AreRead, IsJob, IsRead}
+use Rattle.cm_tool.proofs.RowLemmas.{first_default, row_by, with_defaults}
 
 -- ---- kinds that are none
 
@@ -37,18 +36,18 @@ passes false k none = cc
 
 -- ---- rows
 
--- the first value is a number in its range
-abbrev FirstInRange : List Text → Type 0
-FirstInRange [] = ⊥
-FirstInRange (v ∷ vs) = is_limit v ≡ true
+-- the first value fits the argument of this name
+abbrev FirstFits : Text → List Text → Type 0
+FirstFits id [] = ⊥
+FirstFits id (v ∷ vs) = fits id v ≡ true
 
-more_in_range : (vs more : List Text) → FirstInRange vs → FirstInRange (vs ++ more)
-more_in_range [] more h = absurd h
-more_in_range (v ∷ vs) more h = h
+more_fit : (id : Text) (vs more : List Text) → FirstFits id vs → FirstFits id (vs ++ more)
+more_fit id [] more h = absurd h
+more_fit id (v ∷ vs) more h = h
 
--- a row of the number of blocks has such a value
+-- the row has such a value, as it is written
 abbrev pub IsFine : Row → Type 0
-IsFine r = bytes_eq r.id (codes "blocks") ≡ true → (r.reading ≡ AsWritten) × FirstInRange r.values
+IsFine r = (r.reading ≡ AsWritten) × FirstFits r.id r.values
 
 abbrev pub AreFine : List Row → Type 0
 AreFine = AllByRecursion IsFine
@@ -66,57 +65,46 @@ at_row_fine id change missing (r ∷ rs) fine changed added = go (bytes_eq r.id 
     go true rest = both_fine (change r) rs (changed r fine.0) fine.1
     go false rest = (fine.0, rest)
 
-with_values_fine : (id : Text) (how : Reading) (s : ValueSource) (values : List Text) (rows : List Row)
-    → (bytes_eq id (codes "blocks") ≡ true → (how ≡ AsWritten) × FirstInRange values) → AreFine rows → AreFine (with_values id how s values rows)
-with_values_fine id how s values rows new fine =
-    at_row_fine id (more_values s values) _ rows fine (λ r f. (λ is. ((f is).0, more_in_range r.values values (f is).1), tt)) (new, tt)
-
-with_count_fine : (id : Text) (how : Reading) (s : ValueSource) (n : ℕ) (rows : List Row)
-    → bytes_eq id (codes "blocks") ≡ false → AreFine rows → AreFine (with_count id how s n rows)
-with_count_fine id how s n rows other fine =
-    at_row_fine id (new_count s n) _ rows fine (λ r f. (λ is. ((f is).0, more_in_range r.values _ (f is).1), tt))
-    (λ is. absurd (true≢false (sym is ∙ other)), tt)
+with_values_fine : (id : Text) (s : ValueSource) (values : List Text) (rows : List Row) → FirstFits id values → AreFine rows
+    → AreFine (with_values id AsWritten s values rows)
+with_values_fine id s values rows new fine =
+    at_row_fine id (more_values s values) _ rows fine (λ r f. ((f.0, more_fit r.id r.values values f.1), tt)) ((refl, new), tt)
 
 without_fine : (id : Text) (rows : List Row) → AreFine rows → AreFine (without id rows)
 without_fine id rows fine = at_row_fine id (λ _. []) [] rows fine (λ r f. tt) tt
 
 -- ---- one use of an argument
 
--- the option --blocks, or an argument of another name
+-- a use that is no fault keeps the rows fine
 abbrev pub IsFineRule : Rule → Type 0
-IsFineRule a = (bytes_eq a.id (codes "blocks") ≡ false) ⊎ (a ≡ filled blocks_rule)
+IsFineRule a = (again : Bool) (values : List Text) (rows : List Row) → use_fault again a values rows ≡ [] → AreFine rows → AreFine (used a values rows)
 
-other_used : (x : ArgAction) (id : Text) (how : Reading) (values : List Text) (rows : List Row) → bytes_eq id (codes "blocks") ≡ false → AreFine rows
-    → AreFine (used_as x id how values rows)
-other_used action.Set id how values rows other fine =
-    with_values_fine id how CommandLine values _ (λ is. absurd (true≢false (sym is ∙ other))) (without_fine id rows fine)
-other_used action.SetTrue id how values rows other fine =
-    with_values_fine id how CommandLine values _ (λ is. absurd (true≢false (sym is ∙ other))) (without_fine id rows fine)
-other_used action.SetFalse id how values rows other fine =
-    with_values_fine id how CommandLine values _ (λ is. absurd (true≢false (sym is ∙ other))) (without_fine id rows fine)
-other_used action.Append id how values rows other fine =
-    with_values_fine id how CommandLine values rows (λ is. absurd (true≢false (sym is ∙ other))) fine
-other_used action.Count id how [] rows other fine =
-    with_count_fine id how CommandLine (min (count_of id rows + 1) 255) _ other (without_fine id rows fine)
-other_used action.Count id how (v ∷ vs) rows other fine =
-    with_values_fine id how CommandLine (v ∷ vs) _ (λ is. absurd (true≢false (sym is ∙ other))) (without_fine id rows fine)
-other_used _ id how values rows other fine = fine
+set_fine : (id : Text) (values : List Text) (rows : List Row) → FirstFits id values → AreFine rows
+    → AreFine (with_values id AsWritten CommandLine values (without id rows))
+set_fine id values rows new fine = with_values_fine id CommandLine values _ new (without_fine id rows fine)
 
-use_in_range : (again : Bool) (values : List Text) (rows : List Row) → use_fault again (filled blocks_rule) values rows ≡ []
-    → FirstInRange (values_or_missing (filled blocks_rule) values)
-use_in_range again [] rows none = cc
-use_in_range again (v ∷ vs) rows none =
-    let set = no_second (range_kinds 1 1 (length (v ∷ vs))) _ none in
-    let fit = no_second (repeat_fault again (codes "blocks") rows) _ set in
-    passes (is_limit v) _ (no_first (value_kinds false (Unsigned 1 200) v) _ fit)
+file_fine : IsFineRule (with_index 1 (filled file_rule))
+file_fine again [] rows none fine = absurd (cc)
+file_fine again (v ∷ vs) rows none fine = set_fine (codes "file") (v ∷ vs) rows refl fine
 
-used_fine : (again : Bool) (a : Rule) (values : List Text) (rows : List Row) → IsFineRule a → use_fault again a values rows ≡ [] → AreFine rows
-    → AreFine (used a values rows)
-used_fine again a values rows (inl other) none fine = other_used (action_of a) a.id (reading_by a) (values_or_missing a values) rows other fine
-used_fine again a values rows (inr is) none fine =
-    let none_there = subst (λ (x : Rule). use_fault again x values rows ≡ []) is none in
-    subst (λ (x : Rule). AreFine (used x values rows)) (sym is)
-    (with_values_fine (codes "blocks") AsWritten CommandLine _ _ (λ _. (refl, use_in_range again values rows none_there)) (without_fine (codes "blocks") rows fine))
+blocks_fine : IsFineRule (filled blocks_rule)
+blocks_fine again values rows none fine = set_fine (codes "blocks") _ rows (in_range values none) fine
+  where
+    in_range : (vs : List Text) → use_fault again (filled blocks_rule) vs rows ≡ [] → FirstFits (codes "blocks") (values_or_missing (filled blocks_rule) vs)
+    in_range [] none = cc
+    in_range (v ∷ vs) none =
+        let set = no_second (range_kinds 1 1 (length (v ∷ vs))) _ none in
+        let fit = no_second (repeat_fault again (codes "blocks") rows) _ set in
+        passes (is_limit v) _ (no_first (value_kinds false (Unsigned 1 500) v) _ fit)
+
+flag_fine : (name : Text) → fits name (codes "true") ≡ true → IsFineRule (filled (flag_rule name))
+flag_fine name fit again [] rows none fine = set_fine name (codes "true" ∷ []) rows fit fine
+flag_fine name fit again (v ∷ vs) rows none fine =
+    let takes_none = passes (0 == length (v ∷ vs)) _ (no_first (range_kinds 0 0 (length (v ∷ vs))) _ none) in
+    absurd (true≢false (sym takes_none ∙ ne_eqb 0 (length (v ∷ vs)) (λ same. omega arith)))
+
+help_fine : IsFineRule (filled help_rule)
+help_fine again values rows none fine = fine
 
 found_fine : (test : Rule → Bool) (c : List Rule) → AllByRecursion IsFineRule c → IfSome (find test c) IsFineRule
 found_fine test [] fine = tt
@@ -135,7 +123,7 @@ module _ (s : Shape) (rules : AllByRecursion IsFineRule s.rules) where
       by_id : (found : Option Rule) (values : List Text) → IfSome found IsFineRule
           → option_map_or (λ a. use_fault s.args_override_self a values h.rows) found [] ≡ [] → AreFine (used_by_id found values h.rows)
       by_id None values is none = fine
-      by_id (Some a) values is none = used_fine s.args_override_self a values h.rows is none fine
+      by_id (Some a) values is none = is s.args_override_self values h.rows none fine
 
       pending : (p : Option (Text × List Text))
           → option_map_or (λ q. option_map_or (λ a. use_fault s.args_override_self a q.1 h.rows) (arg_by_id s.rules q.0) []) p [] ≡ []
@@ -146,7 +134,7 @@ module _ (s : Shape) (rules : AllByRecursion IsFineRule s.rules) where
   reacted_fine : (a : Rule) (values : List Text) (h : Held) → IsFineRule a → react_fault s.rules s.args_override_self a values h ≡ []
       → AreFine h.rows → AreFine (reacted s.rules a values h).rows
   reacted_fine a values h is none fine =
-      used_fine s.args_override_self a values (settled s.rules h).rows is (no_second (settle_fault s.rules s.args_override_self h) _ none)
+      is s.args_override_self values (settled s.rules h).rows (no_second (settle_fault s.rules s.args_override_self h) _ none)
       (settled_fine h (no_first _ _ none) fine)
 
   option_fine : (a : Rule) (v : Option Text) (h : Held) → IsFineRule a → option_fault s.rules s.args_override_self a v h ≡ []
@@ -210,12 +198,12 @@ module _ (s : Shape) (rules : AllByRecursion IsFineRule s.rules) where
   flag_rows waiting word h plain = plain_rows waiting word h
   flag_rows waiting word h refused = plain_rows waiting word h
 
-  flag_fine : (waiting : Waiting) (word : Text) (long : Option (Text × Option Text)) (h : Held)
+  word_flag_fine : (waiting : Waiting) (word : Text) (long : Option (Text × Option Text)) (h : Held)
       → flag_word_fault s.rules s.args_override_self long word h ≡ [] → AreFine h.rows → AreFine (long_or_other s.rules waiting word long h).0.rows
-  flag_fine waiting word (Some p) h none fine =
+  word_flag_fine waiting word (Some p) h none fine =
       subst AreFine (sym (flag_rows waiting word _ (long_met s.rules (arg_by_long s.rules p.0) p.1 h).1))
       (long_fine (arg_by_long s.rules p.0) p.1 h (found_fine _ s.rules rules) none fine)
-  flag_fine waiting word None h none fine = short (short_of word) none
+  word_flag_fine waiting word None h none fine = short (short_of word) none
     where
       short : (o : Option Text) → option_map_or (λ flags. bundle_fault s.rules s.args_override_self flags h) o [] ≡ []
           → AreFine (short_or_plain s.rules waiting word o h).0.rows
@@ -232,7 +220,7 @@ module _ (s : Shape) (rules : AllByRecursion IsFineRule s.rules) where
       hyphens : (b : Bool) → cond b [] (flag_word_fault s.rules s.args_override_self (long_of word) word h) ≡ []
           → AreFine (cond b (h, trailing position) (long_or_other s.rules waiting word (long_of word) h)).0.rows
       hyphens true none = fine
-      hyphens false none = flag_fine waiting word (long_of word) h none fine
+      hyphens false none = word_flag_fine waiting word (long_of word) h none fine
 
       other : (o : Option Text) → other_fault s o word h ≡ [] → AreFine (subcommand_or_other s.rules o waiting position word h).0.rows
       other (Some name) none = fine
@@ -276,99 +264,92 @@ module _ (s : Shape) (rules : AllByRecursion IsFineRule s.rules) where
       walk_fine names (walked s.rules names w word) rest (no_second (turn_fault s names w word) _ none)
       (walked_fine names w word (no_first _ _ none) fine)
 
--- ---- defaults, and the value that is read
+-- ---- defaults, and the values that are read
 
-default_fine : (a : Rule) (rows : List Row) → IsFineRule a → AreFine rows → AreFine (with_default rows a)
+abbrev FirstFitsIfAny : Text → List Text → Type 0
+FirstFitsIfAny id [] = ⊤
+FirstFitsIfAny id (v ∷ vs) = fits id v ≡ true
+
+-- the default of an argument fits it
+abbrev HasFineDefault : Rule → Type 0
+HasFineDefault a = (reading_by a ≡ AsWritten) × FirstFitsIfAny a.id a.defaults
+
+default_fine : (a : Rule) (rows : List Row) → HasFineDefault a → AreFine rows → AreFine (with_default rows a)
 default_fine a rows is fine = either (has_row a.id rows)
   where
-    named : (values : List Text) → bytes_eq a.id (codes "blocks") ≡ false → AreFine (default_rows a.id (reading_by a) values rows)
-    named [] other = fine
-    named (v ∷ vs) other = with_values_fine a.id (reading_by a) DefaultValue (v ∷ vs) rows (λ is. absurd (true≢false (sym is ∙ other))) fine
-
-    by_rule : IsFineRule a → AreFine (default_rows a.id (reading_by a) a.defaults rows)
-    by_rule (inl other) = named a.defaults other
-    by_rule (inr is) =
-        subst (λ (x : Rule). AreFine (default_rows x.id (reading_by x) x.defaults rows)) (sym is)
-        (with_values_fine (codes "blocks") AsWritten DefaultValue (codes "100" ∷ []) rows (λ _. (refl, refl)) fine)
+    named : (how : Reading) (values : List Text) → how ≡ AsWritten → FirstFitsIfAny a.id values → AreFine (default_rows a.id how values rows)
+    named how [] reads fit = fine
+    named how (v ∷ vs) reads fit =
+        subst (λ (x : Reading). AreFine (with_values a.id x DefaultValue (v ∷ vs) rows)) (sym reads) (with_values_fine a.id DefaultValue (v ∷ vs) rows fit fine)
 
     either : (b : Bool) → AreFine (cond b rows (default_rows a.id (reading_by a) a.defaults rows))
     either true = fine
-    either false = by_rule is
+    either false = named (reading_by a) a.defaults is.0 is.1
 
-defaults_fine : (c : List Rule) (rows : List Row) → AllByRecursion IsFineRule c → AreFine rows → AreFine (fold with_default rows c)
+defaults_fine : (c : List Rule) (rows : List Row) → AllByRecursion HasFineDefault c → AreFine rows → AreFine (fold with_default rows c)
 defaults_fine [] rows rules fine = fine
 defaults_fine (a ∷ c) rows rules fine = defaults_fine c (with_default rows a) rules.1 (default_fine a rows rules.0 fine)
 
-has_values : (how : Reading) (s : ValueSource) (values : List Text) (rows : List Row) → has_row (codes "blocks") (with_values (codes "blocks") how s values rows) ≡ true
-has_values how s values [] = refl
-has_values how s values (r ∷ rs) = either (bytes_eq r.id (codes "blocks")) refl (has_values how s values rs)
+first_text : (id : Text) (vs : List Text) → FirstFits id vs → (t : Text) × (slice_get vs 0 ≡ Some t) × (fits id t ≡ true)
+first_text id [] h = absurd h
+first_text id (v ∷ vs) h = (v, refl, h)
+
+-- an argument that has a row is read
+row_read : (id : Text) (rows : List Row) → AreFine rows → is_some (row_by id rows) ≡ true → IsRead id rows
+row_read id [] fine has = cc
+row_read id (r ∷ rs) fine has = either (bytes_eq r.id id) refl (row_read id rs fine.1) has
   where
-    either : (b : Bool) → bytes_eq r.id (codes "blocks") ≡ b → has_row (codes "blocks") (with_values (codes "blocks") how s values rs) ≡ true
-        → has_row (codes "blocks") (cond b (more_values s values r ++ rs) (r ∷ with_values (codes "blocks") how s values rs)) ≡ true
-    either true same rest = rw (same) refl
-    either false same rest = rw (same) rest
+    rest : bytes_eq r.id id ≡ false → IsRead id rs → IsRead id (r ∷ rs)
+    rest other l = record { text = l.text; is_first = rw (other) l.is_first; is_read = rw (other) l.is_read; is_fit = l.is_fit }
+
+    here : bytes_eq r.id id ≡ true → IsRead id (r ∷ rs)
+    here same =
+        let got = first_text r.id r.values fine.0.1 in
+        record {
+          text = got.0;
+          is_first = rw (same) got.1;
+          is_read = rw (same, fine.0.0, got.1) refl;
+          is_fit = subst (λ (name : Text). fits name got.0 ≡ true) ((bytes_eq-Decides r.id id).0 same) got.2;
+        }
+
+    either : (b : Bool) → bytes_eq r.id id ≡ b → (is_some (row_by id rs) ≡ true → IsRead id rs) → is_some (cond b (Some r) (row_by id rs)) ≡ true → IsRead id (r ∷ rs)
+    either true same later has = here same
+    either false other later has = rest other (later has)
+
+-- an argument with a default has a row
+has_default : (id : Text) (rows : List Row) (c : List Rule) → is_some (first_default id c) ≡ true → is_some (row_by id (fold with_default rows c)) ≡ true
+has_default id rows c default = rw (with_defaults id rows c) (either (row_by id rows))
+  where
+    either : (o : Option Row) → is_some (option_or o (first_default id c)) ≡ true
+    either None = default
+    either (Some r) = refl
 
 -- the rules of a job's subcommand, once it is built
 abbrev pub job_rules : List Rule
 job_rules = (built_leaf (job_app []).top).rules
 
-has_after : (given : List Row) (b : Bool) → has_row (codes "blocks") given ≡ true → has_row (codes "blocks") (cond b given given) ≡ true
-has_after given true has = has
-has_after given false has = has
+job_rules_fine : AllByRecursion IsFineRule job_rules
+job_rules_fine = (file_fine, (blocks_fine, (flag_fine (codes "older") refl, (flag_fine (codes "strike") refl, (help_fine, tt)))))
 
-has_default : (rows : List Row) (b : Bool) → has_row (codes "blocks") rows ≡ b
-    → has_row (codes "blocks") (cond b rows (with_values (codes "blocks") AsWritten DefaultValue (codes "100" ∷ []) rows)) ≡ true
-has_default rows true has = has
-has_default rows false has = has_values AsWritten DefaultValue (codes "100" ∷ []) rows
+job_defaults_fine : AllByRecursion HasFineDefault job_rules
+job_defaults_fine = ((refl, tt), ((refl, refl), ((refl, refl), ((refl, refl), ((refl, tt), tt)))))
 
-has_blocks : (rows : List Row) → has_row (codes "blocks") (fold with_default rows job_rules) ≡ true
-has_blocks rows = after_file (has_row (codes "file") rows)
-  where
-    given : List Row
-    given = with_default rows (filled blocks_rule)
-
-    with_help : has_row (codes "blocks") (cond (has_row (codes "help") given) given given) ≡ true
-    with_help = has_after given (has_row (codes "help") given) (has_default rows (has_row (codes "blocks") rows) refl)
-
-    after_file : (b : Bool) → has_row (codes "blocks") (fold with_default (cond b rows rows) (drop 1 job_rules)) ≡ true
-    after_file true = with_help
-    after_file false = with_help
-
-first_text : (vs : List Text) → FirstInRange vs → (t : Text) × (slice_get vs 0 ≡ Some t) × (is_limit t ≡ true)
-first_text [] h = absurd h
-first_text (v ∷ vs) h = (v, refl, h)
-
-limited : (rows : List Row) → AreFine rows → has_row (codes "blocks") rows ≡ true → IsLimited rows
-limited [] fine has = cc
-limited (r ∷ rs) fine has = either (bytes_eq r.id (codes "blocks")) refl (limited rs fine.1)
-  where
-    rest : bytes_eq r.id (codes "blocks") ≡ false → IsLimited rs → IsLimited (r ∷ rs)
-    rest other l = record { text = l.text; is_first = rw (other) l.is_first; is_read = rw (other) l.is_read; in_range = l.in_range }
-
-    here : bytes_eq r.id (codes "blocks") ≡ true → IsLimited (r ∷ rs)
-    here same =
-        let got = first_text r.values (fine.0 same).1 in
-        record { text = got.0; is_first = rw (same) got.1; is_read = rw (same, (fine.0 same).0, got.1) refl; in_range = got.2 }
-
-    either : (b : Bool) → bytes_eq r.id (codes "blocks") ≡ b → (has_row (codes "blocks") rs ≡ true → IsLimited rs) → IsLimited (r ∷ rs)
-    either true same later = here same
-    either false other later = rest other (later (rw other at has))
-
--- what is found for the arguments of a job's subcommand
-job_limited : (s : Shape) (words : List Text) → s.rules ≡ job_rules → level_fault s [] nothing_held words false [] ≡ []
-    → IsLimited (rows_after s.rules [] words)
-job_limited s words rules none =
-    let of_job = both_rules s.rules rules in
+-- what is found for the options of a job's subcommand
+job_options : (s : Shape) (words : List Text) → s.rules ≡ job_rules → level_fault s [] nothing_held words false [] ≡ []
+    → AreRead (rows_after s.rules [] words)
+job_options s words rules none =
+    let of_job = subst (AllByRecursion IsFineRule) (sym rules) job_rules_fine in
     let walked_so = walk_fine s of_job [] (walk_from nothing_held) words (no_first _ _ none) tt in
     let settled_none = no_first (settle_fault s.rules s.args_override_self (walk s.rules [] nothing_held words).held) _
     (no_second (walk_fault s [] (walk_from nothing_held) words) _ none) in
     let rows = (settled s.rules (walk s.rules [] nothing_held words).held).rows in
     let fine = settled_fine s of_job (walk s.rules [] nothing_held words).held settled_none walked_so in
-    limited _ (defaults_fine s.rules rows of_job fine)
-    (ap (λ (c : List Rule). has_row (codes "blocks") (fold with_default rows c)) rules ∙ has_blocks rows)
-  where
-    both_rules : (c : List Rule) → c ≡ job_rules → AllByRecursion IsFineRule c
-    both_rules c is = subst (AllByRecursion IsFineRule) (sym is) (inl refl, (inr refl, (inl refl, tt)))
+    let all_fine = defaults_fine s.rules rows (subst (AllByRecursion HasFineDefault) (sym rules) job_defaults_fine) fine in
+    record {
+      blocks = row_read (codes "blocks") _ all_fine (has_default (codes "blocks") rows s.rules (rw (rules) refl));
+      older = row_read (codes "older") _ all_fine (has_default (codes "older") rows s.rules (rw (rules) refl));
+      strike = row_read (codes "strike") _ all_fine (has_default (codes "strike") rows s.rules (rw (rules) refl));
+    }
 
 -- ---- the subcommand
 
@@ -449,11 +430,11 @@ module _ (s : Shape) (has_help : s.disable_help_subcommand ≡ false) where
 
 -- ---- the command line
 
-abbrev cmk_built : App
+abbrev pub cmk_built : App
 cmk_built = built cmk_app
 
 entered_job : (s : Shape) (words : List Text) → s.rules ≡ job_rules → IsSome (job_of s.name) → level_fault s [] nothing_held words false [] ≡ [] → IsJob (rows_at s words)
-entered_job s words rules named none = record { named = named; limited = job_limited s words rules none }
+entered_job s words rules named none = record { named = named; options = job_options s words rules none }
 
 names_help : (name : Text) → (bytes_eq (codes "help") name || false) ≡ true → bytes_eq name (codes "help") ≡ false → ⊥
 names_help name same other =
@@ -486,7 +467,7 @@ entered_is_job (Some p) rows none is check =
     named false false true same none check = absurd (names_help p.0 same is)
     named false false false same none check = cc
 
--- words that call for no stop name a job, with a number of blocks in its range
+-- words that call for no stop name a job, with values of its options that fit them
 pub is_job : (words : List Text) → stops_of words ≡ [] → IsSomeAnd (found_for words) IsJob
 is_job words none =
     let given = argument_words cmk_app words in

@@ -1,14 +1,17 @@
 -- What the words of a command line ask for. How clap reads them is said by its own words, at the command line of cmk.
-use Rattle.std.specs.Prelude.{◌≡◌, ◌≢◌, ◌⊎◌, ◌==◌, ◌^◌, ⊤, ℕ, Bool, true, false, List, [], ◌∷◌, ◌++◌, Option, Some, Result, Ok, Err, IsSome, codes, string_bytes, find, option_map, option_and_then}
+use Rattle.std.specs.Prelude.{◌≡◌, ◌≢◌, ◌⊎◌, ◌==◌, ◌^◌, ◌&&◌, ◌||◌, ⊤, ℕ, Bool, true, false, not, List, [], ◌∷◌, ◌++◌, Option, Some, None, Result, Ok, Err, IsSome, if◌then◌else◌, codes, flat_map, string_bytes, find, option_map, option_and_then}
+use Rattle.std.specs.List.{list_any}
 use Rattle.std.specs.Option.{option_map_or}
 use Rattle.std.specs.Str.{bytes_eq}
 use Rattle.std.specs.Str.Parse.{digits_value, without_leading_plus}
 use Rattle.clap.specs.Words.{App, Kinds, Row, Rule, Text, fault_of, first_of, one_of, new_app, new_rule, subcommand_of, with_rule, with_subcommand, IsAmong}
 use Rattle.clap.specs.ValueTests.{is_unsigned_in}
+use Rattle.clap.specs.declared.builder.action.ArgAction.TheVariants.{SetTrue}
 use Rattle.clap.specs.declared.builder.value_parser.ValueParser.TheVariants.{Unsigned}
 use Rattle.clap.specs.declared.error.kind.ErrorKind.{ErrorKind}
 use Rattle.clap.specs.declared.error.kind.ErrorKind.TheVariants.{DisplayHelp, DisplayVersion, OutOfMemory}
 use Rattle.cm_text.specs.Limits.{LimitsView, limits_for}
+use Rattle.cm_text.specs.Rules.{Rules}
 use Rattle.cm_tool.specs.declared.job.Job.{Job}
 use Rattle.cm_tool.specs.declared.job.Job.TheVariants.{Render, Tree}
 use Rattle.cm_tool.specs.declared.job.Task.{Task}
@@ -19,18 +22,30 @@ use Rattle.cm_tool.specs.declared.job.Stop.TheVariants.{Help, Wrong, NoMemory}
 abbrev pub file_rule : Rule
 file_rule = record (new_rule (codes "file")) { value_names = 1 }
 
--- the option --blocks N, a number from 1 to 200, and 100 where it is left out
+-- the option --blocks N, a number from 1 to 500, and 100 where it is left out
 abbrev pub blocks_rule : Rule
 blocks_rule = record (new_rule (codes "blocks")) {
   long = Some (codes "blocks");
   value_names = 1;
-  parser = Some (Unsigned 1 200);
+  parser = Some (Unsigned 1 500);
   defaults = codes "100" ∷ [];
 }
 
+-- the flag --name, which takes no value
+abbrev pub flag_rule : Text → Rule
+flag_rule name = record (new_rule name) { long = Some name; action = Some SetTrue }
+
+-- the flag --older
+abbrev pub older_rule : Rule
+older_rule = flag_rule (codes "older")
+
+-- the flag --strike
+abbrev pub strike_rule : Rule
+strike_rule = flag_rule (codes "strike")
+
 -- the subcommand of this name
 abbrev pub job_app : Text → App
-job_app name = with_rule (with_rule (new_app name) file_rule) blocks_rule
+job_app name = with_rule (with_rule (with_rule (with_rule (new_app name) file_rule) blocks_rule) older_rule) strike_rule
 
 abbrev pub name_of : Job → Text
 name_of Render = codes "render"
@@ -61,15 +76,28 @@ job_in found = option_and_then (λ f. job_of f.0) found
 abbrev pub file_in : Option Found → Option Text
 file_in found = option_and_then (λ f. first_of (codes "file") f.1) found
 
--- the standard limits, with so many blocks
-abbrev pub limits_with : ℕ → Option LimitsView
-limits_with blocks = limits_for (2 ^ 28) blocks 100
+-- the standard limits, with so many blocks, by these rules
+abbrev pub limits_with : Rules → ℕ → Option LimitsView
+limits_with rules blocks = option_map (λ (limits : LimitsView). record limits { rules = rules }) (limits_for (2 ^ 28) blocks 100)
 
-abbrev pub limits_of : Text → Option LimitsView
-limits_of number = limits_with (digits_value 10 (without_leading_plus number))
+-- the same, with the number of blocks as it is written
+abbrev pub limits_of : Rules → Text → Option LimitsView
+limits_of rules number = limits_with rules (digits_value 10 (without_leading_plus number))
+
+-- the flag of this name is set
+abbrev pub is_set : Text → List Row → Bool
+is_set name rows = option_map_or (λ value. bytes_eq value (codes "true")) (first_of name rows) false
+
+-- the rules that the flags ask for
+abbrev pub rules_in : List Row → Rules
+rules_in rows = record { older = is_set (codes "older") rows; strike = is_set (codes "strike") rows }
+
+-- the limits that the options of a subcommand ask for
+abbrev pub limits_at : List Row → Option LimitsView
+limits_at rows = option_and_then (limits_of (rules_in rows)) (first_of (codes "blocks") rows)
 
 abbrev pub limits_in : Option Found → Option LimitsView
-limits_in found = option_and_then limits_of (option_and_then (λ f. first_of (codes "blocks") f.1) found)
+limits_in found = option_and_then (λ f. limits_at f.1) found
 
 -- the task is the one that the words name
 pub record IsTaskOf (found : Option Found) (task : Task) : Type 0 where
@@ -77,23 +105,60 @@ pub record IsTaskOf (found : Option Found) (task : Task) : Type 0 where
   pub file : file_in found ≡ option_map string_bytes task.file
   pub limits : limits_in found ≡ Some task.limits
 
--- the limits that this number of blocks asks for, or the standard ones
-abbrev pub limits_by : Option Text → Option LimitsView
-limits_by number = option_map_or limits_of number (limits_with 100)
+-- an option as it is given: the number of blocks, as it is written, or a flag
+pub data Choice : Type 0 where
+  Blocks : Text → Choice
+  Older : Choice
+  Strike : Choice
 
--- The words that ask for a job on this file under this limit, behind the program's name. Either may be left out.
-abbrev pub words_for : Job → Option Text → Option Text → List Text
-words_for job limit file =
-    name_of job ∷ option_map_or (λ n. codes "--blocks" ∷ n ∷ []) limit [] ++ option_map_or (λ f. f ∷ []) file []
+-- the name of the option
+abbrev pub option_of : Choice → Text
+option_of (Blocks number) = codes "blocks"
+option_of Older = codes "older"
+option_of Strike = codes "strike"
+
+-- the words that give an option
+abbrev pub words_of : Choice → List Text
+words_of (Blocks number) = codes "--blocks" ∷ number ∷ []
+words_of Older = codes "--older" ∷ []
+words_of Strike = codes "--strike" ∷ []
+
+-- The words that ask for a job with these options, in their order, on this file, behind the program's name. The file may be left out.
+abbrev pub words_for : Job → List Choice → Option Text → List Text
+words_for job choices file = name_of job ∷ flat_map words_of choices ++ option_map_or (λ f. f ∷ []) file []
+
+-- the option of this name is given
+abbrev pub is_given : Text → List Choice → Bool
+is_given name choices = list_any (λ choice. bytes_eq name (option_of choice)) choices
+
+-- no option is given twice
+abbrev pub each_once : List Choice → Bool
+each_once [] = true
+each_once (choice ∷ choices) = not (is_given (option_of choice) choices) && each_once choices
+
+-- the number of blocks, if it is given
+abbrev pub number_of : List Choice → Option Text
+number_of [] = None
+number_of (Blocks number ∷ choices) = Some number
+number_of (Older ∷ choices) = number_of choices
+number_of (Strike ∷ choices) = number_of choices
+
+-- the rules that these options ask for
+abbrev pub rules_by : List Choice → Rules
+rules_by choices = record { older = is_given (codes "older") choices; strike = is_given (codes "strike") choices }
+
+-- the limits that these options ask for: the number of blocks that is given, or 100, and the rules that are given
+abbrev pub limits_by : List Choice → Option LimitsView
+limits_by choices = option_map_or (limits_of (rules_by choices)) (number_of choices) (limits_with (rules_by choices) 100)
 
 -- the word begins with a hyphen
 abbrev pub is_option : Text → Bool
 is_option [] = false
 is_option (byte ∷ bytes) = byte == 45
 
--- the word is a number from 1 to 200
+-- the word is a number from 1 to 500
 abbrev pub is_limit : Text → Bool
-is_limit = is_unsigned_in 1 200
+is_limit = is_unsigned_in 1 500
 
 -- the kinds of stop that the words call for: none, a mistake, or a request for help
 abbrev pub stops_of : List Text → Kinds
@@ -115,17 +180,30 @@ IsTaskFor job file limits (Ok task) =
     (task.job ≡ job) × (option_map string_bytes task.file ≡ file) × (Some task.limits ≡ limits)
 IsTaskFor job file limits (Err stop) = stop ≡ NoMemory
 
--- the number of blocks among the arguments, which lies in its range
-pub record IsLimited (rows : List Row) : Type 0 where
-  pub text : Text
-  pub is_first : first_of (codes "blocks") rows ≡ Some text
-  pub is_read : one_of (codes "blocks") rows ≡ Some text
-  pub in_range : is_limit text ≡ true
+-- the value fits the argument of this name: a number in its range, `true` or `false`, or any text
+abbrev pub fits : Text → Text → Bool
+fits name value =
+    if bytes_eq name (codes "blocks") then is_limit value
+    else if bytes_eq name (codes "file") then true
+    else bytes_eq value (codes "true") || bytes_eq value (codes "false")
 
--- a subcommand that is a job, with a number of blocks
+-- the argument of this name has a value, as it is written, that fits it
+pub record IsRead (name : Text) (rows : List Row) : Type 0 where
+  pub text : Text
+  pub is_first : first_of name rows ≡ Some text
+  pub is_read : one_of name rows ≡ Some text
+  pub is_fit : fits name text ≡ true
+
+-- the options of a subcommand have values that fit them
+pub record AreRead (rows : List Row) : Type 0 where
+  pub blocks : IsRead (codes "blocks") rows
+  pub older : IsRead (codes "older") rows
+  pub strike : IsRead (codes "strike") rows
+
+-- a subcommand that is a job, with values of its options
 pub record IsJob (found : Found) : Type 0 where
   pub named : IsSome (job_of found.0)
-  pub limited : IsLimited found.1
+  pub options : AreRead found.1
 
 -- a wrong command line, unless memory ran out
 abbrev pub IsMistake : Result Task Stop → Type 0

@@ -1,19 +1,22 @@
 -- Worked examples: from the bytes of a text to its HTML.
 use Rattle.std.specs.Prelude.{◌≡◌, [], ◌∷◌, ◌++◌, codes}
+use Rattle.cm_text.specs.Rules.{profile, older_rules}
 use Rattle.cm_tool.specs.Writing.{converted}
 
 pub record Examples : Type 0 where
-  pub no_text : converted [] ≡ []
-  pub paragraph_over_two_lines : converted (codes "a\n b \n\n") ≡ codes "<p>a\nb</p>\n"
-  pub break_between_paragraphs : converted (codes "a\n***\nb\n") ≡ codes "<p>a</p>\n<hr />\n<p>b</p>\n"
-  pub heading : converted (codes "# a & b\n\n***\n") ≡ codes "<h1>a &amp; b</h1>\n<hr />\n"
-  pub heading_over_two_lines : converted (codes "a\nb\n===\n") ≡ codes "<h1>a\nb</h1>\n"
-  pub references : converted (codes "\"<>\n") ≡ codes "<p>&quot;&lt;&gt;</p>\n"
-  pub carriage_return : converted (codes "a\rb") ≡ codes "<p>a\nb</p>\n"
-  pub carriage_return_line_feed : converted (codes "a\r\nb") ≡ codes "<p>a\nb</p>\n"
-  pub nul : converted (97 ∷ 0 ∷ []) ≡ codes "<p>a" ++ 0xEF ∷ 0xBF ∷ 0xBD ∷ codes "</p>\n"
-  pub blank_line : converted (codes "a\n \t\nb") ≡ codes "<p>a</p>\n<p>b</p>\n"
-  pub indented_code : converted (codes "    ***") ≡ codes "<pre><code>***\n</code></pre>\n"
-  pub lazy_line : converted (codes "> a\nb\n") ≡ codes "<blockquote>\n<p>a\nb</p>\n</blockquote>\n"
-  pub list_in_a_quote : converted (codes "> - a\n>   b\n> - c\n") ≡ codes "<blockquote>\n<ul>\n<li>a\nb</li>\n<li>c</li>\n</ul>\n</blockquote>\n"
-  pub tab_before_soft_break : converted (codes "a \t  \nb \t") ≡ codes "<p>a \t\nb</p>\n"
+  pub no_text : converted profile [] ≡ []
+  pub paragraph_over_two_lines : converted profile (codes "a\n b \n\n") ≡ codes "<p>a\nb</p>\n"
+  pub break_between_paragraphs : converted profile (codes "a\n***\nb\n") ≡ codes "<p>a</p>\n<hr />\n<p>b</p>\n"
+  pub heading : converted profile (codes "# a & b\n\n***\n") ≡ codes "<h1>a &amp; b</h1>\n<hr />\n"
+  pub heading_over_two_lines : converted profile (codes "a\nb\n===\n") ≡ codes "<h1>a\nb</h1>\n"
+  pub references : converted profile (codes "\"<>\n") ≡ codes "<p>&quot;&lt;&gt;</p>\n"
+  pub carriage_return : converted profile (codes "a\rb") ≡ codes "<p>a\nb</p>\n"
+  pub carriage_return_line_feed : converted profile (codes "a\r\nb") ≡ codes "<p>a\nb</p>\n"
+  pub nul : converted profile (97 ∷ 0 ∷ []) ≡ codes "<p>a" ++ 0xEF ∷ 0xBF ∷ 0xBD ∷ codes "</p>\n"
+  pub blank_line : converted profile (codes "a\n \t\nb") ≡ codes "<p>a</p>\n<p>b</p>\n"
+  pub indented_code : converted profile (codes "    ***") ≡ codes "<pre><code>***\n</code></pre>\n"
+  pub lazy_line : converted profile (codes "> a\nb\n") ≡ codes "<blockquote>\n<p>a\nb</p>\n</blockquote>\n"
+  pub list_in_a_quote : converted profile (codes "> - a\n>   b\n> - c\n") ≡ codes "<blockquote>\n<ul>\n<li>a\nb</li>\n<li>c</li>\n</ul>\n</blockquote>\n"
+  pub tab_before_soft_break : converted profile (codes "a \t  \nb \t") ≡ codes "<p>a \t\nb</p>\n"
+  pub search_interrupts_a_paragraph : converted profile (codes "a\n<search>\n") ≡ codes "<p>a</p>\n<search>\n"
+  pub source_by_the_older_rules : converted older_rules (codes "a\n<source>\n") ≡ codes "<p>a</p>\n<source>\n"

@@ -1,5 +1,6 @@
 -- What a call that reads a text and writes an output of it answers, and what it has written then.
 use Rattle.std.specs.Prelude.{◌≡◌, ℕ, ◌≤◌, List, length, take, Result, Ok, Err, ◌⊎◌}
+use Rattle.cm_text.specs.Rules.{Rules}
 use Rattle.cm_text.specs.Limits.{LimitsView}
 use Rattle.cm_text.specs.Writing.{SinkView, IsUnwritten, Wrote, WroteBeginning}
 use Rattle.cm_html.specs.Html.{html_of}
@@ -8,13 +9,13 @@ use Rattle.cm_reader.specs.declared.fault.Fault.{Fault}
 use Rattle.cm_reader.specs.declared.fault.Fault.TheVariants.{NoMemory, WriteFailed}
 use Rattle.cm_reader.specs.Reading.{SourceView, ReadWhole, Refuses, tree_of, owners_of_bytes}
 
--- the HTML of a text's bytes
-abbrev pub converted : List ℕ → List ℕ
-converted bytes = html_of (tree_of bytes)
+-- the HTML of a text's bytes, by these rules
+abbrev pub converted : Rules → List ℕ → List ℕ
+converted rules bytes = html_of (tree_of rules bytes)
 
 -- the listing of the tree of a text's bytes, and of the owners of its lines
-abbrev pub listed : List ℕ → List ℕ
-listed bytes = listing_of (tree_of bytes) (owners_of_bytes bytes)
+abbrev pub listed : Rules → List ℕ → List ℕ
+listed rules bytes = listing_of (tree_of rules bytes) (owners_of_bytes rules bytes)
 
 -- what has gone out of the output where it isn't written whole: nothing, unless memory ran out once the text had been read whole
 abbrev pub WentOut : Fault → (Lost : SinkView → SinkView → List ℕ → Type 0) → (Read : Type 0) → SinkView → SinkView → List ℕ → Type 0
@@ -23,14 +24,14 @@ WentOut fault Lost Read old new output = IsUnwritten old new
 
 -- The output went out whole, and its length is the answer; or one write failed, and the first `written` bytes of it went out; or the
 -- text was refused. Nothing goes out before the text has been read whole. `Lost` says what may have gone out where memory ran out then.
-abbrev pub Writes : (Lost : SinkView → SinkView → List ℕ → Type 0) → (output : List ℕ → List ℕ) → Result ℕ Fault
+abbrev pub Writes : (Lost : SinkView → SinkView → List ℕ → Type 0) → (output : Rules → List ℕ → List ℕ) → Result ℕ Fault
     → LimitsView → List ℕ → SourceView → SourceView → SinkView → SinkView → Type 0
 Writes Lost output (Ok n) limits bytes from left old new =
-    ReadWhole limits bytes from left × Wrote old new (output bytes) 0 × (n ≡ length (output bytes))
+    ReadWhole limits bytes from left × Wrote old new (output limits.rules bytes) 0 × (n ≡ length (output limits.rules bytes))
 Writes Lost output (Err (WriteFailed written)) limits bytes from left old new =
-    ReadWhole limits bytes from left × Wrote old new (take written (output bytes)) 1 × (written ≤ length (output bytes))
+    ReadWhole limits bytes from left × Wrote old new (take written (output limits.rules bytes)) 1 × (written ≤ length (output limits.rules bytes))
 Writes Lost output (Err fault) limits bytes from left old new =
-    Refuses fault limits bytes from left × WentOut fault Lost (ReadWhole limits bytes from left) old new (output bytes)
+    Refuses fault limits bytes from left × WentOut fault Lost (ReadWhole limits bytes from left) old new (output limits.rules bytes)
 
 -- a beginning of the HTML may have gone out
 abbrev pub Converts : Result ℕ Fault → LimitsView → List ℕ → SourceView → SourceView → SinkView → SinkView → Type 0

@@ -1,37 +1,67 @@
 //! What the words of a command line ask for.
 ghost use Rattle.std.specs.Prelude.{◌≡◌, ◌∷◌, [], ℕ, List, Option, Some, true, false, IfOk, IfErr, IfSome, IsSomeAnd};
-ghost use Rattle.std.specs.Prelude.{codes, map, option_map, option_and_then, string_bytes};
+ghost use Rattle.std.specs.Prelude.{codes, map, option_map, string_bytes};
 ghost use Rattle.clap.specs.declared.builder.command.Command.TheViews.{out-Command};
-ghost use Rattle.clap.specs.Words.{app_of, first_of, found_of, kind_of, rows_of, subcommand_rows_of};
-ghost use Rattle.cm_tool.specs.CommandLine.{cmk_app, found_for, job_app, job_of, limits_by, limits_of, words_for};
-ghost use Rattle.cm_tool.specs.CommandLine.{is_limit, is_option, stops_of, IsJob, IsLimited, IsMistake, IsTaskFor};
-ghost use Rattle.cm_tool.specs.CommandLine.{IsTaskOf, StopsBy, StopsFor};
+ghost use Rattle.clap.specs.Words.{app_of, first_of, found_of, kind_of, rows_of, rule_of, subcommand_rows_of};
+ghost use Rattle.cm_tool.specs.CommandLine.{blocks_rule, cmk_app, each_once, file_rule, flag_rule, found_for, job_app};
+ghost use Rattle.cm_tool.specs.CommandLine.{job_of, limits_at, limits_by};
+ghost use Rattle.cm_tool.specs.CommandLine.{is_limit, is_option, number_of, rules_in, stops_of, words_for, Choice};
+ghost use Rattle.cm_tool.specs.CommandLine.{AreRead, IsJob, IsMistake, IsTaskFor, IsTaskOf, StopsBy, StopsFor};
 
 use crate::job::{Job, Stop, Task};
 use clap::builder::ValueParser;
 use clap::error::ErrorKind;
-use clap::{Arg, ArgMatches, Command, Error};
-use cm_text::Limits;
+use clap::{Arg, ArgAction, ArgMatches, Command, Error};
+use cm_text::{Limits, Rules};
 use std::alloc::{AllocError, Global};
+
+/// The argument FILE.
+fn file_arg<'a>(alloc: Global) -> Arg<'a>
+    ensures rule { rule_of result ≡ file_rule }
+    ensures local { result.global ≡ false }
+{
+    Arg::new(alloc, "file")
+        .value_name("FILE")
+        .help("The file to read; standard input if it is left out")
+}
+
+/// The option `--blocks N`.
+fn blocks_arg<'a>(alloc: Global) -> Arg<'a>
+    ensures rule { rule_of result ≡ blocks_rule }
+    ensures local { result.global ≡ false }
+{
+    Arg::new(alloc, "blocks")
+        .long("blocks")
+        .value_name("N")
+        .value_parser(ValueParser::unsigned(1, 500))
+        .default_value("100")
+        .help("How many quotes and list items may stand round a line, 1 to 500")
+}
+
+/// The flag of this name.
+fn flag_arg<'a>(alloc: Global, name: &'a str, help: &'a str) -> Arg<'a>
+    ensures rule { rule_of result ≡ flag_rule name.now }
+    ensures local { result.global ≡ false }
+{
+    Arg::new(alloc, name)
+        .long(name)
+        .action(ArgAction::SetTrue)
+        .help(help)
+}
 
 /// The subcommand of this name, which reads a text.
 fn job_command<'a>(alloc: Global, name: &'a str, about: &'a str) -> Result<Command<'a>, AllocError>
     ensures app { IfOk result (λ c. app_of c ≡ job_app name.now) }
     ensures local { IfOk result (λ c. (out-Command c).has_globals ≡ false) }
 {
-    let file = Arg::new(alloc, "file")
-        .value_name("FILE")
-        .help("The file to read; standard input if it is left out");
-    let blocks = Arg::new(alloc, "blocks")
-        .long("blocks")
-        .value_name("N")
-        .value_parser(ValueParser::unsigned(1, 200))
-        .default_value("100")
-        .help("How many quotes and list items may stand round a line, 1 to 200");
+    let older = "Reads by older rules: <source> begins an HTML block, <search> does not";
+    let strike = "Reads strikethrough, once inlines are read; as yet it changes nothing";
     Command::new(alloc, name)
         .about(about)
-        .arg(file)?
-        .arg(blocks)
+        .arg(file_arg(alloc))?
+        .arg(blocks_arg(alloc))?
+        .arg(flag_arg(alloc, "older", older))?
+        .arg(flag_arg(alloc, "strike", strike))
 }
 
 /// The command line of `cmk`.
@@ -89,15 +119,28 @@ fn file_of(alloc: Global, found: &ArgMatches<'_>) -> Result<Option<String>, Allo
     }
 }
 
-/// The limits that the words of a subcommand ask for.
+/// The rules that the flags of a subcommand ask for.
+fn rules_of(found: &ArgMatches<'_>) -> Rules
+    requires { AreRead (rows_of (found_of found.now)) }
+    ensures { result ≡ rules_in (rows_of (found_of found.now)) }
+{
+    let rules = if found.get_flag("older") {
+        Rules::older()
+    } else {
+        Rules::profile()
+    };
+    rules.with_strike(found.get_flag("strike"))
+}
+
+/// The limits that the options of a subcommand ask for.
 fn limits_of(found: &ArgMatches<'_>) -> Limits
-    requires { IsLimited (rows_of (found_of found.now)) }
-    ensures { option_and_then limits_of (first_of (codes "blocks") (rows_of (found_of found.now)))
-        ≡ Some result }
+    requires { AreRead (rows_of (found_of found.now)) }
+    ensures { limits_at (rows_of (found_of found.now)) ≡ Some result }
 {
     let standard = Limits::standard();
     let blocks = found.get_one::<usize>("blocks").unwrap();
-    Limits::new(standard.bytes(), blocks, standard.inlines()).unwrap()
+    let limits = Limits::new(standard.bytes(), blocks, standard.inlines()).unwrap();
+    limits.with_rules(rules_of(found))
 }
 
 /// The task of the words in which this was found.
@@ -118,14 +161,16 @@ fn task_of(alloc: Global, matches: &ArgMatches<'_>) -> Result<Task, AllocError>
 /// A request for help and words that are no command line of the program are a `Stop`, whose text is
 /// `clap`'s. Memory may run out in any call.
 pub fn task(alloc: Global, words: &[String]) -> Result<Task, Stop>
-    // A job by its name alone, with `--blocks` and a number, with a file, or with both. Neither the
-    // number nor the file begins with a hyphen.
-    ensures asked { (name : List ℕ) (job : Job) (limit file : Option (List ℕ))
-        → map string_bytes words.now ≡ name ∷ words_for job limit file
-        → IfSome limit (λ n. is_limit n ≡ true) → IfSome file (λ f. is_option f ≡ false)
-        → IsTaskFor job file (limits_by limit) result }
-    ensures out_of_range { (name limit : List ℕ) (job : Job) (file : Option (List ℕ))
-        → map string_bytes words.now ≡ name ∷ words_for job (Some limit) file
+    // A job by its name, with each option at most once, in any order, and a file or none. Neither
+    // the number of blocks nor the file begins with a hyphen.
+    ensures asked { (name : List ℕ) (job : Job) (choices : List Choice) (file : Option (List ℕ))
+        → map string_bytes words.now ≡ name ∷ words_for job choices file
+        → each_once choices ≡ true → IfSome (number_of choices) (λ n. is_limit n ≡ true)
+        → IfSome file (λ f. is_option f ≡ false) → IsTaskFor job file (limits_by choices) result }
+    ensures out_of_range { (name limit : List ℕ) (job : Job) (choices : List Choice)
+        (file : Option (List ℕ))
+        → map string_bytes words.now ≡ name ∷ words_for job choices file
+        → each_once choices ≡ true → number_of choices ≡ Some limit
         → is_limit limit ≡ false → is_option limit ≡ false
         → IfSome file (λ f. is_option f ≡ false) → IsMistake result }
 

@@ -26,6 +26,7 @@ pub record DepthExamples : Type 0 where
   pub image : inlines_depth (inline.Image (codes "/a") [] (words (codes "a")) ∷ []) ≡ 1
   pub strong_in_a_link_in_emphasis : inlines_depth (inline.Emph (inline.Link (codes "/a") [] (inline.Strong (words (codes "a")) ∷ []) ∷ []) ∷ []) ≡ 3
   pub deepest_of_two : inlines_depth (inline.Emph (words (codes "a")) ∷ inline.Strong (inline.Emph [] ∷ []) ∷ []) ≡ 2
+  pub strike_in_emphasis : inlines_depth (inline.Emph (inline.Strike (words (codes "a")) ∷ []) ∷ []) ≡ 2
   pub no_blocks : blocks_depth [] ≡ 0
   pub paragraphs_do_not_count : blocks_depth (paragraph (codes "a")) ≡ 0
   pub inlines_do_not_count : blocks_depth (block.Paragraph (inline.Emph [] ∷ []) ∷ []) ≡ 0

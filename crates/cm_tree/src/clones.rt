@@ -56,6 +56,7 @@ fn copy_inline(inline: &Inline) -> Result<Inline, AllocError>
         Inline::Hard => Ok(Inline::Hard),
         Inline::Emph(content) => Ok(Inline::Emph(copy_inlines(content)?)),
         Inline::Strong(content) => Ok(Inline::Strong(copy_inlines(content)?)),
+        Inline::Strike(content) => Ok(Inline::Strike(copy_inlines(content)?)),
         Inline::Link {
             dest,
             title,

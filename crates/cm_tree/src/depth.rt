@@ -4,7 +4,7 @@ ghost use Rattle.cm_tree.specs.Depth.{saturated, depth_of, inlines_depth, depth_
 
 use crate::tree::{Block, Inline};
 
-/// The greatest number of `Emph`, `Strong`, `Link` and `Image` that stand in one another, or
+/// The greatest number of `Emph`, `Strong`, `Strike`, `Link` and `Image` that stand in one another, or
 /// `usize::MAX` if that is less. It takes no memory.
 #[cycle(inline_depth)]
 pub fn inline_depth(inlines: &[Inline]) -> usize
@@ -24,6 +24,7 @@ fn one_inline_depth(inline: &Inline) -> usize
     match inline {
         Inline::Emph(content) => inline_depth(content.as_slice()).saturating_add(1),
         Inline::Strong(content) => inline_depth(content.as_slice()).saturating_add(1),
+        Inline::Strike(content) => inline_depth(content.as_slice()).saturating_add(1),
         Inline::Link { content, .. } => inline_depth(content.as_slice()).saturating_add(1),
         Inline::Image { content, .. } => inline_depth(content.as_slice()).saturating_add(1),
         _ => 0,

@@ -21,6 +21,8 @@ pub enum Inline {
     Emph(Items<Inline>),
     /// Strong emphasis (6.2 Emphasis and strong emphasis).
     Strong(Items<Inline>),
+    /// Text that is struck through, which is this project's own extension.
+    Strike(Items<Inline>),
     /// A link or an autolink (6.3 Links, 6.5 Autolinks).
     Link {
         /// Where it leads to.

@@ -9,7 +9,7 @@ use cm_tool::{run, task, tell};
 use std::alloc::Global;
 
 /// More than any output.
-const AMPLE: usize = 20_000;
+const AMPLE: usize = 2_000_000;
 
 const PARTS: [&str; 9] = [
     "words",

@@ -15,6 +15,7 @@ enum Node {
     Item,
     Emph,
     Strong,
+    Strike,
     Link { dest: Text, title: Text },
     Image { dest: Text, title: Text },
 }
@@ -88,6 +89,7 @@ impl Reading {
             }
             Node::Emph => self.inline(Inline::Emph(content)),
             Node::Strong => self.inline(Inline::Strong(content)),
+            Node::Strike => self.inline(Inline::Strike(content)),
             Node::Link { dest, title } => self.inline(Inline::Link {
                 dest,
                 title,
@@ -154,6 +156,7 @@ impl Reading {
             ("item", []) => self.open(Node::Item),
             ("emph", []) => self.open(Node::Emph),
             ("strong", []) => self.open(Node::Strong),
+            ("strike", []) => self.open(Node::Strike),
             ("break", []) => self.block(Block::Break),
             ("soft", []) => self.inline(Inline::Soft),
             ("hard", []) => self.inline(Inline::Hard),

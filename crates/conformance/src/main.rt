@@ -9,6 +9,7 @@ mod calls;
 mod cases;
 mod commands;
 mod cuts;
+mod dialects;
 mod escapes;
 mod examples;
 mod listed;

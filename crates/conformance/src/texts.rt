@@ -2,6 +2,7 @@
 
 use crate::cases::Case;
 use crate::cuts::{Counted, Cut, cuts, pieces};
+use crate::dialects::rules_of;
 use crate::trouble::{Trouble, same, wrong};
 use cm_html::{html, listing};
 use cm_text::{Limits, Room};
@@ -258,8 +259,9 @@ impl Text<'_> {
     }
 }
 
-const PARTS: [&str; 10] = [
-    "input", "bytes", "blocks", "inlines", "fails", "reads", "depth", "html", "tree", "fault",
+const PARTS: [&str; 11] = [
+    "input", "bytes", "blocks", "inlines", "rules", "fails", "reads", "depth", "html", "tree",
+    "fault",
 ];
 
 /// The limits of a case: the standard ones but for what it names.
@@ -268,7 +270,11 @@ fn limits_of(alloc: Global, case: &Case) -> Result<Limits, Trouble> {
     let bytes = case.number("bytes")?.unwrap_or(standard.bytes());
     let blocks = case.number("blocks")?.unwrap_or(standard.blocks());
     let inlines = case.number("inlines")?.unwrap_or(standard.inlines());
-    Limits::new(bytes, blocks, inlines).ok_or(wrong(alloc, "the limits are out of range"))
+    let rules = rules_of(alloc, case.rest("rules").unwrap_or("profile"))?;
+    match Limits::new(bytes, blocks, inlines) {
+        Some(limits) => Ok(limits.with_rules(rules)),
+        None => Err(wrong(alloc, "the limits are out of range")),
+    }
 }
 
 /// The outcome that a case names.

@@ -1,6 +1,6 @@
 -- What a line begins in the innermost of the open containers, as the code has them.
 use Rattle.std.specs.Prelude.{◌≡◌, ℕ, suc, ◌<◌, ◌≤◌, Bool, true, false, List, [], ◌∷◌, length, ⊤}
-use Rattle.cm_text.specs.Rules.Rules.{profile}
+use Rattle.cm_text.specs.Rules.{Rules}
 use Rattle.cm_text.specs.Lines.{LineView}
 use Rattle.cm_text.specs.Views.{line_of}
 use Rattle.cm_tree.specs.declared.tree.Owner.TheVariants.{Marker}
@@ -22,11 +22,11 @@ use Rattle.cm_block.specs.steps.StartViews.{seen}
 use Rattle.cm_block.specs.steps.FirstLines.{begins_container}
 
 -- the line begins something in the innermost of these containers
-abbrev pub begun_in : List Frame → Level → LineView → Owned → Stack
-begun_in frames level line owned = within frames (push_begin profile (quoted_by false frames) owned level line)
+abbrev pub begun_in : Rules → List Frame → Level → LineView → Owned → Stack
+begun_in rules frames level line owned = within frames (push_begin rules (quoted_by false frames) owned level line)
 
-abbrev pub begun : code.Stack → LineView → Owned → Stack
-begun before line owned = begun_in (frames_of before.frames) (level_of before.level) line owned
+abbrev pub begun : Rules → code.Stack → LineView → Owned → Stack
+begun rules before line owned = begun_in rules (frames_of before.frames) (level_of before.level) line owned
 
 -- a blank line in the innermost container: right behind an item's marker it belongs to that
 abbrev pub blank_in : (bare : Bool) → List Frame → Level → Owned → Stack
@@ -37,21 +37,21 @@ abbrev pub with_blank : code.Stack → Owned → Stack
 with_blank now owned = blank_in now.bare (frames_of now.frames) (level_of now.level) owned
 
 -- what is left to do in the innermost container, which is bare if nothing but a blank line is left
-abbrev pub left_in : (bare : Bool) → List Frame → Level → LineView → Owned → Stack
-left_in true frames level line owned = blank_in true frames level owned
-left_in false frames level line owned = begun_in frames level line owned
+abbrev pub left_in : Rules → (bare : Bool) → List Frame → Level → LineView → Owned → Stack
+left_in rules true frames level line owned = blank_in true frames level owned
+left_in rules false frames level line owned = begun_in rules frames level line owned
 
-abbrev pub left_of : code.Stack → LineView → Owned → Stack
-left_of now line owned = left_in now.bare (frames_of now.frames) (level_of now.level) line owned
+abbrev pub left_of : Rules → code.Stack → LineView → Owned → Stack
+left_of rules now line owned = left_in rules now.bare (frames_of now.frames) (level_of now.level) line owned
 
 -- The containers that the line begins have been opened.
-abbrev pub Inside : ℕ → code.Stack → LineView → code.Stack → Innermost → Type 0
-Inside limit before line now TooDeep = (owned : Owned) → limit < nesting (begun before line owned).now
-Inside limit before line now Blank = (length now.frames ≤ limit) × ((owned : Owned) → begun before line owned ≡ with_blank now owned)
-Inside limit before line now (Leaf start inner) =
+abbrev pub Inside : Rules → ℕ → code.Stack → LineView → code.Stack → Innermost → Type 0
+Inside rules limit before line now TooDeep = (owned : Owned) → limit < nesting (begun rules before line owned).now
+Inside rules limit before line now Blank = (length now.frames ≤ limit) × ((owned : Owned) → begun rules before line owned ≡ with_blank now owned)
+Inside rules limit before line now (Leaf start inner) =
     (length now.frames ≤ limit) × ((now.bare ≡ false) × ((begins_container (seen start) ≡ false)
     × ((owned : Owned) (l : LeafLine) → begins_leaf l ≡ begin_of_start (seen start) (line_of inner)
-    → begun before line owned ≡ within (frames_of now.frames) (push_leaf_line owned (block_opens (level_of now.level)) l))))
+    → begun rules before line owned ≡ within (frames_of now.frames) (push_leaf_line owned (block_opens (level_of now.level)) l))))
 
 -- the first line of a leaf block, in the innermost container
 abbrev pub LeafBegins : Start → LineView → code.Stack → Owned → Stack → Type 0

@@ -1,6 +1,6 @@
 -- Steps of the parser.
 use Rattle.std.specs.Prelude.{◌≡◌, ℕ, suc, ◌<◌, ◌≤◌, Bool, true, false, length, Some, None, ⊤}
-use Rattle.cm_text.specs.Rules.Rules.{profile}
+use Rattle.cm_text.specs.Limits.{LimitsView}
 use Rattle.cm_text.specs.Lines.{LineView}
 use Rattle.cm_block.specs.declared.parser.BlockParser as code
 use Rattle.cm_block.specs.declared.fault.BlockFault.{BlockFault}
@@ -15,16 +15,16 @@ use Rattle.cm_block.specs.LeafViews.{leaf_of}
 use Rattle.cm_block.specs.Parser.{stack_of}
 
 -- one more line behind this stack is too deep, and it is the next
-abbrev pub Deep : BlockFault → ℕ → Stack → LineView → Type 0
-Deep (BlocksTooDeep n) limit before line = (limit < nesting (push_line profile before line).now) × (n ≡ suc (length (close_stack before).owners))
-Deep NoMemory limit before line = ⊤
+abbrev pub Deep : BlockFault → LimitsView → Stack → LineView → Type 0
+Deep (BlocksTooDeep n) limits before line = (limits.blocks < nesting (push_line limits.rules before line).now) × (n ≡ suc (length (close_stack before).owners))
+Deep NoMemory limits before line = ⊤
 
 -- A line that stays in so many containers is one of the open leaf, or not: it stays in all then.
 abbrev pub TakenToLeaf : Bool → ℕ → code.BlockParser → LineView → code.BlockParser → Type 0
 TakenToLeaf true depth before line now =
     (length before.stack.frames ≤ depth)
-    × ((l : LeafLine) × ((line_of_leaf profile (leaf_of before.leaf) line ≡ Some l)
+    × ((l : LeafLine) × ((line_of_leaf before.limits.rules (leaf_of before.leaf) line ≡ Some l)
     × (stack_of now ≡ within (frames_of before.stack.frames) (push_leaf_line before.owners (level_of before.stack.level) l))))
 TakenToLeaf false depth before line now =
-    (length before.stack.frames ≤ depth → line_of_leaf profile (leaf_of before.leaf) line ≡ None)
+    (length before.stack.frames ≤ depth → line_of_leaf before.limits.rules (leaf_of before.leaf) line ≡ None)
     × ((leaf_of now.leaf ≡ leaf_of before.leaf) × ((now.stack ≡ before.stack) × (now.owners ≡ before.owners)))

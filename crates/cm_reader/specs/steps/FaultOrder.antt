@@ -3,7 +3,6 @@
 use Rattle.std.specs.Prelude.{◌≡◌, ℕ, List, Option}
 use Rattle.std.specs.Option.{option_map, option_or}
 use Rattle.cm_text.specs.declared.fault.TextFault.{TextFault}
-use Rattle.cm_text.specs.Rules.Rules.{profile}
 use Rattle.cm_text.specs.Limits.{LimitsView}
 use Rattle.cm_text.specs.Lines.{text_of, plain_lines_of}
 use Rattle.cm_text.specs.Faults.{settled_fault, text_fault}
@@ -16,10 +15,10 @@ use Rattle.cm_reader.specs.Faults.{fault_of, settled_fault_of}
 
 -- the first line too deep of those that have ended, and of all
 abbrev pub ended_deep : LimitsView → List ℕ → Option ℕ
-ended_deep limits bytes = first_too_deep profile limits.blocks (cut_bytes limits.bytes bytes).ended
+ended_deep limits bytes = first_too_deep limits.rules limits.blocks (cut_bytes limits.bytes bytes).ended
 
 abbrev pub all_deep : LimitsView → List ℕ → Option ℕ
-all_deep limits bytes = first_too_deep profile limits.blocks (plain_lines_of (text_of bytes))
+all_deep limits bytes = first_too_deep limits.rules limits.blocks (plain_lines_of (text_of bytes))
 
 -- the first of the three
 abbrev pub of_three : Option ℕ → Option TextFault → Option ℕ → Option Fault

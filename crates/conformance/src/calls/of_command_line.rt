@@ -5,8 +5,8 @@ use crate::trouble::Trouble;
 use crate::words::Word;
 use cm_tool::{Job, Stop, task};
 
-/// Answers the call, if it is one of `task`: the job, the file, and how many blocks are allowed, or why
-/// there is no task.
+/// Answers the call, if it is one of `task`: the job, the file, the limits and the marks of their rules,
+/// or why there is no task.
 pub(super) fn answers(answer: &mut Answer, name: &str, given: &[Word]) -> Result<bool, Trouble> {
     if name != "task" {
         return Ok(false);
@@ -30,6 +30,8 @@ pub(super) fn answers(answer: &mut Answer, name: &str, given: &[Word]) -> Result
             answer.number(task.limits.bytes())?;
             answer.number(task.limits.blocks())?;
             answer.number(task.limits.inlines())?;
+            answer.truth(task.limits.rules().is_older())?;
+            answer.truth(task.limits.rules().strike())?;
         }
         Err(Stop::Help(_text)) => answer.word("help")?,
         Err(Stop::Wrong(_text)) => answer.word("wrong")?,

@@ -3,12 +3,13 @@ ghost use Rattle.std.specs.Prelude.{◌≤◌, length};
 ghost use Rattle.std.specs.Str.{IsCharBoundary};
 
 use crate::calls::answer::Answer;
+use crate::dialects::rules_of;
 use crate::trouble::{Trouble, wrong};
 use crate::words::{Word, number};
 use cm_scan::{
     FenceKind, HtmlKind, atx, definition, destination, fence, fence_end, html_end, html_start,
-    is_blank_text, item_marker, label, quote_marker, thematic, title, trim_end, trim_end_spaces,
-    underline,
+    html_start_by, is_blank_text, item_marker, label, quote_marker, thematic, title, trim_end,
+    trim_end_spaces, underline,
 };
 use cm_tree::ListKind;
 
@@ -92,6 +93,11 @@ fn html_kind(answer: &mut Answer, text: &str, at: usize) -> Result<(), Trouble>
     requires { at ≤ length text.now }
 {
     let started = html_start(text, at);
+    named(answer, started)
+}
+
+/// The name of this kind, or that there is none.
+fn named(answer: &mut Answer, started: Option<HtmlKind>) -> Result<(), Trouble> {
     match KINDS.iter().find(|(_, kind)| Some(*kind) == started) {
         Some((name, _)) => answer.word(name),
         None => answer.word("none"),
@@ -151,6 +157,16 @@ fn html_ends(answer: &mut Answer, name: &str, text: &String, at: usize) -> Resul
     }
 }
 
+/// The kind of the HTML block that begins there by the rules of this name.
+fn html_starts(answer: &mut Answer, name: &str, text: &String, at: usize) -> Result<(), Trouble> {
+    let rules = rules_of(answer.alloc, name)?;
+    if text.len() < at {
+        return Err(wrong(answer.alloc, "the place is past the text"));
+    }
+    let started = html_start_by(rules, text.as_str(), at);
+    named(answer, started)
+}
+
 /// Answers the call, if it is one of `cm_scan`.
 pub(super) fn answers(answer: &mut Answer, name: &str, given: &[Word]) -> Result<bool, Trouble> {
     let alloc = answer.alloc;
@@ -174,6 +190,9 @@ pub(super) fn answers(answer: &mut Answer, name: &str, given: &[Word]) -> Result
         }
         ("html_end", [Word::Plain(kind), Word::Text(text), Word::Plain(at)]) => {
             html_ends(answer, kind.as_str(), text, number(alloc, at.as_str())?)?;
+        }
+        ("html_start_by", [Word::Plain(name), Word::Text(text), Word::Plain(at)]) => {
+            html_starts(answer, name.as_str(), text, number(alloc, at.as_str())?)?;
         }
         (_, [Word::Text(text), Word::Plain(at)]) => {
             return scans(answer, name, text, number(alloc, at.as_str())?);

@@ -1,11 +1,12 @@
 //! Calls of `cm_text`.
 
 use crate::calls::answer::Answer;
+use crate::dialects::rules_of;
 use crate::trouble::{Trouble, wrong};
 use crate::words::{Word, number};
 use cm_text::{
-    Limits, Line, LineFeed, cut_at, fold_label, indent, is_ascii_punct, is_punct, is_space,
-    reference_at, strip, unescape,
+    Limits, Line, LineFeed, Rules, cut_at, fold_label, indent, is_ascii_punct, is_punct,
+    is_punct_by, is_space, reference_at, strip, unescape,
 };
 use std::alloc::Global;
 
@@ -14,6 +15,7 @@ use std::alloc::Global;
 enum Kind {
     AsciiPunctuation,
     Punctuation,
+    PunctuationBy(Rules),
     Space,
 }
 
@@ -75,6 +77,7 @@ fn is_of_kind(kind: Kind, c: char) -> bool {
     match kind {
         Kind::AsciiPunctuation => is_ascii_punct(c),
         Kind::Punctuation => is_punct(c),
+        Kind::PunctuationBy(rules) => is_punct_by(rules, c),
         Kind::Space => is_space(c),
     }
 }
@@ -130,6 +133,13 @@ fn limits(answer: &mut Answer, bytes: usize, blocks: usize, inlines: usize) -> R
     }
 }
 
+/// The marks of rules that limits have been given.
+fn rules(answer: &mut Answer, name: &str) -> Result<(), Trouble> {
+    let limits = Limits::standard().with_rules(rules_of(answer.alloc, name)?);
+    answer.truth(limits.rules().is_older())?;
+    answer.truth(limits.rules().strike())
+}
+
 /// A call with a text alone, if it is one.
 fn of_one_text(answer: &mut Answer, name: &str, text: &str) -> Result<bool, Trouble> {
     let alloc = answer.alloc;
@@ -174,6 +184,11 @@ pub(super) fn answers(answer: &mut Answer, name: &str, given: &[Word]) -> Result
         }
         ("reference_at", [Word::Text(text), Word::Plain(at)]) => {
             reference(answer, text, number(alloc, at.as_str())?)?;
+        }
+        ("rules", [Word::Plain(name)]) => rules(answer, name.as_str())?,
+        ("is_punct_by", [Word::Plain(name), Word::Text(text)]) => {
+            let kind = Kind::PunctuationBy(rules_of(alloc, name.as_str())?);
+            characters(answer, text.as_str(), kind)?;
         }
         (_, [Word::Text(text)]) => return of_one_text(answer, name, text.as_str()),
         _ => return Ok(false),

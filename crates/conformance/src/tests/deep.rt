@@ -6,7 +6,7 @@ use std::alloc::{AllocError, Global};
 use std::ops::Range;
 use std::test::Fail;
 
-const DEPTH: usize = 200;
+const DEPTH: usize = 500;
 
 /// A text in so many emphases in so many quotes.
 fn nested(alloc: Global) -> Result<Block, AllocError> {

@@ -10,7 +10,7 @@ use Rattle.cm_block.proofs.places.behind_marker.Goals as goal
 at_marker : (c : goal.After-past-arg-1) → Marked c.strip.result.rest.now (seen_marker c.args.marker.now)
 at_marker c =
     let line = line_of c.args.line.now in
-    let begins = item-begins line (seen_marker c.args.marker.now) c.requires in
+    let begins = item-begins _ line (seen_marker c.args.marker.now) c.requires.1 in
     let rest = content_left line c.indent.result c.strip.result c.indent.ensures c.strip.ensures.line (c.strip.ensures.bare (omega (arith, c.indent.ensures))) in
     subst (λ t. Marked t (seen_marker c.args.marker.now)) (sym rest) (marked (content_of line) (seen_marker c.args.marker.now) begins.1)
 

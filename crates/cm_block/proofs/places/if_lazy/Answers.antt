@@ -1,5 +1,4 @@
 use Rattle.std.proofs.Common.{◌∙◌, sym, ap}
-use Rattle.cm_text.specs.Rules.Rules.{profile}
 use Rattle.cm_text.specs.Views.{line_of}
 use Rattle.cm_scan.specs.Lines.{as_lazy}
 use Rattle.cm_scan.specs.Starts.{StaysIfOpen, place_if_lazy}
@@ -10,21 +9,21 @@ use Rattle.cm_block.proofs.places.if_lazy.Goals as goal
 
 pub returns-then-not-open_text : goal.returns-then-not-open_text
 returns-then-not-open_text c =
-    lazy_closed (line_of c.args.line.now) ∙ ap (goes_inward (place_if_lazy profile (line_of c.args.line.now))) (sym c.if-not-open_text.true)
+    lazy_closed _ (line_of c.args.line.now) ∙ ap (goes_inward (place_if_lazy c.args.rules (line_of c.args.line.now))) (sym c.if-not-open_text.true)
 
 pub returns-then-is_blank : goal.returns-then-is_blank
 returns-then-is_blank c =
-    ap (λ p. goes_inward p c.args.open_text) (lazy_blank (line_of c.args.line.now) (sym c.is_blank.ensures ∙ c.if-is_blank.true))
+    ap (λ p. goes_inward p c.args.open_text) (lazy_blank _ (line_of c.args.line.now) (sym c.is_blank.ensures ∙ c.if-is_blank.true))
 
 pub returns-then-not-may_be_lazy : goal.returns-then-not-may_be_lazy
 returns-then-not-may_be_lazy c =
     ap (λ p. goes_inward p c.args.open_text)
-    (lazy_other (line_of c.args.line.now) (seen c.start_of.result) (sym c.is_blank.ensures ∙ c.if-is_blank.false) c.start_of.ensures
+    (lazy_other _ (line_of c.args.line.now) (seen c.start_of.result) (sym c.is_blank.ensures ∙ c.if-is_blank.false) c.start_of.ensures
     (sym c.may_be_lazy.ensures ∙ c.if-not-may_be_lazy.true))
 
 pub returns : goal.returns
 returns c =
     ap (goes_inward (StaysIfOpen (as_lazy (line_of c.args.line.now)))) (sym c.if-not-open_text.false)
     ∙ ap (λ p. goes_inward p c.args.open_text)
-    (lazy_stays (line_of c.args.line.now) (seen c.start_of.result) (sym c.is_blank.ensures ∙ c.if-is_blank.false) c.start_of.ensures
+    (lazy_stays _ (line_of c.args.line.now) (seen c.start_of.result) (sym c.is_blank.ensures ∙ c.if-is_blank.false) c.start_of.ensures
     (sym c.may_be_lazy.ensures ∙ c.if-not-may_be_lazy.false))

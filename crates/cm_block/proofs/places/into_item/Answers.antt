@@ -7,22 +7,22 @@ use Rattle.cm_block.proofs.places.into_item.Goals as goal
 
 pub returns-then-line : goal.returns-then-line
 returns-then-line c =
-    c.if_lazy.ensures ∙ ap (λ p. goes_inward p c.args.open_text) (sym (in_item_lazy c.args.column c.args.bare (line_of c.args.line.now) c.if-line.true))
+    c.if_lazy.ensures ∙ ap (λ p. goes_inward p c.args.open_text) (sym (in_item_lazy _ c.args.column c.args.bare (line_of c.args.line.now) c.if-line.true))
 
 pub returns-then-ends_bare_item : goal.returns-then-ends_bare_item
 returns-then-ends_bare_item c =
     ap (λ p. goes_inward p c.args.open_text)
-    (sym (in_item_leaves c.args.column c.args.bare (line_of c.args.line.now) c.if-line.false (sym c.ends_bare_item.ensures ∙ c.if-ends_bare_item.true)))
+    (sym (in_item_leaves _ c.args.column c.args.bare (line_of c.args.line.now) c.if-line.false (sym c.ends_bare_item.ensures ∙ c.if-ends_bare_item.true)))
 
 pub returns-then-reaches_or_is_blank : goal.returns-then-reaches_or_is_blank
 returns-then-reaches_or_is_blank c =
     ap (λ l. goes_inward (Stays l) c.args.open_text) c.strip-inner.ensures.line
     ∙ ap (λ p. goes_inward p c.args.open_text)
-    (sym (in_item_stays c.args.column c.args.bare (line_of c.args.line.now) c.if-line.false (sym c.ends_bare_item.ensures ∙ c.if-ends_bare_item.false)
+    (sym (in_item_stays _ c.args.column c.args.bare (line_of c.args.line.now) c.if-line.false (sym c.ends_bare_item.ensures ∙ c.if-ends_bare_item.false)
     (sym c.reaches_or_is_blank.ensures ∙ c.if-reaches_or_is_blank.true)))
 
 pub returns : goal.returns
 returns c =
     c.if_lazy-2.ensures
     ∙ ap (λ p. goes_inward p c.args.open_text)
-    (sym (in_item_lazily c.args.column c.args.bare (line_of c.args.line.now) c.if-line.false (sym c.reaches_or_is_blank.ensures ∙ c.if-reaches_or_is_blank.false)))
+    (sym (in_item_lazily _ c.args.column c.args.bare (line_of c.args.line.now) c.if-line.false (sym c.reaches_or_is_blank.ensures ∙ c.if-reaches_or_is_blank.false)))

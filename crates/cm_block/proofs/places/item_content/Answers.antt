@@ -8,17 +8,17 @@ use Rattle.cm_block.proofs.places.item_content.Goals as goal
 
 pub overflow_add-column : goal.overflow_add-column
 overflow_add-column c =
-    let begins = item-begins (line_of c.args.line.now) (seen_marker c.args.marker.now) c.requires in
+    let begins = item-begins _ (line_of c.args.line.now) (seen_marker c.args.marker.now) c.requires.1 in
     omega (arith, (marked (content_of (line_of c.args.line.now)) (seen_marker c.args.marker.now) begins.1).few)
 
 pub overflow_add-column-2 : goal.overflow_add-column-2
 overflow_add-column-2 c =
-    let begins = item-begins (line_of c.args.line.now) (seen_marker c.args.marker.now) c.requires in
+    let begins = item-begins _ (line_of c.args.line.now) (seen_marker c.args.marker.now) c.requires.1 in
     omega (arith, begins.0, c.indent.ensures, (marked (content_of (line_of c.args.line.now)) (seen_marker c.args.marker.now) begins.1).few)
 
 pub overflow_add-column-3 : goal.overflow_add-column-3
 overflow_add-column-3 c =
-    let begins = item-begins (line_of c.args.line.now) (seen_marker c.args.marker.now) c.requires in
+    let begins = item-begins _ (line_of c.args.line.now) (seen_marker c.args.marker.now) c.requires.1 in
     omega (arith, begins.0, c.indent.ensures, c.content_offset-offset.ensures.few, (marked (content_of (line_of c.args.line.now)) (seen_marker c.args.marker.now) begins.1).few)
 
 pub returns-clause-column : goal.returns-clause-column

@@ -8,26 +8,26 @@ pub returns-in-QuoteMarker : goal.returns-in-QuoteMarker
 returns-in-QuoteMarker c =
     let line = line_of c.args.line.now in
     elim c.in-QuoteMarker.is [
-      | inl quote ↦ interrupts _ line true (ap seen (sym quote) ∙ c.start_of.ensures) refl
+      | inl quote ↦ interrupts _ _ line true (ap seen (sym quote) ∙ c.start_of.ensures) refl
       | inr others ↦ elim others [
-        | inl heading ↦ interrupts _ line true (ap seen (sym heading.1) ∙ c.start_of.ensures) refl
+        | inl heading ↦ interrupts _ _ line true (ap seen (sym heading.1) ∙ c.start_of.ensures) refl
         | inr others ↦ elim others [
-          | inl fence ↦ interrupts _ line true (ap seen (sym fence.1) ∙ c.start_of.ensures) refl
-          | inr break ↦ interrupts _ line true (ap seen (sym break) ∙ c.start_of.ensures) refl
+          | inl fence ↦ interrupts _ _ line true (ap seen (sym fence.1) ∙ c.start_of.ensures) refl
+          | inr break ↦ interrupts _ _ line true (ap seen (sym break) ∙ c.start_of.ensures) refl
         ]
       ]
     ]
 
 pub returns-in-Html : goal.returns-in-Html
-returns-in-Html c = interrupts _ (line_of c.args.line.now) _ (ap seen (sym c.in-Html.is) ∙ c.start_of.ensures) (c.html_interrupts.ensures (line_of c.args.line.now))
+returns-in-Html c = interrupts _ _ (line_of c.args.line.now) _ (ap seen (sym c.in-Html.is) ∙ c.start_of.ensures) (c.html_interrupts.ensures (line_of c.args.line.now))
 
 pub returns-in-Item : goal.returns-in-Item
-returns-in-Item c = interrupts _ (line_of c.args.line.now) _ (ap seen (sym c.in-Item.is) ∙ c.start_of.ensures) c.item_interrupts.ensures
+returns-in-Item c = interrupts _ _ (line_of c.args.line.now) _ (ap seen (sym c.in-Item.is) ∙ c.start_of.ensures) c.item_interrupts.ensures
 
 pub returns-in-IndentedCode : goal.returns-in-IndentedCode
 returns-in-IndentedCode c =
     let line = line_of c.args.line.now in
     elim c.in-IndentedCode.is [
-      | inl code ↦ interrupts _ line false (ap seen (sym code) ∙ c.start_of.ensures) refl
-      | inr text ↦ interrupts _ line false (ap seen (sym text) ∙ c.start_of.ensures) refl
+      | inl code ↦ interrupts _ _ line false (ap seen (sym code) ∙ c.start_of.ensures) refl
+      | inr text ↦ interrupts _ _ line false (ap seen (sym text) ∙ c.start_of.ensures) refl
     ]

@@ -1,5 +1,4 @@
 use Rattle.std.proofs.Common.{◌≡◌, drop}
-use Rattle.cm_text.specs.Rules.Rules.{profile}
 use Rattle.cm_text.specs.Views.{line_of}
 use Rattle.cm_block.specs.steps.FrameSteps.{matching}
 use Rattle.cm_block.specs.FrameViews.{frames_of}
@@ -9,5 +8,5 @@ use Rattle.cm_block.proofs.stack.matching.Given as goal
 -- behind the containers so far, the rest decide
 abbrev pub invariant-loop-depth : goal.invariant-loop-depth
 invariant-loop-depth l =
-    behind l.depth (matching profile l.bare l.open_text (drop l.depth (frames_of l.frames)) (line_of l.line))
-    ≡ matching profile l.bare l.open_text (frames_of l.frames) (line_of l.fn.line)
+    behind l.depth (matching l.rules l.bare l.open_text (drop l.depth (frames_of l.frames)) (line_of l.line))
+    ≡ matching l.rules l.bare l.open_text (frames_of l.frames) (line_of l.fn.line)

@@ -4,14 +4,14 @@ use Rattle.cm_block.proofs.StartLemmas.{starts_lazy, starts_code, starts_near}
 use Rattle.cm_block.proofs.starts.start_of.Goals as goal
 
 pub returns-then-line : goal.returns-then-line
-returns-then-line c = starts_lazy (line_of c.args.line.now) c.if-line.true
+returns-then-line c = starts_lazy _ (line_of c.args.line.now) c.if-line.true
 
 pub returns-then-indent-ge4 : goal.returns-then-indent-ge4
-returns-then-indent-ge4 c = starts_code (line_of c.args.line.now) c.if-line.false (omega (arith, c.indent-indent.ensures, c.if-indent-ge4.true))
+returns-then-indent-ge4 c = starts_code _ (line_of c.args.line.now) c.if-line.false (omega (arith, c.indent-indent.ensures, c.if-indent-ge4.true))
 
 pub returns : goal.returns
 returns c =
     let line = line_of c.args.line.now in
     c.start_of_content.ensures
-    ∙ starts_near line c.indent-indent.result c.strip.result c.if-line.false c.indent-indent.ensures (omega (arith, c.if-indent-ge4.false)) c.strip.ensures.line
+    ∙ starts_near _ line c.indent-indent.result c.strip.result c.if-line.false c.indent-indent.ensures (omega (arith, c.if-indent-ge4.false)) c.strip.ensures.line
     (c.strip.ensures.bare (omega (arith, c.indent-indent.ensures)))

@@ -1,7 +1,7 @@
 use Rattle.std.proofs.Common.{◌≡◌, ℕ, ap, refl}
 use Rattle.std.specs.Fmt.{digits}
 use Rattle.percent_encoding.specs.Percent.{percent_encode_byte}
-use Rattle.cm_tree.specs.declared.tree.Inline.TheViews.{outs-Text as text, outs-Code as code_span, outs-Html as raw, outs-Soft as soft, outs-Hard as hard, outs-Emph as emph, outs-Strong as strong, outs-Link as link, outs-Image as image}
+use Rattle.cm_tree.specs.declared.tree.Inline.TheViews.{outs-Text as text, outs-Code as code_span, outs-Html as raw, outs-Soft as soft, outs-Hard as hard, outs-Emph as emph, outs-Strong as strong, outs-Strike as strike, outs-Link as link, outs-Image as image}
 use Rattle.cm_tree.specs.declared.tree.Inline.{Inline, map-Inline, out-Inline}
 use Rattle.cm_tree.specs.declared.tree.Inline.TheFolds.{fold-Inline, fold_out-Inline}
 use Rattle.cm_tree.specs.declared.tree.Block.TheVariants.{outs-Paragraph, outs-Heading, outs-Code, outs-Html, outs-Break, outs-Definition, outs-Quote, outs-List}
@@ -32,9 +32,11 @@ inlines = record {
   code_span = simp (fold_out-Inline Spelled inline_step, code_span);
   raw = simp (fold_out-Inline Spelled inline_step, raw);
   breaks = simp (fold_out-Inline Spelled inline_step, soft, hard);
+  strike = simp (fold_out-Inline Spelled inline_step, strike, emph, text);
   emphasis = simp (fold_out-Inline Spelled inline_step, emph, strong, text);
   link = simp (fold_out-Inline Spelled inline_step, link, text);
   link_in_link = simp (fold_out-Inline Spelled inline_step, link, text);
+  strike_in_an_image = simp (fold_out-Inline Spelled inline_step, image, strike, text);
   image = simp (fold_out-Inline Spelled inline_step, image, emph, text);
   image_in_image = simp (fold_out-Inline Spelled inline_step, image, hard, raw, text);
 }
@@ -78,6 +80,7 @@ listings : ListingExamples
 unfolding digits
 listings = record {
   quotes = refl;
+  strike = simp (block_at, outs-Paragraph, inline_at, strike, text);
   emphasis = simp (block_at, outs-Paragraph, inline_at, emph, strong, text);
   quote_in_item = simp (block_at, outs-List, outs-Quote, outs-Paragraph, inline_at, text);
   leaves = simp (block_at, outs-Heading, outs-Code, outs-Html, outs-Break, outs-Definition);

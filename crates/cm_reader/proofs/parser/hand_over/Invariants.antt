@@ -7,7 +7,7 @@ use Rattle.cm_reader.proofs.parser.hand_over.Given as goal
 abbrev pub invariant-loop-line : goal.invariant-loop-line
 invariant-loop-line l = record {
   ready : l.feed ≡ with_ready l.feed.cut.ended l.initial.feed;
-  depth : l.blocks.limits.blocks ≡ l.initial.blocks.limits.blocks;
+  limits : l.blocks.limits ≡ l.initial.blocks.limits;
   handed : (front : List LineView) × (front ++ l.feed.cut.ended ≡ l.initial.feed.cut.ended)
       × ((lines : List LineView) → HasTaken l.initial.blocks lines → HasTaken l.blocks (lines ++ front))
       × ((bytes : List ℕ) (taken : ℕ) → StandsFor l.initial.feed bytes taken → StandsFor l.feed bytes (taken + length front));

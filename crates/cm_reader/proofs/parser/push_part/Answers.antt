@@ -12,7 +12,7 @@ returns-in_err-hand_over-clause-settled c =
     line_told limits c.in_err-hand_over.field-0.0 c.push-pushed.new.self bytes c.args.piece.now (pushed.limit ∙ g.limit) pushed.ended
     (λ e. true≢false (sym (rw (pushed.answer ∙ ap answer_after e) at c.eq.ensures) ∙ c.if-eq.false))
     (pushed.stands g.sound bytes (count_of limits bytes) (stands limits _ _ bytes g))
-    (rw g.depth at (c.in_err-hand_over.ensures.told (ended_of limits bytes) g.handed)))
+    (rw g.same_limits at (c.in_err-hand_over.ensures.told (ended_of limits bytes) g.handed)))
 
 pub returns-in_err-pushed-clause-settled : goal.returns-in_err-pushed-clause-settled
 returns-in_err-pushed-clause-settled c =
@@ -22,7 +22,7 @@ returns-in_err-pushed-clause-settled c =
     let was = pushed.stands g.sound bytes (count_of limits bytes) (stands limits _ _ bytes g) in
     text_told limits c.in_err-pushed.field-0.0 c.push-pushed.new.self c.hand_over.new.blocks bytes c.args.piece.now (pushed.limit ∙ g.limit) pushed.ended
     (λ e. true≢false (sym (rw (pushed.answer ∙ ap answer_after e) at c.eq.ensures) ∙ c.if-eq.false))
-    was (c.in_ok-hand_over.ensures.depth ∙ g.depth) (c.in_ok-hand_over.ensures.handed (ended_of limits bytes) g.handed)
+    was (c.in_ok-hand_over.ensures.limits ∙ g.same_limits) (c.in_ok-hand_over.ensures.handed (ended_of limits bytes) g.handed)
     (rw (c.in_err-pushed.was, g.limit) at (pushed.settled g.sound bytes (count_of limits bytes) (stands limits _ _ bytes g))))
 
 pub returns-clause-goes : goal.returns-clause-goes
@@ -31,7 +31,7 @@ returns-clause-goes c = λ limits bytes g.
     let was = pushed.stands g.sound bytes (count_of limits bytes) (stands limits _ _ bytes g) in
     push_goes limits c.args.feed.now c.push-pushed.new.self c.hand_over.new.feed c.args.blocks.now c.hand_over.new.blocks bytes c.args.piece.now g
     pushed.limit pushed.ended (no_fault _ _ (sym c.in_ok-pushed.was ∙ pushed.answer)) was
-    c.in_ok-hand_over.ensures.ready (c.in_ok-hand_over.ensures.stands _ _ was) c.in_ok-hand_over.ensures.depth (c.in_ok-hand_over.ensures.handed (ended_of limits bytes) g.handed)
+    c.in_ok-hand_over.ensures.ready (c.in_ok-hand_over.ensures.stands _ _ was) c.in_ok-hand_over.ensures.limits (c.in_ok-hand_over.ensures.handed (ended_of limits bytes) g.handed)
 
 pub returns-clause-settled : goal.returns-clause-settled
 returns-clause-settled c = λ limits bytes g. nothing_settled limits _ _ _ (returns-clause-goes c limits bytes g)

@@ -24,6 +24,10 @@ leaves = record {
   gap_in_an_underline = record { tree = refl; lines = refl };
   backtick_in_an_info_string = record { tree = refl; lines = refl };
   info_string_resolved = record { tree = refl; lines = refl };
+  search_interrupts_a_paragraph = record { tree = refl; lines = refl };
+  source_interrupts_nothing = record { tree = refl; lines = refl };
+  older_search = record { tree = refl; lines = refl };
+  older_source = record { tree = refl; lines = refl };
 }
 
 containers : ContainerExamples

@@ -21,15 +21,18 @@ returns-clause-labels c = record { lower = refl; upper = refl; sharp = refl; end
 
 pub returns-clause-characters : goal.returns-clause-characters
 unfolding character_kinds
-returns-clause-characters c = record { ascii_punctuation = refl; punctuation = refl; spaces = refl; pound_sign = refl; dash = refl; letter = refl; no_break_space = refl; em_space = refl; zero_width_space = refl; next_line = refl }
+returns-clause-characters c = record { ascii_punctuation = refl; punctuation = refl; spaces = refl; pound_sign = refl; older_pound_sign = refl; older_euro_sign = refl; older_quotation_mark = refl; older_dollar_sign = refl; dash = refl; letter = refl; no_break_space = refl; em_space = refl; zero_width_space = refl; next_line = refl }
 
 pub returns-clause-strip : goal.returns-clause-strip
 returns-clause-strip c = record { indented_code = refl; one_column_of_a_tab = refl; two_columns_of_a_tab = refl; a_tab_and_a_column = refl; tab_at_column_three = refl; less_indentation = refl; nothing = refl; blank = refl; lazy = refl }
 
 pub returns-clause-references : goal.returns-clause-references
 unfolding reading_references
-returns-clause-references c = record { nul = refl; eight_digits = refl; nine_digits = refl; seven_digits = refl; no_digits = refl; too_great = refl; greatest = refl; small_x = refl; great_x = refl; surrogate = refl; seven_hexadecimal_digits = refl; copyright = refl; two_characters = refl; no_name = refl; no_semicolon = refl; case_counts = refl; first_alone = refl; no_ampersand = refl; number_of_names = refl; within_a_text = refl }
+returns-clause-references c = record { nul = refl; eight_digits = refl; nine_digits = refl; seven_digits = refl; no_digits = refl; too_great = refl; greatest = refl; small_x = refl; great_x = refl; surrogate = refl; seven_hexadecimal_digits = refl; copyright = refl; two_characters = refl; no_name = refl; no_semicolon = refl; greek = refl; final_sigma = refl; no_small_alpha = refl; case_counts = refl; first_alone = refl; no_ampersand = refl; number_of_names = refl; within_a_text = refl }
 
 pub returns-clause-unescape : goal.returns-clause-unescape
 unfolding reading_references
-returns-clause-unescape c = record { plain = refl; letter = refl; last = refl; in_order = refl; references = refl; backslash_given = refl; beyond_ascii = refl }
+returns-clause-unescape c = record { plain = refl; letter = refl; last = refl; in_order = refl; references = refl; backslash_given = refl; beyond_ascii = refl; greek = refl }
+
+pub returns-clause-limits : goal.returns-clause-limits
+returns-clause-limits c = record { greatest = refl; too_many_blocks = refl; too_many_inlines = refl }

@@ -5,8 +5,8 @@ use Rattle.cm_text.proofs.names.place_of.Given as goal
 -- the name stands nowhere else
 abbrev pub invariant-loop-low : goal.invariant-loop-low
 invariant-loop-low l = record {
-  within : l.high ≤ 128;
-  nowhere_else : (i : ℕ) → i < 128 → name_at i ≡ l.name → (l.low ≤ i) × (i < l.high);
+  within : l.high ≤ 177;
+  nowhere_else : (i : ℕ) → i < 177 → name_at i ≡ l.name → (l.low ≤ i) × (i < l.high);
 }
 
 abbrev pub decreases-loop-low : goal.decreases-loop-low

@@ -1,7 +1,8 @@
 use Rattle.std.proofs.Common.{◌≡◌, ◌∙◌, [], ap, sym, subst, Option, IsSomeAnd, inl, inr, map, string_bytes}
 use Rattle.clap.specs.Words.{App, fault_of, is_simple, is_simple_and_free, subcommand_of, kind_of, IsAmong}
 use Rattle.cm_tool.specs.CommandLine.{found_for, stops_of, Found, IsJob, IsTaskOf}
-use Rattle.cm_tool.proofs.CommandLineLemmas.{cmk_is_simple, cmk_reads_simply, asked_right, asked_task, asked_wrong, is_mistake, no_kinds, only_memory}
+use Rattle.cm_tool.proofs.CommandLineLemmas.{cmk_is_simple, cmk_reads_simply, is_mistake, no_kinds, only_memory}
+use Rattle.cm_tool.proofs.AskedLemmas.{asked_right, asked_task, asked_wrong}
 use Rattle.cm_tool.proofs.WalkedLemmas.{is_job}
 use Rattle.cm_tool.proofs.command_line.task.Goals as goal
 
@@ -28,28 +29,28 @@ returns-in-Err-clause-stops c =
     ]
 
 pub returns-in_ok-task_of-in-Ok-clause-asked : goal.returns-in_ok-task_of-in-Ok-clause-asked
-returns-in_ok-task_of-in-Ok-clause-asked c name job limit file words_are number plain =
+returns-in_ok-task_of-in-Ok-clause-asked c name job choices file words_are once number plain =
     let is_cmk = c.in_ok-command.ensures in
     let found = (c.in-Ok.ensures.matches (ap is_simple is_cmk ∙ cmk_reads_simply)).1 ∙ ap (λ (a : App). subcommand_of a (map string_bytes c.args.words.now)) is_cmk ∙ ap found_for words_are in
-    asked_task name job limit file c.in_ok-task_of-in-Ok.field-0 number plain
+    asked_task name job choices file c.in_ok-task_of-in-Ok.field-0 once number plain
     (subst (λ (f : Option Found). IsTaskOf f c.in_ok-task_of-in-Ok.field-0) found c.in_ok-task_of-in-Ok.ensures)
 
 pub returns-in_ok-task_of-in-Ok-clause-out_of_range : goal.returns-in_ok-task_of-in-Ok-clause-out_of_range
-returns-in_ok-task_of-in-Ok-clause-out_of_range c name limit job file words_are out number plain =
+returns-in_ok-task_of-in-Ok-clause-out_of_range c name limit job choices file words_are once given out number plain =
     let is_cmk = c.in_ok-command.ensures in
     let right = subst (λ (a : App). fault_of a (map string_bytes c.args.words.now) ≡ []) is_cmk (c.in-Ok.ensures.kinds (ap is_simple_and_free is_cmk ∙ cmk_is_simple)) in
-    no_kinds _ _ (sym (ap stops_of words_are ∙ asked_wrong name job limit file out number plain) ∙ right)
+    no_kinds _ _ (sym (ap stops_of words_are ∙ asked_wrong name limit job choices file once given out number plain) ∙ right)
 
 pub returns-in-Err-clause-asked : goal.returns-in-Err-clause-asked
-returns-in-Err-clause-asked c name job limit file words_are number plain =
+returns-in-Err-clause-asked c name job choices file words_are once number plain =
     let is_cmk = c.in_ok-command.ensures in
     only_memory (kind_of c.in-Err.error) _ c.stop_of.result (c.in-Err.ensures.kinds (ap is_simple_and_free is_cmk ∙ cmk_is_simple))
     c.stop_of.ensures.memory
-    (ap (λ (a : App). fault_of a (map string_bytes c.args.words.now)) is_cmk ∙ ap stops_of words_are ∙ asked_right name job limit file number plain)
+    (ap (λ (a : App). fault_of a (map string_bytes c.args.words.now)) is_cmk ∙ ap stops_of words_are ∙ asked_right name job choices file once number plain)
 
 pub returns-in-Err-clause-out_of_range : goal.returns-in-Err-clause-out_of_range
-returns-in-Err-clause-out_of_range c name limit job file words_are out number plain =
+returns-in-Err-clause-out_of_range c name limit job choices file words_are once given out number plain =
     let is_cmk = c.in_ok-command.ensures in
     is_mistake (kind_of c.in-Err.error) _ c.stop_of.result (c.in-Err.ensures.kinds (ap is_simple_and_free is_cmk ∙ cmk_is_simple))
     c.stop_of.ensures.memory c.stop_of.ensures.kind
-    (ap (λ (a : App). fault_of a (map string_bytes c.args.words.now)) is_cmk ∙ ap stops_of words_are ∙ asked_wrong name job limit file out number plain)
+    (ap (λ (a : App). fault_of a (map string_bytes c.args.words.now)) is_cmk ∙ ap stops_of words_are ∙ asked_wrong name limit job choices file once given out number plain)

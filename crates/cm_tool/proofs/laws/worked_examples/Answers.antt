@@ -3,7 +3,7 @@ use Rattle.std.specs.Fmt.{digits}
 use Rattle.cm_tree.specs.declared.tree.Inline.TheViews.{outs-Text as text, outs-Soft as soft}
 use Rattle.cm_tree.specs.declared.tree.Inline.TheFolds.{fold_out-Inline}
 use Rattle.cm_tree.specs.declared.tree.Block.{Block}
-use Rattle.cm_tree.specs.declared.tree.Block.TheVariants.{outs-Paragraph as paragraph, outs-Heading as heading, outs-Code as code, outs-Break as thematic, outs-Quote as quote, outs-List as items}
+use Rattle.cm_tree.specs.declared.tree.Block.TheVariants.{outs-Paragraph as paragraph, outs-Heading as heading, outs-Code as code, outs-Html as raw, outs-Break as thematic, outs-Quote as quote, outs-List as items}
 use Rattle.cm_tree.specs.declared.tree.Block.TheFolds.{fold_out-Block}
 use Rattle.cm_scan.proofs.Computing.{block_structure}
 use Rattle.cm_html.specs.Escape.{class_word}
@@ -24,6 +24,8 @@ returns c = record {
   carriage_return_line_feed = simp (fold_out-Block Block read_step, fold_out-Block Written block_step, fold_out-Inline Spelled inline_step, paragraph, text, soft);
   nul = simp (fold_out-Block Block read_step, fold_out-Block Written block_step, fold_out-Inline Spelled inline_step, paragraph, text);
   blank_line = simp (fold_out-Block Block read_step, fold_out-Block Written block_step, fold_out-Inline Spelled inline_step, paragraph, text);
+  search_interrupts_a_paragraph = simp (fold_out-Block Block read_step, fold_out-Block Written block_step, fold_out-Inline Spelled inline_step, paragraph, raw, text);
+  source_by_the_older_rules = simp (fold_out-Block Block read_step, fold_out-Block Written block_step, fold_out-Inline Spelled inline_step, paragraph, raw, text);
   indented_code = simp (fold_out-Block Block read_step, fold_out-Block Written block_step, code);
   lazy_line = simp (fold_out-Block Block read_step, fold_out-Block Written block_step, fold_out-Inline Spelled inline_step, quote, paragraph, text, soft);
   list_in_a_quote = simp (fold_out-Block Block read_step, fold_out-Block Written block_step, fold_out-Inline Spelled inline_step, quote, items, paragraph, text, soft);

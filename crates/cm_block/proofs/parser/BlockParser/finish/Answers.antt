@@ -16,8 +16,8 @@ returns-clause-outline c = λ lines h.
     record {
       blocks =
           c.in_ok-into_blocks.ensures
-          ∙ all_blocks s.stack.bare fs v x s.owners lines h.holds (level_of c.close_to.new.self.level)
+          ∙ all_blocks _ s.stack.bare fs v x s.owners lines h.holds (level_of c.close_to.new.self.level)
           (c.in_ok-close_to.ensures.level ∙ ap₂ (λ f w. close_frames (frames_of f) w) closed.frames closed.level);
-      owners = c.into_parts-owners.ensures.owners ∙ all_owners s.stack.bare fs v x s.owners lines h.holds c.close_leaf.new.self.owners closed.owners;
-      definitions = c.into_parts-owners.ensures.definitions ∙ all_definitions s.stack.bare fs v x s.owners lines h.holds c.close_leaf.new.self.owners closed.owners;
+      owners = c.into_parts-owners.ensures.owners ∙ all_owners _ s.stack.bare fs v x s.owners lines h.holds c.close_leaf.new.self.owners closed.owners;
+      definitions = c.into_parts-owners.ensures.definitions ∙ all_definitions _ s.stack.bare fs v x s.owners lines h.holds c.close_leaf.new.self.owners closed.owners;
     }

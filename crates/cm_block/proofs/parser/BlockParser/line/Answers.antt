@@ -8,7 +8,7 @@ use Rattle.cm_block.proofs.parser.BlockParser.line.Goals as goal
 
 pub returns-in-Err-clause-told : goal.returns-in-Err-clause-told
 returns-in-Err-clause-told c = λ lines h.
-    tells_deep c.args.self.now.limits.blocks (stack_of c.args.self.now) lines (view_of c.args.line.now) (line_of c.view.result) c.view.ensures.line h.are_lines c.args.line.now.one_line h.holds h.within
+    tells_deep c.args.self.now.limits (stack_of c.args.self.now) lines (view_of c.args.line.now) (line_of c.view.result) c.view.ensures.line h.are_lines c.args.line.now.one_line h.holds h.within
     c.in-Err.fault c.in-Err.ensures.deep
 
 pub returns-in_default-result-clause-stands : goal.returns-in_default-result-clause-stands

@@ -6,7 +6,7 @@ pub returns-clause-stands : goal.returns-clause-stands
 returns-clause-stands c = record {
   going = refl;
   are_lines = refl;
-  holds = new_holds c.new.result c.new-2.result c.new.ensures.frames c.new.ensures.bare c.new.ensures.level c.new-2.ensures;
-  within = new_within c.args.limits.blocks;
+  holds = new_holds c.args.limits.rules c.new.result c.new-2.result c.new.ensures.frames c.new.ensures.bare c.new.ensures.level c.new-2.ensures;
+  within = new_within c.args.limits.rules c.args.limits.blocks;
   few = omega (arith, ap length c.new.ensures.frames);
 }

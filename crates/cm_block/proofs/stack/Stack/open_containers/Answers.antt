@@ -16,7 +16,7 @@ returns-then-is_blank c =
     let s = c.loop-line.self in (
       omega (arith, c.len.ensures, c.loop-line-test.true),
       λ owned. c.loop-line.invariant.left owned
-          ∙ left_blank s.bare (frames_of s.frames) (level_of s.level) (line_of c.loop-line.line) owned (sym c.is_blank.ensures ∙ c.if-is_blank.true),
+          ∙ left_blank c.args.rules s.bare (frames_of s.frames) (level_of s.level) (line_of c.loop-line.line) owned (sym c.is_blank.ensures ∙ c.if-is_blank.true),
     )
 
 pub loop-line-preserved-in-Some : goal.loop-line-preserved-in-Some
@@ -30,9 +30,9 @@ loop-line-preserved-in-Some c =
       none = λ e. absurd (cc (e, bare));
       left = λ owned.
           c.loop-line.invariant.left owned
-          ∙ left_some s.bare (frames_of s.frames) (level_of s.level) line owned plain
-          ∙ quote_next (frames_of s.frames) (level_of s.level) line owned (line_of c.in-Some.inner) some c.in-Some.ensures.0 c.in-Some.ensures.1
-          ∙ stays_left c.open_quote.new.self.bare _ (frames_of c.open_quote.new.self.frames) _ (level_of c.open_quote.new.self.level) (line_of c.in-Some.inner) owned bare
+          ∙ left_some c.args.rules s.bare (frames_of s.frames) (level_of s.level) line owned plain
+          ∙ quote_next c.args.rules (frames_of s.frames) (level_of s.level) line owned (line_of c.in-Some.inner) some (c.in-Some.ensures c.args.rules).0 (c.in-Some.ensures c.args.rules).1
+          ∙ stays_left c.args.rules c.open_quote.new.self.bare _ (frames_of c.open_quote.new.self.frames) _ (level_of c.open_quote.new.self.level) (line_of c.in-Some.inner) owned bare
           c.in_ok-open_quote.ensures.frames c.in_ok-open_quote.ensures.level;
     }
 
@@ -46,10 +46,10 @@ returns-in_default-start c =
       (
         plain,
         (
-          no_container c.start_of-start.result (ap begins_quote c.start_of-start.ensures ∙ c.in_default.ensures) c.in_default-start.not-Item,
+          no_container c.start_of-start.result (ap begins_quote c.start_of-start.ensures ∙ c.in_default.ensures c.args.rules) c.in_default-start.not-Item,
           λ owned l at. c.loop-line.invariant.left owned
-              ∙ left_some s.bare (frames_of s.frames) (level_of s.level) line owned plain
-              ∙ leaf_next (frames_of s.frames) (level_of s.level) line owned (seen c.start_of-start.result) l some (sym c.start_of-start.ensures) at,
+              ∙ left_some c.args.rules s.bare (frames_of s.frames) (level_of s.level) line owned plain
+              ∙ leaf_next c.args.rules (frames_of s.frames) (level_of s.level) line owned (seen c.start_of-start.result) l some (sym c.start_of-start.ensures) at,
         ),
       ),
     )
@@ -65,8 +65,8 @@ loop-line-preserved c =
       none = λ e. sym c.is_blank-self.ensures ∙ e;
       left = λ owned.
           c.loop-line.invariant.left owned
-          ∙ left_some s.bare (frames_of s.frames) (level_of s.level) line owned plain
-          ∙ item_left c.is_blank-self.result (frames_of s.frames) (frames_of c.open_item.new.self.frames) (level_of s.level) (level_of c.open_item.new.self.level) line owned
+          ∙ left_some c.args.rules s.bare (frames_of s.frames) (level_of s.level) line owned plain
+          ∙ item_left c.args.rules c.is_blank-self.result (frames_of s.frames) (frames_of c.open_item.new.self.frames) (level_of s.level) (level_of c.open_item.new.self.level) line owned
           (seen_marker c.in-Item.marker) inner c.item_content-column.result.0 some (sym c.start_of-start.ensures ∙ ap seen c.in-Item.is) c.item_content-column.ensures.first c.item_content-column.ensures.column c.is_blank-self.ensures
           c.in_ok-open_item.ensures.frames c.in_ok-open_item.ensures.level;
     }
@@ -79,6 +79,6 @@ returns c = λ owned.
       c.len.ensures,
       c.loop-line-test.false,
       length_frames s.frames,
-      left_deep s.bare (frames_of s.frames) (level_of s.level) (line_of c.loop-line.line) owned,
+      left_deep c.args.rules s.bare (frames_of s.frames) (level_of s.level) (line_of c.loop-line.line) owned,
       ap (λ (t : Stack). nesting t.now) (c.loop-line.invariant.left owned),
     )

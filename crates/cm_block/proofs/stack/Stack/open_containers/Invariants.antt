@@ -9,7 +9,7 @@ use Rattle.cm_block.proofs.stack.Stack.open_containers.Given as goal
 abbrev pub invariant-loop-line : goal.invariant-loop-line
 invariant-loop-line l = record {
   none : l.self.bare ≡ true → is_blank (line_of l.line) ≡ true;
-  left : (owned : Owned) → begun l.fn.self (line_of l.fn.line) owned ≡ left_of l.self (line_of l.line) owned;
+  left : (owned : Owned) → begun l.rules l.fn.self (line_of l.fn.line) owned ≡ left_of l.rules l.self (line_of l.line) owned;
 }
 
 abbrev pub decreases-loop-line : goal.decreases-loop-line

@@ -1,9 +1,9 @@
 use Rattle.std.proofs.Common.{◌∙◌, ap}
 use Rattle.std.specs.List.{list_any}
 use Rattle.cm_scan.specs.Words.{same_bytes}
-use Rattle.cm_scan.specs.HtmlBlocks.{lower, block_names}
-use Rattle.cm_scan.proofs.html_blocks.is_block_name.Goals as goal
+use Rattle.cm_scan.specs.HtmlBlocks.{lower, common_block_names}
+use Rattle.cm_scan.proofs.html_blocks.is_common_block_name.Goals as goal
 
 pub returns : goal.returns
-unfolding block_names
+unfolding common_block_names
 returns c = c.is_among.ensures ∙ ap (list_any (λ word. same_bytes word.now (lower c.args.name.now))) c.as_slice.ensures
