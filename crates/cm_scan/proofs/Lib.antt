@@ -18,3 +18,11 @@ pub mod DefinitionLemmas
 pub mod EnclosedLemmas
 pub mod GapLemmas
 pub mod ReadingLemmas
+pub mod ReadFurther
+pub mod TagsFurther
+pub mod RawHtmlLemmas
+pub mod EndLemmas
+pub mod AutolinkLemmas
+pub mod CodeSpanLemmas
+pub mod AngleLemmas
+pub mod OlderLemmas

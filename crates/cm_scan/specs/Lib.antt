@@ -4,6 +4,12 @@ pub mod LineForms
 pub mod Tags
 pub mod HtmlBlocks
 pub mod Links
+pub mod RawHtml
+pub mod Autolinks
+pub mod CodeSpans
+pub mod Angles
+pub mod SpanLaws
+pub mod SpanExamples
 pub mod Starts
 pub mod Parts
 pub mod Blocks

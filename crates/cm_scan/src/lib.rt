@@ -7,6 +7,7 @@ pub mod laws;
 mod line_forms;
 mod links;
 mod markers;
+pub mod span_laws;
 mod tags;
 mod words;
 

@@ -1,0 +1,5 @@
+use Rattle.cm_scan.proofs.OlderLemmas.{older_is_read}
+use Rattle.cm_scan.proofs.span_laws.older_is_read.Goals as goal
+
+pub returns : goal.returns
+returns c = older_is_read

@@ -1,0 +1,39 @@
+//! Laws of code spans, autolinks and raw HTML, each the contract of a function that does nothing.
+ghost use Rattle.cm_scan.specs.SpanExamples.{AutolinkExamples, CodeSpanExamples, OlderExamples, RawHtmlExamples};
+ghost use Rattle.cm_scan.specs.SpanLaws.{RawHtmlGoesOn, WholeRawHtmlGoesOn, AutolinkGoesOn, NoAutolinkGoesOn, CodeSpanGoesOn, AngledGoesOn, WholeTagGoesOn, OlderIsRead};
+
+/// What is raw HTML at the front of a text is so with anything behind the text.
+pub fn raw_html_goes_on()
+    ensures front { RawHtmlGoesOn }
+    ensures whole { WholeRawHtmlGoesOn }
+{}
+
+/// An autolink stays one with anything behind it, and raw HTML that is no autolink becomes none.
+pub fn autolink_goes_on()
+    ensures link { AutolinkGoesOn }
+    ensures no_link { NoAutolinkGoesOn }
+{}
+
+/// A code span stays one with anything behind it but a backtick.
+pub fn code_span_goes_on()
+    ensures { CodeSpanGoesOn }
+{}
+
+/// What a `<` begins, an autolink or raw HTML, is the same with anything behind the text.
+pub fn angled_goes_on()
+    ensures any { AngledGoesOn }
+    ensures whole_tag { WholeTagGoesOn }
+{}
+
+/// Raw HTML by the older rules is raw HTML.
+pub fn older_is_read()
+    ensures { OlderIsRead }
+{}
+
+/// Worked examples of raw HTML, autolinks and code spans, by computation.
+pub fn span_examples()
+    ensures read { RawHtmlExamples }
+    ensures older { OlderExamples }
+    ensures links { AutolinkExamples }
+    ensures spans { CodeSpanExamples }
+{}
