@@ -71,6 +71,7 @@ is_punct-groups rules c category older punctuation symbol beyond k o p s = rw (p
   where
     none : is_ascii_punct c ≡ false
     none = grind (arith, nat_tests, beyond)
+
     go : (o : Bool) → (in_group Punctuation (general_category c) || not o && in_group Symbol (general_category c))
         ≡ (in_group Punctuation (general_category c) || (if o then is_ascii_punct c else in_group Symbol (general_category c)))
     go true = ap (λ t. in_group Punctuation (general_category c) || t) (sym none)
