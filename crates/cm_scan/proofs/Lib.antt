@@ -26,3 +26,4 @@ pub mod AutolinkLemmas
 pub mod CodeSpanLemmas
 pub mod AngleLemmas
 pub mod OlderLemmas
+pub mod InlineComputing

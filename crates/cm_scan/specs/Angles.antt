@@ -1,5 +1,5 @@
 -- What begins with `<` in a leaf's source.
-use Rattle.std.specs.Prelude.{ℕ, ◌-◌, Bool, List, length, take, Option, Some, None}
+use Rattle.std.specs.Prelude.{ℕ, ◌-◌, List, length, take, Option, Some, None}
 use Rattle.cm_text.specs.Rules.{Rules}
 use Rattle.cm_scan.specs.Links.{Reading}
 use Rattle.cm_scan.specs.RawHtml.{raw_html}

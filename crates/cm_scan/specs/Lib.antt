@@ -10,6 +10,12 @@ pub mod CodeSpans
 pub mod Angles
 pub mod SpanLaws
 pub mod SpanExamples
+pub mod Delimiters
+pub mod Pairing
+pub mod Atoms
+pub mod Brackets
+pub mod Inlines
+pub mod InlineExamples
 pub mod Starts
 pub mod Parts
 pub mod Blocks

@@ -1,5 +1,5 @@
 -- Worked examples: raw HTML, autolinks and code spans.
-use Rattle.std.specs.Prelude.{◌≡◌, ℕ, true, false, List, [], codes, Some, None}
+use Rattle.std.specs.Prelude.{◌≡◌, ℕ, List, [], codes, Some, None}
 use Rattle.cm_text.specs.Rules.{profile, older_rules}
 use Rattle.cm_scan.specs.RawHtml.{raw_html}
 use Rattle.cm_scan.specs.Autolinks.{autolink}

@@ -1,5 +1,5 @@
 -- Laws of raw HTML, autolinks and code spans, with anything behind the text.
-use Rattle.std.specs.Prelude.{◌≡◌, ℕ, Bool, true, false, not, List, [], ◌∷◌, ◌++◌, Some, None}
+use Rattle.std.specs.Prelude.{◌≡◌, ℕ, Bool, true, not, List, [], ◌∷◌, ◌++◌, Some, None}
 use Rattle.cm_text.specs.Rules.{Rules, profile, older_rules}
 use Rattle.cm_scan.specs.Words.{begins_with}
 use Rattle.cm_scan.specs.Links.{Reading}

@@ -3,6 +3,7 @@
 
 mod gaps;
 mod html_blocks;
+pub mod inline_laws;
 pub mod laws;
 mod line_forms;
 mod links;
