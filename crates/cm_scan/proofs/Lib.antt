@@ -27,3 +27,6 @@ pub mod CodeSpanLemmas
 pub mod AngleLemmas
 pub mod OlderLemmas
 pub mod InlineComputing
+pub mod InlineLemmas
+pub mod PairingLemmas
+pub mod OnePassLemmas

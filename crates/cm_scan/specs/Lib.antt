@@ -12,10 +12,12 @@ pub mod SpanLaws
 pub mod SpanExamples
 pub mod Delimiters
 pub mod Pairing
+pub mod OnePass
 pub mod Atoms
 pub mod Brackets
 pub mod Inlines
 pub mod InlineExamples
+pub mod InlineLaws
 pub mod Starts
 pub mod Parts
 pub mod Blocks

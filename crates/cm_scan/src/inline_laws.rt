@@ -1,4 +1,6 @@
 //! Laws of the definitions of inlines, each the contract of a function that does nothing.
+ghost use Rattle.cm_scan.specs.InlineLaws.{ReadingGoesOn, PlainIsItself};
+ghost use Rattle.cm_scan.specs.OnePass.{OnePassExamples, PairsInOnePass};
 ghost use Rattle.cm_scan.specs.InlineExamples.{CodeSpanExamples, OpensEmphasisExamples, ClosesEmphasisExamples, OpensStrongExamples, ClosesStrongExamples, InsideEmphasisExamples, LeftOverExamples, AmbiguityExamples, InlineLinkExamples, ReferenceLinkExamples, ImageExamples, AutolinkExamples, RawHtmlExamples, LineBreakExamples, TextExamples, StrikeExamples, OlderRulesExamples};
 
 /// Worked examples of the inlines of leaves, by computation.
@@ -20,4 +22,26 @@ pub fn inline_examples()
     ensures text { TextExamples }
     ensures strike { StrikeExamples }
     ensures older_rules { OlderRulesExamples }
+{}
+
+/// Reading goes on behind what one step took, as if a source began there: no bound and no place in the whole
+/// matters.
+pub fn reading_goes_on()
+    ensures { ReadingGoesOn }
+{}
+
+/// A source without markup is one text, itself.
+pub fn plain_is_itself()
+    ensures { PlainIsItself }
+{}
+
+/// Repeated pairing comes to what one pass from the left makes, in which each closer looks for its nearest
+/// opener.
+pub fn pairs_in_one_pass()
+    ensures { PairsInOnePass }
+{}
+
+/// Worked examples of one pass from the left, by computation.
+pub fn one_pass_examples()
+    ensures { OnePassExamples }
 {}

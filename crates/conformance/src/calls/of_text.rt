@@ -11,7 +11,7 @@ use cm_text::{
 use std::alloc::Global;
 
 /// A kind of characters.
-#[derive(Clone, Copy)]
+#[derive(Drop)]
 enum Kind {
     AsciiPunctuation,
     Punctuation,
@@ -73,17 +73,17 @@ fn stripped(answer: &mut Answer, line: &Line, columns: usize) -> Result<(), Trou
 }
 
 /// Whether a character is of this kind.
-fn is_of_kind(kind: Kind, c: char) -> bool {
+fn is_of_kind(kind: &Kind, c: char) -> bool {
     match kind {
         Kind::AsciiPunctuation => is_ascii_punct(c),
         Kind::Punctuation => is_punct(c),
-        Kind::PunctuationBy(rules) => is_punct_by(rules, c),
+        Kind::PunctuationBy(rules) => is_punct_by(*rules, c),
         Kind::Space => is_space(c),
     }
 }
 
 /// The characters of the text that are of this kind.
-fn characters(answer: &mut Answer, text: &str, kind: Kind) -> Result<(), Trouble> {
+fn characters(answer: &mut Answer, text: &str, kind: &Kind) -> Result<(), Trouble> {
     let mut found = String::new(answer.alloc);
     for c in text.chars() {
         if is_of_kind(kind, c) {
@@ -146,9 +146,9 @@ fn of_one_text(answer: &mut Answer, name: &str, text: &str) -> Result<bool, Trou
     match name {
         "fold_label" => answer.text(fold_label(alloc, text)?.as_str())?,
         "unescape" => answer.text(unescape(alloc, text)?.as_str())?,
-        "is_ascii_punct" => characters(answer, text, Kind::AsciiPunctuation)?,
-        "is_punct" => characters(answer, text, Kind::Punctuation)?,
-        "is_space" => characters(answer, text, Kind::Space)?,
+        "is_ascii_punct" => characters(answer, text, &Kind::AsciiPunctuation)?,
+        "is_punct" => characters(answer, text, &Kind::Punctuation)?,
+        "is_space" => characters(answer, text, &Kind::Space)?,
         _ => return Ok(false),
     }
     Ok(true)
@@ -188,7 +188,7 @@ pub(super) fn answers(answer: &mut Answer, name: &str, given: &[Word]) -> Result
         ("rules", [Word::Plain(name)]) => rules(answer, name.as_str())?,
         ("is_punct_by", [Word::Plain(name), Word::Text(text)]) => {
             let kind = Kind::PunctuationBy(rules_of(alloc, name.as_str())?);
-            characters(answer, text.as_str(), kind)?;
+            characters(answer, text.as_str(), &kind)?;
         }
         (_, [Word::Text(text)]) => return of_one_text(answer, name, text.as_str()),
         _ => return Ok(false),
