@@ -8,7 +8,7 @@ use Rattle.cm_scan.specs.SpanLaws.{AutolinkGoesOn, NoAutolinkGoesOn}
 use Rattle.cm_scan.proofs.ReadFurther.{longer, false-true, none-some, word-extends, word-other, skip-extends, front-extends}
 use Rattle.cm_scan.proofs.TagsFurther.{not-empty, at-least-one}
 use Rattle.cm_scan.proofs.RawHtmlLemmas.{word-front}
-use Rattle.cm_scan.proofs.EndLemmas.{has_end, raw_html-ends}
+use Rattle.cm_scan.proofs.EndLemmas.{has_end, raw_html-has_end}
 
 abbrev longer_each : Option Reading → List ℕ → Option Reading
 longer_each None x = None
@@ -101,7 +101,7 @@ autolink_goes_on text x link e = go (in_angles text) refl e
 
 pub no_autolink_goes_on : NoAutolinkGoesOn
 unfolding autolink longer_link
-no_autolink_goes_on rules text rest x html e = ap by (all-angles text x (raw_html-ends rules text rest html)) ∙ go (in_angles text) e
+no_autolink_goes_on rules text rest x html e = ap by (all-angles text x (raw_html-has_end rules text rest html)) ∙ go (in_angles text) e
   where
     by : Option Reading → Option Autolink
     by o = elim o as (λ _. Option Autolink) [ Some r ↦ as_autolink r | None ↦ None ]

@@ -30,3 +30,8 @@ pub mod InlineComputing
 pub mod InlineLemmas
 pub mod PairingLemmas
 pub mod OnePassLemmas
+pub mod FoundLemmas
+pub mod HtmlSpanLemmas
+pub mod RunLemmas
+pub mod AngledLemmas
+pub mod NeededLemmas

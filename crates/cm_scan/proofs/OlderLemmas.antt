@@ -46,7 +46,7 @@ past-both (b ∷ bs) between rest e h = go (after_word (codes "--") (b ∷ bs)) 
         ∙ hyphens-read rest
     go None f e k = ap by (no-hyphens (b ∷ bs) f) ∙ k e
 
-older-inside : (text rest : List ℕ) → after_comment true text ≡ Some rest → after_comment false text ≡ Some rest
+pub older-inside : (text rest : List ℕ) → after_comment true text ≡ Some rest → after_comment false text ≡ Some rest
 unfolding after_comment
 older-inside text rest e = go (short_end text) (past (codes "--") text) refl e
   where

@@ -59,7 +59,7 @@ unfolding skip
 skip_shorter test [] = omega arith
 skip_shorter test (b ∷ bs) = let h : length (skip test bs) ≤ length bs = skip_shorter test bs in grind (arith, h)
 
-front-is : (test : ℕ → Bool) (bs : List ℕ) → front_of test bs ≡ take (length bs - length (skip test bs)) bs
+pub front-is : (test : ℕ → Bool) (bs : List ℕ) → front_of test bs ≡ take (length bs - length (skip test bs)) bs
 unfolding front_of skip
 front-is test [] = refl
 front-is test (b ∷ bs) = ⊎_elim

@@ -35,11 +35,19 @@ abbrev pub content_of : Option Reading → Option Reading
 content_of None = None
 content_of (Some r) = Some (record { text = stripped (one_line r.text); rest = r.rest })
 
+-- what stands before the next string of so many, which are one at least, as it is written
+abbrev pub as_written : ℕ → List ℕ → Option Reading
+as_written zero text = None
+as_written (suc n) text = up_to_run (suc n) false text
+
 abbrev pub spanned : ℕ → List ℕ → Option Reading
-spanned zero text = None
-spanned (suc n) text = content_of (up_to_run (suc n) false text)
+spanned n text = content_of (as_written n text)
 
 -- A code span begins with a backtick string and ends with a backtick string of equal length: its content, and what is left
 -- behind it.
 unfoldable pub code_span : List ℕ → Option Reading
 code_span text = spanned (run_length 96 text) (after_run 96 text)
+
+-- A code span as it is written: what stands between the two strings, and what is left behind it.
+unfoldable pub spanned_as_written : List ℕ → Option Reading
+spanned_as_written text = as_written (run_length 96 text) (after_run 96 text)

@@ -1,7 +1,9 @@
 -- What a scanner answers.
-use Rattle.std.specs.Prelude.{List, drop, option_map, ℕ, Option, Some, None}
+use Rattle.std.specs.Prelude.{List, drop, option_map, ℕ, Option, Some, None, Bool, if◌then◌else◌, ◌++◌, codes}
 use Rattle.std.specs.Borrow.{Bor}
 use Rattle.cm_scan.specs.Links.{Reading, LinkDefinition}
+use Rattle.cm_scan.specs.Autolinks.{Autolink}
+use Rattle.cm_scan.specs.Angles.{before}
 
 -- what was read, if it was, with the place where it ends
 abbrev pub ending : {A : Type 0} → Option A → ℕ → Option (A × ℕ)
@@ -15,3 +17,11 @@ reading_of text read = option_map (λ r. record { text = r.0.now; rest = drop r.
 -- a definition of these parts
 abbrev pub definition_with : List ℕ → List ℕ → List ℕ → List ℕ → LinkDefinition
 definition_with label dest title rest = record { label = label; dest = dest; title = title; rest = rest }
+
+-- an autolink of this text: an address leads to `mailto:` and the text, and any other to the text
+abbrev pub autolink_with : (address : Bool) → List ℕ → List ℕ → Autolink
+autolink_with address text rest = record { destination = if address then codes "mailto:" ++ text else text; text = text; rest = rest }
+
+-- the whole of what was read of a text, as it is written, by what is left behind it
+abbrev pub whole_of : List ℕ → Option (List ℕ) → Option Reading
+whole_of text rest = option_map (λ r. record { text = before r text; rest = r }) rest

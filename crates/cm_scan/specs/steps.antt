@@ -1,3 +1,4 @@
 pub mod LineSteps
 pub mod TagNames
 pub mod LinkSteps
+pub mod SpanSteps

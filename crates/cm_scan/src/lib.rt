@@ -1,8 +1,12 @@
 //! The definitions of CommonMark's block structure, and the scanners of its forms.
 #![tactic(auto)]
 
+mod angled;
+mod autolinks;
+mod code_spans;
 mod gaps;
 mod html_blocks;
+mod inline_html;
 pub mod inline_laws;
 pub mod laws;
 mod line_forms;
@@ -12,7 +16,11 @@ pub mod span_laws;
 mod tags;
 mod words;
 
+pub use angled::Autolink;
+pub use autolinks::autolink;
+pub use code_spans::{code_span, has_backticks};
 pub use html_blocks::{HtmlKind, html_end, html_start, html_start_by};
+pub use inline_html::{holds_from, raw_html, raw_html_by};
 pub use line_forms::{
     AtxHeading, FenceKind, OpeningFence, atx, fence, fence_end, quote_marker, thematic, underline,
 };

@@ -1,6 +1,7 @@
 //! Laws of code spans, autolinks and raw HTML, each the contract of a function that does nothing.
+ghost use Rattle.std.specs.Prelude.{[], codes};
 ghost use Rattle.cm_scan.specs.SpanExamples.{AutolinkExamples, CodeSpanExamples, OlderExamples, RawHtmlExamples};
-ghost use Rattle.cm_scan.specs.SpanLaws.{RawHtmlGoesOn, WholeRawHtmlGoesOn, AutolinkGoesOn, NoAutolinkGoesOn, CodeSpanGoesOn, AngledGoesOn, WholeTagGoesOn, OlderIsRead};
+ghost use Rattle.cm_scan.specs.SpanLaws.{RawHtmlGoesOn, WholeRawHtmlGoesOn, AutolinkGoesOn, NoAutolinkGoesOn, CodeSpanGoesOn, AngledGoesOn, WholeTagGoesOn, OlderIsRead, NeedsEnd};
 
 /// What is raw HTML at the front of a text is so with anything behind the text.
 pub fn raw_html_goes_on()
@@ -28,6 +29,14 @@ pub fn angled_goes_on()
 /// Raw HTML by the older rules is raw HTML.
 pub fn older_is_read()
     ensures { OlderIsRead }
+{}
+
+/// A comment needs `-->`, a processing instruction `?>`, a CDATA section `]]>`, and any raw HTML `>`.
+pub fn raw_html_needs_its_end()
+    ensures comment { NeedsEnd (codes "<!--") (codes "-->") }
+    ensures instruction { NeedsEnd (codes "<?") (codes "?>") }
+    ensures character_data { NeedsEnd (codes "<![CDATA[") (codes "]]>") }
+    ensures any { NeedsEnd [] (codes ">") }
 {}
 
 /// Worked examples of raw HTML, autolinks and code spans, by computation.

@@ -1,8 +1,6 @@
 //! Reads tables of cases from the files that its arguments name, and says how many of them come out as
 //! the tables say, and for each other what was wanted and what came. A file `.txt` has examples in the
 //! form of the CommonMark specification, `.cases` cases of several lines, `.calls` calls of one line.
-//!
-//! Its tests have what needs calls: devices, and values that are moved and compared.
 #![tactic(auto)]
 
 mod calls;
@@ -14,8 +12,6 @@ mod escapes;
 mod examples;
 mod listed;
 mod tally;
-#[cfg(test)]
-mod tests;
 mod texts;
 mod trees;
 mod trouble;

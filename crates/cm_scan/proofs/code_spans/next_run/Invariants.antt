@@ -1,0 +1,14 @@
+use Rattle.std.proofs.Common.{◌≡◌, ◌-◌, ◌≤◌, false, length, drop}
+use Rattle.cm_scan.specs.CodeSpans.{up_to_run}
+use Rattle.cm_scan.proofs.ClosedLemmas.{ahead_from}
+use Rattle.cm_scan.proofs.code_spans.next_run.Given as goal
+
+-- what was passed over, and the part that is read from here on, come to the whole
+abbrev pub invariant-loop-plain : goal.invariant-loop-plain
+invariant-loop-plain l = record {
+  read : ahead_from l.text l.from l.at (up_to_run l.count false (drop l.at l.text)) ≡ up_to_run l.count false (drop l.from l.text);
+  within : (l.from ≤ l.at) × (l.at ≤ length l.text);
+}
+
+abbrev pub decreases-loop-plain : goal.decreases-loop-plain
+decreases-loop-plain l = length l.text - l.at

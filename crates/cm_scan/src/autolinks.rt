@@ -1,0 +1,65 @@
+//! Autolinks in a text (CommonMark 0.31.2, 6.5 Autolinks).
+ghost use Rattle.std.specs.Prelude.{◌≡◌, ◌≤◌, length, drop, option_map, IfSome, IsUtf8};
+ghost use Rattle.std.specs.Str.{IsCharBoundary};
+ghost use Rattle.std.specs.List.{slice_range};
+ghost use Rattle.cm_scan.specs.Words.{skip, front_of};
+ghost use Rattle.cm_scan.specs.Autolinks.{is_inside, in_angles, autolink};
+ghost use Rattle.cm_scan.specs.Scanned.{reading_of, autolink_with};
+
+use crate::angled::{Autolink, link_of};
+use crate::links::is_next;
+
+/// The autolink at a place in a text, which is the boundary of a character, and the place behind its `>`
+/// (CommonMark 0.31.2, 6.5 Autolinks).
+///
+/// An absolute URI goes before an e-mail address. Nothing is read behind the first space, control character or
+/// `<` inside.
+pub fn autolink<'a>(text: &'a str, at: usize) -> Option<(Autolink<'a>, usize)>
+    requires { IsCharBoundary text.now at }
+    ensures read { option_map (λ r. autolink_with r.0.is_address r.0.text.now (drop r.1 text.now)) result ≡ autolink (drop at text.now) }
+    ensures utf8 { IfSome result (λ r. IsUtf8 r.0.text.now) }
+    ensures boundary { IfSome result (λ r. IsCharBoundary text.now r.1) }
+{
+    let (inside, end) = in_angles(text, at)?;
+    Some((link_of(inside)?, end))
+}
+
+/// What stands between `<` and `>`, and the place behind them.
+fn in_angles<'a>(text: &'a str, at: usize) -> Option<(&'a str, usize)>
+    requires { IsCharBoundary text.now at }
+    ensures read { reading_of text.now result ≡ in_angles (drop at text.now) }
+    ensures utf8 { IfSome result (λ read. IsUtf8 read.0.now) }
+    ensures boundary { IfSome result (λ read. IsCharBoundary text.now read.1) }
+{
+    let bytes = text.as_bytes();
+    if !is_next(bytes, at, b'<') {
+        return None;
+    }
+    let end = after_inside(bytes, at + 1);
+    if !is_next(bytes, end, b'>') {
+        return None;
+    }
+    Some((&text[at + 1..end], end + 1))
+}
+
+/// The place behind the bytes that may stand in an autolink.
+fn after_inside(bytes: &[u8], from: usize) -> usize
+    requires { from ≤ length bytes.now }
+    ensures front { slice_range bytes.now from result ≡ front_of is_inside (drop from bytes.now) }
+    ensures skipped { drop result bytes.now ≡ skip is_inside (drop from bytes.now) }
+    ensures within { (from ≤ result) × (result ≤ length bytes.now) }
+{
+    let mut end = from;
+    while end < bytes.len() && is_inside(bytes[end]) {
+        end += 1;
+    }
+    end
+}
+
+/// Whether a byte may stand in an autolink.
+#[inline(always)]
+fn is_inside(b: u8) -> bool
+    ensures { result ≡ is_inside b }
+{
+    !(b.is_ascii_control() || b == b' ' || b == b'<' || b == b'>')
+}

@@ -1,0 +1,65 @@
+//! Code spans in a text (CommonMark 0.31.2, 6.1 Code spans).
+ghost use Rattle.std.specs.Prelude.{◌≡◌, ◌≤◌, ℕ, None, is_some, false, length, drop, IfSome, IsUtf8};
+ghost use Rattle.std.specs.Str.{IsCharBoundary};
+ghost use Rattle.cm_scan.specs.Words.{run_length};
+ghost use Rattle.cm_scan.specs.CodeSpans.{up_to_run, content_of, spanned_as_written, code_span};
+ghost use Rattle.cm_scan.specs.Scanned.{reading_of};
+ghost use Rattle.cm_scan.specs.steps.SpanSteps.{run_at};
+
+use crate::words::{after_run, bytes_from};
+use memchr::memchr;
+
+/// The code span at a place in a text, which is the boundary of a character: what stands between its two
+/// backtick strings, as it is written, and the place behind the second one (CommonMark 0.31.2, 6.1 Code spans).
+///
+/// The backtick string there has as many backticks as stand in a row from that place on, and the other is the
+/// next one of just as many. Where there is none, no backtick string of as many further on has one either, so a
+/// caller has no need to look for the end of those.
+pub fn code_span<'a>(text: &'a str, at: usize) -> Option<(&'a str, usize)>
+    requires { IsCharBoundary text.now at }
+    ensures read { reading_of text.now result ≡ spanned_as_written (drop at text.now) }
+    ensures content { content_of (reading_of text.now result) ≡ code_span (drop at text.now) }
+    ensures none_later { result ≡ None → (later : ℕ) → at ≤ later → run_length 96 (drop later text.now) ≡ run_length 96 (drop at text.now)
+        → spanned_as_written (drop later text.now) ≡ None }
+    ensures utf8 { IfSome result (λ read. IsUtf8 read.0.now) }
+    ensures boundary { IfSome result (λ read. IsCharBoundary text.now read.1) }
+{
+    let start = after_run(b'`', text, at);
+    if start == at {
+        return None;
+    }
+    let (close, end) = next_run(text, start, start - at)?;
+    Some((&text[start..close], end))
+}
+
+/// Whether just so many backticks stand in a row somewhere from a place on, which is the boundary of a character.
+/// Those in front of the place don't count.
+///
+/// Where they don't, no backtick string of so many further on begins a code span.
+pub fn has_backticks(text: &str, from: usize, count: usize) -> bool
+    requires { IsCharBoundary text.now from }
+    ensures held { result ≡ is_some (up_to_run count false (drop from text.now)) }
+    ensures none_later { result ≡ false → (later : ℕ) → from ≤ later → run_length 96 (drop later text.now) ≡ count
+        → spanned_as_written (drop later text.now) ≡ None }
+{
+    next_run(text, from, count).is_some()
+}
+
+/// The places where the next run of just so many backticks begins and ends, from a place on. Backticks in front
+/// of the place don't count.
+fn next_run(text: &str, from: usize, count: usize) -> Option<(usize, usize)>
+    requires { IsCharBoundary text.now from }
+    ensures read { run_at text.now from result ≡ up_to_run count false (drop from text.now) }
+    ensures within { IfSome result (λ run. (from ≤ run.0) × (run.0 ≤ run.1) × (run.1 ≤ length text.now)) }
+    ensures boundary { IfSome result (λ run. IsCharBoundary text.now run.0 × IsCharBoundary text.now run.1) }
+{
+    let mut at = from;
+    while let Some(plain) = memchr(b'`', bytes_from(text, at)) {
+        let start = at + plain;
+        at = after_run(b'`', text, start);
+        if at - start == count {
+            return Some((start, at));
+        }
+    }
+    None
+}
