@@ -7,9 +7,10 @@ use crate::dialects::rules_of;
 use crate::trouble::{Trouble, wrong};
 use crate::words::{Word, number};
 use cm_scan::{
-    FenceKind, HtmlKind, atx, definition, destination, fence, fence_end, html_end, html_start,
-    html_start_by, is_blank_text, item_marker, label, quote_marker, thematic, title, trim_end,
-    trim_end_spaces, underline,
+    FenceKind, HtmlKind, atx, autolink, code_span, definition, destination, fence, fence_end,
+    has_backticks, holds_from, html_end, html_start, html_start_by, is_blank_text, item_marker,
+    label, quote_marker, raw_html, raw_html_by, thematic, title, trim_end, trim_end_spaces,
+    underline,
 };
 use cm_tree::ListKind;
 
@@ -104,6 +105,44 @@ fn named(answer: &mut Answer, started: Option<HtmlKind>) -> Result<(), Trouble> 
     }
 }
 
+/// An autolink: whether it is an e-mail address, what stands inside, its end.
+fn link(answer: &mut Answer, text: &str, at: usize) -> Result<(), Trouble>
+    requires { IsCharBoundary text.now at }
+{
+    match autolink(text, at) {
+        Some((link, end)) => {
+            answer.truth(link.is_address)?;
+            answer.slice(Some((link.text, end)))
+        }
+        None => answer.word("none"),
+    }
+}
+
+/// Raw HTML by the rules of this name.
+fn raw(answer: &mut Answer, name: &str, text: &String, at: usize) -> Result<(), Trouble> {
+    let rules = rules_of(answer.alloc, name)?;
+    if !text.is_char_boundary(at) {
+        return Err(wrong(answer.alloc, "the place is no boundary"));
+    }
+    answer.slice(raw_html_by(rules, text.as_str(), at))
+}
+
+/// Whether so many backticks begin a backtick string from there on.
+fn backticks(answer: &mut Answer, text: &String, from: usize, count: usize) -> Result<(), Trouble> {
+    if !text.is_char_boundary(from) {
+        return Err(wrong(answer.alloc, "the place is no boundary"));
+    }
+    answer.truth(has_backticks(text.as_str(), from, count))
+}
+
+/// Whether the word stands in the text from there on.
+fn holds(answer: &mut Answer, text: &String, from: usize, word: &str) -> Result<(), Trouble> {
+    if text.len() < from {
+        return Err(wrong(answer.alloc, "the place is past the text"));
+    }
+    answer.truth(holds_from(text.as_str(), from, word))
+}
+
 /// A scanner at a boundary of characters.
 fn scans(answer: &mut Answer, name: &str, text: &String, at: usize) -> Result<bool, Trouble> {
     if !text.is_char_boundary(at) {
@@ -118,6 +157,9 @@ fn scans(answer: &mut Answer, name: &str, text: &String, at: usize) -> Result<bo
         "item_marker" => marker(answer, text, at)?,
         "html_start" => html_kind(answer, text, at)?,
         "label" => answer.slice(label(text, at))?,
+        "code_span" => answer.slice(code_span(text, at))?,
+        "autolink" => link(answer, text, at)?,
+        "raw_html" => answer.slice(raw_html(text, at))?,
         "destination" => answer.slice(destination(text, at))?,
         "title" => answer.slice(title(text, at))?,
         "definition" => link_definition(answer, text, at)?,
@@ -193,6 +235,16 @@ pub(super) fn answers(answer: &mut Answer, name: &str, given: &[Word]) -> Result
         }
         ("html_start_by", [Word::Plain(name), Word::Text(text), Word::Plain(at)]) => {
             html_starts(answer, name.as_str(), text, number(alloc, at.as_str())?)?;
+        }
+        ("raw_html_by", [Word::Plain(name), Word::Text(text), Word::Plain(at)]) => {
+            raw(answer, name.as_str(), text, number(alloc, at.as_str())?)?;
+        }
+        ("has_backticks", [Word::Text(text), Word::Plain(from), Word::Plain(count)]) => {
+            let from = number(alloc, from.as_str())?;
+            backticks(answer, text, from, number(alloc, count.as_str())?)?;
+        }
+        ("holds_from", [Word::Text(text), Word::Plain(from), Word::Text(word)]) => {
+            holds(answer, text, number(alloc, from.as_str())?, word.as_str())?;
         }
         (_, [Word::Text(text), Word::Plain(at)]) => {
             return scans(answer, name, text, number(alloc, at.as_str())?);
