@@ -12,7 +12,7 @@ use Rattle.cm_scan.specs.Lines.{content_of}
 use Rattle.cm_scan.specs.LineForms.{Heading, Fence, ItemMarker, is_thematic_break, atx_heading, opening_fence, bullet_kind, ordered_kind, marker_at_gap, bullet_marker, decimal_value, is_number, marker_behind, ordered_marker, item_marker}
 use Rattle.cm_tree.specs.declared.tree.ListKind.{ListKind}
 use Rattle.cm_scan.specs.HtmlBlocks.{HtmlKind, html_start}
-use Rattle.cm_scan.specs.Starts.{Start, IndentedCode, QuoteMarker, ItemStart, TextLine, start_of_content, start_of}
+use Rattle.cm_scan.specs.Starts.{Start, IndentedCode, QuoteMarker, ItemStart, TextLine, start_of_content, start_by, start_of}
 use Rattle.cm_block.specs.steps.PlaceViews.{begins_quote}
 use Rattle.cm_block.proofs.StartLemmas.{first}
 
@@ -134,7 +134,7 @@ module _ (rules : Rules) where
       near h = grind (arith, h)
 
       go : (lazy far : Bool) → nat_le 4 (indent_of line) ≡ far
-          → (elim lazy as (λ _. Start) [ true ↦ TextLine | false ↦ elim far as (λ _. Start) [ true ↦ IndentedCode | false ↦ start_of_content rules text ] ]) ≡ ItemStart m
+          → start_by lazy far (start_of_content rules text) ≡ ItemStart m
           → (indent_of line < 4) × (item_marker text ≡ Some m)
       go true far h e = absurd (cc e)
       go false true h e = absurd (cc e)

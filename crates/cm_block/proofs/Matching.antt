@@ -5,7 +5,7 @@ use Rattle.cm_text.specs.Lines.{LineView}
 use Rattle.cm_text.specs.Indentation.{indent_of, strip_columns}
 use Rattle.cm_scan.specs.Lines.{is_blank, past, as_lazy}
 use Rattle.cm_scan.specs.Laws.{goes_inward}
-use Rattle.cm_scan.specs.Starts.{Start, IndentedCode, QuoteMarker, AtxHeading, OpeningFence, HtmlStart, BreakLine, ItemStart, TextLine, start_of, Place, Stays, StaysIfOpen, Leaves, may_be_lazy, place_if_lazy, behind_quote_marker, quote_place, place_in_quote, place_in_item}
+use Rattle.cm_scan.specs.Starts.{Start, IndentedCode, QuoteMarker, AtxHeading, OpeningFence, HtmlStart, BreakLine, ItemStart, TextLine, start_of, Place, Stays, StaysIfOpen, Leaves, may_be_lazy, place_if_lazy, behind_quote_marker, quote_place, place_in_quote, item_place, place_in_item}
 use Rattle.std.specs.Prelude.{nat_le}
 use Rattle.std.specs.List.{slice_index_or}
 use Rattle.cm_block.specs.declared.stack.Frame as code
@@ -146,10 +146,7 @@ module _ (rules : Rules) (open_text : Bool) (line inner : LineView) where
       go : (l blank b reaches : Bool) → line.lazy ≡ l
           → Some inner ≡ goes_inward (elim l as (λ _. Place) [
             | true ↦ place_if_lazy rules line
-            | false ↦ elim blank as (λ _. Place) [
-              | true ↦ elim b as (λ _. Place) [ true ↦ Leaves | false ↦ Stays (strip_columns column line) ]
-              | false ↦ elim reaches as (λ _. Place) [ true ↦ Stays (strip_columns column line) | false ↦ place_if_lazy rules line ]
-            ]
+            | false ↦ item_place blank b reaches (strip_columns column line) (place_if_lazy rules line)
           ]) open_text → inner.lazy ≡ true → (open_text ≡ true) × (is_blank inner ≡ false)
       go true blank b reaches marked e lazy = from-lazy e
       go false true true reaches marked e lazy = absurd (cc e)

@@ -12,7 +12,8 @@ use Rattle.cm_scan.specs.RawHtml.{rest_of, past, from_to, short_end, after_comme
 use Rattle.cm_scan.specs.Angles.{before}
 use Rattle.cm_scan.specs.Scanned.{whole_of}
 use Rattle.cm_scan.proofs.RawHtmlLemmas.{word-front}
-use Rattle.cm_scan.proofs.EndLemmas.{EndsBefore, raw_html-ends}
+use Rattle.cm_scan.proofs.Ends.{IsEnd}
+use Rattle.cm_scan.proofs.EndLemmas.{raw_html-ends}
 
 -- the end of a comment without a text
 
@@ -146,7 +147,7 @@ pub record Cut (text : List ℕ) (at : ℕ) (rest : List ℕ) : Type 0 where
   pub high : length rest < length text
   pub bracket : get_or text (length text - length rest - 1) 0 ≡ 62
 
-cut-at : (text : List ℕ) (at : ℕ) (rest : List ℕ) → at ≤ length text → EndsBefore rest (drop at text) → Cut text at rest
+cut-at : (text : List ℕ) (at : ℕ) (rest : List ℕ) → at ≤ length text → IsEnd (62 ∷ rest) (drop at text) → Cut text at rest
 cut-at text at rest within ends =
     let n : length (drop at text) ≡ length ends.front + suc (length rest) = ap length ends.is ∙ length-append ends.front (62 ∷ rest) in
     let size : length text ≡ at + length ends.front + suc (length rest) = omega (arith, within, length-drop at text, n) in

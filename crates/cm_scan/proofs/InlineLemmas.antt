@@ -1,10 +1,10 @@
 -- How inlines are read, step by step.
-use Rattle.std.proofs.Common.{◌≡◌, ℕ, zero, ◌-◌, Bool, true, false, not, ◌&&◌, ◌||◌, ◌==◌, List, [], ◌∷◌, ◌++◌, length, map, reverse, Option, Some, None, codes, refl, sym, ap, subst, ◌∙◌, arith, append_assoc, append-nil, length-append}
+use Rattle.std.proofs.Common.{◌≡◌, ℕ, zero, ◌-◌, Bool, true, false, not, ◌||◌, ◌==◌, List, [], ◌∷◌, ◌++◌, length, map, reverse, Option, Some, None, codes, refl, sym, ap, subst, ◌∙◌, arith, append_assoc, append-nil, length-append}
 use Rattle.std.specs.Prelude.{sum_by, nat_le, if◌then◌else◌}
 use Rattle.std.proofs.lemmas.List.Sums.{sum_by-cons}
 use Rattle.cm_tree.specs.declared.tree.Inline.TheVariants.{Soft, Hard}
 use Rattle.std.specs.List.{list_all}
-use Rattle.std.proofs.lemmas.Bool.{eqb-true}
+use Rattle.std.proofs.lemmas.Bool.{eqb-true, and_parts}
 use Rattle.std.proofs.lemmas.Bool.Decides.{nat_tests}
 use Rattle.std.proofs.lemmas.List.{reverse-append, reverse-reverse}
 use Rattle.cm_text.specs.Rules.{Rules}
@@ -13,7 +13,7 @@ use Rattle.cm_scan.specs.Pairing.{Item, Characters, text_before, settled_after, 
 use Rattle.cm_scan.specs.Atoms.{AtomRead, Whole, read, is_markup, break_atom, markup_atom, byte_atom, or_byte, atom_at}
 use Rattle.cm_scan.specs.Brackets.{Defined, Bracketed}
 use Rattle.cm_scan.specs.Inlines.{add_atom, item_step, items_after, items_of, inlines_of}
-use Rattle.cm_scan.specs.InlineLaws.{ReadingGoesOn, is_plain_byte, PlainIsItself}
+use Rattle.cm_scan.specs.InlineLaws.{ReadingGoesOn, BracketStep, is_plain_byte, PlainIsItself}
 
 -- bytes that belong to what was read last are passed over
 passed-over : (rules : Rules) (defined : Defined) (before taken rest : List ℕ) (items : List Item)
@@ -33,11 +33,11 @@ reading_goes_on rules defined before b taken rest items left =
     ap (λ n. items_after rules defined n (b ∷ before) (taken ++ rest) step.items) count
     ∙ passed-over rules defined (b ∷ before) taken rest step.items
 
--- the first byte of a source without markup, and the others
+pub bracket_step : BracketStep
+unfolding item_step add_atom atom_at markup_atom
+bracket_step rules defined before rest items = refl
 
-both : (x y : Bool) → (x && y) ≡ true → (x ≡ true) × (y ≡ true)
-both true y e = (refl, e)
-both false y e = absurd (cc e)
+-- the first byte of a source without markup, and the others
 
 no-line-ending : (b : ℕ) → is_plain_byte b ≡ true → (b == 10) ≡ false
 no-line-ending b plain = grind (arith, nat_tests, plain)
@@ -46,7 +46,7 @@ no-line-ending b plain = grind (arith, nat_tests, plain)
 no-break : (text : List ℕ) → list_all is_plain_byte text ≡ true → after_word (codes "\n") (after_run 32 text) ≡ None
 unfolding after_word after_run
 no-break [] plain = refl
-no-break (b ∷ bs) plain = go (b == 32) (no-break bs (both (is_plain_byte b) (list_all is_plain_byte bs) plain).1)
+no-break (b ∷ bs) plain = go (b == 32) (no-break bs (and_parts (is_plain_byte b) (list_all is_plain_byte bs) plain).1)
   where
     other : (feed : Bool) → feed ≡ false → elim feed as (λ _. Option (List ℕ)) [ true ↦ Some bs | false ↦ None ] ≡ None
     other true e = absurd (cc e)
@@ -55,7 +55,7 @@ no-break (b ∷ bs) plain = go (b == 32) (no-break bs (both (is_plain_byte b) (l
     go : (space : Bool) → after_word (codes "\n") (after_run 32 bs) ≡ None
         → after_word (codes "\n") (elim space as (λ _. List ℕ) [ true ↦ after_run 32 bs | false ↦ b ∷ bs ]) ≡ None
     go true none = none
-    go false none = other (b == 10) (no-line-ending b (both (is_plain_byte b) (list_all is_plain_byte bs) plain).0)
+    go false none = other (b == 10) (no-line-ending b (and_parts (is_plain_byte b) (list_all is_plain_byte bs) plain).0)
 
 -- so its first byte is read as text
 plain-atom : (rules : Rules) (before : List ℕ) (b : ℕ) (bs : List ℕ) → list_all is_plain_byte (b ∷ bs) ≡ true → atom_at rules before b bs ≡ byte_atom b bs
@@ -74,7 +74,7 @@ plain-atom rules before b bs plain = go (is_markup b) refl
         → elim markup as (λ _. AtomRead) [ true ↦ or_byte b bs (markup_atom rules before b bs) | false ↦ byte_atom b bs ] ≡ byte_atom b bs
     go false e = refl
     go true e =
-        let is : b ≡ 32 = eqb-true b 32 (space (b == 32) (is_markup b) (both (is_plain_byte b) (list_all is_plain_byte bs) plain).0 e) in
+        let is : b ≡ 32 = eqb-true b 32 (space (b == 32) (is_markup b) (and_parts (is_plain_byte b) (list_all is_plain_byte bs) plain).0 e) in
         ap (or_byte b bs) (subst (λ c. markup_atom rules before c bs ≡ None) (sym is) (none (subst (λ c. list_all is_plain_byte (c ∷ bs) ≡ true) is plain)))
 
 -- one text for each byte
@@ -88,7 +88,7 @@ plain-items rules defined before [] items plain = refl
 plain-items rules defined before (b ∷ bs) items plain =
     ap (λ (a : AtomRead). by (add_atom defined items a.atom a.rest)) (plain-atom rules before b bs plain)
     ∙ ap (λ n. items_after rules defined n (b ∷ before) bs (Characters (b ∷ []) ∷ items)) nothing
-    ∙ plain-items rules defined (b ∷ before) bs (Characters (b ∷ []) ∷ items) (both (is_plain_byte b) (list_all is_plain_byte bs) plain).1
+    ∙ plain-items rules defined (b ∷ before) bs (Characters (b ∷ []) ∷ items) (and_parts (is_plain_byte b) (list_all is_plain_byte bs) plain).1
     ∙ sym (append_assoc (reverse (characters bs)) (Characters (b ∷ []) ∷ []) items)
     ∙ ap (λ all. all ++ items) (sym (reverse-append (Characters (b ∷ []) ∷ []) (characters bs)))
   where

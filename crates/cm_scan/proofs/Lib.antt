@@ -4,6 +4,7 @@ pub mod Feeds
 pub mod Owners
 pub mod LooseLemmas
 pub mod Counted
+pub mod BlockLemmas
 pub mod Computing
 pub mod HtmlLemmas
 pub mod LineFormLemmas
@@ -21,7 +22,10 @@ pub mod ReadingLemmas
 pub mod ReadFurther
 pub mod TagsFurther
 pub mod RawHtmlLemmas
+pub mod Ends
 pub mod EndLemmas
+pub mod LeftLemmas
+pub mod RunsLemmas
 pub mod AutolinkLemmas
 pub mod CodeSpanLemmas
 pub mod AngleLemmas

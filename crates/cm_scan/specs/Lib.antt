@@ -18,11 +18,13 @@ pub mod Brackets
 pub mod Inlines
 pub mod InlineExamples
 pub mod InlineLaws
+pub mod Runs
 pub mod Starts
 pub mod Parts
 pub mod Blocks
 pub mod WorkedExamples
 pub mod Laws
+pub mod BlockLaws
 pub mod Looseness
 pub mod HtmlKinds
 pub mod Scanned

@@ -51,12 +51,14 @@ fence_of marker text =
     let count = run_length marker text in
     given (nat_le 3 count) (record { marker = marker; count = count; info = trim (after_run marker text) })
 
--- three or more backticks or tildes; behind backticks the info string has no backtick
+-- behind backticks the info string has no backtick
+abbrev pub backticks_or : Option Fence → Option Fence → Option Fence
+backticks_or (Some fence) other = given (not (list_any (λ b. b == 96) fence.info)) fence
+backticks_or None other = other
+
+-- three or more backticks or tildes
 unfoldable pub opening_fence : List ℕ → Option Fence
-opening_fence text = elim (fence_of 96 text) [
-  | Some fence ↦ given (not (list_any (λ b. b == 96) fence.info)) fence
-  | None ↦ fence_of 126 text
-]
+opening_fence text = backticks_or (fence_of 96 text) (fence_of 126 text)
 
 -- as many of the same character or more, and spaces and tabs after them
 unfoldable pub is_closing_fence : Fence → List ℕ → Bool

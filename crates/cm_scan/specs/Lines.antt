@@ -1,6 +1,6 @@
 -- Lines, and what is left of them behind a marker (CommonMark 0.31.2, 2.1 Characters and lines, 2.2 Tabs).
-use Rattle.std.specs.Prelude.{ℕ, suc, ◌+◌, Bool, true, List, [], ◌∷◌, ◌++◌, drop, if◌then◌else◌}
-use Rattle.cm_text.specs.Lines.{LineView}
+use Rattle.std.specs.Prelude.{ℕ, suc, ◌+◌, Bool, true, List, [], ◌∷◌, drop, if◌then◌else◌}
+use Rattle.cm_text.specs.Lines.{LineView, with_line_feed}
 use Rattle.cm_text.specs.Indentation.{indent_of}
 use Rattle.cm_scan.specs.Words.{is_space_or_tab, is_blank_text, trim_start}
 
@@ -22,7 +22,7 @@ as_lazy line = record { column = line.column; text = line.text; lazy = true }
 
 -- the line in the text of a block
 abbrev pub with_ending : LineView → List ℕ
-with_ending line = line.text ++ 10 ∷ []
+with_ending line = with_line_feed line.text
 
 -- how many bytes are neither space nor tab
 unfoldable pub marks : List ℕ → ℕ

@@ -40,11 +40,13 @@ start_of_content rules text = or_text (
     <|> seen_as ItemStart (item_marker text))
 
 -- Four columns of indentation make code. A lazy continuation line is text, whatever it looks like.
+abbrev pub start_by : (lazy indented : Bool) → Start → Start
+start_by true indented start = TextLine
+start_by false true start = IndentedCode
+start_by false false start = start
+
 unfoldable pub start_of : Rules → LineView → Start
-start_of rules line = elim line.lazy [
-  | true ↦ TextLine
-  | false ↦ elim (nat_le 4 (indent_of line)) [ true ↦ IndentedCode | false ↦ start_of_content rules (content_of line) ]
-]
+start_of rules line = start_by line.lazy (nat_le 4 (indent_of line)) (start_of_content rules (content_of line))
 
 -- the line behind an item's marker (5.2 List items)
 abbrev pub behind_marker : ItemMarker → LineView → LineView
@@ -74,9 +76,13 @@ can_interrupt TextLine line = false
 unfoldable pub interrupts_paragraph : Rules → LineView → Bool
 interrupts_paragraph rules line = can_interrupt (start_of rules line) line
 
+abbrev pub underline_if : Bool → List ℕ → Option ℕ
+underline_if true text = underline text
+underline_if false text = None
+
 -- The level that the line gives to the text above it, as an underline: it is no lazy continuation line (4.3 Setext headings).
 unfoldable pub underline_of : LineView → Option ℕ
-underline_of line = elim (not line.lazy && nat_le (indent_of line) 3) [ true ↦ underline (content_of line) | false ↦ None ]
+underline_of line = underline_if (not line.lazy && nat_le (indent_of line) 3) (content_of line)
 
 -- Where a line stands that follows those of an open container: in it, as it goes inward; in it if they leave a paragraph open; or
 -- behind it.
@@ -121,12 +127,15 @@ unfoldable pub first_content : ItemMarker → LineView → LineView
 first_content marker line = let behind = behind_marker marker line in strip_columns (content_offset behind) behind
 
 -- A line stays in an item if it is blank or reaches the content column. Behind a marker with nothing on its line a blank line
--- ends the item: the mark says that there is only such a marker so far.
+-- ends the item: the second mark says that there is only such a marker so far.
+abbrev pub item_place : (blank bare reaches : Bool) → (inner : LineView) → (otherwise : Place) → Place
+item_place true true reaches inner otherwise = Leaves
+item_place true false reaches inner otherwise = Stays inner
+item_place false bare true inner otherwise = Stays inner
+item_place false bare false inner otherwise = otherwise
+
 unfoldable pub place_in_item : Rules → (column : ℕ) → (bare : Bool) → LineView → Place
 place_in_item rules column bare line = elim line.lazy [
   | true ↦ place_if_lazy rules line
-  | false ↦ elim (is_blank line) [
-    | true ↦ elim bare [ true ↦ Leaves | false ↦ Stays (strip_columns column line) ]
-    | false ↦ elim (nat_le column (indent_of line)) [ true ↦ Stays (strip_columns column line) | false ↦ place_if_lazy rules line ]
-  ]
+  | false ↦ item_place (is_blank line) bare (nat_le column (indent_of line)) (strip_columns column line) (place_if_lazy rules line)
 ]

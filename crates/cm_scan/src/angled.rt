@@ -8,7 +8,7 @@ ghost use Rattle.cm_scan.specs.steps.SpanSteps.{is_host_byte};
 
 use crate::links::is_next;
 use crate::tags::{first_of, is_letter};
-use crate::words::is_digit;
+use crate::words::{is_digit, skip_while};
 use memchr::memchr;
 
 /// An autolink (CommonMark 0.31.2, 6.5 Autolinks).
@@ -62,12 +62,7 @@ fn continues_scheme(b: u8) -> bool
 fn skip_scheme(bytes: &[u8]) -> &[u8]
     ensures { result.now ≡ skip continues_scheme bytes.now }
 {
-    for (i, b) in bytes.iter().enumerate() {
-        if !continues_scheme(*b) {
-            return &bytes[i..];
-        }
-    }
-    &[]
+    skip_while(bytes, continues_scheme)
 }
 
 /// Whether this is an absolute URI: a scheme of 2 to 32 characters, and a colon behind it.
@@ -93,12 +88,7 @@ fn stands_in_address(b: u8) -> bool
 fn skip_address(bytes: &[u8]) -> &[u8]
     ensures { result.now ≡ skip stands_in_address bytes.now }
 {
-    for (i, b) in bytes.iter().enumerate() {
-        if !stands_in_address(*b) {
-            return &bytes[i..];
-        }
-    }
-    &[]
+    skip_while(bytes, stands_in_address)
 }
 
 /// Whether this is an e-mail address.

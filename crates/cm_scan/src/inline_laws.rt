@@ -1,5 +1,6 @@
 //! Laws of the definitions of inlines, each the contract of a function that does nothing.
-ghost use Rattle.cm_scan.specs.InlineLaws.{ReadingGoesOn, PlainIsItself};
+ghost use Rattle.cm_scan.specs.InlineLaws.{ReadingGoesOn, StepLeavesAnEnd, BracketStep, PlainIsItself};
+ghost use Rattle.cm_scan.specs.Runs.{RunsAreFew};
 ghost use Rattle.cm_scan.specs.OnePass.{OnePassExamples, PairsInOnePass};
 ghost use Rattle.cm_scan.specs.InlineExamples.{CodeSpanExamples, OpensEmphasisExamples, ClosesEmphasisExamples, OpensStrongExamples, ClosesStrongExamples, InsideEmphasisExamples, LeftOverExamples, AmbiguityExamples, InlineLinkExamples, ReferenceLinkExamples, ImageExamples, AutolinkExamples, RawHtmlExamples, LineBreakExamples, TextExamples, StrikeExamples, OlderRulesExamples};
 
@@ -24,10 +25,17 @@ pub fn inline_examples()
     ensures older_rules { OlderRulesExamples }
 {}
 
-/// Reading goes on behind what one step took, as if a source began there: no bound and no place in the whole
-/// matters.
+/// Each step leaves an end of its source, and reading goes on behind what the step took, as if a source began
+/// there: no bound and no place in the whole matters. At a `]` the step is that of brackets.
 pub fn reading_goes_on()
-    ensures { ReadingGoesOn }
+    ensures on { ReadingGoesOn }
+    ensures end { StepLeavesAnEnd }
+    ensures bracket { BracketStep }
+{}
+
+/// Each delimiter run has a character or more, and together they have no more than the source has bytes.
+pub fn runs_are_few()
+    ensures { RunsAreFew }
 {}
 
 /// A source without markup is one text, itself.

@@ -1,8 +1,9 @@
-//! The definitions of CommonMark's block structure, and the scanners of its forms.
+//! The definitions of CommonMark's block structure and inlines, and the scanners of their forms.
 #![tactic(auto)]
 
 mod angled;
 mod autolinks;
+pub mod block_laws;
 mod code_spans;
 mod gaps;
 mod html_blocks;

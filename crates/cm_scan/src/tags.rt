@@ -5,7 +5,7 @@ ghost use Rattle.cm_scan.specs.Tags.{begins_attribute, continues_attribute, is_u
 ghost use Rattle.cm_scan.specs.steps.TagNames.{continues_name};
 
 use crate::gaps::{self, is_blank_byte, is_blank_next};
-use crate::words::is_digit;
+use crate::words::{is_digit, skip_while};
 use memchr::memchr;
 
 /// A tag's name, and what is left behind the tag or the name.
@@ -78,36 +78,21 @@ pub(crate) fn first_of(bytes: &[u8]) -> Option<(u8, &[u8])>
 fn skip_name(bytes: &[u8]) -> &[u8]
     ensures { result.now ≡ skip continues_name bytes.now }
 {
-    for (i, b) in bytes.iter().enumerate() {
-        if !continues_name(*b) {
-            return &bytes[i..];
-        }
-    }
-    &[]
+    skip_while(bytes, continues_name)
 }
 
 /// What is left behind the bytes that go on with an attribute's name.
 fn skip_attribute(bytes: &[u8]) -> &[u8]
     ensures { result.now ≡ skip continues_attribute bytes.now }
 {
-    for (i, b) in bytes.iter().enumerate() {
-        if !continues_attribute(*b) {
-            return &bytes[i..];
-        }
-    }
-    &[]
+    skip_while(bytes, continues_attribute)
 }
 
 /// What is left behind the bytes of an unquoted value.
 fn skip_unquoted(bytes: &[u8]) -> &[u8]
     ensures { result.now ≡ skip is_unquoted bytes.now }
 {
-    for (i, b) in bytes.iter().enumerate() {
-        if !is_unquoted(*b) {
-            return &bytes[i..];
-        }
-    }
-    &[]
+    skip_while(bytes, is_unquoted)
 }
 
 /// What is left behind spaces, tabs, and up to one line ending.

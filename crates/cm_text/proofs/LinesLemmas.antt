@@ -2,7 +2,8 @@
 use Rattle.std.proofs.Common.{◌≡◌, ℕ, Bool, true, false, cond, not, ◌&&◌, ◌==◌, List, [], ◌∷◌, ◌++◌, length, map, refl, sym, ap, subst, ◌∙◌, arith, append_assoc, append-nil, length-append, true≢false}
 use Rattle.std.proofs.lemmas.Bool.{and_parts, eqb-true}
 use Rattle.cm_text.specs.LineText.{is_line, is_line_ending}
-use Rattle.cm_text.specs.Lines.{Ending, LineFeed, CarriageReturnLineFeed, CarriageReturn, EndOfText, begins_with_line_feed, Ends, AreLinesOf, last_line, lines_after, plain_line, LinesAreDetermined, LinesAreComputed}
+use Rattle.cm_text.specs.Lines.{Ending, LineFeed, CarriageReturnLineFeed, CarriageReturn, EndOfText, begins_with_line_feed, Ends, AreLinesOf, last_line, lines_after, lines_of, plain_line, LinesAreDetermined, LinesAreComputed, LinesAreLines, with_line_feed, LinesWithLineFeeds}
+use Rattle.std.specs.List.{list_all, flat_map}
 use Rattle.cm_text.specs.Cut.{Cut, cut_byte, cut_more, end_line, nothing_cut, LinesAreCut}
 use Rattle.cm_text.proofs.CutLemmas.{is_line-append}
 
@@ -194,3 +195,19 @@ lines_are_determined text (line ∷ lines) (other ∷ others) h k =
     let P : List ℕ → Type 0 = λ t. AreLinesOf t others in
     let more = lines_are_determined rest lines others h.1.1.1.1 (subst P (sym same) k.1.1.1.1) in
     ap (λ l. l ∷ lines) both.0 ∙ ap (λ ls. other ∷ ls) more
+
+-- lines that line feeds end
+
+pub lines_are_lines : LinesAreLines
+lines_are_lines text [] h = refl
+lines_are_lines text (line ∷ lines) (is, (ending, (rest, (ends, more)))) = ap (λ v. v && list_all is_line lines) is ∙ lines_are_lines rest lines more
+
+are-lines : (lines : List (List ℕ)) → list_all is_line lines ≡ true → AreLinesOf (flat_map with_line_feed lines) lines
+are-lines [] h = refl
+are-lines (line ∷ lines) h =
+    let parts = and_parts (is_line line) (list_all is_line lines) h in
+    (parts.0, (LineFeed, (flat_map with_line_feed lines, (append_assoc line (10 ∷ []) (flat_map with_line_feed lines), are-lines lines parts.1))))
+
+pub lines_with_line_feeds : LinesWithLineFeeds
+lines_with_line_feeds lines h =
+    let text = flat_map with_line_feed lines in lines_are_determined text (lines_of text) lines (lines_are_computed text) (are-lines lines h)

@@ -3,7 +3,7 @@ use Rattle.std.proofs.Common.{◌≡◌, ℕ, zero, suc, ◌+◌, ◌-◌, ◌*�
 use Rattle.std.proofs.lemmas.List.{length-replicate, length-append}
 use Rattle.cm_text.specs.LineText.{is_line, tabs}
 use Rattle.cm_text.specs.Lines.{LineView}
-use Rattle.cm_text.specs.Indentation.{indent_from, strip_from}
+use Rattle.cm_text.specs.Indentation.{indent_from, strip_from, SpacesAreColumns, SpacesAreStripped}
 use Rattle.cm_text.proofs.StripLemmas.{strip_takes_columns}
 use Rattle.cm_text.proofs.IndentationLemmas.{strip-whole, line-tail, strip-fits, tabs-cons, tabs-spaces}
 
@@ -54,6 +54,17 @@ strip_some (suc n) (suc spaces) column text few =
     strip-whole (suc n) column 32 (replicate spaces 32 ++ text) (omega arith) (omega arith) (omega arith)
     ∙ ap (λ k. strip_from k (column + 1) (replicate spaces 32 ++ text)) left
     ∙ strip_some n spaces (column + 1) text (omega (arith, few)) ∙ (λ i. (more i, replicate (same i) 32 ++ text))
+
+-- just as many
+
+pub spaces_are_columns : SpacesAreColumns
+spaces_are_columns n line = indent_spaces n line.column line.text
+
+pub spaces_are_stripped : SpacesAreStripped
+spaces_are_stripped n line =
+    let less : n - n ≡ 0 = omega arith in
+    ap (λ (left : ℕ × List ℕ). record { column = left.0; text = left.1; lazy = line.lazy })
+    (strip_all n n line.column line.text (omega arith) ∙ ap (λ k. strip_from k (line.column + n) line.text) less ∙ none (line.column + n) line.text)
 
 -- what is left of a line is one
 

@@ -58,3 +58,18 @@ StripTakesColumns = (n : ℕ) (line : LineView) →
 -- Columns may be taken in parts.
 abbrev pub StripInParts : Type 0
 StripInParts = (n m : ℕ) (line : LineView) → strip_columns m (strip_columns n line) ≡ strip_columns (n + m) line
+
+-- the line with so many spaces in front, and the line as it stands behind them
+abbrev pub behind_spaces : ℕ → LineView → LineView
+behind_spaces n line = record { column = line.column + n; text = line.text; lazy = line.lazy }
+
+abbrev pub with_spaces : ℕ → LineView → LineView
+with_spaces n line = record { column = line.column; text = replicate n 32 ++ line.text; lazy = line.lazy }
+
+-- Spaces are columns of the indentation, one each,
+abbrev pub SpacesAreColumns : Type 0
+SpacesAreColumns = (n : ℕ) (line : LineView) → indent_of (with_spaces n line) ≡ n + indent_of (behind_spaces n line)
+
+-- and stripping as many columns takes just them.
+abbrev pub SpacesAreStripped : Type 0
+SpacesAreStripped = (n : ℕ) (line : LineView) → strip_columns n (with_spaces n line) ≡ behind_spaces n line

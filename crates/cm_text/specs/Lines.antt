@@ -1,6 +1,6 @@
 -- Lines of a text (CommonMark 0.31.2, 2.1 Characters and lines). A text is its UTF-8 bytes.
 use Rattle.std.specs.Prelude.{◌≡◌, ◌≢◌, ℕ, Bool, true, false, ◌==◌, if◌then◌else◌, List, [], ◌∷◌, ◌++◌, map}
-use Rattle.std.specs.List.{flat_map}
+use Rattle.std.specs.List.{flat_map, list_all}
 use Rattle.std.specs.Str.Lossy.{replacement_bytes}
 use Rattle.std.specs.String.{string_bytes}
 use Rattle.cm_text.specs.declared.lines.Line.{Line}
@@ -95,3 +95,15 @@ LinesAreDetermined = (text : List ℕ) (lines others : List (List ℕ)) → AreL
 -- and it is the one that is computed.
 abbrev pub LinesAreComputed : Type 0
 LinesAreComputed = (text : List ℕ) → AreLinesOf text (lines_of text)
+
+-- No line of a text holds a line ending.
+abbrev pub LinesAreLines : Type 0
+LinesAreLines = (text : List ℕ) (lines : List (List ℕ)) → AreLinesOf text lines → list_all is_line lines ≡ true
+
+-- a line with the line feed that ends it
+abbrev pub with_line_feed : List ℕ → List ℕ
+with_line_feed line = line ++ 10 ∷ []
+
+-- The text of lines that line feeds end has these lines.
+abbrev pub LinesWithLineFeeds : Type 0
+LinesWithLineFeeds = (lines : List (List ℕ)) → list_all is_line lines ≡ true → lines_of (flat_map with_line_feed lines) ≡ lines

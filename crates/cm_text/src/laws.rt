@@ -1,7 +1,7 @@
 //! Laws of the definitions, each the contract of a function that does nothing.
-ghost use Rattle.cm_text.specs.Lines.{LinesAreComputed, LinesAreDetermined};
+ghost use Rattle.cm_text.specs.Lines.{LinesAreComputed, LinesAreDetermined, LinesAreLines, LinesWithLineFeeds};
 ghost use Rattle.cm_text.specs.Cut.{EndedLinesAreCut, LinesAreCut};
-ghost use Rattle.cm_text.specs.Indentation.{StripTakesColumns, StripInParts};
+ghost use Rattle.cm_text.specs.Indentation.{StripTakesColumns, StripInParts, SpacesAreColumns, SpacesAreStripped};
 ghost use Rattle.cm_text.specs.Settled.{SettledIsTold};
 ghost use Rattle.cm_text.specs.WorkedExamples.{LineExamples, FaultExamples, IndentationExamples, LabelExamples, CharacterExamples, StripExamples, ReferenceExamples, UnescapeExamples, LimitExamples};
 
@@ -13,6 +13,12 @@ pub fn lines_are_determined()
 /// The lines that are computed are the text's.
 pub fn lines_are_computed()
     ensures { LinesAreComputed }
+{}
+
+/// No line of a text holds a line ending, and a text that is made of lines, each ended by a line feed, has these.
+pub fn lines_with_line_feeds()
+    ensures line { LinesAreLines }
+    ensures whole { LinesWithLineFeeds }
 {}
 
 /// The lines that a feed hands out are those that are computed.
@@ -38,6 +44,12 @@ pub fn strip_takes_columns()
 /// Columns may be taken in parts.
 pub fn strip_in_parts()
     ensures { StripInParts }
+{}
+
+/// Spaces in front of a line are columns of its indentation, and stripping as many takes just them.
+pub fn spaces_are_columns()
+    ensures indentation { SpacesAreColumns }
+    ensures stripped { SpacesAreStripped }
 {}
 
 /// Worked examples over the definitions, by computation.

@@ -8,8 +8,9 @@ use std::marker::Model;
 /// there is strikethrough. Each goes with either of the other.
 ///
 /// The older rules are this project's own, and stand for no earlier edition of the standard. By them Unicode
-/// punctuation is the general categories P and ASCII punctuation alone, without the other symbols; and of the names
-/// that begin an HTML block of the sixth kind `source` is one in place of `search`.
+/// punctuation is the general categories P and ASCII punctuation alone, without the other symbols; of the names
+/// that begin an HTML block of the sixth kind `source` is one in place of `search`; and a comment in raw HTML begins
+/// with neither `>` nor `->`, holds no `--`, and doesn't end with `-`.
 #[derive(Clone, Copy, Debug, PartialEq, Eq, Drop)]
 pub struct Rules {
     older: bool,

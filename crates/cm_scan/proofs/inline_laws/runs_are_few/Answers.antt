@@ -1,0 +1,5 @@
+use Rattle.cm_scan.proofs.RunsLemmas.{runs_are_few}
+use Rattle.cm_scan.proofs.inline_laws.runs_are_few.Goals as goal
+
+pub returns : goal.returns
+returns c = runs_are_few
