@@ -2,6 +2,5 @@ pub mod Pushed
 pub mod ListingLemmas
 pub mod ReplacedLemmas
 pub mod EscapeLemmas
-pub mod SearchLemmas
 pub mod Words
 pub mod Destinations

@@ -1,5 +1,5 @@
 -- The cut of a text into lines, run by run.
-use Rattle.memchr.specs.Find.{IsFirstByte, is_byte3}
+use Rattle.memchr.specs.Find.{IsFirstByte}
 use Rattle.std.proofs.Common.{◌≡◌, ℕ, zero, suc, add-one, take_all, Some, None, ◌+◌, ◌-◌, ◌<◌, ◌≤◌, Bool, true, false, cond, not, ◌&&◌, ◌||◌, ◌==◌, List, [], ◌∷◌, ◌++◌, length, take, drop, get_or, refl, sym, ap, ◌∙◌, arith, append_assoc, append-nil, drop-cons, take-append-drop}
 use Rattle.std.specs.Prelude.{Result, Ok, Err, OnOk, OnErr, is_ok}
 use Rattle.std.proofs.lemmas.Grind.{flat_map-append}
@@ -136,11 +136,11 @@ plain_up_to [] (suc n) within none = refl
 plain_up_to (b ∷ bs) (suc n) within none =
     and_intro _ _ (not_special b (none 0 (omega arith))) (plain_up_to bs n (omega arith) (λ k below. none (suc k) (omega arith)))
 
-pub plain_before : (text run : List ℕ) (at : ℕ) → IsFirstByte (is_byte3 10 13 0) text (Some at) → run ≡ take at text → is_plain run ≡ true
+pub plain_before : (text run : List ℕ) (at : ℕ) → IsFirstByte is_special text (Some at) → run ≡ take at text → is_plain run ≡ true
 plain_before text run at first is =
     ap is_plain is ∙ plain_up_to text at (omega (arith, first.0.high)) (λ k below. first.0.before k (omega arith) below)
 
-pub plain_whole : (text : List ℕ) → IsFirstByte (is_byte3 10 13 0) text None → is_plain text ≡ true
+pub plain_whole : (text : List ℕ) → IsFirstByte is_special text None → is_plain text ≡ true
 plain_whole text none = ap is_plain (sym (take_all (length text) text (omega arith))) ∙ plain_up_to text (length text) (omega arith) (λ k below. none k (omega arith) below)
 
 -- lines that have ended are a front of those of the whole

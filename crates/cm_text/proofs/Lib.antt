@@ -12,6 +12,7 @@ pub mod IndentationLemmas
 pub mod NameLemmas
 pub mod ReferenceLemmas
 pub mod UnescapingLemmas
+pub mod SearchLemmas
 pub mod StripLemmas
 pub mod ViewLemmas
 pub mod EndedLines

@@ -12,6 +12,7 @@ pub mod WorkedExamples
 pub mod Labels
 pub mod Writing
 pub mod Rules
+pub mod Search
 pub mod Characters
 pub mod NamedReferences
 pub mod References

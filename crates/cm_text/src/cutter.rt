@@ -3,7 +3,7 @@ ghost use Rattle.std.specs.Prelude.{◌≡◌, [], ◌∷◌, ◌++◌, map, ◌
 ghost use Rattle.cm_text.specs.LineText.{is_line};
 
 use crate::lines::Line;
-use memchr::memchr3;
+use crate::search::find_special;
 use std::alloc::{AllocError, Global};
 use std::collections::VecDeque;
 use std::mem;
@@ -98,7 +98,7 @@ impl Cutter {
             (cut_more (cut_of self.old) (text_of text.now)).ended) }
     {
         let mut rest = text;
-        while let Some(at) = memchr3(b'\n', b'\r', b'\0', rest.as_bytes()) {
+        while let Some(at) = find_special(rest.as_bytes()) {
             self.put_run(&rest[..at])?;
             self.put_special(rest.as_bytes()[at])?;
             rest = &rest[at + 1..];

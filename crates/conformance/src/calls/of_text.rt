@@ -6,7 +6,7 @@ use crate::trouble::{Trouble, wrong};
 use crate::words::{Word, number};
 use cm_text::{
     Limits, Line, LineFeed, Rules, cut_at, fold_label, indent, is_ascii_punct, is_punct,
-    is_punct_by, is_space, reference_at, strip, unescape,
+    is_punct_by, is_space, next_markup, reference_at, strip, unescape,
 };
 use std::alloc::Global;
 
@@ -181,6 +181,10 @@ pub(super) fn answers(answer: &mut Answer, name: &str, given: &[Word]) -> Result
         }
         ("cut_at", [Word::Text(text), Word::Plain(at)]) => {
             cut(answer, text, number(alloc, at.as_str())?)?;
+        }
+        ("next_markup", [Word::Text(text), Word::Plain(from)]) => {
+            let from = number(alloc, from.as_str())?;
+            answer.number(next_markup(text.as_bytes(), from))?;
         }
         ("reference_at", [Word::Text(text), Word::Plain(at)]) => {
             reference(answer, text, number(alloc, at.as_str())?)?;

@@ -1,7 +1,7 @@
 use Rattle.std.proofs.lemmas.Result.{on_err_weaker}
 use Rattle.std.proofs.lemmas.Str.{lead_after_ascii}
 use Rattle.std.proofs.Common.{ap, get_or, true, [], ◌∷◌, ◌≡◌, ◌<◌, ◌+◌, ℕ, List, length, drop, subst, ◌∙◌, arith, refl, Some, None, length-take, length-drop}
-use Rattle.memchr.specs.Find.{IsFirstByte, is_byte3}
+use Rattle.memchr.specs.Find.{IsFirstByte}
 use Rattle.cm_text.specs.Lines.{text_of}
 use Rattle.cm_text.specs.Cut.{cut_of, cut_more}
 use Rattle.cm_text.proofs.CutLemmas.{on_err, front_of, IsCutAt, cut_run, cut_special, plain_before, plain_whole, slice_from_start, special_is_ascii}
@@ -10,13 +10,13 @@ use Rattle.cm_text.proofs.cutter.Cutter.take.Goals as goal
 
 pub put_run-requires : goal.put_run-requires
 put_run-requires c =
-    let P : List ℕ → Type 0 = λ t. IsFirstByte (is_byte3 10 13 0) t (Some c.in-Some.at) in
+    let P : List ℕ → Type 0 = λ t. IsFirstByte is_special t (Some c.in-Some.at) in
     let first = subst P c.as_bytes.ensures.value c.in-Some.ensures in
     plain_before c.loop-at.rest.now c.range.result.now c.in-Some.at first (c.range.ensures.value ∙ slice_from_start c.loop-at.rest.now c.in-Some.at)
 
 pub put_run-requires-2 : goal.put_run-requires-2
 put_run-requires-2 c =
-    let P : List ℕ → Type 0 = λ t. IsFirstByte (is_byte3 10 13 0) t None in
+    let P : List ℕ → Type 0 = λ t. IsFirstByte is_special t None in
     plain_whole c.loop-at.rest.now (subst P c.as_bytes.ensures.value c.in_default.ensures)
 
 pub returns-in_err-put_run-clause-err : goal.returns-in_err-put_run-clause-err

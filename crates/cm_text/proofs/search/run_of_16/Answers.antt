@@ -2,17 +2,16 @@ use Rattle.std.proofs.Common.{sym, ap, ◌∙◌, arith}
 use Rattle.std.proofs.lemmas.Simd.{length-chunk, leading_from_mask_l, trailing_mask_l}
 use Rattle.std.specs.Simd.Lanes.{chunk}
 use lib.Count.{count_trailing_zeros}
-use Rattle.cm_html.specs.Escape.{is_escaped}
-use Rattle.cm_html.proofs.search.run_of_16.Goals as goal
+use Rattle.cm_text.proofs.search.run_of_16.Goals as goal
 
 pub returns-then-marks-eq0 : goal.returns-then-marks-eq0
-returns-then-marks-eq0 c =
+returns-then-marks-eq0 g c =
     let v = chunk c.args.at 16 c.args.bytes.now in
     let long = length-chunk c.args.at 16 c.args.bytes.now c.requires in
-    sym (leading_from_mask_l is_escaped v (sym c.escaped_lanes-marks.ensures ∙ c.if-marks-eq0.true) ∙ long)
+    sym (leading_from_mask_l g.K.ByteKind.passes v (sym c.lanes-marks.ensures ∙ c.if-marks-eq0.true) ∙ long)
 
 pub returns-else-marks-eq0 : goal.returns-else-marks-eq0
-returns-else-marks-eq0 c =
+returns-else-marks-eq0 g c =
     let v = chunk c.args.at 16 c.args.bytes.now in
     let long = length-chunk c.args.at 16 c.args.bytes.now c.requires in
-    ap (count_trailing_zeros 64) c.escaped_lanes-marks.ensures ∙ trailing_mask_l is_escaped 64 v (omega (arith, long)) (omega (arith, c.escaped_lanes-marks.ensures, c.if-marks-eq0.false))
+    ap (count_trailing_zeros 64) c.lanes-marks.ensures ∙ trailing_mask_l g.K.ByteKind.passes 64 v (omega (arith, long)) (omega (arith, c.lanes-marks.ensures, c.if-marks-eq0.false))

@@ -1,0 +1,71 @@
+-- The next byte that passes a test, found many lanes at a time.
+use Rattle.std.proofs.Common.{◌≡◌, ℕ, ◌+◌, ◌-◌, ◌%◌, ◌^◌, ◌<◌, ◌≤◌, Bool, true, false, cond, eqb, replicate, List, [], ◌∷◌, map, min, nat_lt, Option, Some, None, length, drop, get_or, subst, refl, sym, ap, ap₂, ◌∙◌, arith, w8, Fits, length-drop}
+use Rattle.std.specs.Simd.Lanes.{zip2, mask_l, top, Each1}
+use Rattle.std.proofs.lemmas.Simd.{map-map, mask_l-mod, zip2_splat}
+use Rattle.std.proofs.lemmas.List.{length-map, get_or-drop}
+use Rattle.std.proofs.lemmas.List.Sums.{position_or_len_is, fails_before_first, passes_at_first}
+use Rattle.std.proofs.lemmas.Bool.{agree_below, agree_below_at, ltb-true, ltb-false, true≢false}
+use Rattle.std.specs.Bool.{then_some}
+use Rattle.std.specs.List.{position_or_len}
+use Rattle.memchr.specs.Find.{IsFirstByte}
+use Rattle.cm_text.specs.Search.{next_place}
+
+zip2-map : (h : ℕ → ℕ → ℕ) (f g : ℕ → ℕ) (xs : List ℕ) → zip2 h (map f xs) (map g xs) ≡ map (λ x. h (f x) (g x)) xs
+zip2-map h f g [] = refl
+zip2-map h f g (x ∷ xs) = ap (λ r. h (f x) (g x) ∷ r) (zip2-map h f g xs)
+
+-- an operation on two vectors that were computed lane by lane from v
+pub joined : (h : ℕ → ℕ → ℕ) (f g : ℕ → ℕ) (v : List ℕ) {a b : List ℕ} → a ≡ map f v → b ≡ map g v → zip2 h a b ≡ map (λ x. h (f x) (g x)) v
+joined h f g v p q = ap₂ (zip2 h) p q ∙ zip2-map h f g v
+
+abbrev pub hit : ℕ → ℕ → ℕ
+hit a b = cond (eqb a b) 255 0
+
+-- `simd_eq` with a splat
+pub hits : (v : List ℕ) (f : ℕ → ℕ) (y n : ℕ) → length v ≡ n → {a : List ℕ} → a ≡ map f v → zip2 hit a (replicate n y) ≡ map (λ x. hit (f x) y) v
+hits v f y n long lanes =
+    ap (λ a. zip2 hit a (replicate n y)) lanes ∙ zip2_splat hit (map f v) n y (length-map v f ∙ long) ∙ map-map (λ x. hit x y) f v
+
+tops : (f : ℕ → ℕ) (p : ℕ → Bool) → agree_below (λ x. top 7 (f x)) p 256 ≡ true → (v : List ℕ) → Each1 (Fits w8) v → map (top 7) (map f v) ≡ map p v
+tops f p agree [] fits = refl
+tops f p agree (x ∷ xs) fits = ap₂ (λ a b. a ∷ b) (agree_below_at (λ y. top 7 (f y)) p 256 x agree fits.0.fits) (tops f p agree xs fits.1)
+
+-- the mask of lanes whose top bits tell of each byte whether it passes
+pub masked : (f : ℕ → ℕ) (p : ℕ → Bool) → agree_below (λ x. top 7 (f x)) p 256 ≡ true → (v z : List ℕ) → length v ≤ 64 → Each1 (Fits w8) v → z ≡ map f v
+    → mask_l (map (top 7) z) % 2 ^ 64 ≡ mask_l (map p v)
+masked f p agree v z few fits lanes =
+    ap (λ l. mask_l l % 2 ^ 64) (ap (map (top 7)) lanes ∙ tops f p agree v fits) ∙ mask_l-mod (map p v) 64 (omega (arith, length-map v p))
+
+-- a place up to which all fail, and where one passes unless it is the end
+pub place-is : (p : ℕ → Bool) (bs : List ℕ) (from i : ℕ) → from ≤ i → i ≤ length bs → ((k : ℕ) → from ≤ k → k < i → p (get_or bs k 0) ≡ false)
+    → (i < length bs → p (get_or bs i 0) ≡ true) → i ≡ next_place p bs from
+place-is p bs from i low within fails passes =
+    let size : length (drop from bs) ≡ length bs - from = length-drop from bs in
+    let last : from + (i - from) ≡ i = omega (arith, low) in
+    let count : position_or_len p (drop from bs) ≡ i - from =
+    position_or_len_is p (drop from bs) (i - from) 0 (omega (arith, size, within))
+    (λ k below. ap p (get_or-drop from bs k 0) ∙ fails (from + k) (omega arith) (omega (arith, below)))
+    (λ below. ap p (get_or-drop from bs (i - from) 0 ∙ ap (λ n. get_or bs n 0) last) ∙ passes (omega (arith, below, size, low))) in
+    omega (arith, count, low, within)
+
+pub place-past : (p : ℕ → Bool) (bs : List ℕ) (from : ℕ) → length bs ≤ from → length bs ≡ next_place p bs from
+place-past p bs from past = omega (arith, past)
+
+-- the first byte that passes
+pub first-byte : (p : ℕ → Bool) (bs : List ℕ) (at : ℕ) (found : Option ℕ) → at ≡ next_place p bs 0 → found ≡ then_some (nat_lt at (length bs)) at → IsFirstByte p bs found
+first-byte p bs at found place e = subst (IsFirstByte p bs) (sym e) (go (nat_lt at (length bs)) refl)
+  where
+    first : ℕ
+    first = position_or_len p bs
+
+    fails : (k : ℕ) → k < first → p (get_or bs k 0) ≡ true → ⊥
+    fails k below is = true≢false (sym is ∙ fails_before_first p bs k 0 below)
+
+    go : (within : Bool) → nat_lt at (length bs) ≡ within → IsFirstByte p bs (then_some within at)
+    go true h =
+        let below : at < length bs = ltb-true at (length bs) h in
+        let same : first ≡ at = omega (arith, place, below) in
+        (record { low = omega arith; high = below; before = λ k low under. fails k (omega (arith, under, same)) }, ap (λ n. p (get_or bs n 0)) (sym same) ∙ passes_at_first p bs 0 (omega (arith, same, below)))
+    go false h =
+        let past : length bs ≤ at = ltb-false at (length bs) h in
+        λ k low under. fails k (omega (arith, place, past, under))

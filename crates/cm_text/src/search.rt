@@ -1,0 +1,144 @@
+//! The search for bytes of a kind, many lanes at a time.
+ghost use Rattle.std.specs.Prelude.{◌≡◌, ℕ, ◌+◌, ◌<◌, ◌≤◌, Bool, false, not, length, get_or, map};
+ghost use Rattle.std.specs.List.{prefix_len};
+ghost use Rattle.std.specs.Simd.Lanes.{chunk, mask_l};
+ghost use Rattle.memchr.specs.Find.{IsFirstByte};
+ghost use Rattle.cm_text.specs.Search.{next_place, is_marked};
+ghost use Rattle.cm_text.specs.steps.Runs.{is_special};
+
+use std::simd::prelude::*;
+
+/// A kind of bytes that is searched for.
+pub trait ByteKind {
+    /// Whether a byte is of the kind.
+    ghost passes: { ℕ → Bool };
+
+    /// Whether a byte is of the kind.
+    fn contains(b: u8) -> bool
+        ensures { result ≡ passes b };
+
+    /// Which lanes are of the kind, the first in the lowest bit.
+    fn lanes(lanes: u8x16) -> u64
+        ensures { result ≡ mask_l (map passes lanes) };
+}
+
+/// How many of the 16 bytes from `at` on come before the first of the kind.
+#[inline(always)]
+fn run_of_16<K: ByteKind>(bytes: &[u8], at: usize) -> usize
+    requires { at + 16 ≤ length bytes.now }
+    ensures { result ≡ prefix_len (λ b. not (K.passes b)) (chunk at 16 bytes.now) }
+{
+    let marks = K::lanes(u8x16::from_slice(&bytes[at..]));
+    if marks == 0 {
+        16
+    } else {
+        marks.trailing_zeros() as usize
+    }
+}
+
+/// The same as `next_of`, byte by byte, from a place up to which there is none.
+#[inline(always)]
+fn next_slowly<K: ByteKind>(bytes: &[u8], from: usize, passed: usize) -> usize
+    requires within { from ≤ passed }
+    requires none { (k : ℕ) → from ≤ k → k < passed → K.passes (get_or bytes.now k 0) ≡ false }
+    requires end { passed ≤ length bytes.now }
+    ensures { result ≡ next_place K.passes bytes.now from }
+{
+    for at in passed..bytes.len() {
+        if K::contains(bytes[at]) {
+            return at;
+        }
+    }
+    bytes.len()
+}
+
+/// The least place, at or after `from`, of a byte of the kind, or the length where there is none.
+#[inline(always)]
+pub fn next_of<K: ByteKind>(bytes: &[u8], from: usize) -> usize
+    ensures { result ≡ next_place K.passes bytes.now from }
+{
+    if from >= bytes.len() {
+        return bytes.len();
+    }
+    let mut at = from;
+    while bytes.len() - at >= 16 {
+        let run = run_of_16::<K>(bytes, at);
+        if run < 16 {
+            return at + run;
+        }
+        at += 16;
+    }
+    if bytes.len() - from >= 16 {
+        // The last 16 once more: what has been passed of them is not of the kind.
+        let last = bytes.len() - 16;
+        return last + run_of_16::<K>(bytes, last);
+    }
+    next_slowly::<K>(bytes, from, at)
+}
+
+/// Bytes with which an inline other than text can begin, and those that end a line.
+struct Marked;
+
+impl ByteKind for Marked {
+    ghost passes = { is_marked };
+
+    #[inline(always)]
+    fn contains(b: u8) -> bool {
+        matches!(
+            b,
+            b'\n' | b'\r' | b'!' | b'&' | b'*' | b'<' | b'[' | b'\\' | b']' | b'_' | b'`' | b'~'
+        )
+    }
+
+    #[inline(always)]
+    fn lanes(lanes: u8x16) -> u64 {
+        // These differ in one bit: `\` and `]`, `[` and `_`, a line feed and `*`.
+        let first = (lanes | u8x16::splat(0x01)).simd_eq(u8x16::splat(b']'));
+        let second = (lanes | u8x16::splat(0x04)).simd_eq(u8x16::splat(b'_'));
+        let third = (lanes | u8x16::splat(0x20)).simd_eq(u8x16::splat(b'*'));
+        let pairs = first | second | third;
+        let others = lanes.simd_eq(u8x16::splat(b'\r'))
+            | lanes.simd_eq(u8x16::splat(b'!'))
+            | lanes.simd_eq(u8x16::splat(b'&'))
+            | lanes.simd_eq(u8x16::splat(b'<'))
+            | lanes.simd_eq(u8x16::splat(b'`'))
+            | lanes.simd_eq(u8x16::splat(b'~'));
+        (pairs | others).to_bitmask()
+    }
+}
+
+/// The least place, at or after `from`, of a byte with which an inline other than text can begin, or which ends
+/// a line; the length where there is none. The bytes are LF, CR, `!`, `&`, `*`, `<`, `[`, `\`, `]`, `_`, a
+/// backtick and `~`.
+pub fn next_markup(bytes: &[u8], from: usize) -> usize
+    ensures { result ≡ next_place is_marked bytes.now from }
+{
+    next_of::<Marked>(bytes, from)
+}
+
+/// The bytes at which the text of a line is cut: those that end a line, and U+0000.
+struct Special;
+
+impl ByteKind for Special {
+    ghost passes = { is_special };
+
+    #[inline(always)]
+    fn contains(b: u8) -> bool {
+        b == b'\n' || b == b'\r' || b == b'\0'
+    }
+
+    #[inline(always)]
+    fn lanes(lanes: u8x16) -> u64 {
+        let endings = lanes.simd_eq(u8x16::splat(b'\n')) | lanes.simd_eq(u8x16::splat(b'\r'));
+        (endings | lanes.simd_eq(u8x16::splat(b'\0'))).to_bitmask()
+    }
+}
+
+/// Where the first byte stands that ends a line, or is U+0000.
+#[inline(always)]
+pub(crate) fn find_special(bytes: &[u8]) -> Option<usize>
+    ensures { IsFirstByte is_special bytes.now result }
+{
+    let at = next_of::<Special>(bytes, 0);
+    (at < bytes.len()).then_some(at)
+}
