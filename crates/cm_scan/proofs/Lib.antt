@@ -33,6 +33,7 @@ pub mod OlderLemmas
 pub mod InlineComputing
 pub mod InlineLemmas
 pub mod PairingLemmas
+pub mod PiecesLemmas
 pub mod OnePassLemmas
 pub mod FoundLemmas
 pub mod HtmlSpanLemmas

@@ -1,8 +1,12 @@
 -- Laws of the definitions of inlines.
-use Rattle.std.specs.Prelude.{◌≡◌, ℕ, zero, Bool, true, not, ◌||◌, ◌==◌, List, [], ◌∷◌, ◌++◌, reverse}
+use Rattle.std.specs.Prelude.{◌≡◌, ℕ, zero, Bool, true, not, ◌&&◌, ◌||◌, ◌==◌, nat_le, if◌then◌else◌, List, [], ◌∷◌, ◌++◌, replicate, reverse}
 use Rattle.std.specs.List.{list_all}
 use Rattle.cm_text.specs.Rules.{Rules}
-use Rattle.cm_scan.specs.Pairing.{Item, text_before}
+use Rattle.cm_tree.specs.declared.tree.Inline.TheVariants.{Soft, Hard}
+use Rattle.cm_scan.specs.Words.{begins_with}
+use Rattle.cm_scan.specs.Autolinks.{ends_with}
+use Rattle.cm_scan.specs.Pairing.{Item, Finished, text_before}
+use Rattle.cm_scan.specs.Pieces.{one_by_one}
 use Rattle.cm_scan.specs.Atoms.{is_markup}
 use Rattle.cm_scan.specs.Brackets.{Defined, close_bracket}
 use Rattle.cm_scan.specs.Inlines.{item_step, items_after, inlines_of}
@@ -32,3 +36,19 @@ is_plain_byte b = b == 32 || not (is_markup b)
 abbrev pub PlainIsItself : Type 0
 PlainIsItself = (rules : Rules) (defined : Defined) (source : List ℕ) → list_all is_plain_byte source ≡ true
     → inlines_of rules defined source ≡ text_before source []
+
+-- the rest doesn't begin with a space, and where the text ends with one not with a line feed either
+abbrev pub parts_from : List ℕ → List ℕ → Bool
+parts_from rest text = not (begins_with 32 rest) && not (begins_with 10 rest && ends_with 32 text)
+
+-- Bytes without markup are text, whatever follows, but for the spaces at their end before a line feed.
+abbrev pub PlainFrontIsText : Type 0
+PlainFrontIsText = (rules : Rules) (defined : Defined) (before text rest : List ℕ) (items : List Item) → list_all is_plain_byte text ≡ true
+    → parts_from rest text ≡ true
+    → items_after rules defined zero before (text ++ rest) items
+    ≡ items_after rules defined zero (reverse text ++ before) rest (reverse (one_by_one text) ++ items)
+
+-- So many spaces and a line feed are a line break, which is hard behind two spaces or more.
+abbrev pub SpacesAndLineFeed : Type 0
+SpacesAndLineFeed = (rules : Rules) (defined : Defined) (before rest : List ℕ) (n : ℕ) (items : List Item) → items_after rules defined zero before (replicate n 32 ++ 10 ∷ rest) items
+    ≡ items_after rules defined zero (10 ∷ (replicate n 32 ++ before)) rest (Finished (if nat_le 2 n then Hard else Soft) ∷ items)

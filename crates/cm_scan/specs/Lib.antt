@@ -13,6 +13,7 @@ pub mod SpanExamples
 pub mod Delimiters
 pub mod Pairing
 pub mod OnePass
+pub mod Pieces
 pub mod Atoms
 pub mod Brackets
 pub mod Inlines

@@ -1,5 +1,6 @@
 //! Laws of the definitions of inlines, each the contract of a function that does nothing.
-ghost use Rattle.cm_scan.specs.InlineLaws.{ReadingGoesOn, StepLeavesAnEnd, BracketStep, PlainIsItself};
+ghost use Rattle.cm_scan.specs.InlineLaws.{ReadingGoesOn, StepLeavesAnEnd, BracketStep, PlainIsItself, PlainFrontIsText, SpacesAndLineFeed};
+ghost use Rattle.cm_scan.specs.Pieces.{TextsInPieces};
 ghost use Rattle.cm_scan.specs.Runs.{RunsAreFew};
 ghost use Rattle.cm_scan.specs.OnePass.{OnePassExamples, PairsInOnePass};
 ghost use Rattle.cm_scan.specs.InlineExamples.{CodeSpanExamples, OpensEmphasisExamples, ClosesEmphasisExamples, OpensStrongExamples, ClosesStrongExamples, InsideEmphasisExamples, LeftOverExamples, AmbiguityExamples, InlineLinkExamples, ReferenceLinkExamples, ImageExamples, AutolinkExamples, RawHtmlExamples, LineBreakExamples, TextExamples, StrikeExamples, OlderRulesExamples};
@@ -38,9 +39,17 @@ pub fn runs_are_few()
     ensures { RunsAreFew }
 {}
 
-/// A source without markup is one text, itself.
+/// A source without markup is one text, itself. In front of anything else bytes without markup are text, but for
+/// spaces before a line feed, which are a line break with it.
 pub fn plain_is_itself()
-    ensures { PlainIsItself }
+    ensures whole { PlainIsItself }
+    ensures front { PlainFrontIsText }
+    ensures line_break { SpacesAndLineFeed }
+{}
+
+/// Emphasis comes to the same, however the texts among the items are cut.
+pub fn texts_in_pieces()
+    ensures { TextsInPieces }
 {}
 
 /// Repeated pairing comes to what one pass from the left makes, in which each closer looks for its nearest

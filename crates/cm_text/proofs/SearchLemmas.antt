@@ -1,5 +1,5 @@
 -- The next byte that passes a test, found many lanes at a time.
-use Rattle.std.proofs.Common.{◌≡◌, ℕ, ◌+◌, ◌-◌, ◌%◌, ◌^◌, ◌<◌, ◌≤◌, Bool, true, false, cond, eqb, replicate, List, [], ◌∷◌, map, min, nat_lt, Option, Some, None, length, drop, get_or, subst, refl, sym, ap, ap₂, ◌∙◌, arith, w8, Fits, length-drop}
+use Rattle.std.proofs.Common.{◌≡◌, ℕ, ◌+◌, ◌-◌, ◌%◌, ◌^◌, ◌<◌, ◌≤◌, Bool, true, false, cond, eqb, replicate, List, [], ◌∷◌, map, nat_lt, Option, length, drop, get_or, subst, refl, sym, ap, ap₂, ◌∙◌, arith, w8, Fits, length-drop}
 use Rattle.std.specs.Simd.Lanes.{zip2, mask_l, top, Each1}
 use Rattle.std.proofs.lemmas.Simd.{map-map, mask_l-mod, zip2_splat}
 use Rattle.std.proofs.lemmas.List.{length-map, get_or-drop}

@@ -58,19 +58,17 @@ fn marker(answer: &mut Answer, text: &str, at: usize) -> Result<(), Trouble>
     let Some((marker, end)) = item_marker(text, at) else {
         return answer.word("none");
     };
-    match marker.kind {
-        ListKind::Dash => answer.word("-")?,
-        ListKind::Plus => answer.word("+")?,
-        ListKind::Star => answer.word("*")?,
-        ListKind::Dot { start } => {
-            answer.number(start as usize)?;
-            answer.word(".")?;
-        }
-        ListKind::Paren { start } => {
-            answer.number(start as usize)?;
-            answer.word(")")?;
-        }
+    let (start, mark) = match marker.kind {
+        ListKind::Dash => (None, "-"),
+        ListKind::Plus => (None, "+"),
+        ListKind::Star => (None, "*"),
+        ListKind::Dot { start } => (Some(start), "."),
+        ListKind::Paren { start } => (Some(start), ")"),
+    };
+    if let Some(start) = start {
+        answer.number(start as usize)?;
     }
+    answer.word(mark)?;
     answer.number(marker.digits)?;
     answer.number(end)
 }

@@ -1,5 +1,11 @@
-use Rattle.cm_scan.proofs.InlineLemmas.{plain_is_itself}
+use Rattle.cm_scan.proofs.InlineLemmas.{plain_is_itself, plain_front_is_text, spaces_and_line_feed}
 use Rattle.cm_scan.proofs.inline_laws.plain_is_itself.Goals as goal
 
-pub returns : goal.returns
-returns c = plain_is_itself
+pub returns-clause-whole : goal.returns-clause-whole
+returns-clause-whole c = plain_is_itself
+
+pub returns-clause-front : goal.returns-clause-front
+returns-clause-front c = plain_front_is_text
+
+pub returns-clause-line_break : goal.returns-clause-line_break
+returns-clause-line_break c = spaces_and_line_feed

@@ -3,7 +3,7 @@ use Rattle.std.specs.Simd.Lanes.{chunk}
 use Rattle.std.proofs.lemmas.Bool.{cases_lt}
 use Rattle.std.proofs.lemmas.List.Sums.{prefix_len-le-length}
 use Rattle.std.proofs.lemmas.Simd.{length-chunk, run_in_chunk_fails, run_in_chunk_stops}
-use Rattle.cm_text.proofs.SearchLemmas.{place-is, place-past}
+use Rattle.cm_text.proofs.SearchLemmas.{place-is}
 use Rattle.cm_text.proofs.search.next_of.Goals as goal
 
 pub returns-then-run-lt16 : goal.returns-then-run-lt16

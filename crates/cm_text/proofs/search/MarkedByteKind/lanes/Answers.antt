@@ -1,9 +1,8 @@
-use Rattle.std.proofs.Common.{◌≡◌, ℕ, List, replicate, map, bit_or, refl, sym, arith}
-use Rattle.std.specs.Simd.Lanes.{zip2}
+use Rattle.std.proofs.Common.{ℕ, bit_or, refl, sym, arith}
 use Rattle.std.proofs.lemmas.Simd.{zip2_splat}
 use Rattle.std.proofs.lemmas.List.{map-id}
 use Rattle.cm_text.specs.Search.{is_marked}
-use Rattle.cm_text.proofs.SearchLemmas.{hit, hits, joined, masked}
+use Rattle.cm_text.proofs.SearchLemmas.{hits, joined, masked}
 use Rattle.cm_text.proofs.search.MarkedByteKind.lanes.Goals as goal
 
 pub returns : goal.returns

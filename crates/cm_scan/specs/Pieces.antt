@@ -1,0 +1,20 @@
+-- Texts among the items of a leaf may stand in pieces.
+use Rattle.std.specs.Prelude.{◌≡◌, ℕ, List, [], ◌∷◌, map}
+use Rattle.std.specs.List.{flat_map}
+use Rattle.cm_scan.specs.Pairing.{Item, Characters, emphasis_of}
+
+-- the bytes of a text, each as an item by itself
+abbrev pub one_by_one : List ℕ → List Item
+one_by_one text = map (λ b. Characters (b ∷ [])) text
+
+abbrev pub pieces_of : Item → List Item
+pieces_of (Characters text) = one_by_one text
+pieces_of item = item ∷ []
+
+-- the items with each text in pieces of a byte
+abbrev pub in_pieces : List Item → List Item
+in_pieces items = flat_map pieces_of items
+
+-- Emphasis comes to the same, however the texts are cut.
+abbrev pub TextsInPieces : Type 0
+TextsInPieces = (items : List Item) → emphasis_of (in_pieces items) ≡ emphasis_of items
