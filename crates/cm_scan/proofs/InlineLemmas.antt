@@ -13,7 +13,7 @@ use Rattle.cm_scan.specs.Pairing.{Item, Characters, Finished, text_before, settl
 use Rattle.cm_scan.specs.Atoms.{AtomRead, Whole, read, is_markup, break_atom, markup_atom, byte_atom, or_byte, atom_at}
 use Rattle.cm_scan.specs.Brackets.{Defined, Bracketed}
 use Rattle.cm_scan.specs.Inlines.{add_atom, item_step, items_after, items_of, inlines_of}
-use Rattle.cm_scan.specs.InlineLaws.{ReadingGoesOn, BracketStep, is_plain_byte, PlainIsItself, parts_from, PlainFrontIsText, SpacesAndLineFeed}
+use Rattle.cm_scan.specs.InlineLaws.{ReadingGoesOn, BracketStep, is_plain_byte, PlainIsItself, keeps_spaces, PlainFrontIsText, SpacesAndLineFeed}
 use Rattle.cm_scan.specs.Pieces.{one_by_one}
 use Rattle.cm_scan.specs.Autolinks.{ends_with}
 
@@ -45,13 +45,13 @@ no-line-ending : (b : ℕ) → is_plain_byte b ≡ true → (b == 10) ≡ false
 no-line-ending b plain = grind (arith, nat_tests, plain)
 
 -- the text ends with a space before a byte, and behind one
-behind-first : (b : ℕ) (bs rest : List ℕ) → is_empty bs ≡ false → parts_from rest (b ∷ bs) ≡ parts_from rest bs
+behind-first : (b : ℕ) (bs rest : List ℕ) → is_empty bs ≡ false → keeps_spaces rest (b ∷ bs) ≡ keeps_spaces rest bs
 unfolding ends_with
 behind-first b [] rest e = absurd (cc e)
 behind-first b (c ∷ cs) rest e = refl
 
 -- no line ending follows its spaces
-no-break : (text rest : List ℕ) → list_all is_plain_byte text ≡ true → is_empty text ≡ false → parts_from rest text ≡ true → after_word (codes "\n") (after_run 32 (text ++ rest)) ≡ None
+no-break : (text rest : List ℕ) → list_all is_plain_byte text ≡ true → is_empty text ≡ false → keeps_spaces rest text ≡ true → after_word (codes "\n") (after_run 32 (text ++ rest)) ≡ None
 unfolding after_word after_run ends_with
 no-break [] rest plain some parts = absurd (cc some)
 no-break (b ∷ bs) rest plain some parts =
@@ -76,7 +76,7 @@ no-break (b ∷ bs) rest plain some parts =
         by false true q e = absurd (cc e)
         by false false q e = fed (c == 10) q
 
-    go : (is_empty bs ≡ false → parts_from rest bs ≡ true → after_word (codes "\n") (after_run 32 (bs ++ rest)) ≡ None) → (space : Bool) → (b == 32) ≡ space → (empty : Bool) → is_empty bs ≡ empty
+    go : (is_empty bs ≡ false → keeps_spaces rest bs ≡ true → after_word (codes "\n") (after_run 32 (bs ++ rest)) ≡ None) → (space : Bool) → (b == 32) ≡ space → (empty : Bool) → is_empty bs ≡ empty
         → after_word (codes "\n") (elim space as (λ _. List ℕ) [ true ↦ after_run 32 (bs ++ rest) | false ↦ b ∷ (bs ++ rest) ]) ≡ None
     go again false p empty e = other (b == 10) (no-line-ending b (and_parts (is_plain_byte b) (list_all is_plain_byte bs) plain).0)
     go again true p false e = again e (sym (behind-first b bs rest e) ∙ parts)
@@ -84,14 +84,14 @@ no-break (b ∷ bs) rest plain some parts =
         let nothing : bs ≡ [] = empty-is bs e in
         ap (λ t. after_word (codes "\n") (after_run 32 (t ++ rest))) nothing
         ∙ last rest (ap (λ v. not (begins_with 32 rest) && not (begins_with 10 rest && v)) (sym p)
-        ∙ ap (λ t. parts_from rest (b ∷ t)) (sym nothing) ∙ parts)
+        ∙ ap (λ t. keeps_spaces rest (b ∷ t)) (sym nothing) ∙ parts)
       where
         empty-is : (t : List ℕ) → is_empty t ≡ true → t ≡ []
         empty-is [] e = refl
         empty-is (c ∷ cs) e = absurd (cc e)
 
 -- so its first byte is read as text
-plain-atom : (rules : Rules) (before : List ℕ) (b : ℕ) (bs rest : List ℕ) → list_all is_plain_byte (b ∷ bs) ≡ true → parts_from rest (b ∷ bs) ≡ true → atom_at rules before b (bs ++ rest) ≡ byte_atom b (bs ++ rest)
+plain-atom : (rules : Rules) (before : List ℕ) (b : ℕ) (bs rest : List ℕ) → list_all is_plain_byte (b ∷ bs) ≡ true → keeps_spaces rest (b ∷ bs) ≡ true → atom_at rules before b (bs ++ rest) ≡ byte_atom b (bs ++ rest)
 unfolding atom_at markup_atom break_atom
 plain-atom rules before b bs rest plain parts = go (is_markup b) refl
   where
@@ -100,7 +100,7 @@ plain-atom rules before b bs rest plain parts = go (is_markup b) refl
     space false true e m = absurd (cc e)
     space false false e m = absurd (cc m)
 
-    none : list_all is_plain_byte (32 ∷ bs) ≡ true → parts_from rest (32 ∷ bs) ≡ true → markup_atom rules before 32 (bs ++ rest) ≡ None
+    none : list_all is_plain_byte (32 ∷ bs) ≡ true → keeps_spaces rest (32 ∷ bs) ≡ true → markup_atom rules before 32 (bs ++ rest) ≡ None
     none h k = ap (λ (o : Option (List ℕ)). elim o as (λ _. Option AtomRead) [ Some left ↦ read (Whole (if nat_le 2 (run_length 32 (32 ∷ (bs ++ rest))) then Hard else Soft)) left | None ↦ None ]) (no-break (32 ∷ bs) rest h refl k)
 
     go : (markup : Bool) → is_markup b ≡ markup
@@ -109,7 +109,7 @@ plain-atom rules before b bs rest plain parts = go (is_markup b) refl
     go true e =
         let is : b ≡ 32 = eqb-true b 32 (space (b == 32) (is_markup b) (and_parts (is_plain_byte b) (list_all is_plain_byte bs) plain).0 e) in
         ap (or_byte b (bs ++ rest)) (subst (λ c. markup_atom rules before c (bs ++ rest) ≡ None) (sym is)
-        (none (subst (λ c. list_all is_plain_byte (c ∷ bs) ≡ true) is plain) (subst (λ c. parts_from rest (c ∷ bs) ≡ true) is parts)))
+        (none (subst (λ c. list_all is_plain_byte (c ∷ bs) ≡ true) is plain) (subst (λ c. keeps_spaces rest (c ∷ bs) ≡ true) is parts)))
 
 pub plain_front_is_text : PlainFrontIsText
 unfolding items_after item_step add_atom ends_with
@@ -128,8 +128,8 @@ plain_front_is_text rules defined before (b ∷ bs) rest items plain parts =
     nothing : length (bs ++ rest) - length (bs ++ rest) ≡ 0
     nothing = omega arith
 
-    further : (t : List ℕ) → t ≡ bs → parts_from rest bs ≡ true
-    further [] e = ap (parts_from rest) (sym e) ∙ no-end (begins_with 32 rest) (begins_with 10 rest) (ends_with 32 (b ∷ bs)) parts
+    further : (t : List ℕ) → t ≡ bs → keeps_spaces rest bs ≡ true
+    further [] e = ap (keeps_spaces rest) (sym e) ∙ no-end (begins_with 32 rest) (begins_with 10 rest) (ends_with 32 (b ∷ bs)) parts
       where
         no-end : (space feed last : Bool) → (not space && not (feed && last)) ≡ true → (not space && not (feed && false)) ≡ true
         no-end true feed last e = absurd (cc e)

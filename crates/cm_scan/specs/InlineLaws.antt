@@ -37,14 +37,14 @@ abbrev pub PlainIsItself : Type 0
 PlainIsItself = (rules : Rules) (defined : Defined) (source : List ℕ) → list_all is_plain_byte source ≡ true
     → inlines_of rules defined source ≡ text_before source []
 
--- the rest doesn't begin with a space, and where the text ends with one not with a line feed either
-abbrev pub parts_from : List ℕ → List ℕ → Bool
-parts_from rest text = not (begins_with 32 rest) && not (begins_with 10 rest && ends_with 32 text)
+-- No space follows the text, and no line feed the spaces at its end: so these stay text.
+abbrev pub keeps_spaces : List ℕ → List ℕ → Bool
+keeps_spaces rest text = not (begins_with 32 rest) && not (begins_with 10 rest && ends_with 32 text)
 
 -- Bytes without markup are text, whatever follows, but for the spaces at their end before a line feed.
 abbrev pub PlainFrontIsText : Type 0
 PlainFrontIsText = (rules : Rules) (defined : Defined) (before text rest : List ℕ) (items : List Item) → list_all is_plain_byte text ≡ true
-    → parts_from rest text ≡ true
+    → keeps_spaces rest text ≡ true
     → items_after rules defined zero before (text ++ rest) items
     ≡ items_after rules defined zero (reverse text ++ before) rest (reverse (one_by_one text) ++ items)
 
