@@ -38,6 +38,8 @@ pub record CodeSpanExamples : Type 0 where
   pub runs_that_do_not_match : Reads (codes "```foo``") (Text (codes "```foo``") ∷ [])
   pub no_end : Reads (codes "`foo") (Text (codes "`foo") ∷ [])
   pub shorter_run_first : Reads (codes "`foo``bar``") (Text (codes "`foo") ∷ Code (codes "bar") ∷ [])
+  pub shorter_run_between_spaces : Reads (codes "`` a ` b ``") (Code (codes "a ` b") ∷ [])
+  pub two_and_one : Reads (codes "``a`") (Text (codes "``a`") ∷ [])
 
 -- rules 1 and 2: what may open emphasis
 pub record OpensEmphasisExamples : Type 0 where
@@ -128,6 +130,7 @@ pub record InsideEmphasisExamples : Type 0 where
   pub emphasis_at_the_front_of_strong : Reads (codes "***foo* bar**") (Strong (Emph (Text (codes "foo") ∷ []) ∷ Text (codes " bar") ∷ []) ∷ [])
   pub emphasis_at_the_end_of_strong : Reads (codes "**foo *bar***") (Strong (Text (codes "foo ") ∷ Emph (Text (codes "bar") ∷ []) ∷ []) ∷ [])
   pub whole_lengths_count : Reads (codes "a****b***c") (Text (codes "a*") ∷ Emph (Strong (Text (codes "b") ∷ []) ∷ []) ∷ Text (codes "c") ∷ [])
+  pub strong_in_emphasis_of_one_run : Reads (codes "***a***") (Emph (Strong (Text (codes "a") ∷ []) ∷ []) ∷ [])
 
 -- rules 11 and 12: characters that are left over
 pub record LeftOverExamples : Type 0 where
@@ -213,6 +216,8 @@ pub record InlineLinkExamples : Type 0 where
   pub code_before_a_link : Reads (codes "[foo`](/uri)`") (Text (codes "[foo") ∷ Code (codes "](/uri)") ∷ [])
   pub autolink_before_a_link : Reads (codes "[foo<https://example.com/?search=](uri)>") (Text (codes "[foo") ∷ Link (codes "https://example.com/?search=](uri)") [] (Text (codes "https://example.com/?search=](uri)") ∷ []) ∷ [])
   pub end_that_cuts_a_code_span : Reads (codes "[a](b`c)`d") (Link (codes "b`c") [] (Text (codes "a") ∷ []) ∷ Text (codes "`d") ∷ [])
+  pub space_in_angles_and_a_title : Reads (codes "[a](<b c> \"t\")") (Link (codes "b c") (codes "t") (Text (codes "a") ∷ []) ∷ [])
+  pub star_before_a_link : Reads (codes "*a [b*](c)") (Text (codes "*a ") ∷ Link (codes "c") [] (Text (codes "b*") ∷ []) ∷ [])
 
 -- 6.3 Links: reference links
 pub record ReferenceLinkExamples : Type 0 where
@@ -281,6 +286,8 @@ pub record AutolinkExamples : Type 0 where
   pub no_scheme : Reads (codes "<foo.bar.baz>") (Text (codes "<foo.bar.baz>") ∷ [])
   pub bare : Reads (codes "https://example.com") (Text (codes "https://example.com") ∷ [])
   pub address_and_declaration : Reads (codes "<!a@b>") (Link (codes "mailto:!a@b") [] (Text (codes "!a@b") ∷ []) ∷ [])
+  pub short_address : Reads (codes "<a@b.c>") (Link (codes "mailto:a@b.c") [] (Text (codes "a@b.c") ∷ []) ∷ [])
+  pub quotation_mark_and_umlaut : Reads (codes "<https://e.x/?a=1&b=\"" ++ (0xC3 ∷ 0xA4 ∷ []) ++ codes ">") (Link (codes "https://e.x/?a=1&b=\"" ++ (0xC3 ∷ 0xA4 ∷ [])) [] (Text (codes "https://e.x/?a=1&b=\"" ++ (0xC3 ∷ 0xA4 ∷ [])) ∷ []) ∷ [])
 
 -- 6.6 Raw HTML
 pub record RawHtmlExamples : Type 0 where
@@ -303,6 +310,9 @@ pub record RawHtmlExamples : Type 0 where
   pub reference_inside : Reads (codes "foo <a href=\"&ouml;\">") (Text (codes "foo ") ∷ Html (codes "<a href=\"&ouml;\">") ∷ [])
   pub backslash_inside : Reads (codes "foo <a href=\"\\*\">") (Text (codes "foo ") ∷ Html (codes "<a href=\"\\*\">") ∷ [])
   pub quotation_mark_escaped : Reads (codes "<a href=\"\\\"\">") (Text (codes "<a href=\"\"\">") ∷ [])
+  pub behind_a_line_ending : Reads (codes "a\n<x>") (Text (codes "a") ∷ Soft ∷ Html (codes "<x>") ∷ [])
+  pub letter_behind_a_value : Reads (codes "<a href=\"x\"y>") (Text (codes "<a href=\"x\"y>") ∷ [])
+  pub shortest_comment : Reads (codes "x <!--> y -->") (Text (codes "x ") ∷ Html (codes "<!-->") ∷ Text (codes " y -->") ∷ [])
 
 -- 6.7 Hard line breaks, 6.8 Soft line breaks
 pub record LineBreakExamples : Type 0 where
@@ -318,6 +328,7 @@ pub record LineBreakExamples : Type 0 where
   pub one_space : Reads (codes "foo \nbaz") (Text (codes "foo") ∷ Soft ∷ Text (codes "baz") ∷ [])
   pub tab_stays : Reads (codes "foo\t\nbaz") (Text (codes "foo\t") ∷ Soft ∷ Text (codes "baz") ∷ [])
   pub spaces_before_a_backslash : Reads (codes "foo  \\\nbaz") (Text (codes "foo  ") ∷ Hard ∷ Text (codes "baz") ∷ [])
+  pub spaces_and_then_a_backslash : Reads (codes "foo  \nbar\\\nbaz") (Text (codes "foo") ∷ Hard ∷ Text (codes "bar") ∷ Hard ∷ Text (codes "baz") ∷ [])
 
 -- 2.4 Backslash escapes, 2.5 References, 6.9 Textual content
 pub record TextExamples : Type 0 where
@@ -333,6 +344,8 @@ pub record TextExamples : Type 0 where
   pub reference_is_no_markup : Reads (codes "&#42;foo&#42; *foo*") (Text (codes "*foo* ") ∷ Emph (Text (codes "foo") ∷ []) ∷ [])
   pub line_feed_by_reference : Reads (codes "foo&#10;&#10;bar") (Text (codes "foo\n\nbar") ∷ [])
   pub bracket_by_reference : Reads (codes "[a](url &quot;tit&quot;)") (Text (codes "[a](url \"tit\")") ∷ [])
+  pub too_many_digits_and_no_such_name : Reads (codes "&#0; &#987654321; &copy; &nosuch;") (Text ((0xEF ∷ 0xBF ∷ 0xBD ∷ []) ++ codes " &#987654321; " ++ (0xC2 ∷ 0xA9 ∷ []) ++ codes " &nosuch;") ∷ [])
+  pub escaped_stars : Reads (codes "\\*a\\*") (Text (codes "*a*") ∷ [])
 
 -- strikethrough, this project's own extension
 pub record StrikeExamples : Type 0 where

@@ -4,7 +4,7 @@ use Rattle.cm_scan.proofs.inline_laws.inline_examples.Goals as goal
 
 pub returns-clause-code_span : goal.returns-clause-code_span
 unfolding inline_structure
-returns-clause-code_span c = record { simple = refl; longer_run_inside = refl; spaces_stripped = refl; one_space_at_each_end = refl; space_at_one_end = refl; only_spaces = refl; line_endings = refl; no_escapes = refl; before_emphasis = refl; before_a_link = refl; before_a_tag = refl; behind_a_tag = refl; behind_an_autolink = refl; runs_that_do_not_match = refl; no_end = refl; shorter_run_first = refl }
+returns-clause-code_span c = record { simple = refl; longer_run_inside = refl; spaces_stripped = refl; one_space_at_each_end = refl; space_at_one_end = refl; only_spaces = refl; line_endings = refl; no_escapes = refl; before_emphasis = refl; before_a_link = refl; before_a_tag = refl; behind_a_tag = refl; behind_an_autolink = refl; runs_that_do_not_match = refl; no_end = refl; shorter_run_first = refl; shorter_run_between_spaces = refl; two_and_one = refl }
 
 pub returns-clause-opens_emphasis : goal.returns-clause-opens_emphasis
 unfolding inline_structure
@@ -24,7 +24,7 @@ returns-clause-closes_strong c = record { stars_behind_a_space = refl; stars_beh
 
 pub returns-clause-inside_emphasis : goal.returns-clause-inside_emphasis
 unfolding inline_structure
-returns-clause-inside_emphasis c = record { link = refl; line_ending = refl; strong = refl; emphasis = refl; emphasis_at_the_front = refl; emphasis_at_the_end = refl; strong_between_spaces = refl; strong_inside_a_word = refl; sum_of_three = refl; strong_at_the_front = refl; strong_at_the_end = refl; strong_at_the_end_of_a_word = refl; both_of_three = refl; six_and_nine = refl; three_deep = refl; emphasis_in_a_link = refl; nothing_inside = refl; no_strong_of_nothing = refl; link_in_strong = refl; emphasis_in_strong = refl; strong_in_strong = refl; emphasis_at_the_front_of_strong = refl; emphasis_at_the_end_of_strong = refl; whole_lengths_count = refl }
+returns-clause-inside_emphasis c = record { link = refl; line_ending = refl; strong = refl; emphasis = refl; emphasis_at_the_front = refl; emphasis_at_the_end = refl; strong_between_spaces = refl; strong_inside_a_word = refl; sum_of_three = refl; strong_at_the_front = refl; strong_at_the_end = refl; strong_at_the_end_of_a_word = refl; both_of_three = refl; six_and_nine = refl; three_deep = refl; emphasis_in_a_link = refl; nothing_inside = refl; no_strong_of_nothing = refl; link_in_strong = refl; emphasis_in_strong = refl; strong_in_strong = refl; emphasis_at_the_front_of_strong = refl; emphasis_at_the_end_of_strong = refl; whole_lengths_count = refl; strong_in_emphasis_of_one_run = refl }
 
 pub returns-clause-left_over : goal.returns-clause-left_over
 unfolding inline_structure
@@ -36,7 +36,7 @@ returns-clause-ambiguity c = record { strong_and_no_nested_emphasis = refl; two_
 
 pub returns-clause-inline_link : goal.returns-clause-inline_link
 unfolding inline_structure
-returns-clause-inline_link c = record { with_a_title = refl; without_a_title = refl; without_a_text = refl; without_a_destination = refl; empty_destination = refl; nothing_at_all = refl; space_in_the_destination = refl; space_in_angles = refl; line_ending_in_the_destination = refl; line_ending_in_angles = refl; parenthesis_in_angles = refl; escaped_angle = refl; angles_that_do_not_end = refl; escaped_parentheses = refl; balanced_parentheses = refl; unbalanced_parentheses = refl; backslash_that_escapes_nothing = refl; reference_in_the_destination = refl; title_as_destination = refl; title_with_an_escape = refl; no_break_space_is_no_gap = refl; quotation_marks_in_a_title = refl; other_quotation_marks = refl; gaps = refl; space_before_the_parenthesis = refl; balanced_brackets = refl; bracket_too_many = refl; bracket_that_is_open = refl; escaped_bracket = refl; inlines_inside = refl; link_in_a_link = refl; link_deep_in_a_link = refl; autolink_in_a_link = refl; emphasis_across_the_end = refl; star_in_the_destination = refl; emphasis_across_brackets = refl; tag_before_a_link = refl; code_before_a_link = refl; autolink_before_a_link = refl; end_that_cuts_a_code_span = refl }
+returns-clause-inline_link c = record { with_a_title = refl; without_a_title = refl; without_a_text = refl; without_a_destination = refl; empty_destination = refl; nothing_at_all = refl; space_in_the_destination = refl; space_in_angles = refl; line_ending_in_the_destination = refl; line_ending_in_angles = refl; parenthesis_in_angles = refl; escaped_angle = refl; angles_that_do_not_end = refl; escaped_parentheses = refl; balanced_parentheses = refl; unbalanced_parentheses = refl; backslash_that_escapes_nothing = refl; reference_in_the_destination = refl; title_as_destination = refl; title_with_an_escape = refl; no_break_space_is_no_gap = refl; quotation_marks_in_a_title = refl; other_quotation_marks = refl; gaps = refl; space_before_the_parenthesis = refl; balanced_brackets = refl; bracket_too_many = refl; bracket_that_is_open = refl; escaped_bracket = refl; inlines_inside = refl; link_in_a_link = refl; link_deep_in_a_link = refl; autolink_in_a_link = refl; emphasis_across_the_end = refl; star_in_the_destination = refl; emphasis_across_brackets = refl; tag_before_a_link = refl; code_before_a_link = refl; autolink_before_a_link = refl; end_that_cuts_a_code_span = refl; space_in_angles_and_a_title = refl; star_before_a_link = refl }
 
 pub returns-clause-reference_link : goal.returns-clause-reference_link
 unfolding inline_structure
@@ -48,19 +48,19 @@ returns-clause-image c = record { with_a_title = refl; image_inside = refl; link
 
 pub returns-clause-autolink : goal.returns-clause-autolink
 unfolding inline_structure
-returns-clause-autolink c = record { http = refl; query = refl; capitals = refl; made_up_scheme = refl; space_inside = refl; no_escapes = refl; address = refl; escape_in_an_address = refl; nothing_inside = refl; scheme_of_one_letter = refl; no_scheme = refl; bare = refl; address_and_declaration = refl }
+returns-clause-autolink c = record { http = refl; query = refl; capitals = refl; made_up_scheme = refl; space_inside = refl; no_escapes = refl; address = refl; escape_in_an_address = refl; nothing_inside = refl; scheme_of_one_letter = refl; no_scheme = refl; bare = refl; address_and_declaration = refl; short_address = refl; quotation_mark_and_umlaut = refl }
 
 pub returns-clause-raw_html : goal.returns-clause-raw_html
 unfolding inline_structure
-returns-clause-raw_html c = record { open_tags = refl; empty_elements = refl; attributes = refl; custom_names = refl; names_that_are_none = refl; attribute_that_is_none = refl; value_that_does_not_end = refl; space_in_front = refl; no_gap_between_attributes = refl; closing_tags = refl; closing_tag_with_attribute = refl; comment = refl; short_comments = refl; instruction = refl; declaration = refl; character_data = refl; reference_inside = refl; backslash_inside = refl; quotation_mark_escaped = refl }
+returns-clause-raw_html c = record { open_tags = refl; empty_elements = refl; attributes = refl; custom_names = refl; names_that_are_none = refl; attribute_that_is_none = refl; value_that_does_not_end = refl; space_in_front = refl; no_gap_between_attributes = refl; closing_tags = refl; closing_tag_with_attribute = refl; comment = refl; short_comments = refl; instruction = refl; declaration = refl; character_data = refl; reference_inside = refl; backslash_inside = refl; quotation_mark_escaped = refl; behind_a_line_ending = refl; letter_behind_a_value = refl; shortest_comment = refl }
 
 pub returns-clause-line_break : goal.returns-clause-line_break
 unfolding inline_structure
-returns-clause-line_break c = record { two_spaces = refl; backslash = refl; more_spaces = refl; in_emphasis = refl; backslash_in_emphasis = refl; none_in_a_code_span = refl; none_in_a_tag = refl; backslash_at_the_end = refl; soft = refl; one_space = refl; tab_stays = refl; spaces_before_a_backslash = refl }
+returns-clause-line_break c = record { two_spaces = refl; backslash = refl; more_spaces = refl; in_emphasis = refl; backslash_in_emphasis = refl; none_in_a_code_span = refl; none_in_a_tag = refl; backslash_at_the_end = refl; soft = refl; one_space = refl; tab_stays = refl; spaces_before_a_backslash = refl; spaces_and_then_a_backslash = refl }
 
 pub returns-clause-text : goal.returns-clause-text
 unfolding inline_structure
-returns-clause-text c = record { plain = refl; beyond_ascii = refl; spaces_stay = refl; escapes = refl; escaped_backslash = refl; references = refl; decimal = refl; hexadecimal = refl; no_references = refl; reference_is_no_markup = refl; line_feed_by_reference = refl; bracket_by_reference = refl }
+returns-clause-text c = record { plain = refl; beyond_ascii = refl; spaces_stay = refl; escapes = refl; escaped_backslash = refl; references = refl; decimal = refl; hexadecimal = refl; no_references = refl; reference_is_no_markup = refl; line_feed_by_reference = refl; bracket_by_reference = refl; too_many_digits_and_no_such_name = refl; escaped_stars = refl }
 
 pub returns-clause-strike : goal.returns-clause-strike
 unfolding inline_structure
