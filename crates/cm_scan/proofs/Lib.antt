@@ -34,6 +34,7 @@ pub mod InlineComputing
 pub mod InlineLemmas
 pub mod PairingLemmas
 pub mod PiecesLemmas
+pub mod PiecesReading
 pub mod OnePassLemmas
 pub mod FoundLemmas
 pub mod HtmlSpanLemmas

@@ -11,18 +11,17 @@ use Rattle.cm_scan.specs.Pairing.{Item, Characters, Finished, Linked, Delimiters
 use Rattle.cm_scan.specs.Pieces.{one_by_one, pieces_of, in_pieces, TextsInPieces}
 
 -- the same with the last first
-back_pieces : Item → List Item
+abbrev pub back_pieces : Item → List Item
 back_pieces item = reverse (pieces_of item)
 
-back : List Item → List Item
+abbrev pub back : List Item → List Item
 back items = flat_map back_pieces items
 
 -- what comes of the items before an opener, and between it and its closer
 opened_in_pieces : Opened → Opened
 opened_in_pieces found = record { before = in_pieces found.before; opener = found.opener; inside = in_pieces found.inside }
 
-back-forward : (items : List Item) → reverse (back items) ≡ in_pieces (reverse items)
-unfolding back back_pieces
+pub back-forward : (items : List Item) → reverse (back items) ≡ in_pieces (reverse items)
 back-forward [] = refl
 back-forward (item ∷ items) =
     reverse-append (reverse (pieces_of item)) (back items)
@@ -57,7 +56,7 @@ past-texts closer (b ∷ bs) before inside =
     ∙ past-texts closer bs (Characters (b ∷ []) ∷ before) inside
 
 found-in-pieces : (closer : Run) (before inside : List Item) → nearest_opener closer (back before) (in_pieces inside) ≡ option_map opened_in_pieces (nearest_opener closer before inside)
-unfolding nearest_opener back back_pieces opened_in_pieces
+unfolding nearest_opener opened_in_pieces
 found-in-pieces closer [] inside = refl
 found-in-pieces closer (Characters text ∷ before) inside = past-texts closer text (back before) (in_pieces inside) ∙ found-in-pieces closer before (Characters text ∷ inside)
 found-in-pieces closer (Finished inline ∷ before) inside = found-in-pieces closer before (Finished inline ∷ inside)
@@ -113,7 +112,7 @@ over-texts (b ∷ bs) before after =
     ∙ ap (λ t. pair_leftmost t after) (append_assoc (reverse (one_by_one bs)) (Characters (b ∷ []) ∷ []) before))
 
 leftmost-in-pieces : (before after : List Item) → pair_leftmost (back before) (in_pieces after) ≡ option_map in_pieces (pair_leftmost before after)
-unfolding pair_leftmost back back_pieces opened_in_pieces
+unfolding pair_leftmost opened_in_pieces
 leftmost-in-pieces before [] = refl
 leftmost-in-pieces before (Characters text ∷ after) = over-texts text (back before) (in_pieces after) ∙ leftmost-in-pieces (Characters text ∷ before) after
 leftmost-in-pieces before (Finished inline ∷ after) = leftmost-in-pieces (Finished inline ∷ before) after
@@ -148,7 +147,7 @@ leftmost-in-pieces before (Delimiters run ∷ after) = go run.closes (leftmost-i
 -- all pairs
 
 pairs-in-pieces : (n : ℕ) (items : List Item) → pairs_within n (in_pieces items) ≡ in_pieces (pairs_within n items)
-unfolding pairs_within back
+unfolding pairs_within
 pairs-in-pieces zero items = refl
 pairs-in-pieces (suc n) items = ap by (leftmost-in-pieces [] items) ∙ go (pair_once items) (λ more. pairs-in-pieces n more)
   where

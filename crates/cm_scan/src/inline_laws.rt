@@ -1,6 +1,6 @@
 //! Laws of the definitions of inlines, each the contract of a function that does nothing.
 ghost use Rattle.cm_scan.specs.InlineLaws.{ReadingGoesOn, StepLeavesAnEnd, BracketStep, PlainIsItself, PlainFrontIsText, SpacesAndLineFeed};
-ghost use Rattle.cm_scan.specs.Pieces.{TextsInPieces};
+ghost use Rattle.cm_scan.specs.Pieces.{TextsInPieces, ReadingInPieces};
 ghost use Rattle.cm_scan.specs.Runs.{RunsAreFew};
 ghost use Rattle.cm_scan.specs.OnePass.{OnePassExamples, PairsInOnePass};
 ghost use Rattle.cm_scan.specs.InlineExamples.{CodeSpanExamples, OpensEmphasisExamples, ClosesEmphasisExamples, OpensStrongExamples, ClosesStrongExamples, InsideEmphasisExamples, LeftOverExamples, AmbiguityExamples, InlineLinkExamples, ReferenceLinkExamples, ImageExamples, AutolinkExamples, RawHtmlExamples, LineBreakExamples, TextExamples, StrikeExamples, OlderRulesExamples};
@@ -47,9 +47,10 @@ pub fn plain_is_itself()
     ensures line_break { SpacesAndLineFeed }
 {}
 
-/// Emphasis comes to the same, however the texts among the items are cut.
+/// However the texts among the items are cut, emphasis comes to the same, and reading goes on alike.
 pub fn texts_in_pieces()
-    ensures { TextsInPieces }
+    ensures emphasis { TextsInPieces }
+    ensures reading { ReadingInPieces }
 {}
 
 /// Repeated pairing comes to what one pass from the left makes, in which each closer looks for its nearest
