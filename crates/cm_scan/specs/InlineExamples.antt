@@ -1,10 +1,10 @@
 -- Worked examples: the inlines of sources, for the most part those of the standard (CommonMark 0.31.2, chapters 2 and 6).
-use Rattle.std.specs.Prelude.{◌≡◌, ℕ, true, false, List, [], ◌∷◌, ◌++◌, codes}
+use Rattle.std.specs.Prelude.{◌≡◌, ℕ, Bool, true, false, None, List, [], ◌∷◌, ◌++◌, codes}
 use Rattle.cm_text.specs.Rules.{Rules, profile, older_rules}
 use Rattle.cm_tree.specs.Definitions.{Target, first_under}
 use Rattle.cm_tree.specs.declared.tree.Inline.{Inline}
 use Rattle.cm_tree.specs.declared.tree.Inline.TheVariants.{Text, Code, Html, Soft, Hard, Emph, Strong, Strike, Link, Image}
-use Rattle.cm_scan.specs.Inlines.{inlines_of}
+use Rattle.cm_scan.specs.Inlines.{inlines_of, depth_of_leaf, nests_past}
 
 -- the profile with strikethrough
 abbrev pub struck : Rules
@@ -369,3 +369,21 @@ pub record OlderRulesExamples : Type 0 where
   pub hyphen_at_the_end : ReadsBy older_rules [] (codes "x <!-- a --->") (Text (codes "x <!-- a --->") ∷ [])
   pub comment : ReadsBy older_rules [] (codes "x <!-- a-b -->") (Text (codes "x ") ∷ Html (codes "<!-- a-b -->") ∷ [])
   pub by_the_profile : Reads (codes "x <!-- a--b -->") (Text (codes "x ") ∷ Html (codes "<!-- a--b -->") ∷ [])
+
+-- how deep inlines nest, and whether it is past a limit
+abbrev pub Nests : Rules → List ℕ → ℕ → Type 0
+Nests rules source depth = depth_of_leaf rules (λ folded. None) source ≡ depth
+
+abbrev pub NestsPast : ℕ → List ℕ → Bool → Type 0
+NestsPast limit source past = nests_past profile (λ folded. None) limit source ≡ past
+
+pub record NestingExamples : Type 0 where
+  pub text : Nests profile (codes "a") 0
+  pub two_side_by_side : Nests profile (codes "*a* **b**") 1
+  pub strong_in_emphasis : Nests profile (codes "***a***") 2
+  pub code_and_autolink : Nests profile (codes "`a` <bc:d>") 1
+  pub image_in_a_link : Nests profile (codes "*[a ![b](c)](d)*") 3
+  pub strike_in_emphasis : Nests struck (codes "*~~a~~*") 2
+  pub no_strike : Nests profile (codes "*~~a~~*") 1
+  pub at_the_limit : NestsPast 2 (codes "***a***") false
+  pub past_the_limit : NestsPast 1 (codes "***a***") true

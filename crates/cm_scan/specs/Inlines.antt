@@ -1,8 +1,9 @@
 -- The inlines of a leaf (CommonMark 0.31.2, chapter 6, and the appendix "A parsing strategy"). A leaf's source is read from the
 -- left, atom by atom.
-use Rattle.std.specs.Prelude.{ℕ, zero, suc, ◌-◌, List, [], ◌∷◌, length, reverse}
+use Rattle.std.specs.Prelude.{ℕ, zero, suc, ◌-◌, Bool, nat_lt, List, [], ◌∷◌, length, reverse}
 use Rattle.cm_text.specs.Rules.{Rules}
 use Rattle.cm_tree.specs.declared.tree.Inline.{Inline}
+use Rattle.cm_tree.specs.Depth.{inlines_depth}
 use Rattle.cm_scan.specs.Pairing.{Item, Characters, Finished, Delimiters, Opener, emphasis_of}
 use Rattle.cm_scan.specs.Atoms.{Atom, Plain, Whole, Delimiter, OpenBracket, CloseBracket, atom_at}
 use Rattle.cm_scan.specs.Brackets.{Defined, Bracketed, close_bracket}
@@ -38,3 +39,11 @@ items_of rules defined source = reverse (items_after rules defined zero [] sourc
 -- the inlines of a leaf with this source, in a document with these link reference definitions
 unfoldable pub inlines_of : Rules → Defined → List ℕ → List Inline
 inlines_of rules defined source = emphasis_of (items_of rules defined source)
+
+-- how many of emphasis, strong emphasis, strikethrough, links and images stand in one another
+unfoldable pub depth_of_leaf : Rules → Defined → List ℕ → ℕ
+depth_of_leaf rules defined source = inlines_depth (inlines_of rules defined source)
+
+-- they are more than the limit
+abbrev pub nests_past : Rules → Defined → (limit : ℕ) → List ℕ → Bool
+nests_past rules defined limit source = nat_lt limit (depth_of_leaf rules defined source)

@@ -3,7 +3,7 @@ ghost use Rattle.cm_scan.specs.InlineLaws.{ReadingGoesOn, StepLeavesAnEnd, Brack
 ghost use Rattle.cm_scan.specs.Pieces.{TextsInPieces, ReadingInPieces};
 ghost use Rattle.cm_scan.specs.Runs.{RunsAreFew};
 ghost use Rattle.cm_scan.specs.OnePass.{OnePassExamples, PairsInOnePass};
-ghost use Rattle.cm_scan.specs.InlineExamples.{CodeSpanExamples, OpensEmphasisExamples, ClosesEmphasisExamples, OpensStrongExamples, ClosesStrongExamples, InsideEmphasisExamples, LeftOverExamples, AmbiguityExamples, InlineLinkExamples, ReferenceLinkExamples, ImageExamples, AutolinkExamples, RawHtmlExamples, LineBreakExamples, TextExamples, StrikeExamples, OlderRulesExamples};
+ghost use Rattle.cm_scan.specs.InlineExamples.{CodeSpanExamples, OpensEmphasisExamples, ClosesEmphasisExamples, OpensStrongExamples, ClosesStrongExamples, InsideEmphasisExamples, LeftOverExamples, AmbiguityExamples, InlineLinkExamples, ReferenceLinkExamples, ImageExamples, AutolinkExamples, RawHtmlExamples, LineBreakExamples, TextExamples, StrikeExamples, OlderRulesExamples, NestingExamples};
 
 /// Worked examples of the inlines of leaves, by computation.
 pub fn inline_examples()
@@ -24,6 +24,7 @@ pub fn inline_examples()
     ensures text { TextExamples }
     ensures strike { StrikeExamples }
     ensures older_rules { OlderRulesExamples }
+    ensures nesting { NestingExamples }
 {}
 
 /// Each step leaves an end of its source, and reading goes on behind what the step took, as if a source began

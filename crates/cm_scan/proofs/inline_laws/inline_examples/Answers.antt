@@ -1,4 +1,13 @@
-use Rattle.std.proofs.Common.{refl}
+use Rattle.std.proofs.Common.{◌≡◌, ℕ, List, [], ◌∷◌, None, codes, refl, ap, ◌∙◌}
+use Rattle.std.specs.Prelude.{nat_lt}
+use Rattle.cm_text.specs.Rules.{Rules, profile}
+use Rattle.cm_tree.specs.Depth.{depth_step, inlines_depth}
+use Rattle.cm_tree.specs.declared.tree.Inline.{Inline}
+use Rattle.cm_tree.specs.declared.tree.Inline.TheVariants.{Text, Code, Emph, Strong, Strike, Link, Image}
+use Rattle.cm_tree.specs.declared.tree.Inline.TheViews.{outs-Text, outs-Code, outs-Emph, outs-Strong, outs-Strike, outs-Link, outs-Image}
+use Rattle.cm_tree.specs.declared.tree.Inline.TheFolds.{fold_out-Inline}
+use Rattle.cm_scan.specs.Inlines.{inlines_of, depth_of_leaf}
+use Rattle.cm_scan.specs.InlineExamples.{struck, Nests}
 use Rattle.cm_scan.proofs.InlineComputing.{inline_structure}
 use Rattle.cm_scan.proofs.inline_laws.inline_examples.Goals as goal
 
@@ -69,3 +78,29 @@ returns-clause-strike c = record { on = refl; off = refl; runs_of_two_alone = re
 pub returns-clause-older_rules : goal.returns-clause-older_rules
 unfolding inline_structure
 returns-clause-older_rules c = record { pound_sign = refl; dollar_sign = refl; short_comment = refl; comment_of_a_hyphen = refl; two_hyphens = refl; hyphen_at_the_end = refl; comment = refl; by_the_profile = refl }
+
+-- the depth of what a source is read as
+nests : (rules : Rules) (source : List ℕ) (content : List Inline) (depth : ℕ) → inlines_of rules (λ folded. None) source ≡ content → inlines_depth content ≡ depth → Nests rules source depth
+unfolding depth_of_leaf
+nests rules source content depth e d = ap inlines_depth e ∙ d
+
+strong_in_emphasis : Nests profile (codes "***a***") 2
+unfolding inline_structure
+strong_in_emphasis = nests profile (codes "***a***") (Emph (Strong (Text (codes "a") ∷ []) ∷ []) ∷ []) 2 refl (simp (fold_out-Inline ℕ depth_step, outs-Emph, outs-Strong, outs-Text))
+
+pub returns-clause-nesting : goal.returns-clause-nesting
+unfolding inline_structure
+returns-clause-nesting c = record {
+  text = nests profile (codes "a") (Text (codes "a") ∷ []) 0 refl (simp (fold_out-Inline ℕ depth_step, outs-Text));
+  two_side_by_side = nests profile (codes "*a* **b**") (Emph (Text (codes "a") ∷ []) ∷ Text (codes " ") ∷ Strong (Text (codes "b") ∷ []) ∷ []) 1 refl
+      (simp (fold_out-Inline ℕ depth_step, outs-Emph, outs-Strong, outs-Text));
+  strong_in_emphasis = strong_in_emphasis;
+  code_and_autolink = nests profile (codes "`a` <bc:d>") (Code (codes "a") ∷ Text (codes " ") ∷ Link (codes "bc:d") [] (Text (codes "bc:d") ∷ []) ∷ []) 1 refl
+      (simp (fold_out-Inline ℕ depth_step, outs-Code, outs-Link, outs-Text));
+  image_in_a_link = nests profile (codes "*[a ![b](c)](d)*") (Emph (Link (codes "d") [] (Text (codes "a ") ∷ Image (codes "c") [] (Text (codes "b") ∷ []) ∷ []) ∷ []) ∷ []) 3 refl
+      (simp (fold_out-Inline ℕ depth_step, outs-Emph, outs-Link, outs-Image, outs-Text));
+  strike_in_emphasis = nests struck (codes "*~~a~~*") (Emph (Strike (Text (codes "a") ∷ []) ∷ []) ∷ []) 2 refl (simp (fold_out-Inline ℕ depth_step, outs-Emph, outs-Strike, outs-Text));
+  no_strike = nests profile (codes "*~~a~~*") (Emph (Text (codes "~~a~~") ∷ []) ∷ []) 1 refl (simp (fold_out-Inline ℕ depth_step, outs-Emph, outs-Text));
+  at_the_limit = ap (λ depth. nat_lt 2 depth) strong_in_emphasis;
+  past_the_limit = ap (λ depth. nat_lt 1 depth) strong_in_emphasis;
+}
