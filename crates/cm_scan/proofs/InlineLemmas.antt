@@ -13,7 +13,7 @@ use Rattle.cm_scan.specs.Pairing.{Item, Characters, Finished, text_before, settl
 use Rattle.cm_scan.specs.Atoms.{AtomRead, Whole, read, is_markup, break_atom, markup_atom, byte_atom, or_byte, atom_at}
 use Rattle.cm_scan.specs.Brackets.{Defined, Bracketed}
 use Rattle.cm_scan.specs.Inlines.{add_atom, item_step, items_after, items_of, inlines_of}
-use Rattle.cm_scan.specs.InlineLaws.{ReadingGoesOn, BracketStep, is_plain_byte, PlainIsItself, keeps_spaces, PlainFrontIsText, SpacesAndLineFeed}
+use Rattle.cm_scan.specs.InlineLaws.{ReadingGoesOn, BracketStep, is_plain_byte, UnmarkedIsPlain, PlainIsItself, keeps_spaces, PlainFrontIsText, SpacesAndLineFeed}
 use Rattle.cm_scan.specs.Pieces.{one_by_one}
 use Rattle.cm_scan.specs.Autolinks.{ends_with}
 
@@ -38,6 +38,9 @@ reading_goes_on rules defined before b taken rest items left =
 pub bracket_step : BracketStep
 unfolding item_step add_atom atom_at markup_atom
 bracket_step rules defined before rest items = refl
+
+pub unmarked_is_plain : UnmarkedIsPlain
+unmarked_is_plain b e = grind (arith, nat_tests, e)
 
 -- the first byte of a source without markup, and the others
 

@@ -1,7 +1,8 @@
 -- Laws of the definitions of inlines.
-use Rattle.std.specs.Prelude.{◌≡◌, ℕ, zero, Bool, true, not, ◌&&◌, ◌||◌, ◌==◌, nat_le, if◌then◌else◌, List, [], ◌∷◌, ◌++◌, replicate, reverse}
+use Rattle.std.specs.Prelude.{◌≡◌, ℕ, zero, Bool, true, false, not, ◌&&◌, ◌||◌, ◌==◌, nat_le, if◌then◌else◌, List, [], ◌∷◌, ◌++◌, replicate, reverse}
 use Rattle.std.specs.List.{list_all}
 use Rattle.cm_text.specs.Rules.{Rules}
+use Rattle.cm_text.specs.Search.{is_marked}
 use Rattle.cm_tree.specs.declared.tree.Inline.TheVariants.{Soft, Hard}
 use Rattle.cm_scan.specs.Words.{begins_with}
 use Rattle.cm_scan.specs.Autolinks.{ends_with}
@@ -31,6 +32,10 @@ BracketStep = (rules : Rules) (defined : Defined) (before rest : List ℕ) (item
 -- a space, or a byte at which no markup begins
 abbrev pub is_plain_byte : ℕ → Bool
 is_plain_byte b = b == 32 || not (is_markup b)
+
+-- What `next_markup` passes over is plain.
+abbrev pub UnmarkedIsPlain : Type 0
+UnmarkedIsPlain = (b : ℕ) → is_marked b ≡ false → is_plain_byte b ≡ true
 
 -- A source without markup is one text, itself, by all rules and whatever is defined.
 abbrev pub PlainIsItself : Type 0

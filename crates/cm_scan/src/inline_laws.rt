@@ -1,5 +1,5 @@
 //! Laws of the definitions of inlines, each the contract of a function that does nothing.
-ghost use Rattle.cm_scan.specs.InlineLaws.{ReadingGoesOn, StepLeavesAnEnd, BracketStep, PlainIsItself, PlainFrontIsText, SpacesAndLineFeed};
+ghost use Rattle.cm_scan.specs.InlineLaws.{ReadingGoesOn, StepLeavesAnEnd, BracketStep, UnmarkedIsPlain, PlainIsItself, PlainFrontIsText, SpacesAndLineFeed};
 ghost use Rattle.cm_scan.specs.Pieces.{TextsInPieces, ReadingInPieces};
 ghost use Rattle.cm_scan.specs.Runs.{RunsAreFew};
 ghost use Rattle.cm_scan.specs.OnePass.{OnePassExamples, PairsInOnePass};
@@ -40,9 +40,10 @@ pub fn runs_are_few()
     ensures { RunsAreFew }
 {}
 
-/// A source without markup is one text, itself. In front of anything else bytes without markup are text, but for
-/// spaces before a line feed, which are a line break with it.
+/// What `cm_text::next_markup` passes over is plain, and a source of plain bytes is one text, itself. In front of
+/// anything else plain bytes are text, but for spaces before a line feed, which are a line break with it.
 pub fn plain_is_itself()
+    ensures unmarked { UnmarkedIsPlain }
     ensures whole { PlainIsItself }
     ensures front { PlainFrontIsText }
     ensures line_break { SpacesAndLineFeed }
