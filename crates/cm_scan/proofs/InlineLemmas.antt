@@ -1,7 +1,6 @@
 -- How inlines are read, step by step.
 use Rattle.std.proofs.Common.{◌≡◌, ℕ, zero, suc, ◌-◌, Bool, true, false, not, ◌&&◌, ◌||◌, ◌==◌, List, [], ◌∷◌, ◌++◌, length, replicate, reverse, Option, Some, None, codes, refl, sym, ap, subst, ◌∙◌, arith, append_assoc, append-nil, length-append}
 use Rattle.std.specs.Prelude.{sum_by, nat_le, if◌then◌else◌}
-use Rattle.std.proofs.lemmas.List.Sums.{sum_by-cons}
 use Rattle.cm_tree.specs.declared.tree.Inline.TheVariants.{Soft, Hard}
 use Rattle.std.specs.List.{list_all}
 use Rattle.std.proofs.lemmas.Bool.{eqb-true, and_parts}
@@ -9,12 +8,13 @@ use Rattle.std.proofs.lemmas.Bool.Decides.{nat_tests}
 use Rattle.std.proofs.lemmas.List.{reverse-append, reverse-reverse}
 use Rattle.cm_text.specs.Rules.{Rules}
 use Rattle.cm_scan.specs.Words.{is_empty, begins_with, run_length, after_word, after_run}
-use Rattle.cm_scan.specs.Pairing.{Item, Characters, Finished, text_before, settled_after, pairs_within, pair_all, room}
+use Rattle.cm_scan.specs.Pairing.{Item, Characters, Finished, settled_after, pairs_within, pair_all, room}
 use Rattle.cm_scan.specs.Atoms.{AtomRead, Whole, read, is_markup, break_atom, markup_atom, byte_atom, or_byte, atom_at}
 use Rattle.cm_scan.specs.Brackets.{Defined, Bracketed}
 use Rattle.cm_scan.specs.Inlines.{add_atom, item_step, items_after, items_of, inlines_of}
 use Rattle.cm_scan.specs.InlineLaws.{ReadingGoesOn, BracketStep, is_plain_byte, UnmarkedIsPlain, PlainIsItself, keeps_spaces, PlainFrontIsText, SpacesAndLineFeed}
 use Rattle.cm_scan.specs.Pieces.{one_by_one}
+use Rattle.cm_scan.proofs.PiecesLemmas.{settled-one_by_one, no-room}
 use Rattle.cm_scan.specs.Autolinks.{ends_with}
 
 -- bytes that belong to what was read last are passed over
@@ -207,27 +207,17 @@ spaces_and_line_feed rules defined before rest (suc n) items =
     ∙ ap (λ (next : Bracketed). items_after rules defined zero (reverse taken ++ 32 ∷ before) rest next.items) step
     ∙ ap (λ passed. items_after rules defined zero passed rest (Finished (if nat_le 2 (suc n) then Hard else Soft) ∷ items)) behind
 
-settled-text : (before text : List ℕ) → settled_after before (one_by_one text) ≡ text_before (before ++ text) []
-unfolding settled_after
-settled-text before [] = ap (λ all. text_before all []) (sym (append-nil before))
-settled-text before (b ∷ bs) =
-    settled-text (before ++ b ∷ []) bs ∙ ap (λ all. text_before all []) (append_assoc before (b ∷ []) bs)
-
 -- nothing pairs
 no-pairs : (n : ℕ) (items : List Item) → n ≡ 0 → pairs_within n items ≡ items
 unfolding pairs_within
 no-pairs n items none = ap (λ k. pairs_within k items) none
 
-no-room : (text : List ℕ) → sum_by room (one_by_one text) ≡ 0
-no-room [] = refl
-no-room (b ∷ bs) = omega (arith, sum_by-cons room (Characters (b ∷ [])) (one_by_one bs), no-room bs)
-
 pub plain_is_itself : PlainIsItself
-unfolding inlines_of items_of pair_all
+unfolding inlines_of items_of pair_all settled_after
 plain_is_itself rules defined source plain =
     ap (λ all. settled_after [] (pairs_within (sum_by room all) all)) items
     ∙ ap (settled_after []) (no-pairs (sum_by room (one_by_one source)) (one_by_one source) (no-room source))
-    ∙ settled-text [] source
+    ∙ ap (settled_after []) (sym (append-nil (one_by_one source))) ∙ settled-one_by_one [] source []
   where
     items : reverse (items_after rules defined zero [] source []) ≡ one_by_one source
     items = ap reverse (plain-items rules defined source plain) ∙ reverse-reverse (one_by_one source)

@@ -31,7 +31,7 @@ back-forward (item ∷ items) =
 
 -- texts settle as they were
 
-settled-one_by_one : (before text : List ℕ) (items : List Item) → settled_after before (one_by_one text ++ items) ≡ settled_after (before ++ text) items
+pub settled-one_by_one : (before text : List ℕ) (items : List Item) → settled_after before (one_by_one text ++ items) ≡ settled_after (before ++ text) items
 unfolding settled_after
 settled-one_by_one before [] items = ap (λ t. settled_after t items) (sym (append-nil before))
 settled-one_by_one before (b ∷ bs) items = settled-one_by_one (before ++ b ∷ []) bs items ∙ ap (λ t. settled_after t items) (append_assoc before (b ∷ []) bs)
@@ -161,7 +161,7 @@ pairs-in-pieces (suc n) items = ap by (leftmost-in-pieces [] items) ∙ go (pair
 
 -- texts have no room for pairs
 
-no-room : (text : List ℕ) → sum_by room (one_by_one text) ≡ 0
+pub no-room : (text : List ℕ) → sum_by room (one_by_one text) ≡ 0
 no-room [] = refl
 no-room (b ∷ bs) = omega (arith, sum_by-cons room (Characters (b ∷ [])) (one_by_one bs), no-room bs)
 
