@@ -1,4 +1,12 @@
 pub mod AskedLemmas
 pub mod CommandLineLemmas
+pub mod EndedLemmas
+pub mod InlineLemmas
+pub mod OrderLemmas
+pub mod OwnerLemmas
+pub mod ParserLemmas
+pub mod PartLemmas
+pub mod ReadLemmas
 pub mod RowLemmas
+pub mod SettledLemmas
 pub mod WalkedLemmas

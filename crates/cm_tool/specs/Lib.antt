@@ -1,4 +1,13 @@
+pub mod Inlines
+pub mod Leaves
+pub mod Fault
+pub mod Faults
+pub mod Reading
+pub mod ReadingExamples
+pub mod Owners
+pub mod Parsing
 pub mod Writing
 pub mod Examples
 pub mod CommandLine
 pub mod Running
+pub mod steps

@@ -1,11 +1,11 @@
 -- What a run of a task, or of what stands in place of a task, writes and answers.
 use Rattle.std.specs.Prelude.{◌≡◌, ℕ, ◌≤◌, List, Result, Ok, Err, length, take, codes, string_bytes, ◌++◌, ◌⊎◌}
-use Rattle.cm_reader.specs.Reading.{SourceView}
+use Rattle.cm_tool.specs.Reading.{SourceView}
 use Rattle.cm_text.specs.Limits.{LimitsView}
 use Rattle.cm_text.specs.Writing.{SinkView, IsUnwritten, Wrote}
 use Rattle.cm_tool.specs.Writing.{Converts}
 use Rattle.cm_tool.specs.Writing.{Lists}
-use Rattle.cm_reader.specs.declared.fault.Fault.{Fault}
+use Rattle.cm_tool.specs.declared.fault.Fault.{Fault}
 use Rattle.cm_tool.specs.declared.job.Job.{Job}
 use Rattle.cm_tool.specs.declared.job.Job.TheVariants.{Render, Tree}
 use Rattle.cm_tool.specs.declared.job.Stop.{Stop}

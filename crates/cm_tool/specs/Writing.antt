@@ -5,9 +5,9 @@ use Rattle.cm_text.specs.Limits.{LimitsView}
 use Rattle.cm_text.specs.Writing.{SinkView, IsUnwritten, Wrote, WroteBeginning}
 use Rattle.cm_html.specs.Html.{html_of}
 use Rattle.cm_html.specs.Listing.{listing_of}
-use Rattle.cm_reader.specs.declared.fault.Fault.{Fault}
-use Rattle.cm_reader.specs.declared.fault.Fault.TheVariants.{NoMemory, WriteFailed}
-use Rattle.cm_reader.specs.Reading.{SourceView, ReadWhole, Refuses, tree_of, owners_of_bytes}
+use Rattle.cm_tool.specs.declared.fault.Fault.{Fault}
+use Rattle.cm_tool.specs.declared.fault.Fault.TheVariants.{NoMemory, WriteFailed}
+use Rattle.cm_tool.specs.Reading.{SourceView, ReadWhole, Refuses, tree_of, owners_of_bytes}
 
 -- the HTML of a text's bytes, by these rules
 abbrev pub converted : Rules → List ℕ → List ℕ

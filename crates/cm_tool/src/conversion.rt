@@ -3,8 +3,9 @@ ghost use Rattle.std.specs.Prelude.{◌≡◌, ℕ, ◌-◌, ◌^◌, ◌<◌, L
 ghost use Rattle.std.specs.Io.KnownBytes.{Consumes};
 ghost use Rattle.cm_tool.specs.Writing.{Converts};
 
+use crate::fault::Fault;
+use crate::reading::read;
 use cm_html::write_html;
-use cm_reader::{Fault, read};
 use cm_text::{Limits, Sink, Source};
 use std::alloc::Global;
 

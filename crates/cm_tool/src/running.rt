@@ -1,13 +1,13 @@
 //! Doing a task, and telling what goes wrong.
 ghost use Rattle.std.specs.Prelude.{◌≡◌, ℕ, ◌+◌, ◌-◌, ◌^◌, ◌<◌, ◌≤◌, ◌++◌, List, Result, IfOk, length, take};
 ghost use Rattle.std.specs.Io.KnownBytes.{Consumes};
-ghost use Rattle.cm_reader.specs.declared.fault.Fault as faults;
+ghost use Rattle.cm_tool.specs.declared.fault.Fault as faults;
 ghost use Rattle.cm_tool.specs.Running.{Answers, Does, Offered, OfferedLine, Tells};
 
 use crate::conversion::convert;
+use crate::fault::Fault;
 use crate::job::{Job, Stop, Task};
 use crate::listing::list;
-use cm_reader::Fault;
 use cm_text::{Sink, Source, WriteFailed, write_all};
 use std::alloc::Global;
 use std::io::{Cursor, Write};

@@ -1,5 +1,7 @@
 use Rattle.std.proofs.Common.{refl}
 use Rattle.std.specs.Fmt.{digits}
+use Rattle.std.specs.Str.{is_utf8, chars}
+use Rattle.std.specs.Str.Lossy.{utf8_valid_len, utf8_error_len}
 use Rattle.cm_tree.specs.declared.tree.Inline.TheViews.{outs-Text as text, outs-Soft as soft}
 use Rattle.cm_tree.specs.declared.tree.Inline.TheFolds.{fold_out-Inline}
 use Rattle.cm_tree.specs.declared.tree.Block.{Block}
@@ -8,12 +10,17 @@ use Rattle.cm_tree.specs.declared.tree.Block.TheFolds.{fold_out-Block}
 use Rattle.cm_scan.proofs.Computing.{block_structure}
 use Rattle.cm_html.specs.Escape.{class_word}
 use Rattle.cm_html.specs.Html.{Spelled, inline_step, Written, block_step}
-use Rattle.cm_reader.specs.Leaves.{read_step}
+use Rattle.cm_tool.specs.Leaves.{read_step}
 use Rattle.cm_tool.proofs.laws.worked_examples.Goals as goal
+use lib.Utf8.{encode}
 
-pub returns : goal.returns
+pub returns-clause-reading : goal.returns-clause-reading
+unfolding block_structure utf8_valid_len utf8_error_len is_utf8 chars encode
+returns-clause-reading c = record { line_before_a_fault = refl; line_cut_by_a_fault = refl; past_the_limit = refl; within_the_limit = refl; carriage_return = refl; unended = refl; unended_at_the_end = refl; no_source = refl; blanks_at_the_end = refl; line_feeds_alone = refl }
+
+pub returns-clause-html : goal.returns-clause-html
 unfolding block_structure class_word digits
-returns c = record {
+returns-clause-html c = record {
   no_text = refl;
   paragraph_over_two_lines = simp (fold_out-Block Block read_step, fold_out-Block Written block_step, fold_out-Inline Spelled inline_step, paragraph, text, soft);
   break_between_paragraphs = simp (fold_out-Block Block read_step, fold_out-Block Written block_step, fold_out-Inline Spelled inline_step, paragraph, thematic, text);

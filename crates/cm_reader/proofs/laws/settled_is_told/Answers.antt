@@ -1,5 +1,0 @@
-use Rattle.cm_reader.proofs.SettledLemmas.{settled_is_told}
-use Rattle.cm_reader.proofs.laws.settled_is_told.Goals as goal
-
-pub returns : goal.returns
-returns c = settled_is_told

@@ -1,0 +1,5 @@
+use Rattle.cm_tool.proofs.OrderLemmas.{faults_in_order}
+use Rattle.cm_tool.proofs.laws.faults_in_order.Goals as goal
+
+pub returns : goal.returns
+returns c = faults_in_order

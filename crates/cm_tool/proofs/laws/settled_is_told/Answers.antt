@@ -1,0 +1,5 @@
+use Rattle.cm_tool.proofs.SettledLemmas.{settled_is_told}
+use Rattle.cm_tool.proofs.laws.settled_is_told.Goals as goal
+
+pub returns : goal.returns
+returns c = settled_is_told

@@ -1,0 +1,47 @@
+-- The fault of an input: a line that stands too deep, or what is wrong with its text.
+use Rattle.std.specs.Prelude.{◌≡◌, ◌↔◌, ℕ, List, ◌++◌, take, Option, Some, None}
+use Rattle.std.specs.Option.{option_map, option_or}
+use Rattle.cm_text.specs.declared.fault.TextFault.{TextFault}
+use Rattle.cm_text.specs.Limits.{LimitsView}
+use Rattle.cm_text.specs.Lines.{LineView, text_of, plain_lines_of, ended_lines_of}
+use Rattle.cm_text.specs.Faults.{valid_len, settled_fault, text_fault}
+use Rattle.cm_text.specs.Settled.{AreBytes}
+use Rattle.cm_scan.specs.Blocks.{first_too_deep}
+use Rattle.cm_tool.specs.declared.fault.Fault.{Fault}
+use Rattle.cm_tool.specs.declared.fault.Fault.TheVariants.{BlocksTooDeep}
+use Rattle.cm_tool.specs.Fault.{told}
+
+-- the first of the lines that has more quotes and items round it than the limit, by the rules of the limits
+abbrev pub too_deep : LimitsView → List LineView → Option Fault
+too_deep limits lines = option_map BlocksTooDeep (first_too_deep limits.rules limits.blocks lines)
+
+-- the longest well-formed front of the bytes within the limit, behind which stands what is wrong with the text
+abbrev pub sound_front : ℕ → List ℕ → List ℕ
+sound_front limit bytes = take (valid_len limit bytes) (take limit bytes)
+
+-- the first line too deep of those that have ended in it
+abbrev pub ended_too_deep : LimitsView → List ℕ → Option Fault
+ended_too_deep limits bytes = too_deep limits (ended_lines_of (text_of (sound_front limits.bytes bytes)))
+
+-- Where something is wrong with the text: the first line too deep of those that have ended before it, else that; a line that it
+-- cuts isn't judged. Where nothing is: the first line too deep of all.
+abbrev pub fault_by : Option TextFault → LimitsView → List ℕ → Option Fault
+fault_by (Some fault) limits bytes = option_or (ended_too_deep limits bytes) (Some (told fault))
+fault_by None limits bytes = too_deep limits (plain_lines_of (text_of bytes))
+
+-- the fault of the bytes where they end
+abbrev pub fault_of : LimitsView → List ℕ → Option Fault
+fault_of limits bytes = fault_by (text_fault limits.bytes bytes) limits bytes
+
+-- The fault of the bytes however they go on: the last line, which hasn't ended, isn't judged.
+abbrev pub settled_fault_of : LimitsView → List ℕ → Option Fault
+settled_fault_of limits bytes = option_or (ended_too_deep limits bytes) (option_map told (settled_fault limits.bytes bytes))
+
+-- The bytes settle a fault if every input that begins with them has it.
+abbrev pub Settles : LimitsView → List ℕ → Fault → Type 0
+Settles limits bytes fault = (more : List ℕ) → AreBytes more → fault_of limits (bytes ++ more) ≡ Some fault
+
+-- The test that a parser makes says just that.
+abbrev pub SettledIsTold : Type 0
+SettledIsTold = (limits : LimitsView) (bytes : List ℕ) (fault : Fault)
+    → (settled_fault_of limits bytes ≡ Some fault) ↔ Settles limits bytes fault

@@ -1,0 +1,14 @@
+-- The owners of a document's lines, and the leaves of its tree.
+use Rattle.std.specs.Prelude.{◌≡◌, ℕ, List, length, Some}
+use Rattle.cm_text.specs.Rules.{Rules}
+use Rattle.cm_text.specs.Lines.{text_of, lines_of}
+use Rattle.cm_scan.specs.Laws.{leaves_named, leaves_in}
+use Rattle.cm_tool.specs.Reading.{doc_of}
+
+-- each line of the text has one owner
+abbrev pub OneOwnerALine : Type 0
+OneOwnerALine = (rules : Rules) (bytes : List ℕ) → length (doc_of rules bytes).owners ≡ length (lines_of (text_of bytes))
+
+-- The leaves of the tree are those that the lines have: one nonempty run of lines each, in the order of their numbers.
+abbrev pub RunsInOrder : Type 0
+RunsInOrder = (rules : Rules) (bytes : List ℕ) → leaves_named (doc_of rules bytes).owners ≡ Some (leaves_in (doc_of rules bytes).blocks)

@@ -1,0 +1,49 @@
+-- What a parser stands for: the bytes so far, whose ended lines have been handed on.
+use Rattle.std.specs.Prelude.{◌≡◌, ℕ, false, List, length, Option, Some, None, Result, Ok, Err, ⊤}
+use Rattle.cm_text.specs.Limits.{LimitsView}
+use Rattle.cm_text.specs.Feed.{Feed, Goes as FeedGoes, cut_bytes}
+use Rattle.cm_block.specs.declared.parser.BlockParser.{BlockParser}
+use Rattle.cm_block.specs.Parser.{StandsFor as HasTaken}
+use Rattle.cm_tree.specs.declared.tree.Doc.{Doc}
+use Rattle.cm_tool.specs.declared.fault.Fault.{Fault}
+use Rattle.cm_tool.specs.declared.fault.Fault.TheVariants.{NotUtf8, TooLong, BlocksTooDeep, NoMemory, ReadFailed, WriteFailed}
+use Rattle.cm_tool.specs.Faults.{fault_of}
+use Rattle.cm_tool.specs.Reading.{doc_of}
+
+-- a parser without where it lies in memory
+pub record ParserView : Type 0 where
+  pub feed : Feed
+  pub blocks : BlockParser
+  pub fault : Option Fault
+
+-- the feed holds what the bytes leave in it, and the blocks have taken in the lines that have ended
+pub record Goes (limits : LimitsView) (feed : Feed) (blocks : BlockParser) (bytes : List ℕ) : Type 0 where
+  pub limit : feed.limit ≡ limits.bytes
+  pub same_limits : blocks.limits ≡ limits
+  pub going : feed.ended ≡ false
+  pub sound : feed.fault ≡ None
+  pub feeds : FeedGoes feed bytes (length (cut_bytes limits.bytes bytes).ended)
+  pub handed : HasTaken blocks (cut_bytes limits.bytes bytes).ended
+
+-- A parser with these limits has been given these bytes, which settle no fault, and can be given more.
+pub record StandsFor (limits : LimitsView) (parser : ParserView) (bytes : List ℕ) : Type 0 where
+  pub no_fault : parser.fault ≡ None
+  pub goes : Goes limits parser.feed parser.blocks bytes
+
+-- a call answers this fault where the input has the other, or none; memory may be refused
+abbrev pub TellsFault : Fault → Option Fault → Type 0
+TellsFault (NotUtf8 at) told = told ≡ Some (NotUtf8 at)
+TellsFault (TooLong at) told = told ≡ Some (TooLong at)
+TellsFault (BlocksTooDeep line) told = told ≡ Some (BlocksTooDeep line)
+TellsFault NoMemory told = ⊤
+TellsFault ReadFailed told = ⊥
+TellsFault (WriteFailed written) told = ⊥
+
+abbrev pub Answers : Result (Unit {0}) Fault → Option Fault → Type 0
+Answers (Ok _) told = told ≡ None
+Answers (Err fault) told = TellsFault fault told
+
+-- the end of the input: its document, or its fault
+abbrev pub Finishes : Result Doc Fault → LimitsView → List ℕ → Type 0
+Finishes (Ok doc) limits bytes = (fault_of limits bytes ≡ None) × (doc ≡ doc_of limits.rules bytes)
+Finishes (Err fault) limits bytes = TellsFault fault (fault_of limits bytes)

@@ -1,0 +1,59 @@
+-- What reading a source to its end answers.
+use Rattle.std.specs.Prelude.{◌≡◌, ℕ, ◌+◌, List, Option, Some, None, Result, Ok, Err, ◌⊎◌}
+use Rattle.std.specs.Io.KnownBytes.{IsAtEnd}
+use Rattle.cm_text.specs.Rules.{Rules}
+use Rattle.cm_text.specs.Limits.{LimitsView}
+use Rattle.cm_text.specs.Lines.{text_of, plain_lines_of}
+use Rattle.cm_tree.specs.declared.tree.Block.{Block}
+use Rattle.cm_tree.specs.declared.tree.Owner.{Owner}
+use Rattle.cm_tree.specs.declared.tree.Doc.{Doc}
+use Rattle.cm_scan.specs.Blocks.{blocks_of, owners_of}
+use Rattle.cm_tool.specs.declared.fault.Fault.{Fault}
+use Rattle.cm_tool.specs.declared.fault.Fault.TheVariants.{NoMemory, ReadFailed, WriteFailed}
+use Rattle.cm_tool.specs.Leaves.{with_inlines}
+use Rattle.cm_tool.specs.Faults.{fault_of, settled_fault_of}
+
+-- the tree of a text's bytes, by these rules
+abbrev pub tree_of : Rules → List ℕ → List Block
+tree_of rules bytes = with_inlines (blocks_of rules (plain_lines_of (text_of bytes)))
+
+-- the owner of each of its lines
+abbrev pub owners_of_bytes : Rules → List ℕ → List Owner
+owners_of_bytes rules bytes = owners_of rules (plain_lines_of (text_of bytes))
+
+abbrev pub doc_of : Rules → List ℕ → Doc
+doc_of rules bytes = record { blocks = tree_of rules bytes; owners = owners_of_bytes rules bytes }
+
+-- a source, by the bytes still to come, where they are known, and the number of failed reads
+pub record SourceView : Type 0 where
+  pub remaining : Option (List ℕ)
+  pub failed : ℕ
+
+-- the text has been read whole, without a failed read, and has no fault
+pub record ReadWhole (limits : LimitsView) (bytes : List ℕ) (old new : SourceView) : Type 0 where
+  pub same : new.failed ≡ old.failed
+  pub at_end : IsAtEnd new.remaining
+  pub sound : fault_of limits bytes ≡ None
+
+-- the input has this fault: the bytes settle it, or they are all
+pub record HasFault (limits : LimitsView) (bytes : List ℕ) (old new : SourceView) (fault : Fault) : Type 0 where
+  pub same : new.failed ≡ old.failed
+  pub told : (settled_fault_of limits bytes ≡ Some fault)
+      ⊎ ((settled_fault_of limits bytes ≡ None) × IsAtEnd new.remaining × (fault_of limits bytes ≡ Some fault))
+
+-- a read failed, and the bytes before it settle no fault
+pub record HasFailed (limits : LimitsView) (bytes : List ℕ) (old new : SourceView) : Type 0 where
+  pub failed : new.failed ≡ old.failed + 1
+  pub sound : settled_fault_of limits bytes ≡ None
+
+-- Why these bytes aren't a document. On want of memory nothing is said of them, and reading writes nothing.
+abbrev pub Refuses : Fault → LimitsView → List ℕ → SourceView → SourceView → Type 0
+Refuses NoMemory limits bytes old new = new.failed ≡ old.failed
+Refuses ReadFailed limits bytes old new = HasFailed limits bytes old new
+Refuses (WriteFailed written) limits bytes old new = ⊥
+Refuses fault limits bytes old new = HasFault limits bytes old new fault
+
+-- what reading these bytes answers: their document, or why there is none
+abbrev pub Reads : Result Doc Fault → LimitsView → List ℕ → SourceView → SourceView → Type 0
+Reads (Ok doc) limits bytes old new = ReadWhole limits bytes old new × (doc ≡ doc_of limits.rules bytes)
+Reads (Err fault) limits bytes old new = Refuses fault limits bytes old new

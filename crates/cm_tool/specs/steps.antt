@@ -1,0 +1,2 @@
+pub mod FaultOrder
+pub mod Pushing

@@ -1,0 +1,37 @@
+-- The faults of an input in the order in which a parser meets them: a line that has ended and is too deep, what is wrong with the text,
+-- the last line. The lines are those that its feed has cut.
+use Rattle.std.specs.Prelude.{◌≡◌, ℕ, List, Option}
+use Rattle.std.specs.Option.{option_map, option_or}
+use Rattle.cm_text.specs.declared.fault.TextFault.{TextFault}
+use Rattle.cm_text.specs.Limits.{LimitsView}
+use Rattle.cm_text.specs.Lines.{text_of, plain_lines_of}
+use Rattle.cm_text.specs.Faults.{settled_fault, text_fault}
+use Rattle.cm_text.specs.Feed.{cut_bytes}
+use Rattle.cm_scan.specs.Blocks.{first_too_deep}
+use Rattle.cm_tool.specs.declared.fault.Fault.{Fault}
+use Rattle.cm_tool.specs.declared.fault.Fault.TheVariants.{BlocksTooDeep}
+use Rattle.cm_tool.specs.Fault.{told}
+use Rattle.cm_tool.specs.Faults.{fault_of, settled_fault_of}
+
+-- the first line too deep of those that have ended, and of all
+abbrev pub ended_deep : LimitsView → List ℕ → Option ℕ
+ended_deep limits bytes = first_too_deep limits.rules limits.blocks (cut_bytes limits.bytes bytes).ended
+
+abbrev pub all_deep : LimitsView → List ℕ → Option ℕ
+all_deep limits bytes = first_too_deep limits.rules limits.blocks (plain_lines_of (text_of bytes))
+
+-- the first of the three
+abbrev pub of_three : Option ℕ → Option TextFault → Option ℕ → Option Fault
+of_three ended wrong all = option_or (option_map BlocksTooDeep ended) (option_or (option_map told wrong) (option_map BlocksTooDeep all))
+
+abbrev pub fault_met : LimitsView → List ℕ → Option Fault
+fault_met limits bytes = of_three (ended_deep limits bytes) (text_fault limits.bytes bytes) (all_deep limits bytes)
+
+-- however the bytes go on
+abbrev pub settled_fault_met : LimitsView → List ℕ → Option Fault
+settled_fault_met limits bytes = option_or (option_map BlocksTooDeep (ended_deep limits bytes)) (option_map told (settled_fault limits.bytes bytes))
+
+-- This order gives the fault that the definition names.
+abbrev pub FaultsInOrder : Type 0
+FaultsInOrder = (limits : LimitsView) (bytes : List ℕ)
+    → (fault_of limits bytes ≡ fault_met limits bytes) × (settled_fault_of limits bytes ≡ settled_fault_met limits bytes)

@@ -1,0 +1,85 @@
+//! Faults, and the texts by which they are told.
+ghost use Rattle.std.specs.Prelude.{◌≡◌};
+
+use cm_block::BlockFault;
+use cm_html::HtmlFault;
+use cm_text::TextFault;
+use std::alloc::AllocError;
+use thiserror::Error;
+
+/// Why a task ends without its answer. Its `Display` is what the program prints after `cmk: `.
+#[derive(Clone, Copy, Debug, PartialEq, Eq, Drop, Error)]
+pub enum Fault {
+    /// The bytes aren't UTF-8; `at` is the length of the longest well-formed front.
+    #[error("F1 not UTF-8 at byte {at}")]
+    NotUtf8 { at: usize },
+    /// There is a byte past the limit, which is `at`.
+    #[error("F2 input too long at byte {at}")]
+    TooLong { at: usize },
+    /// More quotes and items stand round the line, counted from 1, than the limit.
+    #[error("F3 blocks too deep on line {line}")]
+    BlocksTooDeep { line: usize },
+    /// A request for memory was refused.
+    #[error("F5 out of memory")]
+    NoMemory,
+    /// The reader failed, or the file couldn't be opened.
+    #[error("F6 read failed")]
+    ReadFailed,
+    /// The writer failed, or took no byte of a nonempty piece, after it had taken so many bytes.
+    #[error("F7 write failed after {written} bytes")]
+    WriteFailed { written: usize },
+}
+
+impl From<TextFault> for Fault {
+    ghost use Rattle.std.specs.Prelude.{◌≡◌};
+    ghost use Rattle.cm_tool.specs.Fault.{told};
+
+    ghost from_gives = { λ fault e. e ≡ told fault };
+
+    fn from(fault: TextFault) -> Fault {
+        match fault {
+            TextFault::NotUtf8 { at } => Fault::NotUtf8 { at },
+            TextFault::TooLong { at } => Fault::TooLong { at },
+            TextFault::NoMemory => Fault::NoMemory,
+        }
+    }
+}
+
+impl From<BlockFault> for Fault {
+    ghost use Rattle.std.specs.Prelude.{◌≡◌};
+    ghost use Rattle.cm_tool.specs.Fault.{refused};
+
+    ghost from_gives = { λ fault e. e ≡ refused fault };
+
+    fn from(fault: BlockFault) -> Fault {
+        match fault {
+            BlockFault::BlocksTooDeep { line } => Fault::BlocksTooDeep { line },
+            BlockFault::NoMemory => Fault::NoMemory,
+        }
+    }
+}
+
+impl From<AllocError> for Fault {
+    ghost use Rattle.std.specs.Prelude.{◌≡◌};
+    ghost use Rattle.cm_tool.specs.declared.fault.Fault.TheVariants.{NoMemory};
+
+    ghost from_gives = { λ _ e. e ≡ NoMemory };
+
+    fn from(_: AllocError) -> Fault {
+        Fault::NoMemory
+    }
+}
+
+impl From<HtmlFault> for Fault {
+    ghost use Rattle.std.specs.Prelude.{◌≡◌};
+    ghost use Rattle.cm_tool.specs.Fault.{unwritten};
+
+    ghost from_gives = { λ fault e. e ≡ unwritten fault };
+
+    fn from(fault: HtmlFault) -> Fault {
+        match fault {
+            HtmlFault::NoMemory => Fault::NoMemory,
+            HtmlFault::WriteFailed { written } => Fault::WriteFailed { written },
+        }
+    }
+}
