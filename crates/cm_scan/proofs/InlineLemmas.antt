@@ -65,7 +65,7 @@ no-break (b ∷ bs) rest plain some parts =
     other false e = refl
 
     -- behind the last space stands no space, and no line feed
-    last : (rest : List ℕ) → (not (begins_with 32 rest) && not (begins_with 10 rest && true)) ≡ true → after_word (codes "\n") (after_run 32 rest) ≡ None
+    last : (rest : List ℕ) → not ((begins_with 32 rest || begins_with 10 rest) && true) ≡ true → after_word (codes "\n") (after_run 32 rest) ≡ None
     last [] e = refl
     last (c ∷ cs) e = by (c == 32) (c == 10) refl e
       where
@@ -73,7 +73,7 @@ no-break (b ∷ bs) rest plain some parts =
         fed true e = absurd (cc e)
         fed false e = refl
 
-        by : (space feed : Bool) → (c == 10) ≡ feed → (not space && not (feed && true)) ≡ true
+        by : (space feed : Bool) → (c == 10) ≡ feed → not ((space || feed) && true) ≡ true
             → after_word (codes "\n") (elim space as (λ _. List ℕ) [ true ↦ after_run 32 cs | false ↦ c ∷ cs ]) ≡ None
         by true feed q e = absurd (cc e)
         by false true q e = absurd (cc e)
@@ -86,15 +86,14 @@ no-break (b ∷ bs) rest plain some parts =
     go again true p true e =
         let nothing : bs ≡ [] = empty-is bs e in
         ap (λ t. after_word (codes "\n") (after_run 32 (t ++ rest))) nothing
-        ∙ last rest (ap (λ v. not (begins_with 32 rest) && not (begins_with 10 rest && v)) (sym p)
-        ∙ ap (λ t. keeps_spaces rest (b ∷ t)) (sym nothing) ∙ parts)
+        ∙ last rest (ap (λ v. not ((begins_with 32 rest || begins_with 10 rest) && v)) (sym p) ∙ ap (λ t. keeps_spaces rest (b ∷ t)) (sym nothing) ∙ parts)
       where
         empty-is : (t : List ℕ) → is_empty t ≡ true → t ≡ []
         empty-is [] e = refl
         empty-is (c ∷ cs) e = absurd (cc e)
 
 -- so its first byte is read as text
-plain-atom : (rules : Rules) (before : List ℕ) (b : ℕ) (bs rest : List ℕ) → list_all is_plain_byte (b ∷ bs) ≡ true → keeps_spaces rest (b ∷ bs) ≡ true → atom_at rules before b (bs ++ rest) ≡ byte_atom b (bs ++ rest)
+pub plain-atom : (rules : Rules) (before : List ℕ) (b : ℕ) (bs rest : List ℕ) → list_all is_plain_byte (b ∷ bs) ≡ true → keeps_spaces rest (b ∷ bs) ≡ true → atom_at rules before b (bs ++ rest) ≡ byte_atom b (bs ++ rest)
 unfolding atom_at markup_atom break_atom
 plain-atom rules before b bs rest plain parts = go (is_markup b) refl
   where
@@ -114,13 +113,23 @@ plain-atom rules before b bs rest plain parts = go (is_markup b) refl
         ap (or_byte b (bs ++ rest)) (subst (λ c. markup_atom rules before c (bs ++ rest) ≡ None) (sym is)
         (none (subst (λ c. list_all is_plain_byte (c ∷ bs) ≡ true) is plain) (subst (λ c. keeps_spaces rest (c ∷ bs) ≡ true) is parts)))
 
+-- and so do the others
+pub further-keeps : (b : ℕ) (bs rest : List ℕ) → keeps_spaces rest (b ∷ bs) ≡ true → keeps_spaces rest bs ≡ true
+unfolding ends_with
+further-keeps b [] rest parts = none (begins_with 32 rest || begins_with 10 rest)
+  where
+    none : (next : Bool) → not (next && false) ≡ true
+    none true = refl
+    none false = refl
+further-keeps b (c ∷ cs) rest parts = sym (behind-first b (c ∷ cs) rest refl) ∙ parts
+
 pub plain_front_is_text : PlainFrontIsText
 unfolding items_after item_step add_atom ends_with
 plain_front_is_text rules defined before [] rest items plain parts = refl
 plain_front_is_text rules defined before (b ∷ bs) rest items plain parts =
     ap (λ (a : AtomRead). by (add_atom defined items a.atom a.rest)) (plain-atom rules before b bs rest plain parts)
     ∙ ap (λ n. items_after rules defined n (b ∷ before) (bs ++ rest) (Characters (b ∷ []) ∷ items)) nothing
-    ∙ plain_front_is_text rules defined (b ∷ before) bs rest (Characters (b ∷ []) ∷ items) (and_parts (is_plain_byte b) (list_all is_plain_byte bs) plain).1 (further bs refl)
+    ∙ plain_front_is_text rules defined (b ∷ before) bs rest (Characters (b ∷ []) ∷ items) (and_parts (is_plain_byte b) (list_all is_plain_byte bs) plain).1 (further-keeps b bs rest parts)
     ∙ ap (λ passed. items_after rules defined zero passed rest (reverse (one_by_one bs) ++ Characters (b ∷ []) ∷ items)) (sym (append_assoc (reverse bs) (b ∷ []) before) ∙ ap (λ t. t ++ before) (sym (reverse-append (b ∷ []) bs)))
     ∙ ap (items_after rules defined zero (reverse (b ∷ bs) ++ before) rest) (sym (append_assoc (reverse (one_by_one bs)) (Characters (b ∷ []) ∷ []) items)
     ∙ ap (λ all. all ++ items) (sym (reverse-append (Characters (b ∷ []) ∷ []) (one_by_one bs))))
@@ -130,15 +139,6 @@ plain_front_is_text rules defined before (b ∷ bs) rest items plain parts =
 
     nothing : length (bs ++ rest) - length (bs ++ rest) ≡ 0
     nothing = omega arith
-
-    further : (t : List ℕ) → t ≡ bs → keeps_spaces rest bs ≡ true
-    further [] e = ap (keeps_spaces rest) (sym e) ∙ no-end (begins_with 32 rest) (begins_with 10 rest) (ends_with 32 (b ∷ bs)) parts
-      where
-        no-end : (space feed last : Bool) → (not space && not (feed && last)) ≡ true → (not space && not (feed && false)) ≡ true
-        no-end true feed last e = absurd (cc e)
-        no-end false true last e = refl
-        no-end false false last e = refl
-    further (c ∷ cs) e = sym (behind-first b bs rest (ap is_empty (sym e))) ∙ parts
 
 plain-items : (rules : Rules) (defined : Defined) (source : List ℕ) → list_all is_plain_byte source ≡ true → items_after rules defined zero [] source [] ≡ reverse (one_by_one source)
 unfolding items_after

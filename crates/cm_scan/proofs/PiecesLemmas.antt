@@ -36,7 +36,7 @@ unfolding settled_after
 settled-one_by_one before [] items = ap (λ t. settled_after t items) (sym (append-nil before))
 settled-one_by_one before (b ∷ bs) items = settled-one_by_one (before ++ b ∷ []) bs items ∙ ap (λ t. settled_after t items) (append_assoc before (b ∷ []) bs)
 
-settled-pieces : (before : List ℕ) (items : List Item) → settled_after before (in_pieces items) ≡ settled_after before items
+pub settled-pieces : (before : List ℕ) (items : List Item) → settled_after before (in_pieces items) ≡ settled_after before items
 unfolding settled_after
 settled-pieces before [] = refl
 settled-pieces before (Characters text ∷ items) = settled-one_by_one before text (in_pieces items) ∙ settled-pieces (before ++ text) items

@@ -78,7 +78,7 @@ module _ (n : ℕ) where
   unfolding up_to_run
   nothing = refl
 
-  no-run-here : (bs : List ℕ) → ((k : ℕ) → k < length bs → get_or bs k 0 ≡ 96 → ⊥) → up_to_run n false bs ≡ None
+  pub no-run-here : (bs : List ℕ) → ((k : ℕ) → k < length bs → get_or bs k 0 ≡ 96 → ⊥) → up_to_run n false bs ≡ None
   no-run-here bs none =
       plain-run bs (length bs) (omega arith) none
       ∙ ap (λ t. ahead (take (length bs) bs) (up_to_run n false t)) (drop_all (length bs) bs (omega arith)) ∙ ap (ahead (take (length bs) bs)) nothing
@@ -218,6 +218,45 @@ none-later n text from later low h same =
     ap (λ m. as_written m (after_run 96 (drop later text))) same
     ∙ written-none n (after_run 96 (drop later text))
     (ap (λ t. up_to_run n false (after_run 96 t)) (drop-later text from later low) ∙ further-none n false (drop from text) (later - from) h)
+
+-- behind a run begins no other
+
+after-drop : (bs : List ℕ) → drop (run_length 96 bs) bs ≡ after_run 96 bs
+unfolding run_length after_run
+after-drop [] = refl
+after-drop (b ∷ bs) = go (b == 96) (after-drop bs)
+  where
+    go : (c : Bool) → drop (run_length 96 bs) bs ≡ after_run 96 bs
+        → drop (elim c as (λ _. ℕ) [ true ↦ suc (run_length 96 bs) | false ↦ 0 ]) (b ∷ bs) ≡ elim c as (λ _. List ℕ) [ true ↦ after_run 96 bs | false ↦ b ∷ bs ]
+    go true k = k
+    go false k = refl
+
+after-twice : (bs : List ℕ) → after_run 96 (after_run 96 bs) ≡ after_run 96 bs
+unfolding after_run
+after-twice [] = refl
+after-twice (b ∷ bs) = go (b == 96) refl (after-twice bs)
+  where
+    go : (c : Bool) → (b == 96) ≡ c → after_run 96 (after_run 96 bs) ≡ after_run 96 bs
+        → after_run 96 (elim c as (λ _. List ℕ) [ true ↦ after_run 96 bs | false ↦ b ∷ bs ]) ≡ elim c as (λ _. List ℕ) [ true ↦ after_run 96 bs | false ↦ b ∷ bs ]
+    go true e k = k
+    go false e k = ap (λ c. elim c as (λ _. List ℕ) [ true ↦ after_run 96 bs | false ↦ b ∷ bs ]) e
+
+-- where no run is found from a place before a backtick string's end, the string begins no code span
+pub none-behind : (n : ℕ) (text : List ℕ) (from at start : ℕ) → start ≡ at + n → run_length 96 (drop at text) ≡ n → from ≤ start → up_to_run n false (drop from text) ≡ None
+    → spanned_as_written (drop at text) ≡ None
+unfolding spanned_as_written
+none-behind n text from at start place same low h =
+    let left = sym (after-drop (drop at text)) ∙ ap (λ k. drop k (drop at text)) same ∙ drop-drop n at text ∙ ap (λ k. drop k text) (sym place) in
+    ap (λ m. as_written m (after_run 96 (drop at text))) same
+    ∙ written-none n (after_run 96 (drop at text))
+    (ap (up_to_run n false) (sym (after-twice (drop at text))) ∙ ap (λ t. up_to_run n false (after_run 96 t)) (left ∙ drop-later text from start low)
+    ∙ further-none n false (drop from text) (start - from) h)
+
+-- where no run is found behind a run of another length, none is found from before it either
+pub none-before : (n : ℕ) (text : List ℕ) (at plain : ℕ) → Found text at plain → (end : ℕ) → end ≡ at + plain + run_length 96 (drop (at + plain) text) → drop end text ≡ after_run 96 (drop (at + plain) text)
+    → (end - (at + plain) ≡ n → ⊥) → up_to_run n false (drop end text) ≡ None → up_to_run n false (drop at text) ≡ None
+none-before n text at plain found end run left other h =
+    sym (past-run n text at at plain (omega arith) found end run left other ∙ from-here n text at) ∙ ap (ahead_from text at end) h
 
 -- where a backtick string has no end, no later one of the same length has one
 no-run-inside : (n : ℕ) (bs : List ℕ) → up_to_run n false (after_run 96 bs) ≡ None → up_to_run n true bs ≡ None

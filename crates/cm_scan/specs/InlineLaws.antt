@@ -42,9 +42,9 @@ abbrev pub PlainIsItself : Type 0
 PlainIsItself = (rules : Rules) (defined : Defined) (source : List ℕ) → list_all is_plain_byte source ≡ true
     → inlines_of rules defined source ≡ text_before source []
 
--- No space follows the text, and no line feed the spaces at its end: so these stay text.
+-- Neither a space nor a line feed follows a space at the end of the text: so its spaces stay text.
 abbrev pub keeps_spaces : List ℕ → List ℕ → Bool
-keeps_spaces rest text = not (begins_with 32 rest) && not (begins_with 10 rest && ends_with 32 text)
+keeps_spaces rest text = not ((begins_with 32 rest || begins_with 10 rest) && ends_with 32 text)
 
 -- Bytes without markup are text, whatever follows, but for the spaces at their end before a line feed.
 abbrev pub PlainFrontIsText : Type 0

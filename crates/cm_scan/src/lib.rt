@@ -27,4 +27,4 @@ pub use line_forms::{
 };
 pub use links::{LinkDefinition, definition, destination, label, title};
 pub use markers::{ItemMarker, item_marker};
-pub use words::{is_blank_text, trim_end, trim_end_spaces};
+pub use words::{after_run, is_blank_text, trim_end, trim_end_spaces};

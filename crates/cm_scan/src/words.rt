@@ -44,9 +44,9 @@ pub(crate) fn skip_while<F: Fn(u8) -> bool>(bytes: &[u8], test: F) -> &[u8]
     &[]
 }
 
-/// The place behind the run of a byte at a place.
+/// The place behind the run of a byte at a place: as many as stand there in a row, or none.
 #[inline(always)]
-pub(crate) fn after_run(marker: u8, text: &str, at: usize) -> usize
+pub fn after_run(marker: u8, text: &str, at: usize) -> usize
     requires { at ≤ length text.now }
     ensures end { result ≡ at + run_length marker (drop at text.now) }
     ensures within { result ≤ length text.now }

@@ -1,0 +1,450 @@
+-- What begins at a place of a source, by the byte that stands there.
+use Rattle.std.proofs.Common.{◌≡◌, ℕ, suc, ◌+◌, ◌-◌, ◌<◌, ◌≤◌, ◌==◌, ◌&&◌, ◌||◌, not, Bool, true, false, List, [], ◌∷◌, length, take, drop, get_or, reverse, replicate, Option, Some, None, codes, refl, sym, ap, subst, ◌∙◌, arith, length-append, length-drop, drop-drop, get_or-drop}
+use Rattle.std.specs.Prelude.{IsUtf8, nat_le, if◌then◌else◌, encode_utf8_all}
+use Rattle.std.specs.List.{slice_range}
+use Rattle.std.specs.Str.{IsCharBoundary}
+use Rattle.std.proofs.lemmas.Bool.{eqb-true}
+use Rattle.std.proofs.lemmas.List.{drop_more}
+use Rattle.std.proofs.lemmas.Str.{IsCharBoundary-after_ascii}
+use Rattle.cm_text.specs.Rules.{Rules}
+use Rattle.cm_text.specs.Characters.{is_ascii_punct}
+use Rattle.cm_text.specs.References.{reference, reference_at, chars_of}
+use Rattle.cm_text.specs.declared.references.Chars.{Chars}
+use Rattle.cm_tree.specs.Depth.{depth_of}
+use Rattle.cm_tree.specs.declared.tree.Inline.TheVariants as inline
+use Rattle.cm_scan.specs.Words.{begins_with, run_length, after_run, after_word}
+use Rattle.cm_scan.specs.Links.{Reading}
+use Rattle.cm_scan.specs.Autolinks.{Autolink, autolink}
+use Rattle.cm_scan.specs.RawHtml.{raw_html}
+use Rattle.cm_scan.specs.Angles.{Angled, Linked, Tagged, before, tagged, at_angle}
+use Rattle.cm_scan.specs.CodeSpans.{content_of, one_line, stripped, code_span}
+use Rattle.cm_scan.specs.Scanned.{whole_of}
+use Rattle.cm_scan.specs.Pairing as items
+use Rattle.cm_scan.specs.Atoms.{AtomRead, Plain, Whole, Delimiter, OpenBracket, read, is_markup, or_byte, byte_atom, backtick_atom, angle_atom, link_of, backslash_atom, reference_atom, break_atom, run_between, run_atom, tilde_atom, bang_atom, markup_atom, atom_at}
+use Rattle.cm_scan.proofs.ReadFurther.{none-some, false-true}
+use Rattle.cm_scan.proofs.ReadingLemmas.{begins-at}
+use Rattle.cm_scan.proofs.LeftLemmas.{atom-left}
+use Rattle.cm_scan.proofs.RunLemmas.{not-same}
+use Rattle.cm_inline.proofs.DepthLemmas.{code-shallow, html-shallow, hard-shallow, soft-shallow, link-shallow}
+use Rattle.cm_inline.specs.declared.nodes.Node.{Node}
+use Rattle.cm_inline.specs.declared.nodes.Node.TheVariants.{Piece, Characters, Finished}
+use Rattle.cm_inline.specs.Alone.{alone}
+use Rattle.cm_inline.specs.steps.Nodes.{item_of, IsPart}
+use Rattle.cm_inline.specs.steps.Reads.{Stands, atom_in, is_run_marker, is_break_byte, is_lone_byte, IsAtom}
+
+-- the source from the place on
+front : (source : List ℕ) (at b : ℕ) → Stands source at b → drop at source ≡ b ∷ drop (at + 1) source
+front source at b s = drop_more source at 0 s.within ∙ ap (λ c. c ∷ drop (at + 1) source) s.byte
+
+here : (rules : Rules) (source : List ℕ) (at b : ℕ) → Stands source at b → atom_in rules source at ≡ atom_at rules (reverse (take at source)) b (drop (at + 1) source)
+here rules source at b s = ap (λ c. atom_at rules (reverse (take at source)) c (drop (at + 1) source)) s.byte
+
+-- an atom takes a byte or more
+further : (rules : Rules) (source : List ℕ) (at end : ℕ) → at < length source → (atom_in rules source at).rest ≡ drop end source → at < end
+further rules source at end within rest =
+    let left = atom-left rules (reverse (take at source)) (get_or source at 0) (drop (at + 1) source) in
+    let size : length (drop (at + 1) source) ≡ length left.end.front + length (atom_in rules source at).rest = ap length left.end.is ∙ length-append left.end.front (atom_in rules source at).rest in
+    omega (arith, within, size, ap length rest, length-drop (at + 1) source, length-drop end source)
+
+module _ (rules : Rules) (source : List ℕ) (at : ℕ) where
+  is-atom : (node : Node) (end : ℕ) (a : AtomRead) → at < length source → atom_in rules source at ≡ a → a.rest ≡ drop end source → item_of source node ≡ alone a.atom
+      → IsPart source node → IsCharBoundary source end → IsAtom rules source at node end
+  is-atom node end a within same rest item part boundary =
+      let left : (atom_in rules source at).rest ≡ drop end source = ap (λ (t : AtomRead). t.rest) same ∙ rest in
+      record {
+        rest = left;
+        item = item ∙ sym (ap (λ (t : AtomRead). alone t.atom) same);
+        part = part;
+        further = further rules source at end within left;
+        within = boundary.0;
+        boundary = boundary;
+      }
+
+  -- an answer that is this node and this end
+  pub told : (answer : Node × ℕ) (node : Node) (end : ℕ) → answer ≡ (node, end) → IsAtom rules source at node end → IsAtom rules source at answer.0 answer.1
+  told answer node end e is = subst (λ r. IsAtom rules source at r.0 r.1) (sym e) is
+
+  -- a run
+
+  run-front : (m : ℕ) (text : List ℕ) → take (run_length m text) text ≡ replicate (run_length m text) m
+  unfolding run_length
+  run-front m [] = refl
+  run-front m (b ∷ bs) = go (b == m) refl (run-front m bs)
+    where
+      go : (c : Bool) → (b == m) ≡ c → take (run_length m bs) bs ≡ replicate (run_length m bs) m → take (elim c as (λ _. ℕ) [ true ↦ suc (run_length m bs) | false ↦ 0 ]) (b ∷ bs) ≡ replicate (elim c as (λ _. ℕ) [ true ↦ suc (run_length m bs) | false ↦ 0 ]) m
+      go true e again = ap (λ c. c ∷ take (run_length m bs) bs) (eqb-true b m e) ∙ ap (λ t. m ∷ t) again
+      go false e again = refl
+
+  run-is : (m end : ℕ) (a : AtomRead) → Stands source at m → end ≡ at + run_length m (drop at source) → drop end source ≡ after_run m (drop at source) → IsCharBoundary source end
+      → atom_in rules source at ≡ a → a.rest ≡ after_run m (drop at source) → alone a.atom ≡ items.Characters (replicate (run_length m (drop at source)) m) → IsAtom rules source at (Piece at end) end
+  run-is m end a s run left boundary same rest item =
+      let size : end - at ≡ run_length m (drop at source) = omega (arith, run) in
+      let low : at ≤ end = omega (arith, run) in
+      is-atom (Piece at end) end a s.within same (rest ∙ sym left)
+      (ap items.Characters (ap (λ n. take n (drop at source)) size ∙ run-front m (drop at source)) ∙ sym item) (low, s.boundary, boundary) boundary
+
+  -- one byte as text
+
+  one-byte : (b : ℕ) → Stands source at b → slice_range source at (at + 1) ≡ b ∷ []
+  one-byte b s = let one : at + 1 - at ≡ 1 = omega arith in ap (λ n. take n (drop at source)) one ∙ ap (take 1) (front source at b s)
+
+  behind-byte : (b : ℕ) → IsUtf8 source → Stands source at b → b < 128 → IsCharBoundary source (at + 1)
+  behind-byte b utf8 s ascii = IsCharBoundary-after_ascii source at utf8 s.within (omega (arith, s.byte, ascii))
+
+  byte-is : (b : ℕ) (a : AtomRead) → IsUtf8 source → Stands source at b → b < 128 → atom_in rules source at ≡ a → a.rest ≡ drop (at + 1) source → alone a.atom ≡ items.Characters (b ∷ [])
+      → IsAtom rules source at (Piece at (at + 1)) (at + 1)
+  byte-is b a utf8 s ascii same rest item =
+      let low : at ≤ at + 1 = omega arith in
+      is-atom (Piece at (at + 1)) (at + 1) a s.within same rest (ap items.Characters (one-byte b s) ∙ sym item) (low, s.boundary, behind-byte b utf8 s ascii) (behind-byte b utf8 s ascii)
+
+  -- the byte behind it
+  next-stands : (b c : ℕ) → IsUtf8 source → Stands source at b → b < 128 → begins_with c (drop (at + 1) source) ≡ true → Stands source (at + 1) c
+  next-stands b c utf8 s ascii next =
+      let found = begins-at c source (at + 1) next in
+      record { within = found.0; boundary = behind-byte b utf8 s ascii; byte = found.2 }
+
+  -- a code span, or a backtick string as text
+
+  abbrev span_or : List ℕ → Option Reading → Option AtomRead
+  span_or text o = elim o as (λ _. Option AtomRead) [ Some span ↦ read (Whole (inline.Code span.text)) span.rest | None ↦ read (Plain (replicate (run_length 96 text) 96)) (after_run 96 text) ]
+
+  tick-in : (o : Option Reading) → Stands source at 96 → o ≡ code_span (drop at source) → atom_in rules source at ≡ or_byte 96 (drop (at + 1) source) (span_or (drop at source) o)
+  unfolding atom_at markup_atom backtick_atom
+  tick-in o s h =
+      here rules source at 96 s ∙ ap (λ t. or_byte 96 (drop (at + 1) source) (backtick_atom t)) (sym (front source at 96 s))
+      ∙ ap (λ t. or_byte 96 (drop (at + 1) source) (span_or (drop at source) t)) (sym h)
+
+  pub code-span-is : (inside : List ℕ) (end : ℕ) → Stands source at 96 → content_of (Some (record { text = inside; rest = drop end source })) ≡ code_span (drop at source) → IsCharBoundary source end
+      → IsAtom rules source at (Finished (inline.Code (stripped (one_line inside)))) end
+  code-span-is inside end s h boundary =
+      is-atom _ end (record { atom = Whole (inline.Code (stripped (one_line inside))); rest = drop end source }) s.within
+      (tick-in (Some (record { text = stripped (one_line inside); rest = drop end source })) s h) refl refl (code-shallow (stripped (one_line inside))) boundary
+
+  pub backticks-are : (end : ℕ) → Stands source at 96 → None ≡ code_span (drop at source) → end ≡ at + run_length 96 (drop at source) → drop end source ≡ after_run 96 (drop at source)
+      → IsCharBoundary source end → IsAtom rules source at (Piece at end) end
+  backticks-are end s h run left boundary =
+      run-is 96 end (record { atom = Plain (replicate (run_length 96 (drop at source)) 96); rest = after_run 96 (drop at source) }) s run left boundary (tick-in None s h) refl refl
+
+  -- an autolink, raw HTML, or `<` as text
+
+  abbrev angled_or : Option Angled → Option AtomRead
+  angled_or o = elim o as (λ _. Option AtomRead) [
+    | Some angled ↦ elim angled as (λ _. Option AtomRead) [ Linked link ↦ read (Whole (link_of link)) link.rest | Tagged tag ↦ read (Whole (inline.Html tag.text)) tag.rest ]
+    | None ↦ None
+  ]
+
+  abbrev link_or : Option Autolink → Option Angled
+  link_or o = elim o as (λ _. Option Angled) [ Some link ↦ Some (Linked link) | None ↦ tagged (drop at source) (raw_html rules (drop at source)) ]
+
+  angle-in : (o : Option Autolink) → Stands source at 60 → o ≡ autolink (drop at source) → atom_in rules source at ≡ or_byte 60 (drop (at + 1) source) (angled_or (link_or o))
+  unfolding atom_at markup_atom angle_atom at_angle
+  angle-in o s h =
+      here rules source at 60 s ∙ ap (λ t. or_byte 60 (drop (at + 1) source) (angle_atom rules t)) (sym (front source at 60 s))
+      ∙ ap (λ t. or_byte 60 (drop (at + 1) source) (angled_or (link_or t))) (sym h)
+
+  pub link-is : (link : Autolink) (end : ℕ) → Stands source at 60 → Some link ≡ autolink (drop at source) → link.rest ≡ drop end source → IsCharBoundary source end → IsAtom rules source at (Finished (link_of link)) end
+  link-is link end s h rest boundary = is-atom _ end (record { atom = Whole (link_of link); rest = link.rest }) s.within (angle-in (Some link) s h) rest refl (link-shallow link) boundary
+
+  html-in : (o : Option (List ℕ)) → Stands source at 60 → None ≡ autolink (drop at source) → raw_html rules (drop at source) ≡ o → atom_in rules source at ≡ or_byte 60 (drop (at + 1) source) (angled_or (tagged (drop at source) o))
+  html-in o s h e = angle-in None s h ∙ ap (λ t. or_byte 60 (drop (at + 1) source) (angled_or (tagged (drop at source) t))) e
+
+  whole-read : (text html rest : List ℕ) (o : Option (List ℕ)) → Some (record { text = html; rest = rest }) ≡ whole_of text o → (o ≡ Some rest) × (html ≡ before rest text)
+  whole-read text html rest None h = none-some (sym h)
+  whole-read text html rest (Some left) h =
+      let same : rest ≡ left = ap rest_of h in
+      (ap Some (sym same), ap text_of h ∙ ap (λ t. before t text) (sym same))
+    where
+      rest_of : Option Reading → List ℕ
+      rest_of None = []
+      rest_of (Some r) = r.rest
+
+      text_of : Option Reading → List ℕ
+      text_of None = []
+      text_of (Some r) = r.text
+
+  none-read : (text : List ℕ) (o : Option (List ℕ)) → None ≡ whole_of text o → o ≡ None
+  none-read text None h = refl
+  none-read text (Some left) h = none-some h
+
+  pub html-is : (html : List ℕ) (end : ℕ) → Stands source at 60 → None ≡ autolink (drop at source) → Some (record { text = html; rest = drop end source }) ≡ whole_of (drop at source) (raw_html rules (drop at source))
+      → IsCharBoundary source end → IsAtom rules source at (Finished (inline.Html html)) end
+  html-is html end s h e boundary =
+      let parts = whole-read (drop at source) html (drop end source) (raw_html rules (drop at source)) e in
+      is-atom _ end (record { atom = Whole (inline.Html (before (drop end source) (drop at source))); rest = drop end source }) s.within (html-in (Some (drop end source)) s h parts.0) refl
+      (ap (λ t. items.Finished (inline.Html t)) parts.1) (html-shallow html) boundary
+
+  pub angle-is-text : IsUtf8 source → Stands source at 60 → None ≡ autolink (drop at source) → None ≡ whole_of (drop at source) (raw_html rules (drop at source)) → IsAtom rules source at (Piece at (at + 1)) (at + 1)
+  angle-is-text utf8 s h e =
+      byte-is 60 (byte_atom 60 (drop (at + 1) source)) utf8 s (omega arith) (html-in None s h (none-read (drop at source) (raw_html rules (drop at source)) e)) refl refl
+
+  -- a hard line break, an escaped character, or a backslash as text
+
+  slash-in : (rest : List ℕ) → Stands source at 92 → drop (at + 1) source ≡ rest → atom_in rules source at ≡ or_byte 92 rest (backslash_atom (92 ∷ rest))
+  unfolding atom_at markup_atom
+  slash-in rest s e = here rules source at 92 s ∙ ap (λ t. or_byte 92 t (backslash_atom (92 ∷ t))) e
+
+  pub hard-is : IsUtf8 source → Stands source at 92 → begins_with 10 (drop (at + 1) source) ≡ true → IsAtom rules source at (Finished inline.Hard) (at + 2)
+  unfolding backslash_atom after_word
+  hard-is utf8 s next =
+      let feed = next-stands 92 10 utf8 s (omega arith) next in
+      let end : at + 1 + 1 ≡ at + 2 = omega arith in
+      is-atom _ (at + 2) (record { atom = Whole inline.Hard; rest = drop (at + 1 + 1) source }) s.within (slash-in (10 ∷ drop (at + 1 + 1) source) s (front source (at + 1) 10 feed)) (ap (λ n. drop n source) end) refl hard-shallow
+      (subst (IsCharBoundary source) end (IsCharBoundary-after_ascii source (at + 1) utf8 feed.within (omega (arith, feed.byte))))
+
+  abbrev escape_or : Option (List ℕ × ℕ) → List ℕ → Option AtomRead
+  escape_or o text = elim o as (λ _. Option AtomRead) [ Some escaped ↦ read (Plain escaped.0) (drop escaped.1 text) | None ↦ None ]
+
+  pub escape-is : (c : ℕ) → IsUtf8 source → Stands source at 92 → at + 1 < length source → get_or source (at + 1) 0 ≡ c → c < 128 → is_ascii_punct c ≡ true → IsAtom rules source at (Piece (at + 1) (at + 2)) (at + 2)
+  unfolding backslash_atom after_word
+  escape-is c utf8 s within byte ascii punct =
+      let boundary = behind-byte 92 utf8 s (omega arith) in
+      let next : Stands source (at + 1) c = record { within = within; boundary = boundary; byte = byte } in
+      let end : at + 1 + 1 ≡ at + 2 = omega arith in
+      let behind : IsCharBoundary source (at + 2) = subst (IsCharBoundary source) end (IsCharBoundary-after_ascii source (at + 1) utf8 within (omega (arith, byte, ascii))) in
+      let one : at + 2 - (at + 1) ≡ 1 = omega arith in
+      let low : at + 1 ≤ at + 2 = omega arith in
+      is-atom _ (at + 2) (record { atom = Plain (c ∷ []); rest = drop (at + 1 + 1) source }) s.within
+      (slash-in (c ∷ drop (at + 1 + 1) source) s (front source (at + 1) c next) ∙ escaped (c == 10) (no-feed c punct)) (ap (λ n. drop n source) end)
+      (ap items.Characters (ap (λ n. take n (drop (at + 1) source)) one ∙ ap (take 1) (front source (at + 1) c next))) (low, boundary, behind) behind
+    where
+      no-feed : (c : ℕ) → is_ascii_punct c ≡ true → (c == 10) ≡ false
+      no-feed c punct = grind (arith, punct)
+
+      escaped : (feed : Bool) → feed ≡ false
+          → or_byte 92 (c ∷ drop (at + 1 + 1) source) (elim (elim feed as (λ _. Option (List ℕ)) [ true ↦ Some (drop (at + 1 + 1) source) | false ↦ None ]) as (λ _. Option AtomRead) [
+            | Some rest ↦ read (Whole inline.Hard) rest
+            | None ↦ escape_or (if is_ascii_punct c then Some (c ∷ [], 2) else None) (92 ∷ c ∷ drop (at + 1 + 1) source)
+          ]) ≡ record { atom = Plain (c ∷ []); rest = drop (at + 1 + 1) source }
+      escaped true e = false-true (sym e)
+      escaped false e = ap (λ p. or_byte 92 (c ∷ drop (at + 1 + 1) source) (escape_or (if p then Some (c ∷ [], 2) else None) (92 ∷ c ∷ drop (at + 1 + 1) source))) punct
+
+  -- nothing of these follows the backslash
+  escapes-none : (text : List ℕ) → begins_with 10 text ≡ false → (0 < length text → is_ascii_punct (get_or text 0 0) ≡ false) → or_byte 92 text (backslash_atom (92 ∷ text)) ≡ byte_atom 92 text
+  unfolding backslash_atom after_word
+  escapes-none [] feed punct = refl
+  escapes-none (c ∷ cs) feed punct =
+      ap (λ f. or_byte 92 (c ∷ cs) (elim (elim f as (λ _. Option (List ℕ)) [ true ↦ Some cs | false ↦ None ]) as (λ _. Option AtomRead) [
+        | Some rest ↦ read (Whole inline.Hard) rest
+        | None ↦ escape_or (if is_ascii_punct c then Some (c ∷ [], 2) else None) (92 ∷ c ∷ cs)
+      ])) feed
+      ∙ ap (λ p. or_byte 92 (c ∷ cs) (escape_or (if p then Some (c ∷ [], 2) else None) (92 ∷ c ∷ cs))) (punct (omega arith))
+
+  pub backslash-is-text : IsUtf8 source → Stands source at 92 → begins_with 10 (drop (at + 1) source) ≡ false → (at + 1 < length source → is_ascii_punct (get_or source (at + 1) 0) ≡ false)
+      → IsAtom rules source at (Piece at (at + 1)) (at + 1)
+  backslash-is-text utf8 s feed punct =
+      byte-is 92 (byte_atom 92 (drop (at + 1) source)) utf8 s (omega arith)
+      (slash-in (drop (at + 1) source) s refl ∙ escapes-none (drop (at + 1) source) feed
+      (λ some. ap is_ascii_punct (get_or-drop (at + 1) source 0 0 ∙ ap (λ n. get_or source n 0) nothing) ∙ punct (omega (arith, some, length-drop (at + 1) source)))) refl refl
+    where
+      nothing : at + 1 + 0 ≡ at + 1
+      nothing = omega arith
+
+  -- a reference, or `&` as text
+
+  abbrev reference_or : List ℕ → Option (List ℕ × ℕ) → Option AtomRead
+  reference_or text o = elim o as (λ _. Option AtomRead) [ Some found ↦ read (Plain (encode_utf8_all found.0)) (drop found.1 text) | None ↦ None ]
+
+  ampersand-in : (o : Option (List ℕ × ℕ)) → Stands source at 38 → reference (drop at source) ≡ o → atom_in rules source at ≡ or_byte 38 (drop (at + 1) source) (reference_or (drop at source) o)
+  unfolding atom_at markup_atom reference_atom
+  ampersand-in o s e =
+      here rules source at 38 s ∙ ap (λ t. or_byte 38 (drop (at + 1) source) (reference_atom t)) (sym (front source at 38 s))
+      ∙ ap (λ t. or_byte 38 (drop (at + 1) source) (reference_or (drop at source) t)) e
+
+  pub reference-is : (chars : Chars) (end : ℕ) → Stands source at 38 → Some (chars_of chars, end) ≡ reference_at source at → IsCharBoundary source end → IsAtom rules source at (Characters chars) end
+  reference-is chars end s h boundary = go (reference (drop at source)) refl h
+    where
+      go : (o : Option (List ℕ × ℕ)) → reference (drop at source) ≡ o → Some (chars_of chars, end) ≡ elim o as (λ _. Option (List ℕ × ℕ)) [ None ↦ None | Some found ↦ Some (found.0, at + found.1) ]
+          → IsAtom rules source at (Characters chars) end
+      go None e g = none-some (sym g)
+      go (Some found) e g =
+          let same : chars_of chars ≡ found.0 = ap chars_in g in
+          let place : end ≡ at + found.1 = ap end_in g in
+          is-atom _ end (record { atom = Plain (encode_utf8_all found.0); rest = drop found.1 (drop at source) }) s.within (ampersand-in (Some found) s e)
+          (drop-drop found.1 at source ∙ ap (λ n. drop n source) (sym place)) (ap (λ t. items.Characters (encode_utf8_all t)) same) tt boundary
+        where
+          chars_in : Option (List ℕ × ℕ) → List ℕ
+          chars_in None = []
+          chars_in (Some r) = r.0
+
+          end_in : Option (List ℕ × ℕ) → ℕ
+          end_in None = 0
+          end_in (Some r) = r.1
+
+  pub ampersand-is-text : IsUtf8 source → Stands source at 38 → None ≡ reference_at source at → IsAtom rules source at (Piece at (at + 1)) (at + 1)
+  ampersand-is-text utf8 s h = byte-is 38 (byte_atom 38 (drop (at + 1) source)) utf8 s (omega arith) (ampersand-in None s (go (reference (drop at source)) h)) refl refl
+    where
+      go : (o : Option (List ℕ × ℕ)) → None ≡ elim o as (λ _. Option (List ℕ × ℕ)) [ None ↦ None | Some found ↦ Some (found.0, at + found.1) ] → o ≡ None
+      go None g = refl
+      go (Some found) g = none-some g
+
+  -- a line ending with the spaces before it, or a space as text
+
+  abbrev break_or : List ℕ → Option (List ℕ) → Option AtomRead
+  break_or text o = elim o as (λ _. Option AtomRead) [ Some rest ↦ read (Whole (if nat_le 2 (run_length 32 text) then inline.Hard else inline.Soft)) rest | None ↦ None ]
+
+  abbrev BreakRead : ℕ → Type 0
+  BreakRead b = atom_at rules (reverse (take at source)) b (drop (at + 1) source) ≡ or_byte b (drop (at + 1) source) (break_atom (b ∷ drop (at + 1) source))
+
+  feed-read : BreakRead 10
+  unfolding atom_at markup_atom
+  feed-read = refl
+
+  space-read : BreakRead 32
+  unfolding atom_at markup_atom
+  space-read = refl
+
+  break-in : (b : ℕ) (o : Option (List ℕ)) → Stands source at b → is_break_byte b ≡ true → after_word (codes "\n") (after_run 32 (drop at source)) ≡ o
+      → atom_in rules source at ≡ or_byte b (drop (at + 1) source) (break_or (drop at source) o)
+  unfolding break_atom
+  break-in b o s is e =
+      here rules source at b s ∙ by (b == 10) refl is ∙ ap (λ t. or_byte b (drop (at + 1) source) (break_atom t)) (sym (front source at b s))
+      ∙ ap (λ t. or_byte b (drop (at + 1) source) (break_or (drop at source) t)) e
+    where
+      by : (feed : Bool) → (b == 10) ≡ feed → (feed || b == 32) ≡ true → BreakRead b
+      by true p h = subst BreakRead (sym (eqb-true b 10 p)) feed-read
+      by false p h = subst BreakRead (sym (eqb-true b 32 h)) space-read
+
+  feed-next : (text : List ℕ) → begins_with 10 text ≡ true → after_word (codes "\n") text ≡ Some (drop 1 text)
+  unfolding after_word
+  feed-next [] h = false-true h
+  feed-next (b ∷ bs) h = ap (λ f. elim f as (λ _. Option (List ℕ)) [ true ↦ Some bs | false ↦ None ]) h
+
+  no-feed-next : (text : List ℕ) → begins_with 10 text ≡ false → after_word (codes "\n") text ≡ None
+  unfolding after_word
+  no-feed-next [] h = refl
+  no-feed-next (b ∷ bs) h = ap (λ f. elim f as (λ _. Option (List ℕ)) [ true ↦ Some bs | false ↦ None ]) h
+
+  pub break-is : (b feed : ℕ) → IsUtf8 source → Stands source at b → is_break_byte b ≡ true → feed ≡ at + run_length 32 (drop at source) → drop feed source ≡ after_run 32 (drop at source)
+      → begins_with 10 (drop feed source) ≡ true → IsAtom rules source at (Finished (if nat_le 2 (feed - at) then inline.Hard else inline.Soft)) (feed + 1)
+  break-is b feed utf8 s is run left next =
+      let size : feed - at ≡ run_length 32 (drop at source) = omega (arith, run) in
+      let found = begins-at 10 source feed next in
+      is-atom _ (feed + 1) (record { atom = Whole (if nat_le 2 (run_length 32 (drop at source)) then inline.Hard else inline.Soft); rest = drop 1 (drop feed source) }) s.within
+      (break-in b (Some (drop 1 (drop feed source))) s is (ap (after_word (codes "\n")) (sym left) ∙ feed-next (drop feed source) next))
+      (drop-drop 1 feed source) (ap (λ n. items.Finished (if nat_le 2 n then inline.Hard else inline.Soft)) size) (shallow (nat_le 2 (feed - at)))
+      (IsCharBoundary-after_ascii source feed utf8 found.0 (omega (arith, found.2)))
+    where
+      shallow : (hard : Bool) → depth_of (if hard then inline.Hard else inline.Soft) ≤ 1
+      shallow true = hard-shallow
+      shallow false = soft-shallow
+
+  pub space-is-text : (b feed : ℕ) → IsUtf8 source → Stands source at b → is_break_byte b ≡ true → drop feed source ≡ after_run 32 (drop at source)
+      → begins_with 10 (drop feed source) ≡ false → IsAtom rules source at (Piece at (at + 1)) (at + 1)
+  space-is-text b feed utf8 s is left next =
+      byte-is b (byte_atom b (drop (at + 1) source)) utf8 s (small b is)
+      (break-in b None s is (ap (after_word (codes "\n")) (sym left) ∙ no-feed-next (drop feed source) next)) refl refl
+    where
+      small : (b : ℕ) → is_break_byte b ≡ true → b < 128
+      small b h = grind (arith, h)
+
+  -- `![`, or `!` as text
+
+  bang-in : (rest : List ℕ) → Stands source at 33 → drop (at + 1) source ≡ rest → atom_in rules source at ≡ or_byte 33 rest (bang_atom (33 ∷ rest))
+  unfolding atom_at markup_atom
+  bang-in rest s e = here rules source at 33 s ∙ ap (λ t. or_byte 33 t (bang_atom (33 ∷ t))) e
+
+  pub image-is : IsUtf8 source → Stands source at 33 → begins_with 91 (drop (at + 1) source) ≡ true → IsAtom rules source at (Piece at (at + 2)) (at + 2)
+  unfolding bang_atom after_word
+  image-is utf8 s next =
+      let bracket = next-stands 33 91 utf8 s (omega arith) next in
+      let end : at + 1 + 1 ≡ at + 2 = omega arith in
+      let two : at + 2 - at ≡ 2 = omega arith in
+      let low : at ≤ at + 2 = omega arith in
+      let behind : IsCharBoundary source (at + 2) = subst (IsCharBoundary source) end (IsCharBoundary-after_ascii source (at + 1) utf8 bracket.within (omega (arith, bracket.byte))) in
+      is-atom _ (at + 2) (record { atom = OpenBracket true; rest = drop (at + 1 + 1) source }) s.within (bang-in (91 ∷ drop (at + 1 + 1) source) s (front source (at + 1) 91 bracket)) (ap (λ n. drop n source) end)
+      (ap items.Characters (ap (λ n. take n (drop at source)) two ∙ ap (take 2) (front source at 33 s ∙ ap (λ t. 33 ∷ t) (front source (at + 1) 91 bracket)))) (low, s.boundary, behind) behind
+
+  alone-bang : (text : List ℕ) → begins_with 91 text ≡ false → or_byte 33 text (bang_atom (33 ∷ text)) ≡ byte_atom 33 text
+  unfolding bang_atom after_word
+  alone-bang [] h = refl
+  alone-bang (b ∷ bs) h =
+      ap (λ f. or_byte 33 (b ∷ bs) (elim (elim f as (λ _. Option (List ℕ)) [ true ↦ Some bs | false ↦ None ]) as (λ _. Option AtomRead) [ Some rest ↦ read (OpenBracket true) rest | None ↦ None ])) h
+
+  pub bang-is-text : IsUtf8 source → Stands source at 33 → begins_with 91 (drop (at + 1) source) ≡ false → IsAtom rules source at (Piece at (at + 1)) (at + 1)
+  bang-is-text utf8 s next = byte-is 33 (byte_atom 33 (drop (at + 1) source)) utf8 s (omega arith) (bang-in (drop (at + 1) source) s refl ∙ alone-bang (drop (at + 1) source) next) refl refl
+
+  -- a run of a marker
+
+  -- what a marker reads
+  abbrev RunRead : ℕ → List ℕ → Type 0
+  RunRead m text = ((atom_at rules (reverse (take at source)) m text).rest ≡ after_run m (m ∷ text)) × (alone (atom_at rules (reverse (take at source)) m text).atom ≡ items.Characters (replicate (run_length m (m ∷ text)) m))
+
+  star-read : (text : List ℕ) → RunRead 42 text
+  unfolding atom_at markup_atom run_atom run_between
+  star-read text = (refl, refl)
+
+  underscore-read : (text : List ℕ) → RunRead 95 text
+  unfolding atom_at markup_atom run_atom run_between
+  underscore-read text = (refl, refl)
+
+  abbrev tildes : List ℕ → Bool → AtomRead
+  tildes text both = or_byte 126 text (elim both as (λ _. Option AtomRead) [
+    | true ↦ read (Delimiter (run_between rules 126 (run_length 126 (126 ∷ text)) (reverse (take at source)) (after_run 126 (126 ∷ text)))) (after_run 126 (126 ∷ text))
+    | false ↦ read (Plain (replicate (run_length 126 (126 ∷ text)) 126)) (after_run 126 (126 ∷ text))
+  ])
+
+  tildes-read : (text : List ℕ) (both : Bool) → ((tildes text both).rest ≡ after_run 126 (126 ∷ text)) × (alone (tildes text both).atom ≡ items.Characters (replicate (run_length 126 (126 ∷ text)) 126))
+  unfolding run_between
+  tildes-read text true = (refl, refl)
+  tildes-read text false = (refl, refl)
+
+  tilde-read : (text : List ℕ) → RunRead 126 text
+  unfolding atom_at markup_atom tilde_atom run_atom
+  tilde-read text = tildes-read text (rules.strike && run_length 126 (126 ∷ text) == 2)
+
+  run-read : (m : ℕ) → is_run_marker m ≡ true → (text : List ℕ) → RunRead m text
+  run-read m is text = by (m == 42) (m == 95) (m == 126) refl refl refl is
+    where
+      by : (a b c : Bool) → (m == 42) ≡ a → (m == 95) ≡ b → (m == 126) ≡ c → (a || b || c) ≡ true → RunRead m text
+      by true b c p q r h = subst (λ d. RunRead d text) (sym (eqb-true m 42 p)) (star-read text)
+      by false true c p q r h = subst (λ d. RunRead d text) (sym (eqb-true m 95 q)) (underscore-read text)
+      by false false true p q r h = subst (λ d. RunRead d text) (sym (eqb-true m 126 r)) (tilde-read text)
+      by false false false p q r h = false-true h
+
+  pub marker-run-is : (m end : ℕ) → Stands source at m → is_run_marker m ≡ true → end ≡ at + run_length m (drop at source) → drop end source ≡ after_run m (drop at source)
+      → IsCharBoundary source end → IsAtom rules source at (Piece at end) end
+  marker-run-is m end s is run left boundary =
+      let a = run-read m is (drop (at + 1) source) in
+      let f = front source at m s in
+      run-is m end (atom_at rules (reverse (take at source)) m (drop (at + 1) source)) s run left boundary (here rules source at m s)
+      (a.0 ∙ ap (after_run m) (sym f)) (a.1 ∙ ap (λ t. items.Characters (replicate (run_length m t) m)) (sym f))
+
+  -- a byte by itself
+
+  abbrev LoneRead : ℕ → Type 0
+  LoneRead b = ((atom_at rules (reverse (take at source)) b (drop (at + 1) source)).rest ≡ drop (at + 1) source) × (alone (atom_at rules (reverse (take at source)) b (drop (at + 1) source)).atom ≡ items.Characters (b ∷ []))
+
+  opening-read : LoneRead 91
+  unfolding atom_at markup_atom
+  opening-read = (refl, refl)
+
+  closing-read : LoneRead 93
+  unfolding atom_at markup_atom
+  closing-read = (refl, refl)
+
+  plain-read : (b : ℕ) → is_markup b ≡ false → atom_at rules (reverse (take at source)) b (drop (at + 1) source) ≡ byte_atom b (drop (at + 1) source)
+  unfolding atom_at
+  plain-read b e = ap (λ m. elim m as (λ _. AtomRead) [ true ↦ or_byte b (drop (at + 1) source) (markup_atom rules (reverse (take at source)) b (drop (at + 1) source)) | false ↦ byte_atom b (drop (at + 1) source) ]) e
+
+  pub lone-is : (b : ℕ) → IsUtf8 source → Stands source at b → b < 128 → is_lone_byte b ≡ true → IsAtom rules source at (Piece at (at + 1)) (at + 1)
+  lone-is b utf8 s ascii is =
+      let a = by (b == 91) (b == 93) (is_markup b) refl refl refl is in
+      byte-is b (atom_at rules (reverse (take at source)) b (drop (at + 1) source)) utf8 s ascii (here rules source at b s) a.0 a.1
+    where
+      by : (x y m : Bool) → (b == 91) ≡ x → (b == 93) ≡ y → is_markup b ≡ m → (x || y || not m) ≡ true → LoneRead b
+      by true y m p q r h = subst LoneRead (sym (eqb-true b 91 p)) opening-read
+      by false true m p q r h = subst LoneRead (sym (eqb-true b 93 q)) closing-read
+      by false false true p q r h = false-true h
+      by false false false p q r h = (ap (λ (t : AtomRead). t.rest) (plain-read b r), ap (λ (t : AtomRead). alone t.atom) (plain-read b r))
+
+-- a byte that is none of those
+pub lone-byte : (b : ℕ) → (b ≡ 10 → ⊥) → (b ≡ 32 → ⊥) → (b ≡ 33 → ⊥) → (b ≡ 38 → ⊥) → (b ≡ 42 → ⊥) → (b ≡ 60 → ⊥) → (b ≡ 92 → ⊥) → (b ≡ 95 → ⊥) → (b ≡ 96 → ⊥) → (b ≡ 126 → ⊥)
+    → is_lone_byte b ≡ true
+lone-byte b feed space bang ampersand star angle slash underscore tick tilde =
+    rw (not-same b 10 feed, not-same b 32 space, not-same b 33 bang, not-same b 38 ampersand, not-same b 42 star, not-same b 60 angle, not-same b 92 slash, not-same b 95 underscore, not-same b 96 tick, not-same b 126 tilde)
+    (go (b == 91) (b == 93))
+  where
+    go : (x y : Bool) → (x || y || not (false || x || false || y || false || false || false)) ≡ true
+    go true y = refl
+    go false true = refl
+    go false false = refl

@@ -1,0 +1,40 @@
+use Rattle.std.proofs.Common.{◌≡◌, ◌+◌, ◌<◌, get_or, sym, ap, arith}
+use Rattle.cm_inline.specs.declared.nodes.Node.TheVariants.{Piece}
+use Rattle.cm_inline.specs.steps.Reads.{Stands}
+use Rattle.cm_inline.proofs.AtomLemmas.{told, lone-is, lone-byte}
+use Rattle.cm_inline.proofs.atoms.atom.Goals as goal
+
+pub returns-in-92-clause-atom : goal.returns-in-92-clause-atom
+returns-in-92-clause-atom c = c.backslash.ensures c.args.rules
+
+pub returns-in-38-clause-atom : goal.returns-in-38-clause-atom
+returns-in-38-clause-atom c = c.ampersand.ensures c.args.rules
+
+pub returns-in-10-clause-atom : goal.returns-in-10-clause-atom
+returns-in-10-clause-atom c = c.line_break.ensures c.args.rules
+
+pub returns-in-32-clause-atom : goal.returns-in-32-clause-atom
+returns-in-32-clause-atom c = c.line_break-in-32.ensures c.args.rules
+
+pub returns-in-33-clause-atom : goal.returns-in-33-clause-atom
+returns-in-33-clause-atom c = c.exclamation_mark.ensures c.args.rules
+
+pub returns-in-42-clause-atom : goal.returns-in-42-clause-atom
+returns-in-42-clause-atom c = c.run.ensures c.args.rules
+
+pub returns-in-95-clause-atom : goal.returns-in-95-clause-atom
+returns-in-95-clause-atom c = c.run-in-95.ensures c.args.rules
+
+pub returns-in-126-clause-atom : goal.returns-in-126-clause-atom
+returns-in-126-clause-atom c = c.run-in-126.ensures c.args.rules
+
+pub returns-in_default-clause-atom : goal.returns-in_default-clause-atom
+returns-in_default-clause-atom c =
+    let source = c.args.source.now in
+    let b = get_or c.as_bytes.result.now c.args.at 0 in
+    let byte : get_or source c.args.at 0 ≡ b = ap (λ t. get_or t c.args.at 0) (sym c.as_bytes.ensures.value) in
+    let stands : Stands source c.args.at b = record { within = c.requires.within; boundary = c.requires.boundary; byte = byte } in
+    let ascii : b < 128 = omega (arith, byte, c.requires.ascii) in
+    let lone = lone-byte b (λ e. absurd (omega (arith, e))) (λ e. absurd (omega (arith, e))) (λ e. absurd (omega (arith, e))) (λ e. absurd (omega (arith, e))) (λ e. absurd (omega (arith, e)))
+    (λ e. absurd (omega (arith, e))) (λ e. absurd (omega (arith, e))) (λ e. absurd (omega (arith, e))) (λ e. absurd (omega (arith, e))) (λ e. absurd (omega (arith, e))) in
+    told c.args.rules source c.args.at c.text.result (Piece c.args.at (c.args.at + 1)) (c.args.at + 1) c.text.ensures (lone-is c.args.rules source c.args.at b c.utf8.source stands ascii lone)

@@ -1,0 +1,25 @@
+use Rattle.std.proofs.Common.{◌+◌, ◌-◌, refl, arith}
+use Rattle.cm_scan.proofs.RunLemmas.{further}
+use Rattle.cm_inline.proofs.EndsLemmas.{next-tick, no-tick, none-behind-last}
+use Rattle.cm_inline.proofs.ends.last_backticks.Goals as goal
+
+pub loop-plain-smaller : goal.loop-plain-smaller
+loop-plain-smaller c =
+    let source = c.args.source.now in
+    let found = next-tick c.as_bytes.result.now source c.loop-plain.at c.in-Some.plain c.as_bytes.ensures.value c.loop-plain.invariant.within c.in-Some.ensures in
+    let more = further 0 source c.loop-plain.at c.loop-plain.at c.in-Some.plain (omega arith) found c.after_run-at.result c.after_run-at.ensures.end c.after_run-at.ensures.behind in
+    omega (arith, more, c.after_run-at.ensures.within)
+
+pub loop-plain-preserved : goal.loop-plain-preserved
+loop-plain-preserved c =
+    let source = c.args.source.now in
+    let found = next-tick c.as_bytes.result.now source c.loop-plain.at c.in-Some.plain c.as_bytes.ensures.value c.loop-plain.invariant.within c.in-Some.ensures in
+    record {
+      none = none-behind-last c.loop-plain.last c.insert.new.self (c.after_run-at.result - (c.loop-plain.at + c.in-Some.plain)) c.after_run-at.result c.in_ok-insert.ensures.updates
+          source c.loop-plain.at c.in-Some.plain found c.after_run-at.ensures.end c.after_run-at.ensures.behind refl c.loop-plain.invariant.none;
+      within = c.after_run-at.ensures.within;
+    }
+
+pub returns : goal.returns
+returns c = λ count.
+    c.loop-plain.invariant.none count (no-tick count c.as_bytes.result.now c.args.source.now c.loop-plain.at c.as_bytes.ensures.value c.in_default.ensures)

@@ -1,0 +1,14 @@
+use Rattle.std.proofs.Common.{◌≡◌, ℕ, ◌-◌, ◌≤◌, false, None, length, drop}
+use Rattle.cm_scan.specs.CodeSpans.{up_to_run}
+use Rattle.cm_inline.specs.steps.Missing.{behind_last}
+use Rattle.cm_inline.proofs.ends.last_backticks.Given as goal
+
+-- what isn't found from here on isn't found behind the last one so far
+abbrev pub invariant-loop-plain : goal.invariant-loop-plain
+invariant-loop-plain l = record {
+  none : (count : ℕ) → up_to_run count false (drop l.at l.source) ≡ None → up_to_run count false (drop (behind_last l.last count) l.source) ≡ None;
+  within : l.at ≤ length l.source;
+}
+
+abbrev pub decreases-loop-plain : goal.decreases-loop-plain
+decreases-loop-plain l = length l.source - l.at

@@ -1,0 +1,60 @@
+-- The list of nodes into which a source is read.
+use Rattle.std.specs.Prelude.{ℕ, ◌≤◌, nat_lt, if◌then◌else◌, Bool, true, false, List, [], ◌∷◌, ◌++◌, map, encode_utf8_all, ⊤}
+use Rattle.std.specs.List.{slice_range}
+use Rattle.std.specs.Str.{IsCharBoundary}
+use Rattle.cm_text.specs.References.{chars_of}
+use Rattle.cm_tree.specs.declared.tree.Inline.{Inline}
+use Rattle.cm_tree.specs.Depth.{depth_of}
+use Rattle.cm_scan.specs.Pairing as items
+use Rattle.cm_inline.specs.declared.nodes.Node.{Node}
+use Rattle.cm_inline.specs.declared.nodes.Node.TheVariants.{Piece, Characters, Finished}
+
+-- a node of a source as an item
+abbrev pub item_of : List ℕ → Node → items.Item
+item_of source (Piece from to) = items.Characters (slice_range source from to)
+item_of source (Characters chars) = items.Characters (encode_utf8_all (chars_of chars))
+item_of source (Finished inline) = items.Finished inline
+
+abbrev pub items_of : List ℕ → List Node → List items.Item
+items_of source nodes = map (item_of source) nodes
+
+-- the source between two places as text, if there is any
+abbrev pub text_between : ℕ → ℕ → List Node
+text_between from to = if nat_lt from to then Piece from to ∷ [] else []
+
+-- the inline that a node is, if it is one
+abbrev pub inline_of : Node → List Inline
+inline_of (Piece from to) = []
+inline_of (Characters chars) = []
+inline_of (Finished inline) = inline ∷ []
+
+abbrev pub is_text : Node → Bool
+is_text (Piece from to) = true
+is_text (Characters chars) = true
+is_text (Finished inline) = false
+
+-- the text of a node
+abbrev pub text_in : List ℕ → Node → List ℕ
+text_in source (Piece from to) = slice_range source from to
+text_in source (Characters chars) = encode_utf8_all (chars_of chars)
+text_in source (Finished inline) = []
+
+-- the text with which the nodes begin
+abbrev pub text_in_front : List ℕ → List Node → List ℕ
+text_in_front source [] = []
+text_in_front source (node ∷ nodes) = elim (is_text node) [ true ↦ text_in source node ++ text_in_front source nodes | false ↦ [] ]
+
+-- the nodes behind it
+abbrev pub behind_texts : List Node → List Node
+behind_texts [] = []
+behind_texts (node ∷ nodes) = elim (is_text node) [ true ↦ behind_texts nodes | false ↦ node ∷ nodes ]
+
+-- The places between which a piece lies part characters of the source, and an inline nests once at most.
+abbrev pub IsPart : List ℕ → Node → Type 0
+IsPart source (Piece from to) = (from ≤ to) × IsCharBoundary source from × IsCharBoundary source to
+IsPart source (Characters chars) = ⊤
+IsPart source (Finished inline) = depth_of inline ≤ 1
+
+abbrev pub AreParts : List ℕ → List Node → Type 0
+AreParts source [] = ⊤
+AreParts source (node ∷ nodes) = IsPart source node × AreParts source nodes

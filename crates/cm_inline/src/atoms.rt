@@ -1,0 +1,246 @@
+//! The atoms of a leaf's source: what begins at a place (CommonMark 0.31.2, chapter 6).
+ghost use Rattle.std.specs.Prelude.{◌≡◌, ◌+◌, ◌<◌, ◌≤◌, ℕ, List, true, false, length, drop, slice_index, nat_le, if◌then◌else◌, IfOk, OnOk, IfSome, IsUtf8};
+ghost use Rattle.std.specs.Str.{IsCharBoundary};
+ghost use Rattle.cm_tree.specs.declared.tree.Inline.TheVariants.{Soft, Hard};
+ghost use Rattle.cm_scan.specs.RawHtml.{raw_html};
+ghost use Rattle.cm_scan.specs.Scanned.{reading_of, whole_of, autolink_with};
+ghost use Rattle.cm_scan.specs.Atoms.{link_of};
+ghost use Rattle.cm_scan.specs.Words.{begins_with};
+ghost use Rattle.cm_text.specs.Rules.{Rules};
+ghost use Rattle.cm_inline.specs.steps.Missing.{Knows};
+ghost use Rattle.cm_inline.specs.declared.nodes.Node.TheVariants.{Piece};
+ghost use Rattle.cm_inline.specs.steps.Reads.{Stands, IsTextTo, IsAtom, is_break_byte, is_run_marker};
+
+use crate::code::content_of;
+use crate::ends::{Ends, form_at};
+use crate::nodes::Node;
+use cm_scan::{Autolink, after_run, autolink, code_span, raw_html_by, trim_end_spaces};
+use cm_text::{Rules, is_ascii_punct, next_markup, reference_at};
+use cm_tree::{Inline, Items, Text};
+use std::alloc::{AllocError, Global};
+
+/// The place where the text ends that goes on from a place: that of the next byte with which something else can
+/// begin, or that of the spaces before a line feed.
+pub(crate) fn text_end(source: &str, at: usize) -> usize
+    requires { IsCharBoundary source.now at }
+    ensures { IsTextTo source.now at result }
+{
+    let end = next_markup(source.as_bytes(), at);
+    if end < source.len() && source.as_bytes()[end] == b'\n' {
+        return at + trim_end_spaces(&source[at..end]).len();
+    }
+    end
+}
+
+/// What begins at a place, and where it ends.
+pub(crate) fn atom(
+    alloc: Global,
+    rules: Rules,
+    source: &str,
+    at: usize,
+    ends: &mut Ends,
+) -> Result<(Node, usize), AllocError>
+    requires within { at < length source.now }
+    requires boundary { IsCharBoundary source.now at }
+    requires ascii { slice_index source.now at < 128 }
+    requires knows { Knows source.now ends.old }
+    ensures atom { IfOk result (λ read. IsAtom rules source.now at read.0 read.1) }
+    ensures knows { OnOk result (Knows source.now ends.new) }
+{
+    let b = source.as_bytes()[at];
+    match b {
+        b'`' => backticks(alloc, source, at, ends),
+        b'<' => angle(alloc, rules, source, at, ends),
+        b'\\' => Ok(backslash(source, at)),
+        b'&' => Ok(ampersand(source, at)),
+        b'\n' => Ok(line_break(source, at)),
+        b' ' => Ok(line_break(source, at)),
+        b'!' => Ok(exclamation_mark(source, at)),
+        b'*' => Ok(run(source, b'*', at)),
+        b'_' => Ok(run(source, b'_', at)),
+        b'~' => Ok(run(source, b'~', at)),
+        _ => Ok(text(at, at + 1)),
+    }
+}
+
+/// The text between two places.
+#[inline(always)]
+fn text(at: usize, end: usize) -> (Node, usize)
+    ensures { result ≡ (Piece at end, end) }
+{
+    (Node::Piece { from: at, to: end }, end)
+}
+
+/// Whether this byte stands at a place.
+#[inline(always)]
+fn is_at(source: &str, at: usize, b: u8) -> bool
+    ensures { result ≡ begins_with b (drop at source.now) }
+{
+    at < source.len() && source.as_bytes()[at] == b
+}
+
+/// A code span, or the whole backtick string as text (6.1 Code spans).
+fn backticks(
+    alloc: Global,
+    source: &str,
+    at: usize,
+    ends: &mut Ends,
+) -> Result<(Node, usize), AllocError>
+    requires stands { Stands source.now at 96 }
+    requires knows { Knows source.now ends.old }
+    ensures atom { IfOk result (λ read. (rules : Rules) → IsAtom rules source.now at read.0 read.1) }
+    ensures knows { OnOk result (Knows source.now ends.new) }
+{
+    let start = after_run(b'`', source, at);
+    if ends.is_last_backticks(source, start - at, start) {
+        return Ok(text(at, start));
+    }
+    match code_span(source, at) {
+        Some((inside, end)) => {
+            let code = Inline::Code(content_of(alloc, inside)?);
+            Ok((Node::Finished(code), end))
+        }
+        None => {
+            ends.look_for_backticks(alloc, source)?;
+            Ok(text(at, start))
+        }
+    }
+}
+
+/// An autolink, raw HTML, or `<` as text (6.5 Autolinks, 6.6 Raw HTML).
+fn angle(
+    alloc: Global,
+    rules: Rules,
+    source: &str,
+    at: usize,
+    ends: &mut Ends,
+) -> Result<(Node, usize), AllocError>
+    requires stands { Stands source.now at 60 }
+    requires knows { Knows source.now ends.old }
+    ensures atom { IfOk result (λ read. IsAtom rules source.now at read.0 read.1) }
+    ensures knows { OnOk result (Knows source.now ends.new) }
+{
+    if let Some((link, end)) = autolink(source, at) {
+        return Ok((Node::Finished(link_of(alloc, link)?), end));
+    }
+    match raw_html(rules, source, at, ends) {
+        Some((html, end)) => {
+            let html = Inline::Html(Text::from_str(alloc, html)?);
+            Ok((Node::Finished(html), end))
+        }
+        None => Ok(text(at, at + 1)),
+    }
+}
+
+/// An autolink as a link.
+fn link_of(alloc: Global, link: Autolink<'_>) -> Result<Inline, AllocError>
+    ensures { IfOk result (λ made. (rest : List ℕ) → made ≡ link_of (autolink_with link.entry.is_address link.entry.text.now rest)) }
+{
+    let mut dest = String::new(alloc);
+    if link.is_address {
+        dest.push_str("mailto:")?;
+    }
+    dest.push_str(link.text)?;
+    let mut content = Items::new(alloc);
+    content.push(Inline::Text(Text::from_str(alloc, link.text)?))?;
+    Ok(Inline::Link {
+        dest: Text::from(dest),
+        title: Text::new(alloc),
+        content,
+    })
+}
+
+/// The raw HTML at a place. An end that is known to be missing isn't looked for.
+fn raw_html<'a>(
+    rules: Rules,
+    source: &'a str,
+    at: usize,
+    ends: &mut Ends,
+) -> Option<(&'a str, usize)>
+    requires stands { Stands source.now at 60 }
+    requires knows { Knows source.now ends.old }
+    ensures read { reading_of source.now result ≡ whole_of (drop at source.now) (raw_html rules (drop at source.now)) }
+    ensures utf8 { IfSome result (λ read. IsUtf8 read.0.now) }
+    ensures boundary { IfSome result (λ read. IsCharBoundary source.now read.1) }
+    ensures knows { Knows source.now ends.new }
+{
+    let Some(form) = form_at(rules, source, at) else {
+        return raw_html_by(rules, source, at);
+    };
+    if ends.is_missing(form, at) {
+        return None;
+    }
+    let html = raw_html_by(rules, source, at);
+    if html.is_none() {
+        ends.look_for_end(form, source, at);
+    }
+    html
+}
+
+/// A hard line break, an escaped character, or a backslash as text (6.7 Hard line breaks, 2.4 Backslash escapes).
+fn backslash(source: &str, at: usize) -> (Node, usize)
+    requires { Stands source.now at 92 }
+    ensures { (rules : Rules) → IsAtom rules source.now at result.0 result.1 }
+{
+    if is_at(source, at + 1, b'\n') {
+        return (Node::Finished(Inline::Hard), at + 2);
+    }
+    if at + 1 < source.len() && is_ascii_punct(source.as_bytes()[at + 1] as char) {
+        return text(at + 1, at + 2);
+    }
+    text(at, at + 1)
+}
+
+/// A reference, or `&` as text (2.5 Entity and numeric character references).
+fn ampersand(source: &str, at: usize) -> (Node, usize)
+    requires { Stands source.now at 38 }
+    ensures { (rules : Rules) → IsAtom rules source.now at result.0 result.1 }
+{
+    match reference_at(source, at) {
+        Some((chars, end)) => (Node::Characters(chars), end),
+        None => text(at, at + 1),
+    }
+}
+
+/// A line feed with the spaces before it, or one space as text (6.7 Hard line breaks, 6.8 Soft line breaks).
+fn line_break(source: &str, at: usize) -> (Node, usize)
+    requires stands { (b : ℕ) × Stands source.now at b × (is_break_byte b ≡ true) }
+    ensures { (rules : Rules) → IsAtom rules source.now at result.0 result.1 }
+{
+    let feed = after_run(b' ', source, at);
+    if !is_at(source, feed, b'\n') {
+        return text(at, at + 1);
+    }
+    (Node::Finished(break_behind(feed - at)), feed + 1)
+}
+
+/// The line break behind so many spaces.
+fn break_behind(spaces: usize) -> Inline
+    ensures { result ≡ (if nat_le 2 spaces then Hard else Soft) }
+{
+    if spaces >= 2 {
+        Inline::Hard
+    } else {
+        Inline::Soft
+    }
+}
+
+/// `![`, or `!` as text (6.4 Images).
+fn exclamation_mark(source: &str, at: usize) -> (Node, usize)
+    requires { Stands source.now at 33 }
+    ensures { (rules : Rules) → IsAtom rules source.now at result.0 result.1 }
+{
+    if is_at(source, at + 1, b'[') {
+        return text(at, at + 2);
+    }
+    text(at, at + 1)
+}
+
+/// A run of a marker.
+fn run(source: &str, marker: u8, at: usize) -> (Node, usize)
+    requires stands { Stands source.now at marker }
+    requires marker { is_run_marker marker ≡ true }
+    ensures { (rules : Rules) → IsAtom rules source.now at result.0 result.1 }
+{
+    text(at, after_run(marker, source, at))
+}

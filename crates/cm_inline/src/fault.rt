@@ -1,0 +1,27 @@
+//! What can be wrong with the inlines of a leaf.
+ghost use Rattle.std.specs.Prelude.{◌≡◌};
+
+use std::alloc::AllocError;
+use thiserror::Error;
+
+/// Why the inlines of a leaf are refused.
+#[derive(Clone, Copy, Debug, PartialEq, Eq, Drop, Error)]
+pub enum InlineFault {
+    /// Emphasis, strong emphasis, strikethrough, links and images nest deeper than the limit.
+    #[error("inlines too deep")]
+    InlinesTooDeep,
+    /// A request for memory was refused.
+    #[error("out of memory")]
+    NoMemory,
+}
+
+impl From<AllocError> for InlineFault {
+    ghost use Rattle.std.specs.Prelude.{◌≡◌};
+    ghost use Rattle.cm_inline.specs.declared.fault.InlineFault.TheVariants.{NoMemory};
+
+    ghost from_gives = { λ _ e. e ≡ NoMemory };
+
+    fn from(_: AllocError) -> InlineFault {
+        InlineFault::NoMemory
+    }
+}

@@ -1,0 +1,142 @@
+//! The list of nodes into which a leaf's source is read, and the inlines that come of it.
+ghost use Rattle.std.specs.Prelude.{◌≡◌, ◌++◌, ◌≤◌, [], length, string_bytes, encode_utf8_all, drop, IfOk, OnOk};
+ghost use Rattle.cm_text.specs.References.{chars_of};
+ghost use Rattle.cm_scan.specs.Pairing.{settled, text_before};
+ghost use Rattle.cm_inline.specs.steps.Nodes.{is_text, text_in, text_in_front, behind_texts, text_between, inline_of, items_of, IsPart, AreParts};
+
+use cm_text::Chars;
+use cm_tree::{Inline, Items, Text};
+use std::alloc::{AllocError, Global};
+use std::mem;
+
+/// A node of the list.
+#[derive(Drop)]
+pub(crate) enum Node {
+    /// The source between two places, as text.
+    Piece { from: usize, to: usize },
+    /// The characters for which a reference stands.
+    Characters(Chars),
+    /// An inline that is finished.
+    Finished(Inline),
+}
+
+/// About how many bytes of text the nodes begin with, and never fewer.
+fn room_for_text(nodes: &[Node]) -> usize {
+    let mut room: usize = 0;
+    for node in nodes {
+        let more = match node {
+            Node::Piece { from, to } => to.saturating_sub(*from),
+            Node::Characters(_) => 8,
+            Node::Finished(_) => return room,
+        };
+        room = room.saturating_add(more);
+    }
+    room
+}
+
+/// Adds the characters of a reference.
+fn push_chars(text: &mut String, chars: Chars) -> Result<(), AllocError>
+    ensures { OnOk result (string_bytes text.new ≡ string_bytes text.old ++ encode_utf8_all (chars_of chars)) }
+{
+    text.push(chars.first)?;
+    if let Some(second) = chars.second {
+        text.push(second)?;
+    }
+    Ok(())
+}
+
+/// Adds the text of a node, and tells whether it is text.
+fn push_text_of(text: &mut String, source: &str, node: &Node) -> Result<bool, AllocError>
+    requires { IsPart source.now node.now }
+    ensures told { IfOk result (λ told. told ≡ is_text node.now) }
+    ensures pushed { OnOk result (string_bytes text.new ≡ string_bytes text.old ++ text_in source.now node.now) }
+{
+    match node {
+        Node::Piece { from, to } => {
+            text.push_str(&source[*from..*to])?;
+            Ok(true)
+        }
+        Node::Characters(chars) => {
+            push_chars(text, *chars)?;
+            Ok(true)
+        }
+        Node::Finished(_) => Ok(false),
+    }
+}
+
+/// The text with which the nodes begin, in one piece, and how many of them it takes.
+fn join(alloc: Global, source: &str, nodes: &[Node]) -> Result<(Text, usize), AllocError>
+    requires { AreParts source.now nodes.now }
+    ensures text { IfOk result (λ joined. joined.0 ≡ text_in_front source.now nodes.now) }
+    ensures rest { IfOk result (λ joined. drop joined.1 nodes.now ≡ behind_texts nodes.now) }
+    ensures within { IfOk result (λ joined. joined.1 ≤ length nodes.now) }
+{
+    let mut text = String::with_capacity(alloc, room_for_text(nodes))?;
+    for (at, node) in nodes.iter().enumerate() {
+        if !push_text_of(&mut text, source, node)? {
+            return Ok((Text::from(text), at));
+        }
+    }
+    Ok((Text::from(text), nodes.len()))
+}
+
+/// Adds the text with which the nodes begin, if there is one, and answers how many of them it takes.
+fn push_texts(
+    alloc: Global,
+    source: &str,
+    nodes: &[Node],
+    content: &mut Vec<Inline>,
+) -> Result<usize, AllocError>
+    requires { AreParts source.now nodes.now }
+    ensures within { IfOk result (λ count. count ≤ length nodes.now) }
+    ensures rest { IfOk result (λ count. drop count nodes.now ≡ behind_texts nodes.now) }
+    ensures pushed { OnOk result (content.new.items ≡ content.old.items ++ text_before (text_in_front source.now nodes.now) []) }
+{
+    let (text, count) = join(alloc, source, nodes)?;
+    if !text.is_empty() {
+        content.push(Inline::Text(text))?;
+    }
+    Ok(count)
+}
+
+/// Adds the source between two places as text, if there is any.
+pub(crate) fn push_text(nodes: &mut Vec<Node>, from: usize, to: usize) -> Result<(), AllocError>
+    ensures { OnOk result (nodes.new.items ≡ nodes.old.items ++ text_between from to) }
+{
+    if from < to {
+        nodes.push(Node::Piece { from, to })?;
+    }
+    Ok(())
+}
+
+/// Adds the inline that a node is, if it is one.
+fn push_finished(node: Node, content: &mut Vec<Inline>) -> Result<(), AllocError>
+    ensures { OnOk result (content.new.items ≡ content.old.items ++ inline_of node) }
+{
+    match node {
+        Node::Finished(inline) => Ok(content.push(inline)?),
+        _ => Ok(()),
+    }
+}
+
+/// The inlines of nodes of which nothing more is made, where texts side by side are one.
+pub(crate) fn settle(
+    alloc: Global,
+    source: &str,
+    mut nodes: Vec<Node>,
+) -> Result<Items<Inline>, AllocError>
+    requires { AreParts source.now nodes.items }
+    ensures { IfOk result (λ content. content ≡ settled (items_of source.now nodes.items)) }
+{
+    let mut content = Vec::with_capacity(alloc, nodes.len())?;
+    let mut at = 0;
+    while at < nodes.len() {
+        at += push_texts(alloc, source, &nodes[at..], &mut content)?;
+        if at < nodes.len() {
+            let node = mem::replace(&mut nodes[at], Node::Piece { from: 0, to: 0 });
+            push_finished(node, &mut content)?;
+            at += 1;
+        }
+    }
+    Ok(Items::from(content))
+}
