@@ -56,6 +56,14 @@ pub struct BlockParser {
 }
 
 impl BlockParser {
+    /// The limits with which it was made.
+    pub fn limits(&self) -> Limits
+        ensures { result ≡ self.now.limits }
+    {
+        let BlockParser { limits, .. } = self;
+        *limits
+    }
+
     /// A parser of no lines so far. It takes no memory.
     pub fn new(alloc: Global, limits: Limits) -> BlockParser
         ensures limits { result.limits ≡ limits }

@@ -1,7 +1,6 @@
 pub mod AskedLemmas
 pub mod CommandLineLemmas
 pub mod EndedLemmas
-pub mod InlineLemmas
 pub mod OrderLemmas
 pub mod OwnerLemmas
 pub mod ParserLemmas

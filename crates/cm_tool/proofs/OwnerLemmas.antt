@@ -2,6 +2,7 @@
 use Rattle.std.proofs.Common.{◌≡◌, ℕ, List, map, refl, sym, ◌∙◌, ap, arith, Some}
 use Rattle.std.specs.Prelude.{Bool, not}
 use Rattle.std.proofs.lemmas.List.{length-map}
+use Rattle.cm_text.specs.Rules.{Rules}
 use Rattle.cm_text.specs.Lines.{plain_line, plain_lines_of, text_of, lines_of}
 use Rattle.cm_tree.specs.declared.tree.Block.{Block}
 use Rattle.cm_tree.specs.declared.tree.Block.TheFolds.{fold-Block, fold_out-Block}
@@ -19,44 +20,45 @@ use Rattle.cm_tool.proofs.EndedLemmas.{all_are_lines}
 abbrev leaves : Block → ℕ
 leaves block = fold-Block ℕ leaves_step block
 
--- one block with its inlines read
+module _ (rules : Rules) where
+  -- one block with its inlines read
 
-leaf-read : (x : LeafPart) → leaves (block_read (leaf_block x)) ≡ 1
-leaf-read (paragraph source) = simp (fold_out-Block Block read_step, fold_out-Block ℕ leaves_step, outs-Paragraph)
-leaf-read (heading level source) = simp (fold_out-Block Block read_step, fold_out-Block ℕ leaves_step, outs-Heading)
-leaf-read (code info text) = simp (fold_out-Block Block read_step, fold_out-Block ℕ leaves_step, outs-Code)
-leaf-read (html text) = simp (fold_out-Block Block read_step, fold_out-Block ℕ leaves_step, outs-Html)
-leaf-read thematic_break = simp (fold_out-Block Block read_step, fold_out-Block ℕ leaves_step, outs-Break)
-leaf-read (definition label dest title) = simp (fold_out-Block Block read_step, fold_out-Block ℕ leaves_step, outs-Definition)
+  leaf-read : (x : LeafPart) → leaves (block_read rules (leaf_block x)) ≡ 1
+  leaf-read (paragraph source) = simp (fold_out-Block Block (read_step rules), fold_out-Block ℕ leaves_step, outs-Paragraph)
+  leaf-read (heading level source) = simp (fold_out-Block Block (read_step rules), fold_out-Block ℕ leaves_step, outs-Heading)
+  leaf-read (code info text) = simp (fold_out-Block Block (read_step rules), fold_out-Block ℕ leaves_step, outs-Code)
+  leaf-read (html text) = simp (fold_out-Block Block (read_step rules), fold_out-Block ℕ leaves_step, outs-Html)
+  leaf-read thematic_break = simp (fold_out-Block Block (read_step rules), fold_out-Block ℕ leaves_step, outs-Break)
+  leaf-read (definition label dest title) = simp (fold_out-Block Block (read_step rules), fold_out-Block ℕ leaves_step, outs-Definition)
 
-quote-read : (blocks : List Block) → block_read (Quote blocks) ≡ Quote (with_inlines blocks)
-quote-read blocks = simp (fold_out-Block Block read_step, outs-Quote)
+  quote-read : (blocks : List Block) → block_read rules (Quote blocks) ≡ Quote (with_inlines rules blocks)
+  quote-read blocks = simp (fold_out-Block Block (read_step rules), outs-Quote)
 
-list-read : (kind : ListKind) (tight : Bool) (items : List (List Block)) → block_read (ListBlock kind tight items) ≡ ListBlock kind tight (map with_inlines items)
-list-read kind tight items = simp (fold_out-Block Block read_step, outs-List)
+  list-read : (kind : ListKind) (tight : Bool) (items : List (List Block)) → block_read rules (ListBlock kind tight items) ≡ ListBlock kind tight (map (with_inlines rules) items)
+  list-read kind tight items = simp (fold_out-Block Block (read_step rules), outs-List)
 
--- as many leaves as before
+  -- as many leaves as before
 
-mutual
-  unfolding tree_of items_of leaf_count item_leaf_count
+  mutual
+    unfolding tree_of items_of leaf_count item_leaf_count
 
-  leaves-read : (p : Parts) → leaves_in (with_inlines (tree_of p)) ≡ leaf_count p
-  leaves-read none = refl
-  leaves-read (blank rest) = leaves-read rest
-  leaves-read (leaf x lines rest) = omega (arith, leaf-read x, leaves-read rest)
-  leaves-read (quote inside rest) =
-      let one : leaves (block_read (Quote (tree_of inside))) ≡ leaf_count inside =
-      ap leaves (quote-read (tree_of inside)) ∙ quote-leaves (with_inlines (tree_of inside)) ∙ leaves-read inside in
-      omega (arith, one, leaves-read rest)
-  leaves-read (list kind items rest) =
-      let tight = not (is_loose items) in
-      let one : leaves (block_read (ListBlock kind tight (items_of items))) ≡ item_leaf_count items =
-      ap leaves (list-read kind tight (items_of items)) ∙ list-leaves kind tight (map with_inlines (items_of items)) ∙ items-read items in
-      omega (arith, one, leaves-read rest)
+    leaves-read : (p : Parts) → leaves_in (with_inlines rules (tree_of p)) ≡ leaf_count p
+    leaves-read none = refl
+    leaves-read (blank rest) = leaves-read rest
+    leaves-read (leaf x lines rest) = omega (arith, leaf-read x, leaves-read rest)
+    leaves-read (quote inside rest) =
+        let one : leaves (block_read rules (Quote (tree_of inside))) ≡ leaf_count inside =
+        ap leaves (quote-read (tree_of inside)) ∙ quote-leaves (with_inlines rules (tree_of inside)) ∙ leaves-read inside in
+        omega (arith, one, leaves-read rest)
+    leaves-read (list kind items rest) =
+        let tight = not (is_loose items) in
+        let one : leaves (block_read rules (ListBlock kind tight (items_of items))) ≡ item_leaf_count items =
+        ap leaves (list-read kind tight (items_of items)) ∙ list-leaves kind tight (map (with_inlines rules) (items_of items)) ∙ items-read items in
+        omega (arith, one, leaves-read rest)
 
-  items-read : (items : ItemParts) → total_of_all (map (map (fold-Block ℕ leaves_step)) (map with_inlines (items_of items))) ≡ item_leaf_count items
-  items-read (last_item inside) = omega (arith, leaves-read inside)
-  items-read (item inside blanks items) = omega (arith, leaves-read inside, items-read items)
+    items-read : (items : ItemParts) → total_of_all (map (map (fold-Block ℕ leaves_step)) (map (with_inlines rules) (items_of items))) ≡ item_leaf_count items
+    items-read (last_item inside) = omega (arith, leaves-read inside)
+    items-read (item inside blanks items) = omega (arith, leaves-read inside, items-read items)
 
 pub one_owner_a_line : OneOwnerALine
 one_owner_a_line rules bytes =
@@ -67,4 +69,4 @@ unfolding blocks_of
 runs_in_order rules bytes =
     let parts = parts_of rules (plain_lines_of (text_of bytes)) in
     in_order rules (plain_lines_of (text_of bytes)) (all_are_lines (text_of bytes))
-    ∙ ap Some (tree-leaves parts ∙ sym (leaves-read parts))
+    ∙ ap Some (tree-leaves parts ∙ sym (leaves-read rules parts))

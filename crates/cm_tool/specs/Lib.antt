@@ -1,4 +1,3 @@
-pub mod Inlines
 pub mod Leaves
 pub mod Fault
 pub mod Faults

@@ -15,7 +15,7 @@ use Rattle.cm_tool.specs.Faults.{fault_of, settled_fault_of}
 
 -- the tree of a text's bytes, by these rules
 abbrev pub tree_of : Rules → List ℕ → List Block
-tree_of rules bytes = with_inlines (blocks_of rules (plain_lines_of (text_of bytes)))
+tree_of rules bytes = with_inlines rules (blocks_of rules (plain_lines_of (text_of bytes)))
 
 -- the owner of each of its lines
 abbrev pub owners_of_bytes : Rules → List ℕ → List Owner

@@ -1,11 +1,9 @@
--- Worked examples: the faults of inputs, and inlines of sources that no paragraph has.
+-- Worked examples: the faults of inputs.
 use Rattle.std.specs.Prelude.{◌≡◌, ℕ, ◌^◌, [], ◌∷◌, ◌++◌, codes, Some, None}
 use Rattle.cm_text.specs.Rules.{profile}
 use Rattle.cm_text.specs.Limits.{LimitsView}
 use Rattle.cm_tool.specs.declared.fault.Fault.TheVariants.{NotUtf8, BlocksTooDeep}
 use Rattle.cm_tool.specs.Faults.{fault_of, settled_fault_of}
-use Rattle.cm_tool.specs.Inlines.{inlines_of}
-use Rattle.cm_tree.specs.declared.tree.Inline.TheVariants.{Text, Soft}
 
 -- the limits with so many quotes and items round a line
 abbrev pub at_most : ℕ → LimitsView
@@ -19,6 +17,3 @@ pub record ReadingExamples : Type 0 where
   pub carriage_return : settled_fault_of (at_most 1) (codes "> > a\r") ≡ Some (BlocksTooDeep 1)
   pub unended : settled_fault_of (at_most 1) (codes "> > a") ≡ None
   pub unended_at_the_end : fault_of (at_most 1) (codes "> > a") ≡ Some (BlocksTooDeep 1)
-  pub no_source : inlines_of [] ≡ []
-  pub blanks_at_the_end : inlines_of (codes "a \t") ≡ Text (codes "a \t") ∷ []
-  pub line_feeds_alone : inlines_of (codes "  \n\n") ≡ Soft ∷ Soft ∷ []

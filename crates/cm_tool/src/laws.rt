@@ -7,7 +7,7 @@ ghost use Rattle.cm_tool.specs.steps.FaultOrder.{FaultsInOrder};
 
 /// Worked examples, by computation.
 pub fn worked_examples()
-    // Of faults and inlines.
+    // Of faults.
     ensures reading { ReadingExamples }
     // From the bytes of a text to its HTML.
     ensures html { Examples }

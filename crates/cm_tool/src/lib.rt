@@ -5,7 +5,6 @@
 mod command_line;
 mod conversion;
 mod fault;
-mod inlines;
 mod job;
 pub mod laws;
 mod leaves;

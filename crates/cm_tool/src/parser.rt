@@ -13,7 +13,7 @@ ghost use Rattle.cm_tool.specs.steps.Pushing.{Pushes, Counts};
 
 use crate::fault::Fault;
 use crate::leaves::with_inlines;
-use cm_block::{BlockFault, BlockParser};
+use cm_block::{BlockFault, BlockParser, Outline};
 use cm_text::{Limits, LineFeed, TextFault};
 use cm_tree::Doc;
 use std::alloc::Global;
@@ -148,11 +148,14 @@ fn finish(alloc: Global, mut feed: LineFeed, mut blocks: BlockParser) -> Result<
 {
     feed.end()?;
     hand_over(&mut feed, &mut blocks)?;
-    let outline = blocks.finish()?;
-    Ok(Doc {
-        blocks: with_inlines(alloc, outline.blocks)?,
-        owners: outline.owners,
-    })
+    let limits = blocks.limits();
+    let Outline {
+        blocks,
+        owners,
+        definitions,
+    } = blocks.finish()?;
+    let blocks = with_inlines(alloc, limits, &definitions, blocks)?;
+    Ok(Doc { blocks, owners })
 }
 
 /// Hands the lines that are ready to the blocks.

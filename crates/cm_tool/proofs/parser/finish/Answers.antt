@@ -27,8 +27,10 @@ returns c = λ limits bytes g.
     let end = c.in_ok-end.ensures in
     let ended = has_ended limits c.end.new.self bytes (end.limit ∙ g.limit) end.ended (no_fault _ _ end.answer) (end.stands g.sound bytes (count_of limits bytes) (stands limits _ _ bytes g)) in
     let both = whole_taken limits c.args.feed c.end.new.self c.args.blocks c.hand_over.new.blocks bytes g ended c.in_ok-hand_over.ensures.limits (c.in_ok-hand_over.ensures.handed (ended_of limits bytes) g.handed) in
-    let outline = c.in_ok-outline.ensures.outline _ both.1 in (
+    let outline = c.in_ok-blocks.ensures.outline _ both.1 in
+    let rules = c.hand_over.new.blocks.limits.rules in
+    let read = c.in_ok-blocks-2.ensures ∙ ap (λ (l : LimitsView). with_inlines l.rules c.in_ok-blocks.field-0.blocks) c.limits-limits.ensures ∙ ap (with_inlines rules) outline.blocks in (
       both.0,
-      ap₂ (λ blocks owners. let doc : Doc = record { blocks = blocks; owners = owners } in doc) (c.in_ok-with_inlines.ensures ∙ ap with_inlines outline.blocks) outline.owners
+      ap₂ (λ blocks owners. let doc : Doc = record { blocks = blocks; owners = owners } in doc) read outline.owners
           ∙ ap (λ (l : LimitsView). doc_of l.rules bytes) (c.in_ok-hand_over.ensures.limits ∙ g.same_limits),
     )
