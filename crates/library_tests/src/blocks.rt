@@ -20,6 +20,7 @@ fn outline_of_lines(rt: HostRuntime) -> Result<(), Fail> {
     for text in ["- a", "> b", "c", "> [d]: /e 'f'", " ", "[g]: /h"] {
         assert_eq!(rt; parser.line(&line(alloc, text)?), Ok(()));
     }
+    assert_eq!(rt; parser.limits(), Limits::standard());
     let outline = parser.finish().ok().ok_or("outline")?;
     assert_eq!(rt; outline.blocks.len(), 3);
     assert_eq!(rt; outline.owners.as_slice().first(), Some(&Owner::Leaf(1)));

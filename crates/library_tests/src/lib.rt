@@ -16,6 +16,8 @@ mod example;
 #[cfg(test)]
 mod faults;
 #[cfg(test)]
+mod inlines;
+#[cfg(test)]
 mod tables;
 #[cfg(test)]
 mod values;

@@ -1,0 +1,29 @@
+//! The inlines of a leaf, by a call.
+
+use cm_inline::{InlineFault, Steps, inlines, inlines_by, is_one_text};
+use cm_text::Rules;
+use cm_tree::{Definitions, Inline, Text};
+use std::alloc::Global;
+use std::test::Fail;
+
+#[test]
+fn inlines_of_a_leaf(rt: HostRuntime) -> Result<(), Fail> {
+    let alloc = rt.alloc();
+    let table = Definitions::new(alloc);
+    let (read, steps) = inlines(alloc, "`a`  \n<b>", &table, 1)
+        .ok()
+        .ok_or("inlines")?;
+    let code = Inline::Code(Text::from_str(alloc, "a")?);
+    let html = Inline::Html(Text::from_str(alloc, "<b>")?);
+    assert_eq!(rt; steps, Steps(0));
+    assert_eq!(rt; read.len(), 3);
+    assert_eq!(rt; read.get(0), Some(&code));
+    assert_eq!(rt; read.get(1), Some(&Inline::Hard));
+    assert_eq!(rt; read.get(2), Some(&html));
+    let too_deep = inlines_by(alloc, Rules::older(), "<ab:c>", &table, 0);
+    assert!(rt; matches!(too_deep, Err(fault) if fault == InlineFault::InlinesTooDeep));
+    assert!(rt; is_one_text("a b"));
+    assert!(rt; !is_one_text("a\nb"));
+    assert!(rt; !is_one_text(""));
+    Ok(())
+}
