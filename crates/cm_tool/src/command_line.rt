@@ -55,7 +55,7 @@ fn job_command<'a>(alloc: Global, name: &'a str, about: &'a str) -> Result<Comma
     ensures local { IfOk result (λ c. (out-Command c).has_globals ≡ false) }
 {
     let older = "Reads by older rules: <source> begins an HTML block, <search> does not";
-    let strike = "Reads strikethrough, once inlines are read; as yet it changes nothing";
+    let strike = "Reads strikethrough, once emphasis is read; as yet it changes nothing";
     Command::new(alloc, name)
         .about(about)
         .arg(file_arg(alloc))?
