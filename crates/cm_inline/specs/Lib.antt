@@ -1,3 +1,4 @@
 pub mod Alone
+pub mod Examples
 pub mod Reading
 pub mod steps

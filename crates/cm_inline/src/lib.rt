@@ -5,6 +5,7 @@ mod atoms;
 mod code;
 mod ends;
 mod fault;
+pub mod laws;
 mod nodes;
 mod reading;
 
