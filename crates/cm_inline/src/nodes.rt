@@ -119,6 +119,20 @@ fn push_finished(node: Node, content: &mut Vec<Inline>) -> Result<(), AllocError
     }
 }
 
+/// How many inlines come of the nodes, where texts side by side are one: as many as there is room for.
+fn count_inlines(nodes: &[Node]) -> usize {
+    let mut count: usize = 0;
+    let mut in_text = false;
+    for node in nodes {
+        let is_text = !matches!(node, Node::Finished(_));
+        if !is_text || !in_text {
+            count = count.saturating_add(1);
+        }
+        in_text = is_text;
+    }
+    count
+}
+
 /// The inlines of nodes of which nothing more is made, where texts side by side are one.
 pub(crate) fn settle(
     alloc: Global,
@@ -128,7 +142,7 @@ pub(crate) fn settle(
     requires { AreParts source.now nodes.items }
     ensures { IfOk result (λ content. content ≡ settled (items_of source.now nodes.items)) }
 {
-    let mut content = Vec::with_capacity(alloc, nodes.len())?;
+    let mut content = Vec::with_capacity(alloc, count_inlines(&nodes))?;
     let mut at = 0;
     while at < nodes.len() {
         at += push_texts(alloc, source, &nodes[at..], &mut content)?;
