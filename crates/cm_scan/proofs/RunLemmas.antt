@@ -1,5 +1,5 @@
 -- Backtick strings, found one after another.
-use Rattle.std.proofs.Common.{◌≡◌, ℕ, zero, suc, ◌+◌, ◌-◌, ◌<◌, ◌≤◌, ◌==◌, ◌&&◌, not, Bool, true, false, List, [], ◌∷◌, ◌++◌, length, take, drop, get_or, Option, Some, None, is_some, refl, sym, ap, ◌∙◌, arith, eq-eqb, drop-drop, take-add, append_assoc, drop-cons, length-drop, get_or-drop, subst}
+use Rattle.std.proofs.Common.{◌≡◌, ℕ, zero, suc, ◌+◌, ◌-◌, ◌<◌, ◌≤◌, ◌==◌, ◌&&◌, not, Bool, true, false, List, [], ◌∷◌, ◌++◌, length, take, drop, get_or, Option, Some, None, refl, sym, ap, ◌∙◌, arith, eq-eqb, drop-drop, take-add, append_assoc, drop-cons, length-drop, get_or-drop, subst}
 use Rattle.memchr.specs.Find.{IsFirstByte, is_byte}
 use Rattle.std.specs.List.{slice_range}
 use Rattle.std.proofs.lemmas.List.{append-nil, drop_all}
@@ -8,7 +8,7 @@ use Rattle.cm_scan.specs.Words.{run_length, after_run}
 use Rattle.cm_scan.specs.Links.{Reading, behind}
 use Rattle.cm_scan.specs.CodeSpans.{up_to_run, content_of, as_written, spanned_as_written, code_span}
 use Rattle.cm_scan.specs.steps.SpanSteps.{run_at}
-use Rattle.cm_scan.proofs.ReadFurther.{false-true, none-some}
+use Rattle.cm_scan.proofs.ReadFurther.{none-some}
 use Rattle.cm_scan.proofs.ClosedLemmas.{ahead, ahead_from, slice-none}
 use Rattle.cm_scan.proofs.WordLemmas.{run_step}
 use Rattle.cm_scan.proofs.FoundLemmas.{drop-later}
@@ -212,13 +212,6 @@ written-none : (n : ℕ) (bs : List ℕ) → up_to_run n false bs ≡ None → a
 written-none zero bs h = refl
 written-none (suc n) bs h = h
 
-pub none-later : (n : ℕ) (text : List ℕ) (from later : ℕ) → from ≤ later → up_to_run n false (drop from text) ≡ None → run_length 96 (drop later text) ≡ n → spanned_as_written (drop later text) ≡ None
-unfolding spanned_as_written
-none-later n text from later low h same =
-    ap (λ m. as_written m (after_run 96 (drop later text))) same
-    ∙ written-none n (after_run 96 (drop later text))
-    (ap (λ t. up_to_run n false (after_run 96 t)) (drop-later text from later low) ∙ further-none n false (drop from text) (later - from) h)
-
 -- behind a run begins no other
 
 after-drop : (bs : List ℕ) → drop (run_length 96 bs) bs ≡ after_run 96 bs
@@ -275,17 +268,6 @@ no-span-later text at later low h same =
     ∙ span-later (run_length 96 (drop (later - at) (drop at text))) (run_length 96 (drop at text)) (drop at text) (later - at) refl (sym h) (ap (run_length 96) (sym place) ∙ same)
 
 -- what a scanner answers
-
-is-none : (o : Option Reading) → is_some o ≡ false → o ≡ None
-is-none None h = refl
-is-none (Some r) h = false-true (sym h)
-
-pub found-none : (o : Option Reading) (found : Bool) → found ≡ is_some o → found ≡ false → o ≡ None
-found-none o found e h = is-none o (sym e ∙ h)
-
-pub run-found : (text : List ℕ) (from : ℕ) (run : Option (ℕ × ℕ)) (o : Option Reading) → run_at text from run ≡ o → is_some run ≡ is_some o
-run-found text from None o h = ap is_some h
-run-found text from (Some r) o h = ap is_some h
 
 written-some : (n : ℕ) (bs : List ℕ) → 0 < n → as_written n bs ≡ up_to_run n false bs
 written-some zero bs some = absurd (omega (arith, some))

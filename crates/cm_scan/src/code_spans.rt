@@ -1,5 +1,5 @@
 //! Code spans in a text (CommonMark 0.31.2, 6.1 Code spans).
-ghost use Rattle.std.specs.Prelude.{◌≡◌, ◌≤◌, ℕ, None, is_some, false, length, drop, IfSome, IsUtf8};
+ghost use Rattle.std.specs.Prelude.{◌≡◌, ◌≤◌, ℕ, None, false, length, drop, IfSome, IsUtf8};
 ghost use Rattle.std.specs.Str.{IsCharBoundary};
 ghost use Rattle.cm_scan.specs.Words.{run_length};
 ghost use Rattle.cm_scan.specs.CodeSpans.{up_to_run, content_of, spanned_as_written, code_span};
@@ -30,19 +30,6 @@ pub fn code_span<'a>(text: &'a str, at: usize) -> Option<(&'a str, usize)>
     }
     let (close, end) = next_run(text, start, start - at)?;
     Some((&text[start..close], end))
-}
-
-/// Whether just so many backticks stand in a row somewhere from a place on, which is the boundary of a character.
-/// Those in front of the place don't count.
-///
-/// Where they don't, no backtick string of so many further on begins a code span.
-pub fn has_backticks(text: &str, from: usize, count: usize) -> bool
-    requires { IsCharBoundary text.now from }
-    ensures held { result ≡ is_some (up_to_run count false (drop from text.now)) }
-    ensures none_later { result ≡ false → (later : ℕ) → from ≤ later → run_length 96 (drop later text.now) ≡ count
-        → spanned_as_written (drop later text.now) ≡ None }
-{
-    next_run(text, from, count).is_some()
 }
 
 /// The places where the next run of just so many backticks begins and ends, from a place on. Backticks in front

@@ -19,7 +19,7 @@ mod words;
 
 pub use angled::Autolink;
 pub use autolinks::autolink;
-pub use code_spans::{code_span, has_backticks};
+pub use code_spans::code_span;
 pub use html_blocks::{HtmlKind, html_end, html_start, html_start_by};
 pub use inline_html::{holds_from, raw_html, raw_html_by};
 pub use line_forms::{

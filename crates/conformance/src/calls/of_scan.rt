@@ -8,9 +8,8 @@ use crate::trouble::{Trouble, wrong};
 use crate::words::{Word, number};
 use cm_scan::{
     FenceKind, HtmlKind, atx, autolink, code_span, definition, destination, fence, fence_end,
-    has_backticks, holds_from, html_end, html_start, html_start_by, is_blank_text, item_marker,
-    label, quote_marker, raw_html, raw_html_by, thematic, title, trim_end, trim_end_spaces,
-    underline,
+    holds_from, html_end, html_start, html_start_by, is_blank_text, item_marker, label,
+    quote_marker, raw_html, raw_html_by, thematic, title, trim_end, trim_end_spaces, underline,
 };
 use cm_tree::ListKind;
 
@@ -125,14 +124,6 @@ fn raw(answer: &mut Answer, name: &str, text: &String, at: usize) -> Result<(), 
     answer.slice(raw_html_by(rules, text.as_str(), at))
 }
 
-/// Whether so many backticks begin a backtick string from there on.
-fn backticks(answer: &mut Answer, text: &String, from: usize, count: usize) -> Result<(), Trouble> {
-    if !text.is_char_boundary(from) {
-        return Err(wrong(answer.alloc, "the place is no boundary"));
-    }
-    answer.truth(has_backticks(text.as_str(), from, count))
-}
-
 /// Whether the word stands in the text from there on.
 fn holds(answer: &mut Answer, text: &String, from: usize, word: &str) -> Result<(), Trouble> {
     if text.len() < from {
@@ -236,10 +227,6 @@ pub(super) fn answers(answer: &mut Answer, name: &str, given: &[Word]) -> Result
         }
         ("raw_html_by", [Word::Plain(name), Word::Text(text), Word::Plain(at)]) => {
             raw(answer, name.as_str(), text, number(alloc, at.as_str())?)?;
-        }
-        ("has_backticks", [Word::Text(text), Word::Plain(from), Word::Plain(count)]) => {
-            let from = number(alloc, from.as_str())?;
-            backticks(answer, text, from, number(alloc, count.as_str())?)?;
         }
         ("holds_from", [Word::Text(text), Word::Plain(from), Word::Text(word)]) => {
             holds(answer, text, number(alloc, from.as_str())?, word.as_str())?;
