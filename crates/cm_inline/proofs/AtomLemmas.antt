@@ -25,11 +25,11 @@ use Rattle.cm_scan.proofs.ReadFurther.{none-some, false-true}
 use Rattle.cm_scan.proofs.ReadingLemmas.{begins-at}
 use Rattle.cm_scan.proofs.LeftLemmas.{atom-left}
 use Rattle.cm_scan.proofs.RunLemmas.{not-same}
-use Rattle.cm_inline.proofs.DepthLemmas.{code-shallow, html-shallow, hard-shallow, soft-shallow, link-shallow}
+use Rattle.cm_inline.proofs.DepthLemmas.{code-depth, html-depth, hard-depth, soft-depth, link-depth}
 use Rattle.cm_inline.specs.declared.nodes.Node.{Node}
 use Rattle.cm_inline.specs.declared.nodes.Node.TheVariants.{Piece, Characters, Finished}
 use Rattle.cm_inline.specs.Alone.{alone}
-use Rattle.cm_inline.specs.steps.Nodes.{item_of, IsPart}
+use Rattle.cm_inline.specs.steps.Nodes.{item_of, node_depth, IsPart}
 use Rattle.cm_inline.specs.steps.Reads.{Stands, atom_in, is_run_marker, is_break_byte, is_lone_byte, IsAtom}
 
 -- the source from the place on
@@ -48,8 +48,8 @@ further rules source at end within rest =
 
 module _ (rules : Rules) (source : List ℕ) (at : ℕ) where
   is-atom : (node : Node) (end : ℕ) (a : AtomRead) → at < length source → atom_in rules source at ≡ a → a.rest ≡ drop end source → item_of source node ≡ alone a.atom
-      → IsPart source node → IsCharBoundary source end → IsAtom rules source at node end
-  is-atom node end a within same rest item part boundary =
+      → IsPart source node → IsCharBoundary source end → node_depth node ≤ 1 → IsAtom rules source at node end
+  is-atom node end a within same rest item part boundary shallow =
       let left : (atom_in rules source at).rest ≡ drop end source = ap (λ (t : AtomRead). t.rest) same ∙ rest in
       record {
         rest = left;
@@ -58,6 +58,7 @@ module _ (rules : Rules) (source : List ℕ) (at : ℕ) where
         further = further rules source at end within left;
         within = boundary.0;
         boundary = boundary;
+        shallow = shallow;
       }
 
   -- an answer that is this node and this end
@@ -81,7 +82,7 @@ module _ (rules : Rules) (source : List ℕ) (at : ℕ) where
       let size : end - at ≡ run_length m (drop at source) = omega (arith, run) in
       let low : at ≤ end = omega (arith, run) in
       is-atom (Piece at end) end a s.within same (rest ∙ sym left)
-      (ap items.Characters (ap (λ n. take n (drop at source)) size ∙ run-front m (drop at source)) ∙ sym item) (low, s.boundary, boundary) boundary
+      (ap items.Characters (ap (λ n. take n (drop at source)) size ∙ run-front m (drop at source)) ∙ sym item) (low, s.boundary, boundary) boundary (omega arith)
 
   -- one byte as text
 
@@ -95,7 +96,7 @@ module _ (rules : Rules) (source : List ℕ) (at : ℕ) where
       → IsAtom rules source at (Piece at (at + 1)) (at + 1)
   byte-is b a utf8 s ascii same rest item =
       let low : at ≤ at + 1 = omega arith in
-      is-atom (Piece at (at + 1)) (at + 1) a s.within same rest (ap items.Characters (one-byte b s) ∙ sym item) (low, s.boundary, behind-byte b utf8 s ascii) (behind-byte b utf8 s ascii)
+      is-atom (Piece at (at + 1)) (at + 1) a s.within same rest (ap items.Characters (one-byte b s) ∙ sym item) (low, s.boundary, behind-byte b utf8 s ascii) (behind-byte b utf8 s ascii) (omega arith)
 
   -- the byte behind it
   next-stands : (b c : ℕ) → IsUtf8 source → Stands source at b → b < 128 → begins_with c (drop (at + 1) source) ≡ true → Stands source (at + 1) c
@@ -115,10 +116,10 @@ module _ (rules : Rules) (source : List ℕ) (at : ℕ) where
       ∙ ap (λ t. or_byte 96 (drop (at + 1) source) (span_or (drop at source) t)) (sym h)
 
   pub code-span-is : (inside : List ℕ) (end : ℕ) → Stands source at 96 → content_of (Some (record { text = inside; rest = drop end source })) ≡ code_span (drop at source) → IsCharBoundary source end
-      → IsAtom rules source at (Finished (inline.Code (stripped (one_line inside)))) end
+      → IsAtom rules source at (Finished (inline.Code (stripped (one_line inside))) 0 false) end
   code-span-is inside end s h boundary =
       is-atom _ end (record { atom = Whole (inline.Code (stripped (one_line inside))); rest = drop end source }) s.within
-      (tick-in (Some (record { text = stripped (one_line inside); rest = drop end source })) s h) refl refl (code-shallow (stripped (one_line inside))) boundary
+      (tick-in (Some (record { text = stripped (one_line inside); rest = drop end source })) s h) refl refl (code-depth (stripped (one_line inside))) boundary (omega arith)
 
   pub backticks-are : (end : ℕ) → Stands source at 96 → None ≡ code_span (drop at source) → end ≡ at + run_length 96 (drop at source) → drop end source ≡ after_run 96 (drop at source)
       → IsCharBoundary source end → IsAtom rules source at (Piece at end) end
@@ -142,8 +143,8 @@ module _ (rules : Rules) (source : List ℕ) (at : ℕ) where
       here rules source at 60 s ∙ ap (λ t. or_byte 60 (drop (at + 1) source) (angle_atom rules t)) (sym (front source at 60 s))
       ∙ ap (λ t. or_byte 60 (drop (at + 1) source) (angled_or (link_or t))) (sym h)
 
-  pub link-is : (link : Autolink) (end : ℕ) → Stands source at 60 → Some link ≡ autolink (drop at source) → link.rest ≡ drop end source → IsCharBoundary source end → IsAtom rules source at (Finished (link_of link)) end
-  link-is link end s h rest boundary = is-atom _ end (record { atom = Whole (link_of link); rest = link.rest }) s.within (angle-in (Some link) s h) rest refl (link-shallow link) boundary
+  pub link-is : (link : Autolink) (end : ℕ) → Stands source at 60 → Some link ≡ autolink (drop at source) → link.rest ≡ drop end source → IsCharBoundary source end → IsAtom rules source at (Finished (link_of link) 1 false) end
+  link-is link end s h rest boundary = is-atom _ end (record { atom = Whole (link_of link); rest = link.rest }) s.within (angle-in (Some link) s h) rest refl (link-depth link) boundary (omega arith)
 
   html-in : (o : Option (List ℕ)) → Stands source at 60 → None ≡ autolink (drop at source) → raw_html rules (drop at source) ≡ o → atom_in rules source at ≡ or_byte 60 (drop (at + 1) source) (angled_or (tagged (drop at source) o))
   html-in o s h e = angle-in None s h ∙ ap (λ t. or_byte 60 (drop (at + 1) source) (angled_or (tagged (drop at source) t))) e
@@ -167,11 +168,11 @@ module _ (rules : Rules) (source : List ℕ) (at : ℕ) where
   none-read text (Some left) h = none-some h
 
   pub html-is : (html : List ℕ) (end : ℕ) → Stands source at 60 → None ≡ autolink (drop at source) → Some (record { text = html; rest = drop end source }) ≡ whole_of (drop at source) (raw_html rules (drop at source))
-      → IsCharBoundary source end → IsAtom rules source at (Finished (inline.Html html)) end
+      → IsCharBoundary source end → IsAtom rules source at (Finished (inline.Html html) 0 false) end
   html-is html end s h e boundary =
       let parts = whole-read (drop at source) html (drop end source) (raw_html rules (drop at source)) e in
       is-atom _ end (record { atom = Whole (inline.Html (before (drop end source) (drop at source))); rest = drop end source }) s.within (html-in (Some (drop end source)) s h parts.0) refl
-      (ap (λ t. items.Finished (inline.Html t)) parts.1) (html-shallow html) boundary
+      (ap (λ t. items.Finished (inline.Html t)) parts.1) (html-depth html) boundary (omega arith)
 
   pub angle-is-text : IsUtf8 source → Stands source at 60 → None ≡ autolink (drop at source) → None ≡ whole_of (drop at source) (raw_html rules (drop at source)) → IsAtom rules source at (Piece at (at + 1)) (at + 1)
   angle-is-text utf8 s h e =
@@ -183,13 +184,13 @@ module _ (rules : Rules) (source : List ℕ) (at : ℕ) where
   unfolding atom_at markup_atom
   slash-in rest s e = here rules source at 92 s ∙ ap (λ t. or_byte 92 t (backslash_atom (92 ∷ t))) e
 
-  pub hard-is : IsUtf8 source → Stands source at 92 → begins_with 10 (drop (at + 1) source) ≡ true → IsAtom rules source at (Finished inline.Hard) (at + 2)
+  pub hard-is : IsUtf8 source → Stands source at 92 → begins_with 10 (drop (at + 1) source) ≡ true → IsAtom rules source at (Finished inline.Hard 0 false) (at + 2)
   unfolding backslash_atom after_word
   hard-is utf8 s next =
       let feed = next-stands 92 10 utf8 s (omega arith) next in
       let end : at + 1 + 1 ≡ at + 2 = omega arith in
-      is-atom _ (at + 2) (record { atom = Whole inline.Hard; rest = drop (at + 1 + 1) source }) s.within (slash-in (10 ∷ drop (at + 1 + 1) source) s (front source (at + 1) 10 feed)) (ap (λ n. drop n source) end) refl hard-shallow
-      (subst (IsCharBoundary source) end (IsCharBoundary-after_ascii source (at + 1) utf8 feed.within (omega (arith, feed.byte))))
+      is-atom _ (at + 2) (record { atom = Whole inline.Hard; rest = drop (at + 1 + 1) source }) s.within (slash-in (10 ∷ drop (at + 1 + 1) source) s (front source (at + 1) 10 feed)) (ap (λ n. drop n source) end) refl hard-depth
+      (subst (IsCharBoundary source) end (IsCharBoundary-after_ascii source (at + 1) utf8 feed.within (omega (arith, feed.byte)))) (omega arith)
 
   abbrev escape_or : Option (List ℕ × ℕ) → List ℕ → Option AtomRead
   escape_or o text = elim o as (λ _. Option AtomRead) [ Some escaped ↦ read (Plain escaped.0) (drop escaped.1 text) | None ↦ None ]
@@ -205,7 +206,7 @@ module _ (rules : Rules) (source : List ℕ) (at : ℕ) where
       let low : at + 1 ≤ at + 2 = omega arith in
       is-atom _ (at + 2) (record { atom = Plain (c ∷ []); rest = drop (at + 1 + 1) source }) s.within
       (slash-in (c ∷ drop (at + 1 + 1) source) s (front source (at + 1) c next) ∙ escaped (c == 10) (no-feed c punct)) (ap (λ n. drop n source) end)
-      (ap items.Characters (ap (λ n. take n (drop (at + 1) source)) one ∙ ap (take 1) (front source (at + 1) c next))) (low, boundary, behind) behind
+      (ap items.Characters (ap (λ n. take n (drop (at + 1) source)) one ∙ ap (take 1) (front source (at + 1) c next))) (low, boundary, behind) behind (omega arith)
     where
       no-feed : (c : ℕ) → is_ascii_punct c ≡ true → (c == 10) ≡ false
       no-feed c punct = grind (arith, punct)
@@ -260,7 +261,7 @@ module _ (rules : Rules) (source : List ℕ) (at : ℕ) where
           let same : chars_of chars ≡ found.0 = ap chars_in g in
           let place : end ≡ at + found.1 = ap end_in g in
           is-atom _ end (record { atom = Plain (encode_utf8_all found.0); rest = drop found.1 (drop at source) }) s.within (ampersand-in (Some found) s e)
-          (drop-drop found.1 at source ∙ ap (λ n. drop n source) (sym place)) (ap (λ t. items.Characters (encode_utf8_all t)) same) tt boundary
+          (drop-drop found.1 at source ∙ ap (λ n. drop n source) (sym place)) (ap (λ t. items.Characters (encode_utf8_all t)) same) tt boundary (omega arith)
         where
           chars_in : Option (List ℕ × ℕ) → List ℕ
           chars_in None = []
@@ -315,18 +316,18 @@ module _ (rules : Rules) (source : List ℕ) (at : ℕ) where
   no-feed-next (b ∷ bs) h = ap (λ f. elim f as (λ _. Option (List ℕ)) [ true ↦ Some bs | false ↦ None ]) h
 
   pub break-is : (b feed : ℕ) → IsUtf8 source → Stands source at b → is_break_byte b ≡ true → feed ≡ at + run_length 32 (drop at source) → drop feed source ≡ after_run 32 (drop at source)
-      → begins_with 10 (drop feed source) ≡ true → IsAtom rules source at (Finished (if nat_le 2 (feed - at) then inline.Hard else inline.Soft)) (feed + 1)
+      → begins_with 10 (drop feed source) ≡ true → IsAtom rules source at (Finished (if nat_le 2 (feed - at) then inline.Hard else inline.Soft) 0 false) (feed + 1)
   break-is b feed utf8 s is run left next =
       let size : feed - at ≡ run_length 32 (drop at source) = omega (arith, run) in
       let found = begins-at 10 source feed next in
       is-atom _ (feed + 1) (record { atom = Whole (if nat_le 2 (run_length 32 (drop at source)) then inline.Hard else inline.Soft); rest = drop 1 (drop feed source) }) s.within
       (break-in b (Some (drop 1 (drop feed source))) s is (ap (after_word (codes "\n")) (sym left) ∙ feed-next (drop feed source) next))
       (drop-drop 1 feed source) (ap (λ n. items.Finished (if nat_le 2 n then inline.Hard else inline.Soft)) size) (shallow (nat_le 2 (feed - at)))
-      (IsCharBoundary-after_ascii source feed utf8 found.0 (omega (arith, found.2)))
+      (IsCharBoundary-after_ascii source feed utf8 found.0 (omega (arith, found.2))) (omega arith)
     where
-      shallow : (hard : Bool) → depth_of (if hard then inline.Hard else inline.Soft) ≤ 1
-      shallow true = hard-shallow
-      shallow false = soft-shallow
+      shallow : (hard : Bool) → depth_of (if hard then inline.Hard else inline.Soft) ≡ 0
+      shallow true = hard-depth
+      shallow false = soft-depth
 
   pub space-is-text : (b feed : ℕ) → IsUtf8 source → Stands source at b → is_break_byte b ≡ true → drop feed source ≡ after_run 32 (drop at source)
       → begins_with 10 (drop feed source) ≡ false → IsAtom rules source at (Piece at (at + 1)) (at + 1)
@@ -352,7 +353,7 @@ module _ (rules : Rules) (source : List ℕ) (at : ℕ) where
       let low : at ≤ at + 2 = omega arith in
       let behind : IsCharBoundary source (at + 2) = subst (IsCharBoundary source) end (IsCharBoundary-after_ascii source (at + 1) utf8 bracket.within (omega (arith, bracket.byte))) in
       is-atom _ (at + 2) (record { atom = OpenBracket true; rest = drop (at + 1 + 1) source }) s.within (bang-in (91 ∷ drop (at + 1 + 1) source) s (front source (at + 1) 91 bracket)) (ap (λ n. drop n source) end)
-      (ap items.Characters (ap (λ n. take n (drop at source)) two ∙ ap (take 2) (front source at 33 s ∙ ap (λ t. 33 ∷ t) (front source (at + 1) 91 bracket)))) (low, s.boundary, behind) behind
+      (ap items.Characters (ap (λ n. take n (drop at source)) two ∙ ap (take 2) (front source at 33 s ∙ ap (λ t. 33 ∷ t) (front source (at + 1) 91 bracket)))) (low, s.boundary, behind) behind (omega arith)
 
   alone-bang : (text : List ℕ) → begins_with 91 text ≡ false → or_byte 33 text (bang_atom (33 ∷ text)) ≡ byte_atom 33 text
   unfolding bang_atom after_word

@@ -1,65 +1,105 @@
--- How deep the inlines of a source nest, as long as brackets and delimiter runs are text.
-use Rattle.std.proofs.Common.{◌≡◌, ℕ, ◌+◌, ◌<◌, ◌≤◌, true, false, List, [], ◌∷◌, sym, ap, ◌∙◌, arith}
-use Rattle.std.specs.Prelude.{nat_lt}
+-- How deep the inlines that nodes come to nest.
+use Rattle.std.proofs.Common.{◌≡◌, ℕ, ◌+◌, ◌<◌, ◌≤◌, true, false, List, [], ◌∷◌, ◌++◌, refl, sym, ap, ◌∙◌, arith, max}
+use Rattle.std.specs.Prelude.{if◌then◌else◌, ◌==◌, Bool, nat_lt}
 use Rattle.std.proofs.lemmas.Bool.Decides.{nat_tests}
 use Rattle.cm_tree.specs.declared.tree.Inline.{Inline}
-use Rattle.cm_tree.specs.declared.tree.Inline.TheVariants.{Text, Code, Html, Soft, Hard}
-use Rattle.cm_tree.specs.declared.tree.Inline.TheViews.{outs-Text, outs-Code, outs-Html, outs-Soft, outs-Hard, outs-Link}
+use Rattle.cm_tree.specs.declared.tree.Inline.TheVariants.{Text, Code, Html, Soft, Hard, Emph, Strong, Strike}
+use Rattle.cm_tree.specs.declared.tree.Inline.TheViews.{outs-Text, outs-Code, outs-Html, outs-Soft, outs-Hard, outs-Link, outs-Emph, outs-Strong, outs-Strike}
 use Rattle.cm_tree.specs.declared.tree.Inline.TheFolds.{fold_out-Inline}
 use Rattle.cm_tree.specs.Depth.{depth_step, depth_of, inlines_depth, saturated}
 use Rattle.cm_scan.specs.Autolinks.{Autolink}
 use Rattle.cm_scan.specs.Atoms.{link_of}
-use Rattle.cm_scan.specs.Pairing.{text_before, settled_after, settled}
+use Rattle.cm_scan.specs.Pairing.{text_before, settled_after, settled, emphasised}
 use Rattle.cm_inline.specs.declared.nodes.Node.{Node}
-use Rattle.cm_inline.specs.declared.nodes.Node.TheVariants.{Piece, Characters, Finished}
-use Rattle.cm_inline.specs.steps.Nodes.{items_of, AreParts}
+use Rattle.cm_inline.specs.declared.nodes.Node.TheVariants.{Piece, Characters, Finished, Run, Opener}
+use Rattle.cm_inline.specs.steps.Nodes.{items_of, text_between, node_depth, nodes_depth, AreParts}
 
 text-depth : (text : List ℕ) → depth_of (Text text) ≡ 0
 text-depth text = simp (fold_out-Inline ℕ depth_step, outs-Text)
 
-pub code-shallow : (text : List ℕ) → depth_of (Code text) ≤ 1
-code-shallow text = let none : depth_of (Code text) ≡ 0 = simp (fold_out-Inline ℕ depth_step, outs-Code) in omega (arith, none)
+pub code-depth : (text : List ℕ) → depth_of (Code text) ≡ 0
+code-depth text = simp (fold_out-Inline ℕ depth_step, outs-Code)
 
-pub html-shallow : (text : List ℕ) → depth_of (Html text) ≤ 1
-html-shallow text = let none : depth_of (Html text) ≡ 0 = simp (fold_out-Inline ℕ depth_step, outs-Html) in omega (arith, none)
+pub html-depth : (text : List ℕ) → depth_of (Html text) ≡ 0
+html-depth text = simp (fold_out-Inline ℕ depth_step, outs-Html)
 
-pub soft-shallow : depth_of Soft ≤ 1
-soft-shallow = let none : depth_of Soft ≡ 0 = simp (fold_out-Inline ℕ depth_step, outs-Soft) in omega (arith, none)
+pub soft-depth : depth_of Soft ≡ 0
+soft-depth = simp (fold_out-Inline ℕ depth_step, outs-Soft)
 
-pub hard-shallow : depth_of Hard ≤ 1
-hard-shallow = let none : depth_of Hard ≡ 0 = simp (fold_out-Inline ℕ depth_step, outs-Hard) in omega (arith, none)
+pub hard-depth : depth_of Hard ≡ 0
+hard-depth = simp (fold_out-Inline ℕ depth_step, outs-Hard)
 
-pub link-shallow : (link : Autolink) → depth_of (link_of link) ≤ 1
-link-shallow link =
+pub link-depth : (link : Autolink) → depth_of (link_of link) ≡ 1
+link-depth link =
     let one : depth_of (link_of link) ≡ inlines_depth (Text link.text ∷ []) + 1 = simp (fold_out-Inline ℕ depth_step, outs-Link) in
     omega (arith, one, text-depth link.text)
 
-first-text : (text : List ℕ) (inlines : List Inline) → inlines_depth (text_before text inlines) ≤ inlines_depth inlines
-first-text [] inlines = omega arith
-first-text (b ∷ bs) inlines = omega (arith, text-depth (b ∷ bs))
+emph-depth : (content : List Inline) → depth_of (Emph content) ≡ inlines_depth content + 1
+emph-depth content = simp (fold_out-Inline ℕ depth_step, outs-Emph)
 
--- the inlines of the nodes of a source nest once at most
-nodes-shallow : (source text : List ℕ) (nodes : List Node) → AreParts source nodes → inlines_depth (settled_after text (items_of source nodes)) ≤ 1
+strong-depth : (content : List Inline) → depth_of (Strong content) ≡ inlines_depth content + 1
+strong-depth content = simp (fold_out-Inline ℕ depth_step, outs-Strong)
+
+strike-depth : (content : List Inline) → depth_of (Strike content) ≡ inlines_depth content + 1
+strike-depth content = simp (fold_out-Inline ℕ depth_step, outs-Strike)
+
+pub emphasised-depth : (character count : ℕ) (content : List Inline) → depth_of (emphasised character count content) ≡ inlines_depth content + 1
+emphasised-depth character count content = go (character == 126) (count == 2)
+  where
+    go : (tilde two : Bool) → depth_of (if tilde then Strike content else (if two then Strong content else Emph content)) ≡ inlines_depth content + 1
+    go true two = strike-depth content
+    go false true = strong-depth content
+    go false false = emph-depth content
+
+text-first : (text : List ℕ) (inlines : List Inline) → inlines_depth (text_before text inlines) ≡ inlines_depth inlines
+text-first [] inlines = refl
+text-first (b ∷ bs) inlines = omega (arith, text-depth (b ∷ bs))
+
+none-deeper : (n : ℕ) → max 0 n ≡ n
+none-deeper n = omega arith
+
+settled-after : (source text : List ℕ) (nodes : List Node) → AreParts source nodes → inlines_depth (settled_after text (items_of source nodes)) ≡ nodes_depth nodes
 unfolding settled_after
-nodes-shallow source text [] parts = let low = first-text text [] in omega (arith, low)
-nodes-shallow source text (Piece from to ∷ nodes) parts = nodes-shallow source _ nodes parts.1
-nodes-shallow source text (Characters chars ∷ nodes) parts = nodes-shallow source _ nodes parts.1
-nodes-shallow source text (Finished inline ∷ nodes) parts =
-    let behind = settled_after [] (items_of source nodes) in
-    let low = first-text text (inline ∷ behind) in
-    let again : inlines_depth behind ≤ 1 = nodes-shallow source [] nodes parts.1 in
-    omega (arith, low, again, parts.0)
+settled-after source text [] parts = text-first text []
+settled-after source text (Piece from to ∷ nodes) parts = settled-after source _ nodes parts.1 ∙ sym (none-deeper (nodes_depth nodes))
+settled-after source text (Characters chars ∷ nodes) parts = settled-after source _ nodes parts.1 ∙ sym (none-deeper (nodes_depth nodes))
+settled-after source text (Run run ∷ nodes) parts = settled-after source _ nodes parts.1 ∙ sym (none-deeper (nodes_depth nodes))
+settled-after source text (Opener image behind ∷ nodes) parts = settled-after source _ nodes parts.1 ∙ sym (none-deeper (nodes_depth nodes))
+settled-after source text (Finished inline depth false ∷ nodes) parts =
+    text-first text (inline ∷ settled_after [] (items_of source nodes)) ∙ ap (λ n. max n (inlines_depth (settled_after [] (items_of source nodes)))) parts.0 ∙ ap (λ n. max depth n) (settled-after source [] nodes parts.1)
+settled-after source text (Finished inline depth true ∷ nodes) parts =
+    text-first text (inline ∷ settled_after [] (items_of source nodes)) ∙ ap (λ n. max n (inlines_depth (settled_after [] (items_of source nodes)))) parts.0 ∙ ap (λ n. max depth n) (settled-after source [] nodes parts.1)
+
+-- the inlines nest as deep as the nodes that they come of
+pub settled-depth : (source : List ℕ) (nodes : List Node) → AreParts source nodes → inlines_depth (settled (items_of source nodes)) ≡ nodes_depth nodes
+settled-depth source nodes parts = settled-after source [] nodes parts
+
+-- more nodes
+
+deeper-of-both : (nodes more : List Node) → nodes_depth (nodes ++ more) ≡ max (nodes_depth nodes) (nodes_depth more)
+deeper-of-both [] more = sym (none-deeper (nodes_depth more))
+deeper-of-both (x ∷ nodes) more = omega (arith, deeper-of-both nodes more)
+
+pub shallow-atom : (nodes : List Node) (x : Node) → nodes_depth nodes ≤ 1 → node_depth x ≤ 1 → nodes_depth (nodes ++ x ∷ []) ≤ 1
+shallow-atom nodes x low one = omega (arith, deeper-of-both nodes (x ∷ []), low, one)
+
+pub shallow-between : (nodes : List Node) (from to : ℕ) → nodes_depth nodes ≤ 1 → nodes_depth (nodes ++ text_between from to) ≤ 1
+shallow-between nodes from to low = omega (arith, deeper-of-both nodes (text_between from to), low, none (nat_lt from to))
+  where
+    none : (some : Bool) → nodes_depth (if some then Piece from to ∷ [] else []) ≡ 0
+    none true = omega arith
+    none false = refl
 
 -- what the limit says of them, by the depth that a usize holds
-module _ (source : List ℕ) (nodes : List Node) (content inlines : List Inline) (parts : AreParts source nodes) (limit depth : ℕ) (is : content ≡ settled (items_of source nodes)) (same : content ≡ inlines) (held : depth ≡ saturated (inlines_depth content)) where
-  shallow : inlines_depth inlines ≤ 1
-  shallow = let low = nodes-shallow source [] nodes parts in omega (arith, low, ap inlines_depth (sym same ∙ is))
+module _ (source : List ℕ) (nodes : List Node) (content inlines : List Inline) (parts : AreParts source nodes) (shallow : nodes_depth nodes ≤ 1) (limit depth : ℕ) (is : content ≡ settled (items_of source nodes)) (same : content ≡ inlines) (held : depth ≡ saturated (inlines_depth content)) where
+  once : inlines_depth inlines ≤ 1
+  once = omega (arith, shallow, settled-depth source nodes parts, ap inlines_depth (sym same ∙ is))
 
   pub past-limit : limit < depth → nat_lt limit (inlines_depth inlines) ≡ true
-  past-limit above = let low = shallow in grind (arith, nat_tests, above, held, low, ap inlines_depth same)
+  past-limit above = let low = once in grind (arith, nat_tests, above, held, low, ap inlines_depth same)
 
   pub within-limit : depth ≤ limit → nat_lt limit (inlines_depth inlines) ≡ false
-  within-limit below = let low = shallow in grind (arith, nat_tests, below, held, low, ap inlines_depth same)
+  within-limit below = let low = once in grind (arith, nat_tests, below, held, low, ap inlines_depth same)
 
   pub limit-is-nothing : limit < depth → limit ≡ 0
-  limit-is-nothing above = let low = shallow in omega (arith, above, held, low, ap inlines_depth same)
+  limit-is-nothing above = let low = once in omega (arith, above, held, low, ap inlines_depth same)

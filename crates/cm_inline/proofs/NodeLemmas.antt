@@ -1,13 +1,14 @@
 -- What comes of the nodes of a source.
-use Rattle.std.proofs.Common.{◌≡◌, ℕ, zero, suc, ◌+◌, ◌-◌, true, false, List, [], ◌∷◌, ◌++◌, length, take, drop, refl, sym, ap, subst, ◌∙◌, arith, append_assoc, drop-drop, take_all, length-drop}
-use Rattle.std.specs.Prelude.{encode_utf8_all}
+use Rattle.std.proofs.Common.{◌≡◌, ℕ, zero, suc, ◌+◌, ◌-◌, ◌<◌, true, false, List, [], ◌∷◌, ◌++◌, length, take, drop, refl, sym, ap, subst, ◌∙◌, arith, append_assoc, drop-drop, take_all, length-drop}
+use Rattle.std.specs.Prelude.{encode_utf8_all, replicate}
 use Rattle.std.specs.List.{slice_range}
 use Rattle.std.proofs.lemmas.List.{append-nil}
 use Rattle.cm_text.specs.References.{chars_of}
 use Rattle.cm_tree.specs.declared.tree.Inline.{Inline}
-use Rattle.cm_scan.specs.Pairing.{text_before, settled_after, settled}
+use Rattle.cm_scan.specs.Pairing.{bracket_text, text_before, settled_after, settled}
 use Rattle.cm_inline.specs.declared.nodes.Node.{Node}
-use Rattle.cm_inline.specs.declared.nodes.Node.TheVariants.{Piece, Characters, Finished}
+use Rattle.cm_inline.specs.declared.nodes.Node.TheVariants.{Piece, Characters, Finished, Run, Opener}
+use Rattle.cm_inline.specs.steps.Runs.{byte_of}
 use Rattle.cm_inline.specs.steps.Nodes.{items_of, is_text, text_in, text_in_front, behind_texts, inline_of, AreParts}
 
 settled-texts : (source before : List ℕ) (nodes : List Node) → settled_after before (items_of source nodes) ≡ text_before (before ++ text_in_front source nodes) (settled (items_of source (behind_texts nodes)))
@@ -19,7 +20,14 @@ settled-texts source before (Piece from to ∷ nodes) =
 settled-texts source before (Characters chars ∷ nodes) =
     let text = encode_utf8_all (chars_of chars) in
     settled-texts source (before ++ text) nodes ∙ ap (λ t. text_before t (settled (items_of source (behind_texts nodes)))) (append_assoc before text (text_in_front source nodes))
-settled-texts source before (Finished inline ∷ nodes) = ap (λ t. text_before t (inline ∷ settled (items_of source nodes))) (sym (append-nil before))
+settled-texts source before (Run run ∷ nodes) =
+    let text = replicate run.left (byte_of run.marker) in
+    settled-texts source (before ++ text) nodes ∙ ap (λ t. text_before t (settled (items_of source (behind_texts nodes)))) (append_assoc before text (text_in_front source nodes))
+settled-texts source before (Opener image behind ∷ nodes) =
+    let text = bracket_text image in
+    settled-texts source (before ++ text) nodes ∙ ap (λ t. text_before t (settled (items_of source (behind_texts nodes)))) (append_assoc before text (text_in_front source nodes))
+settled-texts source before (Finished inline depth false ∷ nodes) = ap (λ t. text_before t (inline ∷ settled (items_of source nodes))) (sym (append-nil before))
+settled-texts source before (Finished inline depth true ∷ nodes) = ap (λ t. text_before t (inline ∷ settled (items_of source nodes))) (sym (append-nil before))
 
 text-then : (text : List ℕ) (inlines : List Inline) → text_before text inlines ≡ text_before text [] ++ inlines
 text-then [] inlines = refl
@@ -29,22 +37,24 @@ text-then (b ∷ bs) inlines = refl
 pub text-first : (source : List ℕ) (nodes : List Node) → text_before (text_in_front source nodes) [] ++ settled (items_of source (behind_texts nodes)) ≡ settled (items_of source nodes)
 text-first source nodes = sym (settled-texts source [] nodes ∙ text-then (text_in_front source nodes) (settled (items_of source (behind_texts nodes))))
 
+first : Node → List Node → Node
+first node [] = node
+first node (n ∷ ns) = n
+
+others : List Node → List Node
+others [] = []
+others (n ∷ ns) = ns
+
 -- behind it stands an inline, or nothing
 pub inline-first : (source : List ℕ) (nodes : List Node) (node : Node) (rest : List Node) → behind_texts nodes ≡ node ∷ rest → inline_of node ++ settled (items_of source rest) ≡ settled (items_of source (behind_texts nodes))
-unfolding settled_after
+unfolding settled_after first others
 inline-first source [] node rest e = absurd (cc e)
 inline-first source (Piece from to ∷ nodes) node rest e = inline-first source nodes node rest e
 inline-first source (Characters chars ∷ nodes) node rest e = inline-first source nodes node rest e
-inline-first source (Finished inline ∷ nodes) node rest e =
-    ap (λ t. inline_of (first t) ++ settled (items_of source (others t))) (sym e)
-  where
-    first : List Node → Node
-    first [] = node
-    first (n ∷ ns) = n
-
-    others : List Node → List Node
-    others [] = []
-    others (n ∷ ns) = ns
+inline-first source (Run run ∷ nodes) node rest e = inline-first source nodes node rest e
+inline-first source (Opener image behind ∷ nodes) node rest e = inline-first source nodes node rest e
+inline-first source (Finished inline depth false ∷ nodes) node rest e = ap (λ t. inline_of (first node t) ++ settled (items_of source (others t))) (sym e)
+inline-first source (Finished inline depth true ∷ nodes) node rest e = ap (λ t. inline_of (first node t) ++ settled (items_of source (others t))) (sym e)
 
 pub parts-drop : (source : List ℕ) (n : ℕ) (nodes : List Node) → AreParts source nodes → AreParts source (drop n nodes)
 parts-drop source zero nodes parts = parts
@@ -82,3 +92,9 @@ all-from nodes at = take_all (length nodes - at) (drop at nodes) (omega (arith, 
 -- the nodes behind a text that is no longer than what is left
 pub left-behind : (nodes left : List Node) (at count : ℕ) → left ≡ drop at nodes → drop count left ≡ behind_texts left → drop (at + count) nodes ≡ behind_texts (drop at nodes)
 left-behind nodes left at count same rest = sym (drop-drop count at nodes) ∙ subst (λ t. drop count t ≡ behind_texts t) same rest
+
+-- one character of a run that is written, and the others
+pub run-next : (done : List ℕ) (b left counter : ℕ) → counter < left → (done ++ b ∷ []) ++ replicate (left - (counter + 1)) b ≡ done ++ replicate (left - counter) b
+run-next done b left counter below =
+    let next : left - counter ≡ suc (left - (counter + 1)) = omega (arith, below) in
+    append_assoc done (b ∷ []) (replicate (left - (counter + 1)) b) ∙ sym (ap (λ n. done ++ replicate n b) next)

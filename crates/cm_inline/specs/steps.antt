@@ -1,3 +1,9 @@
-pub mod Nodes
-pub mod Reads
+pub mod Entries
 pub mod Missing
+pub mod Nodes
+pub mod Openers
+pub mod Pairs
+pub mod Reads
+pub mod Runs
+pub mod Searching
+pub mod Slots

@@ -98,7 +98,7 @@ fn backticks(
     match code_span(source, at) {
         Some((inside, end)) => {
             let code = Inline::Code(content_of(alloc, inside)?);
-            Ok((Node::Finished(code), end))
+            Ok((Node::flat(code), end))
         }
         None => {
             ends.look_for_backticks(alloc, source)?;
@@ -121,12 +121,17 @@ fn angle(
     ensures knows { OnOk result (Knows source.now ends.new) }
 {
     if let Some((link, end)) = autolink(source, at) {
-        return Ok((Node::Finished(link_of(alloc, link)?), end));
+        let node = Node::Finished {
+            inline: link_of(alloc, link)?,
+            depth: 1,
+            holds_link: false,
+        };
+        return Ok((node, end));
     }
     match raw_html(rules, source, at, ends) {
         Some((html, end)) => {
             let html = Inline::Html(Text::from_str(alloc, html)?);
-            Ok((Node::Finished(html), end))
+            Ok((Node::flat(html), end))
         }
         None => Ok(text(at, at + 1)),
     }
@@ -183,7 +188,7 @@ fn backslash(source: &str, at: usize) -> (Node, usize)
     ensures { (rules : Rules) → IsAtom rules source.now at result.0 result.1 }
 {
     if is_at(source, at + 1, b'\n') {
-        return (Node::Finished(Inline::Hard), at + 2);
+        return (Node::flat(Inline::Hard), at + 2);
     }
     if at + 1 < source.len() && is_ascii_punct(source.as_bytes()[at + 1] as char) {
         return text(at + 1, at + 2);
@@ -211,7 +216,7 @@ fn line_break(source: &str, at: usize) -> (Node, usize)
     if !is_at(source, feed, b'\n') {
         return text(at, at + 1);
     }
-    (Node::Finished(break_behind(feed - at)), feed + 1)
+    (Node::flat(break_behind(feed - at)), feed + 1)
 }
 
 /// The line break behind so many spaces.

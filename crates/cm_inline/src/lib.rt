@@ -3,11 +3,16 @@
 
 mod atoms;
 mod code;
+mod delimiters;
 mod ends;
 mod fault;
 pub mod laws;
+mod nearest;
 mod nodes;
+mod openers;
+mod pairing;
 mod reading;
+mod runs;
 
 pub use fault::InlineFault;
 pub use reading::{Steps, inlines, inlines_by, is_one_text};

@@ -1,9 +1,12 @@
 //! The list of nodes into which a leaf's source is read, and the inlines that come of it.
-ghost use Rattle.std.specs.Prelude.{◌≡◌, ◌++◌, ◌≤◌, [], length, string_bytes, encode_utf8_all, drop, IfOk, OnOk};
+ghost use Rattle.std.specs.Prelude.{◌≡◌, ◌++◌, ◌≤◌, [], ◌∷◌, length, string_bytes, encode_utf8_all, replicate, drop, false, IfOk, OnOk};
 ghost use Rattle.cm_text.specs.References.{chars_of};
 ghost use Rattle.cm_scan.specs.Pairing.{settled, text_before};
-ghost use Rattle.cm_inline.specs.steps.Nodes.{is_text, text_in, text_in_front, behind_texts, text_between, inline_of, items_of, IsPart, AreParts};
+ghost use Rattle.cm_inline.specs.declared.nodes.Node.TheVariants.{Finished};
+ghost use Rattle.cm_inline.specs.steps.Runs.{byte_of};
+ghost use Rattle.cm_inline.specs.steps.Nodes.{is_text, node_depth, nodes_depth, text_in, text_in_front, behind_texts, text_between, inline_of, items_of, IsPart, AreParts};
 
+use crate::runs::DelimiterRun;
 use cm_text::Chars;
 use cm_tree::{Inline, Items, Text};
 use std::alloc::{AllocError, Global};
@@ -13,11 +16,60 @@ use std::mem;
 #[derive(Drop)]
 pub(crate) enum Node {
     /// The source between two places, as text.
-    Piece { from: usize, to: usize },
+    Piece {
+        from: usize,
+        to: usize,
+    },
     /// The characters for which a reference stands.
     Characters(Chars),
-    /// An inline that is finished.
-    Finished(Inline),
+    /// An inline that is finished, how deep it nests, and whether it is a link that a `]` made, or an image that
+    /// holds one.
+    Finished {
+        inline: Inline,
+        depth: usize,
+        holds_link: bool,
+    },
+    /// What is left of a delimiter run.
+    Run(DelimiterRun),
+    /// `[` or `![`, and the place behind it.
+    Opener {
+        image: bool,
+        behind: usize,
+    },
+}
+
+impl Node {
+    /// An inline in which nothing nests.
+    pub(crate) fn flat(inline: Inline) -> Node
+        ensures { result ≡ Finished inline 0 false }
+    {
+        Node::Finished {
+            inline,
+            depth: 0,
+            holds_link: false,
+        }
+    }
+
+    /// How deep the inline that it is nests.
+    pub(crate) fn depth(&self) -> usize
+        ensures { result ≡ node_depth self.now }
+    {
+        match self {
+            Node::Finished { depth, .. } => *depth,
+            _ => 0,
+        }
+    }
+}
+
+/// How deep the inlines among the nodes nest.
+pub(crate) fn depth_of_all(nodes: &[Node]) -> usize
+    ensures { result ≡ nodes_depth nodes.now }
+{
+    let mut deepest = 0;
+    for node in nodes {
+        deepest = deepest.max(node.depth());
+    }
+    deepest
 }
 
 /// About how many bytes of text the nodes begin with, and never fewer.
@@ -27,7 +79,9 @@ fn room_for_text(nodes: &[Node]) -> usize {
         let more = match node {
             Node::Piece { from, to } => to.saturating_sub(*from),
             Node::Characters(_) => 8,
-            Node::Finished(_) => return room,
+            Node::Finished { .. } => return room,
+            Node::Run(run) => run.left,
+            Node::Opener { .. } => 2,
         };
         room = room.saturating_add(more);
     }
@@ -41,6 +95,16 @@ fn push_chars(text: &mut String, chars: Chars) -> Result<(), AllocError>
     text.push(chars.first)?;
     if let Some(second) = chars.second {
         text.push(second)?;
+    }
+    Ok(())
+}
+
+/// Adds what is left of a delimiter run.
+fn push_run(text: &mut String, run: DelimiterRun) -> Result<(), AllocError>
+    ensures { OnOk result (string_bytes text.new ≡ string_bytes text.old ++ replicate run.left (byte_of run.marker)) }
+{
+    for _ in 0..run.left {
+        text.push_str(run.marker.text())?;
     }
     Ok(())
 }
@@ -60,7 +124,15 @@ fn push_text_of(text: &mut String, source: &str, node: &Node) -> Result<bool, Al
             push_chars(text, *chars)?;
             Ok(true)
         }
-        Node::Finished(_) => Ok(false),
+        Node::Finished { .. } => Ok(false),
+        Node::Run(run) => {
+            push_run(text, *run)?;
+            Ok(true)
+        }
+        Node::Opener { image, .. } => {
+            text.push_str(if *image { "![" } else { "[" })?;
+            Ok(true)
+        }
     }
 }
 
@@ -99,6 +171,13 @@ fn push_texts(
     Ok(count)
 }
 
+/// Adds a node.
+pub(crate) fn push_node(nodes: &mut Vec<Node>, node: Node) -> Result<(), AllocError>
+    ensures { OnOk result (nodes.new.items ≡ nodes.old.items ++ node ∷ []) }
+{
+    Ok(nodes.push(node)?)
+}
+
 /// Adds the source between two places as text, if there is any.
 pub(crate) fn push_text(nodes: &mut Vec<Node>, from: usize, to: usize) -> Result<(), AllocError>
     ensures { OnOk result (nodes.new.items ≡ nodes.old.items ++ text_between from to) }
@@ -114,7 +193,7 @@ fn push_finished(node: Node, content: &mut Vec<Inline>) -> Result<(), AllocError
     ensures { OnOk result (content.new.items ≡ content.old.items ++ inline_of node) }
 {
     match node {
-        Node::Finished(inline) => Ok(content.push(inline)?),
+        Node::Finished { inline, .. } => Ok(content.push(inline)?),
         _ => Ok(()),
     }
 }
@@ -124,7 +203,7 @@ fn count_inlines(nodes: &[Node]) -> usize {
     let mut count: usize = 0;
     let mut in_text = false;
     for node in nodes {
-        let is_text = !matches!(node, Node::Finished(_));
+        let is_text = !matches!(node, Node::Finished { .. });
         if !is_text || !in_text {
             count = count.saturating_add(1);
         }

@@ -1,12 +1,12 @@
 //! The inlines of a leaf.
-ghost use Rattle.std.specs.Prelude.{◌≡◌, [], ◌∷◌, IfOk, IsTrue, Err};
+ghost use Rattle.std.specs.Prelude.{◌≡◌, ◌≤◌, [], ◌∷◌, IfOk, IsTrue, Err};
 ghost use Rattle.cm_text.specs.Rules.{Rules, profile};
 ghost use Rattle.cm_tree.specs.declared.tree.Inline.TheVariants.{Text};
 ghost use Rattle.cm_scan.specs.Pieces.{in_pieces};
 ghost use Rattle.cm_inline.specs.Alone.{alone_in, inlines_alone};
 ghost use Rattle.cm_inline.specs.declared.fault.InlineFault.TheVariants as faults;
 ghost use Rattle.cm_inline.specs.Reading.{Reads};
-ghost use Rattle.cm_inline.specs.steps.Nodes.{items_of, AreParts};
+ghost use Rattle.cm_inline.specs.steps.Nodes.{items_of, nodes_depth, AreParts};
 
 use crate::atoms::{atom, text_end};
 use crate::ends::Ends;
@@ -24,6 +24,7 @@ pub struct Steps(pub u128);
 fn nodes_of(alloc: Global, rules: Rules, source: &str) -> Result<Vec<Node>, AllocError>
     ensures items { IfOk result (λ nodes. in_pieces (items_of source.now nodes.items) ≡ in_pieces (alone_in rules source.now)) }
     ensures parts { IfOk result (λ nodes. AreParts source.now nodes.items) }
+    ensures shallow { IfOk result (λ nodes. nodes_depth nodes.items ≤ 1) }
 {
     let mut nodes = Vec::new(alloc);
     let mut ends = Ends::of(source);

@@ -1,8 +1,9 @@
 -- Links and images by their brackets (CommonMark 0.31.2, 6.3 Links, 6.4 Images). Items so far have the last first.
 use Rattle.std.specs.Prelude.{ℕ, ◌-◌, Bool, true, false, not, ◌&&◌, ◌||◌, List, [], ◌∷◌, ◌++◌, length, take, reverse, Option, Some, None, codes, if◌then◌else◌}
+use Rattle.std.specs.FinMap.{get}
 use Rattle.cm_text.specs.Labels.{fold_label}
 use Rattle.cm_text.specs.Unescaping.{unescape}
-use Rattle.cm_tree.specs.Definitions.{Target}
+use Rattle.cm_tree.specs.Definitions.{Target, Targets}
 use Rattle.cm_tree.specs.declared.tree.Inline.TheVariants.{Link, Image}
 use Rattle.cm_scan.specs.Words.{is_empty, after_word}
 use Rattle.cm_scan.specs.Tags.{is_blank_next, after_gap}
@@ -47,6 +48,10 @@ inline_end text = elim (after_word (codes "(") text) [
 -- what a folded label stands for, if it is defined
 abbrev pub Defined : Type 0
 Defined = List ℕ → Option Target
+
+-- the definitions of a document's table
+abbrev pub defined_in : Targets → Defined
+defined_in targets folded = get targets folded
 
 abbrev pub target_of : Defined → List ℕ → Option Target
 target_of defined source = defined (fold_label source)

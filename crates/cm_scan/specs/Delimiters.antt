@@ -58,9 +58,11 @@ is_both run = run.opens && run.closes
 
 -- Rules 9 and 10: an opener and a closer have the same character. If one of the delimiters can both open and close emphasis, then
 -- the sum of the lengths of the delimiter runs containing the opening and closing delimiters must not be a multiple of 3 unless
--- both lengths are multiples of 3. (The sum of two runs of two tildes is none.)
+-- both lengths are multiples of 3. Runs of tildes know no such rule.
 unfoldable pub delimiters_match : Run → Run → Bool
 delimiters_match closer opener =
     closer.character == opener.character
-    && (not (is_both closer || is_both opener) || not (is_multiple_of_3 (closer.whole + opener.whole))
+    && (closer.character == 126
+    || not (is_both closer || is_both opener)
+    || not (is_multiple_of_3 (closer.whole + opener.whole))
     || (is_multiple_of_3 closer.whole && is_multiple_of_3 opener.whole))

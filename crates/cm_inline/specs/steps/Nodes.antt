@@ -1,19 +1,24 @@
 -- The list of nodes into which a source is read.
-use Rattle.std.specs.Prelude.{ℕ, ◌≤◌, nat_lt, if◌then◌else◌, Bool, true, false, List, [], ◌∷◌, ◌++◌, map, encode_utf8_all, ⊤}
+use Rattle.std.specs.Prelude.{◌≡◌, ℕ, ◌≤◌, nat_lt, if◌then◌else◌, Bool, true, false, List, [], ◌∷◌, ◌++◌, drop, map, replicate, encode_utf8_all, Option, Some, None, ⊤}
 use Rattle.std.specs.List.{slice_range}
 use Rattle.std.specs.Str.{IsCharBoundary}
 use Rattle.cm_text.specs.References.{chars_of}
 use Rattle.cm_tree.specs.declared.tree.Inline.{Inline}
-use Rattle.cm_tree.specs.Depth.{depth_of}
+use Rattle.cm_tree.specs.Depth.{depth_of, greatest}
 use Rattle.cm_scan.specs.Pairing as items
+use Rattle.cm_inline.specs.declared.runs.DelimiterRun.{DelimiterRun}
 use Rattle.cm_inline.specs.declared.nodes.Node.{Node}
-use Rattle.cm_inline.specs.declared.nodes.Node.TheVariants.{Piece, Characters, Finished}
+use Rattle.cm_inline.specs.declared.nodes.Node.TheVariants.{Piece, Characters, Finished, Run, Opener}
+use Rattle.cm_inline.specs.steps.Runs.{byte_of, run_of}
 
 -- a node of a source as an item
 abbrev pub item_of : List ℕ → Node → items.Item
 item_of source (Piece from to) = items.Characters (slice_range source from to)
 item_of source (Characters chars) = items.Characters (encode_utf8_all (chars_of chars))
-item_of source (Finished inline) = items.Finished inline
+item_of source (Finished inline depth false) = items.Finished inline
+item_of source (Finished inline depth true) = items.Linked inline
+item_of source (Run run) = items.Delimiters (run_of run)
+item_of source (Opener image behind) = items.Opener image (drop behind source)
 
 abbrev pub items_of : List ℕ → List Node → List items.Item
 items_of source nodes = map (item_of source) nodes
@@ -22,22 +27,45 @@ items_of source nodes = map (item_of source) nodes
 abbrev pub text_between : ℕ → ℕ → List Node
 text_between from to = if nat_lt from to then Piece from to ∷ [] else []
 
+-- what is left of a run, if anything is
+abbrev pub rest_in : Option DelimiterRun → List Node
+rest_in None = []
+rest_in (Some run) = Run run ∷ []
+
 -- the inline that a node is, if it is one
 abbrev pub inline_of : Node → List Inline
 inline_of (Piece from to) = []
 inline_of (Characters chars) = []
-inline_of (Finished inline) = inline ∷ []
+inline_of (Finished inline depth holds_link) = inline ∷ []
+inline_of (Run run) = []
+inline_of (Opener image behind) = []
 
+-- how deep the inline that a node is nests
+abbrev pub node_depth : Node → ℕ
+node_depth (Piece from to) = 0
+node_depth (Characters chars) = 0
+node_depth (Finished inline depth holds_link) = depth
+node_depth (Run run) = 0
+node_depth (Opener image behind) = 0
+
+abbrev pub nodes_depth : List Node → ℕ
+nodes_depth nodes = greatest (map node_depth nodes)
+
+-- once nothing more is made of it, the node is text
 abbrev pub is_text : Node → Bool
 is_text (Piece from to) = true
 is_text (Characters chars) = true
-is_text (Finished inline) = false
+is_text (Finished inline depth holds_link) = false
+is_text (Run run) = true
+is_text (Opener image behind) = true
 
 -- the text of a node
 abbrev pub text_in : List ℕ → Node → List ℕ
 text_in source (Piece from to) = slice_range source from to
 text_in source (Characters chars) = encode_utf8_all (chars_of chars)
-text_in source (Finished inline) = []
+text_in source (Finished inline depth holds_link) = []
+text_in source (Run run) = replicate run.left (byte_of run.marker)
+text_in source (Opener image behind) = items.bracket_text image
 
 -- the text with which the nodes begin
 abbrev pub text_in_front : List ℕ → List Node → List ℕ
@@ -49,11 +77,13 @@ abbrev pub behind_texts : List Node → List Node
 behind_texts [] = []
 behind_texts (node ∷ nodes) = elim (is_text node) [ true ↦ behind_texts nodes | false ↦ node ∷ nodes ]
 
--- The places between which a piece lies part characters of the source, and an inline nests once at most.
+-- The places between which a piece lies part characters of the source, and an inline nests as deep as is said.
 abbrev pub IsPart : List ℕ → Node → Type 0
 IsPart source (Piece from to) = (from ≤ to) × IsCharBoundary source from × IsCharBoundary source to
 IsPart source (Characters chars) = ⊤
-IsPart source (Finished inline) = depth_of inline ≤ 1
+IsPart source (Finished inline depth holds_link) = depth_of inline ≡ depth
+IsPart source (Run run) = ⊤
+IsPart source (Opener image behind) = ⊤
 
 abbrev pub AreParts : List ℕ → List Node → Type 0
 AreParts source [] = ⊤

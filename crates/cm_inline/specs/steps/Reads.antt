@@ -7,7 +7,7 @@ use Rattle.cm_scan.specs.Atoms.{AtomRead, is_markup, atom_at}
 use Rattle.cm_scan.specs.InlineLaws.{is_plain_byte, keeps_spaces}
 use Rattle.cm_inline.specs.declared.nodes.Node.{Node}
 use Rattle.cm_inline.specs.Alone.{alone}
-use Rattle.cm_inline.specs.steps.Nodes.{item_of, IsPart}
+use Rattle.cm_inline.specs.steps.Nodes.{item_of, node_depth, IsPart}
 
 -- this byte stands at the place, where a character begins
 pub record Stands (source : List ℕ) (at b : ℕ) : Type 0 where
@@ -47,3 +47,4 @@ pub record IsAtom (rules : Rules) (source : List ℕ) (at : ℕ) (node : Node) (
   pub further : at < end
   pub within : end ≤ length source
   pub boundary : IsCharBoundary source end
+  pub shallow : node_depth node ≤ 1

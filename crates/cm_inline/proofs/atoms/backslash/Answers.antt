@@ -1,12 +1,13 @@
-use Rattle.std.proofs.Common.{◌≡◌, ℕ, ◌+◌, ◌<◌, true, get_or, refl, sym, ap, ◌∙◌, arith}
+use Rattle.std.proofs.Common.{◌≡◌, ℕ, ◌+◌, ◌<◌, true, get_or, refl, sym, ap, subst, ◌∙◌, arith}
 use Rattle.cm_text.specs.Characters.{is_ascii_punct}
 use Rattle.cm_inline.specs.declared.nodes.Node.TheVariants.{Piece}
+use Rattle.cm_inline.specs.steps.Reads.{IsAtom}
 use Rattle.cm_inline.proofs.AtomLemmas.{told, hard-is, escape-is, backslash-is-text}
 use Rattle.cm_inline.proofs.atoms.backslash.Goals as goal
 use Rattle.cm_inline.proofs.atoms.backslash.Goals.{else-at-source-via-then-at-source+else-is_ascii_punct, else-at-source-via-else-at-source}
 
 pub returns-then-is_at : goal.returns-then-is_at
-returns-then-is_at c = λ rules. hard-is rules c.args.source.now c.args.at c.utf8.source c.requires (sym c.is_at.ensures ∙ c.if-is_at.true)
+returns-then-is_at c = λ rules. subst (λ node. IsAtom rules c.args.source.now c.args.at node (c.args.at + 2)) (sym c.flat.ensures) (hard-is rules c.args.source.now c.args.at c.utf8.source c.requires (sym c.is_at.ensures ∙ c.if-is_at.true))
 
 pub returns-then-is_ascii_punct : goal.returns-then-is_ascii_punct
 returns-then-is_ascii_punct c =

@@ -1,4 +1,4 @@
-use Rattle.std.proofs.Common.{◌≡◌, ◌+◌, ◌-◌, None, sym, subst, drop, arith}
+use Rattle.std.proofs.Common.{◌≡◌, ◌+◌, ◌-◌, None, sym, subst, drop, arith, false, ap, ◌∙◌}
 use Rattle.cm_tree.specs.declared.tree.Inline.TheVariants.{Code}
 use Rattle.cm_scan.specs.Words.{run_length}
 use Rattle.cm_scan.proofs.RunLemmas.{span-content}
@@ -21,7 +21,7 @@ returns-then-is_last_backticks-clause-atom c =
 
 pub returns-in_ok-content_of-in-Some-clause-atom : goal.returns-in_ok-content_of-in-Some-clause-atom
 returns-in_ok-content_of-in-Some-clause-atom c =
-    λ rules. subst (λ made. IsAtom rules c.args.source.now c.args.at (Finished (Code made)) c.in-Some.end) (sym c.in_ok-content_of-in-Some.ensures)
+    λ rules. subst (λ node. IsAtom rules c.args.source.now c.args.at node c.in-Some.end) (sym (c.flat.ensures ∙ ap (λ made. Finished (Code made) 0 false) c.in_ok-content_of-in-Some.ensures))
     (code-span-is rules c.args.source.now c.args.at c.in-Some.inside.now c.in-Some.end c.requires.stands c.in-Some.ensures.content c.in-Some.ensures.boundary)
 
 pub returns-in_ok-look_for_backticks-in-None-clause-atom : goal.returns-in_ok-look_for_backticks-in-None-clause-atom

@@ -1,4 +1,4 @@
-use Rattle.std.proofs.Common.{◌+◌, sym, subst, ◌∙◌}
+use Rattle.std.proofs.Common.{◌+◌, sym, subst, ◌∙◌, false, ap}
 use Rattle.cm_inline.specs.declared.nodes.Node.TheVariants.{Piece, Finished}
 use Rattle.cm_inline.specs.steps.Reads.{IsAtom}
 use Rattle.cm_inline.proofs.AtomLemmas.{told, break-is, space-is-text}
@@ -13,5 +13,5 @@ returns-then-not-is_at c =
 pub returns : goal.returns
 returns c =
     let s = c.requires.stands in
-    λ rules. subst (λ made. IsAtom rules c.args.source.now c.args.at (Finished made) (c.after_run-feed.result + 1)) (sym c.break_behind.ensures)
+    λ rules. subst (λ node. IsAtom rules c.args.source.now c.args.at node (c.after_run-feed.result + 1)) (sym (c.flat.ensures ∙ ap (λ made. Finished made 0 false) c.break_behind.ensures))
     (break-is rules c.args.source.now c.args.at s.0 c.after_run-feed.result c.utf8.source s.1 s.2 c.after_run-feed.ensures.end c.after_run-feed.ensures.behind (sym c.is_at.ensures ∙ c.if-not-is_at.false))

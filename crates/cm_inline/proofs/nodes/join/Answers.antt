@@ -2,7 +2,7 @@ use Rattle.std.proofs.Common.{◌≡◌, ◌+◌, [], ◌∷◌, ◌++◌, false
 use Rattle.std.specs.Prelude.{string_bytes}
 use Rattle.std.proofs.lemmas.List.{append-nil, drop_more, drop_all}
 use Rattle.cm_inline.specs.declared.nodes.Node.{Node}
-use Rattle.cm_inline.specs.declared.nodes.Node.TheVariants.{Piece, Characters, Finished}
+use Rattle.cm_inline.specs.declared.nodes.Node.TheVariants.{Piece, Characters, Finished, Run, Opener}
 use Rattle.cm_inline.specs.steps.Nodes.{is_text, text_in, text_in_front, behind_texts, AreParts}
 use Rattle.cm_inline.proofs.NodeLemmas.{text-more, text-over}
 use Rattle.cm_inline.proofs.nodes.join.Goals as goal
@@ -31,7 +31,9 @@ returns-then-not-branch-clause-text c =
     no-text : (node : Node) → is_text node ≡ false → text_in c.args.source.now node ≡ []
     no-text (Piece from to) e = absurd (cc e)
     no-text (Characters chars) e = absurd (cc e)
-    no-text (Finished inline) e = refl
+    no-text (Run run) e = absurd (cc e)
+    no-text (Opener image behind) e = absurd (cc e)
+    no-text (Finished inline depth holds_link) e = refl
 
 pub returns-then-not-branch-clause-rest : goal.returns-then-not-branch-clause-rest
 returns-then-not-branch-clause-rest c =

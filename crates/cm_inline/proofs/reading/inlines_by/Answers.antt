@@ -13,7 +13,7 @@ returns-then-inline_depth-limit-clause-reads c =
     let items = items_of source c.in_ok-nodes.nodes.items in
     let content : c.in_ok-content.content ≡ inlines_alone c.args.rules source =
     c.in_ok-content.ensures ∙ sym (settled-pieces [] items) ∙ ap (settled_after []) c.in_ok-nodes.ensures.items ∙ settled-pieces [] (alone_in c.args.rules source) in
-    past-limit source c.in_ok-nodes.nodes.items c.in_ok-content.content (inlines_alone c.args.rules source) c.in_ok-nodes.ensures.parts c.args.limit c.inline_depth.result
+    past-limit source c.in_ok-nodes.nodes.items c.in_ok-content.content (inlines_alone c.args.rules source) c.in_ok-nodes.ensures.parts c.in_ok-nodes.ensures.shallow c.args.limit c.inline_depth.result
     c.in_ok-content.ensures content (c.inline_depth.ensures ∙ ap (λ t. saturated (inlines_depth t)) c.as_slice.ensures) c.if-inline_depth-limit.true
 
 pub returns-then-inline_depth-limit-clause-flat : goal.returns-then-inline_depth-limit-clause-flat
@@ -22,7 +22,7 @@ returns-then-inline_depth-limit-clause-flat c = λ _.
     let items = items_of source c.in_ok-nodes.nodes.items in
     let content : c.in_ok-content.content ≡ inlines_alone c.args.rules source =
     c.in_ok-content.ensures ∙ sym (settled-pieces [] items) ∙ ap (settled_after []) c.in_ok-nodes.ensures.items ∙ settled-pieces [] (alone_in c.args.rules source) in
-    limit-is-nothing source c.in_ok-nodes.nodes.items c.in_ok-content.content (inlines_alone c.args.rules source) c.in_ok-nodes.ensures.parts c.args.limit c.inline_depth.result
+    limit-is-nothing source c.in_ok-nodes.nodes.items c.in_ok-content.content (inlines_alone c.args.rules source) c.in_ok-nodes.ensures.parts c.in_ok-nodes.ensures.shallow c.args.limit c.inline_depth.result
     c.in_ok-content.ensures content (c.inline_depth.ensures ∙ ap (λ t. saturated (inlines_depth t)) c.as_slice.ensures) c.if-inline_depth-limit.true
 
 pub returns-clause-reads : goal.returns-clause-reads
@@ -34,6 +34,6 @@ returns-clause-reads c =
     record {
       content = content;
       steps = refl;
-      within = within-limit source c.in_ok-nodes.nodes.items c.in_ok-content.content (inlines_alone c.args.rules source) c.in_ok-nodes.ensures.parts c.args.limit c.inline_depth.result
+      within = within-limit source c.in_ok-nodes.nodes.items c.in_ok-content.content (inlines_alone c.args.rules source) c.in_ok-nodes.ensures.parts c.in_ok-nodes.ensures.shallow c.args.limit c.inline_depth.result
           c.in_ok-content.ensures content (c.inline_depth.ensures ∙ ap (λ t. saturated (inlines_depth t)) c.as_slice.ensures) c.if-inline_depth-limit.false;
     }

@@ -1,5 +1,5 @@
-use Rattle.std.proofs.Common.{length, ◌-◌}
-use Rattle.cm_inline.specs.steps.Nodes.{AreParts}
+use Rattle.std.proofs.Common.{◌≤◌, length, ◌-◌}
+use Rattle.cm_inline.specs.steps.Nodes.{nodes_depth, AreParts}
 use Rattle.std.specs.Str.{IsCharBoundary}
 use Rattle.cm_inline.specs.steps.Missing.{Knows}
 use Rattle.cm_inline.proofs.AloneLemmas.{Come}
@@ -9,6 +9,7 @@ abbrev pub invariant-loop-at : goal.invariant-loop-at
 invariant-loop-at l = record {
   come : Come l.rules l.source l.nodes.items l.at;
   parts : AreParts l.source l.nodes.items;
+  shallow : nodes_depth l.nodes.items ≤ 1;
   knows : Knows l.source l.ends;
   boundary : IsCharBoundary l.source l.at;
 }

@@ -1,0 +1,283 @@
+-- A pair among the nodes of a source, and the pass over all of them.
+use Rattle.std.proofs.Common.{◌≡◌, ◌≢◌, ◌⊎◌, inl, inr, ℕ, zero, suc, ◌+◌, ◌-◌, ◌<◌, ◌≤◌, Bool, true, false, cond, nat_le, List, [], ◌∷◌, ◌++◌, length, reverse, take, drop, get_or, Option, Some, None, refl, sym, ap, subst, ◌∙◌, arith, append_assoc, append-nil, length-append}
+use Rattle.std.specs.Prelude.{IfSome}
+use Rattle.std.proofs.lemmas.List.{take-map, drop-map, map-append, length-map, length-reverse, reverse-append, reverse-reverse}
+use Rattle.std.proofs.lemmas.List.Sums.{sum_by-append, sum_by-cons}
+use Rattle.std.proofs.Math.Seq.{take-append_seam, drop-append-add}
+use Rattle.cm_tree.specs.declared.tree.Inline.{Inline}
+use Rattle.cm_scan.specs.Delimiters.{Run}
+use Rattle.cm_scan.specs.Pairing.{Item, Finished, Delimiters, Opened, nearest_opener, without, used, emphasised, settled}
+use Rattle.cm_scan.specs.OnePass.{up_to_pair, closer_left, closed_by, passed, pass_from}
+use Rattle.cm_scan.proofs.PairingLemmas.{nearest-splits}
+use Rattle.cm_scan.proofs.OnePassLemmas.{closed_by-none, closed_by-gone, closed_by-more}
+use Rattle.cm_inline.specs.declared.nodes.Node as node
+use Rattle.cm_inline.specs.declared.nodes.Node.{Node}
+use Rattle.cm_inline.specs.declared.runs.DelimiterRun.{DelimiterRun}
+use Rattle.cm_inline.specs.declared.delimiters.Delimiter.{Delimiter}
+use Rattle.cm_inline.specs.steps.Entries.{Entry, Listed, is_listed, reserve, Below, Falling}
+use Rattle.cm_inline.specs.steps.Searching.{NoneBeneath, kind, openers_of, places_of, characters}
+use Rattle.cm_inline.specs.steps.Openers.{zeros, spent, cut, Ready, Closing, Open, Opens, Spends, Finishes}
+use Rattle.cm_inline.specs.steps.Runs.{run_of, entry_of, rest_of}
+use Rattle.cm_inline.specs.steps.Nodes.{item_of, items_of, rest_in, IsPart, AreParts}
+use Rattle.cm_inline.specs.steps.Pairs.{Adds, allowed, allowance}
+use Rattle.cm_inline.proofs.BetweenLemmas.{between-closer}
+use Rattle.cm_inline.proofs.OpenerLemmas.{closing-there, listed-split}
+
+-- what a run that closes comes to
+
+pass-closer : (before : List Item) (closer : Run) → closer.closes ≡ true → passed before (Delimiters closer) ≡ closed_by before closer
+pass-closer before closer e = ap (λ b. elim b as (λ _. List Item) [ true ↦ closed_by before closer | false ↦ Delimiters closer ∷ before ]) e
+
+pass-other : (before : List Item) (closer : Run) → closer.closes ≡ false → passed before (Delimiters closer) ≡ Delimiters closer ∷ before
+pass-other before closer e = ap (λ b. elim b as (λ _. List Item) [ true ↦ closed_by before closer | false ↦ Delimiters closer ∷ before ]) e
+
+-- a run that closes nothing, or finds no opener, stays
+pub pass-stays : (before : List Item) (closer : Run) → (closer.closes ≡ false) ⊎ (nearest_opener closer before [] ≡ None) → passed before (Delimiters closer) ≡ Delimiters closer ∷ before
+pass-stays before closer (inl h) = pass-other before closer h
+pass-stays before closer (inr h) = go closer.closes refl
+  where
+    go : (b : Bool) → closer.closes ≡ b → passed before (Delimiters closer) ≡ Delimiters closer ∷ before
+    go true e = pass-closer before closer e ∙ closed_by-none before closer h
+    go false e = pass-other before closer e
+
+abbrev first_run : Run → List Item → Run
+first_run run (Delimiters r ∷ items) = r
+first_run run _ = run
+
+-- nothing is left of a closer, or something
+left-over : (n : ℕ) (closer run : Run) → Delimiters run ∷ [] ≡ without n closer → (nat_le closer.left n ≡ false) × (run ≡ record closer { left = closer.left - n })
+left-over n closer run e = go (nat_le closer.left n) refl
+  where
+    rest : Run
+    rest = record closer { left = closer.left - n }
+
+    go : (b : Bool) → nat_le closer.left n ≡ b → (nat_le closer.left n ≡ false) × (run ≡ record closer { left = closer.left - n })
+    go true h = absurd (cc (e ∙ ap (λ b. cond b [] (Delimiters rest ∷ [])) h))
+    go false h = (h, ap (first_run run) (e ∙ ap (λ b. cond b [] (Delimiters rest ∷ [])) h))
+
+none-left : (n : ℕ) (closer : Run) → [] ≡ without n closer → nat_le closer.left n ≡ true
+none-left n closer e = go (nat_le closer.left n) refl
+  where
+    rest : Run
+    rest = record closer { left = closer.left - n }
+
+    go : (b : Bool) → nat_le closer.left n ≡ b → nat_le closer.left n ≡ true
+    go true h = h
+    go false h = absurd (cc (e ∙ ap (λ b. cond b [] (Delimiters rest ∷ [])) h))
+
+pub pass-further : (before : List Item) (closer run : Run) (found : Opened) → closer.closes ≡ true → nearest_opener closer before [] ≡ Some found → Delimiters run ∷ [] ≡ without (used found.opener closer) closer
+    → passed before (Delimiters closer) ≡ passed (reverse (up_to_pair found closer)) (Delimiters run)
+pass-further before closer run found h s e =
+    let left = left-over (used found.opener closer) closer run e in
+    pass-closer before closer h ∙ closed_by-more before closer found s left.0 ∙ sym (pass-closer (reverse (up_to_pair found closer)) (closer_left found closer) h)
+    ∙ ap (λ r. passed (reverse (up_to_pair found closer)) (Delimiters r)) (sym left.1)
+
+pub pass-ends : (before : List Item) (closer : Run) (found : Opened) → closer.closes ≡ true → nearest_opener closer before [] ≡ Some found → [] ≡ without (used found.opener closer) closer
+    → passed before (Delimiters closer) ≡ reverse (up_to_pair found closer)
+pass-ends before closer found h s e = pass-closer before closer h ∙ closed_by-gone before closer found s (none-left (used found.opener closer) closer e)
+
+-- an opener among the nodes
+
+pub record At (source : List ℕ) (nodes : List Node) (place : ℕ) (low inside : List Item) : Type 0 where
+  pub within : place < length nodes
+  pub front : items_of source (take place nodes) ≡ reverse low
+  pub back : items_of source (drop (suc place) nodes) ≡ reverse inside
+
+pub nodes-at : (source : List ℕ) (nodes : List Node) (l : Listed) (bs : List ℕ) (place : ℕ) (closer : Run) (o : Entry) (w : Open (reverse (items_of source nodes)) l bs place closer o) → At source nodes o.item w.items w.inside
+nodes-at source nodes l bs place closer o w = record {
+  within = omega (arith, ap length whole, length-map nodes (item_of source), length-append (reverse w.items) (Delimiters o.run ∷ reverse w.inside), at);
+  front = sym (take-map (item_of source) o.item nodes) ∙ ap (take o.item) whole ∙ ap (λ n. take n (reverse w.items ++ Delimiters o.run ∷ reverse w.inside)) (sym at) ∙ take-append_seam (reverse w.items) (Delimiters o.run ∷ reverse w.inside);
+  back = sym (drop-map (item_of source) (suc o.item) nodes) ∙ ap (drop (suc o.item)) whole ∙ ap (λ n. drop n (reverse w.items ++ Delimiters o.run ∷ reverse w.inside)) next
+      ∙ drop-append-add (reverse w.items) (Delimiters o.run ∷ reverse w.inside) 1;
+}
+  where
+    whole : items_of source nodes ≡ reverse w.items ++ Delimiters o.run ∷ reverse w.inside
+    whole =
+        sym (append-nil (reverse (reverse (items_of source nodes))) ∙ reverse-reverse (items_of source nodes))
+        ∙ nearest-splits closer (reverse (items_of source nodes)) [] (record { before = reverse w.items; opener = o.run; inside = reverse w.inside }) w.nearest
+
+    at : length (reverse w.items) ≡ o.item
+    at = length-reverse w.items ∙ w.item_is
+
+    next : suc o.item ≡ length (reverse w.items) + 1
+    next = omega (arith, at)
+
+reverse-without : (n : ℕ) (r : Run) → reverse (without n r) ≡ without n r
+reverse-without n r = go (nat_le r.left n)
+  where
+    go : (b : Bool) → reverse (cond b [] (Delimiters (record r { left = r.left - n }) ∷ [])) ≡ cond b [] (Delimiters (record r { left = r.left - n }) ∷ [])
+    go true = refl
+    go false = refl
+
+-- what stands before an opener among the nodes, it, and what stands behind it
+abbrev pub opened_at : List ℕ → List Node → Delimiter → Opened
+opened_at source nodes opener = record { before = items_of source (take opener.item nodes); opener = run_of opener.run; inside = items_of source (drop (suc opener.item) nodes) }
+
+-- a pair of the closer and its opener
+pub record Paired (source : List ℕ) (nodes more : List Node) (l new : Listed) (bs bs2 : List ℕ) (place : ℕ) (closer : DelimiterRun) (opener : Delimiter) (left : ℕ) : Type 0 where
+  pub closing : Closing (reverse (items_of source more)) new bs2 place (cut left (run_of closer))
+  pub paid : spent new bs2 ≤ spent l bs
+  pub nearest : nearest_opener (run_of closer) (reverse (items_of source nodes)) [] ≡ Some (opened_at source nodes opener)
+
+pub pair-law : (source : List ℕ) (nodes more : List Node) (l mid new : Listed) (bs bs1 bs2 : List ℕ) (place : ℕ) (closer : DelimiterRun) (opener : Delimiter) (left : ℕ)
+    → Closing (reverse (items_of source nodes)) l bs place (run_of closer) → Opens l bs mid bs1 place (run_of closer) (entry_of opener) → items_of source more ≡ up_to_pair (opened_at source nodes opener) (run_of closer)
+    → Spends mid bs1 new bs2 (entry_of opener) (without (used (run_of opener.run) (run_of closer)) (run_of opener.run)) → left ≤ closer.left → Paired source nodes more l new bs bs2 place closer opener left
+pair-law source nodes more l mid new bs bs1 bs2 place closer opener left c os made sp fits = record {
+  closing = subst (λ b. Closing b new bs2 place (cut left (run_of closer))) (sym turned) s.0;
+  paid = omega (arith, s.1, t.1);
+  nearest = t.0.nearest ∙ ap (λ v. Some (record { before = v; opener = run_of opener.run; inside = reverse t.0.inside })) (sym a.front)
+      ∙ ap (λ v. Some (record { before = items_of source (take opener.item nodes); opener = run_of opener.run; inside = v })) (sym a.back);
+}
+  where
+    n : ℕ
+    n = used (run_of opener.run) (run_of closer)
+
+    e : Inline
+    e = emphasised (run_of closer).character n (settled (items_of source (drop (suc opener.item) nodes)))
+
+    t : Open (reverse (items_of source nodes)) mid bs1 place (run_of closer) (entry_of opener) × (spent mid bs1 ≤ spent l bs + 1) × (l.looks + 1 ≤ mid.looks)
+    t = os (reverse (items_of source nodes)) c
+
+    a : At source nodes opener.item t.0.items t.0.inside
+    a = nodes-at source nodes mid bs1 place (run_of closer) (entry_of opener) t.0
+
+    s : Closing (Finished e ∷ (without n (run_of opener.run) ++ t.0.items)) new bs2 place (cut left (run_of closer)) × (spent new bs2 + 1 ≤ spent mid bs1) × (new.looks ≡ mid.looks)
+    s = sp (reverse (items_of source nodes)) place (run_of closer) left e t.0 fits
+
+    turned : reverse (items_of source more) ≡ Finished e ∷ (without n (run_of opener.run) ++ t.0.items)
+    turned =
+        ap reverse made ∙ reverse-append (items_of source (take opener.item nodes) ++ without n (run_of opener.run)) (Finished e ∷ [])
+        ∙ ap (λ v. Finished e ∷ v) (reverse-append (items_of source (take opener.item nodes)) (without n (run_of opener.run)) ∙ ap (λ v. v ++ reverse (items_of source (take opener.item nodes))) (reverse-without n (run_of opener.run))
+        ∙ ap (λ v. without n (run_of opener.run) ++ v) (ap reverse a.front ∙ reverse-reverse t.0.items))
+
+-- the parts of a list of nodes
+
+pub parts-take : (source : List ℕ) (n : ℕ) (nodes : List Node) → AreParts source nodes → AreParts source (take n nodes)
+parts-take source zero nodes parts = tt
+parts-take source (suc n) [] parts = tt
+parts-take source (suc n) (x ∷ nodes) parts = (parts.0, parts-take source n nodes parts.1)
+
+pub parts-append : (source : List ℕ) (nodes more : List Node) → AreParts source nodes → AreParts source more → AreParts source (nodes ++ more)
+parts-append source [] more parts others = others
+parts-append source (x ∷ nodes) more parts others = (parts.0, parts-append source nodes more parts.1 others)
+
+pub rest-parts : (source : List ℕ) (rest : Option DelimiterRun) → AreParts source (rest_in rest)
+rest-parts source None = tt
+rest-parts source (Some run) = (tt, tt)
+
+rest-items : (source : List ℕ) (rest : Option DelimiterRun) → items_of source (rest_in rest) ≡ rest_of rest
+rest-items source None = refl
+rest-items source (Some run) = refl
+
+-- the nodes up to a new pair
+pub pair-items : (source : List ℕ) (nodes : List Node) (opener : Delimiter) (closer : Run) (rest : Option DelimiterRun) (made : Node) → rest_of rest ≡ without (used (run_of opener.run) closer) (run_of opener.run)
+    → item_of source made ≡ Finished (emphasised closer.character (used (run_of opener.run) closer) (settled (items_of source (drop (suc opener.item) nodes))))
+    → items_of source ((take opener.item nodes ++ rest_in rest) ++ made ∷ []) ≡ up_to_pair (opened_at source nodes opener) closer
+pair-items source nodes opener closer rest made left e =
+    let front = items_of source (take opener.item nodes) in
+    map-append (item_of source) (take opener.item nodes ++ rest_in rest) (made ∷ [])
+    ∙ ap (λ t. t ++ item_of source made ∷ []) (map-append (item_of source) (take opener.item nodes) (rest_in rest) ∙ ap (λ t. front ++ t) (rest-items source rest ∙ left))
+    ∙ ap (λ i. (front ++ without (used (run_of opener.run) closer) (run_of opener.run)) ++ i ∷ []) e
+
+-- the run is among the nodes
+pub last-item : (source : List ℕ) (nodes : List Node) (x : Node) → reverse (items_of source (nodes ++ x ∷ [])) ≡ item_of source x ∷ reverse (items_of source nodes)
+last-item source nodes x = ap reverse (map-append (item_of source) nodes (x ∷ [])) ∙ reverse-append (items_of source nodes) (item_of source x ∷ [])
+
+pub opener-there : (before : List Item) (l : Listed) (bs : List ℕ) (place : ℕ) (closer : Run) (o : Entry) (w : Open before l bs place closer o) → is_listed o.place l.entries ≡ true
+opener-there before l bs place closer o w = ap (is_listed o.place) w.whole ∙ listed-split (w.last ∷ []) o w.below
+
+pub closer-there : (before : List Item) (l : Listed) (bs : List ℕ) (place : ℕ) (closer : Run) → Closing before l bs place closer → is_listed place l.entries ≡ true
+closer-there before l bs place closer w = between-closer place l.entries (closing-there l bs place closer (before, w))
+
+-- something is left of the closer
+pub goes-on : (o : Option DelimiterRun) (r closer : DelimiterRun) → o ≡ Some r → IfSome o (λ x. (run_of x ≡ cut x.left (run_of closer)) × (x.left < closer.left)) → (run_of r ≡ cut r.left (run_of closer)) × (r.left < closer.left)
+goes-on o r closer is f = subst (λ x. IfSome x (λ x. (run_of x ≡ cut x.left (run_of closer)) × (x.left < closer.left))) is f
+
+pub add-end : (source : List ℕ) (old nodes more : List Node) (l mid new : Listed) (bs bs1 bs2 : List ℕ) (place item : ℕ) (closer run : DelimiterRun) → length nodes ≡ item → more ≡ nodes ++ node.TheVariants.Run closer ∷ []
+    → Closing (reverse (items_of source nodes)) mid bs1 place (run_of closer) → spent mid bs1 ≤ spent l bs + (14 + run.left) → Finishes mid bs1 new bs2 place (run_of closer) item
+    → ((closer.closes ≡ false) ⊎ (nearest_opener (run_of closer) (reverse (items_of source nodes)) [] ≡ None))
+    → passed (reverse (items_of source nodes)) (Delimiters (run_of closer)) ≡ passed (reverse (items_of source old)) (Delimiters (run_of run)) → Adds source old l bs more new bs2 (run_of run)
+add-end source old nodes more l mid new bs bs1 bs2 place item closer run n e c s f stop p = record {
+  ready = subst (λ v. Ready v new bs2) (sym turned) r.0;
+  paid = omega (arith, r.1, s);
+  passes = turned ∙ sym (pass-stays (reverse (items_of source nodes)) (run_of closer) stop) ∙ p;
+}
+  where
+    turned : reverse (items_of source more) ≡ Delimiters (run_of closer) ∷ reverse (items_of source nodes)
+    turned = ap (λ l. reverse (items_of source l)) e ∙ last-item source nodes (node.TheVariants.Run closer)
+
+    r : Ready (Delimiters (run_of closer) ∷ reverse (items_of source nodes)) new bs2 × (spent new bs2 ≤ spent mid bs1) × (new.looks ≡ mid.looks)
+    r = f (reverse (items_of source nodes)) (length-reverse (items_of source nodes) ∙ length-map nodes (item_of source) ∙ n) c
+
+-- the pass over all nodes
+
+abbrev IsZeros : List ℕ → Type 0
+IsZeros [] = Unit {0}
+IsZeros (b ∷ bs) = (b ≡ 0) × IsZeros bs
+
+zero-at : (k : ℕ) (bs : List ℕ) → IsZeros bs → get_or bs k 0 ≤ 0
+zero-at k [] z = omega arith
+zero-at zero (b ∷ bs) z = let q : b ≡ 0 = z.0 in omega (arith, q)
+zero-at (suc k) (b ∷ bs) z = zero-at k bs z.1
+
+pub ready-none : (l : Listed) → l.entries ≡ [] → Ready [] l zeros × (spent l zeros ≤ l.looks)
+unfolding openers_of reserve
+ready-none l e = (
+  record {
+    stands = ap places_of e;
+    falling = subst Falling (sym e) tt;
+    under = subst (Below l.next) (sym e) tt;
+    size = refl;
+    low = λ j. (let q : get_or zeros j 0 ≤ 0 = zero-at j zeros (refl, (refl, (refl, (refl, (refl, (refl, (refl, (refl, (refl, (refl, (refl, (refl, (refl, tt))))))))))))) in omega (arith, q));
+    sound = λ c m h. subst (NoneBeneath c (get_or zeros (kind c) 0)) (sym e) tt;
+  },
+  omega (arith, ap (reserve zeros) e, ap characters e),
+)
+
+pub allowance-more : (source : List ℕ) (nodes : List Node) (x : Node) → allowance (items_of source (nodes ++ x ∷ [])) ≡ allowance (items_of source nodes) + allowed (item_of source x)
+allowance-more source nodes x = ap allowance (map-append (item_of source) nodes (x ∷ [])) ∙ sum_by-append allowed (items_of source nodes) (item_of source x ∷ []) ∙ omega (arith, sum_by-cons allowed (item_of source x) [])
+
+pub allowance-split : (source : List ℕ) (done rest : List Node) → allowance (items_of source (done ++ rest)) ≡ allowance (items_of source done) + allowance (items_of source rest)
+allowance-split source done rest = ap allowance (map-append (item_of source) done rest) ∙ sum_by-append allowed (items_of source done) (items_of source rest)
+
+-- other nodes pair with nothing, and open for nothing
+same-openers : (source : List ℕ) (before : List Item) (x : Node) → ((r : DelimiterRun) → x ≢ node.TheVariants.Run r) → openers_of (item_of source x ∷ before) ≡ openers_of before
+unfolding openers_of
+same-openers source before (node.TheVariants.Piece from to) n = refl
+same-openers source before (node.TheVariants.Characters chars) n = refl
+same-openers source before (node.TheVariants.Finished i d false) n = refl
+same-openers source before (node.TheVariants.Finished i d true) n = refl
+same-openers source before (node.TheVariants.Opener b k) n = refl
+same-openers source before (node.TheVariants.Run r) n = absurd (n r refl)
+
+pub passes-other : (source : List ℕ) (before : List Item) (x : Node) → ((r : DelimiterRun) → x ≢ node.TheVariants.Run r) → passed before (item_of source x) ≡ item_of source x ∷ before
+passes-other source before (node.TheVariants.Piece from to) n = refl
+passes-other source before (node.TheVariants.Characters chars) n = refl
+passes-other source before (node.TheVariants.Finished i d false) n = refl
+passes-other source before (node.TheVariants.Finished i d true) n = refl
+passes-other source before (node.TheVariants.Opener b k) n = refl
+passes-other source before (node.TheVariants.Run r) n = absurd (n r refl)
+
+pub other-ready : (source : List ℕ) (nodes more : List Node) (x : Node) (l : Listed) (bs : List ℕ) → ((r : DelimiterRun) → x ≢ node.TheVariants.Run r) → more ≡ nodes ++ x ∷ [] → Ready (reverse (items_of source nodes)) l bs
+    → Ready (reverse (items_of source more)) l bs
+other-ready source nodes more x l bs n e r =
+    subst (λ v. Ready v l bs) (sym (ap (λ l. reverse (items_of source l)) e ∙ last-item source nodes x))
+    (record { stands = r.stands ∙ sym (same-openers source (reverse (items_of source nodes)) x n); falling = r.falling; under = r.under; size = r.size; low = r.low; sound = r.sound })
+
+-- What has been passed over comes to the nodes so far, whatever follows.
+abbrev pub Passes : List ℕ → (done made : List Node) → Type 0
+Passes source done made = (after : List Item) → pass_from [] (items_of source done ++ after) ≡ pass_from (reverse (items_of source made)) after
+
+pub passes-more : (source : List ℕ) (done made more : List Node) (x : Node) → Passes source done made → reverse (items_of source more) ≡ passed (reverse (items_of source made)) (item_of source x) → Passes source (done ++ x ∷ []) more
+unfolding pass_from
+passes-more source done made more x p e after =
+    ap (pass_from []) (ap (λ l. l ++ after) (map-append (item_of source) done (x ∷ [])) ∙ append_assoc (items_of source done) (item_of source x ∷ []) after)
+    ∙ p (item_of source x ∷ after) ∙ ap (λ before. pass_from before after) (sym e)
+
+pub part-behind : (source : List ℕ) (done : List Node) (x : Node) (rest : List Node) → AreParts source (done ++ x ∷ rest) → IsPart source x
+part-behind source [] x rest parts = parts.0
+part-behind source (d ∷ done) x rest parts = part-behind source done x rest parts.1
+
+-- one node more is taken
+pub whole-more : (nodes done rest more : List Node) (x : Node) → nodes ≡ done ++ rest → rest ≡ x ∷ more → nodes ≡ (done ++ x ∷ []) ++ more
+whole-more nodes done rest more x whole e = whole ∙ ap (λ t. done ++ t) e ∙ sym (append_assoc done (x ∷ []) more)

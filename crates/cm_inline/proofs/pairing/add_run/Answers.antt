@@ -1,0 +1,110 @@
+use Rattle.std.proofs.Common.{false, true, ◌≡◌, ◌⊎◌, inl, inr, ◌+◌, ◌≤◌, [], ◌∷◌, reverse, None, sym, ap, subst, ◌∙◌, arith}
+use Rattle.cm_scan.specs.Pairing.{Delimiters, nearest_opener}
+use Rattle.cm_scan.specs.OnePass.{passed}
+use Rattle.cm_inline.specs.declared.nodes.Node.TheVariants.{Run}
+use Rattle.cm_inline.specs.declared.openers.Openers.{Openers}
+use Rattle.cm_inline.specs.steps.Entries.{is_listed}
+use Rattle.cm_inline.specs.steps.Openers.{Closing, spent, cut}
+use Rattle.cm_inline.specs.steps.Runs.{run_of, rest_of, entry_of}
+use Rattle.cm_inline.specs.steps.Nodes.{items_of, AreParts}
+use Rattle.cm_inline.proofs.PairLemmas.{nodes-at, pair-law, opener-there, closer-there, goes-on, add-end, pass-further, pass-ends, parts-append}
+use Rattle.cm_inline.proofs.pairing.add_run.Goals.{else-loop-closer-test, then-loop-closer-test+in_default}
+use Rattle.cm_inline.proofs.pairing.add_run.Goals as goal
+
+pub make_pair-requires-clause-within : goal.make_pair-requires-clause-within
+make_pair-requires-clause-within c =
+    let items = reverse (items_of c.args.source.now c.loop-closer.before.items) in
+    (nodes-at c.args.source.now c.loop-closer.before.items c.take_opener.new.openers.list c.take_opener.new.openers.bottoms c.in_ok-place.place (run_of c.loop-closer.closer) (entry_of c.in-Some.opener) (c.in-Some.ensures items c.loop-closer.invariant.closing).0).within
+
+pub make_pair-requires-clause-there : goal.make_pair-requires-clause-there
+make_pair-requires-clause-there c =
+    let items = reverse (items_of c.args.source.now c.loop-closer.before.items) in
+    opener-there items c.take_opener.new.openers.list c.take_opener.new.openers.bottoms c.in_ok-place.place (run_of c.loop-closer.closer) (entry_of c.in-Some.opener) (c.in-Some.ensures items c.loop-closer.invariant.closing).0
+
+pub loop-closer-preserved : goal.loop-closer-preserved
+loop-closer-preserved c =
+    let source = c.args.source.now in
+    let rest = c.in-Some-2.rest in
+    let fewer = goes-on c.in_ok-rest.field-0 rest c.loop-closer.closer c.in-Some-2.is c.in_ok-rest.ensures.fewer in
+    let pair = pair-law source c.loop-closer.before.items c.make_pair.new.before.items c.loop-closer.openers.list c.take_opener.new.openers.list c.make_pair.new.openers.list c.loop-closer.openers.bottoms c.take_opener.new.openers.bottoms
+    c.make_pair.new.openers.bottoms c.in_ok-place.place c.loop-closer.closer c.in-Some.opener rest.left c.loop-closer.invariant.closing c.in-Some.ensures c.in_ok-rest.ensures.made c.in_ok-rest.ensures.spends (omega (arith, fewer.1)) in
+    record {
+      closing = subst (Closing (reverse (items_of source c.make_pair.new.before.items)) c.make_pair.new.openers.list c.make_pair.new.openers.bottoms c.in_ok-place.place) (sym fewer.0) pair.closing;
+      paid = omega (arith, pair.paid, c.loop-closer.invariant.paid);
+      passes = ap (λ items. passed (reverse items) (Delimiters (run_of rest))) c.in_ok-rest.ensures.made
+          ∙ sym (pass-further (reverse (items_of source c.loop-closer.before.items)) (run_of c.loop-closer.closer) (run_of rest) _ c.loop-closer-test.true pair.nearest (ap rest_of (sym c.in-Some-2.is) ∙ c.in_ok-rest.ensures.rest))
+          ∙ c.loop-closer.invariant.passes;
+      parts = c.in_ok-rest.ensures.parts;
+    }
+
+pub drop_closer-requires : goal.drop_closer-requires
+drop_closer-requires c =
+    let source = c.args.source.now in
+    let pair = pair-law source c.loop-closer.before.items c.make_pair.new.before.items c.loop-closer.openers.list c.take_opener.new.openers.list c.make_pair.new.openers.list c.loop-closer.openers.bottoms c.take_opener.new.openers.bottoms
+    c.make_pair.new.openers.bottoms c.in_ok-place.place c.loop-closer.closer c.in-Some.opener 0 c.loop-closer.invariant.closing c.in-Some.ensures c.in_ok-rest.ensures.made c.in_ok-rest.ensures.spends (omega arith) in
+    record { there = closer-there (reverse (items_of source c.make_pair.new.before.items)) c.make_pair.new.openers.list c.make_pair.new.openers.bottoms c.in_ok-place.place (cut 0 (run_of c.loop-closer.closer)) pair.closing }
+
+pub returns-in-None-clause-adds : goal.returns-in-None-clause-adds
+returns-in-None-clause-adds c =
+    let source = c.args.source.now in
+    let pair = pair-law source c.loop-closer.before.items c.make_pair.new.before.items c.loop-closer.openers.list c.take_opener.new.openers.list c.make_pair.new.openers.list c.loop-closer.openers.bottoms c.take_opener.new.openers.bottoms
+    c.make_pair.new.openers.bottoms c.in_ok-place.place c.loop-closer.closer c.in-Some.opener 0 c.loop-closer.invariant.closing c.in-Some.ensures c.in_ok-rest.ensures.made c.in_ok-rest.ensures.spends (omega arith) in
+    let dropped = c.drop_closer.ensures (reverse (items_of source c.make_pair.new.before.items)) (cut 0 (run_of c.loop-closer.closer)) pair.closing in
+    record {
+      ready = dropped.0;
+      paid = omega (arith, dropped.1, pair.paid, c.loop-closer.invariant.paid);
+      passes = ap reverse c.in_ok-rest.ensures.made
+          ∙ sym (pass-ends (reverse (items_of source c.loop-closer.before.items)) (run_of c.loop-closer.closer) _ c.loop-closer-test.true pair.nearest (ap rest_of (sym c.in-None.is) ∙ c.in_ok-rest.ensures.rest))
+          ∙ c.loop-closer.invariant.passes;
+    }
+
+pub finish-requires : goal.finish-requires
+finish-requires c =
+    let items = reverse (items_of c.args.source.now c.loop-closer.before.items) in
+    let closer = run_of c.loop-closer.closer in
+    record {
+      there = elim c.loop-closer-test.branch [
+        | else-loop-closer-test w ↦
+            subst (λ (o : Openers). is_listed c.in_ok-place.place o.list.entries ≡ true) (sym w.openers-is) (closer-there items c.loop-closer.openers.list c.loop-closer.openers.bottoms c.in_ok-place.place closer c.loop-closer.invariant.closing)
+        | then-loop-closer-test+in_default w ↦
+            subst (λ (o : Openers). is_listed c.in_ok-place.place o.list.entries ≡ true) (sym w.openers-is)
+            (closer-there items w.take_opener.new.openers.list w.take_opener.new.openers.bottoms c.in_ok-place.place closer (w.in_default.ensures items c.loop-closer.invariant.closing).0)
+      ];
+    }
+
+-- the closer still stands last in the list where the loop ends
+standing : (c : goal.In_ok-push_node) → Closing (reverse (items_of c.args.source.now c.loop-closer.before.items)) c.loop-closer-test.openers.list c.loop-closer-test.openers.bottoms c.in_ok-place.place (run_of c.loop-closer.closer)
+standing c =
+    let items = reverse (items_of c.args.source.now c.loop-closer.before.items) in
+    elim c.loop-closer-test.branch [
+      | else-loop-closer-test w ↦ subst (λ (o : Openers). Closing items o.list o.bottoms c.in_ok-place.place (run_of c.loop-closer.closer)) (sym w.openers-is) c.loop-closer.invariant.closing
+      | then-loop-closer-test+in_default w ↦ subst (λ (o : Openers). Closing items o.list o.bottoms c.in_ok-place.place (run_of c.loop-closer.closer)) (sym w.openers-is) (w.in_default.ensures items c.loop-closer.invariant.closing).0
+    ]
+
+paid : (c : goal.In_ok-push_node) → spent c.loop-closer-test.openers.list c.loop-closer-test.openers.bottoms ≤ spent c.args.openers.now.list c.args.openers.now.bottoms + (14 + c.args.run.left)
+paid c =
+    let items = reverse (items_of c.args.source.now c.loop-closer.before.items) in
+    elim c.loop-closer-test.branch [
+      | else-loop-closer-test w ↦ subst (λ (o : Openers). spent o.list o.bottoms ≤ spent c.args.openers.now.list c.args.openers.now.bottoms + (14 + c.args.run.left)) (sym w.openers-is) c.loop-closer.invariant.paid
+      | then-loop-closer-test+in_default w ↦
+          subst (λ (o : Openers). spent o.list o.bottoms ≤ spent c.args.openers.now.list c.args.openers.now.bottoms + (14 + c.args.run.left)) (sym w.openers-is)
+          (omega (arith, (w.in_default.ensures items c.loop-closer.invariant.closing).2, c.loop-closer.invariant.paid))
+    ]
+
+stops : (c : goal.In_ok-push_node) → (c.loop-closer.closer.closes ≡ false) ⊎ (nearest_opener (run_of c.loop-closer.closer) (reverse (items_of c.args.source.now c.loop-closer.before.items)) [] ≡ None)
+stops c =
+    let items = reverse (items_of c.args.source.now c.loop-closer.before.items) in
+    elim c.loop-closer-test.branch [
+      | else-loop-closer-test w ↦ inl w.loop-closer-test.false
+      | then-loop-closer-test+in_default w ↦ inr (w.in_default.ensures items c.loop-closer.invariant.closing).1
+    ]
+
+pub returns-clause-adds : goal.returns-clause-adds
+returns-clause-adds c =
+    add-end c.args.source.now c.args.before.now.items c.loop-closer.before.items c.push_node.new.nodes.items c.args.openers.now.list c.loop-closer-test.openers.list c.finish.new.openers.list c.args.openers.now.bottoms
+    c.loop-closer-test.openers.bottoms c.finish.new.openers.bottoms c.in_ok-place.place c.len-2.result c.loop-closer.closer c.args.run (omega (arith, c.len-2.ensures)) c.in_ok-push_node.ensures (standing c) (paid c) c.finish.ensures (stops c)
+    c.loop-closer.invariant.passes
+
+pub returns-clause-parts : goal.returns-clause-parts
+returns-clause-parts c =
+    subst (AreParts c.args.source.now) (sym c.in_ok-push_node.ensures) (parts-append c.args.source.now c.loop-closer.before.items (Run c.loop-closer.closer ∷ []) c.loop-closer.invariant.parts (tt, tt))

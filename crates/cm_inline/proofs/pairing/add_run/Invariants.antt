@@ -1,0 +1,19 @@
+use Rattle.std.proofs.Common.{◌≡◌, ◌+◌, ◌≤◌, reverse}
+use Rattle.cm_scan.specs.Pairing.{Delimiters}
+use Rattle.cm_scan.specs.OnePass.{passed}
+use Rattle.cm_inline.specs.steps.Openers.{Closing, spent}
+use Rattle.cm_inline.specs.steps.Runs.{run_of}
+use Rattle.cm_inline.specs.steps.Nodes.{items_of, AreParts}
+use Rattle.cm_inline.proofs.pairing.add_run.Given as goal
+
+-- The closer stands last in the list, and what is left of it makes of the nodes what the run makes of those at first.
+abbrev pub invariant-loop-closer : goal.invariant-loop-closer
+invariant-loop-closer l = record {
+  closing : Closing (reverse (items_of l.source l.before.items)) l.openers.list l.openers.bottoms l.place (run_of l.closer);
+  paid : spent l.openers.list l.openers.bottoms ≤ spent l.fn.openers.list l.fn.openers.bottoms + (14 + l.fn.run.left);
+  passes : passed (reverse (items_of l.source l.before.items)) (Delimiters (run_of l.closer)) ≡ passed (reverse (items_of l.source l.fn.before.items)) (Delimiters (run_of l.fn.run));
+  parts : AreParts l.source l.before.items;
+}
+
+abbrev pub decreases-loop-closer : goal.decreases-loop-closer
+decreases-loop-closer l = l.closer.left

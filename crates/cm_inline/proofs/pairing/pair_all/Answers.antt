@@ -1,0 +1,79 @@
+use Rattle.std.proofs.Common.{◌≡◌, [], ◌∷◌, ◌++◌, reverse, sym, ap, subst, ◌∙◌, arith, rules, append-nil}
+use Rattle.std.proofs.lemmas.Iterator.Consumers.{YieldsList-end}
+use Rattle.std.proofs.lemmas.Iterator.Adapters.{YieldsList-from_vec}
+use Rattle.std.proofs.lemmas.List.{map-id, reverse-reverse}
+use Rattle.cm_scan.specs.OnePass.{pass_from, passed}
+use Rattle.cm_scan.proofs.OnePassLemmas.{pairs_in_one_pass}
+use Rattle.cm_inline.specs.steps.Openers.{Ready, spent}
+use Rattle.cm_inline.specs.steps.Nodes.{item_of, items_of, AreParts}
+use Rattle.cm_inline.specs.steps.Pairs.{allowed, allowance}
+use Rattle.cm_inline.proofs.PairLemmas.{ready-none, allowance-more, allowance-split, last-item, other-ready, passes-other, passes-more, parts-append, part-behind, whole-more}
+use Rattle.cm_inline.proofs.pairing.pair_all.Goals as goal
+
+pub loop-node-init : goal.loop-node-init
+loop-node-init c =
+    let source = c.args.source.now in
+    let ready = ready-none c.clear.new.self.list c.clear.ensures.entries in
+    record {
+      whole = sym c.into_iter-node-iterator.ensures.into_iter_gives.0;
+      ready = subst (λ nodes. Ready (reverse (items_of source nodes)) c.clear.new.self.list c.clear.new.self.bottoms) (sym c.new-before.ensures.items)
+          (subst (λ bottoms. Ready [] c.clear.new.self.list bottoms) (sym c.clear.ensures.bottoms) ready.0);
+      paid = omega (arith, ready.1, ap (spent c.clear.new.self.list) c.clear.ensures.bottoms, c.clear.ensures.looks);
+      passes = λ after. ap (λ nodes. pass_from (reverse (items_of source nodes)) after) (sym c.new-before.ensures.items);
+      parts = subst (AreParts source) (sym c.new-before.ensures.items) tt;
+    }
+
+pub loop-node-preserved-in-Continue-1 : goal.loop-node-preserved-in-Continue-1
+loop-node-preserved-in-Continue-1 c =
+    let source = c.args.source.now in
+    let x = c.in-Some.node in
+    let added = c.in_ok-add_run-in-Run.ensures.adds in
+    record {
+      whole = whole-more c.args.nodes.items c.loop-node.yielded c.loop-node.node-iterator.rest.items c.next.new.self.rest.items x c.loop-node.invariant.whole c.in-Some.ensures.steps.0;
+      ready = added.ready;
+      paid = omega (arith, added.paid, c.loop-node.invariant.paid, allowance-more source c.loop-node.yielded x, ap (λ n. allowed (item_of source n)) c.in-Run.is);
+      passes = passes-more source c.loop-node.yielded c.loop-node.before.items c.add_run.new.before.items x c.loop-node.invariant.passes
+          (added.passes ∙ ap (λ n. passed (reverse (items_of source c.loop-node.before.items)) (item_of source n)) (sym c.in-Run.is));
+      parts = c.in_ok-add_run-in-Run.ensures.parts;
+    }
+
+pub loop-node-preserved : goal.loop-node-preserved
+loop-node-preserved c =
+    let source = c.args.source.now in
+    let x = c.in-Some.node in
+    let before = c.loop-node.before.items in
+    let whole = c.loop-node.invariant.whole ∙ ap (λ rest. c.loop-node.yielded ++ rest) c.in-Some.ensures.steps.0 in
+    let part = part-behind source c.loop-node.yielded x c.next.new.self.rest.items (subst (AreParts source) whole c.requires.parts) in
+    record {
+      whole = whole-more c.args.nodes.items c.loop-node.yielded c.loop-node.node-iterator.rest.items c.next.new.self.rest.items x c.loop-node.invariant.whole c.in-Some.ensures.steps.0;
+      ready = other-ready source before c.push_node.new.nodes.items x c.loop-node.openers.list c.loop-node.openers.bottoms c.in_default.not-Run c.in_ok-push_node-in_default.ensures c.loop-node.invariant.ready;
+      paid = omega (arith, c.loop-node.invariant.paid, allowance-more source c.loop-node.yielded x);
+      passes = passes-more source c.loop-node.yielded before c.push_node.new.nodes.items x c.loop-node.invariant.passes
+          (ap (λ nodes. reverse (items_of source nodes)) c.in_ok-push_node-in_default.ensures ∙ last-item source before x ∙ sym (passes-other source (reverse (items_of source before)) x c.in_default.not-Run));
+      parts = subst (AreParts source) (sym c.in_ok-push_node-in_default.ensures) (parts-append source before (x ∷ []) c.loop-node.invariant.parts (part, tt));
+    }
+
+pub add_run-requires-clause-few : goal.add_run-requires-clause-few
+add_run-requires-clause-few c =
+    let source = c.args.source.now in
+    let x = c.in-Some.node in
+    let whole = whole-more c.args.nodes.items c.loop-node.yielded c.loop-node.node-iterator.rest.items c.next.new.self.rest.items x c.loop-node.invariant.whole c.in-Some.ensures.steps.0 in
+    omega (
+      arith,
+      c.loop-node.invariant.paid,
+      c.requires.few,
+      ap (λ nodes. allowance (items_of source nodes)) whole,
+      allowance-split source (c.loop-node.yielded ++ x ∷ []) c.next.new.self.rest.items,
+      allowance-more source c.loop-node.yielded x,
+      ap (λ n. allowed (item_of source n)) c.in-Run.is,
+    )
+
+pub returns-clause-pairs : goal.returns-clause-pairs
+unfolding pass_from
+returns-clause-pairs c =
+    let source = c.args.source.now in
+    let all : c.loop-node.yielded ≡ c.args.nodes.items =
+    sym (map-id c.loop-node.yielded)
+    ∙ (YieldsList-end (YieldsList-from_vec {s = c.into_iter-node-iterator.result} c.args.nodes.items (search rules) (search rules)) c.loop-node.yielded c.loop-node.node-iterator c.loop-node.yielded_by c.next.result c.next.new.self c.in-None.is c.next.ensures.steps).0 in
+    sym (pairs_in_one_pass (items_of source c.args.nodes.items) ∙ ap (λ nodes. pass_from [] (items_of source nodes)) (sym all) ∙ ap (pass_from []) (sym (append-nil (items_of source c.loop-node.yielded)))
+    ∙ c.loop-node.invariant.passes [] ∙ reverse-reverse (items_of source c.loop-node.before.items))

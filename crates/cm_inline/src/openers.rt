@@ -1,0 +1,129 @@
+//! The runs that may open, with a bottom for each kind of closer.
+ghost use Rattle.std.specs.Prelude.{◌≡◌, ℕ, ◌+◌, ◌<◌, ◌^◌, true, [], length, Some, get_or, set, Option, IfOk, IfSome, MatchOption};
+ghost use Rattle.cm_inline.specs.steps.Entries.{after_place, first_place, between_gone, is_listed, Falling};
+ghost use Rattle.cm_inline.specs.steps.Searching.{find_opener, looks_for, kind, bottoms_after};
+ghost use Rattle.cm_inline.specs.steps.Runs.{run_of, entry_of, rest_of, MayBeEntry};
+ghost use Rattle.cm_inline.specs.steps.Openers.{spent, IsClosing, Begins, FindsNone, Opens, Spends, Finishes, Drops, cut, zeros};
+
+use crate::delimiters::{Delimiter, DelimiterList, Place};
+use crate::nearest::nearest;
+use crate::runs::{DelimiterRun, kind};
+use std::alloc::AllocError;
+
+/// The list of runs, and for each kind of closer a number below which no entry opens for it.
+#[derive(Drop)]
+pub(crate) struct Openers {
+    pub(crate) list: DelimiterList,
+    pub(crate) bottoms: [usize; 13],
+}
+
+impl Openers {
+    /// Takes all runs out, and forgets the bottoms. How often a run was looked at stays.
+    pub(crate) fn clear(&mut self)
+        ensures entries { self.new.list.entries ≡ [] }
+        ensures looks { self.new.list.looks ≡ self.old.list.looks }
+        ensures bottoms { self.new.bottoms ≡ zeros }
+    {
+        self.list.clear();
+        self.bottoms = [0; 13];
+    }
+}
+
+/// Puts a run at the end, as a closer.
+pub(crate) fn begin(
+    openers: &mut Openers,
+    run: DelimiterRun,
+    item: usize,
+) -> Result<Place, AllocError>
+    ensures { IfOk result (λ place. Begins openers.old.list openers.old.bottoms openers.new.list openers.new.bottoms place (run_of run)) }
+{
+    let place = openers.list.push(run, item)?;
+    Ok(place)
+}
+
+/// The nearest opener of a closer, with all that stands between them taken out.
+pub(crate) fn take_opener(
+    openers: &mut Openers,
+    closer: Place,
+    run: DelimiterRun,
+) -> Option<Delimiter>
+    requires closes { run.closes ≡ true }
+    requires closing { IsClosing openers.old.list openers.old.bottoms closer (run_of run) }
+    requires few { spent openers.old.list openers.old.bottoms < 2 ^ 127 }
+    ensures { MatchOption result (FindsNone openers.old.list openers.old.bottoms openers.new.list openers.new.bottoms closer (run_of run)) (λ d. Opens openers.old.list openers.old.bottoms openers.new.list openers.new.bottoms closer (run_of run) (entry_of d)) }
+{
+    let Some(opener) = find(openers, closer, run) else {
+        return None
+    };
+    take_between(&mut openers.list, opener.place, closer);
+    Some(opener)
+}
+
+/// Writes down what a pair leaves of its opener, or takes it out.
+pub(crate) fn spend(openers: &mut Openers, opener: Delimiter, rest: Option<DelimiterRun>)
+    requires there { is_listed opener.place openers.old.list.entries ≡ true }
+    requires fewer { IfSome rest (λ r. (run_of r ≡ cut r.left (run_of opener.run)) × (r.left < opener.run.left)) }
+    ensures { Spends openers.old.list openers.old.bottoms openers.new.list openers.new.bottoms (entry_of opener) (rest_of rest) }
+{
+    match rest {
+        Some(run) => openers.list.set(opener.place, opener.item, run.left),
+        None => openers.list.remove(opener.place),
+    }
+}
+
+/// Puts the closer among the openers, or takes it out.
+pub(crate) fn finish(openers: &mut Openers, closer: Place, run: DelimiterRun, item: usize)
+    requires there { is_listed closer openers.old.list.entries ≡ true }
+    ensures { Finishes openers.old.list openers.old.bottoms openers.new.list openers.new.bottoms closer (run_of run) item }
+{
+    if run.opens {
+        openers.list.set(closer, item, run.left);
+    } else {
+        openers.list.remove(closer);
+    }
+}
+
+/// Takes out a closer of which nothing is left.
+pub(crate) fn drop_closer(openers: &mut Openers, closer: Place)
+    requires there { is_listed closer openers.old.list.entries ≡ true }
+    ensures { Drops openers.old.list openers.old.bottoms openers.new.list openers.new.bottoms closer }
+{
+    openers.list.remove(closer);
+}
+
+/// Takes out what stands between an entry and the last one.
+pub(crate) fn take_between(list: &mut DelimiterList, opener: Place, closer: Place)
+    requires last { first_place list.old.entries ≡ Some closer }
+    requires there { is_listed opener (after_place closer list.old.entries) ≡ true }
+    requires ordered { Falling list.old.entries }
+    ensures rest { list.new.entries ≡ between_gone opener list.old.entries }
+    ensures same { (list.new.looks ≡ list.old.looks) × (list.new.next ≡ list.old.next) }
+{
+    let mut at = list.before(closer);
+    while let Some(place) = at {
+        if place.number() == opener.number() {
+            return;
+        }
+        list.remove(place);
+        at = list.before(closer);
+    }
+}
+
+/// The nearest opener of a closer; where there is none, no closer of its kind looks as far down again.
+pub(crate) fn find(openers: &mut Openers, closer: Place, run: DelimiterRun) -> Option<Delimiter>
+    requires there { is_listed closer openers.old.list.entries ≡ true }
+    requires ordered { Falling openers.old.list.entries }
+    requires few { openers.old.list.looks + length openers.old.list.entries < 2 ^ 127 }
+    ensures found { MayBeEntry result (find_opener (run_of run) (get_or openers.old.bottoms (kind (run_of run)) 0) (after_place closer openers.old.list.entries)) }
+    ensures count { openers.new.list.looks ≡ openers.old.list.looks + looks_for (run_of run) (get_or openers.old.bottoms (kind (run_of run)) 0) (after_place closer openers.old.list.entries) }
+    ensures bottoms { openers.new.bottoms ≡ bottoms_after result (kind (run_of run)) closer openers.old.bottoms }
+    ensures same { (openers.new.list.entries ≡ openers.old.list.entries) × (openers.new.list.next ≡ openers.old.list.next) }
+{
+    let number = kind(run);
+    let bottom = openers.bottoms[number];
+    let found = nearest(&mut openers.list, closer, run, bottom);
+    if found.is_none() {
+        openers.bottoms[number] = closer.number();
+    }
+    found
+}

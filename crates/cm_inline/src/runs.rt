@@ -1,0 +1,106 @@
+//! Delimiter runs (CommonMark 0.31.2, 6.2 Emphasis and strong emphasis).
+ghost use Rattle.std.specs.Prelude.{◌≡◌, [], ◌∷◌, ◌<◌, ◌≤◌, ◌&&◌, IfSome};
+ghost use Rattle.cm_scan.specs.Delimiters.{delimiters_match};
+ghost use Rattle.cm_scan.specs.Pairing.{used, without};
+ghost use Rattle.cm_inline.specs.steps.Searching.{kind};
+ghost use Rattle.cm_inline.specs.steps.Openers.{cut};
+ghost use Rattle.cm_inline.specs.steps.Runs.{byte_of, run_of, rest_of};
+
+/// The character of a delimiter run.
+#[derive(Clone, Copy, Debug)]
+pub(crate) enum Marker {
+    Star,
+    Underscore,
+    Tilde,
+}
+
+impl Marker {
+    /// The character as a byte.
+    #[inline(always)]
+    pub(crate) fn byte(self) -> u8
+        ensures { result ≡ byte_of self }
+    {
+        match self {
+            Marker::Star => b'*',
+            Marker::Underscore => b'_',
+            Marker::Tilde => b'~',
+        }
+    }
+
+    /// The character as text.
+    pub(crate) fn text(self) -> &'static str
+        ensures { result.now ≡ byte_of self ∷ [] }
+    {
+        match self {
+            Marker::Star => "*",
+            Marker::Underscore => "_",
+            Marker::Tilde => "~",
+        }
+    }
+}
+
+/// A delimiter run: its character, its whole length, how many of its characters are left, and whether it may
+/// open and may close emphasis.
+#[derive(Clone, Copy, Debug)]
+pub(crate) struct DelimiterRun {
+    pub(crate) marker: Marker,
+    pub(crate) whole: usize,
+    pub(crate) left: usize,
+    pub(crate) opens: bool,
+    pub(crate) closes: bool,
+}
+
+/// Whether an opener and a closer match (rules 9 and 10).
+#[tactic(auto, unfolding(cm_scan::specs::Delimiters::delimiters_match))]
+pub(crate) fn delimiters_match(closer: DelimiterRun, opener: DelimiterRun) -> bool
+    ensures { result ≡ delimiters_match (run_of closer) (run_of opener) }
+{
+    let sum = closer.whole % 3 + opener.whole % 3;
+    closer.marker.byte() == opener.marker.byte()
+        && (closer.marker.byte() == b'~'
+            || !(closer.opens && closer.closes || opener.opens && opener.closes)
+            || sum % 3 != 0
+            || closer.whole % 3 == 0 && opener.whole % 3 == 0)
+}
+
+/// The number of a closer's kind: by its character, whether it may also open, and its length by 3. Closers of
+/// one kind match the same openers.
+#[tactic(auto, unfolding(crate::specs::steps::Searching::kind))]
+pub(crate) fn kind(closer: DelimiterRun) -> usize
+    ensures number { result ≡ kind (run_of closer) }
+    ensures thirteen { result < 13 }
+{
+    let by_opening = if closer.opens { 3 } else { 0 };
+    match closer.marker {
+        Marker::Star => by_opening + closer.whole % 3,
+        Marker::Underscore => 6 + by_opening + closer.whole % 3,
+        Marker::Tilde => 12,
+    }
+}
+
+/// How many characters of each run a pair takes: two for strong emphasis, one for emphasis.
+pub(crate) fn used(opener: DelimiterRun, closer: DelimiterRun) -> usize
+    ensures used { result ≡ used (run_of opener) (run_of closer) }
+    ensures some { 1 ≤ result }
+{
+    if 2 <= opener.left && 2 <= closer.left {
+        2
+    } else {
+        1
+    }
+}
+
+/// What is left of a run once some of its characters are taken.
+pub(crate) fn without(run: DelimiterRun, count: usize) -> Option<DelimiterRun>
+    requires { 1 ≤ count }
+    ensures rest { rest_of result ≡ without count (run_of run) }
+    ensures fewer { IfSome result (λ rest. (run_of rest ≡ cut rest.left (run_of run)) × (rest.left < run.left)) }
+{
+    if run.left <= count {
+        return None;
+    }
+    Some(DelimiterRun {
+        left: run.left - count,
+        ..run
+    })
+}
