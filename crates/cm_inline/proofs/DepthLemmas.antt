@@ -51,11 +51,11 @@ emphasised-depth character count content = go (character == 126) (count == 2)
     go false true = strong-depth content
     go false false = emph-depth content
 
-text-first : (text : List ℕ) (inlines : List Inline) → inlines_depth (text_before text inlines) ≡ inlines_depth inlines
+pub text-first : (text : List ℕ) (inlines : List Inline) → inlines_depth (text_before text inlines) ≡ inlines_depth inlines
 text-first [] inlines = refl
 text-first (b ∷ bs) inlines = omega (arith, text-depth (b ∷ bs))
 
-none-deeper : (n : ℕ) → max 0 n ≡ n
+pub none-deeper : (n : ℕ) → max 0 n ≡ n
 none-deeper n = omega arith
 
 settled-after : (source text : List ℕ) (nodes : List Node) → AreParts source nodes → inlines_depth (settled_after text (items_of source nodes)) ≡ nodes_depth nodes

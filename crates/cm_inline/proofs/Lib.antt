@@ -15,3 +15,4 @@ pub mod AtomLemmas
 pub mod TextLemmas
 pub mod CodeLemmas
 pub mod EndsLemmas
+pub mod DeeperLemmas

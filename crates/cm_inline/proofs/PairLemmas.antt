@@ -25,10 +25,10 @@ use Rattle.cm_inline.proofs.OpenerLemmas.{closing-there, listed-split}
 
 -- what a run that closes comes to
 
-pass-closer : (before : List Item) (closer : Run) → closer.closes ≡ true → passed before (Delimiters closer) ≡ closed_by before closer
+pub pass-closer : (before : List Item) (closer : Run) → closer.closes ≡ true → passed before (Delimiters closer) ≡ closed_by before closer
 pass-closer before closer e = ap (λ b. elim b as (λ _. List Item) [ true ↦ closed_by before closer | false ↦ Delimiters closer ∷ before ]) e
 
-pass-other : (before : List Item) (closer : Run) → closer.closes ≡ false → passed before (Delimiters closer) ≡ Delimiters closer ∷ before
+pub pass-other : (before : List Item) (closer : Run) → closer.closes ≡ false → passed before (Delimiters closer) ≡ Delimiters closer ∷ before
 pass-other before closer e = ap (λ b. elim b as (λ _. List Item) [ true ↦ closed_by before closer | false ↦ Delimiters closer ∷ before ]) e
 
 -- a run that closes nothing, or finds no opener, stays

@@ -1,3 +1,4 @@
+pub mod Depths
 pub mod Entries
 pub mod Missing
 pub mod Nodes

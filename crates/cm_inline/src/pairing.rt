@@ -1,9 +1,11 @@
 //! Emphasis by pairs of delimiter runs, made in one pass over the nodes (CommonMark 0.31.2, 6.2 Emphasis and
 //! strong emphasis).
 ghost use Rattle.std.specs.Prelude.{◌≡◌, ◌+◌, ◌<◌, ◌≤◌, ◌^◌, ◌++◌, true, suc, reverse, take, drop, length, IfOk, OnOk, IfSome, Err};
-ghost use Rattle.cm_scan.specs.Pairing.{pair_all, without, settled, emphasised, used, Finished};
-ghost use Rattle.cm_scan.specs.OnePass.{up_to_pair};
+ghost use Rattle.cm_scan.specs.Pairing.{pair_all, emphasis_of, Delimiters, without, settled, emphasised, used, Finished};
+ghost use Rattle.cm_scan.specs.OnePass.{up_to_pair, passed};
 ghost use Rattle.cm_inline.specs.declared.fault.InlineFault.TheVariants.{InlinesTooDeep};
+ghost use Rattle.cm_tree.specs.Depth.{inlines_depth};
+ghost use Rattle.cm_inline.specs.steps.Depths.{items_depth};
 ghost use Rattle.cm_inline.specs.steps.Entries.{is_listed};
 ghost use Rattle.cm_inline.specs.steps.Openers.{spent, cut, Ready, Spends};
 ghost use Rattle.cm_inline.specs.steps.Runs.{run_of, rest_of, entry_of, byte_of};
@@ -79,6 +81,7 @@ fn make_pair(
     requires there { is_listed opener.place openers.old.list.entries ≡ true }
     requires parts { AreParts source.now before.old.items }
     ensures made { OnOk result (items_of source.now before.new.items ≡ up_to_pair (record { before = items_of source.now (take opener.item before.old.items); opener = run_of opener.run; inside = items_of source.now (drop (suc opener.item) before.old.items) }) (run_of closer)) }
+    ensures deep { result ≡ Err InlinesTooDeep → limit ≤ nodes_depth (drop (suc opener.item) before.old.items) }
     ensures parts { OnOk result (AreParts source.now before.new.items) }
     ensures rest { IfOk result (λ rest. rest_of rest ≡ without (used (run_of opener.run) (run_of closer)) (run_of closer)) }
     ensures fewer { IfOk result (λ rest. IfSome rest (λ run. (run_of run ≡ cut run.left (run_of closer)) × (run.left < closer.left))) }
@@ -108,6 +111,7 @@ fn add_run(
     requires parts { AreParts source.now before.old.items }
     requires few { spent openers.old.list openers.old.bottoms + (14 + run.left) < 2 ^ 127 }
     ensures adds { OnOk result (Adds source.now before.old.items openers.old.list openers.old.bottoms before.new.items openers.new.list openers.new.bottoms (run_of run)) }
+    ensures deep { result ≡ Err InlinesTooDeep → limit < items_depth (passed (reverse (items_of source.now before.old.items)) (Delimiters (run_of run))) }
     ensures parts { OnOk result (AreParts source.now before.new.items) }
 {
     let place = begin(openers, run, before.len())?;
@@ -141,6 +145,7 @@ pub(crate) fn pair_all(
     requires few { openers.old.list.looks + allowance (items_of source.now nodes.items) < 2 ^ 127 }
     ensures pairs { IfOk result (λ made. items_of source.now made.items ≡ pair_all (items_of source.now nodes.items)) }
     ensures parts { IfOk result (λ made. AreParts source.now made.items) }
+    ensures deep { result ≡ Err InlinesTooDeep → limit < items_depth (pair_all (items_of source.now nodes.items)) }
     ensures looks { OnOk result (openers.new.list.looks ≤ openers.old.list.looks + allowance (items_of source.now nodes.items)) }
 {
     let mut before = Vec::new(alloc);
@@ -152,4 +157,25 @@ pub(crate) fn pair_all(
         }
     }
     Ok(before)
+}
+
+/// The inlines of nodes, once all pairs are made, and how deep they nest.
+pub(crate) fn emphasis_of(
+    alloc: Global,
+    source: &str,
+    limit: usize,
+    nodes: Vec<Node>,
+    openers: &mut Openers,
+) -> Result<(Items<Inline>, usize), InlineFault>
+    requires parts { AreParts source.now nodes.items }
+    requires few { openers.old.list.looks + allowance (items_of source.now nodes.items) < 2 ^ 127 }
+    ensures content { IfOk result (λ made. made.0 ≡ emphasis_of (items_of source.now nodes.items)) }
+    ensures depth { IfOk result (λ made. made.1 ≡ inlines_depth (emphasis_of (items_of source.now nodes.items))) }
+    ensures deep { result ≡ Err InlinesTooDeep → limit < inlines_depth (emphasis_of (items_of source.now nodes.items)) }
+    ensures looks { OnOk result (openers.new.list.looks ≤ openers.old.list.looks + allowance (items_of source.now nodes.items)) }
+{
+    let made = pair_all(alloc, source, limit, nodes, openers)?;
+    let depth = depth_of_all(&made);
+    let content = settle(alloc, source, made)?;
+    Ok((content, depth))
 }

@@ -6,7 +6,12 @@ use Rattle.cm_inline.specs.declared.openers.Openers.{Openers}
 use Rattle.cm_inline.specs.steps.Entries.{is_listed}
 use Rattle.cm_inline.specs.steps.Openers.{Closing, spent, cut}
 use Rattle.cm_inline.specs.steps.Runs.{run_of, rest_of, entry_of}
-use Rattle.cm_inline.specs.steps.Nodes.{items_of, AreParts}
+use Rattle.cm_inline.specs.steps.Nodes.{items_of, nodes_depth, AreParts}
+use Rattle.cm_inline.specs.steps.Depths.{items_depth}
+use Rattle.cm_inline.specs.declared.fault.InlineFault.TheVariants.{InlinesTooDeep}
+use Rattle.std.specs.Prelude.{Err, suc, drop}
+use Rattle.cm_inline.proofs.NodeLemmas.{parts-drop}
+use Rattle.cm_inline.proofs.DeeperLemmas.{same-fault, closer-deeper, nodes-items}
 use Rattle.cm_inline.proofs.PairLemmas.{nodes-at, pair-law, opener-there, closer-there, goes-on, add-end, pass-further, pass-ends, parts-append}
 use Rattle.cm_inline.proofs.pairing.add_run.Goals.{else-loop-closer-test, then-loop-closer-test+in_default}
 use Rattle.cm_inline.proofs.pairing.add_run.Goals as goal
@@ -108,3 +113,15 @@ returns-clause-adds c =
 pub returns-clause-parts : goal.returns-clause-parts
 returns-clause-parts c =
     subst (AreParts c.args.source.now) (sym c.in_ok-push_node.ensures) (parts-append c.args.source.now c.loop-closer.before.items (Run c.loop-closer.closer ∷ []) c.loop-closer.invariant.parts (tt, tt))
+
+pub returns-in_err-rest-clause-deep : goal.returns-in_err-rest-clause-deep
+returns-in_err-rest-clause-deep c = λ e.
+    let source = c.args.source.now in
+    let items = reverse (items_of source c.loop-closer.before.items) in
+    let told = same-fault c.from_residual-in_err-rest.result c.in_err-rest.field-0.0 InlinesTooDeep c.from_residual-in_err-rest.ensures.1 e in
+    let deep = c.in_err-rest.ensures.deep (ap Err told) in
+    let open' = (c.in-Some.ensures items c.loop-closer.invariant.closing).0 in
+    let at = nodes-at source c.loop-closer.before.items c.take_opener.new.openers.list c.take_opener.new.openers.bottoms c.in_ok-place.place (run_of c.loop-closer.closer) (entry_of c.in-Some.opener) open' in
+    let inside : nodes_depth (drop (suc c.in-Some.opener.item) c.loop-closer.before.items) ≡ items_depth (reverse open'.inside) =
+    sym (nodes-items source (drop (suc c.in-Some.opener.item) c.loop-closer.before.items) (parts-drop source (suc c.in-Some.opener.item) c.loop-closer.before.items c.loop-closer.invariant.parts)) ∙ ap items_depth at.back in
+    omega (arith, deep, inside, closer-deeper items (run_of c.loop-closer.closer) _ c.loop-closer-test.true open'.nearest, ap items_depth c.loop-closer.invariant.passes)

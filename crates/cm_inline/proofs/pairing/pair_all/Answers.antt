@@ -6,6 +6,11 @@ use Rattle.cm_scan.specs.OnePass.{pass_from, passed}
 use Rattle.cm_scan.proofs.OnePassLemmas.{pairs_in_one_pass}
 use Rattle.cm_inline.specs.steps.Openers.{Ready, spent}
 use Rattle.cm_inline.specs.steps.Nodes.{item_of, items_of, AreParts}
+use Rattle.cm_inline.specs.steps.Depths.{items_depth}
+use Rattle.cm_inline.specs.declared.fault.InlineFault.TheVariants.{InlinesTooDeep}
+use Rattle.std.specs.Prelude.{Err}
+use Rattle.std.proofs.lemmas.List.{map-append}
+use Rattle.cm_inline.proofs.DeeperLemmas.{same-fault, pass-deeper}
 use Rattle.cm_inline.specs.steps.Pairs.{allowed, allowance}
 use Rattle.cm_inline.proofs.PairLemmas.{ready-none, allowance-more, allowance-split, last-item, other-ready, passes-other, passes-more, parts-append, part-behind, whole-more}
 use Rattle.cm_inline.proofs.pairing.pair_all.Goals as goal
@@ -77,3 +82,17 @@ returns-clause-pairs c =
     ∙ (YieldsList-end (YieldsList-from_vec {s = c.into_iter-node-iterator.result} c.args.nodes.items (search rules) (search rules)) c.loop-node.yielded c.loop-node.node-iterator c.loop-node.yielded_by c.next.result c.next.new.self c.in-None.is c.next.ensures.steps).0 in
     sym (pairs_in_one_pass (items_of source c.args.nodes.items) ∙ ap (λ nodes. pass_from [] (items_of source nodes)) (sym all) ∙ ap (pass_from []) (sym (append-nil (items_of source c.loop-node.yielded)))
     ∙ c.loop-node.invariant.passes [] ∙ reverse-reverse (items_of source c.loop-node.before.items))
+
+pub returns-in_err-add_run-in-Run-clause-deep : goal.returns-in_err-add_run-in-Run-clause-deep
+unfolding pass_from
+returns-in_err-add_run-in-Run-clause-deep c = λ e.
+    let source = c.args.source.now in
+    let before = reverse (items_of source c.loop-node.before.items) in
+    let x = c.in-Some.node in
+    let rest = c.next.new.self.rest.items in
+    let told = same-fault c.from_residual.result c.in_err-add_run-in-Run.field-0.0 InlinesTooDeep c.from_residual.ensures.1 e in
+    let deep = c.in_err-add_run-in-Run.ensures.deep (ap Err told) in
+    let whole : items_of source c.args.nodes.items ≡ items_of source c.loop-node.yielded ++ item_of source x ∷ items_of source rest =
+    ap (items_of source) (c.loop-node.invariant.whole ∙ ap (λ t. c.loop-node.yielded ++ t) c.in-Some.ensures.steps.0) ∙ map-append (item_of source) c.loop-node.yielded (x ∷ rest) in
+    let all = pairs_in_one_pass (items_of source c.args.nodes.items) ∙ ap (pass_from []) whole ∙ c.loop-node.invariant.passes (item_of source x ∷ items_of source rest) in
+    omega (arith, deep, ap (λ n. items_depth (passed before (item_of source n))) c.in-Run.is, pass-deeper (passed before (item_of source x)) (items_of source rest), ap items_depth all)
