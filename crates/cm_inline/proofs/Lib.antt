@@ -16,3 +16,4 @@ pub mod TextLemmas
 pub mod CodeLemmas
 pub mod EndsLemmas
 pub mod DeeperLemmas
+pub mod LabelLemmas

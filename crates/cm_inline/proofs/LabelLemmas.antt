@@ -1,0 +1,179 @@
+-- A label between two brackets, with more text behind them and without.
+use Rattle.std.proofs.Common.{◌≡◌, ◌≢◌, ℕ, ◌<◌, ◌==◌, Bool, true, false, List, [], ◌∷◌, ◌++◌, length, Option, Some, None, IfSome, refl, sym, ap, subst, ◌∙◌, arith}
+use Rattle.std.proofs.lemmas.List.{length-append}
+use Rattle.cm_scan.specs.Words.{is_empty, given}
+use Rattle.cm_scan.specs.Links.{Reading, behind, keep_if, escapes_next, closed_by, is_label, label}
+use Rattle.cm_tree.specs.Definitions.{Target}
+use Rattle.cm_scan.specs.Brackets.{Defined, target_of, target_between}
+use Rattle.cm_scan.proofs.ClosedLemmas.{ahead}
+
+-- up to the first right bracket that nothing escapes
+abbrev inside_of : Bool → List ℕ → Option Reading
+inside_of escaped text = closed_by (λ c. c == 93) (λ c. c == 91) escaped text
+
+-- a text with a right bracket behind it, and what follows
+abbrev closing : List ℕ → List ℕ → List ℕ
+closing between more = between ++ 93 ∷ more
+
+-- Where reading ends that begins between brackets: at the right one, before it, nowhere, or behind it.
+data Ends (escaped : Bool) (between : List ℕ) : Type 0 where
+  at_bracket : ((more : List ℕ) → inside_of escaped (closing between more) ≡ Some (record { text = between; rest = more })) → Ends escaped between
+  earlier : (front left : List ℕ) → ((more : List ℕ) → inside_of escaped (closing between more) ≡ Some (record { text = front; rest = closing left more })) → Ends escaped between
+  nowhere : ((more : List ℕ) → inside_of escaped (closing between more) ≡ None) → Ends escaped between
+  beyond : ((more : List ℕ) → inside_of escaped (closing between more) ≡ ahead (closing between []) (inside_of false more)) → Ends escaped between
+
+-- what follows the bracket doesn't matter for what is escaped before it
+escapes-same : (b : ℕ) (bs more : List ℕ) → escapes_next b (closing bs more) ≡ escapes_next b (closing bs [])
+escapes-same b [] more = refl
+escapes-same b (c ∷ cs) more = refl
+
+behind-ahead : (b : ℕ) (front : List ℕ) (o : Option Reading) → behind b (ahead front o) ≡ ahead (b ∷ front) o
+behind-ahead b front None = refl
+behind-ahead b front (Some r) = refl
+
+-- a byte that is passed over
+passed : (escaped mark : Bool) (b : ℕ) (bs : List ℕ) → ((more : List ℕ) → inside_of escaped (closing (b ∷ bs) more) ≡ behind b (inside_of mark (closing bs more)))
+    → Ends mark bs → Ends escaped (b ∷ bs)
+passed escaped mark b bs step (at_bracket h) = at_bracket (λ more. step more ∙ ap (behind b) (h more))
+passed escaped mark b bs step (earlier front left h) = earlier (b ∷ front) left (λ more. step more ∙ ap (behind b) (h more))
+passed escaped mark b bs step (nowhere h) = nowhere (λ more. step more ∙ ap (behind b) (h more))
+passed escaped mark b bs step (beyond h) = beyond (λ more. step more ∙ ap (behind b) (h more) ∙ behind-ahead b (closing bs []) (inside_of false more))
+
+closes-here : (b : ℕ) (bs : List ℕ) → (b == 93) ≡ true → inside_of false (b ∷ bs) ≡ Some (record { text = []; rest = bs })
+unfolding closed_by
+closes-here b bs h = grind (arith, h)
+
+refused-here : (b : ℕ) (bs : List ℕ) → (b == 93) ≡ false → (b == 91) ≡ true → inside_of false (b ∷ bs) ≡ None
+unfolding closed_by
+refused-here b bs h k = grind (arith, h, k)
+
+goes-on : (b : ℕ) (bs : List ℕ) → (b == 93) ≡ false → (b == 91) ≡ false → inside_of false (b ∷ bs) ≡ behind b (inside_of (escapes_next b bs) bs)
+unfolding closed_by
+goes-on b bs h k = grind (arith, h, k)
+
+escaped-here : (b : ℕ) (bs : List ℕ) → inside_of true (b ∷ bs) ≡ behind b (inside_of false bs)
+unfolding closed_by
+escaped-here b bs = refl
+
+behind-one : (b : ℕ) (o : Option Reading) → behind b o ≡ ahead (b ∷ []) o
+behind-one b None = refl
+behind-one b (Some r) = refl
+
+where_it_ends : (escaped : Bool) (between : List ℕ) → Ends escaped between
+where_it_ends true [] = beyond (λ more. escaped-here 93 more ∙ behind-one 93 (inside_of false more))
+where_it_ends false [] = at_bracket (λ more. closes-here 93 more refl)
+where_it_ends true (b ∷ bs) = passed true false b bs (λ more. escaped-here b (closing bs more)) (where_it_ends false bs)
+where_it_ends false (b ∷ bs) = go (b == 93) (b == 91) refl refl (where_it_ends (escapes_next b (closing bs [])) bs)
+  where
+    go : (closes forbids : Bool) → (b == 93) ≡ closes → (b == 91) ≡ forbids → Ends (escapes_next b (closing bs [])) bs → Ends false (b ∷ bs)
+    go true forbids h k ends = earlier [] bs (λ more. closes-here b (closing bs more) h)
+    go false true h k ends = nowhere (λ more. refused-here b (closing bs more) h k)
+    go false false h k ends = passed false (escapes_next b (closing bs [])) b bs
+        (λ more. goes-on b (closing bs more) h k ∙ ap (λ m. behind b (inside_of m (closing bs more))) (escapes-same b bs more)) ends
+
+-- what is left behind a right bracket is less than the text
+less-behind : (b : ℕ) (bs : List ℕ) (o : Option Reading) → IfSome o (λ r. length r.rest < length bs) → IfSome (behind b o) (λ r. length r.rest < length (b ∷ bs))
+less-behind b bs None h = tt
+less-behind b bs (Some r) h = omega (arith, h)
+
+less-left : (escaped : Bool) (text : List ℕ) → IfSome (inside_of escaped text) (λ r. length r.rest < length text)
+unfolding closed_by
+less-left true [] = tt
+less-left false [] = tt
+less-left true (b ∷ bs) = less-behind b bs (inside_of false bs) (less-left false bs)
+less-left false (b ∷ bs) = go (b == 93) (b == 91) refl refl (less-behind b bs (inside_of (escapes_next b bs) bs) (less-left (escapes_next b bs) bs))
+  where
+    less : Option Reading → Type 0
+    less o = IfSome o (λ r. length r.rest < length (b ∷ bs))
+
+    go : (closes forbids : Bool) → (b == 93) ≡ closes → (b == 91) ≡ forbids → less (behind b (inside_of (escapes_next b bs) bs)) → less (inside_of false (b ∷ bs))
+    go true forbids h k more = subst less (sym (closes-here b bs h)) (omega arith)
+    go false true h k more = subst less (sym (refused-here b bs h k)) tt
+    go false false h k more = subst less (sym (goes-on b bs h k)) more
+
+-- the label that a left bracket begins
+label-of : (bs : List ℕ) (o : Option Reading) → inside_of false bs ≡ o → label (91 ∷ bs) ≡ keep_if is_label o
+unfolding label
+label-of bs o h = ap (keep_if is_label) h
+
+-- what a reading of the brackets alone comes to
+abbrev found_by : Defined → List ℕ → Option Reading → Option Target
+found_by defined between read = elim read [
+  | Some l ↦ elim (is_empty l.rest) [ true ↦ target_of defined between | false ↦ None ]
+  | None ↦ None
+]
+
+target-by : (defined : Defined) (between : List ℕ) (read : Option Reading) → label (91 ∷ closing between []) ≡ read → target_between defined between ≡ found_by defined between read
+target-by defined between read h = ap (found_by defined between) h
+
+-- what is kept was read, and is a label
+kept : (o : Option Reading) (r : Reading) → keep_if is_label o ≡ Some r → (o ≡ Some r) × (is_label r ≡ true)
+kept None r h = absurd (cc)
+kept (Some s) r h = go (is_label s) refl h
+  where
+    go : (b : Bool) → is_label s ≡ b → given b s ≡ Some r → (Some s ≡ Some r) × (is_label r ≡ true)
+    go true e h = (h, let same : s ≡ r = cc in sym (ap (λ (t : Reading). is_label t) same) ∙ e)
+    go false e h = absurd (cc)
+
+ahead-less : (n : ℕ) (front : List ℕ) (o : Option Reading) (r : Reading) → IfSome o (λ t. length t.rest < n) → ahead front o ≡ Some r → length r.rest < n
+ahead-less n front None r less h = absurd (cc)
+ahead-less n front (Some t) r less h = let same : t.rest ≡ r.rest = ap (λ (o : Option Reading). elim o as (λ _. List ℕ) [ None ↦ [] | Some q ↦ q.rest ]) h in omega (arith, less, ap length same)
+
+-- A label that ends with the bracket behind the part between is the part itself, and has its target.
+pub label_between : (defined : Defined) (between rest : List ℕ) (r : Reading) → label (91 ∷ closing between rest) ≡ Some r → length r.rest ≡ length rest
+    → (r.text ≡ between) × (target_between defined between ≡ target_of defined between)
+label_between defined between rest r read ends = go (where_it_ends false between)
+  where
+    go : Ends false between → (r.text ≡ between) × (target_between defined between ≡ target_of defined between)
+    go (at_bracket h) =
+        let whole = kept (Some (record { text = between; rest = rest })) r (sym (label-of (closing between rest) (Some (record { text = between; rest = rest })) (h rest)) ∙ read) in
+        let same : r.text ≡ between = ap (λ (o : Option Reading). elim o as (λ _. List ℕ) [ None ↦ [] | Some q ↦ q.text ]) (sym whole.0) in
+        let passes : is_label (record { text = between; rest = [] }) ≡ true = sym (ap (λ t. is_label (record { text = t; rest = [] })) same) ∙ whole.1 in (
+          same,
+          target-by defined between (Some (record { text = between; rest = [] }))
+              (label-of (closing between []) (Some (record { text = between; rest = [] })) (h []) ∙ ap (λ b. given b (record { text = between; rest = [] })) passes),
+        )
+    go (earlier front left h) =
+        let whole = kept (Some (record { text = front; rest = closing left rest })) r (sym (label-of (closing between rest) (Some (record { text = front; rest = closing left rest })) (h rest)) ∙ read) in
+        let same : closing left rest ≡ r.rest = ap (λ (o : Option Reading). elim o as (λ _. List ℕ) [ None ↦ [] | Some q ↦ q.rest ]) whole.0 in
+        absurd (omega (arith, ends, ap length same, length-append left (93 ∷ rest)))
+    go (nowhere h) = absurd (let none = sym (label-of (closing between rest) None (h rest)) ∙ read in cc)
+    go (beyond h) =
+        let o = ahead (closing between []) (inside_of false rest) in
+        let whole = kept o r (sym (label-of (closing between rest) o (h rest)) ∙ read) in
+        let less = ahead-less (length rest) (closing between []) (inside_of false rest) r (less-left false rest) whole.0 in
+        absurd (omega (arith, ends, less))
+
+nothing-inside : inside_of false [] ≡ None
+unfolding closed_by
+nothing-inside = refl
+
+left-empty : (left : List ℕ) → is_empty (closing left []) ≡ false
+left-empty [] = refl
+left-empty (b ∷ bs) = refl
+
+-- Where what is read isn't a label that ends with that bracket, there is no target.
+pub no_label_between : (defined : Defined) (between rest : List ℕ) (o : Option Reading) → label (91 ∷ closing between rest) ≡ o → IfSome o (λ r. length r.rest ≢ length rest)
+    → target_between defined between ≡ None
+no_label_between defined between rest o read ends = go (where_it_ends false between)
+  where
+    here : Reading
+    here = record { text = between; rest = [] }
+
+    by_test : (b : Bool) → is_label here ≡ b → given b (record { text = between; rest = rest }) ≡ o → IfSome o (λ r. length r.rest ≢ length rest) → given b here ≡ None
+    by_test true e h n = let not_same : length rest ≢ length rest = subst (λ (q : Option Reading). IfSome q (λ r. length r.rest ≢ length rest)) (sym h) n in absurd (not_same refl)
+    by_test false e h n = refl
+
+    found-earlier : (b : Bool) (front left : List ℕ) → found_by defined between (given b (record { text = front; rest = closing left [] })) ≡ None
+    found-earlier true front left = ap (λ v. elim v as (λ _. Option Target) [ true ↦ target_of defined between | false ↦ None ]) (left-empty left)
+    found-earlier false front left = refl
+
+    go : Ends false between → target_between defined between ≡ None
+    go (at_bracket h) = target-by defined between None (label-of (closing between []) (Some here) (h [])
+        ∙ by_test (is_label here) refl (sym (label-of (closing between rest) (Some (record { text = between; rest = rest })) (h rest)) ∙ read) ends)
+    go (earlier front left h) =
+        let r : Reading = record { text = front; rest = closing left [] } in
+        target-by defined between (given (is_label r) r) (label-of (closing between []) (Some r) (h [])) ∙ found-earlier (is_label r) front left
+    go (nowhere h) = target-by defined between None (label-of (closing between []) None (h []))
+    go (beyond h) = target-by defined between None (label-of (closing between []) (ahead (closing between []) (inside_of false [])) (h [])
+        ∙ ap (λ q. keep_if is_label (ahead (closing between []) q)) nothing-inside)
