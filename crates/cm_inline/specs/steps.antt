@@ -1,5 +1,6 @@
 pub mod Depths
 pub mod Entries
+pub mod Links
 pub mod Missing
 pub mod Nodes
 pub mod Openers

@@ -1,6 +1,7 @@
 //! What can be wrong with the inlines of a leaf.
 ghost use Rattle.std.specs.Prelude.{◌≡◌};
 
+use cm_text::NoMemory;
 use std::alloc::AllocError;
 use thiserror::Error;
 
@@ -22,6 +23,17 @@ impl From<AllocError> for InlineFault {
     ghost from_gives = { λ _ e. e ≡ NoMemory };
 
     fn from(_: AllocError) -> InlineFault {
+        InlineFault::NoMemory
+    }
+}
+
+impl From<NoMemory> for InlineFault {
+    ghost use Rattle.std.specs.Prelude.{◌≡◌};
+    ghost use Rattle.cm_inline.specs.declared.fault.InlineFault.TheVariants.{NoMemory};
+
+    ghost from_gives = { λ _ e. e ≡ NoMemory };
+
+    fn from(_: NoMemory) -> InlineFault {
         InlineFault::NoMemory
     }
 }

@@ -7,6 +7,7 @@ mod delimiters;
 mod ends;
 mod fault;
 pub mod laws;
+mod links;
 mod nearest;
 mod nodes;
 mod openers;

@@ -186,7 +186,7 @@ reference_end-end defined source text end e = go (label text) refl e
     go (Some l) f e = full-end l e (label-end text l f)
     go None f e = other (target_between defined source) e
 
-end_at-end : (defined : Defined) (source text : List ℕ) (end : LinkEnd) → end_at defined source text ≡ Some end → IsEnd end.rest text
+pub end_at-end : (defined : Defined) (source text : List ℕ) (end : LinkEnd) → end_at defined source text ≡ Some end → IsEnd end.rest text
 unfolding end_at
 end_at-end defined source text end e = go (inline_end text) refl e
   where

@@ -17,7 +17,7 @@ pub(crate) fn is_blank_byte(b: u8) -> bool
 
 /// Whether a space, a tab or a line feed stands there.
 #[inline(always)]
-pub(crate) fn is_blank_next(text: &[u8], at: usize) -> bool
+pub fn is_blank_next(text: &[u8], at: usize) -> bool
     ensures { result ≡ is_blank_next (drop at text.now) }
 {
     at < text.len() && is_blank_byte(text[at])
@@ -38,7 +38,7 @@ pub(crate) fn after_blanks(text: &[u8], at: usize) -> usize
 }
 
 /// The place behind spaces, tabs and up to one line feed.
-pub(crate) fn after_gap(text: &[u8], at: usize) -> usize
+pub fn after_gap(text: &[u8], at: usize) -> usize
     requires { at ≤ length text.now }
     ensures skipped { drop result text.now ≡ after_gap (drop at text.now) }
     ensures within { result ≤ length text.now }

@@ -20,11 +20,12 @@ mod words;
 pub use angled::Autolink;
 pub use autolinks::autolink;
 pub use code_spans::code_span;
+pub use gaps::{after_gap, is_blank_next};
 pub use html_blocks::{HtmlKind, html_end, html_start, html_start_by};
 pub use inline_html::{holds_from, raw_html, raw_html_by};
 pub use line_forms::{
     AtxHeading, FenceKind, OpeningFence, atx, fence, fence_end, quote_marker, thematic, underline,
 };
-pub use links::{LinkDefinition, definition, destination, label, title};
+pub use links::{LinkDefinition, definition, destination, is_next, label, title};
 pub use markers::{ItemMarker, item_marker};
 pub use words::{after_run, is_blank_text, trim_end, trim_end_spaces};

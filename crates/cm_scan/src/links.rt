@@ -323,7 +323,7 @@ fn begins_blank_line(text: &[u8], at: usize) -> bool
 }
 
 /// Whether the byte stands there.
-pub(crate) fn is_next(text: &[u8], at: usize, b: u8) -> bool
+pub fn is_next(text: &[u8], at: usize, b: u8) -> bool
     ensures { result ≡ begins_with b (drop at text.now) }
 {
     text.get(at) == Some(&b)

@@ -1,0 +1,25 @@
+-- Where a link or an image leads, and the place where it ends.
+use Rattle.std.specs.Prelude.{ℕ, ◌+◌, List, drop, Option, Some, None, option_map, codes}
+use Rattle.std.specs.Borrow.{Bor}
+use Rattle.cm_tree.specs.Definitions.{Target}
+use Rattle.cm_scan.specs.Words.{after_word}
+use Rattle.cm_scan.specs.Brackets as brackets
+use Rattle.cm_scan.specs.Brackets.{Defined, target_of}
+use Rattle.cm_inline.specs.declared.links.LinkEnd.{LinkEnd}
+
+-- what was found in a source, if it was, with what is left behind the place where it ends
+abbrev pub ends_of : List ℕ → Option LinkEnd → Option brackets.LinkEnd
+ends_of source found = option_map (λ e. record { dest = e.dest; title = e.title; rest = drop e.end source }) found
+
+-- the end of a reference, with what is left behind it, where its label has a target
+abbrev pub leads_to : Option Target → List ℕ → Option brackets.LinkEnd
+leads_to target rest = option_map (λ t. brackets.link_end t rest) target
+
+-- what the label that was read stands for, if one was
+abbrev pub target_by : Defined → Option (Bor (List ℕ)) → Option Target
+target_by defined None = None
+target_by defined (Some label) = target_of defined label.now
+
+-- what is left behind `[]`, or all
+abbrev pub behind_brackets : List ℕ → List ℕ
+behind_brackets text = elim (after_word (codes "[]") text) [ Some rest ↦ rest | None ↦ text ]

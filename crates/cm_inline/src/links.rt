@@ -1,0 +1,173 @@
+//! Where links and images lead, and where they end (CommonMark 0.31.2, 6.3 Links).
+ghost use Rattle.std.specs.Prelude.{◌≡◌, ◌+◌, ◌-◌, ◌<◌, ◌≤◌, ℕ, List, length, drop, slice_index, IfOk, IfSome};
+ghost use Rattle.std.specs.List.{slice_range};
+ghost use Rattle.std.specs.Str.{IsCharBoundary};
+ghost use Rattle.cm_scan.specs.Brackets.{closed, after_destination, inline_end, Defined, defined_in, target_of, target_between, reference_end, end_at};
+ghost use Rattle.cm_inline.specs.steps.Reads.{Stands};
+ghost use Rattle.cm_inline.specs.steps.Links.{ends_of, leads_to, target_by, behind_brackets};
+
+use cm_scan::{after_gap, destination, is_blank_next, is_next, label, title};
+use cm_text::{NoMemory, unescape};
+use cm_tree::{Definitions, Text};
+use std::alloc::Global;
+
+/// Where a link or an image leads, its title, and the place where it ends.
+#[derive(Drop)]
+pub(crate) struct LinkEnd {
+    pub(crate) dest: Text,
+    pub(crate) title: Text,
+    pub(crate) end: usize,
+}
+
+/// What follows the `]` at a place, whose opener ends at `behind`: where a link or an image leads. An inline link's end
+/// goes before a reference (6.3 Links).
+pub(crate) fn link_end(
+    alloc: Global,
+    source: &str,
+    definitions: &Definitions,
+    behind: usize,
+    at: usize,
+) -> Result<Option<LinkEnd>, NoMemory>
+    requires opener { (0 < behind) × (slice_index source.now (behind - 1) ≡ 91) }
+    requires ordered { behind ≤ at }
+    requires stands { Stands source.now at 93 }
+    ensures read { IfOk result (λ found. ends_of source.now found
+        ≡ end_at (defined_in definitions.now) (slice_range source.now behind at) (drop (at + 1) source.now)) }
+    ensures place { IfOk result (λ found. IfSome found (λ e. (at < e.end) × (e.end ≤ length source.now) × IsCharBoundary source.now e.end)) }
+{
+    let inline = inline_end(alloc, source, at + 1)?;
+    if inline.is_some() {
+        return Ok(inline);
+    }
+    reference_end(alloc, source, definitions, behind, at)
+}
+
+/// The end of an inline link: `(`, a destination and a title or not, and `)`, with gaps between.
+fn inline_end(alloc: Global, source: &str, at: usize) -> Result<Option<LinkEnd>, NoMemory>
+    requires { IsCharBoundary source.now at }
+    ensures read { IfOk result (λ found. ends_of source.now found ≡ inline_end (drop at source.now)) }
+    ensures boundary { IfOk result (λ found. IfSome found (λ e. IsCharBoundary source.now e.end)) }
+{
+    if !is_next(source.as_bytes(), at, b'(') {
+        return Ok(None);
+    }
+    let gap = after_gap(source.as_bytes(), at + 1);
+    match destination(source, gap) {
+        Some((dest, end)) => after_destination(alloc, source, dest, end),
+        None => closed(alloc, source, "", "", at + 1),
+    }
+}
+
+/// What stands behind a destination: a title that a gap parts from it, or none, and the end.
+fn after_destination(
+    alloc: Global,
+    source: &str,
+    dest: &str,
+    at: usize,
+) -> Result<Option<LinkEnd>, NoMemory>
+    requires { IsCharBoundary source.now at }
+    ensures read { IfOk result (λ found. ends_of source.now found ≡ after_destination dest.now (drop at source.now)) }
+    ensures boundary { IfOk result (λ found. IfSome found (λ e. IsCharBoundary source.now e.end)) }
+{
+    if !is_blank_next(source.as_bytes(), at) {
+        return closed(alloc, source, dest, "", at);
+    }
+    match title(source, after_gap(source.as_bytes(), at)) {
+        Some((title, end)) => closed(alloc, source, dest, title, end),
+        None => closed(alloc, source, dest, "", at),
+    }
+}
+
+/// A gap and `)`. Destination and title come as they are written.
+fn closed(
+    alloc: Global,
+    source: &str,
+    dest: &str,
+    title: &str,
+    at: usize,
+) -> Result<Option<LinkEnd>, NoMemory>
+    requires { IsCharBoundary source.now at }
+    ensures read { IfOk result (λ found. ends_of source.now found ≡ closed dest.now title.now (drop at source.now)) }
+    ensures boundary { IfOk result (λ found. IfSome found (λ e. IsCharBoundary source.now e.end)) }
+{
+    let end = after_gap(source.as_bytes(), at);
+    if !is_next(source.as_bytes(), end, b')') {
+        return Ok(None);
+    }
+    let dest = Text::from(unescape(alloc, dest)?);
+    let title = Text::from(unescape(alloc, title)?);
+    Ok(Some(LinkEnd {
+        dest,
+        title,
+        end: end + 1,
+    }))
+}
+
+/// The end of a reference: a full one, a collapsed one or a shortcut. Where a label follows that isn't defined, there
+/// is none.
+fn reference_end(
+    alloc: Global,
+    source: &str,
+    definitions: &Definitions,
+    behind: usize,
+    at: usize,
+) -> Result<Option<LinkEnd>, NoMemory>
+    requires opener { (0 < behind) × (slice_index source.now (behind - 1) ≡ 91) }
+    requires ordered { behind ≤ at }
+    requires stands { Stands source.now at 93 }
+    ensures read { IfOk result (λ found. ends_of source.now found
+        ≡ reference_end (defined_in definitions.now) (slice_range source.now behind at) (drop (at + 1) source.now)) }
+    ensures boundary { IfOk result (λ found. IfSome found (λ e. IsCharBoundary source.now e.end)) }
+{
+    if let Some((full, end)) = label(source, at + 1) {
+        return reference(alloc, definitions, full, end);
+    }
+    match label_between(source, behind, at) {
+        Some(between) => reference(alloc, definitions, between, after_brackets(source, at + 1)),
+        None => Ok(None),
+    }
+}
+
+/// Where a reference by a label leads that ends at a place, if the label is defined.
+fn reference(
+    alloc: Global,
+    definitions: &Definitions,
+    label: &str,
+    end: usize,
+) -> Result<Option<LinkEnd>, NoMemory>
+    ensures read { IfOk result (λ found. (source : List ℕ) → ends_of source found ≡ leads_to (target_of (defined_in definitions.now) label.now) (drop end source)) }
+    ensures end { IfOk result (λ found. IfSome found (λ e. e.end ≡ end)) }
+{
+    let Some((dest, title)) = definitions.find(label)? else {
+        return Ok(None);
+    };
+    let dest = Text::from_str(alloc, dest)?;
+    let title = Text::from_str(alloc, title)?;
+    Ok(Some(LinkEnd { dest, title, end }))
+}
+
+/// The source between the brackets, if it is a link label.
+fn label_between(source: &str, behind: usize, at: usize) -> Option<&str>
+    requires opener { (0 < behind) × (slice_index source.now (behind - 1) ≡ 91) }
+    requires ordered { behind ≤ at }
+    requires stands { Stands source.now at 93 }
+    ensures { (defined : Defined) → target_by defined result ≡ target_between defined (slice_range source.now behind at) }
+{
+    let (between, end) = label(source, behind - 1)?;
+    if end != at + 1 {
+        return None;
+    }
+    Some(between)
+}
+
+/// The place behind the `[]` of a collapsed reference, or the place itself.
+fn after_brackets(source: &str, at: usize) -> usize
+    requires { IsCharBoundary source.now at }
+    ensures rest { drop result source.now ≡ behind_brackets (drop at source.now) }
+    ensures boundary { IsCharBoundary source.now result }
+{
+    if is_next(source.as_bytes(), at, b'[') && is_next(source.as_bytes(), at + 1, b']') {
+        return at + 2;
+    }
+    at
+}
