@@ -17,3 +17,4 @@ pub mod CodeLemmas
 pub mod EndsLemmas
 pub mod DeeperLemmas
 pub mod LabelLemmas
+pub mod LinkLemmas

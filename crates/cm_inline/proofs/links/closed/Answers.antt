@@ -1,0 +1,30 @@
+use Rattle.std.proofs.Common.{◌≡◌, ◌+◌, Some, drop, sym, ap, ◌∙◌, arith}
+use Rattle.cm_text.specs.Unescaping.{unescape}
+use Rattle.cm_scan.proofs.DefinitionLemmas.{gap-of}
+use Rattle.cm_scan.proofs.AngledLemmas.{next-ascii}
+use Rattle.cm_inline.proofs.LinkLemmas.{next-of, not-closed, is-closed}
+use Rattle.cm_inline.proofs.links.closed.Goals as goal
+
+pub returns-then-not-is_next-clause-read : goal.returns-then-not-is_next-clause-read
+returns-then-not-is_next-clause-read c =
+    let source = c.args.source.now in
+    let gap = gap-of source c.as_bytes.result.now c.args.at c.after_gap-end.result c.as_bytes.ensures.value c.after_gap-end.ensures.skipped in
+    let next = next-of 41 source c.as_bytes-2.result.now c.after_gap-end.result c.is_next.result c.as_bytes-2.ensures.value c.is_next.ensures in
+    sym (not-closed c.args.dest.now c.args.title.now source c.args.at c.after_gap-end.result gap (sym next ∙ c.if-not-is_next.true))
+
+pub returns-clause-read : goal.returns-clause-read
+returns-clause-read c =
+    let source = c.args.source.now in
+    let gap = gap-of source c.as_bytes.result.now c.args.at c.after_gap-end.result c.as_bytes.ensures.value c.after_gap-end.ensures.skipped in
+    let next = next-of 41 source c.as_bytes-2.result.now c.after_gap-end.result c.is_next.result c.as_bytes-2.ensures.value c.is_next.ensures in
+    let dest : c.from-dest.result ≡ unescape c.args.dest.now = c.from-dest.ensures ∙ c.in_ok-unescape.ensures in
+    let title : c.from-title.result ≡ unescape c.args.title.now = c.from-title.ensures ∙ c.in_ok-unescape-2.ensures in
+    ap (λ d. Some (record { dest = d; title = c.from-title.result; rest = drop (c.after_gap-end.result + 1) source })) dest
+    ∙ ap (λ t. Some (record { dest = unescape c.args.dest.now; title = t; rest = drop (c.after_gap-end.result + 1) source })) title
+    ∙ sym (is-closed c.args.dest.now c.args.title.now source c.args.at c.after_gap-end.result gap (sym next ∙ c.if-not-is_next.false))
+
+pub returns-clause-boundary : goal.returns-clause-boundary
+returns-clause-boundary c =
+    let source = c.args.source.now in
+    let next = next-of 41 source c.as_bytes-2.result.now c.after_gap-end.result c.is_next.result c.as_bytes-2.ensures.value c.is_next.ensures in
+    next-ascii 41 source c.after_gap-end.result c.is_next.result c.utf8.source (omega arith) next c.if-not-is_next.false

@@ -1,0 +1,43 @@
+use Rattle.std.proofs.Common.{◌≡◌, ◌+◌, true, drop, Some, None, sym, subst, ◌∙◌, arith}
+use Rattle.std.specs.Str.{IsCharBoundary}
+use Rattle.cm_scan.specs.Words.{begins_with}
+use Rattle.cm_scan.proofs.DefinitionLemmas.{gap-of}
+use Rattle.cm_scan.proofs.AngledLemmas.{next-ascii}
+use Rattle.cm_inline.proofs.LinkLemmas.{next-of, turned, no-inline_end, by-destination}
+use Rattle.cm_inline.proofs.links.inline_end.Goals as goal
+
+pub returns-then-not-is_next-clause-read : goal.returns-then-not-is_next-clause-read
+returns-then-not-is_next-clause-read c =
+    let next = next-of 40 c.args.source.now c.as_bytes.result.now c.args.at c.is_next.result c.as_bytes.ensures.value c.is_next.ensures in
+    sym (no-inline_end (drop c.args.at c.args.source.now) (sym next ∙ c.if-not-is_next.true))
+
+pub destination-requires : goal.destination-requires
+destination-requires c =
+    let source = c.args.source.now in
+    let next = next-of 40 source c.as_bytes.result.now c.args.at c.is_next.result c.as_bytes.ensures.value c.is_next.ensures in
+    let inside = next-ascii 40 source c.args.at c.is_next.result c.utf8.source (omega arith) next c.if-not-is_next.false in
+    subst (λ t. IsCharBoundary t c.after_gap-gap.result) c.as_bytes-2.ensures.value
+    (c.after_gap-gap.ensures.boundary c.as_bytes-2.ensures.utf8 (subst (λ t. IsCharBoundary t (c.args.at + 1)) (sym c.as_bytes-2.ensures.value) inside))
+
+pub closed-requires : goal.closed-requires
+closed-requires c =
+    let next = next-of 40 c.args.source.now c.as_bytes.result.now c.args.at c.is_next.result c.as_bytes.ensures.value c.is_next.ensures in
+    next-ascii 40 c.args.source.now c.args.at c.is_next.result c.utf8.source (omega arith) next c.if-not-is_next.false
+
+pub returns-in-Some-clause-read : goal.returns-in-Some-clause-read
+returns-in-Some-clause-read c =
+    let source = c.args.source.now in
+    let next = next-of 40 source c.as_bytes.result.now c.args.at c.is_next.result c.as_bytes.ensures.value c.is_next.ensures in
+    let gap = gap-of source c.as_bytes-2.result.now (c.args.at + 1) c.after_gap-gap.result c.as_bytes-2.ensures.value c.after_gap-gap.ensures.skipped in
+    turned source c.after_destination.result _ _
+    (sym (by-destination source (drop c.after_gap-gap.result source) c.args.at (Some (record { text = c.in-Some.dest.now; rest = drop c.in-Some.end source })) (sym next ∙ c.if-not-is_next.false) gap c.in-Some.ensures.read))
+    c.after_destination.ensures.read
+
+pub returns-in-None-clause-read : goal.returns-in-None-clause-read
+returns-in-None-clause-read c =
+    let source = c.args.source.now in
+    let next = next-of 40 source c.as_bytes.result.now c.args.at c.is_next.result c.as_bytes.ensures.value c.is_next.ensures in
+    let gap = gap-of source c.as_bytes-2.result.now (c.args.at + 1) c.after_gap-gap.result c.as_bytes-2.ensures.value c.after_gap-gap.ensures.skipped in
+    turned source c.closed.result _ _
+    (sym (by-destination source (drop c.after_gap-gap.result source) c.args.at None (sym next ∙ c.if-not-is_next.false) gap c.in-None.ensures.read))
+    c.closed.ensures.read
