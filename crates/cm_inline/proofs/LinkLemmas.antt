@@ -168,6 +168,12 @@ module _ (source : List ℕ) (before at : ℕ) where
 pub turned : {E : Type 0} (source : List ℕ) (r : Result (Option LinkEnd) E) (a b : Option brackets.LinkEnd) → a ≡ b → IfOk r (λ found. ends_of source found ≡ a) → IfOk r (λ found. ends_of source found ≡ b)
 turned source r a b e h = subst (λ x. IfOk r (λ found. ends_of source found ≡ x)) e h
 
+-- what a reference leads to, in this source
+pub led : {E : Type 0} (source : List ℕ) (r : Result (Option LinkEnd) E) (target : Option Target) (end : ℕ) (b : Option brackets.LinkEnd) → leads_to target (drop end source) ≡ b
+    → IfOk r (λ found. (s : List ℕ) → ends_of s found ≡ leads_to target (drop end s)) → IfOk r (λ found. ends_of source found ≡ b)
+led source (Ok found) target end b e h = h source ∙ e
+led source (Err f) target end b e h = tt
+
 -- an end that was found ends behind the right bracket
 pub place : (source : List ℕ) (at : ℕ) (defined : Defined) (between : List ℕ) (found : Option LinkEnd) → at < length source → ends_of source found ≡ end_at defined between (drop (at + 1) source)
     → IfSome found (λ e. IsCharBoundary source e.end) → IfSome found (λ e. (at < e.end) × (e.end ≤ length source) × IsCharBoundary source e.end)

@@ -1,19 +1,30 @@
-use Rattle.std.proofs.Common.{rules, ◌≡◌, ◌+◌, ◌-◌, ◌<◌, ◌≤◌, ℕ, List, length, drop, slice_index, IfOk, IfSome, ◌*◌, ◌/◌, ◌%◌, Bool, true, false, nat_eq, nat_lt, [], ◌∷◌, ◌++◌, slice_index_or, slice_set, bit_and, bit_or, Fits, w8, w32, w64, Bor, MutBor}
-use Rattle.std.specs.List.{slice_range}
+use Rattle.std.proofs.Common.{◌≡◌, ◌+◌, sym, subst, ap, ◌∙◌, arith, drop, length}
 use Rattle.std.specs.Str.{IsCharBoundary}
-use Rattle.cm_scan.specs.Brackets.{closed, after_destination, inline_end, Defined, defined_in, target_of, target_between, reference_end, end_at}
-use Rattle.cm_inline.specs.steps.Reads.{Stands}
-use Rattle.cm_inline.specs.steps.Links.{ends_of, leads_to, target_by, behind_brackets}
+use Rattle.cm_scan.proofs.AngledLemmas.{next-ascii}
+use Rattle.cm_inline.proofs.LinkLemmas.{next-of, both-brackets, not-both}
+use Rattle.cm_inline.proofs.links.after_brackets.Goals.{else-is_next-via-then-is_next+else-is_next-2, else-is_next-via-else-is_next}
 use Rattle.cm_inline.proofs.links.after_brackets.Goals as goal
 
--- src/links.rt:170:9
 pub returns-then-is_next-2-clause-rest : goal.returns-then-is_next-2-clause-rest
-returns-then-is_next-2-clause-rest c = ?
+returns-then-is_next-2-clause-rest c =
+    let source = c.args.source.now in
+    let left = next-of 91 source c.as_bytes.result.now c.args.at c.is_next.result c.as_bytes.ensures.value c.is_next.ensures in
+    let right = next-of 93 source c.as_bytes-then-is_next.result.now (c.args.at + 1) c.is_next-then-is_next.result c.as_bytes-then-is_next.ensures.value c.is_next-then-is_next.ensures in
+    both-brackets source c.args.at (sym left ∙ c.if-is_next.true) (sym right ∙ c.if-is_next-2.true)
 
--- src/links.rt:170:9
 pub returns-then-is_next-2-clause-boundary : goal.returns-then-is_next-2-clause-boundary
-returns-then-is_next-2-clause-boundary c = ?
+returns-then-is_next-2-clause-boundary c =
+    let source = c.args.source.now in
+    let right = next-of 93 source c.as_bytes-then-is_next.result.now (c.args.at + 1) c.is_next-then-is_next.result c.as_bytes-then-is_next.ensures.value c.is_next-then-is_next.ensures in
+    let two : c.args.at + 1 + 1 ≡ c.args.at + 2 = omega arith in
+    subst (λ n. IsCharBoundary source n) two (next-ascii 93 source (c.args.at + 1) c.is_next-then-is_next.result c.utf8.source (omega arith) right c.if-is_next-2.true)
 
--- src/links.rt:164:1
 pub returns-clause-rest : goal.returns-clause-rest
-returns-clause-rest c = ?
+returns-clause-rest c =
+    let source = c.args.source.now in
+    let left = next-of 91 source c.as_bytes.result.now c.args.at c.is_next.result c.as_bytes.ensures.value c.is_next.ensures in
+    not-both source c.args.at (λ some. elim c.else-is_next.branch [
+      | else-is_next-via-then-is_next+else-is_next-2 w ↦
+        sym (next-of 93 source w.as_bytes-then-is_next.result.now (c.args.at + 1) w.is_next-then-is_next.result w.as_bytes-then-is_next.ensures.value w.is_next-then-is_next.ensures) ∙ w.if-is_next-2.false
+      | else-is_next-via-else-is_next w ↦ absurd (let wrong = sym some ∙ sym left ∙ w.if-is_next.false in cc)
+    ])

@@ -1,19 +1,28 @@
-use Rattle.std.proofs.Common.{rules, ◌≡◌, ◌+◌, ◌-◌, ◌<◌, ◌≤◌, ℕ, List, length, drop, slice_index, IfOk, IfSome, ◌*◌, ◌/◌, ◌%◌, Bool, true, false, nat_eq, nat_lt, [], ◌∷◌, ◌++◌, slice_index_or, slice_set, bit_and, bit_or, Fits, w8, w32, w64, Bor, MutBor}
-use Rattle.std.specs.List.{slice_range}
-use Rattle.std.specs.Str.{IsCharBoundary}
-use Rattle.cm_scan.specs.Brackets.{closed, after_destination, inline_end, Defined, defined_in, target_of, target_between, reference_end, end_at}
-use Rattle.cm_inline.specs.steps.Reads.{Stands}
-use Rattle.cm_inline.specs.steps.Links.{ends_of, leads_to, target_by, behind_brackets}
+use Rattle.std.proofs.Common.{◌≡◌, ◌+◌, ◌-◌, ◌<◌, length, ap, ◌∙◌, arith}
+use Rattle.cm_inline.specs.steps.Links.{target_by}
+use Rattle.cm_inline.proofs.LinkLemmas.{no-label, other-label, this-label}
 use Rattle.cm_inline.proofs.links.label_between.Goals as goal
 
--- src/links.rt:156:26
 pub returns-in_err-between : goal.returns-in_err-between
-returns-in_err-between c = ?
+returns-in_err-between c = λ defined.
+    let source = c.args.source.now in
+    let place : c.args.behind ≡ c.args.behind - 1 + 1 = omega (arith, c.requires.opener.0) in
+    let within : c.args.behind - 1 < length source = omega (arith, c.requires.ordered, c.requires.stands.within) in
+    ap (target_by defined) c.from_residual.ensures
+    ∙ no-label source (c.args.behind - 1) c.args.at defined c.args.behind place within c.requires.opener.1 c.requires.ordered c.requires.stands c.in_err-between.ensures.read
 
--- src/links.rt:158:9
 pub returns-then-end-at : goal.returns-then-end-at
-returns-then-end-at c = ?
+returns-then-end-at c = λ defined.
+    let source = c.args.source.now in
+    let place : c.args.behind ≡ c.args.behind - 1 + 1 = omega (arith, c.requires.opener.0) in
+    let within : c.args.behind - 1 < length source = omega (arith, c.requires.ordered, c.requires.stands.within) in
+    other-label source (c.args.behind - 1) c.args.at defined c.args.behind c.in_ok-between.end c.in_ok-between.between.now place within c.requires.opener.1 c.requires.ordered c.requires.stands
+    c.in_ok-between.ensures.read c.in_ok-between.ensures.boundary.0 c.if-end-at.true
 
--- src/links.rt:150:1
 pub returns : goal.returns
-returns c = ?
+returns c = λ defined.
+    let source = c.args.source.now in
+    let place : c.args.behind ≡ c.args.behind - 1 + 1 = omega (arith, c.requires.opener.0) in
+    let within : c.args.behind - 1 < length source = omega (arith, c.requires.ordered, c.requires.stands.within) in
+    this-label source (c.args.behind - 1) c.args.at defined c.args.behind c.in_ok-between.end c.in_ok-between.between.now place within c.requires.opener.1 c.requires.ordered c.requires.stands
+    c.in_ok-between.ensures.read c.if-end-at.false

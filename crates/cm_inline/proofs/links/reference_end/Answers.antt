@@ -1,27 +1,37 @@
-use Rattle.std.proofs.Common.{rules, ◌≡◌, ◌+◌, ◌-◌, ◌<◌, ◌≤◌, ℕ, List, length, drop, slice_index, IfOk, IfSome, ◌*◌, ◌/◌, ◌%◌, Bool, true, false, nat_eq, nat_lt, [], ◌∷◌, ◌++◌, slice_index_or, slice_set, bit_and, bit_or, Fits, w8, w32, w64, Bor, MutBor}
+use Rattle.std.proofs.Common.{◌+◌, drop, None, sym, ap, ◌∙◌, arith}
 use Rattle.std.specs.List.{slice_range}
-use Rattle.std.specs.Str.{IsCharBoundary}
-use Rattle.cm_scan.specs.Brackets.{closed, after_destination, inline_end, Defined, defined_in, target_of, target_between, reference_end, end_at}
-use Rattle.cm_inline.specs.steps.Reads.{Stands}
-use Rattle.cm_inline.specs.steps.Links.{ends_of, leads_to, target_by, behind_brackets}
+use Rattle.std.proofs.lemmas.Str.{IsCharBoundary-after_ascii}
+use Rattle.cm_scan.specs.Brackets.{defined_in, target_of}
+use Rattle.cm_inline.specs.steps.Links.{leads_to}
+use Rattle.cm_inline.proofs.LinkLemmas.{led, by-full, by-between}
 use Rattle.cm_inline.proofs.links.reference_end.Goals as goal
 
--- src/links.rt:122:32
 pub label-requires : goal.label-requires
-label-requires c = ?
+label-requires c = IsCharBoundary-after_ascii c.args.source.now c.args.at c.utf8.source c.requires.stands.within (omega (arith, c.requires.stands.byte))
 
--- src/links.rt:123:9
 pub returns-in-Some-clause-read : goal.returns-in-Some-clause-read
-returns-in-Some-clause-read c = ?
+returns-in-Some-clause-read c =
+    let source = c.args.source.now in
+    let defined = defined_in c.args.definitions.now in
+    led source c.reference.result (target_of defined c.in-Some.full.now) c.in-Some.end _
+    (sym (by-full defined (slice_range source c.args.behind c.args.at) (drop (c.args.at + 1) source) (record { text = c.in-Some.full.now; rest = drop c.in-Some.end source }) c.in-Some.ensures.read))
+    c.reference.ensures.read
 
--- src/links.rt:126:65
 pub after_brackets-requires : goal.after_brackets-requires
-after_brackets-requires c = ?
+after_brackets-requires c = IsCharBoundary-after_ascii c.args.source.now c.args.at c.utf8.source c.requires.stands.within (omega (arith, c.requires.stands.byte))
 
--- src/links.rt:108:1
 pub returns-in-Some-label_between-clause-read : goal.returns-in-Some-label_between-clause-read
-returns-in-Some-label_between-clause-read c = ?
+returns-in-Some-label_between-clause-read c =
+    let source = c.args.source.now in
+    let defined = defined_in c.args.definitions.now in
+    let target = target_of defined c.in-Some-label_between.between.now in
+    led source c.reference-in-Some-label_between.result target c.after_brackets.result _
+    (ap (leads_to target) c.after_brackets.ensures.rest
+    ∙ sym (by-between defined (slice_range source c.args.behind c.args.at) (drop (c.args.at + 1) source) target c.in_default.ensures.read (c.in-Some-label_between.ensures defined)))
+    c.reference-in-Some-label_between.ensures.read
 
--- src/links.rt:108:1
 pub returns-in-None-clause-read : goal.returns-in-None-clause-read
-returns-in-None-clause-read c = ?
+returns-in-None-clause-read c =
+    let source = c.args.source.now in
+    let defined = defined_in c.args.definitions.now in
+    sym (by-between defined (slice_range source c.args.behind c.args.at) (drop (c.args.at + 1) source) None c.in_default.ensures.read (c.in-None.ensures defined))
