@@ -1,5 +1,5 @@
 -- Where a link or an image leads, and the place where it ends.
-use Rattle.std.specs.Prelude.{ℕ, ◌+◌, List, drop, Option, Some, None, option_map, codes}
+use Rattle.std.specs.Prelude.{ℕ, List, drop, Option, Some, None, option_map, codes}
 use Rattle.std.specs.Borrow.{Bor}
 use Rattle.cm_tree.specs.Definitions.{Target}
 use Rattle.cm_scan.specs.Words.{after_word}

@@ -1,4 +1,4 @@
-use Rattle.std.proofs.Common.{◌≡◌, ◌+◌, sym, subst, ap, ◌∙◌, arith, drop, length}
+use Rattle.std.proofs.Common.{◌≡◌, ◌+◌, sym, subst, ◌∙◌, arith}
 use Rattle.std.specs.Str.{IsCharBoundary}
 use Rattle.cm_scan.proofs.AngledLemmas.{next-ascii}
 use Rattle.cm_inline.proofs.LinkLemmas.{next-of, both-brackets, not-both}

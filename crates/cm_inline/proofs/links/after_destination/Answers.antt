@@ -1,4 +1,4 @@
-use Rattle.std.proofs.Common.{◌≡◌, drop, Some, None, sym, ap, ◌∙◌}
+use Rattle.std.proofs.Common.{drop, Some, None, sym, ap, ◌∙◌}
 use Rattle.cm_scan.specs.Tags.{is_blank_next}
 use Rattle.cm_scan.proofs.DefinitionLemmas.{gap-of}
 use Rattle.cm_inline.proofs.LinkLemmas.{turned, not-parted, by-title}

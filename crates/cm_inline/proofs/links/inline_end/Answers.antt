@@ -1,6 +1,5 @@
-use Rattle.std.proofs.Common.{◌≡◌, ◌+◌, true, drop, Some, None, sym, subst, ◌∙◌, arith}
+use Rattle.std.proofs.Common.{◌+◌, drop, Some, None, sym, subst, ◌∙◌, arith}
 use Rattle.std.specs.Str.{IsCharBoundary}
-use Rattle.cm_scan.specs.Words.{begins_with}
 use Rattle.cm_scan.proofs.DefinitionLemmas.{gap-of}
 use Rattle.cm_scan.proofs.AngledLemmas.{next-ascii}
 use Rattle.cm_inline.proofs.LinkLemmas.{next-of, turned, no-inline_end, by-destination}
