@@ -2,7 +2,6 @@
 use Rattle.std.proofs.Common.{◌≡◌, ◌≢◌, ℕ, suc, ◌+◌, ◌<◌, ◌≤◌, ◌==◌, Bool, true, false, List, [], ◌∷◌, ◌++◌, length, drop, get_or, Option, Some, None, Result, Ok, Err, IfOk, IfSome, codes, refl, sym, ap, subst, ◌∙◌, arith, length-append, length-drop}
 use Rattle.std.specs.List.{slice_range}
 use Rattle.std.specs.Str.{IsCharBoundary}
-use Rattle.std.specs.Option.{is_some}
 use Rattle.std.proofs.lemmas.List.{drop_more}
 use Rattle.cm_text.specs.Unescaping.{unescape}
 use Rattle.cm_tree.specs.Definitions.{Target}
@@ -193,14 +192,12 @@ abbrev first_of : Defined → List ℕ → List ℕ → Option brackets.LinkEnd 
 first_of defined between text o = elim o [ Some end ↦ Some end | None ↦ reference_end defined between text ]
 
 -- an inline link's end goes first
-pub inline-first : (source : List ℕ) (defined : Defined) (between text : List ℕ) (found : Option LinkEnd) → ends_of source found ≡ inline_end text → is_some found ≡ true
-    → ends_of source found ≡ end_at defined between text
+pub inline-first : (source : List ℕ) (defined : Defined) (between text : List ℕ) (found : Option LinkEnd) (e : LinkEnd) → found ≡ Some e → ends_of source found ≡ inline_end text
+    → ends_of source (Some e) ≡ end_at defined between text
 unfolding end_at
-inline-first source defined between text None h some = absurd (cc)
-inline-first source defined between text (Some e) h some = ap (first_of defined between text) h
+inline-first source defined between text found e same h = ap (first_of defined between text) (ap (ends_of source) (sym same) ∙ h)
 
-pub no-inline : (source : List ℕ) (defined : Defined) (between text : List ℕ) (found : Option LinkEnd) → ends_of source found ≡ inline_end text → is_some found ≡ false
+pub no-inline : (source : List ℕ) (defined : Defined) (between text : List ℕ) (found : Option LinkEnd) → found ≡ None → ends_of source found ≡ inline_end text
     → reference_end defined between text ≡ end_at defined between text
 unfolding end_at
-no-inline source defined between text None h some = ap (first_of defined between text) h
-no-inline source defined between text (Some e) h some = absurd (cc)
+no-inline source defined between text found none h = ap (first_of defined between text) (ap (ends_of source) (sym none) ∙ h)

@@ -35,9 +35,8 @@ pub(crate) fn link_end(
         ≡ end_at (defined_in definitions.now) (slice_range source.now behind at) (drop (at + 1) source.now)) }
     ensures place { IfOk result (λ found. IfSome found (λ e. (at < e.end) × (e.end ≤ length source.now) × IsCharBoundary source.now e.end)) }
 {
-    let inline = inline_end(alloc, source, at + 1)?;
-    if inline.is_some() {
-        return Ok(inline);
+    if let Some(inline) = inline_end(alloc, source, at + 1)? {
+        return Ok(Some(inline));
     }
     reference_end(alloc, source, definitions, behind, at)
 }
