@@ -25,6 +25,6 @@ returns-clause-rest c =
     let left = next-of 91 source c.as_bytes.result.now c.args.at c.is_next.result c.as_bytes.ensures.value c.is_next.ensures in
     not-both source c.args.at (λ some. elim c.else-is_next.branch [
       | else-is_next-via-then-is_next+else-is_next-2 w ↦
-        sym (next-of 93 source w.as_bytes-then-is_next.result.now (c.args.at + 1) w.is_next-then-is_next.result w.as_bytes-then-is_next.ensures.value w.is_next-then-is_next.ensures) ∙ w.if-is_next-2.false
+          sym (next-of 93 source w.as_bytes-then-is_next.result.now (c.args.at + 1) w.is_next-then-is_next.result w.as_bytes-then-is_next.ensures.value w.is_next-then-is_next.ensures) ∙ w.if-is_next-2.false
       | else-is_next-via-else-is_next w ↦ absurd (let wrong = sym some ∙ sym left ∙ w.if-is_next.false in cc)
     ])
