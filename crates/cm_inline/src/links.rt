@@ -28,10 +28,10 @@ pub(crate) fn link_end(
     behind: usize,
     at: usize,
 ) -> Result<Option<LinkEnd>, NoMemory>
-    requires opener { (0 < behind) × (slice_index source.now (behind - 1) ≡ 91) }
-    requires ordered { behind ≤ at }
+    requires bracket { (0 < behind) × (slice_index source.now (behind - 1) ≡ 91) }
+    requires order { behind ≤ at }
     requires stands { Stands source.now at 93 }
-    ensures read { IfOk result (λ found. ends_of source.now found
+    ensures ends { IfOk result (λ found. ends_of source.now found
         ≡ end_at (defined_in definitions.now) (slice_range source.now behind at) (drop (at + 1) source.now)) }
     ensures place { IfOk result (λ found. IfSome found (λ e. (at < e.end) × (e.end ≤ length source.now) × IsCharBoundary source.now e.end)) }
 {
@@ -44,7 +44,7 @@ pub(crate) fn link_end(
 /// The end of an inline link: `(`, a destination and a title or not, and `)`, with gaps between.
 fn inline_end(alloc: Global, source: &str, at: usize) -> Result<Option<LinkEnd>, NoMemory>
     requires { IsCharBoundary source.now at }
-    ensures read { IfOk result (λ found. ends_of source.now found ≡ inline_end (drop at source.now)) }
+    ensures ends { IfOk result (λ found. ends_of source.now found ≡ inline_end (drop at source.now)) }
     ensures boundary { IfOk result (λ found. IfSome found (λ e. IsCharBoundary source.now e.end)) }
 {
     if !is_next(source.as_bytes(), at, b'(') {
@@ -65,7 +65,7 @@ fn after_destination(
     at: usize,
 ) -> Result<Option<LinkEnd>, NoMemory>
     requires { IsCharBoundary source.now at }
-    ensures read { IfOk result (λ found. ends_of source.now found ≡ after_destination dest.now (drop at source.now)) }
+    ensures ends { IfOk result (λ found. ends_of source.now found ≡ after_destination dest.now (drop at source.now)) }
     ensures boundary { IfOk result (λ found. IfSome found (λ e. IsCharBoundary source.now e.end)) }
 {
     if !is_blank_next(source.as_bytes(), at) {
@@ -86,7 +86,7 @@ fn closed(
     at: usize,
 ) -> Result<Option<LinkEnd>, NoMemory>
     requires { IsCharBoundary source.now at }
-    ensures read { IfOk result (λ found. ends_of source.now found ≡ closed dest.now title.now (drop at source.now)) }
+    ensures ends { IfOk result (λ found. ends_of source.now found ≡ closed dest.now title.now (drop at source.now)) }
     ensures boundary { IfOk result (λ found. IfSome found (λ e. IsCharBoundary source.now e.end)) }
 {
     let end = after_gap(source.as_bytes(), at);
@@ -111,10 +111,10 @@ fn reference_end(
     behind: usize,
     at: usize,
 ) -> Result<Option<LinkEnd>, NoMemory>
-    requires opener { (0 < behind) × (slice_index source.now (behind - 1) ≡ 91) }
-    requires ordered { behind ≤ at }
+    requires bracket { (0 < behind) × (slice_index source.now (behind - 1) ≡ 91) }
+    requires order { behind ≤ at }
     requires stands { Stands source.now at 93 }
-    ensures read { IfOk result (λ found. ends_of source.now found
+    ensures ends { IfOk result (λ found. ends_of source.now found
         ≡ reference_end (defined_in definitions.now) (slice_range source.now behind at) (drop (at + 1) source.now)) }
     ensures boundary { IfOk result (λ found. IfSome found (λ e. IsCharBoundary source.now e.end)) }
 {
@@ -134,7 +134,7 @@ fn reference(
     label: &str,
     end: usize,
 ) -> Result<Option<LinkEnd>, NoMemory>
-    ensures read { IfOk result (λ found. (source : List ℕ) → ends_of source found ≡ leads_to (target_of (defined_in definitions.now) label.now) (drop end source)) }
+    ensures ends { IfOk result (λ found. (source : List ℕ) → ends_of source found ≡ leads_to (target_of (defined_in definitions.now) label.now) (drop end source)) }
     ensures end { IfOk result (λ found. IfSome found (λ e. e.end ≡ end)) }
 {
     let Some((dest, title)) = definitions.find(label)? else {
@@ -147,8 +147,8 @@ fn reference(
 
 /// The source between the brackets, if it is a link label.
 fn label_between(source: &str, behind: usize, at: usize) -> Option<&str>
-    requires opener { (0 < behind) × (slice_index source.now (behind - 1) ≡ 91) }
-    requires ordered { behind ≤ at }
+    requires bracket { (0 < behind) × (slice_index source.now (behind - 1) ≡ 91) }
+    requires order { behind ≤ at }
     requires stands { Stands source.now at 93 }
     ensures { (defined : Defined) → target_by defined result ≡ target_between defined (slice_range source.now behind at) }
 {

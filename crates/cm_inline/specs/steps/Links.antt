@@ -9,7 +9,8 @@ use Rattle.cm_inline.specs.declared.links.LinkEnd.{LinkEnd}
 
 -- what was found in a source, if it was, with what is left behind the place where it ends
 abbrev pub ends_of : List ℕ → Option LinkEnd → Option brackets.LinkEnd
-ends_of source found = option_map (λ e. record { dest = e.dest; title = e.title; rest = drop e.end source }) found
+ends_of source None = None
+ends_of source (Some e) = Some (record { dest = e.dest; title = e.title; rest = drop e.end source })
 
 -- the end of a reference, with what is left behind it, where its label has a target
 abbrev pub leads_to : Option Target → List ℕ → Option brackets.LinkEnd

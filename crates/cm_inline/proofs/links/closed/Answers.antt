@@ -5,15 +5,15 @@ use Rattle.cm_scan.proofs.AngledLemmas.{next-ascii}
 use Rattle.cm_inline.proofs.LinkLemmas.{next-of, not-closed, is-closed}
 use Rattle.cm_inline.proofs.links.closed.Goals as goal
 
-pub returns-then-not-is_next-clause-read : goal.returns-then-not-is_next-clause-read
-returns-then-not-is_next-clause-read c =
+pub returns-then-not-is_next-clause-ends : goal.returns-then-not-is_next-clause-ends
+returns-then-not-is_next-clause-ends c =
     let source = c.args.source.now in
     let gap = gap-of source c.as_bytes.result.now c.args.at c.after_gap-end.result c.as_bytes.ensures.value c.after_gap-end.ensures.skipped in
     let next = next-of 41 source c.as_bytes-2.result.now c.after_gap-end.result c.is_next.result c.as_bytes-2.ensures.value c.is_next.ensures in
     sym (not-closed c.args.dest.now c.args.title.now source c.args.at c.after_gap-end.result gap (sym next ∙ c.if-not-is_next.true))
 
-pub returns-clause-read : goal.returns-clause-read
-returns-clause-read c =
+pub returns-clause-ends : goal.returns-clause-ends
+returns-clause-ends c =
     let source = c.args.source.now in
     let gap = gap-of source c.as_bytes.result.now c.args.at c.after_gap-end.result c.as_bytes.ensures.value c.after_gap-end.ensures.skipped in
     let next = next-of 41 source c.as_bytes-2.result.now c.after_gap-end.result c.is_next.result c.as_bytes-2.ensures.value c.is_next.ensures in

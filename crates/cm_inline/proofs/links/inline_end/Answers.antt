@@ -5,8 +5,8 @@ use Rattle.cm_scan.proofs.AngledLemmas.{next-ascii}
 use Rattle.cm_inline.proofs.LinkLemmas.{next-of, turned, no-inline_end, by-destination}
 use Rattle.cm_inline.proofs.links.inline_end.Goals as goal
 
-pub returns-then-not-is_next-clause-read : goal.returns-then-not-is_next-clause-read
-returns-then-not-is_next-clause-read c =
+pub returns-then-not-is_next-clause-ends : goal.returns-then-not-is_next-clause-ends
+returns-then-not-is_next-clause-ends c =
     let next = next-of 40 c.args.source.now c.as_bytes.result.now c.args.at c.is_next.result c.as_bytes.ensures.value c.is_next.ensures in
     sym (no-inline_end (drop c.args.at c.args.source.now) (sym next ∙ c.if-not-is_next.true))
 
@@ -23,20 +23,20 @@ closed-requires c =
     let next = next-of 40 c.args.source.now c.as_bytes.result.now c.args.at c.is_next.result c.as_bytes.ensures.value c.is_next.ensures in
     next-ascii 40 c.args.source.now c.args.at c.is_next.result c.utf8.source (omega arith) next c.if-not-is_next.false
 
-pub returns-in-Some-clause-read : goal.returns-in-Some-clause-read
-returns-in-Some-clause-read c =
+pub returns-in-Some-clause-ends : goal.returns-in-Some-clause-ends
+returns-in-Some-clause-ends c =
     let source = c.args.source.now in
     let next = next-of 40 source c.as_bytes.result.now c.args.at c.is_next.result c.as_bytes.ensures.value c.is_next.ensures in
     let gap = gap-of source c.as_bytes-2.result.now (c.args.at + 1) c.after_gap-gap.result c.as_bytes-2.ensures.value c.after_gap-gap.ensures.skipped in
     turned source c.after_destination.result _ _
     (sym (by-destination source (drop c.after_gap-gap.result source) c.args.at (Some (record { text = c.in-Some.dest.now; rest = drop c.in-Some.end source })) (sym next ∙ c.if-not-is_next.false) gap c.in-Some.ensures.read))
-    c.after_destination.ensures.read
+    c.after_destination.ensures.ends
 
-pub returns-in-None-clause-read : goal.returns-in-None-clause-read
-returns-in-None-clause-read c =
+pub returns-in-None-clause-ends : goal.returns-in-None-clause-ends
+returns-in-None-clause-ends c =
     let source = c.args.source.now in
     let next = next-of 40 source c.as_bytes.result.now c.args.at c.is_next.result c.as_bytes.ensures.value c.is_next.ensures in
     let gap = gap-of source c.as_bytes-2.result.now (c.args.at + 1) c.after_gap-gap.result c.as_bytes-2.ensures.value c.after_gap-gap.ensures.skipped in
     turned source c.closed.result _ _
     (sym (by-destination source (drop c.after_gap-gap.result source) c.args.at None (sym next ∙ c.if-not-is_next.false) gap c.in-None.ensures.read))
-    c.closed.ensures.read
+    c.closed.ensures.ends

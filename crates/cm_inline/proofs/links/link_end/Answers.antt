@@ -9,10 +9,10 @@ use Rattle.cm_inline.proofs.links.link_end.Goals as goal
 pub inline_end-requires : goal.inline_end-requires
 inline_end-requires c = IsCharBoundary-after_ascii c.args.source.now c.args.at c.utf8.source c.requires.stands.within (omega (arith, c.requires.stands.byte))
 
-pub returns-in-Some-clause-read : goal.returns-in-Some-clause-read
-returns-in-Some-clause-read c =
+pub returns-in-Some-clause-ends : goal.returns-in-Some-clause-ends
+returns-in-Some-clause-ends c =
     let source = c.args.source.now in
-    inline-first source (defined_in c.args.definitions.now) (slice_range source c.args.behind c.args.at) (drop (c.args.at + 1) source) c.in_ok-inline.field-0 c.in-Some.inline c.in-Some.is c.in_ok-inline.ensures.read
+    inline-first source (defined_in c.args.definitions.now) (slice_range source c.args.behind c.args.at) (drop (c.args.at + 1) source) c.in_ok-inline.field-0 c.in-Some.inline c.in-Some.is c.in_ok-inline.ensures.ends
 
 pub returns-in-Some-clause-place : goal.returns-in-Some-clause-place
 returns-in-Some-clause-place c =
@@ -20,15 +20,15 @@ returns-in-Some-clause-place c =
     let defined = defined_in c.args.definitions.now in
     let between = slice_range source c.args.behind c.args.at in
     place source c.args.at defined between (Some c.in-Some.inline) c.requires.stands.within
-    (inline-first source defined between (drop (c.args.at + 1) source) c.in_ok-inline.field-0 c.in-Some.inline c.in-Some.is c.in_ok-inline.ensures.read)
+    (inline-first source defined between (drop (c.args.at + 1) source) c.in_ok-inline.field-0 c.in-Some.inline c.in-Some.is c.in_ok-inline.ensures.ends)
     (subst (λ found. IfSome found (λ e. IsCharBoundary source e.end)) c.in-Some.is c.in_ok-inline.ensures.boundary)
 
-pub returns-clause-read : goal.returns-clause-read
-returns-clause-read c =
+pub returns-clause-ends : goal.returns-clause-ends
+returns-clause-ends c =
     let source = c.args.source.now in
     turned source c.reference_end.result _ _
-    (no-inline source (defined_in c.args.definitions.now) (slice_range source c.args.behind c.args.at) (drop (c.args.at + 1) source) c.in_ok-inline.field-0 c.in_default.is c.in_ok-inline.ensures.read)
-    c.reference_end.ensures.read
+    (no-inline source (defined_in c.args.definitions.now) (slice_range source c.args.behind c.args.at) (drop (c.args.at + 1) source) c.in_ok-inline.field-0 c.in_default.is c.in_ok-inline.ensures.ends)
+    c.reference_end.ensures.ends
 
 pub returns-clause-place : goal.returns-clause-place
 returns-clause-place c =
@@ -36,5 +36,5 @@ returns-clause-place c =
     let defined = defined_in c.args.definitions.now in
     let between = slice_range source c.args.behind c.args.at in
     place-in source c.args.at defined between c.reference_end.result c.requires.stands.within
-    (turned source c.reference_end.result _ _ (no-inline source defined between (drop (c.args.at + 1) source) c.in_ok-inline.field-0 c.in_default.is c.in_ok-inline.ensures.read) c.reference_end.ensures.read)
+    (turned source c.reference_end.result _ _ (no-inline source defined between (drop (c.args.at + 1) source) c.in_ok-inline.field-0 c.in_default.is c.in_ok-inline.ensures.ends) c.reference_end.ensures.ends)
     c.reference_end.ensures.boundary

@@ -9,29 +9,29 @@ use Rattle.cm_inline.proofs.links.reference_end.Goals as goal
 pub label-requires : goal.label-requires
 label-requires c = IsCharBoundary-after_ascii c.args.source.now c.args.at c.utf8.source c.requires.stands.within (omega (arith, c.requires.stands.byte))
 
-pub returns-in-Some-clause-read : goal.returns-in-Some-clause-read
-returns-in-Some-clause-read c =
+pub returns-in-Some-clause-ends : goal.returns-in-Some-clause-ends
+returns-in-Some-clause-ends c =
     let source = c.args.source.now in
     let defined = defined_in c.args.definitions.now in
     led source c.reference.result (target_of defined c.in-Some.full.now) c.in-Some.end _
     (sym (by-full defined (slice_range source c.args.behind c.args.at) (drop (c.args.at + 1) source) (record { text = c.in-Some.full.now; rest = drop c.in-Some.end source }) c.in-Some.ensures.read))
-    c.reference.ensures.read
+    c.reference.ensures.ends
 
 pub after_brackets-requires : goal.after_brackets-requires
 after_brackets-requires c = IsCharBoundary-after_ascii c.args.source.now c.args.at c.utf8.source c.requires.stands.within (omega (arith, c.requires.stands.byte))
 
-pub returns-in-Some-label_between-clause-read : goal.returns-in-Some-label_between-clause-read
-returns-in-Some-label_between-clause-read c =
+pub returns-in-Some-label_between-clause-ends : goal.returns-in-Some-label_between-clause-ends
+returns-in-Some-label_between-clause-ends c =
     let source = c.args.source.now in
     let defined = defined_in c.args.definitions.now in
     let target = target_of defined c.in-Some-label_between.between.now in
     led source c.reference-in-Some-label_between.result target c.after_brackets.result _
     (ap (leads_to target) c.after_brackets.ensures.rest
     ∙ sym (by-between defined (slice_range source c.args.behind c.args.at) (drop (c.args.at + 1) source) target c.in_default.ensures.read (c.in-Some-label_between.ensures defined)))
-    c.reference-in-Some-label_between.ensures.read
+    c.reference-in-Some-label_between.ensures.ends
 
-pub returns-in-None-clause-read : goal.returns-in-None-clause-read
-returns-in-None-clause-read c =
+pub returns-in-None-clause-ends : goal.returns-in-None-clause-ends
+returns-in-None-clause-ends c =
     let source = c.args.source.now in
     let defined = defined_in c.args.definitions.now in
     sym (by-between defined (slice_range source c.args.behind c.args.at) (drop (c.args.at + 1) source) None c.in_default.ensures.read (c.in-None.ensures defined))
