@@ -1,5 +1,5 @@
 -- What begins at a place of a source, by the byte that stands there.
-use Rattle.std.proofs.Common.{◌≡◌, ℕ, suc, ◌+◌, ◌-◌, ◌<◌, ◌≤◌, ◌==◌, ◌&&◌, ◌||◌, not, Bool, true, false, List, [], ◌∷◌, length, take, drop, get_or, reverse, replicate, Option, Some, None, codes, refl, sym, ap, subst, ◌∙◌, arith, length-append, length-drop, drop-drop, get_or-drop}
+use Rattle.std.proofs.Common.{◌≡◌, ℕ, suc, ◌+◌, ◌-◌, ◌*◌, ◌<◌, ◌≤◌, ◌==◌, ◌&&◌, ◌||◌, not, Bool, true, false, List, [], ◌∷◌, length, take, drop, get_or, reverse, replicate, Option, Some, None, codes, refl, sym, ap, subst, ◌∙◌, arith, length-append, length-drop, drop-drop, get_or-drop}
 use Rattle.std.specs.Prelude.{IsUtf8, nat_le, if◌then◌else◌, encode_utf8_all}
 use Rattle.std.specs.List.{slice_range}
 use Rattle.std.specs.Str.{IsCharBoundary}
@@ -19,6 +19,7 @@ use Rattle.cm_scan.specs.RawHtml.{raw_html}
 use Rattle.cm_scan.specs.Angles.{Angled, Linked, Tagged, before, tagged, at_angle}
 use Rattle.cm_scan.specs.CodeSpans.{content_of, one_line, stripped, code_span}
 use Rattle.cm_scan.specs.Scanned.{whole_of}
+use Rattle.cm_scan.specs.Delimiters as delimiters
 use Rattle.cm_scan.specs.Pairing as items
 use Rattle.cm_scan.specs.Atoms.{AtomRead, Plain, Whole, Delimiter, OpenBracket, read, is_markup, or_byte, byte_atom, backtick_atom, angle_atom, link_of, backslash_atom, reference_atom, break_atom, run_between, run_atom, tilde_atom, bang_atom, markup_atom, atom_at}
 use Rattle.cm_scan.proofs.ReadFurther.{none-some, false-true}
@@ -27,10 +28,14 @@ use Rattle.cm_scan.proofs.LeftLemmas.{atom-left}
 use Rattle.cm_scan.proofs.RunLemmas.{not-same}
 use Rattle.cm_inline.proofs.DepthLemmas.{code-depth, html-depth, hard-depth, soft-depth, link-depth}
 use Rattle.cm_inline.specs.declared.nodes.Node.{Node}
-use Rattle.cm_inline.specs.declared.nodes.Node.TheVariants.{Piece, Characters, Finished}
-use Rattle.cm_inline.specs.Alone.{alone}
-use Rattle.cm_inline.specs.steps.Nodes.{item_of, node_depth, IsPart}
-use Rattle.cm_inline.specs.steps.Reads.{Stands, atom_in, is_run_marker, is_break_byte, is_lone_byte, IsAtom}
+use Rattle.cm_inline.specs.declared.nodes.Node.TheVariants.{Piece, Characters, Finished, Run, Opener}
+use Rattle.cm_inline.specs.declared.runs.Marker.{Marker}
+use Rattle.cm_inline.specs.declared.runs.Marker.TheVariants.{Star, Underscore, Tilde}
+use Rattle.cm_inline.specs.declared.runs.DelimiterRun.{DelimiterRun}
+use Rattle.cm_inline.specs.steps.Runs.{byte_of, run_of}
+use Rattle.cm_inline.specs.steps.Pairs.{allowed}
+use Rattle.cm_inline.specs.steps.Nodes.{item_of, IsPart}
+use Rattle.cm_inline.specs.steps.Reads.{Stands, atom_in, is_break_byte, item_for, IsAtom}
 
 -- the source from the place on
 front : (source : List ℕ) (at b : ℕ) → Stands source at b → drop at source ≡ b ∷ drop (at + 1) source
@@ -47,18 +52,18 @@ further rules source at end within rest =
     omega (arith, within, size, ap length rest, length-drop (at + 1) source, length-drop end source)
 
 module _ (rules : Rules) (source : List ℕ) (at : ℕ) where
-  is-atom : (node : Node) (end : ℕ) (a : AtomRead) → at < length source → atom_in rules source at ≡ a → a.rest ≡ drop end source → item_of source node ≡ alone a.atom
-      → IsPart source node → IsCharBoundary source end → node_depth node ≤ 1 → IsAtom rules source at node end
-  is-atom node end a within same rest item part boundary shallow =
+  is-atom : (node : Node) (end : ℕ) (a : AtomRead) → at < length source → atom_in rules source at ≡ a → a.rest ≡ drop end source → item_for a.atom a.rest ≡ Some (item_of source node)
+      → IsPart source node → IsCharBoundary source end → allowed (item_of source node) ≤ 15 * (end - at) → IsAtom rules source at node end
+  is-atom node end a within same rest item part boundary paid =
       let left : (atom_in rules source at).rest ≡ drop end source = ap (λ (t : AtomRead). t.rest) same ∙ rest in
       record {
         rest = left;
-        item = item ∙ sym (ap (λ (t : AtomRead). alone t.atom) same);
+        item = ap (λ (t : AtomRead). item_for t.atom t.rest) same ∙ item;
         part = part;
         further = further rules source at end within left;
         within = boundary.0;
         boundary = boundary;
-        shallow = shallow;
+        paid = paid;
       }
 
   -- an answer that is this node and this end
@@ -77,12 +82,12 @@ module _ (rules : Rules) (source : List ℕ) (at : ℕ) where
       go false e again = refl
 
   run-is : (m end : ℕ) (a : AtomRead) → Stands source at m → end ≡ at + run_length m (drop at source) → drop end source ≡ after_run m (drop at source) → IsCharBoundary source end
-      → atom_in rules source at ≡ a → a.rest ≡ after_run m (drop at source) → alone a.atom ≡ items.Characters (replicate (run_length m (drop at source)) m) → IsAtom rules source at (Piece at end) end
+      → atom_in rules source at ≡ a → a.rest ≡ after_run m (drop at source) → item_for a.atom a.rest ≡ Some (items.Characters (replicate (run_length m (drop at source)) m)) → IsAtom rules source at (Piece at end) end
   run-is m end a s run left boundary same rest item =
       let size : end - at ≡ run_length m (drop at source) = omega (arith, run) in
       let low : at ≤ end = omega (arith, run) in
       is-atom (Piece at end) end a s.within same (rest ∙ sym left)
-      (ap items.Characters (ap (λ n. take n (drop at source)) size ∙ run-front m (drop at source)) ∙ sym item) (low, s.boundary, boundary) boundary (omega arith)
+      (item ∙ sym (ap (λ t. Some (items.Characters t)) (ap (λ n. take n (drop at source)) size ∙ run-front m (drop at source)))) (low, s.boundary, boundary) boundary (omega arith)
 
   -- one byte as text
 
@@ -92,11 +97,11 @@ module _ (rules : Rules) (source : List ℕ) (at : ℕ) where
   behind-byte : (b : ℕ) → IsUtf8 source → Stands source at b → b < 128 → IsCharBoundary source (at + 1)
   behind-byte b utf8 s ascii = IsCharBoundary-after_ascii source at utf8 s.within (omega (arith, s.byte, ascii))
 
-  byte-is : (b : ℕ) (a : AtomRead) → IsUtf8 source → Stands source at b → b < 128 → atom_in rules source at ≡ a → a.rest ≡ drop (at + 1) source → alone a.atom ≡ items.Characters (b ∷ [])
+  byte-is : (b : ℕ) (a : AtomRead) → IsUtf8 source → Stands source at b → b < 128 → atom_in rules source at ≡ a → a.rest ≡ drop (at + 1) source → item_for a.atom a.rest ≡ Some (items.Characters (b ∷ []))
       → IsAtom rules source at (Piece at (at + 1)) (at + 1)
   byte-is b a utf8 s ascii same rest item =
       let low : at ≤ at + 1 = omega arith in
-      is-atom (Piece at (at + 1)) (at + 1) a s.within same rest (ap items.Characters (one-byte b s) ∙ sym item) (low, s.boundary, behind-byte b utf8 s ascii) (behind-byte b utf8 s ascii) (omega arith)
+      is-atom (Piece at (at + 1)) (at + 1) a s.within same rest (item ∙ sym (ap (λ t. Some (items.Characters t)) (one-byte b s))) (low, s.boundary, behind-byte b utf8 s ascii) (behind-byte b utf8 s ascii) (omega arith)
 
   -- the byte behind it
   next-stands : (b c : ℕ) → IsUtf8 source → Stands source at b → b < 128 → begins_with c (drop (at + 1) source) ≡ true → Stands source (at + 1) c
@@ -172,7 +177,7 @@ module _ (rules : Rules) (source : List ℕ) (at : ℕ) where
   html-is html end s h e boundary =
       let parts = whole-read (drop at source) html (drop end source) (raw_html rules (drop at source)) e in
       is-atom _ end (record { atom = Whole (inline.Html (before (drop end source) (drop at source))); rest = drop end source }) s.within (html-in (Some (drop end source)) s h parts.0) refl
-      (ap (λ t. items.Finished (inline.Html t)) parts.1) (html-depth html) boundary (omega arith)
+      (sym (ap (λ t. Some (items.Finished (inline.Html t))) parts.1)) (html-depth html) boundary (omega arith)
 
   pub angle-is-text : IsUtf8 source → Stands source at 60 → None ≡ autolink (drop at source) → None ≡ whole_of (drop at source) (raw_html rules (drop at source)) → IsAtom rules source at (Piece at (at + 1)) (at + 1)
   angle-is-text utf8 s h e =
@@ -206,7 +211,7 @@ module _ (rules : Rules) (source : List ℕ) (at : ℕ) where
       let low : at + 1 ≤ at + 2 = omega arith in
       is-atom _ (at + 2) (record { atom = Plain (c ∷ []); rest = drop (at + 1 + 1) source }) s.within
       (slash-in (c ∷ drop (at + 1 + 1) source) s (front source (at + 1) c next) ∙ escaped (c == 10) (no-feed c punct)) (ap (λ n. drop n source) end)
-      (ap items.Characters (ap (λ n. take n (drop (at + 1) source)) one ∙ ap (take 1) (front source (at + 1) c next))) (low, boundary, behind) behind (omega arith)
+      (sym (ap (λ t. Some (items.Characters t)) (ap (λ n. take n (drop (at + 1) source)) one ∙ ap (take 1) (front source (at + 1) c next)))) (low, boundary, behind) behind (omega arith)
     where
       no-feed : (c : ℕ) → is_ascii_punct c ≡ true → (c == 10) ≡ false
       no-feed c punct = grind (arith, punct)
@@ -261,7 +266,7 @@ module _ (rules : Rules) (source : List ℕ) (at : ℕ) where
           let same : chars_of chars ≡ found.0 = ap chars_in g in
           let place : end ≡ at + found.1 = ap end_in g in
           is-atom _ end (record { atom = Plain (encode_utf8_all found.0); rest = drop found.1 (drop at source) }) s.within (ampersand-in (Some found) s e)
-          (drop-drop found.1 at source ∙ ap (λ n. drop n source) (sym place)) (ap (λ t. items.Characters (encode_utf8_all t)) same) tt boundary (omega arith)
+          (drop-drop found.1 at source ∙ ap (λ n. drop n source) (sym place)) (sym (ap (λ t. Some (items.Characters (encode_utf8_all t))) same)) tt boundary (omega arith)
         where
           chars_in : Option (List ℕ × ℕ) → List ℕ
           chars_in None = []
@@ -322,7 +327,7 @@ module _ (rules : Rules) (source : List ℕ) (at : ℕ) where
       let found = begins-at 10 source feed next in
       is-atom _ (feed + 1) (record { atom = Whole (if nat_le 2 (run_length 32 (drop at source)) then inline.Hard else inline.Soft); rest = drop 1 (drop feed source) }) s.within
       (break-in b (Some (drop 1 (drop feed source))) s is (ap (after_word (codes "\n")) (sym left) ∙ feed-next (drop feed source) next))
-      (drop-drop 1 feed source) (ap (λ n. items.Finished (if nat_le 2 n then inline.Hard else inline.Soft)) size) (shallow (nat_le 2 (feed - at)))
+      (drop-drop 1 feed source) (sym (ap (λ n. Some (items.Finished (if nat_le 2 n then inline.Hard else inline.Soft))) size)) (shallow (nat_le 2 (feed - at)))
       (IsCharBoundary-after_ascii source feed utf8 found.0 (omega (arith, found.2))) (omega arith)
     where
       shallow : (hard : Bool) → depth_of (if hard then inline.Hard else inline.Soft) ≡ 0
@@ -344,16 +349,16 @@ module _ (rules : Rules) (source : List ℕ) (at : ℕ) where
   unfolding atom_at markup_atom
   bang-in rest s e = here rules source at 33 s ∙ ap (λ t. or_byte 33 t (bang_atom (33 ∷ t))) e
 
-  pub image-is : IsUtf8 source → Stands source at 33 → begins_with 91 (drop (at + 1) source) ≡ true → IsAtom rules source at (Piece at (at + 2)) (at + 2)
+  pub image-is : IsUtf8 source → Stands source at 33 → begins_with 91 (drop (at + 1) source) ≡ true → IsAtom rules source at (Opener true (at + 2)) (at + 2)
   unfolding bang_atom after_word
   image-is utf8 s next =
       let bracket = next-stands 33 91 utf8 s (omega arith) next in
       let end : at + 1 + 1 ≡ at + 2 = omega arith in
-      let two : at + 2 - at ≡ 2 = omega arith in
-      let low : at ≤ at + 2 = omega arith in
       let behind : IsCharBoundary source (at + 2) = subst (IsCharBoundary source) end (IsCharBoundary-after_ascii source (at + 1) utf8 bracket.within (omega (arith, bracket.byte))) in
-      is-atom _ (at + 2) (record { atom = OpenBracket true; rest = drop (at + 1 + 1) source }) s.within (bang-in (91 ∷ drop (at + 1 + 1) source) s (front source (at + 1) 91 bracket)) (ap (λ n. drop n source) end)
-      (ap items.Characters (ap (λ n. take n (drop at source)) two ∙ ap (take 2) (front source at 33 s ∙ ap (λ t. 33 ∷ t) (front source (at + 1) 91 bracket)))) (low, s.boundary, behind) behind (omega arith)
+      let rest : drop (at + 1 + 1) source ≡ drop (at + 2) source = ap (λ n. drop n source) end in
+      is-atom _ (at + 2) (record { atom = OpenBracket true; rest = drop (at + 1 + 1) source }) s.within (bang-in (91 ∷ drop (at + 1 + 1) source) s (front source (at + 1) 91 bracket)) rest
+      (ap (λ t. Some (items.Opener true t)) rest)
+      (record { at = at; place = refl; front = front source at 33 s ∙ ap (λ t. 33 ∷ t) (front source (at + 1) 91 bracket ∙ ap (λ t. 91 ∷ t) rest); start = s.boundary; end = behind }) behind (omega arith)
 
   alone-bang : (text : List ℕ) → begins_with 91 text ≡ false → or_byte 33 text (bang_atom (33 ∷ text)) ≡ byte_atom 33 text
   unfolding bang_atom after_word
@@ -364,88 +369,76 @@ module _ (rules : Rules) (source : List ℕ) (at : ℕ) where
   pub bang-is-text : IsUtf8 source → Stands source at 33 → begins_with 91 (drop (at + 1) source) ≡ false → IsAtom rules source at (Piece at (at + 1)) (at + 1)
   bang-is-text utf8 s next = byte-is 33 (byte_atom 33 (drop (at + 1) source)) utf8 s (omega arith) (bang-in (drop (at + 1) source) s refl ∙ alone-bang (drop (at + 1) source) next) refl refl
 
+  -- `[`
+
+  pub opener-is : IsUtf8 source → Stands source at 91 → IsAtom rules source at (Opener false (at + 1)) (at + 1)
+  unfolding atom_at markup_atom
+  opener-is utf8 s =
+      let behind = behind-byte 91 utf8 s (omega arith) in
+      is-atom _ (at + 1) (record { atom = OpenBracket false; rest = drop (at + 1) source }) s.within (here rules source at 91 s) refl refl
+      (record { at = at; place = refl; front = front source at 91 s; start = s.boundary; end = behind }) behind (omega arith)
+
   -- a run of a marker
 
-  -- what a marker reads
-  abbrev RunRead : ℕ → List ℕ → Type 0
-  RunRead m text = ((atom_at rules (reverse (take at source)) m text).rest ≡ after_run m (m ∷ text)) × (alone (atom_at rules (reverse (take at source)) m text).atom ≡ items.Characters (replicate (run_length m (m ∷ text)) m))
+  abbrev run_read : ℕ → List ℕ → AtomRead
+  run_read m text = record { atom = Delimiter (run_between rules m (run_length m (m ∷ text)) (reverse (take at source)) (after_run m (m ∷ text))); rest = after_run m (m ∷ text) }
 
-  star-read : (text : List ℕ) → RunRead 42 text
-  unfolding atom_at markup_atom run_atom run_between
-  star-read text = (refl, refl)
+  -- tildes are a run just where there are two of them and strikethrough is on
+  abbrev is_struck : ℕ → List ℕ → Bool
+  is_struck m text = not (m == 126) || rules.strike && run_length m (m ∷ text) == 2
 
-  underscore-read : (text : List ℕ) → RunRead 95 text
-  unfolding atom_at markup_atom run_atom run_between
-  underscore-read text = (refl, refl)
+  abbrev marker_read : ℕ → List ℕ → Bool → AtomRead
+  marker_read m text struck = elim struck as (λ _. AtomRead) [ true ↦ run_read m text | false ↦ record { atom = Plain (replicate (run_length m (m ∷ text)) m); rest = after_run m (m ∷ text) } ]
 
-  abbrev tildes : List ℕ → Bool → AtomRead
-  tildes text both = or_byte 126 text (elim both as (λ _. Option AtomRead) [
-    | true ↦ read (Delimiter (run_between rules 126 (run_length 126 (126 ∷ text)) (reverse (take at source)) (after_run 126 (126 ∷ text)))) (after_run 126 (126 ∷ text))
-    | false ↦ read (Plain (replicate (run_length 126 (126 ∷ text)) 126)) (after_run 126 (126 ∷ text))
-  ])
+  tildes-read : (text : List ℕ) (both : Bool) → or_byte 126 text (elim both as (λ _. Option AtomRead) [ true ↦ Some (run_read 126 text) | false ↦ read (Plain (replicate (run_length 126 (126 ∷ text)) 126)) (after_run 126 (126 ∷ text)) ]) ≡ marker_read 126 text both
+  tildes-read text true = refl
+  tildes-read text false = refl
 
-  tildes-read : (text : List ℕ) (both : Bool) → ((tildes text both).rest ≡ after_run 126 (126 ∷ text)) × (alone (tildes text both).atom ≡ items.Characters (replicate (run_length 126 (126 ∷ text)) 126))
-  unfolding run_between
-  tildes-read text true = (refl, refl)
-  tildes-read text false = (refl, refl)
-
-  tilde-read : (text : List ℕ) → RunRead 126 text
+  marker-read : (m : Marker) (text : List ℕ) → atom_at rules (reverse (take at source)) (byte_of m) text ≡ marker_read (byte_of m) text (is_struck (byte_of m) text)
   unfolding atom_at markup_atom tilde_atom run_atom
-  tilde-read text = tildes-read text (rules.strike && run_length 126 (126 ∷ text) == 2)
+  marker-read Star text = refl
+  marker-read Underscore text = refl
+  marker-read Tilde text = tildes-read text (rules.strike && run_length 126 (126 ∷ text) == 2)
 
-  run-read : (m : ℕ) → is_run_marker m ≡ true → (text : List ℕ) → RunRead m text
-  run-read m is text = by (m == 42) (m == 95) (m == 126) refl refl refl is
-    where
-      by : (a b c : Bool) → (m == 42) ≡ a → (m == 95) ≡ b → (m == 126) ≡ c → (a || b || c) ≡ true → RunRead m text
-      by true b c p q r h = subst (λ d. RunRead d text) (sym (eqb-true m 42 p)) (star-read text)
-      by false true c p q r h = subst (λ d. RunRead d text) (sym (eqb-true m 95 q)) (underscore-read text)
-      by false false true p q r h = subst (λ d. RunRead d text) (sym (eqb-true m 126 r)) (tilde-read text)
-      by false false false p q r h = false-true h
+  marker-in : (m : Marker) → Stands source at (byte_of m) → atom_in rules source at ≡ marker_read (byte_of m) (drop (at + 1) source) (is_struck (byte_of m) (drop (at + 1) source))
+  marker-in m s = here rules source at (byte_of m) s ∙ marker-read m (drop (at + 1) source)
 
-  pub marker-run-is : (m end : ℕ) → Stands source at m → is_run_marker m ≡ true → end ≡ at + run_length m (drop at source) → drop end source ≡ after_run m (drop at source)
-      → IsCharBoundary source end → IsAtom rules source at (Piece at end) end
-  marker-run-is m end s is run left boundary =
-      let a = run-read m is (drop (at + 1) source) in
-      let f = front source at m s in
-      run-is m end (atom_at rules (reverse (take at source)) m (drop (at + 1) source)) s run left boundary (here rules source at m s)
-      (a.0 ∙ ap (after_run m) (sym f)) (a.1 ∙ ap (λ t. items.Characters (replicate (run_length m t) m)) (sym f))
+  pub marker-text-is : (m : Marker) (end : ℕ) → Stands source at (byte_of m) → (not (byte_of m == 126) || rules.strike && end - at == 2) ≡ false → end ≡ at + run_length (byte_of m) (drop at source)
+      → drop end source ≡ after_run (byte_of m) (drop at source) → IsCharBoundary source end → IsAtom rules source at (Piece at end) end
+  marker-text-is m end s struck run left boundary =
+      let b = byte_of m in
+      let f = front source at b s in
+      let count : end - at ≡ run_length b (b ∷ drop (at + 1) source) = omega (arith, run, ap (run_length b) f) in
+      run-is b end (marker_read b (drop (at + 1) source) false) s run left boundary
+      (marker-in m s ∙ ap (marker_read b (drop (at + 1) source)) (ap (λ n. not (b == 126) || rules.strike && n == 2) (sym count) ∙ struck))
+      (ap (after_run b) (sym f)) (ap (λ t. Some (items.Characters (replicate (run_length b t) b))) (sym f))
+
+  pub marker-run-is : (m : Marker) (run : DelimiterRun) (end : ℕ) → Stands source at (byte_of m) → (not (byte_of m == 126) || rules.strike && end - at == 2) ≡ true → end ≡ at + run_length (byte_of m) (drop at source)
+      → drop end source ≡ after_run (byte_of m) (drop at source) → IsCharBoundary source end → run_of run ≡ run_between rules (byte_of m) (end - at) (reverse (take at source)) (drop end source)
+      → IsAtom rules source at (Run run) end
+  unfolding run_between
+  marker-run-is m run end s struck size left boundary is =
+      let b = byte_of m in
+      let f = front source at b s in
+      let count : end - at ≡ run_length b (b ∷ drop (at + 1) source) = omega (arith, size, ap (run_length b) f) in
+      let same = marker-in m s ∙ ap (marker_read b (drop (at + 1) source)) (ap (λ n. not (b == 126) || rules.strike && n == 2) (sym count) ∙ struck) in
+      let rest = ap (after_run b) (sym f) ∙ sym left in
+      let low : at < end = further rules source at end s.within (ap (λ (t : AtomRead). t.rest) same ∙ rest) in
+      let whole : run.left ≡ end - at = ap (λ (r : delimiters.Run). r.left) is in
+      is-atom (Run run) end (run_read b (drop (at + 1) source)) s.within same rest
+      (ap (λ r. Some (items.Delimiters r)) (ap (λ n. run_between rules b n (reverse (take at source)) (after_run b (b ∷ drop (at + 1) source))) (sym count) ∙ ap (run_between rules b (end - at) (reverse (take at source))) rest ∙ sym is))
+      tt boundary (omega (arith, whole, low))
 
   -- a byte by itself
 
-  abbrev LoneRead : ℕ → Type 0
-  LoneRead b = ((atom_at rules (reverse (take at source)) b (drop (at + 1) source)).rest ≡ drop (at + 1) source) × (alone (atom_at rules (reverse (take at source)) b (drop (at + 1) source)).atom ≡ items.Characters (b ∷ []))
-
-  opening-read : LoneRead 91
-  unfolding atom_at markup_atom
-  opening-read = (refl, refl)
-
-  closing-read : LoneRead 93
-  unfolding atom_at markup_atom
-  closing-read = (refl, refl)
-
-  plain-read : (b : ℕ) → is_markup b ≡ false → atom_at rules (reverse (take at source)) b (drop (at + 1) source) ≡ byte_atom b (drop (at + 1) source)
+  pub lone-is : (b : ℕ) → IsUtf8 source → Stands source at b → b < 128 → is_markup b ≡ false → IsAtom rules source at (Piece at (at + 1)) (at + 1)
   unfolding atom_at
-  plain-read b e = ap (λ m. elim m as (λ _. AtomRead) [ true ↦ or_byte b (drop (at + 1) source) (markup_atom rules (reverse (take at source)) b (drop (at + 1) source)) | false ↦ byte_atom b (drop (at + 1) source) ]) e
-
-  pub lone-is : (b : ℕ) → IsUtf8 source → Stands source at b → b < 128 → is_lone_byte b ≡ true → IsAtom rules source at (Piece at (at + 1)) (at + 1)
-  lone-is b utf8 s ascii is =
-      let a = by (b == 91) (b == 93) (is_markup b) refl refl refl is in
-      byte-is b (atom_at rules (reverse (take at source)) b (drop (at + 1) source)) utf8 s ascii (here rules source at b s) a.0 a.1
-    where
-      by : (x y m : Bool) → (b == 91) ≡ x → (b == 93) ≡ y → is_markup b ≡ m → (x || y || not m) ≡ true → LoneRead b
-      by true y m p q r h = subst LoneRead (sym (eqb-true b 91 p)) opening-read
-      by false true m p q r h = subst LoneRead (sym (eqb-true b 93 q)) closing-read
-      by false false true p q r h = false-true h
-      by false false false p q r h = (ap (λ (t : AtomRead). t.rest) (plain-read b r), ap (λ (t : AtomRead). alone t.atom) (plain-read b r))
+  lone-is b utf8 s ascii lone =
+      byte-is b (byte_atom b (drop (at + 1) source)) utf8 s ascii
+      (here rules source at b s ∙ ap (λ m. elim m as (λ _. AtomRead) [ true ↦ or_byte b (drop (at + 1) source) (markup_atom rules (reverse (take at source)) b (drop (at + 1) source)) | false ↦ byte_atom b (drop (at + 1) source) ]) lone) refl refl
 
 -- a byte that is none of those
-pub lone-byte : (b : ℕ) → (b ≡ 10 → ⊥) → (b ≡ 32 → ⊥) → (b ≡ 33 → ⊥) → (b ≡ 38 → ⊥) → (b ≡ 42 → ⊥) → (b ≡ 60 → ⊥) → (b ≡ 92 → ⊥) → (b ≡ 95 → ⊥) → (b ≡ 96 → ⊥) → (b ≡ 126 → ⊥)
-    → is_lone_byte b ≡ true
-lone-byte b feed space bang ampersand star angle slash underscore tick tilde =
-    rw (not-same b 10 feed, not-same b 32 space, not-same b 33 bang, not-same b 38 ampersand, not-same b 42 star, not-same b 60 angle, not-same b 92 slash, not-same b 95 underscore, not-same b 96 tick, not-same b 126 tilde)
-    (go (b == 91) (b == 93))
-  where
-    go : (x y : Bool) → (x || y || not (false || x || false || y || false || false || false)) ≡ true
-    go true y = refl
-    go false true = refl
-    go false false = refl
+pub lone-byte : (b : ℕ) → (b ≡ 10 → ⊥) → (b ≡ 32 → ⊥) → (b ≡ 33 → ⊥) → (b ≡ 38 → ⊥) → (b ≡ 42 → ⊥) → (b ≡ 60 → ⊥) → (b ≡ 91 → ⊥) → (b ≡ 92 → ⊥) → (b ≡ 93 → ⊥) → (b ≡ 95 → ⊥) → (b ≡ 96 → ⊥) → (b ≡ 126 → ⊥)
+    → is_markup b ≡ false
+lone-byte b feed space bang ampersand star angle left slash right underscore tick tilde =
+    rw (not-same b 10 feed, not-same b 32 space, not-same b 33 bang, not-same b 38 ampersand, not-same b 42 star, not-same b 60 angle, not-same b 91 left, not-same b 92 slash, not-same b 93 right, not-same b 95 underscore, not-same b 96 tick, not-same b 126 tilde) refl

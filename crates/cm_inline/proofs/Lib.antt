@@ -10,11 +10,14 @@ pub mod OpenerLemmas
 pub mod NodeLemmas
 pub mod DepthLemmas
 pub mod PairLemmas
-pub mod AloneLemmas
 pub mod AtomLemmas
+pub mod SliceLemmas
 pub mod TextLemmas
+pub mod BracketLemmas
 pub mod CodeLemmas
 pub mod EndsLemmas
 pub mod DeeperLemmas
 pub mod LabelLemmas
 pub mod LinkLemmas
+pub mod ReaderLemmas
+pub mod WholeLemmas

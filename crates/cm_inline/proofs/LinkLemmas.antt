@@ -15,7 +15,7 @@ use Rattle.cm_scan.proofs.LeftLemmas.{end_at-end}
 use Rattle.cm_inline.specs.declared.links.LinkEnd.{LinkEnd}
 use Rattle.cm_inline.specs.steps.Reads.{Stands}
 use Rattle.cm_inline.specs.steps.Links.{ends_of, leads_to, behind_brackets}
-use Rattle.cm_inline.proofs.AloneLemmas.{slice-front}
+use Rattle.cm_inline.proofs.SliceLemmas.{slice-front}
 use Rattle.cm_inline.proofs.LabelLemmas.{label_between, no_label_between}
 
 -- The next byte

@@ -1,5 +1,5 @@
 -- Where a text ends.
-use Rattle.std.proofs.Common.{◌≡◌, ℕ, zero, suc, ◌+◌, ◌-◌, ◌<◌, ◌≤◌, ◌==◌, ◌&&◌, ◌||◌, not, Bool, true, false, List, [], ◌∷◌, ◌++◌, length, take, drop, get_or, replicate, refl, sym, ap, subst, ◌∙◌, arith, append_assoc, append-nil, length-append, length-drop, get_or-drop, drop-drop, take_all, reverse}
+use Rattle.std.proofs.Common.{◌≡◌, ℕ, zero, suc, ◌+◌, ◌-◌, ◌<◌, ◌≤◌, ◌==◌, ◌&&◌, ◌||◌, not, Bool, true, false, List, [], ◌∷◌, ◌++◌, length, take, drop, get_or, replicate, refl, sym, ap, subst, ◌∙◌, arith, append_assoc, length-append, length-drop, get_or-drop, drop-drop, take_all}
 use Rattle.std.specs.Prelude.{min, nat_lt, cond, if◌then◌else◌}
 use Rattle.std.specs.List.{list_all, slice_range, position_or_len}
 use Rattle.std.specs.Str.{IsCharBoundary}
@@ -11,14 +11,12 @@ use Rattle.cm_text.specs.Search.{next_place, is_marked}
 use Rattle.cm_scan.specs.Words.{begins_with, keep_byte, trim_end_by, trim_end_spaces}
 use Rattle.cm_scan.specs.Autolinks.{ends_with}
 use Rattle.cm_scan.specs.InlineLaws.{is_plain_byte, keeps_spaces}
-use Rattle.cm_scan.proofs.InlineLemmas.{unmarked_is_plain}
+use Rattle.cm_scan.proofs.InlineLemmas.{unmarked_is_plain, plain_is_itself}
 use Rattle.cm_text.specs.Rules.{Rules}
 use Rattle.cm_tree.specs.declared.tree.Inline.TheVariants.{Text}
-use Rattle.cm_scan.specs.Pairing.{Item, settled_after}
-use Rattle.cm_scan.specs.Pieces.{one_by_one}
-use Rattle.cm_scan.proofs.PiecesLemmas.{settled-one_by_one}
-use Rattle.cm_inline.specs.Alone.{alone_after, inlines_alone}
-use Rattle.cm_inline.proofs.AloneLemmas.{slice-front, plain-front}
+use Rattle.cm_scan.specs.Brackets.{Defined}
+use Rattle.cm_scan.specs.Inlines.{inlines_of}
+use Rattle.cm_inline.proofs.SliceLemmas.{slice-front}
 use Rattle.cm_inline.specs.steps.Reads.{IsTextTo}
 
 -- the bytes up to the first that is looked for
@@ -187,14 +185,6 @@ plain-to-end source e =
     let all : length source - 0 ≡ length source = omega arith in
     sym (ap (list_all is_plain_byte) (ap (λ n. take n source) all ∙ take_all (length source) source (omega arith))) ∙ found.plain
 
-nothing-behind : (rules : Rules) (items : List Item) (before : List ℕ) → items ++ alone_after rules zero before [] ≡ items
-unfolding alone_after
-nothing-behind rules items before = append-nil items
-
-pub one-text : (rules : Rules) (source : List ℕ) → (length source == 0) ≡ false → length source ≡ next_place is_marked source 0 → inlines_alone rules source ≡ Text source ∷ []
-unfolding settled_after
-one-text rules [] some e = absurd (cc some)
-one-text rules (b ∷ bs) some e =
-    let source = b ∷ bs in
-    let alone = ap (λ t. alone_after rules zero [] t) (sym (append-nil source)) ∙ plain-front rules [] source [] (plain-to-end source e) refl ∙ nothing-behind rules (one_by_one source) (reverse source ++ []) in
-    ap (settled_after []) (alone ∙ sym (append-nil (one_by_one source))) ∙ settled-one_by_one [] source []
+pub one-text : (rules : Rules) (defined : Defined) (source : List ℕ) → (length source == 0) ≡ false → length source ≡ next_place is_marked source 0 → inlines_of rules defined source ≡ Text source ∷ []
+one-text rules defined [] some e = absurd (cc some)
+one-text rules defined (b ∷ bs) some e = plain_is_itself rules defined (b ∷ bs) (plain-to-end (b ∷ bs) e)

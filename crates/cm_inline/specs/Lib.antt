@@ -1,4 +1,2 @@
-pub mod Alone
-pub mod Examples
 pub mod Reading
 pub mod steps

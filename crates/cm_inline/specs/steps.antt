@@ -1,3 +1,4 @@
+pub mod Brackets
 pub mod Depths
 pub mod Entries
 pub mod Links

@@ -1,5 +1,5 @@
 //! The atoms of a leaf's source: what begins at a place (CommonMark 0.31.2, chapter 6).
-ghost use Rattle.std.specs.Prelude.{◌≡◌, ◌+◌, ◌<◌, ◌≤◌, ℕ, List, true, false, length, drop, slice_index, nat_le, if◌then◌else◌, IfOk, OnOk, IfSome, IsUtf8};
+ghost use Rattle.std.specs.Prelude.{◌≡◌, ◌≢◌, ◌==◌, ◌+◌, ◌<◌, ◌≤◌, ◌&&◌, ◌||◌, not, ℕ, List, true, false, length, drop, slice_index, nat_le, if◌then◌else◌, IfOk, OnOk, IfSome, IsUtf8};
 ghost use Rattle.std.specs.Str.{IsCharBoundary};
 ghost use Rattle.cm_tree.specs.declared.tree.Inline.TheVariants.{Soft, Hard};
 ghost use Rattle.cm_scan.specs.RawHtml.{raw_html};
@@ -8,12 +8,15 @@ ghost use Rattle.cm_scan.specs.Atoms.{link_of};
 ghost use Rattle.cm_scan.specs.Words.{begins_with};
 ghost use Rattle.cm_text.specs.Rules.{Rules};
 ghost use Rattle.cm_inline.specs.steps.Missing.{Knows};
-ghost use Rattle.cm_inline.specs.declared.nodes.Node.TheVariants.{Piece};
-ghost use Rattle.cm_inline.specs.steps.Reads.{Stands, IsTextTo, IsAtom, is_break_byte, is_run_marker};
+ghost use Rattle.cm_inline.specs.declared.nodes.Node.TheVariants.{Piece, Opener};
+ghost use Rattle.cm_inline.specs.steps.Reads.{Stands, IsTextTo, IsAtom, is_break_byte};
+ghost use Rattle.cm_inline.specs.steps.Runs.{byte_of};
 
 use crate::code::content_of;
 use crate::ends::{Ends, form_at};
+use crate::flanking::run_between;
 use crate::nodes::Node;
+use crate::runs::Marker;
 use cm_scan::{Autolink, after_run, autolink, code_span, raw_html_by, trim_end_spaces};
 use cm_text::{Rules, is_ascii_punct, next_markup, reference_at};
 use cm_tree::{Inline, Items, Text};
@@ -32,7 +35,7 @@ pub(crate) fn text_end(source: &str, at: usize) -> usize
     end
 }
 
-/// What begins at a place, and where it ends.
+/// What begins at a place where no `]` stands, and where it ends.
 pub(crate) fn atom(
     alloc: Global,
     rules: Rules,
@@ -43,6 +46,7 @@ pub(crate) fn atom(
     requires within { at < length source.now }
     requires boundary { IsCharBoundary source.now at }
     requires ascii { slice_index source.now at < 128 }
+    requires other { slice_index source.now at ≢ 93 }
     requires knows { Knows source.now ends.old }
     ensures atom { IfOk result (λ read. IsAtom rules source.now at read.0 read.1) }
     ensures knows { OnOk result (Knows source.now ends.new) }
@@ -56,9 +60,10 @@ pub(crate) fn atom(
         b'\n' => Ok(line_break(source, at)),
         b' ' => Ok(line_break(source, at)),
         b'!' => Ok(exclamation_mark(source, at)),
-        b'*' => Ok(run(source, b'*', at)),
-        b'_' => Ok(run(source, b'_', at)),
-        b'~' => Ok(run(source, b'~', at)),
+        b'[' => Ok(opener(false, at + 1)),
+        b'*' => Ok(run(rules, source, Marker::Star, at)),
+        b'_' => Ok(run(rules, source, Marker::Underscore, at)),
+        b'~' => Ok(run(rules, source, Marker::Tilde, at)),
         _ => Ok(text(at, at + 1)),
     }
 }
@@ -69,6 +74,14 @@ fn text(at: usize, end: usize) -> (Node, usize)
     ensures { result ≡ (Piece at end, end) }
 {
     (Node::Piece { from: at, to: end }, end)
+}
+
+/// `[` or `![`, which ends at a place.
+#[inline(always)]
+fn opener(image: bool, behind: usize) -> (Node, usize)
+    ensures { result ≡ (Opener image behind, behind) }
+{
+    (Node::Opener { image, behind }, behind)
 }
 
 /// Whether this byte stands at a place.
@@ -236,16 +249,26 @@ fn exclamation_mark(source: &str, at: usize) -> (Node, usize)
     ensures { (rules : Rules) → IsAtom rules source.now at result.0 result.1 }
 {
     if is_at(source, at + 1, b'[') {
-        return text(at, at + 2);
+        return opener(true, at + 2);
     }
     text(at, at + 1)
 }
 
-/// A run of a marker.
-fn run(source: &str, marker: u8, at: usize) -> (Node, usize)
-    requires stands { Stands source.now at marker }
-    requires marker { is_run_marker marker ≡ true }
-    ensures { (rules : Rules) → IsAtom rules source.now at result.0 result.1 }
+/// Whether so many of a marker are a delimiter run: tildes are one only if strikethrough is on and there are two.
+fn is_run(rules: Rules, marker: Marker, count: usize) -> bool
+    ensures { result ≡ (not (byte_of marker == 126) || rules.strike && count == 2) }
 {
-    text(at, after_run(marker, source, at))
+    marker.byte() != b'~' || rules.strike() && count == 2
+}
+
+/// A delimiter run, or its characters as text (6.2 Emphasis and strong emphasis).
+fn run(rules: Rules, source: &str, marker: Marker, at: usize) -> (Node, usize)
+    requires { Stands source.now at (byte_of marker) }
+    ensures { IsAtom rules source.now at result.0 result.1 }
+{
+    let end = after_run(marker.byte(), source, at);
+    if !is_run(rules, marker, end - at) {
+        return text(at, end);
+    }
+    (Node::Run(run_between(rules, source, marker, at, end)), end)
 }

@@ -2,11 +2,12 @@
 #![tactic(auto)]
 
 mod atoms;
+mod brackets;
 mod code;
 mod delimiters;
 mod ends;
 mod fault;
-pub mod laws;
+mod flanking;
 mod links;
 mod nearest;
 mod nodes;

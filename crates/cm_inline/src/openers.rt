@@ -8,7 +8,7 @@ ghost use Rattle.cm_inline.specs.steps.Openers.{spent, IsClosing, Begins, FindsN
 use crate::delimiters::{Delimiter, DelimiterList, Place};
 use crate::nearest::nearest;
 use crate::runs::{DelimiterRun, kind};
-use std::alloc::AllocError;
+use std::alloc::{AllocError, Global};
 
 /// The list of runs, and for each kind of closer a number below which no entry opens for it.
 #[derive(Drop)]
@@ -18,6 +18,16 @@ pub(crate) struct Openers {
 }
 
 impl Openers {
+    /// No run, and no bottom.
+    pub(crate) fn new(alloc: Global) -> Openers
+        ensures { result.list.looks ≡ 0 }
+    {
+        Openers {
+            list: DelimiterList::new(alloc),
+            bottoms: [0; 13],
+        }
+    }
+
     /// Takes all runs out, and forgets the bottoms. How often a run was looked at stays.
     pub(crate) fn clear(&mut self)
         ensures entries { self.new.list.entries ≡ [] }

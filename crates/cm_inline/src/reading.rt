@@ -1,61 +1,93 @@
 //! The inlines of a leaf.
-ghost use Rattle.std.specs.Prelude.{◌≡◌, ◌≤◌, [], ◌∷◌, IfOk, IsTrue, Err};
+ghost use Rattle.std.specs.Prelude.{◌≡◌, ◌<◌, ℕ, [], ◌∷◌, true, length, IfOk, IsTrue, Err};
 ghost use Rattle.cm_text.specs.Rules.{Rules, profile};
 ghost use Rattle.cm_tree.specs.declared.tree.Inline.TheVariants.{Text};
+ghost use Rattle.cm_scan.specs.Brackets.{Defined, defined_in};
+ghost use Rattle.cm_scan.specs.Pairing.{emphasis_of};
 ghost use Rattle.cm_scan.specs.Pieces.{in_pieces};
-ghost use Rattle.cm_inline.specs.Alone.{alone_in, inlines_alone};
-ghost use Rattle.cm_inline.specs.declared.fault.InlineFault.TheVariants as faults;
+ghost use Rattle.cm_scan.specs.Inlines as inlines;
+ghost use Rattle.cm_tree.specs.Depth.{inlines_depth};
+ghost use Rattle.cm_inline.specs.declared.fault.InlineFault.TheVariants.{InlinesTooDeep};
 ghost use Rattle.cm_inline.specs.Reading.{Reads};
-ghost use Rattle.cm_inline.specs.steps.Nodes.{items_of, nodes_depth, AreParts};
+ghost use Rattle.cm_inline.specs.steps.Brackets.{IsReadTo};
+ghost use Rattle.cm_inline.specs.steps.Nodes.{items_of};
+ghost use Rattle.cm_inline.specs.steps.Reads.{ahead};
 
 use crate::atoms::{atom, text_end};
-use crate::ends::Ends;
+use crate::brackets::Reader;
 use crate::fault::InlineFault;
-use crate::nodes::{Node, push_text, settle};
+use crate::nodes::push_text;
+use crate::pairing::emphasis_of;
 use cm_text::{Rules, next_markup};
-use cm_tree::{Definitions, Inline, Items, inline_depth};
-use std::alloc::{AllocError, Global};
+use cm_tree::{Definitions, Inline, Items};
+use std::alloc::Global;
 
 /// How many openers the pairing of delimiter runs has looked at.
 #[derive(Clone, Copy, Debug, PartialEq, Eq)]
 pub struct Steps(pub u128);
 
-/// The nodes of a source, in one pass over it.
-fn nodes_of(alloc: Global, rules: Rules, source: &str) -> Result<Vec<Node>, AllocError>
-    ensures items { IfOk result (λ nodes. in_pieces (items_of source.now nodes.items) ≡ in_pieces (alone_in rules source.now)) }
-    ensures parts { IfOk result (λ nodes. AreParts source.now nodes.items) }
-    ensures shallow { IfOk result (λ nodes. nodes_depth nodes.items ≤ 1) }
+/// Reads the text at a place and what follows it, and answers where that ends.
+fn read_on(
+    alloc: Global,
+    rules: Rules,
+    source: &str,
+    definitions: &Definitions,
+    limit: usize,
+    reader: &mut Reader,
+    at: usize,
+) -> Result<usize, InlineFault>
+    requires read { IsReadTo source.now at reader.old }
+    requires within { at < length source.now }
+    ensures read { IfOk result (λ end. IsReadTo source.now end reader.new) }
+    ensures further { IfOk result (λ end. at < end) }
+    ensures ahead { IfOk result (λ end. ahead rules (defined_in definitions.now) source.now reader.new.nodes.items end ≡ ahead rules (defined_in definitions.now) source.now reader.old.nodes.items at) }
+    ensures deep { result ≡ Err InlinesTooDeep → limit < inlines_depth (emphasis_of (ahead rules (defined_in definitions.now) source.now reader.old.nodes.items at)) }
 {
-    let mut nodes = Vec::new(alloc);
-    let mut ends = Ends::of(source);
-    let mut at = 0;
-    while at < source.len() {
-        let end = text_end(source, at);
-        push_text(&mut nodes, at, end)?;
-        at = end;
-        if at < source.len() {
-            let (node, behind) = atom(alloc, rules, source, at, &mut ends)?;
-            nodes.push(node)?;
-            at = behind;
-        }
+    let end = text_end(source, at);
+    push_text(&mut reader.nodes, at, end)?;
+    if end == source.len() {
+        return Ok(end);
     }
-    Ok(nodes)
+    if source.as_bytes()[end] == b']' {
+        return reader.close(alloc, source, definitions, limit, end);
+    }
+    let (node, behind) = atom(alloc, rules, source, end, &mut reader.ends)?;
+    reader.add(node)?;
+    Ok(behind)
 }
 
-/// Whether a source is nothing but text, so that it is its one inline itself. It takes no memory.
+/// Reads a source to its end, in one pass.
+fn read_all(
+    alloc: Global,
+    rules: Rules,
+    source: &str,
+    definitions: &Definitions,
+    limit: usize,
+) -> Result<Reader, InlineFault>
+    ensures read { IfOk result (λ reader. IsReadTo source.now (length source.now) reader) }
+    ensures items { IfOk result (λ reader. in_pieces (items_of source.now reader.nodes.items) ≡ in_pieces (inlines.items_of rules (defined_in definitions.now) source.now)) }
+    ensures deep { result ≡ Err InlinesTooDeep → inlines.nests_past rules (defined_in definitions.now) limit source.now ≡ true }
+{
+    let mut reader = Reader::of(alloc, source);
+    let mut at = 0;
+    while at < source.len() {
+        at = read_on(alloc, rules, source, definitions, limit, &mut reader, at)?;
+    }
+    Ok(reader)
+}
+
+/// Whether a source is nothing but text, so that it is its one inline itself, by all rules and whatever is defined. It
+/// takes no memory.
 ///
 /// Where it isn't known at once, it answers false.
 pub fn is_one_text(source: &str) -> bool
-    ensures { IsTrue result → (rules : Rules) → inlines_alone rules source.now ≡ Text source.now ∷ [] }
+    ensures { IsTrue result → (rules : Rules) (defined : Defined) → inlines.inlines_of rules defined source.now ≡ Text source.now ∷ [] }
 {
     !source.is_empty() && next_markup(source.as_bytes(), 0) == source.len()
 }
 
-/// The inlines of a leaf with this source, whose lines are parted by line feeds, and how many openers were looked
-/// at (CommonMark 0.31.2, chapter 6).
-///
-/// As yet brackets and delimiter runs are text. So no definition counts, no opener is looked at, and inlines nest
-/// once at most.
+/// The inlines of a leaf with this source, whose lines are parted by line feeds, in a document with these
+/// definitions, and how many openers were looked at (CommonMark 0.31.2, chapter 6).
 ///
 /// # Errors
 ///
@@ -67,8 +99,7 @@ pub fn inlines(
     definitions: &Definitions,
     limit: usize,
 ) -> Result<(Items<Inline>, Steps), InlineFault>
-    ensures reads { Reads result profile limit source.now }
-    ensures flat { result ≡ Err faults.InlinesTooDeep → limit ≡ 0 }
+    ensures { Reads result profile definitions.now limit source.now }
 {
     inlines_by(alloc, Rules::profile(), source, definitions, limit)
 }
@@ -78,16 +109,15 @@ pub fn inlines_by(
     alloc: Global,
     rules: Rules,
     source: &str,
-    _definitions: &Definitions,
+    definitions: &Definitions,
     limit: usize,
 ) -> Result<(Items<Inline>, Steps), InlineFault>
-    ensures reads { Reads result rules limit source.now }
-    ensures flat { result ≡ Err faults.InlinesTooDeep → limit ≡ 0 }
+    ensures { Reads result rules definitions.now limit source.now }
 {
-    let nodes = nodes_of(alloc, rules, source)?;
-    let content = settle(alloc, source, nodes)?;
-    if inline_depth(content.as_slice()) > limit {
+    let mut reader = read_all(alloc, rules, source, definitions, limit)?;
+    let (content, depth) = emphasis_of(alloc, source, limit, reader.nodes, &mut reader.openers)?;
+    if depth > limit {
         return Err(InlineFault::InlinesTooDeep);
     }
-    Ok((content, Steps(0)))
+    Ok((content, Steps(reader.openers.list.looks())))
 }

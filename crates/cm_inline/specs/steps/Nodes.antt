@@ -1,5 +1,5 @@
 -- The list of nodes into which a source is read.
-use Rattle.std.specs.Prelude.{◌≡◌, ℕ, ◌≤◌, nat_lt, if◌then◌else◌, Bool, true, false, List, [], ◌∷◌, ◌++◌, drop, map, replicate, encode_utf8_all, Option, Some, None, ⊤}
+use Rattle.std.specs.Prelude.{◌≡◌, ℕ, ◌+◌, ◌≤◌, nat_lt, if◌then◌else◌, Bool, true, false, List, [], ◌∷◌, ◌++◌, length, drop, map, replicate, encode_utf8_all, Option, Some, None, ⊤}
 use Rattle.std.specs.List.{slice_range}
 use Rattle.std.specs.Str.{IsCharBoundary}
 use Rattle.cm_text.specs.References.{chars_of}
@@ -77,13 +77,21 @@ abbrev pub behind_texts : List Node → List Node
 behind_texts [] = []
 behind_texts (node ∷ nodes) = elim (is_text node) [ true ↦ behind_texts nodes | false ↦ node ∷ nodes ]
 
+-- `[` or `![` ends at this place.
+pub record IsOpener (source : List ℕ) (image : Bool) (behind : ℕ) : Type 0 where
+  pub at : ℕ
+  pub place : at + length (items.bracket_text image) ≡ behind
+  pub front : drop at source ≡ items.bracket_text image ++ drop behind source
+  pub start : IsCharBoundary source at
+  pub end : IsCharBoundary source behind
+
 -- The places between which a piece lies part characters of the source, and an inline nests as deep as is said.
 abbrev pub IsPart : List ℕ → Node → Type 0
 IsPart source (Piece from to) = (from ≤ to) × IsCharBoundary source from × IsCharBoundary source to
 IsPart source (Characters chars) = ⊤
 IsPart source (Finished inline depth holds_link) = depth_of inline ≡ depth
 IsPart source (Run run) = ⊤
-IsPart source (Opener image behind) = ⊤
+IsPart source (Opener image behind) = IsOpener source image behind
 
 abbrev pub AreParts : List ℕ → List Node → Type 0
 AreParts source [] = ⊤

@@ -1,13 +1,17 @@
 -- One atom of a source as a node.
-use Rattle.std.specs.Prelude.{◌≡◌, ℕ, ◌+◌, ◌<◌, ◌≤◌, ◌==◌, ◌||◌, Bool, true, not, List, length, take, drop, reverse, slice_index}
+use Rattle.std.specs.Prelude.{◌≡◌, ℕ, zero, ◌+◌, ◌-◌, ◌*◌, ◌<◌, ◌≤◌, ◌==◌, ◌||◌, Bool, true, List, Option, Some, None, length, take, drop, reverse, slice_index}
 use Rattle.std.specs.List.{list_all, slice_range}
 use Rattle.std.specs.Str.{IsCharBoundary}
 use Rattle.cm_text.specs.Rules.{Rules}
-use Rattle.cm_scan.specs.Atoms.{AtomRead, is_markup, atom_at}
+use Rattle.cm_scan.specs.Pairing as items
+use Rattle.cm_scan.specs.Atoms.{Atom, Plain, Whole, Delimiter, OpenBracket, CloseBracket, AtomRead, atom_at}
+use Rattle.cm_scan.specs.Pieces.{in_pieces}
+use Rattle.cm_scan.specs.Brackets.{Defined}
+use Rattle.cm_scan.specs.Inlines.{items_after}
 use Rattle.cm_scan.specs.InlineLaws.{is_plain_byte, keeps_spaces}
 use Rattle.cm_inline.specs.declared.nodes.Node.{Node}
-use Rattle.cm_inline.specs.Alone.{alone}
-use Rattle.cm_inline.specs.steps.Nodes.{item_of, node_depth, IsPart}
+use Rattle.cm_inline.specs.steps.Nodes.{item_of, items_of, IsPart}
+use Rattle.cm_inline.specs.steps.Pairs.{allowed}
 
 -- this byte stands at the place, where a character begins
 pub record Stands (source : List ℕ) (at b : ℕ) : Type 0 where
@@ -27,24 +31,28 @@ pub record IsTextTo (source : List ℕ) (at end : ℕ) : Type 0 where
   pub spaces : keeps_spaces (drop end source) (slice_range source at end) ≡ true
   pub ascii : end < length source → slice_index source end < 128
 
--- a byte of which a run is read
-abbrev pub is_run_marker : ℕ → Bool
-is_run_marker b = b == 42 || b == 95 || b == 126
-
 -- a byte with which a line break can begin
 abbrev pub is_break_byte : ℕ → Bool
 is_break_byte b = b == 10 || b == 32
 
--- a byte that is read alone, as far as brackets are text
-abbrev pub is_lone_byte : ℕ → Bool
-is_lone_byte b = b == 91 || b == 93 || not (is_markup b)
+-- what an atom puts among the items; a `]` puts nothing by itself
+abbrev pub item_for : Atom → List ℕ → Option items.Item
+item_for (Plain text) rest = Some (items.Characters text)
+item_for (Whole inline) rest = Some (items.Finished inline)
+item_for (Delimiter run) rest = Some (items.Delimiters run)
+item_for (OpenBracket image) rest = Some (items.Opener image rest)
+item_for CloseBracket rest = None
 
--- The node is the atom at the place, which ends at the other.
+-- The node is the atom at the place, which ends at the other, and fifteen looks for each of its bytes are enough for it.
 pub record IsAtom (rules : Rules) (source : List ℕ) (at : ℕ) (node : Node) (end : ℕ) : Type 0 where
   pub rest : (atom_in rules source at).rest ≡ drop end source
-  pub item : item_of source node ≡ alone (atom_in rules source at).atom
+  pub item : item_for (atom_in rules source at).atom (atom_in rules source at).rest ≡ Some (item_of source node)
   pub part : IsPart source node
   pub further : at < end
   pub within : end ≤ length source
   pub boundary : IsCharBoundary source end
-  pub shallow : node_depth node ≤ 1
+  pub paid : allowed (item_of source node) ≤ 15 * (end - at)
+
+-- the items to which reading on from a place brings these nodes, with each text in pieces of a byte
+abbrev pub ahead : Rules → Defined → List ℕ → List Node → ℕ → List items.Item
+ahead rules defined source nodes at = in_pieces (reverse (items_after rules defined zero (reverse (take at source)) (drop at source) (reverse (items_of source nodes))))

@@ -1,7 +1,9 @@
 -- What values of the program stand for.
 use Rattle.std.specs.Prelude.{◌≡◌, ℕ, Option, Some, None, List, [], ◌∷◌}
 use Rattle.cm_scan.specs.Delimiters.{Run}
+use Rattle.cm_scan.specs.Delimiters as delimiters
 use Rattle.cm_scan.specs.Pairing.{Item}
+use Rattle.cm_inline.specs.declared.flanking.Neighbour.{Neighbour}
 use Rattle.cm_inline.specs.declared.runs.DelimiterRun.{DelimiterRun}
 use Rattle.cm_inline.specs.steps.Entries.{Entry}
 use Rattle.cm_inline.specs.declared.runs.Marker.{Marker}
@@ -11,6 +13,11 @@ abbrev pub byte_of : Marker → ℕ
 byte_of Marker.Star = 42
 byte_of Marker.Underscore = 95
 byte_of Marker.Tilde = 126
+
+abbrev pub neighbour_of : Neighbour → delimiters.Neighbour
+neighbour_of Neighbour.Whitespace = delimiters.whitespace
+neighbour_of Neighbour.Punctuation = delimiters.punctuation
+neighbour_of Neighbour.Other = delimiters.other
 
 abbrev pub run_of : DelimiterRun → Run
 run_of r = record { character = byte_of r.marker; whole = r.whole; left = r.left; opens = r.opens; closes = r.closes }

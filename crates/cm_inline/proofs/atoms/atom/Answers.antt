@@ -1,7 +1,7 @@
-use Rattle.std.proofs.Common.{◌≡◌, ◌+◌, ◌<◌, get_or, sym, ap, arith}
-use Rattle.cm_inline.specs.declared.nodes.Node.TheVariants.{Piece}
+use Rattle.std.proofs.Common.{false, ◌≡◌, ◌+◌, ◌<◌, get_or, sym, ap, ◌∙◌, arith}
+use Rattle.cm_inline.specs.declared.nodes.Node.TheVariants.{Piece, Opener}
 use Rattle.cm_inline.specs.steps.Reads.{Stands}
-use Rattle.cm_inline.proofs.AtomLemmas.{told, lone-is, lone-byte}
+use Rattle.cm_inline.proofs.AtomLemmas.{told, opener-is, lone-is, lone-byte}
 use Rattle.cm_inline.proofs.atoms.atom.Goals as goal
 
 pub returns-in-92-clause-atom : goal.returns-in-92-clause-atom
@@ -20,13 +20,13 @@ pub returns-in-33-clause-atom : goal.returns-in-33-clause-atom
 returns-in-33-clause-atom c = c.exclamation_mark.ensures c.args.rules
 
 pub returns-in-42-clause-atom : goal.returns-in-42-clause-atom
-returns-in-42-clause-atom c = c.run.ensures c.args.rules
+returns-in-42-clause-atom c = c.run.ensures
 
 pub returns-in-95-clause-atom : goal.returns-in-95-clause-atom
-returns-in-95-clause-atom c = c.run-in-95.ensures c.args.rules
+returns-in-95-clause-atom c = c.run-in-95.ensures
 
 pub returns-in-126-clause-atom : goal.returns-in-126-clause-atom
-returns-in-126-clause-atom c = c.run-in-126.ensures c.args.rules
+returns-in-126-clause-atom c = c.run-in-126.ensures
 
 pub returns-in_default-clause-atom : goal.returns-in_default-clause-atom
 returns-in_default-clause-atom c =
@@ -35,6 +35,12 @@ returns-in_default-clause-atom c =
     let byte : get_or source c.args.at 0 ≡ b = ap (λ t. get_or t c.args.at 0) (sym c.as_bytes.ensures.value) in
     let stands : Stands source c.args.at b = record { within = c.requires.within; boundary = c.requires.boundary; byte = byte } in
     let ascii : b < 128 = omega (arith, byte, c.requires.ascii) in
-    let lone = lone-byte b (λ e. absurd (omega (arith, e))) (λ e. absurd (omega (arith, e))) (λ e. absurd (omega (arith, e))) (λ e. absurd (omega (arith, e))) (λ e. absurd (omega (arith, e)))
-    (λ e. absurd (omega (arith, e))) (λ e. absurd (omega (arith, e))) (λ e. absurd (omega (arith, e))) (λ e. absurd (omega (arith, e))) (λ e. absurd (omega (arith, e))) in
+    let lone = lone-byte b (λ e. absurd (omega (arith, e))) (λ e. absurd (omega (arith, e))) (λ e. absurd (omega (arith, e))) (λ e. absurd (omega (arith, e))) (λ e. absurd (omega (arith, e))) (λ e. absurd (omega (arith, e)))
+    (λ e. absurd (omega (arith, e))) (λ e. absurd (omega (arith, e))) (λ e. c.requires.other (byte ∙ e)) (λ e. absurd (omega (arith, e))) (λ e. absurd (omega (arith, e))) (λ e. absurd (omega (arith, e))) in
     told c.args.rules source c.args.at c.text.result (Piece c.args.at (c.args.at + 1)) (c.args.at + 1) c.text.ensures (lone-is c.args.rules source c.args.at b c.utf8.source stands ascii lone)
+
+pub returns-in-91-clause-atom : goal.returns-in-91-clause-atom
+returns-in-91-clause-atom c =
+    let source = c.args.source.now in
+    let byte : get_or source c.args.at 0 ≡ 91 = ap (λ t. get_or t c.args.at 0) (sym c.as_bytes.ensures.value) ∙ c.in-91.is in
+    told c.args.rules source c.args.at c.opener.result (Opener false (c.args.at + 1)) (c.args.at + 1) c.opener.ensures (opener-is c.args.rules source c.args.at c.utf8.source (record { within = c.requires.within; boundary = c.requires.boundary; byte = byte }))

@@ -1,14 +1,14 @@
-use Rattle.std.proofs.Common.{◌+◌, sym, ◌∙◌}
-use Rattle.cm_inline.specs.declared.nodes.Node.TheVariants.{Piece}
+use Rattle.std.proofs.Common.{◌+◌, true, sym, ◌∙◌}
+use Rattle.cm_inline.specs.declared.nodes.Node.TheVariants.{Piece, Opener}
 use Rattle.cm_inline.proofs.AtomLemmas.{told, image-is, bang-is-text}
 use Rattle.cm_inline.proofs.atoms.exclamation_mark.Goals as goal
 
 pub returns-then-is_at : goal.returns-then-is_at
 returns-then-is_at c =
-    λ rules. told rules c.args.source.now c.args.at c.text.result (Piece c.args.at (c.args.at + 2)) (c.args.at + 2) c.text.ensures
+    λ rules. told rules c.args.source.now c.args.at c.opener.result (Opener true (c.args.at + 2)) (c.args.at + 2) c.opener.ensures
     (image-is rules c.args.source.now c.args.at c.utf8.source c.requires (sym c.is_at.ensures ∙ c.if-is_at.true))
 
 pub returns : goal.returns
 returns c =
-    λ rules. told rules c.args.source.now c.args.at c.text-2.result (Piece c.args.at (c.args.at + 1)) (c.args.at + 1) c.text-2.ensures
+    λ rules. told rules c.args.source.now c.args.at c.text.result (Piece c.args.at (c.args.at + 1)) (c.args.at + 1) c.text.ensures
     (bang-is-text rules c.args.source.now c.args.at c.utf8.source c.requires (sym c.is_at.ensures ∙ c.if-is_at.false))

@@ -1,14 +1,31 @@
-use Rattle.std.proofs.Common.{◌≡◌, ℕ, ◌<◌, true, arith}
+use Rattle.std.proofs.Common.{◌<◌, ◌+◌, drop, arith, sym, ap, ◌∙◌}
+use Rattle.cm_scan.specs.Words.{run_length, after_run}
 use Rattle.cm_inline.specs.declared.nodes.Node.TheVariants.{Piece}
-use Rattle.cm_inline.specs.steps.Reads.{is_run_marker}
-use Rattle.cm_inline.proofs.AtomLemmas.{told, marker-run-is}
+use Rattle.cm_inline.specs.declared.runs.Marker.{Marker}
+use Rattle.cm_inline.specs.declared.runs.Marker.TheVariants.{Star, Underscore, Tilde}
+use Rattle.cm_inline.specs.steps.Runs.{byte_of}
+use Rattle.cm_inline.proofs.AtomLemmas.{told, marker-text-is, marker-run-is}
 use Rattle.cm_inline.proofs.atoms.run.Goals as goal
+
+small : (m : Marker) → byte_of m < 128
+small Star = omega arith
+small Underscore = omega arith
+small Tilde = omega arith
+
+pub returns-then-not-is_run : goal.returns-then-not-is_run
+returns-then-not-is_run c =
+    let source = c.args.source.now in
+    let m = c.args.marker in
+    let end = c.after_run-end.result in
+    let run = c.after_run-end.ensures in
+    told c.args.rules source c.args.at c.text.result (Piece c.args.at end) end c.text.ensures
+    (marker-text-is c.args.rules source c.args.at m end c.requires (sym c.is_run.ensures ∙ c.if-not-is_run.true) (run.end ∙ ap (λ b. c.args.at + run_length b (drop c.args.at source)) c.byte.ensures)
+    (run.behind ∙ ap (λ b. after_run b (drop c.args.at source)) c.byte.ensures) (run.boundary (omega (arith, small m, c.byte.ensures)) c.requires.boundary))
 
 pub returns : goal.returns
 returns c =
-    let run = c.after_run.ensures in
-    λ rules. told rules c.args.source.now c.args.at c.text.result (Piece c.args.at c.after_run.result) c.after_run.result c.text.ensures
-    (marker-run-is rules c.args.source.now c.args.at c.args.marker c.after_run.result c.requires.stands c.requires.marker run.end run.behind (run.boundary (small c.args.marker c.requires.marker) c.requires.stands.boundary))
-  where
-    small : (b : ℕ) → is_run_marker b ≡ true → b < 128
-    small b h = grind (arith, h)
+    let source = c.args.source.now in
+    let m = c.args.marker in
+    let run = c.after_run-end.ensures in
+    marker-run-is c.args.rules source c.args.at m c.run_between.result c.after_run-end.result c.requires (sym c.is_run.ensures ∙ c.if-not-is_run.false) (run.end ∙ ap (λ b. c.args.at + run_length b (drop c.args.at source)) c.byte.ensures)
+    (run.behind ∙ ap (λ b. after_run b (drop c.args.at source)) c.byte.ensures) (run.boundary (omega (arith, small m, c.byte.ensures)) c.requires.boundary) c.run_between.ensures

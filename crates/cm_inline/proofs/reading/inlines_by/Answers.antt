@@ -1,39 +1,29 @@
-use Rattle.std.proofs.Common.{◌≡◌, [], refl, sym, ap, ◌∙◌}
-use Rattle.cm_tree.specs.Depth.{inlines_depth, saturated}
-use Rattle.cm_scan.specs.Pairing.{settled_after}
-use Rattle.cm_scan.proofs.PiecesLemmas.{settled-pieces}
-use Rattle.cm_inline.specs.Alone.{alone_in, inlines_alone}
+use Rattle.std.proofs.Common.{ap, ◌∙◌, arith}
+use Rattle.std.specs.Prelude.{Err}
+use Rattle.cm_scan.specs.Brackets.{defined_in}
 use Rattle.cm_inline.specs.steps.Nodes.{items_of}
-use Rattle.cm_inline.proofs.DepthLemmas.{past-limit, within-limit, limit-is-nothing}
+use Rattle.cm_inline.proofs.WholeLemmas.{inlines-are, nests, within-limit, fault-reads}
 use Rattle.cm_inline.proofs.reading.inlines_by.Goals as goal
 
-pub returns-then-inline_depth-limit-clause-reads : goal.returns-then-inline_depth-limit-clause-reads
-returns-then-inline_depth-limit-clause-reads c =
+pub returns-in_err-content : goal.returns-in_err-content
+returns-in_err-content c =
     let source = c.args.source.now in
-    let items = items_of source c.in_ok-nodes.nodes.items in
-    let content : c.in_ok-content.content ≡ inlines_alone c.args.rules source =
-    c.in_ok-content.ensures ∙ sym (settled-pieces [] items) ∙ ap (settled_after []) c.in_ok-nodes.ensures.items ∙ settled-pieces [] (alone_in c.args.rules source) in
-    past-limit source c.in_ok-nodes.nodes.items c.in_ok-content.content (inlines_alone c.args.rules source) c.in_ok-nodes.ensures.parts c.in_ok-nodes.ensures.shallow c.args.limit c.inline_depth.result
-    c.in_ok-content.ensures content (c.inline_depth.ensures ∙ ap (λ t. saturated (inlines_depth t)) c.as_slice.ensures) c.if-inline_depth-limit.true
+    let defined = defined_in c.args.definitions.now in
+    fault-reads c.from_residual-in_err-content.result c.in_err-content.field-0.0 c.args.rules c.args.definitions.now c.args.limit source c.from_residual-in_err-content.ensures.1 (λ told.
+    nests c.args.rules defined c.args.limit source (items_of source c.in_ok-reader.reader.nodes.items) c.in_ok-reader.ensures.items (c.in_err-content.ensures.deep (ap Err told)))
 
-pub returns-then-inline_depth-limit-clause-flat : goal.returns-then-inline_depth-limit-clause-flat
-returns-then-inline_depth-limit-clause-flat c = λ _.
+pub returns-then-depth-limit : goal.returns-then-depth-limit
+returns-then-depth-limit c =
     let source = c.args.source.now in
-    let items = items_of source c.in_ok-nodes.nodes.items in
-    let content : c.in_ok-content.content ≡ inlines_alone c.args.rules source =
-    c.in_ok-content.ensures ∙ sym (settled-pieces [] items) ∙ ap (settled_after []) c.in_ok-nodes.ensures.items ∙ settled-pieces [] (alone_in c.args.rules source) in
-    limit-is-nothing source c.in_ok-nodes.nodes.items c.in_ok-content.content (inlines_alone c.args.rules source) c.in_ok-nodes.ensures.parts c.in_ok-nodes.ensures.shallow c.args.limit c.inline_depth.result
-    c.in_ok-content.ensures content (c.inline_depth.ensures ∙ ap (λ t. saturated (inlines_depth t)) c.as_slice.ensures) c.if-inline_depth-limit.true
+    nests c.args.rules (defined_in c.args.definitions.now) c.args.limit source (items_of source c.in_ok-reader.reader.nodes.items) c.in_ok-reader.ensures.items (omega (arith, c.if-depth-limit.true, c.in_ok-content.ensures.depth))
 
-pub returns-clause-reads : goal.returns-clause-reads
-returns-clause-reads c =
+pub returns : goal.returns
+returns c =
     let source = c.args.source.now in
-    let items = items_of source c.in_ok-nodes.nodes.items in
-    let content : c.in_ok-content.content ≡ inlines_alone c.args.rules source =
-    c.in_ok-content.ensures ∙ sym (settled-pieces [] items) ∙ ap (settled_after []) c.in_ok-nodes.ensures.items ∙ settled-pieces [] (alone_in c.args.rules source) in
+    let defined = defined_in c.args.definitions.now in
+    let items = items_of source c.in_ok-reader.reader.nodes.items in
     record {
-      content = content;
-      steps = refl;
-      within = within-limit source c.in_ok-nodes.nodes.items c.in_ok-content.content (inlines_alone c.args.rules source) c.in_ok-nodes.ensures.parts c.in_ok-nodes.ensures.shallow c.args.limit c.inline_depth.result
-          c.in_ok-content.ensures content (c.inline_depth.ensures ∙ ap (λ t. saturated (inlines_depth t)) c.as_slice.ensures) c.if-inline_depth-limit.false;
+      content = c.in_ok-content.ensures.content ∙ inlines-are c.args.rules defined source items c.in_ok-reader.ensures.items;
+      within = within-limit c.args.rules defined c.args.limit source items c.in_ok-reader.ensures.items (omega (arith, c.if-depth-limit.false, c.in_ok-content.ensures.depth));
+      steps = omega (arith, c.looks.ensures, c.in_ok-content.ensures.looks, c.in_ok-reader.ensures.read.paid);
     }

@@ -1,0 +1,27 @@
+-- A source between its places.
+use Rattle.std.proofs.Common.{◌≡◌, ℕ, ◌+◌, ◌-◌, ◌<◌, ◌≤◌, List, [], ◌∷◌, ◌++◌, length, take, drop, get_or, reverse, sym, ap, ◌∙◌, arith, drop-drop, take-add}
+use Rattle.std.specs.List.{slice_range}
+use Rattle.std.proofs.lemmas.List.{reverse-append, drop_more, take-append-drop}
+
+-- the source between two places
+pub slice-front : (source : List ℕ) (at end : ℕ) → at ≤ end → drop at source ≡ slice_range source at end ++ drop end source
+slice-front source at end low =
+    let place : at + (end - at) ≡ end = omega (arith, low) in
+    sym (take-append-drop (end - at) (drop at source)) ∙ ap (λ t. slice_range source at end ++ t) (drop-drop (end - at) at source ∙ ap (λ n. drop n source) place)
+
+-- what stands before a place, the last first
+pub before-later : (source : List ℕ) (at end : ℕ) → at ≤ end → reverse (take end source) ≡ reverse (slice_range source at end) ++ reverse (take at source)
+before-later source at end low =
+    let place : at + (end - at) ≡ end = omega (arith, low) in
+    ap (λ n. reverse (take n source)) (sym place) ∙ ap reverse (take-add at (end - at) source) ∙ reverse-append (take at source) (slice_range source at end)
+
+pub one-slice : (source : List ℕ) (at : ℕ) → at < length source → slice_range source at (at + 1) ≡ get_or source at 0 ∷ []
+one-slice source at within =
+    let one : at + 1 - at ≡ 1 = omega arith in
+    ap (λ n. take n (drop at source)) one ∙ ap (take 1) (drop_more source at 0 within)
+
+-- what was read up to a place, and the byte there
+pub before-one : (source : List ℕ) (at end : ℕ) → at < end → at < length source → reverse (slice_range source (at + 1) end) ++ get_or source at 0 ∷ reverse (take at source) ≡ reverse (take end source)
+before-one source at end low within =
+    ap (λ t. reverse (slice_range source (at + 1) end) ++ t) (sym (before-later source at (at + 1) (omega arith) ∙ ap (λ t. reverse t ++ reverse (take at source)) (one-slice source at within)))
+    ∙ sym (before-later source (at + 1) end (omega (arith, low)))

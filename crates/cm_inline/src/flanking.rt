@@ -1,0 +1,93 @@
+//! Which delimiter runs may open and may close emphasis (CommonMark 0.31.2, 6.2 Emphasis and strong emphasis).
+ghost use Rattle.std.specs.Prelude.{◌≡◌, ℕ, ◌-◌, ◌≤◌, length, take, drop, reverse};
+ghost use Rattle.std.specs.Str.{IsCharBoundary};
+ghost use Rattle.cm_scan.specs.Delimiters.{neighbour, is_left_flanking, may_open};
+ghost use Rattle.cm_scan.specs.Atoms.{first_character, last_character, run_between};
+ghost use Rattle.cm_inline.specs.steps.Runs.{byte_of, run_of, neighbour_of};
+
+use crate::runs::{DelimiterRun, Marker};
+use cm_text::{Rules, is_punct_by, is_space};
+
+/// How a run sees the character beside it.
+#[derive(Clone, Copy, Debug)]
+pub(crate) enum Neighbour {
+    /// Unicode whitespace, or the beginning or the end of the leaf.
+    Whitespace,
+    Punctuation,
+    Other,
+}
+
+impl Neighbour {
+    /// The character that stands beside a run, if one does.
+    #[tactic(auto, unfolding(cm_scan::specs::Delimiters::neighbour))]
+    fn of(rules: Rules, beside: Option<char>) -> Neighbour
+        ensures { neighbour_of result ≡ neighbour rules beside }
+    {
+        match beside {
+            Some(c) if is_space(c) => Neighbour::Whitespace,
+            Some(c) if is_punct_by(rules, c) => Neighbour::Punctuation,
+            Some(_) => Neighbour::Other,
+            None => Neighbour::Whitespace,
+        }
+    }
+}
+
+/// Whether a run between these is left-flanking.
+fn is_left_flanking(before: Neighbour, after: Neighbour) -> bool
+    ensures { result ≡ is_left_flanking (neighbour_of before) (neighbour_of after) }
+{
+    match after {
+        Neighbour::Whitespace => false,
+        Neighbour::Punctuation => !matches!(before, Neighbour::Other),
+        Neighbour::Other => true,
+    }
+}
+
+/// Whether a run between these may open emphasis. It may close it where its mirror image may open it.
+fn may_open(marker: Marker, before: Neighbour, after: Neighbour) -> bool
+    ensures { result ≡ may_open (byte_of marker) (neighbour_of before) (neighbour_of after) }
+{
+    is_left_flanking(before, after)
+        && (!matches!(marker, Marker::Underscore)
+            || !is_left_flanking(after, before)
+            || matches!(before, Neighbour::Punctuation))
+}
+
+/// The last character of a text.
+fn last_character(text: &str) -> Option<char>
+    ensures { result ≡ last_character (reverse text.now) }
+{
+    text.chars().next_back()
+}
+
+/// The first character of a text.
+fn first_character(text: &str) -> Option<char>
+    ensures { result ≡ first_character text.now }
+{
+    text.chars().next()
+}
+
+/// The delimiter run that stands between two places.
+#[tactic(auto, unfolding(cm_scan::specs::Atoms::run_between))]
+pub(crate) fn run_between(
+    rules: Rules,
+    source: &str,
+    marker: Marker,
+    at: usize,
+    end: usize,
+) -> DelimiterRun
+    requires order { at ≤ end }
+    requires start { IsCharBoundary source.now at }
+    requires end { IsCharBoundary source.now end }
+    ensures { run_of result ≡ run_between rules (byte_of marker) (end - at) (reverse (take at source.now)) (drop end source.now) }
+{
+    let before = Neighbour::of(rules, last_character(&source[..at]));
+    let after = Neighbour::of(rules, first_character(&source[end..]));
+    DelimiterRun {
+        marker,
+        whole: end - at,
+        left: end - at,
+        opens: may_open(marker, before, after),
+        closes: may_open(marker, after, before),
+    }
+}
