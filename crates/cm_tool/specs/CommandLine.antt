@@ -1,6 +1,6 @@
 -- What the words of a command line ask for. How clap reads them is said by its own words, at the command line of cmk.
-use Rattle.std.specs.Prelude.{◌≡◌, ◌≢◌, ◌⊎◌, ◌==◌, ◌^◌, ◌&&◌, ◌||◌, ⊤, ℕ, Bool, true, false, not, List, [], ◌∷◌, ◌++◌, Option, Some, None, Result, Ok, Err, IsSome, if◌then◌else◌, codes, flat_map, string_bytes, find, option_map, option_and_then}
-use Rattle.std.specs.List.{list_any}
+use Rattle.std.specs.Prelude.{◌≡◌, ◌≢◌, ◌⊎◌, ◌==◌, ◌^◌, ◌&&◌, ◌||◌, ⊤, ℕ, Bool, true, false, not, List, [], ◌∷◌, ◌++◌, Option, Some, None, Result, Ok, Err, IsSome, if◌then◌else◌, codes, flat_map, string_bytes, find, option_map, option_and_then, unwrap_or}
+use Rattle.std.specs.List.{list_all, list_any}
 use Rattle.std.specs.Option.{option_map_or}
 use Rattle.std.specs.Str.{bytes_eq}
 use Rattle.std.specs.Str.Parse.{digits_value, without_leading_plus}
@@ -22,14 +22,22 @@ use Rattle.cm_tool.specs.declared.job.Stop.TheVariants.{Help, Wrong, NoMemory}
 abbrev pub file_rule : Rule
 file_rule = record (new_rule (codes "file")) { value_names = 1 }
 
--- the option --blocks N, a number from 1 to 500, and 100 where it is left out
-abbrev pub blocks_rule : Rule
-blocks_rule = record (new_rule (codes "blocks")) {
-  long = Some (codes "blocks");
+-- the option --name N, a number from 1 to 500, and 100 where it is left out
+abbrev pub limit_rule : Text → Rule
+limit_rule name = record (new_rule name) {
+  long = Some name;
   value_names = 1;
   parser = Some (Unsigned 1 500);
   defaults = codes "100" ∷ [];
 }
+
+-- the option --blocks N
+abbrev pub blocks_rule : Rule
+blocks_rule = limit_rule (codes "blocks")
+
+-- the option --inlines N
+abbrev pub inlines_rule : Rule
+inlines_rule = limit_rule (codes "inlines")
 
 -- the flag --name, which takes no value
 abbrev pub flag_rule : Text → Rule
@@ -45,7 +53,7 @@ strike_rule = flag_rule (codes "strike")
 
 -- the subcommand of this name
 abbrev pub job_app : Text → App
-job_app name = with_rule (with_rule (with_rule (with_rule (new_app name) file_rule) blocks_rule) older_rule) strike_rule
+job_app name = with_rule (with_rule (with_rule (with_rule (with_rule (new_app name) file_rule) blocks_rule) inlines_rule) older_rule) strike_rule
 
 abbrev pub name_of : Job → Text
 name_of Render = codes "render"
@@ -76,13 +84,17 @@ job_in found = option_and_then (λ f. job_of f.0) found
 abbrev pub file_in : Option Found → Option Text
 file_in found = option_and_then (λ f. first_of (codes "file") f.1) found
 
--- the standard limits, with so many blocks, by these rules
-abbrev pub limits_with : Rules → ℕ → Option LimitsView
-limits_with rules blocks = option_map (λ (limits : LimitsView). record limits { rules = rules }) (limits_for (2 ^ 28) blocks 100)
+-- the standard limits, with so many blocks and inlines, by these rules
+abbrev pub limits_with : Rules → (blocks inlines : ℕ) → Option LimitsView
+limits_with rules blocks inlines = option_map (λ (limits : LimitsView). record limits { rules = rules }) (limits_for (2 ^ 28) blocks inlines)
 
--- the same, with the number of blocks as it is written
-abbrev pub limits_of : Rules → Text → Option LimitsView
-limits_of rules number = limits_with rules (digits_value 10 (without_leading_plus number))
+-- a number, as it is written
+abbrev pub as_number : Text → ℕ
+as_number number = digits_value 10 (without_leading_plus number)
+
+-- the limits with these numbers, as they are written
+abbrev pub limits_of : Rules → (blocks inlines : Text) → Option LimitsView
+limits_of rules blocks inlines = limits_with rules (as_number blocks) (as_number inlines)
 
 -- the flag of this name is set
 abbrev pub is_set : Text → List Row → Bool
@@ -94,7 +106,8 @@ rules_in rows = record { older = is_set (codes "older") rows; strike = is_set (c
 
 -- the limits that the options of a subcommand ask for
 abbrev pub limits_at : List Row → Option LimitsView
-limits_at rows = option_and_then (limits_of (rules_in rows)) (first_of (codes "blocks") rows)
+limits_at rows =
+    option_and_then (λ blocks. option_and_then (limits_of (rules_in rows) blocks) (first_of (codes "inlines") rows)) (first_of (codes "blocks") rows)
 
 abbrev pub limits_in : Option Found → Option LimitsView
 limits_in found = option_and_then (λ f. limits_at f.1) found
@@ -105,21 +118,24 @@ pub record IsTaskOf (found : Option Found) (task : Task) : Type 0 where
   pub file : file_in found ≡ option_map string_bytes task.file
   pub limits : limits_in found ≡ Some task.limits
 
--- an option as it is given: the number of blocks, as it is written, or a flag
+-- an option as it is given: the number of blocks or of inlines, as it is written, or a flag
 pub data Choice : Type 0 where
   Blocks : Text → Choice
+  Inlines : Text → Choice
   Older : Choice
   Strike : Choice
 
 -- the name of the option
 abbrev pub option_of : Choice → Text
 option_of (Blocks number) = codes "blocks"
+option_of (Inlines number) = codes "inlines"
 option_of Older = codes "older"
 option_of Strike = codes "strike"
 
 -- the words that give an option
 abbrev pub words_of : Choice → List Text
 words_of (Blocks number) = codes "--blocks" ∷ number ∷ []
+words_of (Inlines number) = codes "--inlines" ∷ number ∷ []
 words_of Older = codes "--older" ∷ []
 words_of Strike = codes "--strike" ∷ []
 
@@ -136,20 +152,36 @@ abbrev pub each_once : List Choice → Bool
 each_once [] = true
 each_once (choice ∷ choices) = not (is_given (option_of choice) choices) && each_once choices
 
--- the number of blocks, if it is given
-abbrev pub number_of : List Choice → Option Text
-number_of [] = None
-number_of (Blocks number ∷ choices) = Some number
-number_of (Older ∷ choices) = number_of choices
-number_of (Strike ∷ choices) = number_of choices
+-- the numbers that are given
+abbrev pub numbers_in : List Choice → List Text
+numbers_in [] = []
+numbers_in (Blocks number ∷ choices) = number ∷ numbers_in choices
+numbers_in (Inlines number ∷ choices) = number ∷ numbers_in choices
+numbers_in (Older ∷ choices) = numbers_in choices
+numbers_in (Strike ∷ choices) = numbers_in choices
+
+-- the value of an option, where that of a flag is `true`
+abbrev pub value_of : Choice → Text
+value_of (Blocks number) = number
+value_of (Inlines number) = number
+value_of Older = codes "true"
+value_of Strike = codes "true"
+
+-- the value of the option of this name, if it is given
+abbrev pub given_for : Text → List Choice → Option Text
+given_for name choices = option_map value_of (find (λ choice. bytes_eq (option_of choice) name) choices)
+
+-- the number of the option of this name: the one that is given, or 100
+abbrev pub number_for : Text → List Choice → Text
+number_for name choices = unwrap_or (given_for name choices) (codes "100")
 
 -- the rules that these options ask for
 abbrev pub rules_by : List Choice → Rules
 rules_by choices = record { older = is_given (codes "older") choices; strike = is_given (codes "strike") choices }
 
--- the limits that these options ask for: the number of blocks that is given, or 100, and the rules that are given
+-- the limits that these options ask for: each number that is given, or 100, and the rules that are given
 abbrev pub limits_by : List Choice → Option LimitsView
-limits_by choices = option_map_or (limits_of (rules_by choices)) (number_of choices) (limits_with (rules_by choices) 100)
+limits_by choices = limits_of (rules_by choices) (number_for (codes "blocks") choices) (number_for (codes "inlines") choices)
 
 -- the word begins with a hyphen
 abbrev pub is_option : Text → Bool
@@ -159,6 +191,14 @@ is_option (byte ∷ bytes) = byte == 45
 -- the word is a number from 1 to 500
 abbrev pub is_limit : Text → Bool
 is_limit = is_unsigned_in 1 500
+
+-- the numbers that are given are from 1 to 500
+abbrev pub are_limits : List Choice → Bool
+are_limits choices = list_all is_limit (numbers_in choices)
+
+-- a number that is given begins with a hyphen
+abbrev pub hold_an_option : List Choice → Bool
+hold_an_option choices = list_any is_option (numbers_in choices)
 
 -- the kinds of stop that the words call for: none, a mistake, or a request for help
 abbrev pub stops_of : List Text → Kinds
@@ -184,6 +224,7 @@ IsTaskFor job file limits (Err stop) = stop ≡ NoMemory
 abbrev pub fits : Text → Text → Bool
 fits name value =
     if bytes_eq name (codes "blocks") then is_limit value
+    else if bytes_eq name (codes "inlines") then is_limit value
     else if bytes_eq name (codes "file") then true
     else bytes_eq value (codes "true") || bytes_eq value (codes "false")
 
@@ -197,6 +238,7 @@ pub record IsRead (name : Text) (rows : List Row) : Type 0 where
 -- the options of a subcommand have values that fit them
 pub record AreRead (rows : List Row) : Type 0 where
   pub blocks : IsRead (codes "blocks") rows
+  pub inlines : IsRead (codes "inlines") rows
   pub older : IsRead (codes "older") rows
   pub strike : IsRead (codes "strike") rows
 

@@ -1,4 +1,4 @@
--- The fault of an input: a line that stands too deep, or what is wrong with its text.
+-- The fault of an input: a line that stands too deep, what is wrong with its text, or a leaf whose inlines nest too deep.
 use Rattle.std.specs.Prelude.{◌≡◌, ◌↔◌, ℕ, List, ◌++◌, take, Option, Some, None}
 use Rattle.std.specs.Option.{option_map, option_or}
 use Rattle.cm_text.specs.declared.fault.TextFault.{TextFault}
@@ -8,8 +8,10 @@ use Rattle.cm_text.specs.Faults.{valid_len, settled_fault, text_fault}
 use Rattle.cm_text.specs.Settled.{AreBytes}
 use Rattle.cm_scan.specs.Blocks.{first_too_deep}
 use Rattle.cm_tool.specs.declared.fault.Fault.{Fault}
-use Rattle.cm_tool.specs.declared.fault.Fault.TheVariants.{BlocksTooDeep}
+use Rattle.cm_tool.specs.declared.fault.Fault.TheVariants.{BlocksTooDeep, InlinesTooDeep}
 use Rattle.cm_tool.specs.Fault.{told}
+use Rattle.cm_tool.specs.Leaves.{first_leaf_past}
+use Rattle.cm_tool.specs.Document.{tree_of}
 
 -- the first of the lines that has more quotes and items round it than the limit, by the rules of the limits
 abbrev pub too_deep : LimitsView → List LineView → Option Fault
@@ -23,17 +25,22 @@ sound_front limit bytes = take (valid_len limit bytes) (take limit bytes)
 abbrev pub ended_too_deep : LimitsView → List ℕ → Option Fault
 ended_too_deep limits bytes = too_deep limits (ended_lines_of (text_of (sound_front limits.bytes bytes)))
 
+-- the first leaf of the bytes' tree whose inlines nest deeper than the limit
+abbrev pub leaf_too_deep : LimitsView → List ℕ → Option Fault
+leaf_too_deep limits bytes = option_map InlinesTooDeep (first_leaf_past limits.inlines (tree_of limits.rules bytes))
+
 -- Where something is wrong with the text: the first line too deep of those that have ended before it, else that; a line that it
--- cuts isn't judged. Where nothing is: the first line too deep of all.
+-- cuts isn't judged. Where nothing is: the first line too deep of all, else the first leaf too deep.
 abbrev pub fault_by : Option TextFault → LimitsView → List ℕ → Option Fault
 fault_by (Some fault) limits bytes = option_or (ended_too_deep limits bytes) (Some (told fault))
-fault_by None limits bytes = too_deep limits (plain_lines_of (text_of bytes))
+fault_by None limits bytes = option_or (too_deep limits (plain_lines_of (text_of bytes))) (leaf_too_deep limits bytes)
 
 -- the fault of the bytes where they end
 abbrev pub fault_of : LimitsView → List ℕ → Option Fault
 fault_of limits bytes = fault_by (text_fault limits.bytes bytes) limits bytes
 
--- The fault of the bytes however they go on: the last line, which hasn't ended, isn't judged.
+-- The fault of the bytes however they go on: the last line, which hasn't ended, isn't judged, and no leaf is, since a definition
+-- behind it may count.
 abbrev pub settled_fault_of : LimitsView → List ℕ → Option Fault
 settled_fault_of limits bytes = option_or (ended_too_deep limits bytes) (option_map told (settled_fault limits.bytes bytes))
 

@@ -1,5 +1,7 @@
--- The leaves of an outline with their inlines read.
-use Rattle.std.specs.Prelude.{List, [], ◌∷◌, map}
+-- The leaves of an outline with their inlines read, and how deep these nest.
+use Rattle.std.specs.Prelude.{ℕ, nat_lt, List, [], ◌∷◌, ◌++◌, map, Option}
+use Rattle.std.specs.List.{concat, position_from}
+use Rattle.cm_tree.specs.Depth.{inlines_depth}
 use Rattle.cm_tree.specs.declared.tree.Inline.{Inline}
 use Rattle.cm_tree.specs.declared.tree.Inline.TheVariants.{Text}
 use Rattle.cm_tree.specs.declared.tree.Block.{Block, Block-F}
@@ -7,27 +9,56 @@ use Rattle.cm_tree.specs.declared.tree.Block.TheOpen as block
 use Rattle.cm_tree.specs.declared.tree.Block.TheVariants.{Paragraph, Heading, Code, Html, Break, Definition, Quote, List as ListBlock}
 use Rattle.cm_tree.specs.declared.tree.Block.TheFolds.{fold-Block}
 use Rattle.cm_text.specs.Rules.{Rules}
-use Rattle.cm_inline.specs.Alone.{inlines_alone}
+use Rattle.cm_scan.specs.Brackets.{Defined}
+use Rattle.cm_scan.specs.Inlines.{inlines_of}
 
 -- the content of a paragraph or heading, which in an outline is one text, its source, or nothing
-abbrev pub content_read : Rules → List Inline → List Inline
-content_read rules (Text source ∷ []) = inlines_alone rules source
-content_read rules content = content
+abbrev pub content_read : Rules → Defined → List Inline → List Inline
+content_read rules defined (Text source ∷ []) = inlines_of rules defined source
+content_read rules defined content = content
 
 -- one block, with each block inside read in its place
-abbrev pub read_step : Rules → Block-F Block → Block
-read_step rules (block.Paragraph content) = Paragraph (content_read rules content)
-read_step rules (block.Heading level content) = Heading level (content_read rules content)
-read_step rules (block.Code info text) = Code info text
-read_step rules (block.Html text) = Html text
-read_step rules block.Break = Break
-read_step rules (block.Definition label dest title) = Definition label dest title
-read_step rules (block.Quote blocks) = Quote blocks
-read_step rules (block.List kind tight items) = ListBlock kind tight items
+abbrev pub read_step : Rules → Defined → Block-F Block → Block
+read_step rules defined (block.Paragraph content) = Paragraph (content_read rules defined content)
+read_step rules defined (block.Heading level content) = Heading level (content_read rules defined content)
+read_step rules defined (block.Code info text) = Code info text
+read_step rules defined (block.Html text) = Html text
+read_step rules defined block.Break = Break
+read_step rules defined (block.Definition label dest title) = Definition label dest title
+read_step rules defined (block.Quote blocks) = Quote blocks
+read_step rules defined (block.List kind tight items) = ListBlock kind tight items
 
-abbrev pub block_read : Rules → Block → Block
-block_read rules = fold-Block Block (read_step rules)
+abbrev pub block_read : Rules → Defined → Block → Block
+block_read rules defined = fold-Block Block (read_step rules defined)
 
--- the blocks with the inlines of their leaves, at every depth
-abbrev pub with_inlines : Rules → List Block → List Block
-with_inlines rules blocks = map (block_read rules) blocks
+-- the blocks with the inlines of their leaves, at every depth, where these link reference definitions count
+abbrev pub with_inlines : Rules → Defined → List Block → List Block
+with_inlines rules defined blocks = map (block_read rules defined) blocks
+
+-- lists of lists, one after another
+abbrev pub concat_items : List (List (List ℕ)) → List ℕ
+concat_items [] = []
+concat_items (item ∷ items) = concat item ++ concat_items items
+
+-- how deep the inlines of each leaf of a block nest, with those of each block inside in its place; 0 for a leaf without inlines
+abbrev pub depths_step : Block-F (List ℕ) → List ℕ
+depths_step (block.Paragraph content) = inlines_depth content ∷ []
+depths_step (block.Heading level content) = inlines_depth content ∷ []
+depths_step (block.Quote blocks) = concat blocks
+depths_step (block.List kind tight items) = concat_items items
+depths_step _ = 0 ∷ []
+
+abbrev pub depths_in : Block → List ℕ
+depths_in = fold-Block (List ℕ) depths_step
+
+-- how deep the inlines of each leaf of the blocks nest, in the order of the document
+abbrev pub leaf_depths : List Block → List ℕ
+leaf_depths blocks = concat (map depths_in blocks)
+
+-- the number of the first leaf whose inlines nest deeper than the limit, where the first leaf of all has this number
+abbrev pub first_past : (limit first : ℕ) → (depths : List ℕ) → Option ℕ
+first_past limit first depths = position_from (λ depth. nat_lt limit depth) first depths
+
+-- the first leaf of the blocks, counted from 1, whose inlines nest deeper than the limit
+abbrev pub first_leaf_past : (limit : ℕ) → List Block → Option ℕ
+first_leaf_past limit blocks = first_past limit 1 (leaf_depths blocks)

@@ -1,5 +1,6 @@
 pub mod Leaves
 pub mod Fault
+pub mod Document
 pub mod Faults
 pub mod Reading
 pub mod ReadingExamples

@@ -6,9 +6,9 @@ use Rattle.cm_block.specs.declared.parser.BlockParser.{BlockParser}
 use Rattle.cm_block.specs.Parser.{StandsFor as HasTaken}
 use Rattle.cm_tree.specs.declared.tree.Doc.{Doc}
 use Rattle.cm_tool.specs.declared.fault.Fault.{Fault}
-use Rattle.cm_tool.specs.declared.fault.Fault.TheVariants.{NotUtf8, TooLong, BlocksTooDeep, NoMemory, ReadFailed, WriteFailed}
+use Rattle.cm_tool.specs.declared.fault.Fault.TheVariants.{NotUtf8, TooLong, BlocksTooDeep, InlinesTooDeep, NoMemory, ReadFailed, WriteFailed}
+use Rattle.cm_tool.specs.Document.{doc_of}
 use Rattle.cm_tool.specs.Faults.{fault_of}
-use Rattle.cm_tool.specs.Reading.{doc_of}
 
 -- a parser without where it lies in memory
 pub record ParserView : Type 0 where
@@ -35,6 +35,7 @@ abbrev pub TellsFault : Fault → Option Fault → Type 0
 TellsFault (NotUtf8 at) told = told ≡ Some (NotUtf8 at)
 TellsFault (TooLong at) told = told ≡ Some (TooLong at)
 TellsFault (BlocksTooDeep line) told = told ≡ Some (BlocksTooDeep line)
+TellsFault (InlinesTooDeep leaf) told = told ≡ Some (InlinesTooDeep leaf)
 TellsFault NoMemory told = ⊤
 TellsFault ReadFailed told = ⊥
 TellsFault (WriteFailed written) told = ⊥

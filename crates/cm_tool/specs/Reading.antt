@@ -1,28 +1,12 @@
 -- What reading a source to its end answers.
 use Rattle.std.specs.Prelude.{◌≡◌, ℕ, ◌+◌, List, Option, Some, None, Result, Ok, Err, ◌⊎◌}
 use Rattle.std.specs.Io.KnownBytes.{IsAtEnd}
-use Rattle.cm_text.specs.Rules.{Rules}
 use Rattle.cm_text.specs.Limits.{LimitsView}
-use Rattle.cm_text.specs.Lines.{text_of, plain_lines_of}
-use Rattle.cm_tree.specs.declared.tree.Block.{Block}
-use Rattle.cm_tree.specs.declared.tree.Owner.{Owner}
 use Rattle.cm_tree.specs.declared.tree.Doc.{Doc}
-use Rattle.cm_scan.specs.Blocks.{blocks_of, owners_of}
 use Rattle.cm_tool.specs.declared.fault.Fault.{Fault}
 use Rattle.cm_tool.specs.declared.fault.Fault.TheVariants.{NoMemory, ReadFailed, WriteFailed}
-use Rattle.cm_tool.specs.Leaves.{with_inlines}
+use Rattle.cm_tool.specs.Document.{doc_of}
 use Rattle.cm_tool.specs.Faults.{fault_of, settled_fault_of}
-
--- the tree of a text's bytes, by these rules
-abbrev pub tree_of : Rules → List ℕ → List Block
-tree_of rules bytes = with_inlines rules (blocks_of rules (plain_lines_of (text_of bytes)))
-
--- the owner of each of its lines
-abbrev pub owners_of_bytes : Rules → List ℕ → List Owner
-owners_of_bytes rules bytes = owners_of rules (plain_lines_of (text_of bytes))
-
-abbrev pub doc_of : Rules → List ℕ → Doc
-doc_of rules bytes = record { blocks = tree_of rules bytes; owners = owners_of_bytes rules bytes }
 
 -- a source, by the bytes still to come, where they are known, and the number of failed reads
 pub record SourceView : Type 0 where

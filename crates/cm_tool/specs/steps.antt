@@ -1,2 +1,3 @@
 pub mod FaultOrder
 pub mod Pushing
+pub mod Numbering

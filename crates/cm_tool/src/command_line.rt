@@ -3,9 +3,9 @@ ghost use Rattle.std.specs.Prelude.{◌≡◌, ◌∷◌, [], ℕ, List, Option,
 ghost use Rattle.std.specs.Prelude.{codes, map, option_map, string_bytes};
 ghost use Rattle.clap.specs.declared.builder.command.Command.TheViews.{out-Command};
 ghost use Rattle.clap.specs.Words.{app_of, first_of, found_of, kind_of, rows_of, rule_of, subcommand_rows_of};
-ghost use Rattle.cm_tool.specs.CommandLine.{blocks_rule, cmk_app, each_once, file_rule, flag_rule, found_for, job_app};
-ghost use Rattle.cm_tool.specs.CommandLine.{job_of, limits_at, limits_by};
-ghost use Rattle.cm_tool.specs.CommandLine.{is_limit, is_option, number_of, rules_in, stops_of, words_for, Choice};
+ghost use Rattle.cm_tool.specs.CommandLine.{are_limits, cmk_app, each_once, file_rule, flag_rule, found_for, hold_an_option};
+ghost use Rattle.cm_tool.specs.CommandLine.{is_option, job_app, job_of, limit_rule, limits_at, limits_by};
+ghost use Rattle.cm_tool.specs.CommandLine.{rules_in, stops_of, words_for, Choice};
 ghost use Rattle.cm_tool.specs.CommandLine.{AreRead, IsJob, IsMistake, IsTaskFor, IsTaskOf, StopsBy, StopsFor};
 
 use crate::job::{Job, Stop, Task};
@@ -25,17 +25,17 @@ fn file_arg<'a>(alloc: Global) -> Arg<'a>
         .help("The file to read; standard input if it is left out")
 }
 
-/// The option `--blocks N`.
-fn blocks_arg<'a>(alloc: Global) -> Arg<'a>
-    ensures rule { rule_of result ≡ blocks_rule }
+/// The option of this name, which takes a number.
+fn limit_arg<'a>(alloc: Global, name: &'a str, help: &'a str) -> Arg<'a>
+    ensures rule { rule_of result ≡ limit_rule name.now }
     ensures local { result.global ≡ false }
 {
-    Arg::new(alloc, "blocks")
-        .long("blocks")
+    Arg::new(alloc, name)
+        .long(name)
         .value_name("N")
         .value_parser(ValueParser::unsigned(1, 500))
         .default_value("100")
-        .help("How many quotes and list items may stand round a line, 1 to 500")
+        .help(help)
 }
 
 /// The flag of this name.
@@ -54,12 +54,15 @@ fn job_command<'a>(alloc: Global, name: &'a str, about: &'a str) -> Result<Comma
     ensures app { IfOk result (λ c. app_of c ≡ job_app name.now) }
     ensures local { IfOk result (λ c. (out-Command c).has_globals ≡ false) }
 {
+    let blocks = "How many quotes and list items may stand round a line, 1 to 500";
+    let inlines = "How deep emphasis, links and images may nest, 1 to 500";
     let older = "Reads by older rules: <source> begins an HTML block, <search> does not";
-    let strike = "Reads strikethrough, once emphasis is read; as yet it changes nothing";
+    let strike = "Reads text between two tildes as struck through";
     Command::new(alloc, name)
         .about(about)
         .arg(file_arg(alloc))?
-        .arg(blocks_arg(alloc))?
+        .arg(limit_arg(alloc, "blocks", blocks))?
+        .arg(limit_arg(alloc, "inlines", inlines))?
         .arg(flag_arg(alloc, "older", older))?
         .arg(flag_arg(alloc, "strike", strike))
 }
@@ -139,7 +142,8 @@ fn limits_of(found: &ArgMatches<'_>) -> Limits
 {
     let standard = Limits::standard();
     let blocks = found.get_one::<usize>("blocks").unwrap();
-    let limits = Limits::new(standard.bytes(), blocks, standard.inlines()).unwrap();
+    let inlines = found.get_one::<usize>("inlines").unwrap();
+    let limits = Limits::new(standard.bytes(), blocks, inlines).unwrap();
     limits.with_rules(rules_of(found))
 }
 
@@ -162,16 +166,14 @@ fn task_of(alloc: Global, matches: &ArgMatches<'_>) -> Result<Task, AllocError>
 /// `clap`'s. Memory may run out in any call.
 pub fn task(alloc: Global, words: &[String]) -> Result<Task, Stop>
     // A job by its name, with each option at most once, in any order, and a file or none. Neither
-    // the number of blocks nor the file begins with a hyphen.
+    // a number nor the file begins with a hyphen.
     ensures asked { (name : List ℕ) (job : Job) (choices : List Choice) (file : Option (List ℕ))
         → map string_bytes words.now ≡ name ∷ words_for job choices file
-        → each_once choices ≡ true → IfSome (number_of choices) (λ n. is_limit n ≡ true)
+        → each_once choices ≡ true → are_limits choices ≡ true
         → IfSome file (λ f. is_option f ≡ false) → IsTaskFor job file (limits_by choices) result }
-    ensures out_of_range { (name limit : List ℕ) (job : Job) (choices : List Choice)
-        (file : Option (List ℕ))
+    ensures out_of_range { (name : List ℕ) (job : Job) (choices : List Choice) (file : Option (List ℕ))
         → map string_bytes words.now ≡ name ∷ words_for job choices file
-        → each_once choices ≡ true → number_of choices ≡ Some limit
-        → is_limit limit ≡ false → is_option limit ≡ false
+        → each_once choices ≡ true → are_limits choices ≡ false → hold_an_option choices ≡ false
         → IfSome file (λ f. is_option f ≡ false) → IsMistake result }
 
     // All words, as `clap` reads them.

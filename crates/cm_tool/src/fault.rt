@@ -19,6 +19,9 @@ pub enum Fault {
     /// More quotes and items stand round the line, counted from 1, than the limit.
     #[error("F3 blocks too deep on line {line}")]
     BlocksTooDeep { line: usize },
+    /// The inlines of the leaf, counted from 1, nest deeper than the limit.
+    #[error("F4 inlines too deep in leaf {leaf}")]
+    InlinesTooDeep { leaf: usize },
     /// A request for memory was refused.
     #[error("F5 out of memory")]
     NoMemory,

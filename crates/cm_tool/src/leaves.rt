@@ -1,11 +1,18 @@
 //! The inlines of an outline's leaves.
-ghost use Rattle.std.specs.Prelude.{◌≡◌, map, IfOk, OnOk};
-ghost use Rattle.cm_tool.specs.Leaves.{content_read, block_read, with_inlines};
+ghost use Rattle.std.specs.Prelude.{◌≡◌, ◌+◌, ◌≤◌, ◌<◌, [], ◌∷◌, map, option_map, IfOk, IfErr, OnOk, None};
+ghost use Rattle.cm_tree.specs.Depth.{inlines_depth};
+ghost use Rattle.cm_scan.specs.Brackets.{defined_in};
+ghost use Rattle.cm_inline.specs.declared.fault.InlineFault.TheVariants as inline_faults;
+ghost use Rattle.cm_tool.specs.declared.fault.Fault.TheVariants as faults;
+ghost use Rattle.cm_tool.specs.Leaves.{content_read, block_read, with_inlines, depths_in, leaf_depths, first_leaf_past};
+ghost use Rattle.cm_tool.specs.Parsing.{TellsFault};
+ghost use Rattle.cm_tool.specs.steps.Numbering.{Passes, TellsLeaf};
 
+use crate::fault::Fault;
 use cm_inline::{InlineFault, inlines_by, is_one_text};
 use cm_text::Limits;
-use cm_tree::{Block, Definitions, Inline, Items};
-use std::alloc::{AllocError, Global};
+use cm_tree::{Block, Definitions, Inline, Items, inline_depth};
+use std::alloc::Global;
 use std::mem;
 
 /// Puts the inlines of a paragraph or heading in the place of its source.
@@ -14,40 +21,77 @@ fn read_content(
     limits: Limits,
     definitions: &Definitions,
     content: &mut Items<Inline>,
-) -> Result<(), AllocError>
-    ensures { OnOk result (content.new ≡ content_read limits.rules content.old) }
+) -> Result<(), InlineFault>
+    ensures read { OnOk result (content.new ≡ content_read limits.rules (defined_in definitions.now) content.old) }
+    ensures within { OnOk result (inlines_depth content.new ≤ limits.inlines) }
+    ensures deep { IfErr result (λ fault. fault ≡ inline_faults.InlinesTooDeep →
+        limits.inlines < inlines_depth (content_read limits.rules (defined_in definitions.now) content.old)) }
 {
+    let (rules, limit) = (limits.rules(), limits.inlines());
     let [Inline::Text(source)] = content.as_slice() else {
+        if inline_depth(content.as_slice()) > limit {
+            return Err(InlineFault::InlinesTooDeep);
+        }
         return Ok(());
     };
     if is_one_text(source.as_str()) {
         return Ok(());
     }
-    let (rules, limit) = (limits.rules(), limits.inlines());
-    match inlines_by(alloc, rules, source.as_str(), definitions, limit) {
-        Ok((inlines, _)) => {
-            *content = inlines;
-            Ok(())
-        }
-        Err(InlineFault::NoMemory) => Err(AllocError),
-        // As yet inlines nest once at most, which every limit allows.
-        Err(InlineFault::InlinesTooDeep) => unreachable!(),
-    }
+    let (inlines, _) = inlines_by(alloc, rules, source.as_str(), definitions, limit)?;
+    *content = inlines;
+    Ok(())
 }
 
-/// The blocks with the inlines of their leaves, at every depth.
-#[cycle(leaves)]
-pub(crate) fn with_inlines(
+/// Counts one more leaf, and answers its number.
+fn count_leaf(next: &mut usize) -> Result<usize, Fault>
+    ensures number { IfOk result (λ leaf. leaf ≡ next.old) }
+    ensures counted { OnOk result (next.new ≡ next.old + 1) }
+    ensures memory { IfErr result (λ fault. fault ≡ faults.NoMemory) }
+{
+    let leaf = *next;
+    // Memory holds fewer leaves than a `usize` counts.
+    *next = leaf.checked_add(1).ok_or(Fault::NoMemory)?;
+    Ok(leaf)
+}
+
+/// Reads the inlines of the next leaf, a paragraph or heading.
+fn read_leaf(
     alloc: Global,
     limits: Limits,
     definitions: &Definitions,
+    next: &mut usize,
+    content: &mut Items<Inline>,
+) -> Result<(), Fault>
+    ensures read { OnOk result (content.new ≡ content_read limits.rules (defined_in definitions.now) content.old) }
+    ensures passes { OnOk result (Passes limits.inlines next.old next.new (inlines_depth content.new ∷ [])) }
+    ensures told { IfErr result (λ fault. TellsLeaf fault limits.inlines next.old
+        (inlines_depth (content_read limits.rules (defined_in definitions.now) content.old) ∷ [])) }
+{
+    let leaf = count_leaf(next)?;
+    match read_content(alloc, limits, definitions, content) {
+        Ok(()) => Ok(()),
+        Err(InlineFault::InlinesTooDeep) => Err(Fault::InlinesTooDeep { leaf }),
+        Err(InlineFault::NoMemory) => Err(Fault::NoMemory),
+    }
+}
+
+/// Reads the inlines of the next leaves, those of the blocks, at every depth.
+#[cycle(leaves)]
+fn with_inlines(
+    alloc: Global,
+    limits: Limits,
+    definitions: &Definitions,
+    next: &mut usize,
     blocks: Items<Block>,
-) -> Result<Items<Block>, AllocError>
-    ensures { IfOk result (λ read. read ≡ with_inlines limits.rules blocks) }
+) -> Result<Items<Block>, Fault>
+    ensures read { IfOk result (λ read. read ≡ with_inlines limits.rules (defined_in definitions.now) blocks) }
+    ensures passes { IfOk result (λ read. Passes limits.inlines next.old next.new (leaf_depths read)) }
+    ensures told { IfErr result (λ fault. TellsLeaf fault limits.inlines next.old
+        (leaf_depths (with_inlines limits.rules (defined_in definitions.now) blocks))) }
 {
     let mut blocks = blocks.into_vec();
     for block in blocks.iter_mut() {
-        read_block(alloc, limits, definitions, block)?;
+        read_block(alloc, limits, definitions, next, block)?;
     }
     Ok(Items::from(blocks))
 }
@@ -57,27 +101,55 @@ fn read_block(
     alloc: Global,
     limits: Limits,
     definitions: &Definitions,
+    next: &mut usize,
     block: &mut Block,
-) -> Result<(), AllocError>
-    ensures { OnOk result (block.new ≡ block_read limits.rules block.old) }
+) -> Result<(), Fault>
+    ensures read { OnOk result (block.new ≡ block_read limits.rules (defined_in definitions.now) block.old) }
+    ensures passes { OnOk result (Passes limits.inlines next.old next.new (depths_in block.new)) }
+    ensures told { IfErr result (λ fault. TellsLeaf fault limits.inlines next.old
+        (depths_in (block_read limits.rules (defined_in definitions.now) block.old))) }
 {
     match block {
-        Block::Paragraph(content) => read_content(alloc, limits, definitions, content),
-        Block::Heading { content, .. } => read_content(alloc, limits, definitions, content),
+        Block::Paragraph(content) => read_leaf(alloc, limits, definitions, next, content),
+        Block::Heading { content, .. } => read_leaf(alloc, limits, definitions, next, content),
         Block::Quote(blocks) => {
             let inside = mem::replace(blocks, Items::new(alloc));
-            *blocks = with_inlines(alloc, limits, definitions, inside)?;
+            *blocks = with_inlines(alloc, limits, definitions, next, inside)?;
             Ok(())
         }
         Block::List { items, .. } => {
             let mut read = mem::replace(items, Items::new(alloc)).into_vec();
             for item in read.iter_mut() {
                 let inside = mem::replace(item, Items::new(alloc));
-                *item = with_inlines(alloc, limits, definitions, inside)?;
+                *item = with_inlines(alloc, limits, definitions, next, inside)?;
             }
             *items = Items::from(read);
             Ok(())
         }
-        _ => Ok(()),
+        _ => {
+            count_leaf(next)?;
+            Ok(())
+        }
     }
+}
+
+/// The blocks with the inlines of their leaves, at every depth.
+///
+/// # Errors
+///
+/// `InlinesTooDeep` with the first leaf whose inlines nest deeper than the limit, `NoMemory` where a request
+/// for memory was refused.
+pub(crate) fn read_leaves(
+    alloc: Global,
+    limits: Limits,
+    definitions: &Definitions,
+    blocks: Items<Block>,
+) -> Result<Items<Block>, Fault>
+    ensures read { IfOk result (λ read. read ≡ with_inlines limits.rules (defined_in definitions.now) blocks) }
+    ensures within { IfOk result (λ read. first_leaf_past limits.inlines read ≡ None) }
+    ensures told { IfErr result (λ fault. TellsFault fault (option_map faults.InlinesTooDeep
+        (first_leaf_past limits.inlines (with_inlines limits.rules (defined_in definitions.now) blocks)))) }
+{
+    let mut next = 1;
+    with_inlines(alloc, limits, definitions, &mut next, blocks)
 }

@@ -12,7 +12,7 @@ ghost use Rattle.cm_tool.specs.Parsing.{Goes, StandsFor, Answers, Finishes};
 ghost use Rattle.cm_tool.specs.steps.Pushing.{Pushes, Counts};
 
 use crate::fault::Fault;
-use crate::leaves::with_inlines;
+use crate::leaves::read_leaves;
 use cm_block::{BlockFault, BlockParser, Outline};
 use cm_text::{Limits, LineFeed, TextFault};
 use cm_tree::Doc;
@@ -154,7 +154,7 @@ fn finish(alloc: Global, mut feed: LineFeed, mut blocks: BlockParser) -> Result<
         owners,
         definitions,
     } = blocks.finish()?;
-    let blocks = with_inlines(alloc, limits, &definitions, blocks)?;
+    let blocks = read_leaves(alloc, limits, &definitions, blocks)?;
     Ok(Doc { blocks, owners })
 }
 

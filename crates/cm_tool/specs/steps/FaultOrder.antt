@@ -1,5 +1,5 @@
 -- The faults of an input in the order in which a parser meets them: a line that has ended and is too deep, what is wrong with the text,
--- the last line. The lines are those that its feed has cut.
+-- the last line, the first leaf. The lines are those that its feed has cut.
 use Rattle.std.specs.Prelude.{◌≡◌, ℕ, List, Option}
 use Rattle.std.specs.Option.{option_map, option_or}
 use Rattle.cm_text.specs.declared.fault.TextFault.{TextFault}
@@ -9,8 +9,10 @@ use Rattle.cm_text.specs.Faults.{settled_fault, text_fault}
 use Rattle.cm_text.specs.Feed.{cut_bytes}
 use Rattle.cm_scan.specs.Blocks.{first_too_deep}
 use Rattle.cm_tool.specs.declared.fault.Fault.{Fault}
-use Rattle.cm_tool.specs.declared.fault.Fault.TheVariants.{BlocksTooDeep}
+use Rattle.cm_tool.specs.declared.fault.Fault.TheVariants.{BlocksTooDeep, InlinesTooDeep}
 use Rattle.cm_tool.specs.Fault.{told}
+use Rattle.cm_tool.specs.Leaves.{first_leaf_past}
+use Rattle.cm_tool.specs.Document.{tree_of}
 use Rattle.cm_tool.specs.Faults.{fault_of, settled_fault_of}
 
 -- the first line too deep of those that have ended, and of all
@@ -20,12 +22,19 @@ ended_deep limits bytes = first_too_deep limits.rules limits.blocks (cut_bytes l
 abbrev pub all_deep : LimitsView → List ℕ → Option ℕ
 all_deep limits bytes = first_too_deep limits.rules limits.blocks (plain_lines_of (text_of bytes))
 
--- the first of the three
-abbrev pub of_three : Option ℕ → Option TextFault → Option ℕ → Option Fault
-of_three ended wrong all = option_or (option_map BlocksTooDeep ended) (option_or (option_map told wrong) (option_map BlocksTooDeep all))
+-- the first leaf too deep
+abbrev pub leaf_deep : LimitsView → List ℕ → Option ℕ
+leaf_deep limits bytes = first_leaf_past limits.inlines (tree_of limits.rules bytes)
+
+-- the first of the last two, and of all four
+abbrev pub of_two : Option ℕ → Option ℕ → Option Fault
+of_two all leaf = option_or (option_map BlocksTooDeep all) (option_map InlinesTooDeep leaf)
+
+abbrev pub of_four : Option ℕ → Option TextFault → Option ℕ → Option ℕ → Option Fault
+of_four ended wrong all leaf = option_or (option_map BlocksTooDeep ended) (option_or (option_map told wrong) (of_two all leaf))
 
 abbrev pub fault_met : LimitsView → List ℕ → Option Fault
-fault_met limits bytes = of_three (ended_deep limits bytes) (text_fault limits.bytes bytes) (all_deep limits bytes)
+fault_met limits bytes = of_four (ended_deep limits bytes) (text_fault limits.bytes bytes) (all_deep limits bytes) (leaf_deep limits bytes)
 
 -- however the bytes go on
 abbrev pub settled_fault_met : LimitsView → List ℕ → Option Fault
