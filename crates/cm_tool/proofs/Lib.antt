@@ -1,6 +1,7 @@
 pub mod AskedLemmas
 pub mod CommandLineLemmas
 pub mod EndedLemmas
+pub mod LeafLemmas
 pub mod OrderLemmas
 pub mod OwnerLemmas
 pub mod ParserLemmas
