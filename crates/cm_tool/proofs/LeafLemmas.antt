@@ -21,7 +21,7 @@ use Rattle.cm_inline.specs.declared.fault.InlineFault.TheVariants as inline
 use Rattle.cm_inline.specs.Reading.{Reads}
 use Rattle.cm_tool.specs.declared.fault.Fault.{Fault}
 use Rattle.cm_tool.specs.declared.fault.Fault.TheVariants.{InlinesTooDeep}
-use Rattle.cm_tool.specs.Leaves.{block_read, depths_in, depths_step, first_past, item_depths, leaf_depths, read_step, with_inlines}
+use Rattle.cm_tool.specs.Leaves.{block_read, depths_in, depths_step, first_past, concat_items, leaf_depths, read_step, with_inlines}
 use Rattle.cm_tool.specs.Parsing.{TellsFault}
 use Rattle.cm_tool.specs.steps.Numbering.{Passes, TellsLeaf}
 
@@ -103,13 +103,16 @@ module _ (rules : Rules) (defined : Defined) where
   blocks_are [] = refl
   blocks_are (block ∷ blocks) = ap (λ t. depths_read block ++ t) (blocks_are blocks)
 
-  pub items_are : (items : List (List Block)) → flat_map item_depths_read items ≡ item_depths (map (with_inlines rules defined) items)
-  items_are [] = refl
-  items_are (item ∷ items) = ap (λ t. item_depths_read item ++ t) (items_are items)
-
   pub quote_is : (blocks : List Block) → leaf_depths (with_inlines rules defined blocks) ≡ depths_read (Quote blocks)
   quote_is blocks = simp (fold_out-Block Block (read_step rules defined), fold_out-Block (List ℕ) depths_step, outs-Quote)
 
-  pub list_is : (kind : ListKind) (tight : Bool) (items : List (List Block))
-      → item_depths (map (with_inlines rules defined) items) ≡ depths_read (ListBlock kind tight items)
-  list_is kind tight items = simp (fold_out-Block Block (read_step rules defined), fold_out-Block (List ℕ) depths_step, outs-List)
+  items_are : (items : List (List Block)) → flat_map item_depths_read items ≡ concat_items (map (map depths_in) (map (with_inlines rules defined) items))
+  items_are [] = refl
+  items_are (item ∷ items) = ap (λ t. item_depths_read item ++ t) (items_are items)
+
+  pub list_read : (kind : ListKind) (tight : Bool) (items : List (List Block))
+      → block_read rules defined (ListBlock kind tight items) ≡ ListBlock kind tight (map (with_inlines rules defined) items)
+  list_read kind tight items = simp (fold_out-Block Block (read_step rules defined), outs-List)
+
+  pub list_depths : (kind : ListKind) (tight : Bool) (items : List (List Block)) → flat_map item_depths_read items ≡ depths_read (ListBlock kind tight items)
+  list_depths kind tight items = items_are items ∙ simp (fold_out-Block Block (read_step rules defined), fold_out-Block (List ℕ) depths_step, outs-List)

@@ -55,10 +55,6 @@ depths_in = fold-Block (List ℕ) depths_step
 abbrev pub leaf_depths : List Block → List ℕ
 leaf_depths blocks = concat (map depths_in blocks)
 
--- the same of items, each of them blocks
-abbrev pub item_depths : List (List Block) → List ℕ
-item_depths items = concat_items (map (map depths_in) items)
-
 -- the number of the first leaf whose inlines nest deeper than the limit, where the first leaf of all has this number
 abbrev pub first_past : (limit first : ℕ) → (depths : List ℕ) → Option ℕ
 first_past limit first depths = position_from (λ depth. nat_lt limit depth) first depths

@@ -4,7 +4,7 @@ ghost use Rattle.cm_tree.specs.Depth.{inlines_depth};
 ghost use Rattle.cm_scan.specs.Brackets.{defined_in};
 ghost use Rattle.cm_inline.specs.declared.fault.InlineFault.TheVariants as inline_faults;
 ghost use Rattle.cm_tool.specs.declared.fault.Fault.TheVariants as faults;
-ghost use Rattle.cm_tool.specs.Leaves.{content_read, block_read, with_inlines, depths_in, leaf_depths, item_depths, first_leaf_past};
+ghost use Rattle.cm_tool.specs.Leaves.{content_read, block_read, with_inlines, depths_in, leaf_depths, first_leaf_past};
 ghost use Rattle.cm_tool.specs.Parsing.{TellsFault};
 ghost use Rattle.cm_tool.specs.steps.Numbering.{Passes, TellsLeaf};
 
@@ -96,28 +96,6 @@ fn with_inlines(
     Ok(Items::from(blocks))
 }
 
-/// The same of the items of a list.
-#[cycle(leaves)]
-fn read_items(
-    alloc: Global,
-    limits: Limits,
-    definitions: &Definitions,
-    next: &mut usize,
-    items: Items<Items<Block>>,
-) -> Result<Items<Items<Block>>, Fault>
-    ensures read { IfOk result (λ read. read ≡ map (with_inlines limits.rules (defined_in definitions.now)) items) }
-    ensures passes { IfOk result (λ read. Passes limits.inlines next.old next.new (item_depths read)) }
-    ensures told { IfErr result (λ fault. TellsLeaf fault limits.inlines next.old
-        (item_depths (map (with_inlines limits.rules (defined_in definitions.now)) items))) }
-{
-    let mut items = items.into_vec();
-    for item in items.iter_mut() {
-        let inside = mem::replace(item, Items::new(alloc));
-        *item = with_inlines(alloc, limits, definitions, next, inside)?;
-    }
-    Ok(Items::from(items))
-}
-
 #[cycle(leaves)]
 fn read_block(
     alloc: Global,
@@ -139,9 +117,15 @@ fn read_block(
             *blocks = with_inlines(alloc, limits, definitions, next, inside)?;
             Ok(())
         }
-        Block::List { items, .. } => {
-            let inside = mem::replace(items, Items::new(alloc));
-            *items = read_items(alloc, limits, definitions, next, inside)?;
+        Block::List { kind, tight, items } => {
+            let (kind, tight) = (*kind, *tight);
+            let mut read = mem::replace(items, Items::new(alloc)).into_vec();
+            for item in read.iter_mut() {
+                let inside = mem::replace(item, Items::new(alloc));
+                *item = with_inlines(alloc, limits, definitions, next, inside)?;
+            }
+            let items = Items::from(read);
+            *block = Block::List { kind, tight, items };
             Ok(())
         }
         _ => {

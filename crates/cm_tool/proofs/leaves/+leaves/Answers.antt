@@ -1,11 +1,12 @@
-use Rattle.std.proofs.Common.{◌≡◌, ◌∙◌, ◌<◌, ap, sym, subst, rules, arith, get_or, length, take_all}
-use Rattle.std.specs.Prelude.{map}
+use Rattle.std.proofs.Common.{◌≡◌, ◌∙◌, ◌<◌, ap, sym, subst, rules, arith, ◌++◌, drop, get_or, length, take, take_all}
+use Rattle.std.specs.Prelude.{flat_map, map}
+use Rattle.std.proofs.Math.Seq.{take-append_seam}
 use Rattle.std.proofs.lemmas.Result.{err_from_is_err_and}
 use Rattle.cm_tree.specs.declared.tree.Block.TheVariants.{Quote, List as ListBlock}
 use Rattle.cm_scan.specs.Brackets.{defined_in}
-use Rattle.cm_tool.specs.Leaves.{block_read, depths_in, item_depths, leaf_depths, with_inlines}
+use Rattle.cm_tool.specs.Leaves.{block_read, depths_in, leaf_depths, with_inlines}
 use Rattle.cm_tool.specs.steps.Numbering.{Passes, TellsLeaf}
-use Rattle.cm_tool.proofs.LeafLemmas.{blocks_are, depths_read, item_depths_read, items_are, list_is, next_passes, next_told, quote_is, read_next}
+use Rattle.cm_tool.proofs.LeafLemmas.{blocks_are, depths_read, item_depths_read, list_depths, list_read, next_passes, next_told, quote_is, read_next}
 use Rattle.cm_tool.proofs.leaves.+leaves.Goals as goal
 
 pub read_block-returns-in_err-blocks-in-Quote-clause-told : goal.read_block-returns-in_err-blocks-in-Quote-clause-told
@@ -16,16 +17,6 @@ read_block-returns-in_err-blocks-in-Quote-clause-told t c =
     let block_is : Quote c.replace-inside.result ≡ c.args.block.now = search rules in
     rw (p.1, p.2) (subst (TellsLeaf c.in_err-blocks-in-Quote.field-0.0 limits.inlines c.args.next.now)
     (quote_is limits.rules defined c.replace-inside.result ∙ ap (depths_read limits.rules defined) block_is) c.in_err-blocks-in-Quote.ensures.told)
-
-pub read_block-returns-in_err-items-in-List-clause-told : goal.read_block-returns-in_err-items-in-List-clause-told
-read_block-returns-in_err-items-in-List-clause-told t c =
-    let p = err_from_is_err_and c.from_residual-in_err-items-in-List.result c.from_residual-in_err-items-in-List.ensures.1 in
-    let limits = c.args.limits in
-    let defined = defined_in c.args.definitions.now in
-    let items = c.replace-inside-in-List.result in
-    let block_is : ListBlock c.in-List.kind c.in-List.tight items ≡ c.args.block.now = search rules in
-    rw (p.1, p.2) (subst (TellsLeaf c.in_err-items-in-List.field-0.0 limits.inlines c.args.next.now)
-    (list_is limits.rules defined c.in-List.kind c.in-List.tight items ∙ ap (depths_read limits.rules defined) block_is) c.in_err-items-in-List.ensures.told)
 
 pub with_inlines-returns-in_err-read_block-clause-told : goal.with_inlines-returns-in_err-read_block-clause-told
 with_inlines-returns-in_err-read_block-clause-told t c =
@@ -67,45 +58,68 @@ with_inlines-returns-clause-passes t c =
     let blocks = c.deref_mut-block-items.result.now in
     let at = c.loop-block.block-index in
     let items = c.loop-block.block-items in
-    let made : c.from.result ≡ items = search rules in
+    let len_is : c.into_vec-blocks.result.len ≡ length items = search (rules, c.deref_mut-block-items.ensures.len) in
+    let made : c.from.result ≡ items = c.from.ensures ∙ ap (λ n. take n (items ++ drop (length items) c.into_vec-blocks.result.items)) len_is ∙ take-append_seam items _ in
     let read = made ∙ sym (take_all at items (search (rules, arith))) ∙ so_far.1 in
-    ?
+    subst (Passes limits.inlines c.args.next.now c.loop-block.next) (blocks_are limits.rules defined (take at blocks) ∙ ap leaf_depths (sym read)) so_far.2
 
-pub read_items-loop-item-preserved : goal.read_items-loop-item-preserved
-read_items-loop-item-preserved t c =
+pub read_block-loop-item-preserved : goal.read_block-loop-item-preserved
+read_block-loop-item-preserved t c =
     let limits = c.args.limits in
     let defined = defined_in c.args.definitions.now in
     let so_far = c.loop-item.invariant in
     let at = c.loop-item.item-index in
     let items = c.deref_mut-item-items.result.now in
-    let here : c.replace-inside.result ≡ get_or items at c.item-item.result = c.replace-inside.ensures.value ∙ so_far.0.1 at c.item-item.result (omega arith) in
-    let read_is = c.in_ok-item.ensures.read ∙ ap (with_inlines limits.rules defined) here in
+    let here : c.replace-inside-in-loop-item.result ≡ get_or items at c.item-item.result = c.replace-inside-in-loop-item.ensures.value ∙ so_far.0.1 at c.item-item.result (omega arith) in
+    let read_is = c.in_ok-item-in-List.ensures.read ∙ ap (with_inlines limits.rules defined) here in
     let within : at < length items = search (rules, arith) in (
       search rules,
-      read_next (with_inlines limits.rules defined) c.loop-item.item-items items at c.item-item.result c.in_ok-item.field-0 (search (rules, arith)) within so_far.1 read_is,
-      next_passes (item_depths_read limits.rules defined) limits.inlines c.args.next.now c.loop-item.next c.with_inlines.new.next items at c.item-item.result within so_far.2
-      (subst (λ b. Passes limits.inlines c.loop-item.next c.with_inlines.new.next (leaf_depths b)) read_is c.in_ok-item.ensures.passes),
+      read_next (with_inlines limits.rules defined) c.loop-item.item-items items at c.item-item.result c.in_ok-item-in-List.field-0 (search (rules, arith)) within so_far.1 read_is,
+      next_passes (item_depths_read limits.rules defined) limits.inlines c.args.next.now c.loop-item.next c.with_inlines-in-loop-item.new.next items at c.item-item.result within so_far.2
+      (subst (λ b. Passes limits.inlines c.loop-item.next c.with_inlines-in-loop-item.new.next (leaf_depths b)) read_is c.in_ok-item-in-List.ensures.passes),
     )
 
-pub read_items-returns-in_err-item-clause-told : goal.read_items-returns-in_err-item-clause-told
-read_items-returns-in_err-item-clause-told t c =
-    let p = err_from_is_err_and c.from_residual.result c.from_residual.ensures.1 in
+pub read_block-returns-in_err-item-in-List-clause-told : goal.read_block-returns-in_err-item-in-List-clause-told
+read_block-returns-in_err-item-in-List-clause-told t c =
+    let p = err_from_is_err_and c.from_residual-in_err-item-in-List.result c.from_residual-in_err-item-in-List.ensures.1 in
     let limits = c.args.limits in
     let defined = defined_in c.args.definitions.now in
     let so_far = c.loop-item.invariant in
     let at = c.loop-item.item-index in
     let items = c.deref_mut-item-items.result.now in
-    let fault = c.in_err-item.field-0.0 in
-    let same : items ≡ c.args.items = search rules in
+    let fault = c.in_err-item-in-List.field-0.0 in
+    let block_is : ListBlock c.in-List.kind c.in-List.tight items ≡ c.args.block.now = search rules in
     let within : at < length items = search (rules, arith) in
-    let here : c.replace-inside.result ≡ get_or items at c.item-item.result = c.replace-inside.ensures.value ∙ so_far.0.1 at c.item-item.result (omega arith) in
-    rw (p.1, p.2) (subst (λ is. TellsLeaf fault limits.inlines c.args.next.now (item_depths (map (with_inlines limits.rules defined) is))) same
-    (subst (TellsLeaf fault limits.inlines c.args.next.now) (items_are limits.rules defined items)
+    let here : c.replace-inside-in-loop-item.result ≡ get_or items at c.item-item.result = c.replace-inside-in-loop-item.ensures.value ∙ so_far.0.1 at c.item-item.result (omega arith) in
+    rw (p.1, p.2) (subst (TellsLeaf fault limits.inlines c.args.next.now) (list_depths limits.rules defined c.in-List.kind c.in-List.tight items ∙ ap (depths_read limits.rules defined) block_is)
     (next_told (item_depths_read limits.rules defined) limits.inlines fault c.args.next.now c.loop-item.next items at c.item-item.result within so_far.2
-    (subst (λ b. TellsLeaf fault limits.inlines c.loop-item.next (item_depths_read limits.rules defined b)) here c.in_err-item.ensures.told))))
+    (subst (λ b. TellsLeaf fault limits.inlines c.loop-item.next (item_depths_read limits.rules defined b)) here c.in_err-item-in-List.ensures.told)))
 
-pub read_items-with_inlines-requires : goal.read_items-with_inlines-requires
-read_items-with_inlines-requires t c = ?
+pub read_block-returns-after-loop-item-clause-read : goal.read_block-returns-after-loop-item-clause-read
+read_block-returns-after-loop-item-clause-read t c =
+    let limits = c.args.limits in
+    let defined = defined_in c.args.definitions.now in
+    let so_far = c.loop-item.invariant in
+    let at = c.loop-item.item-index in
+    let old = c.deref_mut-item-items.result.now in
+    let items = c.loop-item.item-items in
+    let len_is : c.into_vec-read.result.len ≡ length items = search (rules, c.deref_mut-item-items.ensures.len) in
+    let made : c.from-items.result ≡ items = c.from-items.ensures ∙ ap (λ n. take n (items ++ drop (length items) c.into_vec-read.result.items)) len_is ∙ take-append_seam items _ in
+    let read : c.from-items.result ≡ map (with_inlines limits.rules defined) old = made ∙ sym (take_all at items (search (rules, arith))) ∙ so_far.1 ∙ ap (map (with_inlines limits.rules defined)) (take_all at old c.loop-item-test.false) in
+    let block_is : ListBlock c.in-List.kind c.in-List.tight old ≡ c.args.block.now = search rules in
+    rw (read, c.in-List.kind-is, c.in-List.tight-is) (sym (list_read limits.rules defined c.in-List.kind c.in-List.tight old) ∙ ap (block_read limits.rules defined) block_is)
 
-pub read_items-returns-clause-passes : goal.read_items-returns-clause-passes
-read_items-returns-clause-passes t c = ?
+pub read_block-returns-after-loop-item-clause-passes : goal.read_block-returns-after-loop-item-clause-passes
+read_block-returns-after-loop-item-clause-passes t c =
+    let limits = c.args.limits in
+    let defined = defined_in c.args.definitions.now in
+    let so_far = c.loop-item.invariant in
+    let at = c.loop-item.item-index in
+    let old = c.deref_mut-item-items.result.now in
+    let items = c.loop-item.item-items in
+    let len_is : c.into_vec-read.result.len ≡ length items = search (rules, c.deref_mut-item-items.ensures.len) in
+    let made : c.from-items.result ≡ items = c.from-items.ensures ∙ ap (λ n. take n (items ++ drop (length items) c.into_vec-read.result.items)) len_is ∙ take-append_seam items _ in
+    let read : c.from-items.result ≡ map (with_inlines limits.rules defined) old = made ∙ sym (take_all at items (search (rules, arith))) ∙ so_far.1 ∙ ap (map (with_inlines limits.rules defined)) (take_all at old c.loop-item-test.false) in
+    rw (read, c.in-List.kind-is, c.in-List.tight-is)
+    (subst (Passes limits.inlines c.args.next.now c.loop-item.next) (ap (flat_map (item_depths_read limits.rules defined)) (take_all at old c.loop-item-test.false)
+    ∙ list_depths limits.rules defined c.in-List.kind c.in-List.tight old ∙ ap depths_in (list_read limits.rules defined c.in-List.kind c.in-List.tight old)) so_far.2)

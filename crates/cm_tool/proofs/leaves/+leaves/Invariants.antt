@@ -6,8 +6,8 @@ use Rattle.cm_tool.specs.steps.Numbering.{Passes}
 use Rattle.cm_tool.proofs.LeafLemmas.{depths_read, item_depths_read}
 use Rattle.cm_tool.proofs.leaves.+leaves.Given as goal
 
-abbrev pub invariant-read_items-loop-item : goal.invariant-read_items-loop-item
-invariant-read_items-loop-item l = goal.unvisited-read_items-loop-item l
+abbrev pub invariant-read_block-loop-item : goal.invariant-read_block-loop-item
+invariant-read_block-loop-item l = goal.unvisited-read_block-loop-item l
     × (take l.item-index l.item-items ≡ map (with_inlines l.limits.rules (defined_in l.definitions)) (take l.item-index l.initial.item-items))
     × Passes l.limits.inlines l.initial.next l.next (flat_map (item_depths_read l.limits.rules (defined_in l.definitions)) (take l.item-index l.initial.item-items))
 
