@@ -14,7 +14,7 @@ use Rattle.cm_block.proofs.Depths.{too_deep_stays}
 use Rattle.cm_tool.specs.declared.fault.Fault.TheVariants.{BlocksTooDeep}
 use Rattle.cm_tool.specs.Fault.{told}
 use Rattle.cm_tool.specs.Faults.{too_deep, sound_front, ended_too_deep, fault_by}
-use Rattle.cm_tool.specs.steps.FaultOrder.{ended_deep, all_deep, of_three, fault_met, FaultsInOrder}
+use Rattle.cm_tool.specs.steps.FaultOrder.{ended_deep, all_deep, leaf_deep, of_two, of_four, fault_met, FaultsInOrder}
 use Rattle.cm_tool.proofs.EndedLemmas.{all_are_lines}
 
 module _ (limits : LimitsView) (bytes : List ℕ) where
@@ -22,20 +22,20 @@ module _ (limits : LimitsView) (bytes : List ℕ) where
   ended_are = ap (too_deep limits) (sym (ended_lines_are_cut (text_of (sound_front limits.bytes bytes))))
 
   -- without a fault of the text, the lines that have ended are the first of all
-  all_after_ended : (ended : Option ℕ) → ended_deep limits bytes ≡ ended → text_fault limits.bytes bytes ≡ None
-      → option_or (option_map BlocksTooDeep ended) (option_map BlocksTooDeep (all_deep limits bytes)) ≡ option_map BlocksTooDeep (all_deep limits bytes)
-  all_after_ended None deep sound = refl
-  all_after_ended (Some n) deep sound =
+  all_after_ended : (ended leaf : Option ℕ) → ended_deep limits bytes ≡ ended → text_fault limits.bytes bytes ≡ None
+      → option_or (option_map BlocksTooDeep ended) (of_two (all_deep limits bytes) leaf) ≡ of_two (all_deep limits bytes) leaf
+  all_after_ended None leaf deep sound = refl
+  all_after_ended (Some n) leaf deep sound =
       let lines = (cut_bytes limits.bytes bytes).ended in
       let rest = map plain_line (last_line (cut_bytes limits.bytes bytes).partial) in
       let whole : plain_lines_of (text_of bytes) ≡ lines ++ rest = whole_lines limits.bytes bytes sound in
       let first = too_deep_stays limits.rules limits.blocks n lines rest (subst AreLines whole (all_are_lines (text_of bytes))) deep in
-      sym (ap (λ all. option_map BlocksTooDeep (first_too_deep limits.rules limits.blocks all)) whole ∙ ap (option_map BlocksTooDeep) first)
+      sym (ap (λ all. of_two (first_too_deep limits.rules limits.blocks all) leaf) whole ∙ ap (λ all. of_two all leaf) first)
 
   by_text : (wrong : Option TextFault) → text_fault limits.bytes bytes ≡ wrong
-      → fault_by wrong limits bytes ≡ of_three (ended_deep limits bytes) wrong (all_deep limits bytes)
+      → fault_by wrong limits bytes ≡ of_four (ended_deep limits bytes) wrong (all_deep limits bytes) (leaf_deep limits bytes)
   by_text (Some fault) is = ap (λ first. option_or first (Some (told fault))) ended_are
-  by_text None is = sym (all_after_ended (ended_deep limits bytes) refl is)
+  by_text None is = sym (all_after_ended (ended_deep limits bytes) (leaf_deep limits bytes) refl is)
 
   pub in_order : fault_by (text_fault limits.bytes bytes) limits bytes ≡ fault_met limits bytes
   in_order = by_text (text_fault limits.bytes bytes) refl

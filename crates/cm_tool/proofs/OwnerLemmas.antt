@@ -8,55 +8,57 @@ use Rattle.cm_tree.specs.declared.tree.Block.{Block}
 use Rattle.cm_tree.specs.declared.tree.Block.TheFolds.{fold-Block, fold_out-Block}
 use Rattle.cm_tree.specs.declared.tree.Block.TheVariants.{Quote, List as ListBlock, outs-Paragraph, outs-Heading, outs-Code, outs-Html, outs-Break, outs-Definition, outs-Quote, outs-List}
 use Rattle.cm_tree.specs.declared.tree.ListKind.{ListKind}
+use Rattle.cm_scan.specs.Brackets.{Defined}
 use Rattle.cm_scan.specs.Parts.{LeafPart, paragraph, heading, code, html, thematic_break, definition, Parts, none, blank, leaf, quote, list, ItemParts, last_item, item, leaf_block, is_loose, tree_of, items_of, leaf_count, item_leaf_count}
 use Rattle.cm_scan.specs.Blocks.{parts_of, blocks_of}
 use Rattle.cm_scan.specs.Laws.{total_of_all, leaves_step, leaves_in}
 use Rattle.cm_scan.proofs.Owners.{quote-leaves, list-leaves, tree-leaves}
 use Rattle.cm_scan.proofs.Counted.{one_owner, in_order}
 use Rattle.cm_tool.specs.Leaves.{read_step, block_read, with_inlines}
+use Rattle.cm_tool.specs.Document.{defined_by}
 use Rattle.cm_tool.specs.Owners.{OneOwnerALine, RunsInOrder}
 use Rattle.cm_tool.proofs.EndedLemmas.{all_are_lines}
 
 abbrev leaves : Block → ℕ
 leaves block = fold-Block ℕ leaves_step block
 
-module _ (rules : Rules) where
+module _ (rules : Rules) (defined : Defined) where
   -- one block with its inlines read
 
-  leaf-read : (x : LeafPart) → leaves (block_read rules (leaf_block x)) ≡ 1
-  leaf-read (paragraph source) = simp (fold_out-Block Block (read_step rules), fold_out-Block ℕ leaves_step, outs-Paragraph)
-  leaf-read (heading level source) = simp (fold_out-Block Block (read_step rules), fold_out-Block ℕ leaves_step, outs-Heading)
-  leaf-read (code info text) = simp (fold_out-Block Block (read_step rules), fold_out-Block ℕ leaves_step, outs-Code)
-  leaf-read (html text) = simp (fold_out-Block Block (read_step rules), fold_out-Block ℕ leaves_step, outs-Html)
-  leaf-read thematic_break = simp (fold_out-Block Block (read_step rules), fold_out-Block ℕ leaves_step, outs-Break)
-  leaf-read (definition label dest title) = simp (fold_out-Block Block (read_step rules), fold_out-Block ℕ leaves_step, outs-Definition)
+  leaf-read : (x : LeafPart) → leaves (block_read rules defined (leaf_block x)) ≡ 1
+  leaf-read (paragraph source) = simp (fold_out-Block Block (read_step rules defined), fold_out-Block ℕ leaves_step, outs-Paragraph)
+  leaf-read (heading level source) = simp (fold_out-Block Block (read_step rules defined), fold_out-Block ℕ leaves_step, outs-Heading)
+  leaf-read (code info text) = simp (fold_out-Block Block (read_step rules defined), fold_out-Block ℕ leaves_step, outs-Code)
+  leaf-read (html text) = simp (fold_out-Block Block (read_step rules defined), fold_out-Block ℕ leaves_step, outs-Html)
+  leaf-read thematic_break = simp (fold_out-Block Block (read_step rules defined), fold_out-Block ℕ leaves_step, outs-Break)
+  leaf-read (definition label dest title) = simp (fold_out-Block Block (read_step rules defined), fold_out-Block ℕ leaves_step, outs-Definition)
 
-  quote-read : (blocks : List Block) → block_read rules (Quote blocks) ≡ Quote (with_inlines rules blocks)
-  quote-read blocks = simp (fold_out-Block Block (read_step rules), outs-Quote)
+  quote-read : (blocks : List Block) → block_read rules defined (Quote blocks) ≡ Quote (with_inlines rules defined blocks)
+  quote-read blocks = simp (fold_out-Block Block (read_step rules defined), outs-Quote)
 
-  list-read : (kind : ListKind) (tight : Bool) (items : List (List Block)) → block_read rules (ListBlock kind tight items) ≡ ListBlock kind tight (map (with_inlines rules) items)
-  list-read kind tight items = simp (fold_out-Block Block (read_step rules), outs-List)
+  list-read : (kind : ListKind) (tight : Bool) (items : List (List Block)) → block_read rules defined (ListBlock kind tight items) ≡ ListBlock kind tight (map (with_inlines rules defined) items)
+  list-read kind tight items = simp (fold_out-Block Block (read_step rules defined), outs-List)
 
   -- as many leaves as before
 
   mutual
     unfolding tree_of items_of leaf_count item_leaf_count
 
-    leaves-read : (p : Parts) → leaves_in (with_inlines rules (tree_of p)) ≡ leaf_count p
+    leaves-read : (p : Parts) → leaves_in (with_inlines rules defined (tree_of p)) ≡ leaf_count p
     leaves-read none = refl
     leaves-read (blank rest) = leaves-read rest
     leaves-read (leaf x lines rest) = omega (arith, leaf-read x, leaves-read rest)
     leaves-read (quote inside rest) =
-        let one : leaves (block_read rules (Quote (tree_of inside))) ≡ leaf_count inside =
-        ap leaves (quote-read (tree_of inside)) ∙ quote-leaves (with_inlines rules (tree_of inside)) ∙ leaves-read inside in
+        let one : leaves (block_read rules defined (Quote (tree_of inside))) ≡ leaf_count inside =
+        ap leaves (quote-read (tree_of inside)) ∙ quote-leaves (with_inlines rules defined (tree_of inside)) ∙ leaves-read inside in
         omega (arith, one, leaves-read rest)
     leaves-read (list kind items rest) =
         let tight = not (is_loose items) in
-        let one : leaves (block_read rules (ListBlock kind tight (items_of items))) ≡ item_leaf_count items =
-        ap leaves (list-read kind tight (items_of items)) ∙ list-leaves kind tight (map (with_inlines rules) (items_of items)) ∙ items-read items in
+        let one : leaves (block_read rules defined (ListBlock kind tight (items_of items))) ≡ item_leaf_count items =
+        ap leaves (list-read kind tight (items_of items)) ∙ list-leaves kind tight (map (with_inlines rules defined) (items_of items)) ∙ items-read items in
         omega (arith, one, leaves-read rest)
 
-    items-read : (items : ItemParts) → total_of_all (map (map (fold-Block ℕ leaves_step)) (map (with_inlines rules) (items_of items))) ≡ item_leaf_count items
+    items-read : (items : ItemParts) → total_of_all (map (map (fold-Block ℕ leaves_step)) (map (with_inlines rules defined) (items_of items))) ≡ item_leaf_count items
     items-read (last_item inside) = omega (arith, leaves-read inside)
     items-read (item inside blanks items) = omega (arith, leaves-read inside, items-read items)
 
@@ -67,6 +69,7 @@ one_owner_a_line rules bytes =
 pub runs_in_order : RunsInOrder
 unfolding blocks_of
 runs_in_order rules bytes =
-    let parts = parts_of rules (plain_lines_of (text_of bytes)) in
-    in_order rules (plain_lines_of (text_of bytes)) (all_are_lines (text_of bytes))
-    ∙ ap Some (tree-leaves parts ∙ sym (leaves-read rules parts))
+    let lines = plain_lines_of (text_of bytes) in
+    let parts = parts_of rules lines in
+    in_order rules lines (all_are_lines (text_of bytes))
+    ∙ ap Some (tree-leaves parts ∙ sym (leaves-read rules (defined_by rules lines) parts))

@@ -12,18 +12,26 @@ use Rattle.cm_text.specs.Faults.{settled_fault, text_fault}
 use Rattle.cm_text.specs.Feed.{Feed, StandsFor as FeedStandsFor, StandsAs, HasEnded, Answers as FeedAnswers, cut_bytes, with_ready}
 use Rattle.cm_text.proofs.FeedLemmas.{goes, goes_on, whole_lines}
 use Rattle.cm_scan.specs.Blocks.{first_too_deep}
+use Rattle.cm_scan.specs.Brackets.{defined_in}
 use Rattle.cm_scan.specs.Laws.{AreLines}
+use Rattle.cm_tree.specs.declared.tree.Block.{Block}
+use Rattle.cm_tree.specs.declared.tree.Owner.{Owner}
+use Rattle.cm_tree.specs.declared.tree.Doc.{Doc}
 use Rattle.cm_block.specs.declared.fault.BlockFault.{BlockFault}
 use Rattle.cm_block.specs.declared.fault.BlockFault.TheVariants as blocks
 use Rattle.cm_block.specs.declared.parser.BlockParser.{BlockParser}
-use Rattle.cm_block.specs.Parser.{StandsFor as HasTaken, TellsDepth}
+use Rattle.cm_block.specs.declared.parser.Outline.{Outline}
+use Rattle.cm_block.specs.Parser.{OutlineOf, StandsFor as HasTaken, TellsDepth}
 use Rattle.cm_block.proofs.Depths.{too_deep_stays}
-use Rattle.cm_tool.specs.declared.fault.Fault.TheVariants.{BlocksTooDeep}
+use Rattle.cm_tool.specs.declared.fault.Fault.{Fault}
+use Rattle.cm_tool.specs.declared.fault.Fault.TheVariants.{BlocksTooDeep, InlinesTooDeep}
 use Rattle.cm_tool.specs.Fault.{told, refused}
+use Rattle.cm_tool.specs.Leaves.{first_leaf_past, with_inlines}
+use Rattle.cm_tool.specs.Document.{doc_of, tree_of}
 use Rattle.cm_tool.specs.Faults.{fault_of, settled_fault_of}
 use Rattle.cm_tool.specs.Parsing.{Goes, TellsFault}
 use Rattle.cm_tool.proofs.EndedLemmas.{all_are_lines, ended_are_lines, ended_stay}
-use Rattle.cm_tool.specs.steps.FaultOrder.{of_three}
+use Rattle.cm_tool.specs.steps.FaultOrder.{leaf_deep, of_four, of_two}
 use Rattle.cm_tool.proofs.OrderLemmas.{faults_in_order}
 
 -- an answer without a fault, and with one
@@ -159,7 +167,7 @@ module _ (limits : LimitsView) where
       fault_is : (fault : TextFault) → text_fault limits.bytes bytes ≡ Some fault → fault_of limits bytes ≡ Some (told fault)
       fault_is fault e =
           (faults_in_order limits bytes).0
-          ∙ ap₂ (λ o t. of_three o t (deep (plain_lines_of (text_of bytes)))) (none_deep before (ended_of bytes) g.same_limits g.handed) e
+          ∙ ap₂ (λ o t. of_four o t (deep (plain_lines_of (text_of bytes))) (leaf_deep limits bytes)) (none_deep before (ended_of bytes) g.same_limits g.handed) e
 
       by_fault : (fault : TextFault) → FeedAnswers (Err fault) (text_fault limits.bytes bytes) → TellsFault (told fault) (fault_of limits bytes)
       by_fault (text.NotUtf8 at) e = fault_is (text.NotUtf8 at) e
@@ -182,10 +190,11 @@ module _ (limits : LimitsView) where
       record { sound = no_fault; whole = rest_of_front (ended_of bytes) (plain_lines_of (text_of bytes)) feed.cut.ended front h.ready }
 
   fault_by_lines : (feed : Feed) (before : BlockParser) (bytes : List ℕ) (all : Option ℕ) → Goes limits feed before bytes → text_fault limits.bytes bytes ≡ None
-      → deep (plain_lines_of (text_of bytes)) ≡ all → fault_of limits bytes ≡ option_map BlocksTooDeep all
+      → deep (plain_lines_of (text_of bytes)) ≡ all → fault_of limits bytes ≡ of_two all (leaf_deep limits bytes)
   fault_by_lines feed before bytes all g sound e =
       (faults_in_order limits bytes).0
-      ∙ ap₂ (λ o t. of_three o t (deep (plain_lines_of (text_of bytes)))) (none_deep before (ended_of bytes) g.same_limits g.handed) sound ∙ ap (option_map BlocksTooDeep) e
+      ∙ ap₂ (λ o t. of_four o t (deep (plain_lines_of (text_of bytes))) (leaf_deep limits bytes)) (none_deep before (ended_of bytes) g.same_limits g.handed) sound
+      ∙ ap (λ all. of_two all (leaf_deep limits bytes)) e
 
   -- the last line isn't taken in
   pub last_line_told : (fault : BlockFault) (feed ended : Feed) (before : BlockParser) (bytes : List ℕ) → Goes limits feed before bytes → Ended ended bytes
@@ -204,7 +213,32 @@ module _ (limits : LimitsView) where
   -- all lines are taken in
   pub whole_taken : (feed ended : Feed) (before after : BlockParser) (bytes : List ℕ) → Goes limits feed before bytes → Ended ended bytes
       → after.limits ≡ before.limits → HasTaken after (ended_of bytes ++ ended.cut.ended)
-      → (fault_of limits bytes ≡ None) × HasTaken after (plain_lines_of (text_of bytes))
+      → (fault_of limits bytes ≡ option_map InlinesTooDeep (leaf_deep limits bytes)) × HasTaken after (plain_lines_of (text_of bytes))
   whole_taken feed ended before after bytes g end same taken =
       let all = subst (HasTaken after) end.whole taken in
       (fault_by_lines feed before bytes None g end.sound (none_deep after (plain_lines_of (text_of bytes)) (same ∙ g.same_limits) all), all)
+
+  -- what reading the inlines of an outline's leaves answers: the tree of the text, or its first leaf too deep
+  tree_read : (outline : Outline) (bytes : List ℕ) → OutlineOf outline limits.rules (plain_lines_of (text_of bytes))
+      → with_inlines limits.rules (defined_in outline.definitions) outline.blocks ≡ tree_of limits.rules bytes
+  tree_read outline bytes is = ap₂ (λ table blocks. with_inlines limits.rules (defined_in table) blocks) is.definitions is.blocks
+
+  pub leaf_told : (fault : Fault) (outline : Outline) (bytes : List ℕ) → OutlineOf outline limits.rules (plain_lines_of (text_of bytes))
+      → fault_of limits bytes ≡ option_map InlinesTooDeep (leaf_deep limits bytes)
+      → TellsFault fault (option_map InlinesTooDeep (first_leaf_past limits.inlines (with_inlines limits.rules (defined_in outline.definitions) outline.blocks)))
+      → TellsFault fault (fault_of limits bytes)
+  leaf_told fault outline bytes is left told =
+      subst (TellsFault fault) (ap (λ tree. option_map InlinesTooDeep (first_leaf_past limits.inlines tree)) (tree_read outline bytes is) ∙ sym left) told
+
+  pub all_read : (outline : Outline) (read : List Block) (bytes : List ℕ) → OutlineOf outline limits.rules (plain_lines_of (text_of bytes))
+      → fault_of limits bytes ≡ option_map InlinesTooDeep (leaf_deep limits bytes)
+      → read ≡ with_inlines limits.rules (defined_in outline.definitions) outline.blocks → first_leaf_past limits.inlines read ≡ None
+      → (fault_of limits bytes ≡ None) × (record { blocks = read; owners = outline.owners } ≡ doc_of limits.rules bytes)
+  all_read outline read bytes is left read_is within =
+      let tree = read_is ∙ tree_read outline bytes is in (
+        left ∙ ap (option_map InlinesTooDeep) (ap (first_leaf_past limits.inlines) (sym tree) ∙ within),
+        ap₂ doc tree is.owners,
+      )
+    where
+      doc : List Block → List Owner → Doc
+      doc blocks owners = record { blocks = blocks; owners = owners }

@@ -5,7 +5,7 @@ use Rattle.std.specs.Io.KnownBytes.{Consumes, Keeps, IsAtEnd}
 use Rattle.cm_text.specs.Limits.{LimitsView}
 use Rattle.cm_tree.specs.declared.tree.Doc.{Doc}
 use Rattle.cm_tool.specs.declared.fault.Fault.{Fault}
-use Rattle.cm_tool.specs.declared.fault.Fault.TheVariants.{NotUtf8, TooLong, BlocksTooDeep, NoMemory, ReadFailed, WriteFailed}
+use Rattle.cm_tool.specs.declared.fault.Fault.TheVariants.{NotUtf8, TooLong, BlocksTooDeep, InlinesTooDeep, NoMemory, ReadFailed, WriteFailed}
 use Rattle.cm_tool.specs.Faults.{settled_fault_of}
 use Rattle.cm_tool.specs.Parsing.{ParserView, StandsFor, TellsFault, Finishes}
 use Rattle.cm_tool.specs.Reading.{SourceView, HasFailed, Refuses, Reads}
@@ -59,6 +59,7 @@ whole_read limits r parser source now later read so_far failed at_end finishes =
     by_result (Err (NotUtf8 at)) h = record { same = same; told = inr (sound, at_end, h) }
     by_result (Err (TooLong at)) h = record { same = same; told = inr (sound, at_end, h) }
     by_result (Err (BlocksTooDeep line)) h = record { same = same; told = inr (sound, at_end, h) }
+    by_result (Err (InlinesTooDeep leaf)) h = record { same = same; told = inr (sound, at_end, h) }
     by_result (Err NoMemory) h = same
     by_result (Err ReadFailed) h = absurd h
     by_result (Err (WriteFailed written)) h = absurd h
@@ -76,6 +77,7 @@ fault_told limits fault parser source now later read piece so_far failed told = 
     by_fault (NotUtf8 at) h = record { same = same; told = inl h }
     by_fault (TooLong at) h = record { same = same; told = inl h }
     by_fault (BlocksTooDeep line) h = record { same = same; told = inl h }
+    by_fault (InlinesTooDeep leaf) h = record { same = same; told = inl h }
     by_fault NoMemory h = same
     by_fault ReadFailed h = absurd h
     by_fault (WriteFailed written) h = absurd h

@@ -1,5 +1,6 @@
 -- The bytes so far settle a fault of an input just where the parser's test says so.
 use Rattle.std.proofs.Common.{◌≡◌, ℕ, zero, suc, ◌-◌, ◌+◌, ◌<◌, ◌≤◌, Bool, true, false, cond, List, [], ◌∷◌, ◌++◌, length, take, IsUtf8, Option, Some, None, is_some, nat_lt, refl, sym, ap, subst, ◌∙◌, arith, append-nil, length-append, take_all}
+use Rattle.std.specs.Prelude.{⊤}
 use Rattle.std.specs.Option.{option_map, option_or}
 use Rattle.std.specs.Str.Lossy.{utf8_valid_len, utf8_error_len}
 use Rattle.std.specs.Str.{is_utf8, chars}
@@ -23,22 +24,32 @@ use Rattle.cm_scan.specs.Blocks.{first_too_deep}
 use Rattle.cm_scan.specs.Laws.{AreLines}
 use Rattle.cm_block.proofs.Depths.{too_deep_stays}
 use Rattle.cm_tool.specs.declared.fault.Fault.{Fault}
-use Rattle.cm_tool.specs.declared.fault.Fault.TheVariants.{BlocksTooDeep}
+use Rattle.cm_tool.specs.declared.fault.Fault.TheVariants.{BlocksTooDeep, InlinesTooDeep}
 use Rattle.cm_tool.specs.Fault.{told}
 use Rattle.cm_tool.specs.Faults.{SettledIsTold}
-use Rattle.cm_tool.specs.steps.FaultOrder.{of_three, fault_met, settled_fault_met, ended_deep, all_deep}
+use Rattle.cm_tool.specs.steps.FaultOrder.{of_two, of_four, fault_met, settled_fault_met, ended_deep, all_deep, leaf_deep}
 use Rattle.cm_tool.proofs.OrderLemmas.{faults_in_order}
 use Rattle.cm_tool.proofs.EndedLemmas.{wider, cut_on, ended_stay, ended_are_lines}
 use lib.Utf8.{encode}
 
--- a line that is too deep is no fault of a text
-not_told : (n : ℕ) (f : TextFault) → BlocksTooDeep n ≡ told f → ⊥
-not_told n (text.NotUtf8 at) e = cc
-not_told n (text.TooLong at) e = cc
-not_told n text.NoMemory e = cc
+-- the fault of a line or of a leaf is no fault of a text
+abbrev IsOfText : Fault → Type 0
+IsOfText (BlocksTooDeep line) = ⊥
+IsOfText (InlinesTooDeep leaf) = ⊥
+IsOfText _ = ⊤
+
+told_of_text : (f : TextFault) → IsOfText (told f)
+told_of_text (text.NotUtf8 at) = tt
+told_of_text (text.TooLong at) = tt
+told_of_text text.NoMemory = tt
 
 some_same : {A : Type 0} {x y : A} → Some x ≡ Some y → x ≡ y
 some_same e = cc
+
+not_of_text : (all leaf : Option ℕ) (f : TextFault) → of_two all leaf ≡ Some (told f) → ⊥
+not_of_text (Some n) leaf f e = subst IsOfText (sym (some_same e)) (told_of_text f)
+not_of_text None (Some n) f e = subst IsOfText (sym (some_same e)) (told_of_text f)
+not_of_text None None f e = cc
 
 told_same : (f g : TextFault) → told f ≡ told g → f ≡ g
 told_same (text.NotUtf8 at) (text.NotUtf8 to) e = cc
@@ -52,11 +63,10 @@ told_same text.NoMemory (text.TooLong to) e = cc
 told_same text.NoMemory text.NoMemory e = refl
 
 -- a fault of the text comes from the text
-from_text : (ended : Option ℕ) (wrong : Option TextFault) (all : Option ℕ) (f : TextFault) → of_three ended wrong all ≡ Some (told f) → wrong ≡ Some f
-from_text (Some n) wrong all f e = absurd (not_told n f (some_same e))
-from_text None (Some g) all f e = ap Some (told_same g f (some_same e))
-from_text None None (Some n) f e = absurd (not_told n f (some_same e))
-from_text None None None f e = cc
+from_text : (ended : Option ℕ) (wrong : Option TextFault) (all leaf : Option ℕ) (f : TextFault) → of_four ended wrong all leaf ≡ Some (told f) → wrong ≡ Some f
+from_text (Some n) wrong all leaf f e = absurd (subst IsOfText (sym (some_same e)) (told_of_text f))
+from_text None (Some g) all leaf f e = ap Some (told_same g f (some_same e))
+from_text None None all leaf f e = absurd (not_of_text all leaf f e)
 
 -- where the bytes aren't UTF-8, the fault stands at the end of the longest well-formed front
 not_utf8_at : (limit : ℕ) (bytes : List ℕ) (at : ℕ) → text_fault limit bytes ≡ Some (text.NotUtf8 at) → at ≡ valid_len limit bytes
@@ -157,12 +167,12 @@ module _ (limits : LimitsView) where
           let P : List LineView → Type 0 = λ all. first_too_deep limits.rules limits.blocks all ≡ Some n in
           let still : ended_deep limits (bytes ++ more) ≡ Some n =
           subst P (sym front.1) (too_deep_stays limits.rules limits.blocks n lines front.0 (subst AreLines front.1 (ended_are_lines limits.bytes (bytes ++ more))) e) in
-          ap (λ o. of_three o (text_fault limits.bytes (bytes ++ more)) (all_deep limits (bytes ++ more))) still ∙ is
+          ap (λ o. of_four o (text_fault limits.bytes (bytes ++ more)) (all_deep limits (bytes ++ more)) (leaf_deep limits (bytes ++ more))) still ∙ is
       by_cases None (Some f) e s is =
           let still : ended_deep limits (bytes ++ more) ≡ None = ap (λ (d : Cut). first_too_deep limits.rules limits.blocks d.ended) (same_cut limits.bytes bytes more f are s) ∙ e in
           let wrong = (text_is_told limits.bytes bytes f).0 s more are in
-          ap (λ o. of_three o (text_fault limits.bytes (bytes ++ more)) (all_deep limits (bytes ++ more))) still
-          ∙ ap (λ t. of_three None t (all_deep limits (bytes ++ more))) wrong ∙ is
+          ap (λ o. of_four o (text_fault limits.bytes (bytes ++ more)) (all_deep limits (bytes ++ more)) (leaf_deep limits (bytes ++ more))) still
+          ∙ ap (λ t. of_four None t (all_deep limits (bytes ++ more)) (leaf_deep limits (bytes ++ more))) wrong ∙ is
       by_cases None None e s is = cc
 
   -- What every input has that begins with the bytes is told. Where nothing is told, the byte 255, which stands in no text, makes the
@@ -176,24 +186,24 @@ module _ (limits : LimitsView) where
       next : List ℕ
       next = bytes ++ 255 ∷ []
 
-      by_next : (all : Option ℕ) (wrong : Option TextFault) → of_three None None all ≡ Some fault → of_three None wrong (all_deep limits next) ≡ Some fault → (wrong ≡ None → ⊥) → ⊥
-      by_next None wrong e f some = cc
-      by_next (Some n) None e f some = some refl
-      by_next (Some n) (Some g) e f some = not_told n g (some_same (e ∙ sym f))
+      by_next : (all leaf : Option ℕ) (wrong : Option TextFault) → of_four None None all leaf ≡ Some fault → of_four None wrong (all_deep limits next) (leaf_deep limits next) ≡ Some fault
+          → (wrong ≡ None → ⊥) → ⊥
+      by_next all leaf None e f some = some refl
+      by_next all leaf (Some g) e f some = not_of_text all leaf g (e ∙ sym f)
 
       by_cases : (wrong : Option TextFault) → text_fault limits.bytes bytes ≡ wrong → ⊥
       by_cases (Some f) t =
-          let at_end : Some (told f) ≡ Some fault = sym (ap (λ o. of_three o (Some f) (all_deep limits bytes)) none) ∙ sym (ap (λ w. of_three (ended_deep limits bytes) w (all_deep limits bytes)) t) ∙ now in
+          let at_end : Some (told f) ≡ Some fault = sym (ap (λ o. of_four o (Some f) (all_deep limits bytes) (leaf_deep limits bytes)) none) ∙ sym (ap (λ w. of_four (ended_deep limits bytes) w (all_deep limits bytes) (leaf_deep limits bytes)) t) ∙ now in
           let told_now : settled_fault limits.bytes bytes ≡ Some f =
-          (text_is_told limits.bytes bytes f).1 (λ more are. from_text (ended_deep limits (bytes ++ more)) (text_fault limits.bytes (bytes ++ more)) (all_deep limits (bytes ++ more)) f (settles more are ∙ sym at_end)) in
+          (text_is_told limits.bytes bytes f).1 (λ more are. from_text (ended_deep limits (bytes ++ more)) (text_fault limits.bytes (bytes ++ more)) (all_deep limits (bytes ++ more)) (leaf_deep limits (bytes ++ more)) f (settles more are ∙ sym at_end)) in
           let both : None ≡ Some f = sym nothing ∙ told_now in
           cc
       by_cases None t =
           let broken = no_line_ends limits.bytes bytes t in
           let still : ended_deep limits next ≡ None = ap (λ (d : Cut). first_too_deep limits.rules limits.blocks d.ended) broken.0 ∙ none in
-          by_next (all_deep limits bytes) (text_fault limits.bytes next)
-          (sym (ap (λ o. of_three o None (all_deep limits bytes)) none) ∙ sym (ap (λ w. of_three (ended_deep limits bytes) w (all_deep limits bytes)) t) ∙ now)
-          (sym (ap (λ o. of_three o (text_fault limits.bytes next) (all_deep limits next)) still) ∙ settles (255 ∷ []) (All-cons (λ n. n < 256) 255 [] (omega arith) (All-nil (λ n. n < 256))))
+          by_next (all_deep limits bytes) (leaf_deep limits bytes) (text_fault limits.bytes next)
+          (sym (ap (λ o. of_four o None (all_deep limits bytes) (leaf_deep limits bytes)) none) ∙ sym (ap (λ w. of_four (ended_deep limits bytes) w (all_deep limits bytes) (leaf_deep limits bytes)) t) ∙ now)
+          (sym (ap (λ o. of_four o (text_fault limits.bytes next) (all_deep limits next) (leaf_deep limits next)) still) ∙ settles (255 ∷ []) (All-cons (λ n. n < 256) 255 [] (omega arith) (All-nil (λ n. n < 256))))
           broken.1
 
   comes_back : (bytes : List ℕ) (fault : Fault) → SettlesMet bytes fault → settled_fault_met limits bytes ≡ Some fault
@@ -204,10 +214,10 @@ module _ (limits : LimitsView) where
 
       by_cases : (ended : Option ℕ) (wrong : Option TextFault) → ended_deep limits bytes ≡ ended → settled_fault limits.bytes bytes ≡ wrong
           → option_or (option_map BlocksTooDeep ended) (option_map told wrong) ≡ Some fault
-      by_cases (Some n) wrong e s = sym (ap (λ o. of_three o (text_fault limits.bytes bytes) (all_deep limits bytes)) e) ∙ now
+      by_cases (Some n) wrong e s = sym (ap (λ o. of_four o (text_fault limits.bytes bytes) (all_deep limits bytes) (leaf_deep limits bytes)) e) ∙ now
       by_cases None (Some f) e s =
-          sym (ap (λ o. of_three o (Some f) (all_deep limits bytes)) e)
-          ∙ sym (ap (λ w. of_three (ended_deep limits bytes) w (all_deep limits bytes)) (settled_text limits.bytes bytes f s)) ∙ now
+          sym (ap (λ o. of_four o (Some f) (all_deep limits bytes) (leaf_deep limits bytes)) e)
+          ∙ sym (ap (λ w. of_four (ended_deep limits bytes) w (all_deep limits bytes) (leaf_deep limits bytes)) (settled_text limits.bytes bytes f s)) ∙ now
       by_cases None None e s = absurd (not_settled bytes fault e s settles)
 
 pub settled_is_told : SettledIsTold
