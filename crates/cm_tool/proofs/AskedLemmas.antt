@@ -1,7 +1,7 @@
 -- How clap reads the words that ask for a job: its name, options in any order, and a file or none.
 use Rattle.std.proofs.Common.{◌≡◌, ◌∙◌, ◌&&◌, ◌||◌, List, [], ◌∷◌, ◌++◌, map, Option, Some, None, Bool, true, false, not, refl, sym, ap, ap₂, append-nil, append_assoc}
-use Rattle.std.specs.Prelude.{codes, cond, flat_map, fold, is_some, option_and_then, option_map, slice_get, slice_index_or, string_bytes, unwrap_or, IfSome, ⊤}
-use Rattle.std.specs.List.{AllByRecursion}
+use Rattle.std.specs.Prelude.{codes, cond, find, flat_map, fold, is_some, option_and_then, option_map, slice_get, slice_index_or, string_bytes, unwrap_or, IfSome, ⊤}
+use Rattle.std.specs.List.{AllByRecursion, list_all, list_any}
 use Rattle.std.specs.Option.{option_map_or, option_or}
 use Rattle.std.specs.Str.{bytes_eq}
 use Rattle.std.proofs.lemmas.List.Folds.{find-append, list_any-append}
@@ -13,10 +13,11 @@ use Rattle.clap.specs.declared.error.kind.ErrorKind.TheVariants.{ArgumentConflic
 use Rattle.clap.specs.declared.parser.matches.ValueSource.TheVariants.{CommandLine}
 use Rattle.clap.specs.declared.builder.value_parser.Reading.TheVariants.{AsWritten}
 use Rattle.clap.proofs.OnLiterals.{clap_on_literals}
+use Rattle.cm_text.specs.Limits.{LimitsView}
 use Rattle.cm_tool.specs.declared.job.Job.{Job}
 use Rattle.cm_tool.specs.declared.job.Job.TheVariants.{Render, Tree}
 use Rattle.cm_tool.specs.declared.job.Task.{Task}
-use Rattle.cm_tool.specs.CommandLine.{each_once, file_in, file_rule, found_for, is_given, is_limit, is_option, is_set, job_in, job_of, limits_at, limits_by, limits_in, limits_of, limits_with, name_of, number_of, older_rule, option_of, rules_by, rules_in, stops_of, strike_rule, words_for, words_of, Blocks, Choice, IsTaskOf, Older, Strike}
+use Rattle.cm_tool.specs.CommandLine.{are_limits, each_once, file_in, file_rule, found_for, given_for, hold_an_option, is_given, is_limit, is_option, is_set, job_in, job_of, limits_at, limits_by, limits_in, limits_of, name_of, number_for, numbers_in, older_rule, option_of, rules_by, rules_in, stops_of, strike_rule, value_of, words_for, words_of, Blocks, Choice, Inlines, IsTaskOf, Older, Strike}
 use Rattle.cm_tool.proofs.CommandLineLemmas.{no_dashes, no_long, no_short, plain_limit}
 use Rattle.cm_tool.proofs.RowLemmas.{first_default, or_assoc, row_by, used_new, with_defaults}
 use Rattle.cm_tool.proofs.WalkedLemmas.{cmk_built, job_rules}
@@ -81,19 +82,16 @@ or_else_assoc (k ∷ ks) b c = refl
 -- the number does not begin with a hyphen
 abbrev pub IsPlainChoice : Choice → Type 0
 IsPlainChoice (Blocks number) = is_option number ≡ false
+IsPlainChoice (Inlines number) = is_option number ≡ false
 IsPlainChoice Older = ⊤
 IsPlainChoice Strike = ⊤
 
 -- what is held after an option
 abbrev after : Choice → Held → Held
 after (Blocks number) h = record { rows = (settled job_rules h).rows; pending = Some (codes "blocks", number ∷ []); skip = h.skip }
+after (Inlines number) h = record { rows = (settled job_rules h).rows; pending = Some (codes "inlines", number ∷ []); skip = h.skip }
 after Older h = reacted job_rules (filled older_rule) [] h
 after Strike h = reacted job_rules (filled strike_rule) [] h
-
-abbrev value_of : Choice → Text
-value_of (Blocks number) = number
-value_of Older = codes "true"
-value_of Strike = codes "true"
 
 -- the row that an option makes
 abbrev row_for : Choice → Row
@@ -102,6 +100,7 @@ row_for choice = record { id = option_of choice; values = value_of choice ∷ []
 -- what an option alone does wrong
 abbrev own_fault : Choice → Kinds
 own_fault (Blocks number) = cond (is_limit number) [] (ValueValidation ∷ [])
+own_fault (Inlines number) = cond (is_limit number) [] (ValueValidation ∷ [])
 own_fault Older = []
 own_fault Strike = []
 
@@ -113,11 +112,13 @@ choice_walked : (choice : Choice) (h : Held) (words : List Text) → IsPlainChoi
     → fold (walked job_rules []) (walk_from h) (words_of choice ++ words) ≡ fold (walked job_rules []) (walk_from (after choice h)) words
 unfolding clap_on_literals
 choice_walked (Blocks number) h words plain = rw (no_dashes number plain, no_long number plain, no_short number plain) refl
+choice_walked (Inlines number) h words plain = rw (no_dashes number plain, no_long number plain, no_short number plain) refl
 choice_walked Older h words plain = refl
 choice_walked Strike h words plain = refl
 
 choice_settled : (choice : Choice) (h : Held) → IsNew h choice → (settled job_rules (after choice h)).rows ≡ (settled job_rules h).rows ++ row_for choice ∷ []
 choice_settled (Blocks number) h new = used_new (codes "blocks") (number ∷ []) (settled job_rules h).rows new
+choice_settled (Inlines number) h new = used_new (codes "inlines") (number ∷ []) (settled job_rules h).rows new
 choice_settled Older h new = used_new (codes "older") (codes "true" ∷ []) (settled job_rules h).rows new
 choice_settled Strike h new = used_new (codes "strike") (codes "true" ∷ []) (settled job_rules h).rows new
 
@@ -135,6 +136,9 @@ unfolding clap_on_literals
 choice_right name (Blocks number) h words plain new =
     rw (no_dashes number plain, no_long number plain, no_short number plain)
     (ap (λ first. or_else first (walk_fault (job_shape name) [] (walk_from (after (Blocks number) h)) words)) (or_none (settle_fault job_rules false h)))
+choice_right name (Inlines number) h words plain new =
+    rw (no_dashes number plain, no_long number plain, no_short number plain)
+    (ap (λ first. or_else first (walk_fault (job_shape name) [] (walk_from (after (Inlines number) h)) words)) (or_none (settle_fault job_rules false h)))
 choice_right name Older h words plain new =
     flag_turn (settle_fault job_rules false h) (walk_fault (job_shape name) [] (walk_from (after Older h)) words) (has_row (codes "older") (settled job_rules h).rows) new
 choice_right name Strike h words plain new =
@@ -149,6 +153,7 @@ number_turn true fit new = cc
 
 choice_pending : (choice : Choice) (h : Held) → IsNew h choice → settle_fault job_rules false (after choice h) ≡ own_fault choice
 choice_pending (Blocks number) h new = number_turn (has_row (codes "blocks") (settled job_rules h).rows) (is_limit number) new
+choice_pending (Inlines number) h new = number_turn (has_row (codes "inlines") (settled job_rules h).rows) (is_limit number) new
 choice_pending Older h new = refl
 choice_pending Strike h new = refl
 
@@ -233,12 +238,23 @@ either_false false false e = (refl, refl)
 either_false false true e = cc
 either_false true b e = cc
 
+both_true : (a b : Bool) → (a && b) ≡ true → (a ≡ true) × (b ≡ true)
+both_true true b e = (refl, e)
+both_true false b e = cc
+
+-- what a number does wrong goes before what follows does
+number_fault : (fit rest : Bool) {later : Kinds} → later ≡ cond rest [] (ValueValidation ∷ [])
+    → or_else (cond fit [] (ValueValidation ∷ [])) later ≡ cond (fit && rest) [] (ValueValidation ∷ [])
+number_fault true rest is = is
+number_fault false rest is = refl
+
 -- a row that joins has another name
 still_no : (id : Text) (rows : List Row) (r : Row) → has_row id rows ≡ false → bytes_eq r.id id ≡ false → has_row id (rows ++ r ∷ []) ≡ false
 still_no id rows r new other = list_any-append (λ (x : Row). bytes_eq x.id id) rows (r ∷ []) ∙ both_false _ _ new (both_false _ _ other refl)
 
 no_file : (choice : Choice) → bytes_eq (option_of choice) (codes "file") ≡ false
 no_file (Blocks number) = refl
+no_file (Inlines number) = refl
 no_file Older = refl
 no_file Strike = refl
 
@@ -321,7 +337,7 @@ defaults_right rows (a ∷ c) right =
     either false none right = right
 
 job_defaults_right : AllByRecursion HasRightDefault job_rules
-job_defaults_right = (refl, (refl, (refl, (refl, (refl, tt)))))
+job_defaults_right = (refl, (refl, (refl, (refl, (refl, (refl, tt))))))
 
 level_right : (name : Text) (words : List Text) → level_fault (job_shape name) [] nothing_held words false [] ≡ whole_fault name nothing_held words
 level_right name words =
@@ -332,49 +348,27 @@ level_right name words =
 
 -- ---- the words that ask for a job
 
--- the number, if one is given, fits P
-abbrev NumberFits : (Text → Type 0) → Choice → Type 0
-NumberFits P (Blocks number) = P number
-NumberFits P Older = ⊤
-NumberFits P Strike = ⊤
+-- where no number begins with a hyphen, the options are plain
+plain_numbers : (choices : List Choice) → hold_an_option choices ≡ false → ArePlain choices
+plain_numbers [] plain = tt
+plain_numbers (Blocks number ∷ choices) plain = let apart = either_false _ _ plain in (apart.0, plain_numbers choices apart.1)
+plain_numbers (Inlines number ∷ choices) plain = let apart = either_false _ _ plain in (apart.0, plain_numbers choices apart.1)
+plain_numbers (Older ∷ choices) plain = (tt, plain_numbers choices plain)
+plain_numbers (Strike ∷ choices) plain = (tt, plain_numbers choices plain)
 
-no_number : (P : Text → Type 0) (choices : List Choice) → is_given (codes "blocks") choices ≡ false → AllByRecursion (NumberFits P) choices
-no_number P [] none = tt
-no_number P (Blocks number ∷ choices) none = cc
-no_number P (Older ∷ choices) none = (tt, no_number P choices none)
-no_number P (Strike ∷ choices) none = (tt, no_number P choices none)
+-- numbers in their range don't
+limits_plain : (numbers : List Text) → list_all is_limit numbers ≡ true → list_any is_option numbers ≡ false
+limits_plain [] all = refl
+limits_plain (number ∷ numbers) all =
+    let apart = both_true _ _ all in both_false _ _ (plain_limit number apart.0) (limits_plain numbers apart.1)
 
--- what is said of the number that is given is said of each
-each_number : (P : Text → Type 0) (choices : List Choice) → each_once choices ≡ true → IfSome (number_of choices) P → AllByRecursion (NumberFits P) choices
-each_number P [] once fit = tt
-each_number P (Blocks number ∷ choices) once fit = (fit, no_number P choices (no_such _ _ once).0)
-each_number P (Older ∷ choices) once fit = (tt, each_number P choices (no_such _ _ once).1 fit)
-each_number P (Strike ∷ choices) once fit = (tt, each_number P choices (no_such _ _ once).1 fit)
-
-plain_numbers : (choices : List Choice) → each_once choices ≡ true → IfSome (number_of choices) (λ n. is_option n ≡ false) → ArePlain choices
-plain_numbers choices once plain = same choices (each_number (λ n. is_option n ≡ false) choices once plain)
-  where
-    same : (cs : List Choice) → AllByRecursion (NumberFits (λ n. is_option n ≡ false)) cs → ArePlain cs
-    same [] all = tt
-    same (Blocks number ∷ cs) all = (all.0, same cs all.1)
-    same (Older ∷ cs) all = (tt, same cs all.1)
-    same (Strike ∷ cs) all = (tt, same cs all.1)
-
-number_is_plain : (o : Option Text) → IfSome o (λ n. is_limit n ≡ true) → IfSome o (λ n. is_option n ≡ false)
-number_is_plain None number = tt
-number_is_plain (Some n) number = plain_limit n number
-
-in_range : (choices : List Choice) → AllByRecursion (NumberFits (λ n. is_limit n ≡ true)) choices → all_fault choices ≡ []
-in_range [] all = refl
-in_range (Blocks number ∷ choices) all = rw (all.0) (in_range choices all.1)
-in_range (Older ∷ choices) all = in_range choices all.1
-in_range (Strike ∷ choices) all = in_range choices all.1
-
-out_of_range : (choices : List Choice) (limit : Text) → number_of choices ≡ Some limit → is_limit limit ≡ false → all_fault choices ≡ ValueValidation ∷ []
-out_of_range [] limit given out = cc
-out_of_range (Blocks number ∷ choices) limit given out = rw (ap (λ (o : Option Text). unwrap_or o limit) given, out) refl
-out_of_range (Older ∷ choices) limit given out = out_of_range choices limit given out
-out_of_range (Strike ∷ choices) limit given out = out_of_range choices limit given out
+-- the first number out of its range is what goes wrong
+numbers_fault : (choices : List Choice) → all_fault choices ≡ cond (are_limits choices) [] (ValueValidation ∷ [])
+numbers_fault [] = refl
+numbers_fault (Blocks number ∷ choices) = number_fault (is_limit number) (are_limits choices) (numbers_fault choices)
+numbers_fault (Inlines number ∷ choices) = number_fault (is_limit number) (are_limits choices) (numbers_fault choices)
+numbers_fault (Older ∷ choices) = numbers_fault choices
+numbers_fault (Strike ∷ choices) = numbers_fault choices
 
 asked_fault : (name : Text) (job : Job) (choices : List Choice) (file : Option Text) → each_once choices ≡ true → ArePlain choices
     → IfSome file (λ f. is_option f ≡ false) → stops_of (name ∷ words_for job choices file) ≡ all_fault choices
@@ -383,17 +377,18 @@ asked_fault name job choices file once plain plain_file =
     ∙ options_right (name_of job) choices file nothing_held once (all_new choices) plain plain_file
 
 pub asked_right : (name : Text) (job : Job) (choices : List Choice) (file : Option Text) → each_once choices ≡ true
-    → IfSome (number_of choices) (λ n. is_limit n ≡ true) → IfSome file (λ f. is_option f ≡ false)
+    → are_limits choices ≡ true → IfSome file (λ f. is_option f ≡ false)
     → stops_of (name ∷ words_for job choices file) ≡ []
-asked_right name job choices file once number plain =
-    asked_fault name job choices file once (plain_numbers choices once (number_is_plain (number_of choices) number)) plain
-    ∙ in_range choices (each_number (λ n. is_limit n ≡ true) choices once number)
+asked_right name job choices file once numbers plain =
+    asked_fault name job choices file once (plain_numbers choices (limits_plain (numbers_in choices) numbers)) plain
+    ∙ numbers_fault choices ∙ ap (λ b. cond b [] (ValueValidation ∷ [])) numbers
 
-pub asked_wrong : (name limit : Text) (job : Job) (choices : List Choice) (file : Option Text) → each_once choices ≡ true → number_of choices ≡ Some limit
-    → is_limit limit ≡ false → is_option limit ≡ false → IfSome file (λ f. is_option f ≡ false)
+pub asked_wrong : (name : Text) (job : Job) (choices : List Choice) (file : Option Text) → each_once choices ≡ true
+    → are_limits choices ≡ false → hold_an_option choices ≡ false → IfSome file (λ f. is_option f ≡ false)
     → stops_of (name ∷ words_for job choices file) ≡ ValueValidation ∷ []
-asked_wrong name limit job choices file once given out number plain =
-    asked_fault name job choices file once (plain_numbers choices once (rw (given) number)) plain ∙ out_of_range choices limit given out
+asked_wrong name job choices file once out numbers plain =
+    asked_fault name job choices file once (plain_numbers choices numbers) plain
+    ∙ numbers_fault choices ∙ ap (λ b. cond b [] (ValueValidation ∷ [])) out
 
 -- the rows at the end
 abbrev end_rows : List Choice → Option Text → List Row
@@ -414,24 +409,21 @@ asked_found name job choices file once plain plain_file =
 no_file_row : (choices : List Choice) → row_by (codes "file") (map row_for choices) ≡ None
 no_file_row [] = refl
 no_file_row (Blocks number ∷ choices) = no_file_row choices
+no_file_row (Inlines number ∷ choices) = no_file_row choices
 no_file_row (Older ∷ choices) = no_file_row choices
 no_file_row (Strike ∷ choices) = no_file_row choices
-
-number_row : (choices : List Choice) → row_by (codes "blocks") (map row_for choices) ≡ option_map (λ n. row_for (Blocks n)) (number_of choices)
-number_row [] = refl
-number_row (Blocks number ∷ choices) = refl
-number_row (Older ∷ choices) = number_row choices
-number_row (Strike ∷ choices) = number_row choices
 
 older_row : (choices : List Choice) → row_by (codes "older") (map row_for choices) ≡ cond (is_given (codes "older") choices) (Some (row_for Older)) None
 older_row [] = refl
 older_row (Blocks number ∷ choices) = older_row choices
+older_row (Inlines number ∷ choices) = older_row choices
 older_row (Older ∷ choices) = refl
 older_row (Strike ∷ choices) = older_row choices
 
 strike_row : (choices : List Choice) → row_by (codes "strike") (map row_for choices) ≡ cond (is_given (codes "strike") choices) (Some (row_for Strike)) None
 strike_row [] = refl
 strike_row (Blocks number ∷ choices) = strike_row choices
+strike_row (Inlines number ∷ choices) = strike_row choices
 strike_row (Older ∷ choices) = strike_row choices
 strike_row (Strike ∷ choices) = refl
 
@@ -455,16 +447,37 @@ end_file choices file = ap text_of (end_row (codes "file") choices file None (no
     either None = refl
     either (Some t) = refl
 
-end_number : (choices : List Choice) (file : Option Text) → first_of (codes "blocks") (end_rows choices file) ≡ Some (unwrap_or (number_of choices) (codes "100"))
+-- the value of an option that is given, or else this row's
+value_row : (name default : Text) (row : Option Row) → text_of row ≡ Some default → (choices : List Choice)
+    → text_of (option_or (row_by name (map row_for choices)) row) ≡ Some (unwrap_or (given_for name choices) default)
 unfolding text_of
-end_number choices file = ap text_of (end_row (codes "blocks") choices file _ (number_row choices)) ∙ either (number_of choices) file
+value_row name default row is [] = is
+value_row name default row is (choice ∷ choices) = go (bytes_eq (option_of choice) name) (value_row name default row is choices)
   where
-    either : (n f : Option Text)
-        → text_of (option_or (option_map (λ x. row_for (Blocks x)) n) (option_or (row_by (codes "blocks") (file_rows f)) (first_default (codes "blocks") job_rules)))
-        ≡ Some (unwrap_or n (codes "100"))
-    either None None = refl
-    either None (Some f) = refl
-    either (Some n) f = refl
+    go : (b : Bool) → text_of (option_or (row_by name (map row_for choices)) row) ≡ Some (unwrap_or (given_for name choices) default)
+        → text_of (option_or (cond b (Some (row_for choice)) (row_by name (map row_for choices))) row)
+        ≡ Some (unwrap_or (option_map value_of (cond b (Some choice) (find (λ c. bytes_eq (option_of c) name) choices))) default)
+    go true rest = refl
+    go false rest = rest
+
+-- an option that takes a number has the one that is given, or its default
+end_number : (name : Text) (choices : List Choice) (file : Option Text)
+    → text_of (option_or (row_by name (file_rows file)) (first_default name job_rules)) ≡ Some (codes "100")
+    → first_of name (end_rows choices file) ≡ Some (number_for name choices)
+unfolding text_of
+end_number name choices file default =
+    ap text_of (end_row name choices file (row_by name (map row_for choices)) refl)
+    ∙ value_row name (codes "100") (option_or (row_by name (file_rows file)) (first_default name job_rules)) default choices
+
+blocks_default : (file : Option Text) → text_of (option_or (row_by (codes "blocks") (file_rows file)) (first_default (codes "blocks") job_rules)) ≡ Some (codes "100")
+unfolding text_of
+blocks_default None = refl
+blocks_default (Some f) = refl
+
+inlines_default : (file : Option Text) → text_of (option_or (row_by (codes "inlines") (file_rows file)) (first_default (codes "inlines") job_rules)) ≡ Some (codes "100")
+unfolding text_of
+inlines_default None = refl
+inlines_default (Some f) = refl
 
 is_true : Option Row → Bool
 is_true row = option_map_or (λ value. bytes_eq value (codes "true")) (text_of row) false
@@ -491,21 +504,19 @@ end_strike choices file = ap is_true (end_row (codes "strike") choices file _ (s
 
 end_limits : (choices : List Choice) (file : Option Text) → limits_at (end_rows choices file) ≡ limits_by choices
 end_limits choices file =
-    ap (option_and_then (limits_of (rules_in (end_rows choices file)))) (end_number choices file)
-    ∙ ap₂ (λ older strike. limits_of (record { older = older; strike = strike }) (unwrap_or (number_of choices) (codes "100"))) (end_older choices file) (end_strike choices file)
-    ∙ either (number_of choices)
-  where
-    either : (n : Option Text) → limits_of (rules_by choices) (unwrap_or n (codes "100")) ≡ option_map_or (limits_of (rules_by choices)) n (limits_with (rules_by choices) 100)
-    either None = refl
-    either (Some n) = refl
+    let rows = end_rows choices file in
+    let both : Option Text → Option Text → Option LimitsView = λ blocks inlines. option_and_then (λ b. option_and_then (limits_of (rules_in rows) b) inlines) blocks in
+    ap₂ both (end_number (codes "blocks") choices file (blocks_default file)) (end_number (codes "inlines") choices file (inlines_default file))
+    ∙ ap₂ (λ older strike. limits_of (record { older = older; strike = strike }) (number_for (codes "blocks") choices) (number_for (codes "inlines") choices))
+    (end_older choices file) (end_strike choices file)
 
 -- so the task is the one that they ask for
 pub asked_task : (name : Text) (job : Job) (choices : List Choice) (file : Option Text) (task : Task) → each_once choices ≡ true
-    → IfSome (number_of choices) (λ n. is_limit n ≡ true) → IfSome file (λ f. is_option f ≡ false)
+    → are_limits choices ≡ true → IfSome file (λ f. is_option f ≡ false)
     → IsTaskOf (found_for (name ∷ words_for job choices file)) task
     → (task.job ≡ job) × (option_map string_bytes task.file ≡ file) × (Some task.limits ≡ limits_by choices)
-asked_task name job choices file task once number plain is =
-    let found = asked_found name job choices file once (plain_numbers choices once (number_is_plain (number_of choices) number)) plain in (
+asked_task name job choices file task once numbers plain is =
+    let found = asked_found name job choices file once (plain_numbers choices (limits_plain (numbers_in choices) numbers)) plain in (
       ap (λ (o : Option Job). unwrap_or o job) (sym is.job ∙ ap job_in found ∙ by_name job),
       sym is.file ∙ ap file_in found ∙ end_file choices file,
       sym is.limits ∙ ap limits_in found ∙ end_limits choices file,

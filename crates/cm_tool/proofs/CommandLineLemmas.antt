@@ -1,6 +1,6 @@
 -- How clap reads the command line of cmk.
 use Rattle.std.proofs.Common.{◌≡◌, ◌∙◌, ◌≤◌, ◌^◌, ℕ, List, [], ◌∷◌, Some, None, refl, ap, sym, subst, inl, inr, bytes_eq, arith, Option, true, false, ◌||◌}
-use Rattle.std.specs.Prelude.{◌⊎◌, ⊤, Result, Err, ◌==◌, codes, Bool}
+use Rattle.std.specs.Prelude.{◌⊎◌, ⊤, Result, Err, ◌==◌, codes, unwrap_or, Bool}
 use Rattle.std.specs.Option.{option_map_or}
 use Rattle.std.proofs.lemmas.Bool.{eqb-true, le-leb}
 use Rattle.std.specs.Str.Parse.{ParsesUnsigned, ExplainsUnsignedError, HasUnsignedDigitsIfOk, digits_value, without_leading_plus}
@@ -19,7 +19,7 @@ use Rattle.clap.specs.declared.error.kind.ErrorKind.{ErrorKind}
 use Rattle.clap.specs.declared.error.kind.ErrorKind.TheVariants.{DisplayHelp, DisplayVersion, OutOfMemory}
 use Rattle.cm_tool.specs.declared.job.Stop.{Stop}
 use Rattle.cm_tool.specs.declared.job.Stop.TheVariants.{Help, Wrong, NoMemory}
-use Rattle.cm_tool.specs.CommandLine.{IsMistake, IsRead, StopsBy, cmk_app, is_limit, is_option, is_set}
+use Rattle.cm_tool.specs.CommandLine.{IsMistake, IsRead, StopsBy, as_number, cmk_app, fits, is_limit, is_option, is_set}
 use Rattle.std.proofs.lemmas.Slice.Eq.{bytes_eq-Decides}
 
 pub cmk_is_simple : is_simple_and_free cmk_app ≡ true
@@ -45,16 +45,22 @@ read_in_range text None read in_range =
     let passed : IsUnsignedIn 1 500 text = accepts-Accepts false (Unsigned 1 500) text in_range in
     absurd (read.1.0 (passed.0, passed.1))
 
--- a number of blocks in its range gives the standard limits with it
-pub limits_made : (bytes blocks inlines : ℕ) → bytes ≡ 2 ^ 28 → inlines ≡ 100 → 1 ≤ blocks → blocks ≤ 500
-    → limits_for bytes blocks inlines ≡ Some (record { bytes = 2 ^ 28; blocks = blocks; inlines = 100; rules = profile })
-limits_made bytes blocks inlines bytes_are inlines_are low high = rw (bytes_are, inlines_are, le-leb 1 blocks low, le-leb blocks 500 high) refl
+-- what was read is the number as it is written
+pub number_read : (text : Text) (r : Option ℕ) (n : ℕ) → ReadsOne Gives text r → is_limit text ≡ true → r ≡ Some n
+    → (as_number text ≡ n) × (1 ≤ n) × (n ≤ 500)
+number_read text r n read in_range is =
+    let got = read_in_range text r read in_range in
+    let same : got.0 ≡ n = ap (λ (o : Option ℕ). unwrap_or o 0) (sym got.1 ∙ is) in
+    (sym got.2 ∙ same, subst (λ k. 1 ≤ k) same got.3, subst (λ k. k ≤ 500) same got.4)
+
+-- numbers in their range give the standard limits with them
+pub limits_made : (bytes blocks inlines : ℕ) → bytes ≡ 2 ^ 28 → 1 ≤ blocks → blocks ≤ 500 → 1 ≤ inlines → inlines ≤ 500
+    → limits_for bytes blocks inlines ≡ Some (record { bytes = 2 ^ 28; blocks = blocks; inlines = inlines; rules = profile })
+limits_made bytes blocks inlines bytes_are low high inlines_low inlines_high =
+    rw (bytes_are, le-leb 1 blocks low, le-leb blocks 500 high, le-leb 1 inlines inlines_low, le-leb inlines 500 inlines_high) refl
 
 pub standard_bytes : (l : LimitsView) → Some l ≡ limits_for (2 ^ 28) 100 100 → l.bytes ≡ 2 ^ 28
 standard_bytes l is = ap (λ (o : Option LimitsView). option_map_or (λ x. x.bytes) o 0) is
-
-pub standard_inlines : (l : LimitsView) → Some l ≡ limits_for (2 ^ 28) 100 100 → l.inlines ≡ 100
-standard_inlines l is = ap (λ (o : Option LimitsView). option_map_or (λ x. x.inlines) o 0) is
 
 -- ---- flags
 
@@ -63,10 +69,10 @@ abbrev pub ReadsFlag : Option Text → Bool → Type 0
 ReadsFlag read result = (read ≡ Some (codes "true") → result ≡ true) × (read ≡ Some (codes "false") → result ≡ false)
 
 -- a flag with a value that fits it is read as it is set
-pub flag_read : (name : Text) (rows : List Row) (result : Bool) → IsRead name rows → bytes_eq name (codes "blocks") ≡ false → bytes_eq name (codes "file") ≡ false
+pub flag_read : (name : Text) (rows : List Row) (result : Bool) → IsRead name rows → ((value : Text) → fits name value ≡ (bytes_eq value (codes "true") || bytes_eq value (codes "false")))
     → ReadsFlag (one_of name rows) result → result ≡ is_set name rows
-flag_read name rows result r no_number no_file reads =
-    either (bytes_eq r.text (codes "true")) (bytes_eq r.text (codes "false")) refl refl (rw (no_number, no_file) at r.is_fit)
+flag_read name rows result r is_flag reads =
+    either (bytes_eq r.text (codes "true")) (bytes_eq r.text (codes "false")) refl refl (sym (is_flag r.text) ∙ r.is_fit)
   where
     either : (yes_is no_is : Bool) → bytes_eq r.text (codes "true") ≡ yes_is → bytes_eq r.text (codes "false") ≡ no_is → (yes_is || no_is) ≡ true
         → result ≡ is_set name rows

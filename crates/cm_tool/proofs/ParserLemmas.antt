@@ -75,6 +75,9 @@ taken_told fault limits now lines front next all line same parts tells are =
     more (blocks.BlocksTooDeep n) e are = too_deep_stays limits.rules limits.blocks n ((lines ++ front) ++ line ∷ []) next are e
     more blocks.NoMemory e are = tt
 
+abbrev pub doc_with : List Block → List Owner → Doc
+doc_with blocks owners = record { blocks = blocks; owners = owners }
+
 module _ (limits : LimitsView) where
   abbrev pub ended_of : List ℕ → List LineView
   ended_of bytes = (cut_bytes limits.bytes bytes).ended
@@ -218,27 +221,28 @@ module _ (limits : LimitsView) where
       let all = subst (HasTaken after) end.whole taken in
       (fault_by_lines feed before bytes None g end.sound (none_deep after (plain_lines_of (text_of bytes)) (same ∙ g.same_limits) all), all)
 
-  -- what reading the inlines of an outline's leaves answers: the tree of the text, or its first leaf too deep
-  tree_read : (outline : Outline) (bytes : List ℕ) → OutlineOf outline limits.rules (plain_lines_of (text_of bytes))
-      → with_inlines limits.rules (defined_in outline.definitions) outline.blocks ≡ tree_of limits.rules bytes
-  tree_read outline bytes is = ap₂ (λ table blocks. with_inlines limits.rules (defined_in table) blocks) is.definitions is.blocks
+  -- An outline with its leaves read is the tree of the text. The limits are the parser's, as they are handed on.
+  tree_read : (now held : LimitsView) (outline : Outline) (bytes : List ℕ) → now ≡ limits → held ≡ limits → OutlineOf outline held.rules (plain_lines_of (text_of bytes))
+      → with_inlines now.rules (defined_in outline.definitions) outline.blocks ≡ tree_of limits.rules bytes
+  tree_read now held outline bytes same was is =
+      let o = subst (λ (l : LimitsView). OutlineOf outline l.rules (plain_lines_of (text_of bytes))) was is in
+      ap (λ (l : LimitsView). with_inlines l.rules (defined_in outline.definitions) outline.blocks) same
+      ∙ ap₂ (λ table blocks. with_inlines limits.rules (defined_in table) blocks) o.definitions o.blocks
 
-  pub leaf_told : (fault : Fault) (outline : Outline) (bytes : List ℕ) → OutlineOf outline limits.rules (plain_lines_of (text_of bytes))
-      → fault_of limits bytes ≡ option_map InlinesTooDeep (leaf_deep limits bytes)
-      → TellsFault fault (option_map InlinesTooDeep (first_leaf_past limits.inlines (with_inlines limits.rules (defined_in outline.definitions) outline.blocks)))
+  pub leaf_told : (fault : Fault) (now held : LimitsView) (outline : Outline) (bytes : List ℕ) → now ≡ limits → held ≡ limits
+      → OutlineOf outline held.rules (plain_lines_of (text_of bytes)) → fault_of limits bytes ≡ option_map InlinesTooDeep (leaf_deep limits bytes)
+      → TellsFault fault (option_map InlinesTooDeep (first_leaf_past now.inlines (with_inlines now.rules (defined_in outline.definitions) outline.blocks)))
       → TellsFault fault (fault_of limits bytes)
-  leaf_told fault outline bytes is left told =
-      subst (TellsFault fault) (ap (λ tree. option_map InlinesTooDeep (first_leaf_past limits.inlines tree)) (tree_read outline bytes is) ∙ sym left) told
+  leaf_told fault now held outline bytes same was is left told =
+      subst (TellsFault fault)
+      (ap₂ (λ (l : LimitsView) tree. option_map InlinesTooDeep (first_leaf_past l.inlines tree)) same (tree_read now held outline bytes same was is) ∙ sym left) told
 
-  pub all_read : (outline : Outline) (read : List Block) (bytes : List ℕ) → OutlineOf outline limits.rules (plain_lines_of (text_of bytes))
-      → fault_of limits bytes ≡ option_map InlinesTooDeep (leaf_deep limits bytes)
-      → read ≡ with_inlines limits.rules (defined_in outline.definitions) outline.blocks → first_leaf_past limits.inlines read ≡ None
-      → (fault_of limits bytes ≡ None) × (record { blocks = read; owners = outline.owners } ≡ doc_of limits.rules bytes)
-  all_read outline read bytes is left read_is within =
-      let tree = read_is ∙ tree_read outline bytes is in (
-        left ∙ ap (option_map InlinesTooDeep) (ap (first_leaf_past limits.inlines) (sym tree) ∙ within),
-        ap₂ doc tree is.owners,
-      )
-    where
-      doc : List Block → List Owner → Doc
-      doc blocks owners = record { blocks = blocks; owners = owners }
+  pub all_read : (now held : LimitsView) (outline : Outline) (read : List Block) (bytes : List ℕ) → now ≡ limits → held ≡ limits
+      → OutlineOf outline held.rules (plain_lines_of (text_of bytes)) → fault_of limits bytes ≡ option_map InlinesTooDeep (leaf_deep limits bytes)
+      → read ≡ with_inlines now.rules (defined_in outline.definitions) outline.blocks → first_leaf_past now.inlines read ≡ None
+      → (fault_of limits bytes ≡ None) × (doc_with read outline.owners ≡ doc_of limits.rules bytes)
+  all_read now held outline read bytes same was is left read_is within =
+      let tree = read_is ∙ tree_read now held outline bytes same was is in
+      let none = sym (ap₂ (λ (l : LimitsView) t. first_leaf_past l.inlines t) same tree) ∙ within in
+      let o = subst (λ (l : LimitsView). OutlineOf outline l.rules (plain_lines_of (text_of bytes))) was is in
+      (left ∙ ap (option_map InlinesTooDeep) none, ap₂ doc_with tree o.owners)

@@ -7,7 +7,7 @@ use Rattle.cm_text.specs.Feed.{Feed}
 use Rattle.cm_text.specs.Settled.{AreBytes}
 use Rattle.cm_block.specs.declared.parser.BlockParser.{BlockParser}
 use Rattle.cm_tool.specs.declared.fault.Fault.{Fault}
-use Rattle.cm_tool.specs.declared.fault.Fault.TheVariants.{NotUtf8, TooLong, BlocksTooDeep, NoMemory, ReadFailed, WriteFailed}
+use Rattle.cm_tool.specs.declared.fault.Fault.TheVariants.{NotUtf8, TooLong, BlocksTooDeep, InlinesTooDeep, NoMemory, ReadFailed, WriteFailed}
 use Rattle.cm_tool.specs.Faults.{fault_of, settled_fault_of}
 use Rattle.cm_tool.specs.Parsing.{Goes, TellsFault, Answers}
 use Rattle.cm_tool.specs.steps.Pushing.{Pushes}
@@ -64,6 +64,7 @@ pub told_stays : (limits : LimitsView) (bytes more : List â„•) (fault : Fault) â
 told_stays limits bytes more (NotUtf8 at) are h = settled_stays limits bytes more (NotUtf8 at) are h
 told_stays limits bytes more (TooLong at) are h = settled_stays limits bytes more (TooLong at) are h
 told_stays limits bytes more (BlocksTooDeep line) are h = settled_stays limits bytes more (BlocksTooDeep line) are h
+told_stays limits bytes more (InlinesTooDeep leaf) are h = settled_stays limits bytes more (InlinesTooDeep leaf) are h
 told_stays limits bytes more NoMemory are h = tt
 told_stays limits bytes more ReadFailed are h = absurd h
 told_stays limits bytes more (WriteFailed written) are h = absurd h

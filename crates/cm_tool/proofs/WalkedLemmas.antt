@@ -17,7 +17,7 @@ use Rattle.clap.specs.declared.error.kind.ErrorKind.{ErrorKind}
 use Rattle.clap.specs.declared.error.kind.ErrorKind.TheVariants as kind
 use Rattle.clap.specs.declared.parser.matches.ValueSource.{ValueSource}
 use Rattle.clap.specs.declared.parser.matches.ValueSource.TheVariants.{CommandLine, DefaultValue}
-use Rattle.cm_tool.specs.CommandLine.{blocks_rule, cmk_app, file_rule, fits, flag_rule, found_for, is_limit, job_app, job_of, stops_of, AreRead, IsJob, IsRead}
+use Rattle.cm_tool.specs.CommandLine.{cmk_app, file_rule, fits, flag_rule, found_for, is_limit, job_app, limit_rule, job_of, stops_of, AreRead, IsJob, IsRead}
 use Rattle.cm_tool.proofs.RowLemmas.{first_default, row_by, with_defaults}
 
 -- ---- kinds that are none
@@ -87,15 +87,15 @@ file_fine : IsFineRule (with_index 1 (filled file_rule))
 file_fine again [] rows none fine = absurd (cc)
 file_fine again (v ∷ vs) rows none fine = set_fine (codes "file") (v ∷ vs) rows refl fine
 
-blocks_fine : IsFineRule (filled blocks_rule)
-blocks_fine again values rows none fine = set_fine (codes "blocks") _ rows (in_range values none) fine
+limit_fine : (name : Text) → ((value : Text) → fits name value ≡ is_limit value) → IsFineRule (filled (limit_rule name))
+limit_fine name fit again values rows none fine = set_fine name _ rows (in_range values none) fine
   where
-    in_range : (vs : List Text) → use_fault again (filled blocks_rule) vs rows ≡ [] → FirstFits (codes "blocks") (values_or_missing (filled blocks_rule) vs)
+    in_range : (vs : List Text) → use_fault again (filled (limit_rule name)) vs rows ≡ [] → FirstFits name (values_or_missing (filled (limit_rule name)) vs)
     in_range [] none = cc
     in_range (v ∷ vs) none =
         let set = no_second (range_kinds 1 1 (length (v ∷ vs))) _ none in
-        let fit = no_second (repeat_fault again (codes "blocks") rows) _ set in
-        passes (is_limit v) _ (no_first (value_kinds false (Unsigned 1 500) v) _ fit)
+        let value = no_second (repeat_fault again name rows) _ set in
+        fit v ∙ passes (is_limit v) _ (no_first (value_kinds false (Unsigned 1 500) v) _ value)
 
 flag_fine : (name : Text) → fits name (codes "true") ≡ true → IsFineRule (filled (flag_rule name))
 flag_fine name fit again [] rows none fine = set_fine name (codes "true" ∷ []) rows fit fine
@@ -329,10 +329,11 @@ abbrev pub job_rules : List Rule
 job_rules = (built_leaf (job_app []).top).rules
 
 job_rules_fine : AllByRecursion IsFineRule job_rules
-job_rules_fine = (file_fine, (blocks_fine, (flag_fine (codes "older") refl, (flag_fine (codes "strike") refl, (help_fine, tt)))))
+job_rules_fine =
+    (file_fine, (limit_fine (codes "blocks") (λ v. refl), (limit_fine (codes "inlines") (λ v. refl), (flag_fine (codes "older") refl, (flag_fine (codes "strike") refl, (help_fine, tt))))))
 
 job_defaults_fine : AllByRecursion HasFineDefault job_rules
-job_defaults_fine = ((refl, tt), ((refl, refl), ((refl, refl), ((refl, refl), ((refl, tt), tt)))))
+job_defaults_fine = ((refl, tt), ((refl, refl), ((refl, refl), ((refl, refl), ((refl, refl), ((refl, tt), tt))))))
 
 -- what is found for the options of a job's subcommand
 job_options : (s : Shape) (words : List Text) → s.rules ≡ job_rules → level_fault s [] nothing_held words false [] ≡ []
@@ -347,6 +348,7 @@ job_options s words rules none =
     let all_fine = defaults_fine s.rules rows (subst (AllByRecursion HasFineDefault) (sym rules) job_defaults_fine) fine in
     record {
       blocks = row_read (codes "blocks") _ all_fine (has_default (codes "blocks") rows s.rules (rw (rules) refl));
+      inlines = row_read (codes "inlines") _ all_fine (has_default (codes "inlines") rows s.rules (rw (rules) refl));
       older = row_read (codes "older") _ all_fine (has_default (codes "older") rows s.rules (rw (rules) refl));
       strike = row_read (codes "strike") _ all_fine (has_default (codes "strike") rows s.rules (rw (rules) refl));
     }

@@ -16,10 +16,10 @@ returns c =
     let older_text = one_text-rows found (codes "older") in
     let strike_text = one_text-rows found (codes "strike") in
     let older_is : c.get_flag.result ≡ is_set (codes "older") (rows_of found) =
-    flag_read (codes "older") (rows_of found) c.get_flag.result c.requires.older refl refl
+    flag_read (codes "older") (rows_of found) c.get_flag.result c.requires.older (λ value. refl)
     (λ is. c.get_flag.ensures.value (older_text ∙ is), λ is. c.get_flag.ensures.other (older_text ∙ is)) in
     let strike_is : c.get_flag-2.result ≡ is_set (codes "strike") (rows_of found) =
-    flag_read (codes "strike") (rows_of found) c.get_flag-2.result c.requires.strike refl refl
+    flag_read (codes "strike") (rows_of found) c.get_flag-2.result c.requires.strike (λ value. refl)
     (λ is. c.get_flag-2.ensures.value (strike_text ∙ is), λ is. c.get_flag-2.ensures.other (strike_text ∙ is)) in
     let older_made : c.if-get_flag.rules.older ≡ is_set (codes "older") (rows_of found) = elim c.if-get_flag.branch [
       | then-get_flag w ↦ search (rules, older_is)

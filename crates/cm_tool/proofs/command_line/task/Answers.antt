@@ -36,10 +36,10 @@ returns-in_ok-task_of-in-Ok-clause-asked c name job choices file words_are once 
     (subst (λ (f : Option Found). IsTaskOf f c.in_ok-task_of-in-Ok.field-0) found c.in_ok-task_of-in-Ok.ensures)
 
 pub returns-in_ok-task_of-in-Ok-clause-out_of_range : goal.returns-in_ok-task_of-in-Ok-clause-out_of_range
-returns-in_ok-task_of-in-Ok-clause-out_of_range c name limit job choices file words_are once given out number plain =
+returns-in_ok-task_of-in-Ok-clause-out_of_range c name job choices file words_are once out numbers plain =
     let is_cmk = c.in_ok-command.ensures in
     let right = subst (λ (a : App). fault_of a (map string_bytes c.args.words.now) ≡ []) is_cmk (c.in-Ok.ensures.kinds (ap is_simple_and_free is_cmk ∙ cmk_is_simple)) in
-    no_kinds _ _ (sym (ap stops_of words_are ∙ asked_wrong name limit job choices file once given out number plain) ∙ right)
+    no_kinds _ _ (sym (ap stops_of words_are ∙ asked_wrong name job choices file once out numbers plain) ∙ right)
 
 pub returns-in-Err-clause-asked : goal.returns-in-Err-clause-asked
 returns-in-Err-clause-asked c name job choices file words_are once number plain =
@@ -49,8 +49,8 @@ returns-in-Err-clause-asked c name job choices file words_are once number plain 
     (ap (λ (a : App). fault_of a (map string_bytes c.args.words.now)) is_cmk ∙ ap stops_of words_are ∙ asked_right name job choices file once number plain)
 
 pub returns-in-Err-clause-out_of_range : goal.returns-in-Err-clause-out_of_range
-returns-in-Err-clause-out_of_range c name limit job choices file words_are once given out number plain =
+returns-in-Err-clause-out_of_range c name job choices file words_are once out numbers plain =
     let is_cmk = c.in_ok-command.ensures in
     is_mistake (kind_of c.in-Err.error) _ c.stop_of.result (c.in-Err.ensures.kinds (ap is_simple_and_free is_cmk ∙ cmk_is_simple))
     c.stop_of.ensures.memory c.stop_of.ensures.kind
-    (ap (λ (a : App). fault_of a (map string_bytes c.args.words.now)) is_cmk ∙ ap stops_of words_are ∙ asked_wrong name limit job choices file once given out number plain)
+    (ap (λ (a : App). fault_of a (map string_bytes c.args.words.now)) is_cmk ∙ ap stops_of words_are ∙ asked_wrong name job choices file once out numbers plain)

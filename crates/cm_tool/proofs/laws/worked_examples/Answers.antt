@@ -1,44 +1,58 @@
-use Rattle.std.proofs.Common.{refl}
+use Rattle.std.proofs.Common.{ℕ, List, refl}
 use Rattle.std.specs.Fmt.{digits}
 use Rattle.std.specs.Str.{is_utf8, chars}
 use Rattle.std.specs.Str.Lossy.{utf8_valid_len, utf8_error_len}
-use Rattle.cm_text.specs.Rules.{profile, older_rules}
-use Rattle.cm_tree.specs.declared.tree.Inline.TheViews.{outs-Text as text, outs-Soft as soft, outs-Hard as hard, outs-Code as code_span}
+use Rattle.cm_tree.specs.declared.tree.Inline.TheViews.{outs-Text as text, outs-Soft as soft, outs-Hard as hard, outs-Code as code_span, outs-Emph as emph, outs-Strong as strong, outs-Link as link}
 use Rattle.cm_tree.specs.declared.tree.Inline.TheFolds.{fold_out-Inline}
 use Rattle.cm_tree.specs.declared.tree.Block.{Block}
-use Rattle.cm_tree.specs.declared.tree.Block.TheVariants.{outs-Paragraph as paragraph, outs-Heading as heading, outs-Code as code, outs-Html as raw, outs-Break as thematic, outs-Quote as quote, outs-List as items}
+use Rattle.cm_tree.specs.declared.tree.Block.TheVariants.{outs-Paragraph as paragraph, outs-Heading as heading, outs-Code as code, outs-Html as raw, outs-Break as thematic, outs-Definition as definition, outs-Quote as quote, outs-List as items}
 use Rattle.cm_tree.specs.declared.tree.Block.TheFolds.{fold_out-Block}
 use Rattle.cm_scan.proofs.Computing.{block_structure}
 use Rattle.cm_scan.proofs.InlineComputing.{inline_structure}
-use Rattle.cm_inline.specs.Alone.{alone_after}
-use Rattle.cm_html.specs.Escape.{class_word}
+use Rattle.percent_encoding.specs.Percent.{percent_encode_byte}
+use Rattle.cm_html.specs.Escape.{is_kept, destination_byte, class_word}
 use Rattle.cm_html.specs.Html.{Spelled, inline_step, Written, block_step}
-use Rattle.cm_tool.specs.Leaves.{read_step}
+use Rattle.cm_tree.specs.Depth.{depth_step}
+use Rattle.cm_tool.specs.Leaves.{depths_step}
 use Rattle.cm_tool.proofs.laws.worked_examples.Goals as goal
 use lib.Utf8.{encode}
 
 pub returns-clause-reading : goal.returns-clause-reading
-unfolding block_structure utf8_valid_len utf8_error_len is_utf8 chars encode
-returns-clause-reading c = record { line_before_a_fault = refl; line_cut_by_a_fault = refl; past_the_limit = refl; within_the_limit = refl; carriage_return = refl; unended = refl; unended_at_the_end = refl }
+unfolding block_structure inline_structure utf8_valid_len utf8_error_len is_utf8 chars encode
+returns-clause-reading c = record {
+  line_before_a_fault = refl;
+  line_cut_by_a_fault = refl;
+  past_the_limit = refl;
+  within_the_limit = simp (fold_out-Block Block, fold_out-Block (List ℕ) depths_step, fold_out-Inline ℕ depth_step, quote, paragraph, text);
+  carriage_return = refl;
+  unended = refl;
+  unended_at_the_end = refl;
+  second_leaf = simp (fold_out-Block Block, fold_out-Block (List ℕ) depths_step, fold_out-Inline ℕ depth_step, thematic, paragraph, text, emph, strong);
+  leaf_within_the_limit = simp (fold_out-Block Block, fold_out-Block (List ℕ) depths_step, fold_out-Inline ℕ depth_step, thematic, paragraph, text, emph, strong);
+  leaf_not_settled = refl;
+  line_before_a_leaf = refl;
+}
 
 pub returns-clause-html : goal.returns-clause-html
-unfolding block_structure inline_structure alone_after class_word digits
+unfolding block_structure inline_structure is_kept destination_byte percent_encode_byte class_word digits
 returns-clause-html c = record {
   no_text = refl;
-  paragraph_over_two_lines = simp (fold_out-Block Block (read_step profile), fold_out-Block Written block_step, fold_out-Inline Spelled inline_step, paragraph, text, soft);
-  break_between_paragraphs = simp (fold_out-Block Block (read_step profile), fold_out-Block Written block_step, fold_out-Inline Spelled inline_step, paragraph, thematic, text);
-  heading = simp (fold_out-Block Block (read_step profile), fold_out-Block Written block_step, fold_out-Inline Spelled inline_step, heading, thematic, text);
-  heading_over_two_lines = simp (fold_out-Block Block (read_step profile), fold_out-Block Written block_step, fold_out-Inline Spelled inline_step, heading, text, soft);
-  references = simp (fold_out-Block Block (read_step profile), fold_out-Block Written block_step, fold_out-Inline Spelled inline_step, paragraph, text);
-  carriage_return = simp (fold_out-Block Block (read_step profile), fold_out-Block Written block_step, fold_out-Inline Spelled inline_step, paragraph, text, soft);
-  carriage_return_line_feed = simp (fold_out-Block Block (read_step profile), fold_out-Block Written block_step, fold_out-Inline Spelled inline_step, paragraph, text, soft);
-  nul = simp (fold_out-Block Block (read_step profile), fold_out-Block Written block_step, fold_out-Inline Spelled inline_step, paragraph, text);
-  blank_line = simp (fold_out-Block Block (read_step profile), fold_out-Block Written block_step, fold_out-Inline Spelled inline_step, paragraph, text);
-  search_interrupts_a_paragraph = simp (fold_out-Block Block (read_step profile), fold_out-Block Written block_step, fold_out-Inline Spelled inline_step, paragraph, raw, text);
-  source_by_the_older_rules = simp (fold_out-Block Block (read_step older_rules), fold_out-Block Written block_step, fold_out-Inline Spelled inline_step, paragraph, raw, text);
-  indented_code = simp (fold_out-Block Block (read_step profile), fold_out-Block Written block_step, code);
-  lazy_line = simp (fold_out-Block Block (read_step profile), fold_out-Block Written block_step, fold_out-Inline Spelled inline_step, quote, paragraph, text, soft);
-  list_in_a_quote = simp (fold_out-Block Block (read_step profile), fold_out-Block Written block_step, fold_out-Inline Spelled inline_step, quote, items, paragraph, text, soft);
-  spaces_behind_a_tab = simp (fold_out-Block Block (read_step profile), fold_out-Block Written block_step, fold_out-Inline Spelled inline_step, paragraph, text, hard);
-  code_and_escape = simp (fold_out-Block Block (read_step profile), fold_out-Block Written block_step, fold_out-Inline Spelled inline_step, paragraph, text, code_span);
+  paragraph_over_two_lines = simp (fold_out-Block Block, fold_out-Block Written block_step, fold_out-Inline Spelled inline_step, paragraph, text, soft);
+  break_between_paragraphs = simp (fold_out-Block Block, fold_out-Block Written block_step, fold_out-Inline Spelled inline_step, paragraph, thematic, text);
+  heading = simp (fold_out-Block Block, fold_out-Block Written block_step, fold_out-Inline Spelled inline_step, heading, thematic, text);
+  heading_over_two_lines = simp (fold_out-Block Block, fold_out-Block Written block_step, fold_out-Inline Spelled inline_step, heading, text, soft);
+  references = simp (fold_out-Block Block, fold_out-Block Written block_step, fold_out-Inline Spelled inline_step, paragraph, text);
+  carriage_return = simp (fold_out-Block Block, fold_out-Block Written block_step, fold_out-Inline Spelled inline_step, paragraph, text, soft);
+  carriage_return_line_feed = simp (fold_out-Block Block, fold_out-Block Written block_step, fold_out-Inline Spelled inline_step, paragraph, text, soft);
+  nul = simp (fold_out-Block Block, fold_out-Block Written block_step, fold_out-Inline Spelled inline_step, paragraph, text);
+  blank_line = simp (fold_out-Block Block, fold_out-Block Written block_step, fold_out-Inline Spelled inline_step, paragraph, text);
+  emphasis = simp (fold_out-Block Block, fold_out-Block Written block_step, fold_out-Inline Spelled inline_step, paragraph, text, emph, strong);
+  link_before_its_definition = simp (fold_out-Block Block, fold_out-Block Written block_step, fold_out-Inline Spelled inline_step, paragraph, definition, text, link);
+  search_interrupts_a_paragraph = simp (fold_out-Block Block, fold_out-Block Written block_step, fold_out-Inline Spelled inline_step, paragraph, raw, text);
+  source_by_the_older_rules = simp (fold_out-Block Block, fold_out-Block Written block_step, fold_out-Inline Spelled inline_step, paragraph, raw, text);
+  indented_code = simp (fold_out-Block Block, fold_out-Block Written block_step, code);
+  lazy_line = simp (fold_out-Block Block, fold_out-Block Written block_step, fold_out-Inline Spelled inline_step, quote, paragraph, text, soft);
+  list_in_a_quote = simp (fold_out-Block Block, fold_out-Block Written block_step, fold_out-Inline Spelled inline_step, quote, items, paragraph, text, soft);
+  spaces_behind_a_tab = simp (fold_out-Block Block, fold_out-Block Written block_step, fold_out-Inline Spelled inline_step, paragraph, text, hard);
+  code_and_escape = simp (fold_out-Block Block, fold_out-Block Written block_step, fold_out-Inline Spelled inline_step, paragraph, text, code_span);
 }
