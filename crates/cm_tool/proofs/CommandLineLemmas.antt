@@ -1,6 +1,6 @@
 -- How clap reads the command line of cmk.
 use Rattle.std.proofs.Common.{◌≡◌, ◌∙◌, ◌≤◌, ◌^◌, ℕ, List, [], ◌∷◌, Some, None, refl, ap, sym, subst, inl, inr, bytes_eq, arith, Option, true, false, ◌||◌}
-use Rattle.std.specs.Prelude.{◌⊎◌, ⊤, Result, Err, ◌==◌, codes, unwrap_or, Bool}
+use Rattle.std.specs.Prelude.{◌⊎◌, ⊤, Result, Err, ◌==◌, codes, option_map, unwrap_or, Bool}
 use Rattle.std.specs.Option.{option_map_or}
 use Rattle.std.proofs.lemmas.Bool.{eqb-true, le-leb}
 use Rattle.std.specs.Str.Parse.{ParsesUnsigned, ExplainsUnsignedError, HasUnsignedDigitsIfOk, digits_value, without_leading_plus}
@@ -19,7 +19,7 @@ use Rattle.clap.specs.declared.error.kind.ErrorKind.{ErrorKind}
 use Rattle.clap.specs.declared.error.kind.ErrorKind.TheVariants.{DisplayHelp, DisplayVersion, OutOfMemory}
 use Rattle.cm_tool.specs.declared.job.Stop.{Stop}
 use Rattle.cm_tool.specs.declared.job.Stop.TheVariants.{Help, Wrong, NoMemory}
-use Rattle.cm_tool.specs.CommandLine.{IsMistake, IsRead, StopsBy, as_number, cmk_app, fits, is_limit, is_option, is_set}
+use Rattle.cm_tool.specs.CommandLine.{Found, IsMistake, IsRead, StopsBy, as_number, cmk_app, fits, is_limit, is_option, is_set}
 use Rattle.std.proofs.lemmas.Slice.Eq.{bytes_eq-Decides}
 
 pub cmk_is_simple : is_simple_and_free cmk_app ≡ true
@@ -61,6 +61,12 @@ limits_made bytes blocks inlines bytes_are low high inlines_low inlines_high =
 
 pub standard_bytes : (l : LimitsView) → Some l ≡ limits_for (2 ^ 28) 100 100 → l.bytes ≡ 2 ^ 28
 standard_bytes l is = ap (λ (o : Option LimitsView). option_map_or (λ x. x.bytes) o 0) is
+
+-- what is found, by its name and its rows
+pub found_is : (found : Option Found) (name : Text) (rows : List Row) → Some rows ≡ option_map (λ f. f.1) found → Some name ≡ option_map (λ f. f.0) found
+    → found ≡ Some (name, rows)
+found_is None name rows rows_are name_is = cc
+found_is (Some f) name rows rows_are name_is = cc
 
 -- ---- flags
 

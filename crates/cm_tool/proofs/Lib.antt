@@ -1,5 +1,6 @@
 pub mod AskedLemmas
 pub mod CommandLineLemmas
+pub mod ConversionLemmas
 pub mod EndedLemmas
 pub mod LeafLemmas
 pub mod OrderLemmas
