@@ -1,5 +1,5 @@
 -- How clap reads the command line of cmk.
-use Rattle.std.proofs.Common.{◌≡◌, ◌∙◌, ◌≤◌, ◌^◌, ℕ, List, [], ◌∷◌, Some, None, refl, ap, sym, subst, inl, inr, bytes_eq, arith, Option, true, false, ◌||◌}
+use Rattle.std.proofs.Common.{◌≡◌, ◌∙◌, ◌≤◌, ◌^◌, ℕ, List, [], ◌∷◌, Some, None, refl, ap, ap₂, sym, subst, inl, inr, bytes_eq, arith, Option, true, false, ◌||◌}
 use Rattle.std.specs.Prelude.{◌⊎◌, ⊤, Result, Err, ◌==◌, codes, option_map, unwrap_or, Bool}
 use Rattle.std.specs.Option.{option_map_or}
 use Rattle.std.proofs.lemmas.Bool.{eqb-true, le-leb}
@@ -13,7 +13,10 @@ use Rattle.clap.specs.declared.error.kind.ErrorKind.TheVariants.{ValueValidation
 use Rattle.cm_text.specs.Limits.{LimitsView, limits_for}
 use Rattle.cm_text.specs.Rules.{profile}
 use Rattle.clap.specs.Lexer.{long_of, short_of}
-use Rattle.clap.specs.Words.{Row}
+use Rattle.clap.specs.declared.parser.matches.ArgMatches.{ArgMatches}
+use Rattle.clap.specs.declared.parser.matches.ArgMatches.TheViews.{out-ArgMatches, out-SubCommand}
+use Rattle.clap.specs.Words.{Row, found_of, rows_of, subcommand_name_of, subcommand_rows_of}
+use Rattle.std.specs.Box.{box_value}
 use Rattle.clap.specs.Words.{Kinds, IsAmong}
 use Rattle.clap.specs.declared.error.kind.ErrorKind.{ErrorKind}
 use Rattle.clap.specs.declared.error.kind.ErrorKind.TheVariants.{DisplayHelp, DisplayVersion, OutOfMemory}
@@ -62,11 +65,26 @@ limits_made bytes blocks inlines bytes_are low high inlines_low inlines_high =
 pub standard_bytes : (l : LimitsView) → Some l ≡ limits_for (2 ^ 28) 100 100 → l.bytes ≡ 2 ^ 28
 standard_bytes l is = ap (λ (o : Option LimitsView). option_map_or (λ x. x.bytes) o 0) is
 
+-- the name of a subcommand is that of what is found
+name_found : (matches : ArgMatches) → subcommand_name_of matches ≡ option_map (λ (f : Found). f.0) (subcommand_rows_of matches)
+name_found matches = by_cases (λ b. (out-SubCommand (box_value b)).name.now) (λ b. rows_of (found_of (out-SubCommand (box_value b)).matches)) (out-ArgMatches matches).subcommand
+  where
+    by_cases : {B : Type 0} (name : B → Text) (rows : B → List Row) (o : Option B) → option_map name o ≡ option_map (λ (f : Found). f.0) (option_map (λ b. (name b, rows b)) o)
+    by_cases name rows None = refl
+    by_cases name rows (Some b) = refl
+
 -- what is found, by its name and its rows
-pub found_is : (found : Option Found) (name : Text) (rows : List Row) → Some rows ≡ option_map (λ f. f.1) found → Some name ≡ option_map (λ f. f.0) found
-    → found ≡ Some (name, rows)
-found_is None name rows rows_are name_is = cc
-found_is (Some f) name rows rows_are name_is = cc
+pub found_is : (matches : ArgMatches) (name : Text) (rows : List Row) → Some rows ≡ option_map (λ (f : Found). f.1) (subcommand_rows_of matches)
+    → Some name ≡ subcommand_name_of matches → subcommand_rows_of matches ≡ Some (name, rows)
+found_is matches name rows rows_are name_is = by_cases (subcommand_rows_of matches) rows_are (name_is ∙ name_found matches)
+  where
+    pair : Text → List Row → Option Found
+    pair n r = Some (n, r)
+
+    by_cases : (found : Option Found) → Some rows ≡ option_map (λ (f : Found). f.1) found → Some name ≡ option_map (λ (f : Found). f.0) found → found ≡ Some (name, rows)
+    by_cases None rows_are name_is = cc
+    by_cases (Some f) rows_are name_is =
+        ap₂ pair (sym (ap (λ (o : Option Text). unwrap_or o name) name_is)) (sym (ap (λ (o : Option (List Row)). unwrap_or o rows) rows_are))
 
 -- ---- flags
 
