@@ -1,18 +1,17 @@
-use Rattle.std.proofs.Common.{ℕ, List, [], ◌∷◌, codes, refl}
+use Rattle.std.proofs.Common.{ℕ, List, refl}
 use Rattle.std.specs.Fmt.{digits}
 use Rattle.std.specs.Str.{is_utf8, chars}
 use Rattle.std.specs.Str.Lossy.{utf8_valid_len, utf8_error_len}
-use Rattle.cm_tree.specs.declared.tree.Inline.TheViews.{outs-Text as text, outs-Soft as soft, outs-Hard as hard, outs-Code as code_span, outs-Emph as emph, outs-Strong as strong, outs-Link as link}
+use Rattle.cm_tree.specs.declared.tree.Inline.TheViews.{outs-Text as text, outs-Soft as soft, outs-Hard as hard, outs-Code as code_span, outs-Emph as emph, outs-Strong as strong}
 use Rattle.cm_tree.specs.declared.tree.Inline.TheFolds.{fold_out-Inline}
 use Rattle.cm_tree.specs.declared.tree.Block.{Block}
-use Rattle.cm_tree.specs.declared.tree.Block.TheVariants.{outs-Paragraph as paragraph, outs-Heading as heading, outs-Code as code, outs-Html as raw, outs-Break as thematic, outs-Definition as definition, outs-Quote as quote, outs-List as items}
+use Rattle.cm_tree.specs.declared.tree.Block.TheVariants.{outs-Paragraph as paragraph, outs-Heading as heading, outs-Code as code, outs-Html as raw, outs-Break as thematic, outs-Quote as quote, outs-List as items}
 use Rattle.cm_tree.specs.declared.tree.Block.TheFolds.{fold_out-Block}
 use Rattle.cm_scan.proofs.Computing.{block_structure}
 use Rattle.cm_scan.proofs.InlineComputing.{inline_structure}
-use Rattle.cm_html.specs.Escape.{is_kept, destination_byte, class_word}
+use Rattle.cm_html.specs.Escape.{class_word}
 use Rattle.cm_html.specs.Html.{Spelled, inline_step, Written, block_step}
 use Rattle.cm_tree.specs.Depth.{depth_step}
-use Rattle.cm_tree.proofs.Targets.{first_counts}
 use Rattle.cm_tool.specs.Leaves.{depths_step}
 use Rattle.cm_tool.proofs.laws.worked_examples.Goals as goal
 use lib.Utf8.{encode}
@@ -34,7 +33,7 @@ returns-clause-reading c = record {
 }
 
 pub returns-clause-html : goal.returns-clause-html
-unfolding block_structure inline_structure is_kept destination_byte class_word digits
+unfolding block_structure inline_structure class_word digits
 returns-clause-html c = record {
   no_text = refl;
   paragraph_over_two_lines = simp (fold_out-Block Block, fold_out-Block Written block_step, fold_out-Inline Spelled inline_step, paragraph, text, soft);
@@ -47,7 +46,6 @@ returns-clause-html c = record {
   nul = simp (fold_out-Block Block, fold_out-Block Written block_step, fold_out-Inline Spelled inline_step, paragraph, text);
   blank_line = simp (fold_out-Block Block, fold_out-Block Written block_step, fold_out-Inline Spelled inline_step, paragraph, text);
   emphasis = simp (fold_out-Block Block, fold_out-Block Written block_step, fold_out-Inline Spelled inline_step, paragraph, text, emph, strong);
-  link_before_its_definition = simp (first_counts ((codes "A", (codes "/u", [])) ∷ []) (codes "a"), fold_out-Block Block, fold_out-Block Written block_step, fold_out-Inline Spelled inline_step, paragraph, definition, text, link);
   search_interrupts_a_paragraph = simp (fold_out-Block Block, fold_out-Block Written block_step, fold_out-Inline Spelled inline_step, paragraph, raw, text);
   source_by_the_older_rules = simp (fold_out-Block Block, fold_out-Block Written block_step, fold_out-Inline Spelled inline_step, paragraph, raw, text);
   indented_code = simp (fold_out-Block Block, fold_out-Block Written block_step, code);
