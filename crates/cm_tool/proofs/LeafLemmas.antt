@@ -1,10 +1,10 @@
 -- The leaves of blocks, how deep their inlines nest, and how they are numbered.
-use Rattle.std.proofs.Common.{◌≡◌, ◌∙◌, ◌≤◌, ◌<◌, ◌+◌, ℕ, suc, List, [], ◌∷◌, ◌++◌, length, map, drop, take, get_or, true, false, refl, sym, ap, ap₂, subst, append_assoc, append-nil, take-append-drop}
+use Rattle.std.proofs.Common.{◌≡◌, ◌∙◌, ◌≤◌, ◌<◌, ◌+◌, ℕ, suc, List, [], ◌∷◌, ◌++◌, length, map, drop, take, get_or, true, false, refl, sym, ap, ap₂, subst, append_assoc, append-nil, arith, take_all, take-append-drop}
 use Rattle.std.specs.Prelude.{Bool, Option, Err, flat_map, option_map}
 use Rattle.std.proofs.lemmas.Bool.{ltb-false, ltb-true}
 use Rattle.std.proofs.lemmas.Grind.{flat_map-append}
 use Rattle.std.proofs.lemmas.List.{map-append, take_more, take_more_set}
-use Rattle.std.proofs.Math.Seq.{drop-cons}
+use Rattle.std.proofs.Math.Seq.{drop-cons, take-append_seam}
 use Rattle.std.proofs.Math.ListN.{set}
 use Rattle.cm_text.specs.Rules.{Rules}
 use Rattle.cm_tree.specs.Depth.{inlines_depth}
@@ -88,6 +88,12 @@ pub read_next : {A : Type 0} (read : A → A) (now old : List A) (i : ℕ) (d ne
 read_next read now old i d new within_now within so_far is =
     take_more_set now i new within_now ∙ ap₂ (λ front last. front ++ last ∷ []) so_far is
     ∙ sym (map-append read (take i old) (get_or old i d ∷ [])) ∙ sym (ap (map read) (take_more old i d within))
+
+-- what comes back of a list that has been read to its end
+pub read_back : {A : Type 0} (read : A → A) (made now rest old : List A) (len i : ℕ) → made ≡ take len (now ++ rest) → len ≡ length now → length now ≡ length old
+    → length old ≤ i → take i now ≡ map read (take i old) → made ≡ map read old
+read_back read made now rest old len i is len_is same past so_far =
+    is ∙ ap (λ n. take n (now ++ rest)) len_is ∙ take-append_seam now rest ∙ sym (take_all i now (omega (arith, same, past))) ∙ so_far ∙ ap (map read) (take_all i old past)
 
 -- ---- the leaves of blocks that have been read
 

@@ -1,12 +1,11 @@
-use Rattle.std.proofs.Common.{◌≡◌, ◌∙◌, ◌<◌, ap, sym, subst, rules, arith, ◌++◌, drop, get_or, length, take, take_all}
+use Rattle.std.proofs.Common.{◌≡◌, ◌∙◌, ◌<◌, ap, sym, subst, rules, arith, get_or, length, take_all}
 use Rattle.std.specs.Prelude.{flat_map, map}
-use Rattle.std.proofs.Math.Seq.{take-append_seam}
 use Rattle.std.proofs.lemmas.Result.{err_from_is_err_and}
 use Rattle.cm_tree.specs.declared.tree.Block.TheVariants.{Quote, List as ListBlock}
 use Rattle.cm_scan.specs.Brackets.{defined_in}
 use Rattle.cm_tool.specs.Leaves.{block_read, depths_in, leaf_depths, with_inlines}
 use Rattle.cm_tool.specs.steps.Numbering.{Passes, TellsLeaf}
-use Rattle.cm_tool.proofs.LeafLemmas.{blocks_are, depths_read, item_depths_read, list_depths, list_read, next_passes, next_told, quote_is, read_next}
+use Rattle.cm_tool.proofs.LeafLemmas.{blocks_are, depths_read, item_depths_read, list_depths, list_read, next_passes, next_told, quote_is, read_back, read_next}
 use Rattle.cm_tool.proofs.leaves.+leaves.Goals as goal
 
 pub read_block-returns-in_err-blocks-in-Quote-clause-told : goal.read_block-returns-in_err-blocks-in-Quote-clause-told
@@ -47,7 +46,7 @@ with_inlines-loop-block-preserved t c =
       search rules,
       read_next (block_read limits.rules defined) c.loop-block.block-items blocks at c.block-item.result c.read_block.new.block (search (rules, arith)) within so_far.1 read_is,
       next_passes (depths_read limits.rules defined) limits.inlines c.args.next.now c.loop-block.next c.read_block.new.next blocks at c.block-item.result within so_far.2
-      (subst (λ b. Passes limits.inlines c.loop-block.next c.read_block.new.next (depths_in b)) read_is c.in_ok-read_block.ensures.passes),
+          (subst (λ b. Passes limits.inlines c.loop-block.next c.read_block.new.next (depths_in b)) read_is c.in_ok-read_block.ensures.passes),
     )
 
 pub with_inlines-returns-clause-passes : goal.with_inlines-returns-clause-passes
@@ -55,13 +54,13 @@ with_inlines-returns-clause-passes t c =
     let limits = c.args.limits in
     let defined = defined_in c.args.definitions.now in
     let so_far = c.loop-block.invariant in
-    let blocks = c.deref_mut-block-items.result.now in
     let at = c.loop-block.block-index in
-    let items = c.loop-block.block-items in
-    let len_is : c.into_vec-blocks.result.len ≡ length items = search (rules, c.deref_mut-block-items.ensures.len) in
-    let made : c.from.result ≡ items = c.from.ensures ∙ ap (λ n. take n (items ++ drop (length items) c.into_vec-blocks.result.items)) len_is ∙ take-append_seam items _ in
-    let read = made ∙ sym (take_all at items (search (rules, arith))) ∙ so_far.1 in
-    subst (Passes limits.inlines c.args.next.now c.loop-block.next) (blocks_are limits.rules defined (take at blocks) ∙ ap leaf_depths (sym read)) so_far.2
+    let old = c.deref_mut-block-items.result.now in
+    let len_is : c.into_vec-blocks.result.len ≡ length c.loop-block.block-items = search (rules, c.deref_mut-block-items.ensures.len) in
+    let read : c.from.result ≡ with_inlines limits.rules defined old =
+    read_back (block_read limits.rules defined) c.from.result c.loop-block.block-items _ old _ at c.from.ensures len_is c.loop-block.auto.block-items c.loop-block-test.false so_far.1 in
+    subst (Passes limits.inlines c.args.next.now c.loop-block.next)
+    (ap (flat_map (depths_read limits.rules defined)) (take_all at old c.loop-block-test.false) ∙ blocks_are limits.rules defined old ∙ ap leaf_depths (sym read)) so_far.2
 
 pub read_block-loop-item-preserved : goal.read_block-loop-item-preserved
 read_block-loop-item-preserved t c =
@@ -76,7 +75,7 @@ read_block-loop-item-preserved t c =
       search rules,
       read_next (with_inlines limits.rules defined) c.loop-item.item-items items at c.item-item.result c.in_ok-item-in-List.field-0 (search (rules, arith)) within so_far.1 read_is,
       next_passes (item_depths_read limits.rules defined) limits.inlines c.args.next.now c.loop-item.next c.with_inlines-in-loop-item.new.next items at c.item-item.result within so_far.2
-      (subst (λ b. Passes limits.inlines c.loop-item.next c.with_inlines-in-loop-item.new.next (leaf_depths b)) read_is c.in_ok-item-in-List.ensures.passes),
+          (subst (λ b. Passes limits.inlines c.loop-item.next c.with_inlines-in-loop-item.new.next (leaf_depths b)) read_is c.in_ok-item-in-List.ensures.passes),
     )
 
 pub read_block-returns-in_err-item-in-List-clause-told : goal.read_block-returns-in_err-item-in-List-clause-told
@@ -102,10 +101,9 @@ read_block-returns-after-loop-item-clause-read t c =
     let so_far = c.loop-item.invariant in
     let at = c.loop-item.item-index in
     let old = c.deref_mut-item-items.result.now in
-    let items = c.loop-item.item-items in
-    let len_is : c.into_vec-read.result.len ≡ length items = search (rules, c.deref_mut-item-items.ensures.len) in
-    let made : c.from-items.result ≡ items = c.from-items.ensures ∙ ap (λ n. take n (items ++ drop (length items) c.into_vec-read.result.items)) len_is ∙ take-append_seam items _ in
-    let read : c.from-items.result ≡ map (with_inlines limits.rules defined) old = made ∙ sym (take_all at items (search (rules, arith))) ∙ so_far.1 ∙ ap (map (with_inlines limits.rules defined)) (take_all at old c.loop-item-test.false) in
+    let len_is : c.into_vec-read.result.len ≡ length c.loop-item.item-items = search (rules, c.deref_mut-item-items.ensures.len) in
+    let read : c.from-items.result ≡ map (with_inlines limits.rules defined) old =
+    read_back (with_inlines limits.rules defined) c.from-items.result c.loop-item.item-items _ old _ at c.from-items.ensures len_is c.loop-item.auto.item-items c.loop-item-test.false so_far.1 in
     let block_is : ListBlock c.in-List.kind c.in-List.tight old ≡ c.args.block.now = search rules in
     rw (read, c.in-List.kind-is, c.in-List.tight-is) (sym (list_read limits.rules defined c.in-List.kind c.in-List.tight old) ∙ ap (block_read limits.rules defined) block_is)
 
@@ -116,10 +114,9 @@ read_block-returns-after-loop-item-clause-passes t c =
     let so_far = c.loop-item.invariant in
     let at = c.loop-item.item-index in
     let old = c.deref_mut-item-items.result.now in
-    let items = c.loop-item.item-items in
-    let len_is : c.into_vec-read.result.len ≡ length items = search (rules, c.deref_mut-item-items.ensures.len) in
-    let made : c.from-items.result ≡ items = c.from-items.ensures ∙ ap (λ n. take n (items ++ drop (length items) c.into_vec-read.result.items)) len_is ∙ take-append_seam items _ in
-    let read : c.from-items.result ≡ map (with_inlines limits.rules defined) old = made ∙ sym (take_all at items (search (rules, arith))) ∙ so_far.1 ∙ ap (map (with_inlines limits.rules defined)) (take_all at old c.loop-item-test.false) in
+    let len_is : c.into_vec-read.result.len ≡ length c.loop-item.item-items = search (rules, c.deref_mut-item-items.ensures.len) in
+    let read : c.from-items.result ≡ map (with_inlines limits.rules defined) old =
+    read_back (with_inlines limits.rules defined) c.from-items.result c.loop-item.item-items _ old _ at c.from-items.ensures len_is c.loop-item.auto.item-items c.loop-item-test.false so_far.1 in
     rw (read, c.in-List.kind-is, c.in-List.tight-is)
     (subst (Passes limits.inlines c.args.next.now c.loop-item.next) (ap (flat_map (item_depths_read limits.rules defined)) (take_all at old c.loop-item-test.false)
     ∙ list_depths limits.rules defined c.in-List.kind c.in-List.tight old ∙ ap depths_in (list_read limits.rules defined c.in-List.kind c.in-List.tight old)) so_far.2)
