@@ -20,5 +20,6 @@ pub record Examples : Type 0 where
   pub spaces_behind_a_tab : converted profile (codes "a \t  \nb \t") ≡ codes "<p>a \t<br />\nb</p>\n"
   pub code_and_escape : converted profile (codes "`a*` \\*&copy;\n") ≡ codes "<p><code>a*</code> *" ++ 0xC2 ∷ 0xA9 ∷ codes "</p>\n"
   pub emphasis : converted profile (codes "*a **b***\n") ≡ codes "<p><em>a <strong>b</strong></em></p>\n"
+  pub link_before_its_definition : converted profile (codes "[a]\n\n[A]: /u\n") ≡ codes "<p><a href=\"/u\">a</a></p>\n"
   pub search_interrupts_a_paragraph : converted profile (codes "a\n<search>\n") ≡ codes "<p>a</p>\n<search>\n"
   pub source_by_the_older_rules : converted older_rules (codes "a\n<source>\n") ≡ codes "<p>a</p>\n<source>\n"

@@ -1,20 +1,46 @@
-use Rattle.std.proofs.Common.{ℕ, List, refl}
+use Rattle.std.proofs.Common.{◌≡◌, ℕ, List, [], ◌∷◌, Option, Some, ap, codes, refl}
+use Rattle.cm_text.specs.Rules.{profile}
+use Rattle.cm_text.specs.Lines.{text_of, plain_lines_of}
+use Rattle.cm_text.proofs.Computing.{label_folding}
+use Rattle.cm_tree.specs.Definitions.{Target}
+use Rattle.cm_tree.specs.declared.tree.Inline.TheVariants.{Link, Text}
+use Rattle.cm_tree.proofs.Targets.{first_counts}
+use Rattle.cm_scan.specs.Brackets.{Defined}
+use Rattle.cm_scan.specs.Inlines.{inlines_of}
+use Rattle.cm_tool.specs.Document.{defined_by}
+use Rattle.cm_tool.specs.Writing.{converted}
 use Rattle.std.specs.Fmt.{digits}
 use Rattle.std.specs.Str.{is_utf8, chars}
 use Rattle.std.specs.Str.Lossy.{utf8_valid_len, utf8_error_len}
-use Rattle.cm_tree.specs.declared.tree.Inline.TheViews.{outs-Text as text, outs-Soft as soft, outs-Hard as hard, outs-Code as code_span, outs-Emph as emph, outs-Strong as strong}
+use Rattle.cm_tree.specs.declared.tree.Inline.TheViews.{outs-Text as text, outs-Soft as soft, outs-Hard as hard, outs-Code as code_span, outs-Emph as emph, outs-Strong as strong, outs-Link as link}
 use Rattle.cm_tree.specs.declared.tree.Inline.TheFolds.{fold_out-Inline}
 use Rattle.cm_tree.specs.declared.tree.Block.{Block}
-use Rattle.cm_tree.specs.declared.tree.Block.TheVariants.{outs-Paragraph as paragraph, outs-Heading as heading, outs-Code as code, outs-Html as raw, outs-Break as thematic, outs-Quote as quote, outs-List as items}
+use Rattle.cm_tree.specs.declared.tree.Block.TheVariants.{outs-Paragraph as paragraph, outs-Heading as heading, outs-Code as code, outs-Html as raw, outs-Break as thematic, outs-Definition as definition, outs-Quote as quote, outs-List as items}
 use Rattle.cm_tree.specs.declared.tree.Block.TheFolds.{fold_out-Block}
 use Rattle.cm_scan.proofs.Computing.{block_structure}
 use Rattle.cm_scan.proofs.InlineComputing.{inline_structure}
-use Rattle.cm_html.specs.Escape.{class_word}
+use Rattle.cm_html.specs.Escape.{is_kept, destination_byte, class_word}
 use Rattle.cm_html.specs.Html.{Spelled, inline_step, Written, block_step}
 use Rattle.cm_tree.specs.Depth.{depth_step}
 use Rattle.cm_tool.specs.Leaves.{depths_step}
 use Rattle.cm_tool.proofs.laws.worked_examples.Goals as goal
 use lib.Utf8.{encode}
+
+-- the link of a paragraph in a text with a definition behind it
+abbrev defined_behind : Defined
+defined_behind = defined_by profile (plain_lines_of (text_of (codes "[a]\n\n[A]: /u\n")))
+
+its_target : defined_behind (codes "a") ≡ Some (codes "/u", [])
+unfolding block_structure label_folding
+its_target = first_counts ((codes "A", (codes "/u", [])) ∷ []) (codes "a")
+
+link_made : (defined : Defined) → defined (codes "a") ≡ Some (codes "/u", []) → inlines_of profile defined (codes "[a]") ≡ Link (codes "/u") [] (Text (codes "a") ∷ []) ∷ []
+unfolding inline_structure
+link_made defined is = ap (λ (target : Option Target). inlines_of profile (λ folded. target) (codes "[a]")) is
+
+link_page : converted profile (codes "[a]\n\n[A]: /u\n") ≡ codes "<p><a href=\"/u\">a</a></p>\n"
+unfolding block_structure is_kept destination_byte
+link_page = simp (fold_out-Block Block, fold_out-Block Written block_step, fold_out-Inline Spelled inline_step, link_made defined_behind its_target, paragraph, definition, text, link)
 
 pub returns-clause-reading : goal.returns-clause-reading
 unfolding block_structure inline_structure utf8_valid_len utf8_error_len is_utf8 chars encode
@@ -46,6 +72,7 @@ returns-clause-html c = record {
   nul = simp (fold_out-Block Block, fold_out-Block Written block_step, fold_out-Inline Spelled inline_step, paragraph, text);
   blank_line = simp (fold_out-Block Block, fold_out-Block Written block_step, fold_out-Inline Spelled inline_step, paragraph, text);
   emphasis = simp (fold_out-Block Block, fold_out-Block Written block_step, fold_out-Inline Spelled inline_step, paragraph, text, emph, strong);
+  link_before_its_definition = link_page;
   search_interrupts_a_paragraph = simp (fold_out-Block Block, fold_out-Block Written block_step, fold_out-Inline Spelled inline_step, paragraph, raw, text);
   source_by_the_older_rules = simp (fold_out-Block Block, fold_out-Block Written block_step, fold_out-Inline Spelled inline_step, paragraph, raw, text);
   indented_code = simp (fold_out-Block Block, fold_out-Block Written block_step, code);
