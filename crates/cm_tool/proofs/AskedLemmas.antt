@@ -17,7 +17,7 @@ use Rattle.cm_text.specs.Limits.{LimitsView}
 use Rattle.cm_tool.specs.declared.job.Job.{Job}
 use Rattle.cm_tool.specs.declared.job.Job.TheVariants.{Render, Tree}
 use Rattle.cm_tool.specs.declared.job.Task.{Task}
-use Rattle.cm_tool.specs.CommandLine.{are_limits, each_once, file_in, file_rule, found_for, given_for, hold_an_option, is_given, is_limit, is_option, is_set, job_in, job_of, limits_at, limits_by, limits_in, limits_of, name_of, number_for, numbers_in, older_rule, option_of, rules_by, rules_in, stops_of, strike_rule, value_of, words_for, words_of, Blocks, Choice, Inlines, IsTaskOf, Older, Strike}
+use Rattle.cm_tool.specs.CommandLine.{are_limits, each_once, file_in, file_rule, found_for, given_for, hold_an_option, is_given, is_limit, is_option, is_set, job_in, job_of, limits_at, limits_by, limits_in, limits_of, name_of, number_for, numbers_in, older_rule, option_of, rules_in, stops_of, strike_rule, value_of, words_for, words_of, Blocks, Choice, Inlines, IsTaskOf, Older, Strike}
 use Rattle.cm_tool.proofs.CommandLineLemmas.{no_dashes, no_long, no_short, plain_limit}
 use Rattle.cm_tool.proofs.RowLemmas.{first_default, or_assoc, row_by, used_new, with_defaults}
 use Rattle.cm_tool.proofs.WalkedLemmas.{cmk_built, job_rules}

@@ -1,8 +1,8 @@
 -- Writing what has been read.
-use Rattle.std.proofs.Common.{◌≡◌, ℕ, List, ap, subst, inr}
+use Rattle.std.proofs.Common.{◌≡◌, ℕ, List, subst, inr}
 use Rattle.std.specs.Prelude.{Err}
 use Rattle.cm_text.specs.Limits.{LimitsView}
-use Rattle.cm_text.specs.Writing.{SinkView, WroteBeginning}
+use Rattle.cm_text.specs.Writing.{SinkView}
 use Rattle.cm_tree.specs.declared.tree.Doc.{Doc}
 use Rattle.cm_html.specs.declared.fault.HtmlFault.{HtmlFault}
 use Rattle.cm_html.specs.declared.fault.HtmlFault.TheVariants as html

@@ -1,11 +1,11 @@
-use Rattle.std.proofs.Common.{◌≡◌, ◌∙◌, ap, ap₂, sym, subst, rules, ℕ, Option, Some, codes, refl, ◌^◌, ◌≤◌}
+use Rattle.std.proofs.Common.{◌≡◌, ◌∙◌, ap, ap₂, sym, rules, ℕ, Option, Some, codes, refl, ◌^◌, ◌≤◌}
 use Rattle.std.specs.Prelude.{option_and_then, option_map}
-use Rattle.clap.specs.Words.{Text, found_of, rows_of, ReadsOne}
+use Rattle.clap.specs.Words.{Text, found_of, rows_of}
 use Rattle.clap.proofs.WalkLemmas.{one_text-rows}
 use Rattle.cm_text.specs.Limits.{LimitsView, limits_for}
 use Rattle.cm_text.specs.Rules.{profile}
-use Rattle.cm_tool.specs.CommandLine.{as_number, is_limit, limits_of, rules_in}
-use Rattle.cm_tool.proofs.CommandLineLemmas.{Gives, read_in_range, number_read, limits_made, standard_bytes}
+use Rattle.cm_tool.specs.CommandLine.{as_number, limits_of, rules_in}
+use Rattle.cm_tool.proofs.CommandLineLemmas.{read_in_range, number_read, limits_made, standard_bytes}
 use Rattle.cm_tool.proofs.command_line.limits_of.Goals as goal
 
 pub unwrap-blocks-requires : goal.unwrap-blocks-requires

@@ -1,5 +1,5 @@
 use Rattle.std.proofs.Common.{◌∙◌, sym, subst, Option, IsSomeAnd}
-use Rattle.clap.specs.Words.{found_of, rows_of, subcommand_rows_of}
+use Rattle.clap.specs.Words.{found_of, rows_of}
 use Rattle.cm_tool.specs.CommandLine.{Found, IsJob, IsTaskOf}
 use Rattle.cm_tool.specs.declared.job.Task.{Task}
 use Rattle.cm_tool.proofs.CommandLineLemmas.{found_is}

@@ -1,6 +1,5 @@
-use Rattle.std.proofs.Common.{◌≡◌, ap, ap₂, sym, subst, rules, Ok, Err, ◌<◌}
+use Rattle.std.proofs.Common.{◌≡◌, rules}
 use Rattle.std.proofs.lemmas.Result.{err_from_is_err_and}
-use Rattle.cm_tree.specs.Depth.{inlines_depth}
 use Rattle.cm_scan.specs.Brackets.{defined_in}
 use Rattle.cm_scan.specs.Inlines.{inlines_of}
 use Rattle.cm_tool.specs.Leaves.{content_read}

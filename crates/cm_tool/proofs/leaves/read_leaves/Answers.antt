@@ -1,4 +1,4 @@
-use Rattle.std.proofs.Common.{◌∙◌, ap, sym, subst, append-nil, [], None}
+use Rattle.std.proofs.Common.{◌∙◌, ap, sym, subst, append-nil, []}
 use Rattle.std.proofs.lemmas.Result.{IfOk-weaker, IfErr-weaker}
 use Rattle.std.specs.Prelude.{option_map}
 use Rattle.cm_scan.specs.Brackets.{defined_in}

@@ -1,6 +1,5 @@
-use Rattle.std.proofs.Common.{◌∙◌, ap, subst}
+use Rattle.std.proofs.Common.{◌∙◌}
 use Rattle.std.proofs.lemmas.Result.{err_from_is_err_and}
-use Rattle.cm_text.specs.Limits.{LimitsView}
 use Rattle.cm_tool.proofs.ParserLemmas.{no_fault, stands, end_told, has_ended, last_line_told, whole_taken, leaf_told, all_read, count_of, ended_of}
 use Rattle.cm_tool.proofs.parser.finish.Goals as goal
 
