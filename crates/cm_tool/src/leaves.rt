@@ -29,6 +29,7 @@ fn read_content(
 {
     let (rules, limit) = (limits.rules(), limits.inlines());
     let [Inline::Text(source)] = content.as_slice() else {
+        // There is no source. An outline has no inlines then, but the type allows some.
         if inline_depth(content.as_slice()) > limit {
             return Err(InlineFault::InlinesTooDeep);
         }
