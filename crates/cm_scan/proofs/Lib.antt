@@ -21,6 +21,7 @@ pub mod GapLemmas
 pub mod ReadingLemmas
 pub mod ReadFurther
 pub mod TagsFurther
+pub mod TrimLemmas
 pub mod RawHtmlLemmas
 pub mod Ends
 pub mod EndLemmas
@@ -41,3 +42,4 @@ pub mod HtmlSpanLemmas
 pub mod RunLemmas
 pub mod AngledLemmas
 pub mod NeededLemmas
+pub mod LevelLemmas

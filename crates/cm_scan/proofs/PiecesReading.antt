@@ -32,7 +32,7 @@ again (item ∷ items) =
     ∙ ap (λ t. pieces_of item ++ t) (again items)
 
 -- the last first, or the first first
-back-is : (items : List Item) → back items ≡ reverse (in_pieces (reverse items))
+pub back-is : (items : List Item) → back items ≡ reverse (in_pieces (reverse items))
 back-is items = sym (reverse-reverse (back items)) ∙ ap reverse (back-forward items)
 
 back-reversed : (items : List Item) → back (reverse items) ≡ reverse (in_pieces items)
@@ -97,7 +97,7 @@ same-texts found =
     ap (λ t. back_pieces (Characters (93 ∷ [])) ++ t) behind
 
 -- what two answers have in common
-record Alike (one other : Bracketed) : Type 0 where
+pub record Alike (one other : Bracketed) : Type 0 where
   pub items : back one.items ≡ back other.items
   pub rest : one.rest ≡ other.rest
 
@@ -167,7 +167,7 @@ add-same defined items others (Delimiter run) rest e = record { items = ap (λ t
 add-same defined items others (OpenBracket image) rest e = record { items = ap (λ t. Opener image rest ∷ t) e; rest = refl }
 add-same defined items others CloseBracket rest e = close-same defined items others rest e
 
-step-same : (rules : Rules) (defined : Defined) (before : List ℕ) (b : ℕ) (bs : List ℕ) (items others : List Item) → back items ≡ back others
+pub step-same : (rules : Rules) (defined : Defined) (before : List ℕ) (b : ℕ) (bs : List ℕ) (items others : List Item) → back items ≡ back others
     → Alike (item_step rules defined before b bs items) (item_step rules defined before b bs others)
 unfolding item_step
 step-same rules defined before b bs items others e = add-same defined items others (atom_at rules before b bs).atom (atom_at rules before b bs).rest e

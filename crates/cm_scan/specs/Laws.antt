@@ -8,6 +8,7 @@ use Rattle.cm_tree.specs.declared.tree.Block.{Block, Block-F}
 use Rattle.cm_tree.specs.declared.tree.Block.TheOpen as block
 use Rattle.cm_tree.specs.declared.tree.Block.TheFolds.{fold-Block}
 use Rattle.cm_tree.specs.declared.tree.Owner.{Owner}
+use Rattle.cm_tree.specs.Levels.{have_levels}
 use Rattle.cm_tree.specs.declared.tree.Owner.TheVariants.{Leaf, Marker, Blank}
 use Rattle.cm_text.specs.Rules.{Rules}
 use Rattle.cm_text.specs.Lines.{LineView}
@@ -155,3 +156,7 @@ leaves_in blocks = total (map (fold-Block ℕ leaves_step) blocks)
 -- the leaves of the tree are those that the lines have, one nonempty run each, in order; every other line is a marker's or blank
 abbrev pub RunsInOrder : Type 0
 RunsInOrder = (rules : Rules) (lines : List LineView) → AreLines lines → leaves_named (owners_of rules lines) ≡ Some (leaves_in (blocks_of rules lines))
+
+-- Each heading has a level from 1 to 6.
+abbrev pub HeadingLevels : Type 0
+HeadingLevels = (rules : Rules) (lines : List LineView) → have_levels (blocks_of rules lines) ≡ true

@@ -23,6 +23,7 @@ pub mod Runs
 pub mod Starts
 pub mod Parts
 pub mod Blocks
+pub mod Documents
 pub mod WorkedExamples
 pub mod Laws
 pub mod BlockLaws

@@ -1,5 +1,5 @@
 //! Laws of the definitions, each the contract of a function that does nothing.
-ghost use Rattle.cm_scan.specs.Laws.{NoLines, FixedPoint, BlankCase, BreakCase, HeadingCase, FenceCase, HtmlCase, CodeCase, TextCase, OneMoreStays, QuoteCase, ItemCase, OneOwnerALine, RunsInOrder};
+ghost use Rattle.cm_scan.specs.Laws.{NoLines, FixedPoint, BlankCase, BreakCase, HeadingCase, FenceCase, HtmlCase, CodeCase, TextCase, OneMoreStays, QuoteCase, ItemCase, OneOwnerALine, RunsInOrder, HeadingLevels};
 ghost use Rattle.cm_scan.specs.Looseness.{PartsHaveLines, LooseByOwners};
 ghost use Rattle.cm_scan.specs.WorkedExamples.{LeafExamples, ContainerExamples, DefinitionExamples, DepthExamples, BoundExamples};
 
@@ -53,4 +53,9 @@ pub fn owners_of_lines()
 pub fn loose_lists()
     ensures lines { PartsHaveLines }
     ensures loose { LooseByOwners }
+{}
+
+/// Each heading, at any depth, has a level from 1 to 6.
+pub fn heading_levels()
+    ensures { HeadingLevels }
 {}

@@ -4,6 +4,7 @@
 mod angled;
 mod autolinks;
 pub mod block_laws;
+mod characters;
 mod code_spans;
 mod gaps;
 mod html_blocks;
@@ -19,6 +20,7 @@ mod words;
 
 pub use angled::Autolink;
 pub use autolinks::autolink;
+pub use characters::{first_character, last_character};
 pub use code_spans::code_span;
 pub use gaps::{after_gap, is_blank_next};
 pub use html_blocks::{HtmlKind, html_end, html_start, html_start_by};
@@ -27,5 +29,5 @@ pub use line_forms::{
     AtxHeading, FenceKind, OpeningFence, atx, fence, fence_end, quote_marker, thematic, underline,
 };
 pub use links::{LinkDefinition, definition, destination, is_next, label, title};
-pub use markers::{ItemMarker, item_marker};
+pub use markers::{ItemMarker, is_same_kind, item_marker};
 pub use words::{after_run, is_blank_text, trim_end, trim_end_spaces};

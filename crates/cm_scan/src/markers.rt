@@ -3,7 +3,7 @@ ghost use Rattle.std.specs.Prelude.{◌≡◌, ◌+◌, ◌-◌, ◌==◌, ◌<�
 ghost use Rattle.std.specs.List.{fold};
 ghost use Rattle.std.specs.Str.{IsCharBoundary};
 ghost use Rattle.cm_scan.specs.Words.{is_digit, front_of, skip};
-ghost use Rattle.cm_scan.specs.LineForms.{item_marker, bullet_kind, ordered_kind, decimal_value};
+ghost use Rattle.cm_scan.specs.LineForms.{item_marker, is_same_kind, bullet_kind, ordered_kind, decimal_value};
 ghost use Rattle.cm_scan.specs.steps.LineSteps.{with_digit};
 
 use crate::words::{bytes_from, is_at_gap, is_digit};
@@ -95,4 +95,18 @@ pub fn item_marker(text: &str, at: usize) -> Option<(ItemMarker, usize)>
         return None;
     }
     Some((ItemMarker { kind, digits }, behind))
+}
+
+/// Whether items of the two kinds go into one list (5.3 Lists).
+pub fn is_same_kind(one: ListKind, other: ListKind) -> bool
+    ensures { result ≡ is_same_kind one other }
+{
+    match (one, other) {
+        (ListKind::Dash, ListKind::Dash) => true,
+        (ListKind::Plus, ListKind::Plus) => true,
+        (ListKind::Star, ListKind::Star) => true,
+        (ListKind::Dot { .. }, ListKind::Dot { .. }) => true,
+        (ListKind::Paren { .. }, ListKind::Paren { .. }) => true,
+        _ => false,
+    }
 }

@@ -1,11 +1,12 @@
 -- Gaps of a text, settled from the left.
-use Rattle.std.proofs.Common.{◌≡◌, ◌≢◌, ℕ, suc, ◌<◌, Bool, true, false, List, [], ◌∷◌, ◌++◌, length, get_or, refl, ap, sym, ◌∙◌, append_assoc, arith}
+use Rattle.std.proofs.Common.{◌≡◌, ◌≢◌, ◌==◌, ℕ, suc, ◌<◌, Bool, true, false, List, [], ◌∷◌, ◌++◌, length, get_or, refl, ap, sym, ◌∙◌, append_assoc, arith}
 use lib.Utf8.{encode}
 use Rattle.std.proofs.lemmas.Str.{inside_one, encode_ascii, length-encode, len_utf8_bounds}
 use Rattle.std.proofs.lemmas.List.{append-nil}
+use Rattle.std.proofs.lemmas.Bool.{and_parts, eqb-true}
 use Rattle.std.proofs.lemmas.Bool.Decides.{nat_tests}
 use Rattle.cm_text.specs.Labels.{is_gap, strip_leading, keep_before, strip_trailing, collapse_after, settle_gaps}
-use Rattle.cm_text.specs.steps.LabelSteps.{put_after}
+use Rattle.cm_text.specs.steps.LabelSteps.{is_settled, put_after, settled_by}
 
 -- what a text gives of which a front has been read, where a gap was read last or wasn't
 abbrev pub after : (after_gap : Bool) → List ℕ → List ℕ
@@ -128,3 +129,31 @@ char_read made next g c rest text h e n = rw (n, e) (text_read made g (encode c)
 -- nothing is read yet
 pub none_read : (made rest text : List ℕ) → made ≡ [] → rest ≡ text → made ++ rest_after made false rest ≡ settle_gaps text
 none_read made rest text e f = rw (e, f) (after_is text)
+
+-- ---- a text that is settled as it stands
+
+module _ (b : ℕ) (bs : List ℕ) (plain : is_settled false bs ≡ true → after false bs ≡ bs) (behind : is_settled true bs ≡ true → after true bs ≡ 32 ∷ bs) where
+  settled_plain : (g : Bool) → is_gap b ≡ g → settled_by g false (b == 32) (is_settled true bs) (is_settled false bs) ≡ true → after false (b ∷ bs) ≡ b ∷ bs
+  settled_plain true g h =
+      let parts = and_parts (b == 32) (is_settled true bs) h in
+      after-gap false b bs g ∙ behind parts.1 ∙ ap (λ x. x ∷ bs) (sym (eqb-true b 32 parts.0))
+  settled_plain false g h = after-text false b bs g ∙ ap (λ t. b ∷ t) (plain h)
+
+  settled_behind : (g : Bool) → is_gap b ≡ g → settled_by g true (b == 32) (is_settled true bs) (is_settled false bs) ≡ true → after true (b ∷ bs) ≡ 32 ∷ b ∷ bs
+  settled_behind true g h = cc
+  settled_behind false g h = after-text true b bs g ∙ ap (λ t. 32 ∷ b ∷ t) (plain h)
+
+settled_both : (bs : List ℕ) → (is_settled false bs ≡ true → after false bs ≡ bs) × (is_settled true bs ≡ true → after true bs ≡ 32 ∷ bs)
+settled_both [] = (λ h. refl, λ h. cc)
+settled_both (b ∷ bs) =
+    let h = settled_both bs in
+    (settled_plain b bs h.0 h.1 (is_gap b) refl, settled_behind b bs h.0 h.1 (is_gap b) refl)
+
+settled_front : (g : Bool) (b : ℕ) (bs : List ℕ) → is_gap b ≡ g → settled_by g true (b == 32) (is_settled true bs) (is_settled false bs) ≡ true
+    → after false (strip_leading (b ∷ bs)) ≡ b ∷ bs
+settled_front true b bs g h = cc
+settled_front false b bs g h = ap (λ t. after false t) (strip-text b bs g) ∙ after-text false b bs g ∙ ap (λ t. b ∷ t) ((settled_both bs).0 h)
+
+pub settled : (text : List ℕ) → is_settled true text ≡ true → settle_gaps text ≡ text
+settled [] h = cc
+settled (b ∷ bs) h = sym (after_is (b ∷ bs)) ∙ settled_front (is_gap b) b bs refl h

@@ -1,4 +1,5 @@
 pub mod PiecesLemmas
+pub mod ReplacedLemmas
 pub mod CutLemmas
 pub mod LinesLemmas
 pub mod Utf8Lemmas
@@ -16,3 +17,4 @@ pub mod SearchLemmas
 pub mod StripLemmas
 pub mod ViewLemmas
 pub mod EndedLines
+pub mod FoldLemmas

@@ -1,7 +1,7 @@
 //! Labels as they are compared.
-ghost use Rattle.std.specs.Prelude.{◌≡◌, ◌++◌, string_bytes, encode_utf8, IfOk, OnOk};
-ghost use Rattle.cm_text.specs.Labels.{fold_label, is_gap, settle_gaps};
-ghost use Rattle.cm_text.specs.steps.LabelSteps.{put_after};
+ghost use Rattle.std.specs.Prelude.{◌≡◌, true, ◌++◌, string_bytes, encode_utf8, IfOk, OnOk};
+ghost use Rattle.cm_text.specs.Labels.{case_fold, fold_label, is_gap, settle_gaps};
+ghost use Rattle.cm_text.specs.steps.LabelSteps.{is_settled, put_after};
 
 use crate::device::NoMemory;
 use caseless::default_case_fold_str;
@@ -16,18 +16,47 @@ use std::alloc::{AllocError, Global};
 /// # Errors
 ///
 /// `NoMemory` where a request for memory was refused.
-#[tactic(auto, unfolding(crate::specs::Labels::fold_label, crate::specs::Labels::case_fold))]
+#[tactic(auto, unfolding(crate::specs::Labels::fold_label))]
 pub fn fold_label(alloc: Global, label: &str) -> Result<String, NoMemory>
     ensures { IfOk result (λ folded. string_bytes folded ≡ fold_label label.now) }
 {
-    let folded = default_case_fold_str(alloc, label)?;
+    let folded = case_fold(alloc, label)?;
+    if is_settled(folded.as_bytes()) {
+        return Ok(folded);
+    }
     Ok(settle_gaps(alloc, &folded)?)
+}
+
+/// A text with its case folded in full. ASCII, which most labels are, is folded without the table.
+#[tactic(auto, unfolding(crate::specs::Labels::case_fold))]
+fn case_fold(alloc: Global, text: &str) -> Result<String, AllocError>
+    ensures { IfOk result (λ folded. string_bytes folded ≡ case_fold text.now) }
+{
+    if text.is_ascii() {
+        return text.to_ascii_lowercase(alloc);
+    }
+    default_case_fold_str(alloc, text)
+}
+
+/// Whether a text that isn't empty has no gaps but single spaces inside.
+fn is_settled(text: &[u8]) -> bool
+    ensures { result ≡ is_settled true text.now }
+{
+    let mut behind_gap = true;
+    for b in text {
+        let gap = is_gap(*b as char);
+        if gap && (behind_gap || *b != b' ') {
+            return false;
+        }
+        behind_gap = gap;
+    }
+    !behind_gap
 }
 
 fn settle_gaps(alloc: Global, text: &str) -> Result<String, AllocError>
     ensures { IfOk result (λ settled. string_bytes settled ≡ settle_gaps text.now) }
 {
-    let mut settled = String::new(alloc);
+    let mut settled = String::with_capacity(alloc, text.len())?;
     let mut after_gap = false;
     for c in text.chars() {
         if is_gap(c) {

@@ -1,4 +1,6 @@
 pub mod formers
 pub mod Depth
 pub mod Definitions
+pub mod Levels
+pub mod RawHtml
 pub mod WorkedExamples

@@ -54,11 +54,13 @@ mod definitions;
 mod depth;
 mod items;
 pub mod laws;
+mod raw_html;
 mod text;
 mod tree;
 
 pub use definitions::Definitions;
 pub use depth::{block_depth, inline_depth};
 pub use items::Items;
+pub use raw_html::has_raw_html;
 pub use text::Text;
 pub use tree::{Block, Doc, Inline, ListKind, Owner};

@@ -1,7 +1,20 @@
 -- One character more, as a label is settled from the left.
-use Rattle.std.specs.Prelude.{ℕ, Bool, true, false, List, [], ◌∷◌}
+use Rattle.std.specs.Prelude.{ℕ, Bool, true, false, not, ◌&&◌, ◌==◌, List, [], ◌∷◌}
+use Rattle.cm_text.specs.Labels.{is_gap}
 
 -- what a character adds to the text that was made, where a gap stands before it or doesn't
 abbrev pub put_after : (made : List ℕ) (after_gap : Bool) → List ℕ → List ℕ
 put_after [] after_gap bytes = bytes
 put_after (b ∷ bs) after_gap bytes = elim after_gap [ true ↦ 32 ∷ bytes | false ↦ bytes ]
+
+-- whether a text is settled that begins with a gap or doesn't, by the same of what stands behind its first byte
+abbrev pub settled_by : (gap behind_gap space rest_behind_gap rest : Bool) → Bool
+settled_by true true space rest_behind_gap rest = false
+settled_by true false space rest_behind_gap rest = space && rest_behind_gap
+settled_by false behind_gap space rest_behind_gap rest = rest
+
+-- Whether a text is settled as it stands: each gap in it is one space, and something else stands before and behind that. The mark says
+-- that a gap stands before the text, or nothing.
+abbrev pub is_settled : (behind_gap : Bool) → List ℕ → Bool
+is_settled behind_gap [] = not behind_gap
+is_settled behind_gap (b ∷ bs) = settled_by (is_gap b) behind_gap (b == 32) (is_settled true bs) (is_settled false bs)

@@ -3,7 +3,7 @@ use Rattle.cm_text.proofs.LabelLemmas.{none_read, gap_read, char_read}
 use Rattle.cm_text.proofs.labels.settle_gaps.Goals as goal
 
 pub loop-c-init : goal.loop-c-init
-loop-c-init c = none_read (string_bytes c.new-settled.result) c.into_iter-c-iterator.result.rest.now c.args.text.now c.new-settled.ensures.bytes (cc)
+loop-c-init c = none_read (string_bytes c.in_ok-settled.settled) c.into_iter-c-iterator.result.rest.now c.args.text.now c.in_ok-settled.ensures.bytes (cc)
 
 pub loop-c-preserved-then-is_gap : goal.loop-c-preserved-then-is_gap
 loop-c-preserved-then-is_gap c =

@@ -1,0 +1,5 @@
+use Rattle.cm_scan.proofs.LevelLemmas.{heading_levels}
+use Rattle.cm_scan.proofs.laws.heading_levels.Goals as goal
+
+pub returns : goal.returns
+returns c = heading_levels

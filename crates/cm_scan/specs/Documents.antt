@@ -1,0 +1,49 @@
+-- The tree of a text: its blocks, with the inlines of their leaves read where the link reference definitions of the whole document
+-- count (CommonMark 0.31.2, Appendix: A parsing strategy).
+use Rattle.std.specs.Prelude.{ℕ, List, [], ◌∷◌, map}
+use Rattle.cm_text.specs.Rules.{Rules}
+use Rattle.cm_text.specs.Lines.{LineView, text_of, plain_lines_of}
+use Rattle.cm_tree.specs.declared.tree.Inline.{Inline}
+use Rattle.cm_tree.specs.declared.tree.Inline.TheVariants.{Text}
+use Rattle.cm_tree.specs.declared.tree.Block.{Block, Block-F}
+use Rattle.cm_tree.specs.declared.tree.Block.TheOpen as block
+use Rattle.cm_tree.specs.declared.tree.Block.TheVariants.{Paragraph, Heading, Code, Html, Break, Definition, Quote, List as ListBlock}
+use Rattle.cm_tree.specs.declared.tree.Block.TheFolds.{fold-Block}
+use Rattle.cm_scan.specs.Blocks.{blocks_of, reference_table}
+use Rattle.cm_scan.specs.Brackets.{Defined, defined_in}
+use Rattle.cm_scan.specs.Inlines.{inlines_of}
+
+-- the content of a paragraph or heading, which in an outline is one text, its source, or nothing
+abbrev pub content_read : Rules → Defined → List Inline → List Inline
+content_read rules defined (Text source ∷ []) = inlines_of rules defined source
+content_read rules defined content = content
+
+-- one block, with each block inside read in its place
+abbrev pub read_step : Rules → Defined → Block-F Block → Block
+read_step rules defined (block.Paragraph content) = Paragraph (content_read rules defined content)
+read_step rules defined (block.Heading level content) = Heading level (content_read rules defined content)
+read_step rules defined (block.Code info text) = Code info text
+read_step rules defined (block.Html text) = Html text
+read_step rules defined block.Break = Break
+read_step rules defined (block.Definition label dest title) = Definition label dest title
+read_step rules defined (block.Quote blocks) = Quote blocks
+read_step rules defined (block.List kind tight items) = ListBlock kind tight items
+
+abbrev pub block_read : Rules → Defined → Block → Block
+block_read rules defined = fold-Block Block (read_step rules defined)
+
+-- the blocks with the inlines of their leaves, at every depth, where these link reference definitions count
+abbrev pub with_inlines : Rules → Defined → List Block → List Block
+with_inlines rules defined blocks = map (block_read rules defined) blocks
+
+-- the link reference definitions of these lines, wherever they stand
+abbrev pub defined_by : Rules → List LineView → Defined
+defined_by rules lines = defined_in (reference_table rules lines)
+
+-- the tree of these lines, by these rules
+abbrev pub tree_of_lines : Rules → List LineView → List Block
+tree_of_lines rules lines = with_inlines rules (defined_by rules lines) (blocks_of rules lines)
+
+-- the tree of a text's bytes
+abbrev pub tree_of : Rules → List ℕ → List Block
+tree_of rules bytes = tree_of_lines rules (plain_lines_of (text_of bytes))

@@ -1,0 +1,17 @@
+//! The characters at the ends of a text.
+ghost use Rattle.std.specs.Prelude.{◌≡◌, reverse};
+ghost use Rattle.cm_scan.specs.Atoms.{first_character, last_character};
+
+/// The first character of a text.
+pub fn first_character(text: &str) -> Option<char>
+    ensures { result ≡ first_character text.now }
+{
+    text.chars().next()
+}
+
+/// The last character of a text.
+pub fn last_character(text: &str) -> Option<char>
+    ensures { result ≡ last_character (reverse text.now) }
+{
+    text.chars().next_back()
+}

@@ -1,0 +1,51 @@
+-- Where raw HTML stands in a tree.
+use Rattle.std.specs.Prelude.{Bool, true, false, ◌||◌, List, [], ◌∷◌, map}
+use Rattle.cm_tree.specs.declared.tree.Inline.{Inline, Inline-F}
+use Rattle.cm_tree.specs.declared.tree.Inline.TheOpen as inline
+use Rattle.cm_tree.specs.declared.tree.Inline.TheFolds.{fold-Inline}
+use Rattle.cm_tree.specs.declared.tree.Block.{Block, Block-F}
+use Rattle.cm_tree.specs.declared.tree.Block.TheOpen as block
+use Rattle.cm_tree.specs.declared.tree.Block.TheFolds.{fold-Block}
+
+abbrev pub any_of : List Bool → Bool
+any_of [] = false
+any_of (answer ∷ answers) = answer || any_of answers
+
+-- One inline, with the answer for each inline of its content in its place. An image's content is its alternative text, and raw HTML
+-- in that is text.
+abbrev pub raw_inline_step : Inline-F Bool → Bool
+raw_inline_step (inline.Html text) = true
+raw_inline_step (inline.Emph content) = any_of content
+raw_inline_step (inline.Strong content) = any_of content
+raw_inline_step (inline.Strike content) = any_of content
+raw_inline_step (inline.Link dest title content) = any_of content
+raw_inline_step _ = false
+
+abbrev pub inline_has_raw : Inline → Bool
+inline_has_raw = fold-Inline Bool raw_inline_step
+
+abbrev pub inlines_have_raw : List Inline → Bool
+inlines_have_raw inlines = any_of (map inline_has_raw inlines)
+
+abbrev pub any_of_items : List (List Bool) → Bool
+any_of_items [] = false
+any_of_items (item ∷ items) = any_of item || any_of_items items
+
+-- one block, with the answer for each block inside in its place
+abbrev pub raw_block_step : Block-F Bool → Bool
+raw_block_step (block.Paragraph content) = inlines_have_raw content
+raw_block_step (block.Heading level content) = inlines_have_raw content
+raw_block_step (block.Html text) = true
+raw_block_step (block.Quote blocks) = any_of blocks
+raw_block_step (block.List kind tight items) = any_of_items items
+raw_block_step _ = false
+
+abbrev pub block_has_raw : Block → Bool
+block_has_raw = fold-Block Bool raw_block_step
+
+-- raw HTML or an HTML block stands in the blocks, at any depth, but in an image
+abbrev pub blocks_have_raw : List Block → Bool
+blocks_have_raw blocks = any_of (map block_has_raw blocks)
+
+abbrev pub items_have_raw : List (List Block) → Bool
+items_have_raw items = any_of_items (map (map block_has_raw) items)
