@@ -1,5 +1,5 @@
 -- What a line begins in the innermost of the open containers.
-use Rattle.std.proofs.Common.{◌≡◌, ℕ, zero, suc, ◌+◌, ◌<◌, ◌≤◌, Bool, true, false, ◌&&◌, List, [], ◌∷◌, ◌++◌, length, refl, ◌∙◌, sym, ap, ap₂, arith, le_refl, Option, Some, None}
+use Rattle.std.proofs.Common.{◌≡◌, ℕ, zero, suc, ◌+◌, ◌<◌, Bool, true, false, ◌&&◌, List, [], ◌∷◌, ◌++◌, length, refl, ◌∙◌, sym, ap, ap₂, arith, le_refl, Option, Some, None}
 use Rattle.std.specs.Prelude.{⊤}
 use Rattle.cm_text.specs.Rules.{Rules}
 use Rattle.cm_text.specs.Lines.{LineView}
@@ -184,17 +184,3 @@ pub nest-nesting : (bare : Bool) (fs : List Frame) (v : Level) (x : OpenLeaf) �
 unfolding nest nesting
 nest-nesting bare [] v x = refl
 nest-nesting bare (f ∷ fs) v x = open-nesting f.container (bare && is_last fs) (nest bare fs v x).0 (nest bare fs v x).1 ∙ ap suc (nest-nesting bare fs v x)
-
--- a line that begins a container opens one
-pub quote-opens : (rules : Rules) (q : Bool) (s : Owned) (v : Level) (line inner : LineView) → begin_of rules line ≡ begins_quote inner → 1 ≤ nesting (push_begin rules q s v line).now
-unfolding nesting
-quote-opens rules q s v line inner h =
-    let e : nesting (push_begin rules q s v line).now ≡ suc (nesting (push_begin rules true s empty_level inner).now) = ap (λ (c : Stack). nesting c.now) (push-cases rules q s v line ∙ ap (push_by (push_begin rules) q s v) h) in
-    omega (arith, e)
-
-pub item-opens : (rules : Rules) (q : Bool) (s : Owned) (v : Level) (line inner : LineView) (kind : ListKind) (column : ℕ) → begin_of rules line ≡ begins_item kind column inner
-    → 1 ≤ nesting (push_begin rules q s v line).now
-unfolding nesting
-item-opens rules q s v line inner kind column h =
-    let e : nesting (push_begin rules q s v line).now ≡ suc (nesting (push_begin rules true s empty_level inner).now) = ap (λ (c : Stack). nesting c.now) (push-cases rules q s v line ∙ ap (push_by (push_begin rules) q s v) h) in
-    omega (arith, e)

@@ -28,7 +28,7 @@ module _ (rules : Rules) (line : LineView) (lazy : line.lazy ≡ true) (some : i
   unfolding interrupts_paragraph
   interrupts-nothing = let h : start_of rules line ≡ TextLine = starts-text in grind (arith, h)
 
-  goes-on : (source : List ℕ) → next_line rules source line ≡ GoesOn
+  pub goes-on : (source : List ℕ) → next_line rules source line ≡ GoesOn
   unfolding next_line
   goes-on source =
       let h : underline_of line ≡ None = underlines-nothing in

@@ -1,4 +1,6 @@
 pub mod BeginCases
+pub mod ContainerLemmas
+pub mod TestLemmas
 pub mod OpenEnd
 pub mod OnePass
 pub mod LevelLaws

@@ -67,15 +67,6 @@ pub rest_is : (source trimmed left : List ℕ) → trimmed ≡ trim_end source �
 unfolding rest_of
 rest_is source trimmed left t l = ap not (empty_is left ∙ ap is_empty l ∙ ap (λ x. is_empty (definitions_of x).left) t)
 
-pub no_level : (source : List ℕ) (line : LineView) → None ≡ underline_of line → None ≡ heading_level source line
-no_level source line e = grind (arith, e)
-
-pub nothing_above : (source : List ℕ) (line : LineView) (rest : Bool) → rest ≡ not (is_empty (rest_of source)) → rest ≡ false → None ≡ heading_level source line
-nothing_above source line rest e none = grind (arith, e, none)
-
-pub level_there : (source : List ℕ) (line : LineView) (rest : Bool) (level : ℕ) → Some level ≡ underline_of line → rest ≡ not (is_empty (rest_of source)) → rest ≡ true → Some level ≡ heading_level source line
-level_there source line rest level u e some = grind (arith, u, e, some)
-
 -- the line
 
 module _ (rules : Rules) where

@@ -1,5 +1,5 @@
 -- A parser, line by line.
-use Rattle.std.proofs.Common.{◌≡◌, ℕ, zero, suc, ◌<◌, ◌≤◌, Bool, true, false, ◌&&◌, List, [], ◌∷◌, ◌++◌, length, take, drop, refl, ◌∙◌, sym, ap, ap₂, subst, arith, le_refl, Option, Some, None}
+use Rattle.std.proofs.Common.{◌≡◌, ℕ, zero, suc, ◌+◌, ◌-◌, ◌*◌, ◌<◌, ◌≤◌, Bool, true, false, ◌&&◌, List, [], ◌∷◌, ◌++◌, length, length-append, take, drop, refl, ◌∙◌, sym, ap, ap₂, subst, arith, le_refl, Option, Some, None}
 use Rattle.std.specs.Prelude.{nat_le, nat_lt, if◌then◌else◌}
 use Rattle.cm_text.specs.Rules.{Rules}
 use Rattle.cm_text.specs.Lines.{LineView}
@@ -28,7 +28,10 @@ use Rattle.cm_text.specs.Limits.{LimitsView}
 use Rattle.cm_block.specs.LeafViews.{leaf_of}
 use Rattle.cm_block.specs.Parser.{stack_of, StandsFor, TellsDepth}
 use Rattle.cm_block.specs.steps.ParserSteps.{Deep, TakenToLeaf}
+use Rattle.cm_block.specs.Tests.{Tested, count_in, count_of}
 use Rattle.cm_block.proofs.Matching.{length_frames}
+use Rattle.cm_block.proofs.ContainerLemmas.{count-nest, count-closing-leaf, count-close-frames, count_taken, count_begun}
+use Rattle.cm_block.proofs.TestLemmas.{tested_lines}
 use Rattle.cm_block.proofs.Frames.{closes, owns, pushed, pushed_after, pushed_to_leaf, pushed-left, pushed-all, pushes}
 use Rattle.cm_block.proofs.FrameStartLemmas.{nest-within, nest-nesting}
 use Rattle.cm_block.proofs.Depths.{too_deep_next, are-push, push_lines-append}
@@ -104,6 +107,14 @@ module _ (rules : Rules) (bare : Bool) (fs : List Frame) (v : Level) (x : OpenLe
   unfolding close_stack
   all_owners p is =
       ap (λ (t : Owned). t.owners) (is ∙ sym (owns bare false fs o v x)) ∙ ap (λ s. (close_stack s).owners) holds ∙ stack_owners rules lines
+
+  pub all_lines : AreLines lines → (p : Owned) → p ≡ own_open (quoted_by false fs) o (in_leaf x) → length p.owners ≡ length lines
+  all_lines are p is =
+      ap length (all_owners p is) ∙ sym (ap length (stack_owners rules lines)) ∙ one_owner_each rules lines are
+
+  pub all_containers : (w : Level) → w ≡ close_frames fs (close_open v (in_leaf x)) → count_in w ≤ count_of (stack_with bare fs v x o)
+  all_containers w is =
+      omega (arith, ap count_in is, count-close-frames fs (close_open v (in_leaf x)), count-closing-leaf v x, count-nest bare fs v x o)
 
   pub all_definitions : (p : Owned) → p ≡ own_open (quoted_by false fs) o (in_leaf x) → p.table ≡ reference_table rules lines
   unfolding close_stack
@@ -185,17 +196,21 @@ deep_after (BlocksTooDeep n) limits before now line o is owners h =
 -- the parser stands for one line more
 
 pub stands_next : (old new : parser.BlockParser) (lines : List LineView) (line l : LineView) → l ≡ line → is_line line.text ≡ true → StandsFor old lines
-    → stack_of new ≡ push_line old.limits.rules (stack_of old) l → length new.stack.frames ≤ old.limits.blocks → new.limits ≡ old.limits → new.fault ≡ old.fault
+    → stack_of new ≡ push_line old.limits.rules (stack_of old) l → length new.stack.frames ≤ old.limits.blocks
+    → Tested (count_of (stack_of new) - count_of (stack_of old)) (old.limits.blocks + 5) old.tests new.tests → new.limits ≡ old.limits → new.fault ≡ old.fault
     → StandsFor new (lines ++ line ∷ [])
-stands_next old new lines line l same one_line h pushed few limits fault = record {
+stands_next old new lines line l same one_line h is few tests limits fault = record {
   going = fault ∙ h.going;
   are_lines = are-push lines line h.are_lines one_line;
   holds = subst (λ (k : LimitsView). stack_of new ≡ push_lines k.rules empty_stack (lines ++ line ∷ [])) (sym limits)
-      (pushed ∙ holds_next old.limits (stack_of old) lines line l same h.are_lines one_line h.holds h.within);
+      (is ∙ holds_next old.limits (stack_of old) lines line l same h.are_lines one_line h.holds h.within);
   within = subst (λ (k : LimitsView). first_too_deep k.rules k.blocks (lines ++ line ∷ []) ≡ None) (sym limits)
       (within_next old.limits (stack_of old) lines line l same h.are_lines one_line h.holds h.within
       (omega (arith, few, depth)));
   few = omega (arith, few, blocks);
+  tests = subst (λ limit. Tested (count_of (stack_of new)) ((limit + 5) * length (lines ++ line ∷ [])) 0 new.tests) (sym blocks)
+      (tested_lines (count_of (stack_of old)) (count_of (stack_of new)) old.limits.blocks (length lines) (length (lines ++ line ∷ [])) old.tests new.tests
+      (length-append lines (line ∷ [])) h.tests tests);
 }
   where
     blocks : new.limits.blocks ≡ old.limits.blocks
@@ -203,7 +218,7 @@ stands_next old new lines line l same one_line h pushed few limits fault = recor
 
     depth : nesting (push_line old.limits.rules (stack_of old) l).now ≡ length new.stack.frames
     depth =
-        ap (λ (t : Stack). nesting t.now) (sym pushed)
+        ap (λ (t : Stack). nesting t.now) (sym is)
         ∙ nest-nesting new.stack.bare (frames_of new.stack.frames) (level_of new.stack.level) (leaf_of new.leaf)
         ∙ length_frames new.stack.frames
 
@@ -292,3 +307,34 @@ owners_after old mid closed same owners =
     (owns old.stack.bare false (frames_of old.stack.frames) old.owners (level_of old.stack.level) (leaf_of old.leaf)
     ∙ sym (owners ∙ ap₂ (λ g o. own_open (quoted_by false (frames_of g)) o (in_leaf (leaf_of mid.leaf))) same.1.0 same.1.1.1
     ∙ ap (λ y. own_open (quoted_by false (frames_of old.stack.frames)) old.owners (in_leaf y)) same.0))
+
+-- how many more quotes and items there are behind the line
+
+pub taken_count : (old before now : parser.BlockParser) (depth : ℕ) (line : LineView) (taken : Bool) → before.stack.frames ≡ old.stack.frames → before.stack.level ≡ old.stack.level
+    → taken ≡ true → TakenToLeaf taken depth before line now → count_of (stack_of now) - count_of (stack_of old) ≤ 0
+taken_count old before now depth line true frames level e h =
+    count_taken old.stack.bare (frames_of old.stack.frames) (level_of old.stack.level) (leaf_of old.leaf) old.owners before.owners h.1.0 (stack_of now)
+    (h.1.1.1 ∙ ap₂ (λ (gs : List code_frame.Frame) w. within (frames_of gs) (push_leaf_line before.owners (level_of w) h.1.0)) frames level)
+taken_count old before now depth line false frames level e h = absurd (cc e)
+
+pub begun_count : (old mid closed now : parser.BlockParser) (st : code.Stack) (rules : Rules) (line : LineView) (depth : ℕ)
+    → (leaf_of mid.leaf ≡ leaf_of old.leaf) × ((mid.stack.frames ≡ old.stack.frames) × ((mid.stack.level ≡ old.stack.level) × (mid.owners ≡ old.owners)))
+    → level_of closed.stack.level ≡ close_open (level_of mid.stack.level) (in_leaf (leaf_of mid.leaf))
+    → closed.stack.frames ≡ mid.stack.frames
+    → frames_of st.frames ≡ take depth (frames_of closed.stack.frames)
+    → level_of st.level ≡ close_frames (drop depth (frames_of closed.stack.frames)) (level_of closed.stack.level)
+    → stack_of now ≡ begun_in rules (frames_of st.frames) (level_of st.level) line closed.owners
+    → count_of (stack_of now) - count_of (stack_of old) ≤ length now.stack.frames - length st.frames
+begun_count old mid closed now st rules line depth same level frames first rest is =
+    omega (
+      arith,
+      count_begun rules old.stack.bare (frames_of old.stack.frames) (frames_of st.frames) (level_of old.stack.level) (level_of st.level) (leaf_of old.leaf) old.owners closed.owners line depth (stack_of now)
+          (first ∙ ap (λ g. take depth (frames_of g)) all)
+          (rest ∙ ap₂ (λ g w. close_frames (drop depth (frames_of g)) w) all (level ∙ ap₂ (λ w y. close_open (level_of w) (in_leaf y)) same.1.1.0 same.0)) is,
+      nest-nesting now.stack.bare (frames_of now.stack.frames) (level_of now.stack.level) (leaf_of now.leaf),
+      length_frames now.stack.frames,
+      length_frames st.frames,
+    )
+  where
+    all : closed.stack.frames ≡ old.stack.frames
+    all = frames ∙ same.1.0

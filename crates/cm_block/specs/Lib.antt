@@ -5,6 +5,7 @@ pub mod Stack
 pub mod Frames
 pub mod Lazy
 pub mod Depths
+pub mod Tests
 pub mod Laws
 pub mod WorkedExamples
 pub mod LevelViews

@@ -1,5 +1,5 @@
 -- What a parser stands for: the lines that it has been given.
-use Rattle.std.specs.Prelude.{◌≡◌, ◌≤◌, List, length, Some, None, ⊤}
+use Rattle.std.specs.Prelude.{◌≡◌, ℕ, ◌+◌, ◌*◌, ◌≤◌, List, length, Some, None, ⊤}
 use Rattle.cm_text.specs.Rules.{Rules}
 use Rattle.cm_text.specs.Limits.{LimitsView}
 use Rattle.cm_text.specs.Lines.{LineView}
@@ -14,6 +14,7 @@ use Rattle.cm_block.specs.Stack.{Stack, empty_stack, push_lines}
 use Rattle.cm_block.specs.Frames.{stack_with}
 use Rattle.cm_block.specs.FrameViews.{frames_of}
 use Rattle.cm_block.specs.LeafViews.{leaf_of}
+use Rattle.cm_block.specs.Tests.{Tested, container_count, count_of}
 
 -- what the parser holds
 abbrev pub stack_of : code.BlockParser → Stack
@@ -26,6 +27,7 @@ pub record StandsFor (parser : code.BlockParser) (lines : List LineView) : Type 
   pub holds : stack_of parser ≡ push_lines parser.limits.rules empty_stack lines
   pub within : first_too_deep parser.limits.rules parser.limits.blocks lines ≡ None
   pub few : length parser.stack.frames ≤ parser.limits.blocks
+  pub tests : Tested (count_of (stack_of parser)) ((parser.limits.blocks + 5) * length lines) 0 parser.tests
 
 -- why the lines are refused; memory may be refused
 abbrev pub TellsDepth : BlockFault → LimitsView → List LineView → Type 0
@@ -37,3 +39,9 @@ pub record OutlineOf (outline : Outline) (rules : Rules) (lines : List LineView)
   pub blocks : outline.blocks ≡ blocks_of rules lines
   pub owners : outline.owners ≡ owners_of rules lines
   pub definitions : outline.definitions ≡ reference_table rules lines
+
+-- how often the lines were read: each quote and item was found by one reading, and where no line is in more than so many of them, each
+-- line was read that often at most, and five times more
+pub record TestsOf (outline : Outline) (blocks : ℕ) (lines : List LineView) : Type 0 where
+  pub enough : container_count outline.blocks ≤ outline.tests
+  pub few : outline.tests ≤ (blocks + 5) * length lines

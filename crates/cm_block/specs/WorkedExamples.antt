@@ -3,7 +3,8 @@ use Rattle.std.specs.FinMap.{empty, insert}
 use Rattle.std.specs.Prelude.{◌≡◌, ℕ, true, false, List, [], ◌∷◌, codes, Some, None}
 use Rattle.cm_text.specs.Rules.{profile}
 use Rattle.cm_text.specs.Lines.{plain_lines_of}
-use Rattle.cm_tree.specs.declared.tree.Block.TheVariants.{Heading, Definition, Quote}
+use Rattle.cm_tree.specs.declared.tree.Block.{Block}
+use Rattle.cm_tree.specs.declared.tree.Block.TheVariants.{Heading, Definition, Quote, List as ListBlock}
 use Rattle.cm_tree.specs.declared.tree.Inline.TheVariants.{Text}
 use Rattle.cm_tree.specs.declared.tree.ListKind.TheVariants.{Dash, Dot}
 use Rattle.cm_tree.specs.declared.tree.Owner.{Owner}
@@ -15,6 +16,7 @@ use Rattle.cm_block.specs.Machine.{Open, in_leaf, in_quote, in_item}
 use Rattle.cm_block.specs.Level.{Level, empty_level, push_blank, block_opens, list_opens, block_closes}
 use Rattle.cm_block.specs.Stack.{stack, empty_stack, close_stack, push_lines}
 use Rattle.cm_block.specs.Depths.{line_depths}
+use Rattle.cm_block.specs.Tests.{container_count}
 
 -- Behind the text the level of the document stands so, with this open in it, and the lines, but those of the open leaf, have these
 -- owners, which are of so many leaves, and this is the table of the definitions among these.
@@ -32,6 +34,10 @@ behind_a_definition = block_opens (push_blank (block_closes opened_level (Quote 
 -- the label `a` stands for this alone
 abbrev pub one_target : Targets
 one_target = insert empty (codes "a") (codes "/u", [])
+
+-- a quote, of a list with two items
+abbrev pub two_items_in_a_quote : Block
+two_items_in_a_quote = Quote (ListBlock Dash true ((text_paragraph (codes "a") ∷ []) ∷ [] ∷ []) ∷ [])
 
 pub record StackExamples : Type 0 where
   pub no_lines : Holds [] empty_level (in_leaf no_leaf) [] 0 empty
@@ -59,4 +65,5 @@ pub record StackExamples : Type 0 where
   pub definition_in_a_quote : Holds (codes "> [a]: /u\n\nb\n") behind_a_definition (in_leaf (open_text (codes "b"))) (Leaf 1 ∷ Blank ∷ []) 1 one_target
   pub definition_still_open : Holds (codes "[a]: /u\n") opened_level (in_leaf (open_text (codes "[a]: /u"))) [] 0 empty
   pub first_definition_counts : (close_stack (push_lines profile empty_stack (plain_lines_of (codes "[a]: /u\n\n> [A]: /v\n")))).definitions ≡ one_target
+  pub containers : container_count (two_items_in_a_quote ∷ ListBlock (Dot 1) true ((text_paragraph (codes "c") ∷ []) ∷ []) ∷ text_paragraph (codes "d") ∷ []) ≡ 4
   pub depths : line_depths profile empty_stack (plain_lines_of (codes "> - a\nb\n\n# c\n")) ≡ 2 ∷ 2 ∷ 0 ∷ 0 ∷ []

@@ -1,12 +1,14 @@
 //! The quotes and items that a line begins.
-ghost use Rattle.std.specs.Prelude.{◌≡◌, false, IfOk};
+ghost use Rattle.std.specs.Prelude.{◌≡◌, ◌-◌, ◌≤◌, false, suc, length, IfOk, OnOk};
 ghost use Rattle.cm_text.specs.Views.{line_of};
+ghost use Rattle.cm_block.specs.Tests.{Tested};
 ghost use Rattle.cm_block.specs.steps.FrameStarts.{Inside};
 
+use crate::counted_line::CountedLine;
 use crate::places::{is_blank, item_content, quote_content};
 use crate::stack::Stack;
 use crate::starts::{Start, start_of};
-use cm_text::{Rules, View};
+use cm_text::Rules;
 use std::alloc::{AllocError, Global};
 
 /// What stands in the innermost of the quotes and items that a line begins.
@@ -16,8 +18,8 @@ pub(crate) enum Innermost<'a> {
     TooDeep,
     /// A blank line.
     Blank,
-    /// The first line of a leaf block.
-    Leaf(Start<'a>, View<'a>),
+    /// The first line of a leaf block, which begins so.
+    Leaf(Start<'a>),
 }
 
 impl Stack {
@@ -28,29 +30,31 @@ impl Stack {
         alloc: Global,
         rules: Rules,
         limit: usize,
-        line: &View<'a>,
+        line: &mut CountedLine<'a>,
     ) -> Result<Innermost<'a>, AllocError>
         requires { self.old.bare ≡ false }
-        ensures { IfOk result (λ innermost. Inside rules limit self.old (line_of line.now) self.new innermost) }
+        ensures inside { IfOk result (λ innermost. Inside rules limit self.old (line_of line.old.rest) self.new (line_of line.new.rest) innermost) }
+        ensures deeper { OnOk result (length self.old.frames ≤ length self.new.frames) }
+        ensures tests { OnOk result (Tested (length self.new.frames - length self.old.frames) (suc (length self.new.frames - length self.old.frames)) line.old.tests line.new.tests) }
     {
-        let mut line = *line;
         while self.frames.len() <= limit {
-            if is_blank(&line) {
+            let view = line.read();
+            if is_blank(&view) {
                 return Ok(Innermost::Blank);
             }
-            if let Some(inner) = quote_content(&line) {
+            if let Some(inner) = quote_content(&view) {
                 self.open_quote(alloc)?;
-                line = inner;
+                line.enter(inner);
                 continue;
             }
-            let start = start_of(rules, &line);
+            let start = start_of(rules, &view);
             let Start::Item(marker) = start else {
-                return Ok(Innermost::Leaf(start, line));
+                return Ok(Innermost::Leaf(start));
             };
-            let (column, inner) = item_content(&line, &marker);
+            let (column, inner) = item_content(&view, &marker);
             self.open_item(alloc, marker.kind, column)?;
             self.bare = is_blank(&inner);
-            line = inner;
+            line.enter(inner);
         }
         Ok(Innermost::TooDeep)
     }

@@ -1,5 +1,5 @@
 //! The leaf block that is open, and what one more line does to it (chapter 4).
-ghost use Rattle.std.specs.Prelude.{◌≡◌, ◌&&◌, ◌++◌, ◌∷◌, [], ℕ, List, Some, None, suc, true, false, string_bytes, IfOk, OnOk};
+ghost use Rattle.std.specs.Prelude.{◌≡◌, ◌+◌, ◌≤◌, ◌&&◌, ◌++◌, ◌∷◌, [], ℕ, List, Some, None, suc, true, false, string_bytes, IfOk, OnOk};
 ghost use Rattle.cm_text.specs.Rules as all;
 ghost use Rattle.cm_text.specs.Views.{line_of};
 ghost use Rattle.cm_scan.specs.Words.{given};
@@ -11,9 +11,11 @@ ghost use Rattle.cm_block.specs.OpenLeaf.{closed_leaves, blank_lines_behind, is_
 ghost use Rattle.cm_block.specs.LeafViews.{leaf_of, code_of};
 ghost use Rattle.cm_block.specs.steps.LeafSteps.{leaves_of_closed, closed_as, taken_of, left_open};
 ghost use Rattle.cm_block.specs.declared.leaf.OpenLeaf.TheVariants.{Nothing};
-ghost use Rattle.cm_block.specs.declared.leaf.LeafLine.TheVariants.{Last};
+ghost use Rattle.cm_block.specs.declared.leaf.LeafLine.TheVariants.{Last, Leaves};
+ghost use Rattle.cm_block.specs.Tests.{Tested};
 
 use crate::closed_leaf::ClosedLeaf;
+use crate::counted_line::CountedLine;
 use crate::places::is_blank;
 use crate::runs::{NextLine, add_text, content, line_feeds, next_line};
 use cm_scan::{FenceKind, HtmlKind, fence_end, html_end};
@@ -189,23 +191,27 @@ impl OpenLeaf {
     pub(crate) fn take_line(
         &mut self,
         rules: Rules,
-        line: &View<'_>,
+        line: &mut CountedLine<'_>,
     ) -> Result<LeafLine, AllocError>
-        ensures line { IfOk result (λ taken. taken_of taken (leaf_of self.new) ≡ line_of_leaf rules (leaf_of self.old) (line_of line.now)) }
+        ensures line { IfOk result (λ taken. taken_of taken (leaf_of self.new) ≡ line_of_leaf rules (leaf_of self.old) (line_of line.old.rest)) }
         ensures left { IfOk result (λ taken. leaf_of self.new ≡ left_open taken (leaf_of self.old) (leaf_of self.new)) }
+        ensures same { line.new.rest ≡ line.old.rest }
+        ensures tests { Tested 0 4 line.old.tests line.new.tests }
+        ensures leaves { IfOk result (λ taken. taken ≡ Leaves → line.new.tests ≤ line.old.tests + 3) }
+        ensures lazy { IfOk result (λ taken. taken ≡ Leaves → line.old.rest.lazy ≡ true → line.new.tests ≤ line.old.tests + 1) }
     {
         match self {
             OpenLeaf::Nothing => Ok(LeafLine::Leaves),
             OpenLeaf::Run { source } => match next_line(rules, source, line) {
                 NextLine::GoesOn => {
-                    add_text(source, line)?;
+                    add_text(source, &line.read())?;
                     Ok(LeafLine::Stays)
                 }
                 NextLine::Ends => Ok(LeafLine::Leaves),
                 NextLine::Underlines(level) => Ok(self.end(Some(level), false)),
             },
             OpenLeaf::Code { text, blank_lines } => {
-                if take_code_line(text, blank_lines, line)? {
+                if take_code_line(text, blank_lines, &line.read())? {
                     return Ok(LeafLine::Stays);
                 }
                 Ok(LeafLine::Leaves)
@@ -216,18 +222,20 @@ impl OpenLeaf {
                 text,
                 ..
             } => {
-                if closes_fence(*kind, line) {
+                let line = line.read();
+                if closes_fence(*kind, &line) {
                     return Ok(self.end(None, true));
                 }
                 push_whole_line(text, &line.strip(*columns))?;
                 Ok(LeafLine::Stays)
             }
             OpenLeaf::Html { kind, text } => {
-                if leaves_html(*kind, line) {
+                if leaves_html(*kind, &line.read()) {
                     return Ok(LeafLine::Leaves);
                 }
-                let ends = ends_html(*kind, line);
-                push_next_line(text, line)?;
+                let line = line.read();
+                let ends = ends_html(*kind, &line);
+                push_next_line(text, &line)?;
                 if ends {
                     return Ok(self.end(None, false));
                 }

@@ -1,10 +1,10 @@
 //! One level of the stack: what stands closed in the document, in a quote or in an item.
 ghost use Rattle.std.specs.Prelude.{◌≡◌, OnOk, IfOk, Some, None, Option};
-ghost use Rattle.cm_scan.specs.LineForms.{is_same_kind};
 ghost use Rattle.cm_block.specs.Level.{empty_level, closed_blocks, push_blank, separated_next, block_opens, list_opens, item_opens, block_closes, item_closes};
 ghost use Rattle.cm_block.specs.LevelViews.{level_of};
 ghost use Rattle.cm_block.specs.steps.LevelSteps.{item_with, without_list, has_list_of, goes_on};
 
+use cm_scan::is_same_kind;
 use cm_tree::{Block, Items, ListKind};
 use std::alloc::{AllocError, Global};
 
@@ -25,20 +25,6 @@ pub(crate) struct Level {
     pub(crate) has_block: bool,
     pub(crate) ends_blank: bool,
     pub(crate) separated: bool,
-}
-
-/// Whether items of the two kinds go into one list (5.3 Lists).
-fn is_same_kind(one: ListKind, other: ListKind) -> bool
-    ensures { result ≡ is_same_kind one other }
-{
-    match (one, other) {
-        (ListKind::Dash, ListKind::Dash) => true,
-        (ListKind::Plus, ListKind::Plus) => true,
-        (ListKind::Star, ListKind::Star) => true,
-        (ListKind::Dot { .. }, ListKind::Dot { .. }) => true,
-        (ListKind::Paren { .. }, ListKind::Paren { .. }) => true,
-        _ => false,
-    }
 }
 
 impl Level {

@@ -3,6 +3,7 @@
 
 mod closed_leaf;
 mod containers;
+mod counted_line;
 mod fault;
 mod first_line;
 pub mod laws;

@@ -1,5 +1,5 @@
 //! The block structure of a document, line by line.
-ghost use Rattle.std.specs.Prelude.{◌≡◌, ◌≢◌, ◌≤◌, ◌∷◌, ◌++◌, [], List, None, true, false, length, suc, Some, Err, IfOk, IfErr, OnOk};
+ghost use Rattle.std.specs.Prelude.{◌≡◌, ◌≢◌, ◌+◌, ◌-◌, ◌<◌, ◌≤◌, ◌∷◌, ◌++◌, [], List, None, true, false, length, suc, Some, Err, IfOk, IfErr, OnOk};
 ghost use Rattle.cm_text.specs.Answers.{answer_after};
 ghost use Rattle.cm_text.specs.Lines.{LineView, view_of};
 ghost use Rattle.cm_text.specs.Views.{line_of};
@@ -15,28 +15,34 @@ ghost use Rattle.cm_block.specs.LeafViews.{leaf_of};
 ghost use Rattle.cm_block.specs.steps.StartViews.{seen};
 ghost use Rattle.cm_block.specs.steps.FirstLines.{begins_container};
 ghost use Rattle.cm_block.specs.steps.FrameStarts.{begun, with_blank, LeafBegins, DeepIn};
-ghost use Rattle.cm_block.specs.Parser.{stack_of, StandsFor, TellsDepth, OutlineOf};
+ghost use Rattle.cm_block.specs.Parser.{stack_of, StandsFor, TellsDepth, OutlineOf, TestsOf};
+ghost use Rattle.cm_block.specs.Tests.{Tested, count_of};
 ghost use Rattle.cm_block.specs.steps.ParserSteps.{Deep, TakenToLeaf};
 
 use crate::containers::Innermost;
+use crate::counted_line::CountedLine;
 use crate::fault::BlockFault;
 use crate::first_line::{FirstLine, begin_leaf};
 use crate::leaf::{LeafLine, OpenLeaf};
 use crate::line_owners::{Owners, blank_owner};
 use crate::stack::Stack;
 use crate::starts::Start;
-use cm_text::{Limits, Line, NoMemory, View};
+use cm_text::{Limits, Line, NoMemory};
 use cm_tree::{Block, Definitions, Items, Owner};
 use std::alloc::Global;
 use std::mem;
 
 /// The block structure of a document: its tree, in which the source of a paragraph or heading stands as one
-/// text, the owner of each line, and its link reference definitions.
+/// text, the owner of each line, and its link reference definitions; and how often its lines were read.
 #[derive(Debug, Drop)]
 pub struct Outline {
     pub blocks: Items<Block>,
     pub owners: Items<Owner>,
     pub definitions: Definitions,
+    /// How often a line was read, to see whether it stays in one open block or ends that, or what it begins, or
+    /// to take its text over: at least once for each quote and item, and for each line at most five times more
+    /// than the limit of blocks.
+    pub tests: u128,
 }
 
 /// Reads the block structure of a document from its lines, by the rules of its limits (CommonMark 0.31.2,
@@ -52,6 +58,7 @@ pub struct BlockParser {
     stack: Stack,
     leaf: OpenLeaf,
     owners: Owners,
+    tests: u128,
     fault: Option<BlockFault>,
 }
 
@@ -75,6 +82,7 @@ impl BlockParser {
             stack: Stack::new(alloc),
             leaf: OpenLeaf::Nothing,
             owners: Owners::new(alloc),
+            tests: 0,
             fault: None,
         }
     }
@@ -86,6 +94,7 @@ impl BlockParser {
         ensures leaf { leaf_of self.new.leaf ≡ no_leaf }
         ensures frames { self.new.stack.frames ≡ self.old.stack.frames }
         ensures bare { self.new.stack.bare ≡ self.old.stack.bare }
+        ensures tests { self.new.tests ≡ self.old.tests }
         ensures limits { self.new.limits ≡ self.old.limits }
         ensures fault { self.new.fault ≡ self.old.fault }
     {
@@ -116,17 +125,18 @@ impl BlockParser {
     }
 
     /// The first line of a leaf block in the innermost container.
-    fn open_leaf(&mut self, start: &Start<'_>, line: &View<'_>) -> Result<(), NoMemory>
+    fn open_leaf(&mut self, start: &Start<'_>, line: &mut CountedLine<'_>) -> Result<(), NoMemory>
         requires plain { self.old.stack.bare ≡ false }
         requires leaf { leaf_of self.old.leaf ≡ no_leaf }
         requires start { begins_container (seen start.now) ≡ false }
-        ensures pushed { OnOk result (LeafBegins start.now (line_of line.now) self.old.stack self.old.owners (stack_of self.new)) }
+        ensures pushed { OnOk result (LeafBegins start.now (line_of line.old.rest) self.old.stack self.old.owners (stack_of self.new)) }
+        ensures tests { OnOk result (Tested 0 1 line.old.tests line.new.tests) }
         ensures frames { self.new.stack.frames ≡ self.old.stack.frames }
         ensures limits { self.new.limits ≡ self.old.limits }
         ensures fault { self.new.fault ≡ self.old.fault }
     {
         self.stack.level.open_block()?;
-        match begin_leaf(self.alloc, start, line)? {
+        match begin_leaf(self.alloc, start, &line.read())? {
             Some(FirstLine::Opens(leaf)) => self.leaf = leaf,
             Some(FirstLine::Whole(leaf)) => {
                 leaf.put(self.alloc, &mut self.stack.level, &mut self.owners)?;
@@ -137,12 +147,14 @@ impl BlockParser {
     }
 
     /// What a line begins in the innermost container, where no leaf is open.
-    fn begin(&mut self, line: &View<'_>) -> Result<(), BlockFault>
+    fn begin(&mut self, line: &mut CountedLine<'_>) -> Result<(), BlockFault>
         requires plain { self.old.stack.bare ≡ false }
         requires leaf { leaf_of self.old.leaf ≡ no_leaf }
-        ensures pushed { OnOk result (stack_of self.new ≡ begun self.old.limits.rules self.old.stack (line_of line.now) self.old.owners) }
+        ensures pushed { OnOk result (stack_of self.new ≡ begun self.old.limits.rules self.old.stack (line_of line.old.rest) self.old.owners) }
         ensures few { OnOk result (length self.new.stack.frames ≤ self.old.limits.blocks) }
-        ensures deep { IfErr result (λ fault. DeepIn fault self.old.limits.blocks (begun self.old.limits.rules self.old.stack (line_of line.now) self.old.owners) self.old.owners) }
+        ensures deeper { OnOk result (length self.old.stack.frames ≤ length self.new.stack.frames) }
+        ensures tests { OnOk result (Tested (length self.new.stack.frames - length self.old.stack.frames) (length self.new.stack.frames - length self.old.stack.frames + 2) line.old.tests line.new.tests) }
+        ensures deep { IfErr result (λ fault. DeepIn fault self.old.limits.blocks (begun self.old.limits.rules self.old.stack (line_of line.old.rest) self.old.owners) self.old.owners) }
         ensures limits { self.new.limits ≡ self.old.limits }
         ensures fault { self.new.fault ≡ self.old.fault }
     {
@@ -157,14 +169,19 @@ impl BlockParser {
                 line: self.owners.next_line(),
             }),
             Innermost::Blank => Ok(self.push_blank()?),
-            Innermost::Leaf(start, inner) => Ok(self.open_leaf(&start, &inner)?),
+            Innermost::Leaf(start) => Ok(self.open_leaf(&start, line)?),
         }
     }
 
     /// A line that stays in so many of the open containers, if it is one of the open leaf: whether it is.
-    fn take_to_leaf(&mut self, depth: usize, line: &View<'_>) -> Result<bool, NoMemory>
+    fn take_to_leaf(&mut self, depth: usize, line: &mut CountedLine<'_>) -> Result<bool, NoMemory>
         requires plain { self.old.stack.bare ≡ false }
-        ensures taken { IfOk result (λ taken. TakenToLeaf taken depth self.old (line_of line.now) self.new) }
+        ensures taken { IfOk result (λ taken. TakenToLeaf taken depth self.old (line_of line.old.rest) self.new) }
+        ensures same { line.new.rest ≡ line.old.rest }
+        ensures tests { Tested 0 4 line.old.tests line.new.tests }
+        ensures leaves { IfOk result (λ taken. taken ≡ false → line.new.tests ≤ line.old.tests + 3) }
+        ensures lazy { IfOk result (λ taken. taken ≡ false → line.old.rest.lazy ≡ true → line.new.tests ≤ line.old.tests + 1) }
+        ensures unread { depth < length self.old.stack.frames → line.new.tests ≡ line.old.tests }
         ensures frames { self.new.stack.frames ≡ self.old.stack.frames }
         ensures limits { self.new.limits ≡ self.old.limits }
         ensures fault { self.new.fault ≡ self.old.fault }
@@ -183,23 +200,25 @@ impl BlockParser {
     }
 
     /// One more line.
-    fn accept(&mut self, line: &View<'_>) -> Result<(), BlockFault>
-        ensures pushed { OnOk result (stack_of self.new ≡ push_line self.old.limits.rules (stack_of self.old) (line_of line.now)) }
+    fn accept(&mut self, line: &mut CountedLine<'_>) -> Result<(), BlockFault>
+        ensures pushed { OnOk result (stack_of self.new ≡ push_line self.old.limits.rules (stack_of self.old) (line_of line.old.rest)) }
         ensures few { OnOk result (length self.old.stack.frames ≤ self.old.limits.blocks → length self.new.stack.frames ≤ self.old.limits.blocks) }
-        ensures deep { IfErr result (λ fault. Deep fault self.old.limits (stack_of self.old) (line_of line.now)) }
+        ensures tests { OnOk result (length self.old.stack.frames ≤ self.old.limits.blocks →
+            Tested (count_of (stack_of self.new) - count_of (stack_of self.old)) (self.old.limits.blocks + 5) line.old.tests line.new.tests) }
+        ensures deep { IfErr result (λ fault. Deep fault self.old.limits (stack_of self.old) (line_of line.old.rest)) }
         ensures limits { self.new.limits ≡ self.old.limits }
         ensures fault { self.new.fault ≡ self.old.fault }
     {
-        let (depth, inner) = self
+        let depth = self
             .stack
             .matching(self.limits.rules(), line, self.leaf.is_run());
         self.stack.bare = false;
-        if self.take_to_leaf(depth, &inner)? {
+        if self.take_to_leaf(depth, line)? {
             return Ok(());
         }
         self.close_leaf()?;
         self.stack.close_to(depth)?;
-        self.begin(&inner)
+        self.begin(line)
     }
 
     /// Takes in one more line, which is lent and not kept.
@@ -218,7 +237,9 @@ impl BlockParser {
         if let Some(fault) = self.fault {
             return Err(fault);
         }
-        let result = self.accept(&line.view());
+        let mut line = CountedLine::new(line, self.tests);
+        let result = self.accept(&mut line);
+        self.tests = line.into_tests();
         if let Err(fault) = result {
             self.fault = Some(fault);
         }
@@ -232,6 +253,7 @@ impl BlockParser {
     /// The fault that was met, or `NoMemory` where a request for memory was refused.
     pub fn finish(mut self) -> Result<Outline, BlockFault>
         ensures outline { IfOk result (λ outline. (lines : List LineView) → StandsFor self lines → OutlineOf outline self.limits.rules lines) }
+        ensures tests { IfOk result (λ outline. (lines : List LineView) → StandsFor self lines → TestsOf outline self.limits.blocks lines) }
         ensures failed { (fault : faults.BlockFault) → self.fault ≡ Some fault → result ≡ Err fault }
         ensures memory { self.fault ≡ None → IfErr result (λ fault. fault ≡ block_faults.NoMemory) }
     {
@@ -240,13 +262,21 @@ impl BlockParser {
         }
         self.close_leaf()?;
         self.stack.close_to(0)?;
-        let BlockParser { stack, owners, .. } = self;
+        // So few lines, within so few containers, were read less often than can be counted.
+        let _bounds = (self.owners.len(), self.limits.blocks());
+        let BlockParser {
+            stack,
+            owners,
+            tests,
+            ..
+        } = self;
         let Stack { level, .. } = stack;
         let (owners, definitions) = owners.into_parts();
         Ok(Outline {
             blocks: level.into_blocks()?,
             owners,
             definitions,
+            tests,
         })
     }
 }
@@ -254,7 +284,8 @@ impl BlockParser {
 #[cfg(test)]
 mod tests {
     use super::*;
-    use crate::stack::Container;
+    use crate::level::Level;
+    use crate::stack::{Container, Frame};
     use cm_text::LineFeed;
     use std::test::Fail;
 
@@ -263,6 +294,21 @@ mod tests {
         feed.push(text.as_bytes()).ok().ok_or("push")?;
         feed.end().ok().ok_or("end")?;
         Ok(feed.next_line().ok_or("line")?)
+    }
+
+    /// How many blocks stand closed in a level that holds nothing else, but for its marks.
+    fn closed(level: &Level) -> Option<usize> {
+        let Level {
+            blocks,
+            open_list,
+            has_block: _,
+            ends_blank: _,
+            separated: _,
+        } = level;
+        match open_list {
+            Some(_) => None,
+            None => Some(blocks.len()),
+        }
     }
 
     #[test]
@@ -279,17 +325,32 @@ mod tests {
             stack,
             leaf,
             owners,
+            tests,
             fault,
         } = parser;
-        let quote = stack.frames.first().ok_or("no container")?;
-        assert!(rt; matches!(quote.container, Container::Quote));
-        assert_eq!(rt; quote.level.blocks.len(), 2);
-        assert!(rt; quote.level.open_list.is_none());
-        assert_eq!(rt; stack.frames.len(), 1);
-        assert!(rt; stack.level.blocks.is_empty());
-        assert!(rt; stack.level.open_list.is_none());
+        let Stack {
+            frames,
+            bare,
+            level,
+        } = stack;
+        let [
+            Frame {
+                level: document,
+                container,
+            },
+        ] = frames.as_slice()
+        else {
+            return Err("one container".into());
+        };
+        assert!(rt; matches!(container, Container::Quote));
+        assert_eq!(rt; closed(document), Some(2));
+        assert_eq!(rt; closed(&level), Some(0));
+        assert!(rt; !bare);
         assert!(rt; matches!(&leaf, OpenLeaf::Run { source } if source.as_str() == "b"));
         assert_eq!(rt; owners.len(), 2);
+        // What `a` begins and its text; whether `***` is blank, an underline or ends the run, what it begins and
+        // its text; the quote of `> b`, what that begins and its text.
+        assert_eq!(rt; tests, 10);
         assert_eq!(rt; fault, None);
         Ok(())
     }

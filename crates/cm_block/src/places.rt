@@ -1,14 +1,17 @@
 //! Where a line stands that follows those of an open container, and how it goes inward.
-ghost use Rattle.std.specs.Prelude.{◌≡◌, ◌≤◌, ◌&&◌, ◌||◌, nat_le, false, option_map, MatchOption};
+ghost use Rattle.std.specs.Prelude.{◌≡◌, ◌≤◌, ◌&&◌, ◌||◌, nat_le, true, false, option_map, IfSome, MatchOption};
 ghost use Rattle.cm_text.specs.Indentation.{indent_of, strip_columns};
 ghost use Rattle.cm_text.specs.Rules as all;
 ghost use Rattle.cm_text.specs.Views.{line_of};
 ghost use Rattle.cm_scan.specs.Lines.{is_blank};
 ghost use Rattle.cm_scan.specs.Starts.{QuoteMarker, ItemStart, start_of, may_be_lazy, place_if_lazy, behind_quote_marker, place_in_quote, content_offset, content_column, first_content, behind_marker, place_in_item};
 ghost use Rattle.cm_scan.specs.Laws.{goes_inward};
+ghost use Rattle.cm_scan.specs.Words.{given};
+ghost use Rattle.cm_block.specs.Tests.{Tested};
 ghost use Rattle.cm_block.specs.steps.StartViews.{seen};
 ghost use Rattle.cm_block.specs.steps.PlaceViews.{begins_quote, seen_marker};
 
+use crate::counted_line::CountedLine;
 use crate::starts::{Start, start_of};
 use cm_scan::{HtmlKind, ItemMarker, is_blank_text, quote_marker};
 use cm_text::{Rules, View};
@@ -34,7 +37,8 @@ fn may_be_lazy(start: &Start<'_>) -> bool
 /// The line as a lazy continuation line, if it can be one: `open_text` says whether the lines so far leave
 /// a paragraph open (5.1 Block quotes, 5.2 List items).
 fn if_lazy<'a>(rules: Rules, line: &View<'a>, open_text: bool) -> Option<View<'a>>
-    ensures { option_map line_of result ≡ goes_inward (place_if_lazy rules (line_of line.now)) open_text }
+    ensures line { option_map line_of result ≡ goes_inward (place_if_lazy rules (line_of line.now)) open_text }
+    ensures lazy { IfSome result (λ inner. inner.lazy ≡ true) }
 {
     if !open_text {
         return None;
@@ -73,15 +77,34 @@ pub(crate) fn quote_content<'a>(line: &View<'a>) -> Option<View<'a>>
     Some(content.past(1).strip(1))
 }
 
-/// The line as it goes into an open quote, if it stays there: behind its marker, or as a lazy continuation
-/// line (5.1 Block quotes).
-pub(crate) fn into_quote<'a>(rules: Rules, line: &View<'a>, open_text: bool) -> Option<View<'a>>
-    ensures { option_map line_of result ≡ goes_inward (place_in_quote rules (line_of line.now)) open_text }
+/// Takes a line into an open container as a lazy continuation line, if it can be one, and answers whether it
+/// is.
+fn enter_lazily(rules: Rules, line: &mut CountedLine<'_>, open_text: bool) -> bool
+    ensures line { given result (line_of line.new.rest) ≡ goes_inward (place_if_lazy rules (line_of line.old.rest)) open_text }
+    ensures same { result ≡ false → line.new.rest ≡ line.old.rest }
+    ensures lazy { result ≡ true → line.new.rest.lazy ≡ true }
+    ensures tests { Tested 1 1 line.old.tests line.new.tests }
 {
-    match quote_content(line) {
-        Some(inner) => Some(inner),
-        None => if_lazy(rules, line, open_text),
-    }
+    let Some(inner) = if_lazy(rules, &line.read(), open_text) else {
+        return false;
+    };
+    line.enter(inner);
+    true
+}
+
+/// Takes a line into an open quote, if it stays there, behind its marker or as a lazy continuation line, and
+/// answers whether it does (5.1 Block quotes).
+pub(crate) fn enter_quote(rules: Rules, line: &mut CountedLine<'_>, open_text: bool) -> bool
+    ensures line { given result (line_of line.new.rest) ≡ goes_inward (place_in_quote rules (line_of line.old.rest)) open_text }
+    ensures same { result ≡ false → line.new.rest ≡ line.old.rest }
+    ensures tests { Tested 1 2 line.old.tests line.new.tests }
+    ensures once { result ≡ true → line.new.rest.lazy ≡ false → Tested 1 1 line.old.tests line.new.tests }
+{
+    let Some(inner) = quote_content(&line.read()) else {
+        return enter_lazily(rules, line, open_text);
+    };
+    line.enter(inner);
+    true
 }
 
 /// Whether a line ends an item of which there is only the marker: it is blank.
@@ -100,29 +123,34 @@ fn reaches_or_is_blank(line: &View<'_>, inner: &View<'_>, column: usize) -> bool
     inner.column - line.column == column || is_blank(line)
 }
 
-/// The line as it goes into an open item whose content begins at a column, if it stays there: it is blank,
-/// or reaches the column, or is a lazy continuation line. An item is bare as long as there is only its
-/// marker, with nothing on its line; then a blank line ends it (5.2 List items).
-pub(crate) fn into_item<'a>(
+/// Takes a line into an open item whose content begins at a column, if it stays there, and answers whether it
+/// does: it is blank, or reaches the column, or is a lazy continuation line. An item is bare as long as there
+/// is only its marker, with nothing on its line; then a blank line ends it (5.2 List items).
+pub(crate) fn enter_item(
     rules: Rules,
-    line: &View<'a>,
+    line: &mut CountedLine<'_>,
     column: usize,
     bare: bool,
     open_text: bool,
-) -> Option<View<'a>>
-    ensures { option_map line_of result ≡ goes_inward (place_in_item rules column bare (line_of line.now)) open_text }
+) -> bool
+    ensures line { given result (line_of line.new.rest) ≡ goes_inward (place_in_item rules column bare (line_of line.old.rest)) open_text }
+    ensures same { result ≡ false → line.new.rest ≡ line.old.rest }
+    ensures tests { Tested 1 2 line.old.tests line.new.tests }
+    ensures once { result ≡ true → line.new.rest.lazy ≡ false → Tested 1 1 line.old.tests line.new.tests }
 {
-    if line.lazy {
-        return if_lazy(rules, line, open_text);
+    if line.is_lazy() {
+        return enter_lazily(rules, line, open_text);
     }
-    if ends_bare_item(bare, line) {
-        return None;
+    let view = line.read();
+    if ends_bare_item(bare, &view) {
+        return false;
     }
-    let inner = line.strip(column);
-    if reaches_or_is_blank(line, &inner, column) {
-        return Some(inner);
+    let inner = view.strip(column);
+    if reaches_or_is_blank(&view, &inner, column) {
+        line.enter(inner);
+        return true;
     }
-    if_lazy(rules, line, open_text)
+    enter_lazily(rules, line, open_text)
 }
 
 /// The line behind the marker of the item that it begins.

@@ -1,5 +1,5 @@
 //! Runs of text, whose source has link reference definitions at its front.
-ghost use Rattle.std.specs.Prelude.{◌≡◌, ◌<◌, ◌≤◌, ◌^◌, ◌++◌, ◌∷◌, [], suc, length, take, drop, not, string_bytes, OnOk};
+ghost use Rattle.std.specs.Prelude.{◌≡◌, ◌+◌, ◌<◌, ◌≤◌, ◌^◌, ◌++◌, ◌∷◌, [], suc, length, take, drop, not, true, string_bytes, OnOk};
 ghost use Rattle.cm_text.specs.Views.{line_of};
 ghost use Rattle.cm_scan.specs.Words.{is_empty, is_blank_text, trim_end};
 ghost use Rattle.cm_scan.specs.Lines.{content_of};
@@ -9,8 +9,10 @@ ghost use Rattle.cm_scan.specs.Blocks.{line_feeds, rest_of, add_text, next_line}
 ghost use Rattle.cm_block.specs.steps.StartViews.{seen};
 ghost use Rattle.cm_block.specs.declared.starts.Start.TheVariants.{Html, Item};
 ghost use Rattle.cm_text.specs.Lines.{LineView};
+ghost use Rattle.cm_block.specs.Tests.{Tested};
 ghost use Rattle.cm_block.specs.steps.LeafSteps.{next_of, heading_level};
 
+use crate::counted_line::CountedLine;
 use crate::places::is_blank;
 use crate::starts::{Start, start_of};
 use cm_scan::{HtmlKind, ItemMarker, definition, is_blank_text, trim_end, underline};
@@ -149,16 +151,22 @@ fn heading_level(source: &str, line: &View<'_>) -> Option<u8>
 }
 
 /// What the next line is to a run with this source. An underline wins over a thematic break and an item.
-pub(crate) fn next_line(rules: Rules, source: &str, line: &View<'_>) -> NextLine
-    ensures { next_of result ≡ next_line rules source.now (line_of line.now) }
+pub(crate) fn next_line(rules: Rules, source: &str, line: &mut CountedLine<'_>) -> NextLine
+    ensures next { next_of result ≡ next_line rules source.now (line_of line.old.rest) }
+    ensures same { line.new.rest ≡ line.old.rest }
+    ensures tests { Tested 1 3 line.old.tests line.new.tests }
+    ensures lazy { line.old.rest.lazy ≡ true → line.new.tests ≤ line.old.tests + 1 }
 {
-    if is_blank(line) {
+    if is_blank(&line.read()) {
         return NextLine::Ends;
     }
-    if let Some(level) = heading_level(source, line) {
+    if line.is_lazy() {
+        return NextLine::GoesOn;
+    }
+    if let Some(level) = heading_level(source, &line.read()) {
         return NextLine::Underlines(level);
     }
-    if interrupts_paragraph(rules, line) {
+    if interrupts_paragraph(rules, &line.read()) {
         return NextLine::Ends;
     }
     NextLine::GoesOn

@@ -1,15 +1,18 @@
 //! The open quotes and items.
-ghost use Rattle.std.specs.Prelude.{◌≡◌, ◌<◌, ◌≤◌, ◌∷◌, ◌++◌, ◌&&◌, [], false, suc, length, take, drop, option_map, OnOk};
+ghost use Rattle.std.specs.Prelude.{◌≡◌, ◌<◌, ◌≤◌, ◌∷◌, ◌++◌, ◌+◌, ◌&&◌, [], true, false, suc, length, take, drop, option_map, OnOk};
 ghost use Rattle.cm_text.specs.Views.{line_of};
+ghost use Rattle.cm_scan.specs.Words.{given};
+ghost use Rattle.cm_block.specs.Tests.{Tested};
 ghost use Rattle.cm_block.specs.Level.{empty_level, block_opens, item_opens};
 ghost use Rattle.cm_block.specs.LevelViews.{level_of};
 ghost use Rattle.cm_block.specs.Frames.{a_quote, an_item, is_last};
 ghost use Rattle.cm_block.specs.steps.FrameSteps.{inward, matching, quoted_by, close_container, close_frames};
 ghost use Rattle.cm_block.specs.FrameViews.{container_of, frame_of, frames_of};
 
+use crate::counted_line::CountedLine;
 use crate::level::Level;
-use crate::places::{into_item, into_quote};
-use cm_text::{Rules, View};
+use crate::places::{enter_item, enter_quote};
+use cm_text::Rules;
 use cm_tree::{Block, Items, ListKind};
 use std::alloc::{AllocError, Global};
 use std::mem;
@@ -22,20 +25,17 @@ pub(crate) enum Container {
 }
 
 impl Container {
-    /// The line as it goes into the container, if it stays there. `bare` says of an item that there is only
-    /// its marker so far, with nothing on its line, and `open_text` that a paragraph is left open.
-    fn inward<'a>(
-        &self,
-        rules: Rules,
-        bare: bool,
-        open_text: bool,
-        line: &View<'a>,
-    ) -> Option<View<'a>>
-        ensures { option_map line_of result ≡ inward rules (container_of self.now) bare open_text (line_of line.now) }
+    /// Takes a line in, if it stays in the container, and answers whether it does. `bare` says of an item that
+    /// there is only its marker so far, with nothing on its line, and `open_text` that a paragraph is left open.
+    fn take_in(&self, rules: Rules, bare: bool, open_text: bool, line: &mut CountedLine<'_>) -> bool
+        ensures line { given result (line_of line.new.rest) ≡ inward rules (container_of self.now) bare open_text (line_of line.old.rest) }
+        ensures same { result ≡ false → line.new.rest ≡ line.old.rest }
+        ensures tests { Tested 1 2 line.old.tests line.new.tests }
+        ensures once { result ≡ true → line.new.rest.lazy ≡ false → Tested 1 1 line.old.tests line.new.tests }
     {
         match *self {
-            Container::Quote => into_quote(rules, line, open_text),
-            Container::Item { column, .. } => into_item(rules, line, column, bare, open_text),
+            Container::Quote => enter_quote(rules, line, open_text),
+            Container::Item { column, .. } => enter_item(rules, line, column, bare, open_text),
         }
     }
 }
@@ -55,29 +55,30 @@ fn is_bare_at(frames: &[Frame], depth: usize, bare: bool) -> bool
     bare && depth == frames.len() - 1
 }
 
-/// How many of the containers a line stays in, and the line as it goes into the last of these.
-fn matching<'a>(
+/// Takes a line into the containers in which it stays, and answers how many these are.
+fn matching(
     rules: Rules,
     frames: &[Frame],
     bare: bool,
     open_text: bool,
-    line: &View<'a>,
-) -> (usize, View<'a>)
-    ensures { (result.0, line_of result.1) ≡ matching rules bare open_text (frames_of frames.now) (line_of line.now) }
+    line: &mut CountedLine<'_>,
+) -> usize
+    ensures line { (result, line_of line.new.rest) ≡ matching rules bare open_text (frames_of frames.now) (line_of line.old.rest) }
+    ensures tests { Tested 0 (suc (length frames.now)) line.old.tests line.new.tests }
+    ensures stays { line.new.tests ≤ line.old.tests + result + 2 }
+    ensures plain { line.new.rest.lazy ≡ false → length frames.now ≤ result → line.new.tests ≤ line.old.tests + result }
 {
-    let mut line = *line;
     for (depth, frame) in frames.iter().enumerate() {
         let is_bare = is_bare_at(frames, depth, bare);
-        let Some(inner) = frame.container.inward(rules, is_bare, open_text, &line) else {
-            return (depth, line);
-        };
-        if inner.lazy {
-            // It goes into the others as it is.
-            return (frames.len(), inner);
+        if !frame.container.take_in(rules, is_bare, open_text, line) {
+            return depth;
         }
-        line = inner;
+        if line.is_lazy() {
+            // It goes into the others as it is.
+            return frames.len();
+        }
     }
-    (frames.len(), line)
+    frames.len()
 }
 
 /// Whether one of the containers is a quote.
@@ -116,15 +117,18 @@ impl Stack {
         }
     }
 
-    /// How many of the containers a line stays in, and the line as it goes into the last of these.
-    pub(crate) fn matching<'a>(
+    /// Takes a line into the containers in which it stays, and answers how many these are.
+    pub(crate) fn matching(
         &self,
         rules: Rules,
-        line: &View<'a>,
+        line: &mut CountedLine<'_>,
         open_text: bool,
-    ) -> (usize, View<'a>)
-        ensures { (result.0, line_of result.1)
-            ≡ matching rules self.now.bare open_text (frames_of self.now.frames) (line_of line.now) }
+    ) -> usize
+        ensures line { (result, line_of line.new.rest)
+            ≡ matching rules self.now.bare open_text (frames_of self.now.frames) (line_of line.old.rest) }
+        ensures tests { Tested 0 (suc (length self.now.frames)) line.old.tests line.new.tests }
+        ensures stays { line.new.tests ≤ line.old.tests + result + 2 }
+        ensures plain { line.new.rest.lazy ≡ false → length self.now.frames ≤ result → line.new.tests ≤ line.old.tests + result }
     {
         matching(rules, self.frames.as_slice(), self.bare, open_text, line)
     }

@@ -2,7 +2,6 @@
 use Rattle.std.specs.Prelude.{◌≡◌, ℕ, suc, ◌<◌, ◌≤◌, Bool, true, false, List, [], ◌∷◌, length, ⊤}
 use Rattle.cm_text.specs.Rules.{Rules}
 use Rattle.cm_text.specs.Lines.{LineView}
-use Rattle.cm_text.specs.Views.{line_of}
 use Rattle.cm_tree.specs.declared.tree.Owner.TheVariants.{Marker}
 use Rattle.cm_block.specs.declared.stack.Stack as code
 use Rattle.cm_block.specs.declared.starts.Start.{Start}
@@ -44,13 +43,13 @@ left_in rules false frames level line owned = begun_in rules frames level line o
 abbrev pub left_of : Rules → code.Stack → LineView → Owned → Stack
 left_of rules now line owned = left_in rules now.bare (frames_of now.frames) (level_of now.level) line owned
 
--- The containers that the line begins have been opened.
-abbrev pub Inside : Rules → ℕ → code.Stack → LineView → code.Stack → Innermost → Type 0
-Inside rules limit before line now TooDeep = (owned : Owned) → limit < nesting (begun rules before line owned).now
-Inside rules limit before line now Blank = (length now.frames ≤ limit) × ((owned : Owned) → begun rules before line owned ≡ with_blank now owned)
-Inside rules limit before line now (Leaf start inner) =
+-- The containers that the line begins have been opened, and this is left of it.
+abbrev pub Inside : Rules → ℕ → code.Stack → LineView → code.Stack → LineView → Innermost → Type 0
+Inside rules limit before line now inner TooDeep = (owned : Owned) → limit < nesting (begun rules before line owned).now
+Inside rules limit before line now inner Blank = (length now.frames ≤ limit) × ((owned : Owned) → begun rules before line owned ≡ with_blank now owned)
+Inside rules limit before line now inner (Leaf start) =
     (length now.frames ≤ limit) × ((now.bare ≡ false) × ((begins_container (seen start) ≡ false)
-    × ((owned : Owned) (l : LeafLine) → begins_leaf l ≡ begin_of_start (seen start) (line_of inner)
+    × ((owned : Owned) (l : LeafLine) → begins_leaf l ≡ begin_of_start (seen start) inner
     → begun rules before line owned ≡ within (frames_of now.frames) (push_leaf_line owned (block_opens (level_of now.level)) l))))
 
 -- the first line of a leaf block, in the innermost container

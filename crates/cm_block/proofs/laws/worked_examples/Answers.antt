@@ -10,7 +10,10 @@ use Rattle.cm_scan.proofs.Computing.{block_structure}
 use Rattle.cm_block.specs.OpenLeaf.{open_text, closed_leaves, line_of_leaf, begin_of}
 use Rattle.cm_block.specs.Machine.{in_leaf, has_open_text}
 use Rattle.cm_block.specs.Stack.{stack, close_leaves, push_blanks, close_open, own_leaves, own_blanks, own_open, close_stack, push_within, push_begin, push_in, push_line, push_lines}
+use Rattle.cm_tree.specs.declared.tree.Block.TheVariants.{outs-Paragraph, outs-Quote, outs-List}
+use Rattle.cm_tree.specs.declared.tree.Block.TheFolds.{fold_out-Block}
 use Rattle.cm_block.specs.Depths.{nesting, line_depths}
+use Rattle.cm_block.specs.Tests.{container_step}
 use Rattle.cm_block.specs.WorkedExamples.{behind_a_definition, StackExamples}
 use Rattle.cm_block.proofs.laws.worked_examples.Goals as goal
 
@@ -43,6 +46,7 @@ examples = record {
   definition_still_open = refl;
   first_definition_counts =
       ap (λ table. add_first table (codes "a") (codes "/v", [])) (only-one (codes "a") (codes "/u", [])) ∙ first-stays (codes "a") (codes "/u", []) (codes "/v", []);
+  containers = simp (fold_out-Block ℕ container_step, outs-Quote, outs-List, outs-Paragraph);
   depths = refl;
 }
 

@@ -1,19 +1,25 @@
-use Rattle.std.proofs.Common.{◌++◌, ◌∷◌, [], List, sym, subst}
+use Rattle.std.proofs.Common.{◌+◌, ◌-◌, ◌++◌, ◌∷◌, [], List, sym, subst}
 use Rattle.std.specs.Result.{OnOk}
 use Rattle.cm_text.specs.Lines.{LineView, view_of}
 use Rattle.cm_text.specs.Views.{line_of}
 use Rattle.cm_block.specs.Parser.{stack_of, StandsFor}
+use Rattle.cm_block.specs.Tests.{Tested, count_of}
 use Rattle.cm_block.proofs.ParserLemmas.{tells_deep, stands_next}
 use Rattle.cm_block.proofs.parser.BlockParser.line.Goals as goal
 
 pub returns-in-Err-clause-told : goal.returns-in-Err-clause-told
 returns-in-Err-clause-told c = λ lines h.
-    tells_deep c.args.self.now.limits (stack_of c.args.self.now) lines (view_of c.args.line.now) (line_of c.view.result) c.view.ensures.line h.are_lines c.args.line.now.one_line h.holds h.within
+    tells_deep c.args.self.now.limits (stack_of c.args.self.now) lines (view_of c.args.line.now) (line_of c.new-line.result.rest) c.new-line.ensures.line h.are_lines c.args.line.now.one_line h.holds h.within
     c.in-Err.fault c.in-Err.ensures.deep
 
 pub returns-in_default-result-clause-stands : goal.returns-in_default-result-clause-stands
 returns-in_default-result-clause-stands c =
+    let s = c.args.self.now in
+    let new = record c.accept-result.new.self { tests = c.into_tests-self.result } in
     let done = c.in_default-result.ensures in
-    subst (λ r. OnOk r ((lines : List LineView) → StandsFor c.args.self.now lines → StandsFor c.accept-result.new.self (lines ++ view_of c.args.line.now ∷ []))) (sym c.in_default-result.is)
-    (λ lines h. stands_next c.args.self.now c.accept-result.new.self lines (view_of c.args.line.now) (line_of c.view.result) c.view.ensures.line c.args.line.now.one_line h
-    done.pushed (done.few h.few) done.limits done.fault)
+    subst (λ r. OnOk r ((lines : List LineView) → StandsFor s lines → StandsFor new (lines ++ view_of c.args.line.now ∷ []))) (sym c.in_default-result.is)
+    (λ lines h. stands_next s new lines (view_of c.args.line.now) (line_of c.new-line.result.rest) c.new-line.ensures.line c.args.line.now.one_line h
+    done.pushed (done.few h.few)
+    (subst (λ n. Tested (count_of (stack_of c.accept-result.new.self) - count_of (stack_of s)) (s.limits.blocks + 5) s.tests n) (sym c.into_tests-self.ensures)
+    (subst (λ n. Tested (count_of (stack_of c.accept-result.new.self) - count_of (stack_of s)) (s.limits.blocks + 5) n c.accept-result.new.line.tests) c.new-line.ensures.tests (done.tests h.few)))
+    done.limits done.fault)

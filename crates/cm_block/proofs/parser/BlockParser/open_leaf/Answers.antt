@@ -1,6 +1,7 @@
 use Rattle.std.proofs.Common.{◌≡◌, ◌∙◌, sym, ap, subst}
 use Rattle.std.specs.Option.{IfSome}
 use Rattle.cm_text.specs.Views.{line_of}
+use Rattle.cm_text.specs.declared.view.View.{View}
 use Rattle.cm_block.specs.OpenLeaf.{stays_open, is_last, begins_leaf, begin_of_start}
 use Rattle.cm_block.specs.Level.{block_opens}
 use Rattle.cm_block.specs.LevelViews.{level_of}
@@ -17,7 +18,8 @@ pub returns-in-Some-Opens-clause-pushed : goal.returns-in-Some-Opens-clause-push
 returns-in-Some-Opens-clause-pushed c =
     let s = c.args.self.now in
     let x = c.in-Some-Opens in
-    let begins = subst (λ o. IfSome o (λ f. begins_leaf (first_of f) ≡ begin_of_start (seen c.args.start.now) (line_of c.args.line.now))) x.is c.in_ok-leaf.ensures.leaf in (
+    let begins = subst (λ o. IfSome o (λ f. begins_leaf (first_of f) ≡ begin_of_start (seen c.args.start.now) (line_of c.read.result))) x.is c.in_ok-leaf.ensures.leaf
+    ∙ ap (λ (v : View). begin_of_start (seen c.args.start.now) (line_of v)) c.read.ensures.line in (
       stays_open (leaf_of x.leaf),
       (
         ap (λ f. begins_leaf (first_of f)) (sym x.field-0-is) ∙ begins,
@@ -29,7 +31,8 @@ pub returns-in_ok-put-in-Some-Whole-clause-pushed : goal.returns-in_ok-put-in-So
 returns-in_ok-put-in-Some-Whole-clause-pushed c =
     let s = c.args.self.now in
     let x = c.in-Some-Whole in
-    let begins = subst (λ o. IfSome o (λ f. begins_leaf (first_of f) ≡ begin_of_start (seen c.args.start.now) (line_of c.args.line.now))) x.is c.in_ok-leaf.ensures.leaf in (
+    let begins = subst (λ o. IfSome o (λ f. begins_leaf (first_of f) ≡ begin_of_start (seen c.args.start.now) (line_of c.read.result))) x.is c.in_ok-leaf.ensures.leaf
+    ∙ ap (λ (v : View). begin_of_start (seen c.args.start.now) (line_of v)) c.read.ensures.line in (
       is_last (leaves_of_closed x.leaf),
       (
         ap (λ f. begins_leaf (first_of f)) (sym x.field-0-is) ∙ begins,

@@ -16,7 +16,7 @@ returns-in-Stays-clause-taken c =
       (
         stays_open y,
         (
-          ap (λ r. line_of_leaf r (leaf_of s.leaf) (line_of c.args.line.now)) (sym c.rules.ensures) ∙ sym c.in_ok-take_line.ensures.line ∙ ap (λ t. taken_of t y) c.in-Stays.is,
+          ap (λ r. line_of_leaf r (leaf_of s.leaf) (line_of c.args.line.now.rest)) (sym c.rules.ensures) ∙ sym c.in_ok-take_line.ensures.line ∙ ap (λ t. taken_of t y) c.in-Stays.is,
           stack_stays s.stack.bare (frames_of s.stack.frames) (level_of s.stack.level) (level_of s.stack.level) y s.owners c.requires.plain refl,
         ),
       ),
@@ -31,7 +31,7 @@ returns-in_ok-put-in-Last-clause-taken c =
       (
         is_last (leaves_of_closed leaf),
         (
-          ap (λ r. line_of_leaf r (leaf_of s.leaf) (line_of c.args.line.now)) (sym c.rules.ensures) ∙ sym c.in_ok-take_line.ensures.line ∙ ap (λ t. taken_of t y) c.in-Last.is,
+          ap (λ r. line_of_leaf r (leaf_of s.leaf) (line_of c.args.line.now.rest)) (sym c.rules.ensures) ∙ sym c.in_ok-take_line.ensures.line ∙ ap (λ t. taken_of t y) c.in-Last.is,
           stack_ends s.stack.bare (frames_of s.stack.frames) (level_of s.stack.level) (level_of c.put.new.level) y s.owners c.put.new.owners (leaves_of_closed leaf)
               c.requires.plain (c.in_ok-take_line.ensures.left ∙ ap (λ t. left_open t (leaf_of s.leaf) y) c.in-Last.is) c.in_ok-put-in-Last.ensures.level c.in_ok-put-in-Last.ensures.owners,
         ),

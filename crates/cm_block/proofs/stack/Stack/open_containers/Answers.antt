@@ -1,84 +1,112 @@
-use Rattle.std.proofs.Common.{◌∙◌, sym, ap, arith}
+use Rattle.std.proofs.Common.{◌≡◌, false, length, ◌∙◌, sym, ap, arith}
 use Rattle.cm_text.specs.Views.{line_of}
+use Rattle.cm_text.specs.declared.view.View.{View}
 use Rattle.cm_scan.specs.Lines.{is_blank}
 use Rattle.cm_block.specs.steps.PlaceViews.{begins_quote, seen_marker}
 use Rattle.cm_block.specs.steps.StartViews.{seen}
+use Rattle.cm_block.specs.OpenLeaf.{begin_of_start}
+use Rattle.cm_block.specs.steps.FrameStarts.{left_in, left_of}
 use Rattle.cm_block.specs.LevelViews.{level_of}
 use Rattle.cm_block.specs.FrameViews.{frames_of}
 use Rattle.cm_block.proofs.Matching.{length_frames}
 use Rattle.cm_block.proofs.OpenedInTurn.{left_blank, left_some, leaf_next, quote_next, not_bare, stays_left, item_left, no_container, left_deep}
-use Rattle.cm_block.specs.Stack.{Stack}
+use Rattle.cm_block.proofs.TestLemmas.{one_more_frame, tested_one_deeper}
+use Rattle.cm_block.specs.Stack.{Stack, Owned}
 use Rattle.cm_block.specs.Depths.{nesting}
+use Rattle.cm_block.proofs.stack.Stack.open_containers.Goals.{Else-is_blank}
 use Rattle.cm_block.proofs.stack.Stack.open_containers.Goals as goal
 
-pub returns-then-is_blank : goal.returns-then-is_blank
-returns-then-is_blank c =
-    let s = c.loop-line.self in (
-      omega (arith, c.len.ensures, c.loop-line-test.true),
-      λ owned. c.loop-line.invariant.left owned
-          ∙ left_blank c.args.rules s.bare (frames_of s.frames) (level_of s.level) (line_of c.loop-line.line) owned (sym c.is_blank.ensures ∙ c.if-is_blank.true),
+pub returns-then-is_blank-clause-inside : goal.returns-then-is_blank-clause-inside
+returns-then-is_blank-clause-inside c =
+    let s = c.loop-alloc.self in (
+      omega (arith, c.len.ensures, c.loop-alloc-test.true),
+      λ owned. c.loop-alloc.invariant.left owned
+          ∙ ap (λ (v : View). left_of c.args.rules s (line_of v) owned) (sym c.read-view.ensures.line)
+          ∙ left_blank c.args.rules s.bare (frames_of s.frames) (level_of s.level) (line_of c.read-view.result) owned (sym c.is_blank.ensures ∙ c.if-is_blank.true),
     )
 
-pub loop-line-preserved-in-Some : goal.loop-line-preserved-in-Some
-loop-line-preserved-in-Some c =
-    let s = c.loop-line.self in
-    let line = line_of c.loop-line.line in
-    let some = sym c.is_blank.ensures ∙ c.if-is_blank.false in
-    let plain = not_bare s.bare (is_blank line) c.loop-line.invariant.none some in
-    let bare = c.open_quote.ensures.bare ∙ plain in
+-- the line that is read isn't blank, so that the container isn't bare
+some-left : (c : Else-is_blank) → is_blank (line_of c.read-view.result) ≡ false
+some-left c = sym c.is_blank.ensures ∙ c.if-is_blank.false
+
+plainly : (c : Else-is_blank) → c.loop-alloc.self.bare ≡ false
+plainly c =
+    not_bare c.loop-alloc.self.bare (is_blank (line_of c.read-view.result)) (λ e. ap (λ (v : View). is_blank (line_of v)) c.read-view.ensures.line ∙ c.loop-alloc.invariant.none e) (some-left c)
+
+left-to-read : (c : Else-is_blank) (owned : Owned) → left_of c.args.rules c.loop-alloc.self (line_of c.loop-alloc.line.rest) owned ≡ left_of c.args.rules c.loop-alloc.self (line_of c.read-view.result) owned
+left-to-read c owned = ap (λ (v : View). left_of c.args.rules c.loop-alloc.self (line_of v) owned) (sym c.read-view.ensures.line)
+
+pub loop-alloc-preserved-in-Some : goal.loop-alloc-preserved-in-Some
+loop-alloc-preserved-in-Some c =
+    let at = (goal.at.loop-alloc-preserved-in-Some c).Else-is_blank in
+    let s = c.loop-alloc.self in
+    let line = line_of c.read-view.result in
+    let bare = c.open_quote.ensures.bare ∙ plainly at in
+    let next = one_more_frame s.frames c.open_quote.new.self.frames _ c.in_ok-open_quote.ensures.frames in
     record {
       none = λ e. absurd (cc (e, bare));
       left = λ owned.
-          c.loop-line.invariant.left owned
-          ∙ left_some c.args.rules s.bare (frames_of s.frames) (level_of s.level) line owned plain
-          ∙ quote_next c.args.rules (frames_of s.frames) (level_of s.level) line owned (line_of c.in-Some.inner) some (c.in-Some.ensures c.args.rules).0 (c.in-Some.ensures c.args.rules).1
+          c.loop-alloc.invariant.left owned
+          ∙ left-to-read at owned
+          ∙ left_some c.args.rules s.bare (frames_of s.frames) (level_of s.level) line owned (plainly at)
+          ∙ quote_next c.args.rules (frames_of s.frames) (level_of s.level) line owned (line_of c.in-Some.inner) (some-left at) (c.in-Some.ensures c.args.rules).0 (c.in-Some.ensures c.args.rules).1
           ∙ stays_left c.args.rules c.open_quote.new.self.bare _ (frames_of c.open_quote.new.self.frames) _ (level_of c.open_quote.new.self.level) (line_of c.in-Some.inner) owned bare
-          c.in_ok-open_quote.ensures.frames c.in_ok-open_quote.ensures.level;
+          c.in_ok-open_quote.ensures.frames c.in_ok-open_quote.ensures.level
+          ∙ ap (λ (v : View). left_of c.args.rules c.open_quote.new.self (line_of v) owned) (sym c.enter.ensures.line);
+      deeper = omega (arith, c.loop-alloc.invariant.deeper, next);
+      tests = rw c.enter.ensures.tests (tested_one_deeper (length c.args.self.now.frames) (length s.frames) (length c.open_quote.new.self.frames) c.args.line.now.tests c.loop-alloc.line.tests c.read-view.new.self.tests
+          c.loop-alloc.invariant.deeper next c.loop-alloc.invariant.tests c.read-view.ensures.tests);
     }
 
-pub returns-in_default-start : goal.returns-in_default-start
-returns-in_default-start c =
-    let s = c.loop-line.self in
-    let line = line_of c.loop-line.line in
-    let some = sym c.is_blank.ensures ∙ c.if-is_blank.false in
-    let plain = not_bare s.bare (is_blank line) c.loop-line.invariant.none some in (
-      omega (arith, c.len.ensures, c.loop-line-test.true),
+pub returns-in_default-start-clause-inside : goal.returns-in_default-start-clause-inside
+returns-in_default-start-clause-inside c =
+    let at = (goal.at.returns-in_default-start-clause-inside c).Else-is_blank in
+    let s = c.loop-alloc.self in
+    let line = line_of c.read-view.result in (
+      omega (arith, c.len.ensures, c.loop-alloc-test.true),
       (
-        plain,
+        plainly at,
         (
           no_container c.start_of-start.result (ap begins_quote c.start_of-start.ensures ∙ c.in_default.ensures c.args.rules) c.in_default-start.not-Item,
-          λ owned l at. c.loop-line.invariant.left owned
-              ∙ left_some c.args.rules s.bare (frames_of s.frames) (level_of s.level) line owned plain
-              ∙ leaf_next c.args.rules (frames_of s.frames) (level_of s.level) line owned (seen c.start_of-start.result) l some (sym c.start_of-start.ensures) at,
+          λ owned l leaf. c.loop-alloc.invariant.left owned
+              ∙ left-to-read at owned
+              ∙ left_some c.args.rules s.bare (frames_of s.frames) (level_of s.level) line owned (plainly at)
+              ∙ leaf_next c.args.rules (frames_of s.frames) (level_of s.level) line owned (seen c.start_of-start.result) l (some-left at) (sym c.start_of-start.ensures)
+              (leaf ∙ ap (λ (v : View). begin_of_start (seen c.start_of-start.result) (line_of v)) (c.read-view.ensures.same ∙ sym c.read-view.ensures.line)),
         ),
       ),
     )
 
-pub loop-line-preserved : goal.loop-line-preserved
-loop-line-preserved c =
-    let s = c.loop-line.self in
-    let line = line_of c.loop-line.line in
-    let some = sym c.is_blank.ensures ∙ c.if-is_blank.false in
-    let plain = not_bare s.bare (is_blank line) c.loop-line.invariant.none some in
+pub loop-alloc-preserved : goal.loop-alloc-preserved
+loop-alloc-preserved c =
+    let at = (goal.at.loop-alloc-preserved c).Else-is_blank in
+    let s = c.loop-alloc.self in
+    let line = line_of c.read-view.result in
     let inner = line_of c.item_content-column.result.1 in
+    let next = one_more_frame s.frames c.open_item.new.self.frames _ c.in_ok-open_item.ensures.frames in
     record {
-      none = λ e. sym c.is_blank-self.ensures ∙ e;
+      none = λ e. ap (λ (v : View). is_blank (line_of v)) c.enter-in-loop-alloc.ensures.line ∙ sym c.is_blank-self.ensures ∙ e;
       left = λ owned.
-          c.loop-line.invariant.left owned
-          ∙ left_some c.args.rules s.bare (frames_of s.frames) (level_of s.level) line owned plain
+          c.loop-alloc.invariant.left owned
+          ∙ left-to-read at owned
+          ∙ left_some c.args.rules s.bare (frames_of s.frames) (level_of s.level) line owned (plainly at)
           ∙ item_left c.args.rules c.is_blank-self.result (frames_of s.frames) (frames_of c.open_item.new.self.frames) (level_of s.level) (level_of c.open_item.new.self.level) line owned
-          (seen_marker c.in-Item.marker) inner c.item_content-column.result.0 some (sym c.start_of-start.ensures ∙ ap seen c.in-Item.is) c.item_content-column.ensures.first c.item_content-column.ensures.column c.is_blank-self.ensures
-          c.in_ok-open_item.ensures.frames c.in_ok-open_item.ensures.level;
+          (seen_marker c.in-Item.marker) inner c.item_content-column.result.0 (some-left at) (sym c.start_of-start.ensures ∙ ap seen c.in-Item.is) c.item_content-column.ensures.first c.item_content-column.ensures.column c.is_blank-self.ensures
+          c.in_ok-open_item.ensures.frames c.in_ok-open_item.ensures.level
+          ∙ ap (λ (v : View). left_in c.args.rules c.is_blank-self.result (frames_of c.open_item.new.self.frames) (level_of c.open_item.new.self.level) (line_of v) owned) (sym c.enter-in-loop-alloc.ensures.line);
+      deeper = omega (arith, c.loop-alloc.invariant.deeper, next);
+      tests = rw c.enter-in-loop-alloc.ensures.tests (tested_one_deeper (length c.args.self.now.frames) (length s.frames) (length c.open_item.new.self.frames) c.args.line.now.tests c.loop-alloc.line.tests c.read-view.new.self.tests
+          c.loop-alloc.invariant.deeper next c.loop-alloc.invariant.tests c.read-view.ensures.tests);
     }
 
-pub returns : goal.returns
-returns c = λ owned.
-    let s = c.loop-line.self in
+pub returns-clause-inside : goal.returns-clause-inside
+returns-clause-inside c = λ owned.
+    let s = c.loop-alloc.self in
     omega (
       arith,
       c.len.ensures,
-      c.loop-line-test.false,
+      c.loop-alloc-test.false,
       length_frames s.frames,
-      left_deep c.args.rules s.bare (frames_of s.frames) (level_of s.level) (line_of c.loop-line.line) owned,
-      ap (λ (t : Stack). nesting t.now) (c.loop-line.invariant.left owned),
+      left_deep c.args.rules s.bare (frames_of s.frames) (level_of s.level) (line_of c.loop-alloc.line.rest) owned,
+      ap (λ (t : Stack). nesting t.now) (c.loop-alloc.invariant.left owned),
     )
