@@ -1,5 +1,5 @@
 -- What begins at a place of a source, by the byte that stands there.
-use Rattle.std.proofs.Common.{◌≡◌, ℕ, suc, ◌+◌, ◌-◌, ◌*◌, ◌<◌, ◌≤◌, ◌==◌, ◌&&◌, ◌||◌, not, Bool, true, false, List, [], ◌∷◌, length, take, drop, get_or, reverse, replicate, Option, Some, None, codes, refl, sym, ap, subst, ◌∙◌, arith, length-append, length-drop, drop-drop, get_or-drop}
+use Rattle.std.proofs.Common.{◌≡◌, ℕ, suc, ◌+◌, ◌-◌, ◌<◌, ◌≤◌, ◌==◌, ◌&&◌, ◌||◌, not, Bool, true, false, List, [], ◌∷◌, length, take, drop, get_or, reverse, replicate, Option, Some, None, codes, refl, sym, ap, subst, ◌∙◌, arith, length-append, length-drop, drop-drop, get_or-drop}
 use Rattle.std.specs.Prelude.{IsUtf8, nat_le, if◌then◌else◌, encode_utf8_all}
 use Rattle.std.specs.List.{slice_range}
 use Rattle.std.specs.Str.{IsCharBoundary}
@@ -26,6 +26,8 @@ use Rattle.cm_scan.proofs.ReadFurther.{none-some, false-true}
 use Rattle.cm_scan.proofs.ReadingLemmas.{begins-at}
 use Rattle.cm_scan.proofs.LeftLemmas.{atom-left}
 use Rattle.cm_scan.proofs.RunLemmas.{not-same}
+use Rattle.cm_inline.proofs.BottomLemmas.{kind-small, kind-untilded}
+use Rattle.cm_inline.proofs.EmphasisLemmas.{code-holds, html-holds, hard-holds, soft-holds, autolink-holds}
 use Rattle.cm_inline.proofs.DepthLemmas.{code-depth, html-depth, hard-depth, soft-depth, link-depth}
 use Rattle.cm_inline.specs.declared.nodes.Node.{Node}
 use Rattle.cm_inline.specs.declared.nodes.Node.TheVariants.{Piece, Characters, Finished, Run, Opener}
@@ -33,9 +35,10 @@ use Rattle.cm_inline.specs.declared.runs.Marker.{Marker}
 use Rattle.cm_inline.specs.declared.runs.Marker.TheVariants.{Star, Underscore, Tilde}
 use Rattle.cm_inline.specs.declared.runs.DelimiterRun.{DelimiterRun}
 use Rattle.cm_inline.specs.steps.Runs.{byte_of, run_of}
-use Rattle.cm_inline.specs.steps.Pairs.{allowed}
+use Rattle.cm_inline.specs.Emphases.{emphases_of}
+use Rattle.cm_inline.specs.steps.Searching.{kind}
 use Rattle.cm_inline.specs.steps.Nodes.{item_of, IsPart}
-use Rattle.cm_inline.specs.steps.Reads.{Stands, atom_in, is_break_byte, item_for, IsAtom}
+use Rattle.cm_inline.specs.steps.Reads.{Stands, atom_in, is_break_byte, item_for, kinds_by, IsNew, IsAtom}
 
 -- the source from the place on
 front : (source : List ℕ) (at b : ℕ) → Stands source at b → drop at source ≡ b ∷ drop (at + 1) source
@@ -53,8 +56,8 @@ further rules source at end within rest =
 
 module _ (rules : Rules) (source : List ℕ) (at : ℕ) where
   is-atom : (node : Node) (end : ℕ) (a : AtomRead) → at < length source → atom_in rules source at ≡ a → a.rest ≡ drop end source → item_for a.atom a.rest ≡ Some (item_of source node)
-      → IsPart source node → IsCharBoundary source end → allowed (item_of source node) ≤ 15 * (end - at) → IsAtom rules source at node end
-  is-atom node end a within same rest item part boundary paid =
+      → IsPart source node → IsCharBoundary source end → IsNew (kinds_by rules) (item_of source node) → IsAtom rules source at node end
+  is-atom node end a within same rest item part boundary fresh =
       let left : (atom_in rules source at).rest ≡ drop end source = ap (λ (t : AtomRead). t.rest) same ∙ rest in
       record {
         rest = left;
@@ -63,7 +66,7 @@ module _ (rules : Rules) (source : List ℕ) (at : ℕ) where
         further = further rules source at end within left;
         within = boundary.0;
         boundary = boundary;
-        paid = paid;
+        fresh = fresh;
       }
 
   -- an answer that is this node and this end
@@ -87,7 +90,7 @@ module _ (rules : Rules) (source : List ℕ) (at : ℕ) where
       let size : end - at ≡ run_length m (drop at source) = omega (arith, run) in
       let low : at ≤ end = omega (arith, run) in
       is-atom (Piece at end) end a s.within same (rest ∙ sym left)
-      (item ∙ sym (ap (λ t. Some (items.Characters t)) (ap (λ n. take n (drop at source)) size ∙ run-front m (drop at source)))) (low, s.boundary, boundary) boundary (omega arith)
+      (item ∙ sym (ap (λ t. Some (items.Characters t)) (ap (λ n. take n (drop at source)) size ∙ run-front m (drop at source)))) (low, s.boundary, boundary) boundary tt
 
   -- one byte as text
 
@@ -101,7 +104,7 @@ module _ (rules : Rules) (source : List ℕ) (at : ℕ) where
       → IsAtom rules source at (Piece at (at + 1)) (at + 1)
   byte-is b a utf8 s ascii same rest item =
       let low : at ≤ at + 1 = omega arith in
-      is-atom (Piece at (at + 1)) (at + 1) a s.within same rest (item ∙ sym (ap (λ t. Some (items.Characters t)) (one-byte b s))) (low, s.boundary, behind-byte b utf8 s ascii) (behind-byte b utf8 s ascii) (omega arith)
+      is-atom (Piece at (at + 1)) (at + 1) a s.within same rest (item ∙ sym (ap (λ t. Some (items.Characters t)) (one-byte b s))) (low, s.boundary, behind-byte b utf8 s ascii) (behind-byte b utf8 s ascii) tt
 
   -- the byte behind it
   next-stands : (b c : ℕ) → IsUtf8 source → Stands source at b → b < 128 → begins_with c (drop (at + 1) source) ≡ true → Stands source (at + 1) c
@@ -124,7 +127,7 @@ module _ (rules : Rules) (source : List ℕ) (at : ℕ) where
       → IsAtom rules source at (Finished (inline.Code (stripped (one_line inside))) 0 false) end
   code-span-is inside end s h boundary =
       is-atom _ end (record { atom = Whole (inline.Code (stripped (one_line inside))); rest = drop end source }) s.within
-      (tick-in (Some (record { text = stripped (one_line inside); rest = drop end source })) s h) refl refl (code-depth (stripped (one_line inside))) boundary (omega arith)
+      (tick-in (Some (record { text = stripped (one_line inside); rest = drop end source })) s h) refl refl (code-depth (stripped (one_line inside))) boundary (code-holds (stripped (one_line inside)))
 
   pub backticks-are : (end : ℕ) → Stands source at 96 → None ≡ code_span (drop at source) → end ≡ at + run_length 96 (drop at source) → drop end source ≡ after_run 96 (drop at source)
       → IsCharBoundary source end → IsAtom rules source at (Piece at end) end
@@ -149,7 +152,7 @@ module _ (rules : Rules) (source : List ℕ) (at : ℕ) where
       ∙ ap (λ t. or_byte 60 (drop (at + 1) source) (angled_or (link_or t))) (sym h)
 
   pub link-is : (link : Autolink) (end : ℕ) → Stands source at 60 → Some link ≡ autolink (drop at source) → link.rest ≡ drop end source → IsCharBoundary source end → IsAtom rules source at (Finished (link_of link) 1 false) end
-  link-is link end s h rest boundary = is-atom _ end (record { atom = Whole (link_of link); rest = link.rest }) s.within (angle-in (Some link) s h) rest refl (link-depth link) boundary (omega arith)
+  link-is link end s h rest boundary = is-atom _ end (record { atom = Whole (link_of link); rest = link.rest }) s.within (angle-in (Some link) s h) rest refl (link-depth link) boundary (autolink-holds link)
 
   html-in : (o : Option (List ℕ)) → Stands source at 60 → None ≡ autolink (drop at source) → raw_html rules (drop at source) ≡ o → atom_in rules source at ≡ or_byte 60 (drop (at + 1) source) (angled_or (tagged (drop at source) o))
   html-in o s h e = angle-in None s h ∙ ap (λ t. or_byte 60 (drop (at + 1) source) (angled_or (tagged (drop at source) t))) e
@@ -177,7 +180,7 @@ module _ (rules : Rules) (source : List ℕ) (at : ℕ) where
   html-is html end s h e boundary =
       let parts = whole-read (drop at source) html (drop end source) (raw_html rules (drop at source)) e in
       is-atom _ end (record { atom = Whole (inline.Html (before (drop end source) (drop at source))); rest = drop end source }) s.within (html-in (Some (drop end source)) s h parts.0) refl
-      (sym (ap (λ t. Some (items.Finished (inline.Html t))) parts.1)) (html-depth html) boundary (omega arith)
+      (sym (ap (λ t. Some (items.Finished (inline.Html t))) parts.1)) (html-depth html) boundary (html-holds html)
 
   pub angle-is-text : IsUtf8 source → Stands source at 60 → None ≡ autolink (drop at source) → None ≡ whole_of (drop at source) (raw_html rules (drop at source)) → IsAtom rules source at (Piece at (at + 1)) (at + 1)
   angle-is-text utf8 s h e =
@@ -195,7 +198,7 @@ module _ (rules : Rules) (source : List ℕ) (at : ℕ) where
       let feed = next-stands 92 10 utf8 s (omega arith) next in
       let end : at + 1 + 1 ≡ at + 2 = omega arith in
       is-atom _ (at + 2) (record { atom = Whole inline.Hard; rest = drop (at + 1 + 1) source }) s.within (slash-in (10 ∷ drop (at + 1 + 1) source) s (front source (at + 1) 10 feed)) (ap (λ n. drop n source) end) refl hard-depth
-      (subst (IsCharBoundary source) end (IsCharBoundary-after_ascii source (at + 1) utf8 feed.within (omega (arith, feed.byte)))) (omega arith)
+      (subst (IsCharBoundary source) end (IsCharBoundary-after_ascii source (at + 1) utf8 feed.within (omega (arith, feed.byte)))) hard-holds
 
   abbrev escape_or : Option (List ℕ × ℕ) → List ℕ → Option AtomRead
   escape_or o text = elim o as (λ _. Option AtomRead) [ Some escaped ↦ read (Plain escaped.0) (drop escaped.1 text) | None ↦ None ]
@@ -211,7 +214,7 @@ module _ (rules : Rules) (source : List ℕ) (at : ℕ) where
       let low : at + 1 ≤ at + 2 = omega arith in
       is-atom _ (at + 2) (record { atom = Plain (c ∷ []); rest = drop (at + 1 + 1) source }) s.within
       (slash-in (c ∷ drop (at + 1 + 1) source) s (front source (at + 1) c next) ∙ escaped (c == 10) (no-feed c punct)) (ap (λ n. drop n source) end)
-      (sym (ap (λ t. Some (items.Characters t)) (ap (λ n. take n (drop (at + 1) source)) one ∙ ap (take 1) (front source (at + 1) c next)))) (low, boundary, behind) behind (omega arith)
+      (sym (ap (λ t. Some (items.Characters t)) (ap (λ n. take n (drop (at + 1) source)) one ∙ ap (take 1) (front source (at + 1) c next)))) (low, boundary, behind) behind tt
     where
       no-feed : (c : ℕ) → is_ascii_punct c ≡ true → (c == 10) ≡ false
       no-feed c punct = grind (arith, punct)
@@ -266,7 +269,7 @@ module _ (rules : Rules) (source : List ℕ) (at : ℕ) where
           let same : chars_of chars ≡ found.0 = ap chars_in g in
           let place : end ≡ at + found.1 = ap end_in g in
           is-atom _ end (record { atom = Plain (encode_utf8_all found.0); rest = drop found.1 (drop at source) }) s.within (ampersand-in (Some found) s e)
-          (drop-drop found.1 at source ∙ ap (λ n. drop n source) (sym place)) (sym (ap (λ t. Some (items.Characters (encode_utf8_all t))) same)) tt boundary (omega arith)
+          (drop-drop found.1 at source ∙ ap (λ n. drop n source) (sym place)) (sym (ap (λ t. Some (items.Characters (encode_utf8_all t))) same)) tt boundary tt
         where
           chars_in : Option (List ℕ × ℕ) → List ℕ
           chars_in None = []
@@ -328,11 +331,15 @@ module _ (rules : Rules) (source : List ℕ) (at : ℕ) where
       is-atom _ (feed + 1) (record { atom = Whole (if nat_le 2 (run_length 32 (drop at source)) then inline.Hard else inline.Soft); rest = drop 1 (drop feed source) }) s.within
       (break-in b (Some (drop 1 (drop feed source))) s is (ap (after_word (codes "\n")) (sym left) ∙ feed-next (drop feed source) next))
       (drop-drop 1 feed source) (sym (ap (λ n. Some (items.Finished (if nat_le 2 n then inline.Hard else inline.Soft))) size)) (shallow (nat_le 2 (feed - at)))
-      (IsCharBoundary-after_ascii source feed utf8 found.0 (omega (arith, found.2))) (omega arith)
+      (IsCharBoundary-after_ascii source feed utf8 found.0 (omega (arith, found.2))) (none (nat_le 2 (feed - at)))
     where
       shallow : (hard : Bool) → depth_of (if hard then inline.Hard else inline.Soft) ≡ 0
       shallow true = hard-depth
       shallow false = soft-depth
+
+      none : (hard : Bool) → emphases_of (if hard then inline.Hard else inline.Soft) ≡ 0
+      none true = hard-holds
+      none false = soft-holds
 
   pub space-is-text : (b feed : ℕ) → IsUtf8 source → Stands source at b → is_break_byte b ≡ true → drop feed source ≡ after_run 32 (drop at source)
       → begins_with 10 (drop feed source) ≡ false → IsAtom rules source at (Piece at (at + 1)) (at + 1)
@@ -358,7 +365,7 @@ module _ (rules : Rules) (source : List ℕ) (at : ℕ) where
       let rest : drop (at + 1 + 1) source ≡ drop (at + 2) source = ap (λ n. drop n source) end in
       is-atom _ (at + 2) (record { atom = OpenBracket true; rest = drop (at + 1 + 1) source }) s.within (bang-in (91 ∷ drop (at + 1 + 1) source) s (front source (at + 1) 91 bracket)) rest
       (ap (λ t. Some (items.Opener true t)) rest)
-      (record { at = at; place = refl; front = front source at 33 s ∙ ap (λ t. 33 ∷ t) (front source (at + 1) 91 bracket ∙ ap (λ t. 91 ∷ t) rest); start = s.boundary; end = behind }) behind (omega arith)
+      (record { at = at; place = refl; front = front source at 33 s ∙ ap (λ t. 33 ∷ t) (front source (at + 1) 91 bracket ∙ ap (λ t. 91 ∷ t) rest); start = s.boundary; end = behind }) behind tt
 
   alone-bang : (text : List ℕ) → begins_with 91 text ≡ false → or_byte 33 text (bang_atom (33 ∷ text)) ≡ byte_atom 33 text
   unfolding bang_atom after_word
@@ -376,9 +383,16 @@ module _ (rules : Rules) (source : List ℕ) (at : ℕ) where
   opener-is utf8 s =
       let behind = behind-byte 91 utf8 s (omega arith) in
       is-atom _ (at + 1) (record { atom = OpenBracket false; rest = drop (at + 1) source }) s.within (here rules source at 91 s) refl refl
-      (record { at = at; place = refl; front = front source at 91 s; start = s.boundary; end = behind }) behind (omega arith)
+      (record { at = at; place = refl; front = front source at 91 s; start = s.boundary; end = behind }) behind tt
 
   -- a run of a marker
+
+  -- tildes are of a run only with strikethrough
+  known : (m : Marker) (strike two : Bool) (run : delimiters.Run) → run.character ≡ byte_of m → (not (byte_of m == 126) || strike && two) ≡ true → kind run < (if strike then 13 else 12)
+  known m true two run is e = kind-small run
+  known Star false two run is e = kind-untilded run (ap (λ c. c == 126) is)
+  known Underscore false two run is e = kind-untilded run (ap (λ c. c == 126) is)
+  known Tilde false two run is e = absurd (cc e)
 
   abbrev run_read : ℕ → List ℕ → AtomRead
   run_read m text = record { atom = Delimiter (run_between rules m (run_length m (m ∷ text)) (reverse (take at source)) (after_run m (m ∷ text))); rest = after_run m (m ∷ text) }
@@ -427,7 +441,7 @@ module _ (rules : Rules) (source : List ℕ) (at : ℕ) where
       let whole : run.left ≡ end - at = ap (λ (r : delimiters.Run). r.left) is in
       is-atom (Run run) end (run_read b (drop (at + 1) source)) s.within same rest
       (ap (λ r. Some (items.Delimiters r)) (ap (λ n. run_between rules b n (reverse (take at source)) (after_run b (b ∷ drop (at + 1) source))) (sym count) ∙ ap (run_between rules b (end - at) (reverse (take at source))) rest ∙ sym is))
-      tt boundary (omega (arith, whole, low))
+      tt boundary (known m rules.strike (end - at == 2) (run_of run) (ap (λ (r : delimiters.Run). r.character) is) struck, whole ∙ sym (ap (λ (r : delimiters.Run). r.whole) is), (let long : run.whole ≡ end - at = ap (λ (r : delimiters.Run). r.whole) is in omega (arith, long, low)))
 
   -- a byte by itself
 

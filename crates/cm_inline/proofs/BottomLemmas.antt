@@ -74,6 +74,11 @@ kind-small c = go (c.character == 126) (number-small (c.character == 95) c.opens
     go true h = omega arith
     go false h = omega (arith, h)
 
+-- but for tildes
+pub kind-untilded : (c : Run) → (c.character == 126) ≡ false → kind c < 12
+unfolding kind
+kind-untilded c e = let small = number-small (c.character == 95) c.opens (c.whole % 3) (omega arith) in omega (arith, small, ap (λ b. number b (c.character == 95) c.opens (c.whole % 3)) e)
+
 -- closers of one kind match the same openers
 pub kind-match : (c d o : Run) → IsMarked c → IsMarked d → c.closes ≡ true → d.closes ≡ true → kind c ≡ kind d → delimiters_match c o ≡ delimiters_match d o
 kind-match c d o (inr (inr p)) (inr (inr q)) h k e = tildes-match c o p ∙ sym (tildes-match d o q)

@@ -1,18 +1,17 @@
 -- How deep the inlines that nodes come to nest.
-use Rattle.std.proofs.Common.{◌≡◌, ℕ, ◌+◌, ◌<◌, ◌≤◌, true, false, List, [], ◌∷◌, ◌++◌, refl, sym, ap, ◌∙◌, arith, max}
-use Rattle.std.specs.Prelude.{if◌then◌else◌, ◌==◌, Bool, nat_lt}
-use Rattle.std.proofs.lemmas.Bool.Decides.{nat_tests}
+use Rattle.std.proofs.Common.{◌≡◌, ℕ, ◌+◌, true, false, List, [], ◌∷◌, refl, sym, ap, ◌∙◌, arith, max}
+use Rattle.std.specs.Prelude.{if◌then◌else◌, ◌==◌, Bool}
 use Rattle.cm_tree.specs.declared.tree.Inline.{Inline}
 use Rattle.cm_tree.specs.declared.tree.Inline.TheVariants.{Text, Code, Html, Soft, Hard, Emph, Strong, Strike}
 use Rattle.cm_tree.specs.declared.tree.Inline.TheViews.{outs-Text, outs-Code, outs-Html, outs-Soft, outs-Hard, outs-Link, outs-Emph, outs-Strong, outs-Strike}
 use Rattle.cm_tree.specs.declared.tree.Inline.TheFolds.{fold_out-Inline}
-use Rattle.cm_tree.specs.Depth.{depth_step, depth_of, inlines_depth, saturated}
+use Rattle.cm_tree.specs.Depth.{depth_step, depth_of, inlines_depth}
 use Rattle.cm_scan.specs.Autolinks.{Autolink}
 use Rattle.cm_scan.specs.Atoms.{link_of}
 use Rattle.cm_scan.specs.Pairing.{text_before, settled_after, settled, emphasised}
 use Rattle.cm_inline.specs.declared.nodes.Node.{Node}
 use Rattle.cm_inline.specs.declared.nodes.Node.TheVariants.{Piece, Characters, Finished, Run, Opener}
-use Rattle.cm_inline.specs.steps.Nodes.{items_of, text_between, node_depth, nodes_depth, AreParts}
+use Rattle.cm_inline.specs.steps.Nodes.{items_of, nodes_depth, AreParts}
 
 text-depth : (text : List ℕ) → depth_of (Text text) ≡ 0
 text-depth text = simp (fold_out-Inline ℕ depth_step, outs-Text)
@@ -73,33 +72,3 @@ settled-after source text (Finished inline depth true ∷ nodes) parts =
 -- the inlines nest as deep as the nodes that they come of
 pub settled-depth : (source : List ℕ) (nodes : List Node) → AreParts source nodes → inlines_depth (settled (items_of source nodes)) ≡ nodes_depth nodes
 settled-depth source nodes parts = settled-after source [] nodes parts
-
--- more nodes
-
-deeper-of-both : (nodes more : List Node) → nodes_depth (nodes ++ more) ≡ max (nodes_depth nodes) (nodes_depth more)
-deeper-of-both [] more = sym (none-deeper (nodes_depth more))
-deeper-of-both (x ∷ nodes) more = omega (arith, deeper-of-both nodes more)
-
-pub shallow-atom : (nodes : List Node) (x : Node) → nodes_depth nodes ≤ 1 → node_depth x ≤ 1 → nodes_depth (nodes ++ x ∷ []) ≤ 1
-shallow-atom nodes x low one = omega (arith, deeper-of-both nodes (x ∷ []), low, one)
-
-pub shallow-between : (nodes : List Node) (from to : ℕ) → nodes_depth nodes ≤ 1 → nodes_depth (nodes ++ text_between from to) ≤ 1
-shallow-between nodes from to low = omega (arith, deeper-of-both nodes (text_between from to), low, none (nat_lt from to))
-  where
-    none : (some : Bool) → nodes_depth (if some then Piece from to ∷ [] else []) ≡ 0
-    none true = omega arith
-    none false = refl
-
--- what the limit says of them, by the depth that a usize holds
-module _ (source : List ℕ) (nodes : List Node) (content inlines : List Inline) (parts : AreParts source nodes) (shallow : nodes_depth nodes ≤ 1) (limit depth : ℕ) (is : content ≡ settled (items_of source nodes)) (same : content ≡ inlines) (held : depth ≡ saturated (inlines_depth content)) where
-  once : inlines_depth inlines ≤ 1
-  once = omega (arith, shallow, settled-depth source nodes parts, ap inlines_depth (sym same ∙ is))
-
-  pub past-limit : limit < depth → nat_lt limit (inlines_depth inlines) ≡ true
-  past-limit above = let low = once in grind (arith, nat_tests, above, held, low, ap inlines_depth same)
-
-  pub within-limit : depth ≤ limit → nat_lt limit (inlines_depth inlines) ≡ false
-  within-limit below = let low = once in grind (arith, nat_tests, below, held, low, ap inlines_depth same)
-
-  pub limit-is-nothing : limit < depth → limit ≡ 0
-  limit-is-nothing above = let low = once in omega (arith, above, held, low, ap inlines_depth same)

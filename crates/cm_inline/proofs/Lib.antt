@@ -15,9 +15,12 @@ pub mod SliceLemmas
 pub mod TextLemmas
 pub mod BracketLemmas
 pub mod CodeLemmas
+pub mod EmphasisLemmas
 pub mod EndsLemmas
 pub mod DeeperLemmas
+pub mod KeepsLemmas
 pub mod LabelLemmas
 pub mod LinkLemmas
+pub mod PaysLemmas
 pub mod ReaderLemmas
 pub mod WholeLemmas

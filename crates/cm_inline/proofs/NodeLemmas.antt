@@ -1,5 +1,5 @@
 -- What comes of the nodes of a source.
-use Rattle.std.proofs.Common.{◌≡◌, ℕ, zero, suc, ◌+◌, ◌-◌, ◌<◌, true, false, List, [], ◌∷◌, ◌++◌, length, take, drop, refl, sym, ap, subst, ◌∙◌, arith, append_assoc, drop-drop, take_all, length-drop}
+use Rattle.std.proofs.Common.{◌≡◌, ℕ, zero, suc, ◌+◌, ◌-◌, ◌<◌, true, false, List, [], ◌∷◌, ◌++◌, drop, refl, sym, ap, subst, ◌∙◌, arith, append_assoc, drop-drop}
 use Rattle.std.specs.Prelude.{encode_utf8_all, replicate}
 use Rattle.std.specs.List.{slice_range}
 use Rattle.std.proofs.lemmas.List.{append-nil}
@@ -84,10 +84,6 @@ settled-on source done nodes node rest whole e h =
     append_assoc (done ++ text_before (text_in_front source nodes) []) (inline_of node) (settled (items_of source rest))
     ∙ ap (λ t. (done ++ text_before (text_in_front source nodes) []) ++ t) (inline-first source nodes node rest e)
     ∙ settled-left source done nodes (behind_texts nodes) whole refl h
-
--- the nodes from a place on
-pub all-from : (nodes : List Node) (at : ℕ) → take (length nodes - at) (drop at nodes) ≡ drop at nodes
-all-from nodes at = take_all (length nodes - at) (drop at nodes) (omega (arith, length-drop at nodes))
 
 -- the nodes behind a text that is no longer than what is left
 pub left-behind : (nodes left : List Node) (at count : ℕ) → left ≡ drop at nodes → drop count left ≡ behind_texts left → drop (at + count) nodes ≡ behind_texts (drop at nodes)

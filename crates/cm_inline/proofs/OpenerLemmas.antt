@@ -1,14 +1,15 @@
 -- What the calls on the list do to the openers among the items, and to the looks.
-use Rattle.std.proofs.Common.{◌≡◌, ◌⊎◌, inl, inr, ℕ, zero, suc, ◌+◌, ◌*◌, ◌<◌, ◌≤◌, Bool, true, false, cond, nat_le, ◌&&◌, ◌||◌, ◌==◌, List, [], ◌∷◌, ◌++◌, length, get_or, set, sum_by, Option, Some, None, refl, sym, ap, subst, ◌∙◌, arith}
+use Rattle.std.proofs.Common.{◌≡◌, ◌⊎◌, inl, inr, ℕ, zero, suc, ◌+◌, ◌<◌, ◌≤◌, Bool, true, false, cond, nat_le, ◌&&◌, ◌||◌, ◌==◌, List, [], ◌∷◌, ◌++◌, length, take, get_or, set, Option, Some, None, refl, sym, ap, subst, ◌∙◌, arith}
 use Rattle.std.proofs.lemmas.Bool.{cond-true, cond-false, eq-eqb, ne_eqb, le-leb}
-use Rattle.std.proofs.lemmas.List.{get_or-set_same, get_or-set_other, length-set}
+use Rattle.std.proofs.lemmas.List.{get_or-set_same, get_or-set_other, get_or-take, length-set, length-take}
+use Rattle.std.proofs.Math.Seq.{take-set-lt}
 use Rattle.std.proofs.lemmas.List.Sums.{sum_by-append, sum_by-cons, sum_by-set}
 use Rattle.cm_scan.specs.Delimiters.{Run, delimiters_match}
 use Rattle.cm_scan.specs.Pairing.{Item, Finished, Delimiters, nearest_opener}
 use Rattle.cm_inline.specs.steps.Entries.{Entry, Listed, above, reserve, updated, leave, first_place, from_place, after_place, without_place, between_gone, is_listed, Below, Falling}
 use Rattle.cm_inline.specs.steps.Searching.{kind, IsMarked, find_opener, looks_for, NoneAnswers, AreSound, openers_of, places_of, characters, bottoms_after}
 use Rattle.cm_inline.specs.steps.Openers.{spent, Ready, Closing, Open, IsClosing, FindsNone, Opens, Spends, cut}
-use Rattle.std.specs.Prelude.{IfSome, All}
+use Rattle.std.specs.Prelude.{IfSome}
 use Rattle.cm_inline.specs.steps.Runs.{byte_of, run_of, rest_of, entry_of, MayBeEntry}
 use Rattle.cm_inline.specs.declared.runs.DelimiterRun.{DelimiterRun}
 use Rattle.cm_inline.specs.declared.delimiters.Delimiter.{Delimiter}
@@ -24,7 +25,7 @@ characters-cons e es = sum_by-cons (λ (x : Entry). x.run.left) e es
 
 -- a run comes in as a closer
 pub begin-closing : (before : List Item) (l new : Listed) (bs : List ℕ) (c : Entry) → Ready before l bs → new.entries ≡ c ∷ l.entries → Below c.place l.entries → c.place ≡ l.next → new.next ≡ l.next + 1 → new.looks ≡ l.looks →
-    Closing before new bs c.place c.run × (spent new bs ≤ spent l bs + (14 + c.run.left)) × (new.looks ≡ l.looks)
+    Closing before new bs c.place c.run × ((kinds : ℕ) → spent kinds new bs ≤ spent kinds l bs + (kinds + 1 + c.run.left)) × (new.looks ≡ l.looks)
 begin-closing before l new bs c r e b p n k = (
   record {
     last = c;
@@ -40,7 +41,7 @@ begin-closing before l new bs c r e b p n k = (
     low = λ j. (let q : get_or bs j 0 ≤ l.next = r.low j in omega (arith, q, p));
     sound = r.sound;
   },
-  omega (arith, ap (reserve bs) e, ap characters e, characters-cons c l.entries, reserve-push bs l.entries c, r.size, k),
+  λ kinds. omega (arith, ap (reserve (take kinds bs)) e, ap characters e, characters-cons c l.entries, reserve-push (take kinds bs) l.entries c, length-take kinds bs, k),
   k,
 )
 
@@ -63,7 +64,7 @@ reserve-raised bs k c es h b p =
 pub search-fails : (before : List Item) (l new : Listed) (bs : List ℕ) (place : ℕ) (closer : Run) → IsMarked closer → closer.closes ≡ true → Closing before l bs place closer →
     find_opener closer (get_or bs (kind closer) 0) (after_place place l.entries) ≡ None → new.entries ≡ l.entries → new.next ≡ l.next →
     new.looks ≡ l.looks + looks_for closer (get_or bs (kind closer) 0) (after_place place l.entries) →
-    Closing before new (set bs (kind closer) place) place closer × (nearest_opener closer before [] ≡ None) × (spent new (set bs (kind closer) place) ≤ spent l bs) × (l.looks ≤ new.looks)
+    Closing before new (set bs (kind closer) place) place closer × (nearest_opener closer before [] ≡ None) × ((kinds : ℕ) → kind closer < kinds → spent kinds new (set bs (kind closer) place) ≤ spent kinds l bs) × (l.looks ≤ new.looks)
 search-fails before l new bs place closer m h c f e n k = (
   record {
     last = c.last;
@@ -80,7 +81,7 @@ search-fails before l new bs place closer m h c f e n k = (
     sound = sound-raise bs closer place c.others within m h r.0 c.sound;
   },
   search-none closer before c.others c.stands r.0,
-  omega (arith, pay, k, ap (looks_for closer bottom) rest, r.1, ap (reserve (set bs (kind closer) place)) (e ∙ c.whole), ap (reserve bs) c.whole, ap characters e),
+  λ kinds known. omega (arith, pay kinds known, k, ap (looks_for closer bottom) rest, r.1, ap (reserve (take kinds (set bs (kind closer) place))) (e ∙ c.whole), ap (reserve (take kinds bs)) c.whole, ap characters e),
   omega (arith, k),
 )
   where
@@ -103,9 +104,14 @@ search-fails before l new bs place closer m h c f e n k = (
         go (inl q) = let s : get_or (set bs (kind closer) place) j 0 ≡ place = ap (λ i. get_or (set bs (kind closer) place) i 0) q ∙ get_or-set_same bs (kind closer) place 0 within in omega (arith, s)
         go (inr q) = let s : get_or bs j 0 ≤ place = c.low j in omega (arith, get_or-set_other bs (kind closer) j place 0 q, s)
 
-    pay : reserve (set bs (kind closer) place) (c.last ∷ c.others) + above bottom c.others ≤ reserve bs (c.last ∷ c.others)
-    pay = subst (λ p. reserve (set bs (kind closer) p) (c.last ∷ c.others) + above bottom c.others ≤ reserve bs (c.last ∷ c.others)) c.place_is
-        (reserve-raised bs (kind closer) c.last c.others within c.falling.0 (let q : bottom ≤ place = c.low (kind closer) in omega (arith, q, c.place_is)))
+    pay : (kinds : ℕ) → kind closer < kinds → reserve (take kinds (set bs (kind closer) place)) (c.last ∷ c.others) + above bottom c.others ≤ reserve (take kinds bs) (c.last ∷ c.others)
+    pay kinds known =
+        let few = take kinds bs in
+        let same : get_or few (kind closer) 0 ≡ bottom = get_or-take kinds bs (kind closer) 0 known in
+        let raised = reserve-raised few (kind closer) c.last c.others (omega (arith, known, within, length-take kinds bs)) c.falling.0 (let q : bottom ≤ place = c.low (kind closer) in omega (arith, q, same, c.place_is)) in
+        let seen = ap (λ b. above b c.others) same in
+        let now = ap (λ t. reserve t (c.last ∷ c.others)) (take-set-lt kinds bs (kind closer) place known ∙ ap (set few (kind closer)) (sym c.place_is)) in
+        omega (arith, raised, seen, now)
 
 -- entries behind others
 split-above : (xs : List Entry) (e : Entry) (ys : List Entry) (n : ℕ) → Below n (xs ++ e ∷ ys) → e.place < n
@@ -144,7 +150,7 @@ found-listed before l bs place closer o c f =
 pub search-opens : (before : List Item) (l new : Listed) (bs : List ℕ) (place : ℕ) (closer : Run) (o : Entry) → Closing before l bs place closer →
     find_opener closer (get_or bs (kind closer) 0) (after_place place l.entries) ≡ Some o → new.entries ≡ between_gone o.place l.entries → new.next ≡ l.next →
     new.looks ≡ l.looks + looks_for closer (get_or bs (kind closer) 0) (after_place place l.entries) →
-    Open before new bs place closer o × (spent new bs ≤ spent l bs + 1) × (l.looks + 1 ≤ new.looks)
+    Open before new bs place closer o × ((kinds : ℕ) → spent kinds new bs ≤ spent kinds l bs + 1) × (l.looks + 1 ≤ new.looks)
 unfolding between_gone
 search-opens before l new bs place closer o c f e n k = (
   record {
@@ -166,16 +172,16 @@ search-opens before l new bs place closer o c f e n k = (
     stands = near.stands;
     nearest = search-finds closer before o g.below near g.opens;
   },
-  omega (
+  λ kinds. omega (
     arith,
-    ap (reserve bs) now,
+    ap (reserve (take kinds bs)) now,
     ap characters now,
-    ap (reserve bs) was,
+    ap (reserve (take kinds bs)) was,
     ap characters was,
     ap (looks_for closer bottom) rest,
     g.looks,
     k,
-    reserve-remove bs (c.last ∷ []) g.passed (o ∷ g.below),
+    reserve-remove (take kinds bs) (c.last ∷ []) g.passed (o ∷ g.below),
     characters-cons c.last (g.passed ++ o ∷ g.below),
     characters-cons c.last (o ∷ g.below),
     sum_by-append (λ (x : Entry). x.run.left) g.passed (o ∷ g.below),
@@ -231,7 +237,7 @@ reserve-first bs c es item left = refl
 
 pub opener-stays : (before : List Item) (l new : Listed) (bs : List ℕ) (place : ℕ) (closer : Run) (o : Entry) (left n : ℕ) (i : _) (w : Open before l bs place closer o) → left < o.run.left → n ≤ closer.left →
     new.entries ≡ leave o.place o.item left l.entries → new.next ≡ l.next → new.looks ≡ l.looks →
-    Closing (Finished i ∷ Delimiters (cut left o.run) ∷ w.items) new bs place (cut n closer) × (spent new bs + 1 ≤ spent l bs)
+    Closing (Finished i ∷ Delimiters (cut left o.run) ∷ w.items) new bs place (cut n closer) × ((kinds : ℕ) → spent kinds new bs + 1 ≤ spent kinds l bs)
 unfolding openers_of delimiters_match
 opener-stays before l new bs place closer o left n i w p fits e m k = (
   record {
@@ -249,13 +255,13 @@ opener-stays before l new bs place closer o left n i w p fits e m k = (
     low = w.low;
     sound = λ c mk h. w.sound c mk h;
   },
-  omega (
+  λ kinds. omega (
     arith,
-    ap (reserve bs) now,
+    ap (reserve (take kinds bs)) now,
     ap characters now,
-    ap (reserve bs) w.whole,
+    ap (reserve (take kinds bs)) w.whole,
     ap characters w.whole,
-    reserve-updated bs w.last o w.below o.item left,
+    reserve-updated (take kinds bs) w.last o w.below o.item left,
     k,
     p,
     characters-cons w.last (o ∷ w.below),
@@ -270,7 +276,7 @@ opener-stays before l new bs place closer o left n i w p fits e m k = (
 
 pub opener-goes : (before : List Item) (l new : Listed) (bs : List ℕ) (place : ℕ) (closer : Run) (o : Entry) (n : ℕ) (i : _) (w : Open before l bs place closer o) → n ≤ closer.left →
     new.entries ≡ without_place o.place l.entries → new.next ≡ l.next → new.looks ≡ l.looks →
-    Closing (Finished i ∷ w.items) new bs place (cut n closer) × (spent new bs + 1 ≤ spent l bs)
+    Closing (Finished i ∷ w.items) new bs place (cut n closer) × ((kinds : ℕ) → spent kinds new bs + 1 ≤ spent kinds l bs)
 unfolding openers_of
 opener-goes before l new bs place closer o n i w fits e m k = (
   record {
@@ -287,14 +293,14 @@ opener-goes before l new bs place closer o n i w fits e m k = (
     low = w.low;
     sound = λ c mk h. (w.sound c mk h).1;
   },
-  omega (
+  λ kinds. omega (
     arith,
-    ap (reserve bs) now,
+    ap (reserve (take kinds bs)) now,
     ap characters now,
-    ap (reserve bs) w.whole,
+    ap (reserve (take kinds bs)) w.whole,
     ap characters w.whole,
     k,
-    reserve-remove bs (w.last ∷ []) (o ∷ []) w.below,
+    reserve-remove (take kinds bs) (w.last ∷ []) (o ∷ []) w.below,
     characters-cons w.last (o ∷ w.below),
     characters-cons o w.below,
     characters-cons w.last w.below,
@@ -319,7 +325,7 @@ below-at_most n m (e ∷ es) p h = let q : e.place < n = h.0 in (omega (arith, q
 
 pub closer-stays : (before : List Item) (l new : Listed) (bs : List ℕ) (place : ℕ) (closer : Run) → Closing before l bs place closer → closer.opens ≡ true →
     new.entries ≡ leave place (length before) closer.left l.entries → new.next ≡ l.next → new.looks ≡ l.looks →
-    Ready (Delimiters closer ∷ before) new bs × (spent new bs ≤ spent l bs) × (new.looks ≡ l.looks)
+    Ready (Delimiters closer ∷ before) new bs × ((kinds : ℕ) → spent kinds new bs ≤ spent kinds l bs) × (new.looks ≡ l.looks)
 unfolding openers_of
 closer-stays before l new bs place closer c h e m k = (
   record {
@@ -331,19 +337,16 @@ closer-stays before l new bs place closer c h e m k = (
     low = λ j. (let q : get_or bs j 0 ≤ place = c.low j in omega (arith, q, c.under, m));
     sound = subst (AreSound bs) (sym now) (sound-push bs (updated (length before) closer.left c.last) c.others (λ j. (let q : get_or bs j 0 ≤ place = c.low j in omega (arith, q, c.place_is))) c.sound);
   },
-  omega (arith, ap (reserve bs) now, ap characters now, ap (reserve bs) c.whole, ap characters c.whole, same, k, characters-cons c.last c.others, characters-cons (updated (length before) closer.left c.last) c.others, c.fewer),
+  λ kinds. omega (arith, ap (reserve (take kinds bs)) now, ap characters now, ap (reserve (take kinds bs)) c.whole, ap characters c.whole, reserve-first (take kinds bs) c.last c.others (length before) closer.left, k, characters-cons c.last c.others, characters-cons (updated (length before) closer.left c.last) c.others, c.fewer),
   k,
 )
   where
     now : new.entries ≡ updated (length before) closer.left c.last ∷ c.others
     now = e ∙ ap (leave place (length before) closer.left) c.whole ∙ ap (λ p. leave p (length before) closer.left (c.last ∷ c.others)) (sym c.place_is) ∙ leave-first c.last c.others (length before) closer.left
 
-    same : reserve bs (updated (length before) closer.left c.last ∷ c.others) ≡ reserve bs (c.last ∷ c.others)
-    same = reserve-first bs c.last c.others (length before) closer.left
-
 pub closer-goes : (before after : List Item) (l new : Listed) (bs : List ℕ) (place : ℕ) (closer : Run) → Closing before l bs place closer → openers_of after ≡ openers_of before →
     new.entries ≡ without_place place l.entries → new.next ≡ l.next → new.looks ≡ l.looks →
-    Ready after new bs × (spent new bs ≤ spent l bs) × (new.looks ≡ l.looks)
+    Ready after new bs × ((kinds : ℕ) → spent kinds new bs ≤ spent kinds l bs) × (new.looks ≡ l.looks)
 closer-goes before after l new bs place closer c h e m k = (
   record {
     stands = ap places_of now ∙ c.stands ∙ sym h;
@@ -353,7 +356,7 @@ closer-goes before after l new bs place closer c h e m k = (
     low = λ j. (let q : get_or bs j 0 ≤ place = c.low j in omega (arith, q, c.under, m));
     sound = subst (AreSound bs) (sym now) c.sound;
   },
-  omega (arith, ap (reserve bs) now, ap characters now, ap (reserve bs) c.whole, ap characters c.whole, k, reserve-remove bs [] (c.last ∷ []) c.others, characters-cons c.last c.others),
+  λ kinds. omega (arith, ap (reserve (take kinds bs)) now, ap characters now, ap (reserve (take kinds bs)) c.whole, ap characters c.whole, k, reserve-remove (take kinds bs) [] (c.last ∷ []) c.others, characters-cons c.last c.others),
   k,
 )
   where
@@ -364,15 +367,12 @@ closer-goes before after l new bs place closer c h e m k = (
 pub closing-there : (l : Listed) (bs : List ℕ) (place : ℕ) (closer : Run) → IsClosing l bs place closer → first_place l.entries ≡ Some place
 closing-there l bs place closer c = ap first_place c.1.whole ∙ ap Some c.1.place_is
 
-pub closing-ordered : (l : Listed) (bs : List ℕ) (place : ℕ) (closer : Run) → IsClosing l bs place closer → Falling l.entries
-closing-ordered l bs place closer c = subst Falling (sym c.1.whole) c.1.falling
-
 reserve-length : (bs : List ℕ) (es : List Entry) → length es ≤ reserve bs es
 unfolding reserve
 reserve-length bs es = omega arith
 
-pub spent-few : (l : Listed) (bs : List ℕ) (n : ℕ) → spent l bs < n → l.looks + length l.entries < n
-spent-few l bs n h = omega (arith, h, reserve-length bs l.entries)
+pub spent-few : (kinds : ℕ) (l : Listed) (bs : List ℕ) (n : ℕ) → spent kinds l bs < n → l.looks + length l.entries < n
+spent-few kinds l bs n h = omega (arith, h, reserve-length (take kinds bs) l.entries)
 
 pub marked : (m : Marker) → (byte_of m ≡ 42) ⊎ (byte_of m ≡ 95) ⊎ (byte_of m ≡ 126)
 marked Marker.Star = inl refl
@@ -380,7 +380,7 @@ marked Marker.Underscore = inr (inl refl)
 marked Marker.Tilde = inr (inr refl)
 
 pub closer-finishes : (before : List Item) (l new : Listed) (bs : List ℕ) (place : ℕ) (closer : Run) → Closing before l bs place closer → closer.opens ≡ false →
-    new.entries ≡ without_place place l.entries → new.next ≡ l.next → new.looks ≡ l.looks → Ready (Delimiters closer ∷ before) new bs × (spent new bs ≤ spent l bs) × (new.looks ≡ l.looks)
+    new.entries ≡ without_place place l.entries → new.next ≡ l.next → new.looks ≡ l.looks → Ready (Delimiters closer ∷ before) new bs × ((kinds : ℕ) → spent kinds new bs ≤ spent kinds l bs) × (new.looks ≡ l.looks)
 unfolding openers_of
 closer-finishes before l new bs place closer c h e m k =
     closer-goes before (Delimiters closer ∷ before) l new bs place closer c (cond-false closer.opens ((length before, closer) ∷ openers_of before) (openers_of before) h) e m k
@@ -390,12 +390,12 @@ pub spends-some : (l new : Listed) (bs : List ℕ) (o : Entry) (rest : Option De
     new.entries ≡ leave o.place o.item r.left l.entries → new.next ≡ l.next → new.looks ≡ l.looks → Spends l bs new bs o (rest_of rest)
 spends-some l new bs o rest r is fewer e m k before place closer n i w fits =
     let f : (run_of r ≡ cut r.left o.run) × (r.left < o.run.left) = subst (λ x. IfSome x (λ x. (run_of x ≡ cut x.left o.run) × (x.left < o.run.left))) is fewer in
-    let s : Closing (Finished i ∷ Delimiters (cut r.left o.run) ∷ w.items) new bs place (cut n closer) × (spent new bs + 1 ≤ spent l bs) = opener-stays before l new bs place closer o r.left n i w f.1 fits e m k in
+    let s : Closing (Finished i ∷ Delimiters (cut r.left o.run) ∷ w.items) new bs place (cut n closer) × ((kinds : ℕ) → spent kinds new bs + 1 ≤ spent kinds l bs) = opener-stays before l new bs place closer o r.left n i w f.1 fits e m k in
     (subst (λ x. Closing (Finished i ∷ (rest_of x ++ w.items)) new bs place (cut n closer)) (sym is) (subst (λ x. Closing (Finished i ∷ Delimiters x ∷ w.items) new bs place (cut n closer)) (sym f.0) s.0), s.1, k)
 
 pub spends-none : (l new : Listed) (bs : List ℕ) (o : Entry) (rest : Option DelimiterRun) → rest ≡ None → new.entries ≡ without_place o.place l.entries → new.next ≡ l.next → new.looks ≡ l.looks → Spends l bs new bs o (rest_of rest)
 spends-none l new bs o rest is e m k before place closer n i w fits =
-    let s : Closing (Finished i ∷ w.items) new bs place (cut n closer) × (spent new bs + 1 ≤ spent l bs) = opener-goes before l new bs place closer o n i w fits e m k in
+    let s : Closing (Finished i ∷ w.items) new bs place (cut n closer) × ((kinds : ℕ) → spent kinds new bs + 1 ≤ spent kinds l bs) = opener-goes before l new bs place closer o n i w fits e m k in
     (subst (λ x. Closing (Finished i ∷ (rest_of x ++ w.items)) new bs place (cut n closer)) (sym is) s.0, s.1, k)
 
 -- a search in vain, and one that found an opener
@@ -405,7 +405,7 @@ pub fails : (l new : Listed) (bs after : List ℕ) (place : ℕ) (closer : Run) 
 fails l new bs after place closer found m h is f a e n k before c =
     let g : find_opener closer (get_or bs (kind closer) 0) (after_place place l.entries) ≡ None = subst (λ o. MayBeEntry o (find_opener closer (get_or bs (kind closer) 0) (after_place place l.entries))) is f in
     let b : after ≡ set bs (kind closer) place = a ∙ ap (λ o. bottoms_after o (kind closer) place bs) is in
-    subst (λ x. Closing before new x place closer × (nearest_opener closer before [] ≡ None) × (spent new x ≤ spent l bs) × (l.looks ≤ new.looks)) (sym b) (search-fails before l new bs place closer m h c g e n k)
+    subst (λ x. Closing before new x place closer × (nearest_opener closer before [] ≡ None) × ((kinds : ℕ) → kind closer < kinds → spent kinds new x ≤ spent kinds l bs) × (l.looks ≤ new.looks)) (sym b) (search-fails before l new bs place closer m h c g e n k)
 
 pub finds-listed : (l : Listed) (bs : List ℕ) (place : ℕ) (closer : Run) (found : Option Delimiter) (d : Delimiter) → IsClosing l bs place closer → found ≡ Some d →
     MayBeEntry found (find_opener closer (get_or bs (kind closer) 0) (after_place place l.entries)) → is_listed d.place (after_place place l.entries) ≡ true
@@ -419,12 +419,5 @@ pub finds : (l mid new : Listed) (bs after : List ℕ) (place : ℕ) (closer : R
 finds l mid new bs after place closer found d is f a e n k e2 k2 n2 before c =
     let g : find_opener closer (get_or bs (kind closer) 0) (after_place place l.entries) ≡ Some (entry_of d) = subst (λ o. MayBeEntry o (find_opener closer (get_or bs (kind closer) 0) (after_place place l.entries))) is f in
     let b : after ≡ bs = a ∙ ap (λ o. bottoms_after o (kind closer) place bs) is in
-    subst (λ x. Open before new x place closer (entry_of d) × (spent new x ≤ spent l bs + 1) × (l.looks + 1 ≤ new.looks)) (sym b)
+    subst (λ x. Open before new x place closer (entry_of d) × ((kinds : ℕ) → spent kinds new x ≤ spent kinds l bs + 1) × (l.looks + 1 ≤ new.looks)) (sym b)
     (search-opens before l new bs place closer (entry_of d) c g (e2 ∙ ap (between_gone d.place) e) (n2 ∙ n) (k2 ∙ k))
-
--- fourteen looks for each character, where no run is empty
-pub fourteen : (runs : List Run) → All (λ r. 1 ≤ r.left) runs → sum_by (λ (r : Run). 13 + r.left) runs ≤ 14 * sum_by (λ (r : Run). r.left) runs
-fourteen [] h = omega arith
-fourteen (r ∷ runs) h =
-    let one : 1 ≤ r.left = h 0 r (omega arith) in
-    omega (arith, one, sum_by-cons (λ (r : Run). 13 + r.left) r runs, sum_by-cons (λ (r : Run). r.left) r runs, fourteen runs (λ k d p. h (suc k) d (omega (arith, p))))

@@ -2,25 +2,29 @@
 use Rattle.std.proofs.Common.{◌≡◌, ◌≢◌, ◌⊎◌, inl, inr, ℕ, zero, suc, ◌+◌, ◌-◌, ◌<◌, ◌≤◌, Bool, true, false, cond, nat_le, List, [], ◌∷◌, ◌++◌, length, reverse, take, drop, get_or, Option, Some, None, refl, sym, ap, subst, ◌∙◌, arith, append_assoc, append-nil, length-append}
 use Rattle.std.specs.Prelude.{IfSome}
 use Rattle.std.proofs.lemmas.List.{take-map, drop-map, map-append, length-map, length-reverse, reverse-append, reverse-reverse}
+use Rattle.std.specs.List.{list_any}
+use Rattle.std.proofs.lemmas.Bool.{or_parts}
 use Rattle.std.proofs.lemmas.List.Sums.{sum_by-append, sum_by-cons}
 use Rattle.std.proofs.Math.Seq.{take-append_seam, drop-append-add}
 use Rattle.cm_tree.specs.declared.tree.Inline.{Inline}
 use Rattle.cm_scan.specs.Delimiters.{Run}
-use Rattle.cm_scan.specs.Pairing.{Item, Finished, Delimiters, Opened, nearest_opener, without, used, emphasised, settled}
+use Rattle.cm_scan.specs.Pairing.{Item, Finished, Delimiters, Opened, nearest_opener, pair_leftmost, pair_all, without, used, emphasised, settled}
 use Rattle.cm_scan.specs.OnePass.{up_to_pair, closer_left, closed_by, passed, pass_from}
-use Rattle.cm_scan.proofs.PairingLemmas.{nearest-splits}
+use Rattle.cm_scan.proofs.PairingLemmas.{nearest-splits, leftmost-no_closer, pair_all-stop}
 use Rattle.cm_scan.proofs.OnePassLemmas.{closed_by-none, closed_by-gone, closed_by-more}
 use Rattle.cm_inline.specs.declared.nodes.Node as node
 use Rattle.cm_inline.specs.declared.nodes.Node.{Node}
 use Rattle.cm_inline.specs.declared.runs.DelimiterRun.{DelimiterRun}
 use Rattle.cm_inline.specs.declared.delimiters.Delimiter.{Delimiter}
-use Rattle.cm_inline.specs.steps.Entries.{Entry, Listed, is_listed, reserve, Below, Falling}
+use Rattle.cm_inline.specs.steps.Entries.{Entry, Listed, above, is_listed, reserve, Below, Falling}
 use Rattle.cm_inline.specs.steps.Searching.{NoneBeneath, kind, openers_of, places_of, characters}
 use Rattle.cm_inline.specs.steps.Openers.{zeros, spent, cut, Ready, Closing, Open, Opens, Spends, Finishes}
 use Rattle.cm_inline.specs.steps.Runs.{run_of, entry_of, rest_of}
-use Rattle.cm_inline.specs.steps.Nodes.{item_of, items_of, rest_in, IsPart, AreParts}
-use Rattle.cm_inline.specs.steps.Pairs.{Adds, allowed, allowance}
+use Rattle.cm_inline.specs.steps.Nodes.{item_of, items_of, is_closer, rest_in, IsPart, AreParts}
+use Rattle.cm_inline.specs.steps.Pairs.{Adds, AreOf, allowed, allowance, item_emphases, items_emphases}
 use Rattle.cm_inline.proofs.BetweenLemmas.{between-closer}
+use Rattle.cm_inline.proofs.BottomLemmas.{kind-small}
+use Rattle.cm_inline.proofs.EmphasisLemmas.{both-hold, reversed-hold, pair-holds}
 use Rattle.cm_inline.proofs.OpenerLemmas.{closing-there, listed-split}
 
 -- what a run that closes comes to
@@ -39,6 +43,23 @@ pass-stays before closer (inr h) = go closer.closes refl
     go : (b : Bool) → closer.closes ≡ b → passed before (Delimiters closer) ≡ Delimiters closer ∷ before
     go true e = pass-closer before closer e ∙ closed_by-none before closer h
     go false e = pass-other before closer e
+
+-- where no run closes nothing pairs
+
+none-pairs : (source : List ℕ) (nodes : List Node) (before : List Item) → list_any is_closer nodes ≡ false → pair_leftmost before (items_of source nodes) ≡ None
+unfolding pair_leftmost
+none-pairs source [] before e = refl
+none-pairs source (node.TheVariants.Piece from to ∷ nodes) before e = none-pairs source nodes (item_of source (node.TheVariants.Piece from to) ∷ before) e
+none-pairs source (node.TheVariants.Characters chars ∷ nodes) before e = none-pairs source nodes (item_of source (node.TheVariants.Characters chars) ∷ before) e
+none-pairs source (node.TheVariants.Finished inline depth false ∷ nodes) before e = none-pairs source nodes (item_of source (node.TheVariants.Finished inline depth false) ∷ before) e
+none-pairs source (node.TheVariants.Finished inline depth true ∷ nodes) before e = none-pairs source nodes (item_of source (node.TheVariants.Finished inline depth true) ∷ before) e
+none-pairs source (node.TheVariants.Run run ∷ nodes) before e =
+    let parts = or_parts run.closes (list_any is_closer nodes) e in
+    leftmost-no_closer (run_of run) before (items_of source nodes) parts.0 ∙ none-pairs source nodes (Delimiters (run_of run) ∷ before) parts.1
+none-pairs source (node.TheVariants.Opener image behind ∷ nodes) before e = none-pairs source nodes (item_of source (node.TheVariants.Opener image behind) ∷ before) e
+
+pub no-pairs : (source : List ℕ) (nodes : List Node) → list_any is_closer nodes ≡ false → pair_all (items_of source nodes) ≡ items_of source nodes
+no-pairs source nodes e = pair_all-stop (items_of source nodes) (none-pairs source nodes [] e)
 
 abbrev first_run : Run → List Item → Run
 first_run run (Delimiters r ∷ items) = r
@@ -116,7 +137,8 @@ opened_at source nodes opener = record { before = items_of source (take opener.i
 -- a pair of the closer and its opener
 pub record Paired (source : List ℕ) (nodes more : List Node) (l new : Listed) (bs bs2 : List ℕ) (place : ℕ) (closer : DelimiterRun) (opener : Delimiter) (left : ℕ) : Type 0 where
   pub closing : Closing (reverse (items_of source more)) new bs2 place (cut left (run_of closer))
-  pub paid : spent new bs2 ≤ spent l bs
+  pub paid : (kinds : ℕ) → spent kinds new bs2 ≤ spent kinds l bs
+  pub made : l.looks + items_emphases (items_of source more) ≤ new.looks + items_emphases (items_of source nodes)
   pub nearest : nearest_opener (run_of closer) (reverse (items_of source nodes)) [] ≡ Some (opened_at source nodes opener)
 
 pub pair-law : (source : List ℕ) (nodes more : List Node) (l mid new : Listed) (bs bs1 bs2 : List ℕ) (place : ℕ) (closer : DelimiterRun) (opener : Delimiter) (left : ℕ)
@@ -124,9 +146,9 @@ pub pair-law : (source : List ℕ) (nodes more : List Node) (l mid new : Listed)
     → Spends mid bs1 new bs2 (entry_of opener) (without (used (run_of opener.run) (run_of closer)) (run_of opener.run)) → left ≤ closer.left → Paired source nodes more l new bs bs2 place closer opener left
 pair-law source nodes more l mid new bs bs1 bs2 place closer opener left c os made sp fits = record {
   closing = subst (λ b. Closing b new bs2 place (cut left (run_of closer))) (sym turned) s.0;
-  paid = omega (arith, s.1, t.1);
-  nearest = t.0.nearest ∙ ap (λ v. Some (record { before = v; opener = run_of opener.run; inside = reverse t.0.inside })) (sym a.front)
-      ∙ ap (λ v. Some (record { before = items_of source (take opener.item nodes); opener = run_of opener.run; inside = v })) (sym a.back);
+  paid = λ kinds. omega (arith, s.1 kinds, t.1 kinds);
+  made = omega (arith, t.2, s.2, ap items_emphases made, pair-holds (reverse (items_of source nodes)) (run_of closer) (opened_at source nodes opener) near, reversed-hold (items_of source nodes));
+  nearest = near;
 }
   where
     n : ℕ
@@ -135,13 +157,17 @@ pair-law source nodes more l mid new bs bs1 bs2 place closer opener left c os ma
     e : Inline
     e = emphasised (run_of closer).character n (settled (items_of source (drop (suc opener.item) nodes)))
 
-    t : Open (reverse (items_of source nodes)) mid bs1 place (run_of closer) (entry_of opener) × (spent mid bs1 ≤ spent l bs + 1) × (l.looks + 1 ≤ mid.looks)
+    t : Open (reverse (items_of source nodes)) mid bs1 place (run_of closer) (entry_of opener) × ((kinds : ℕ) → spent kinds mid bs1 ≤ spent kinds l bs + 1) × (l.looks + 1 ≤ mid.looks)
     t = os (reverse (items_of source nodes)) c
 
     a : At source nodes opener.item t.0.items t.0.inside
     a = nodes-at source nodes mid bs1 place (run_of closer) (entry_of opener) t.0
 
-    s : Closing (Finished e ∷ (without n (run_of opener.run) ++ t.0.items)) new bs2 place (cut left (run_of closer)) × (spent new bs2 + 1 ≤ spent mid bs1) × (new.looks ≡ mid.looks)
+    near : nearest_opener (run_of closer) (reverse (items_of source nodes)) [] ≡ Some (opened_at source nodes opener)
+    near = t.0.nearest ∙ ap (λ v. Some (record { before = v; opener = run_of opener.run; inside = reverse t.0.inside })) (sym a.front)
+        ∙ ap (λ v. Some (record { before = items_of source (take opener.item nodes); opener = run_of opener.run; inside = v })) (sym a.back)
+
+    s : Closing (Finished e ∷ (without n (run_of opener.run) ++ t.0.items)) new bs2 place (cut left (run_of closer)) × ((kinds : ℕ) → spent kinds new bs2 + 1 ≤ spent kinds mid bs1) × (new.looks ≡ mid.looks)
     s = sp (reverse (items_of source nodes)) place (run_of closer) left e t.0 fits
 
     turned : reverse (items_of source more) ≡ Finished e ∷ (without n (run_of opener.run) ++ t.0.items)
@@ -193,20 +219,27 @@ closer-there before l bs place closer w = between-closer place l.entries (closin
 pub goes-on : (o : Option DelimiterRun) (r closer : DelimiterRun) → o ≡ Some r → IfSome o (λ x. (run_of x ≡ cut x.left (run_of closer)) × (x.left < closer.left)) → (run_of r ≡ cut r.left (run_of closer)) × (r.left < closer.left)
 goes-on o r closer is f = subst (λ x. IfSome x (λ x. (run_of x ≡ cut x.left (run_of closer)) × (x.left < closer.left))) is f
 
+-- what is left of a run is of its kind
+pub cut-kind : (left : ℕ) (run : Run) → kind (cut left run) ≡ kind run
+unfolding kind
+cut-kind left run = refl
+
 pub add-end : (source : List ℕ) (old nodes more : List Node) (l mid new : Listed) (bs bs1 bs2 : List ℕ) (place item : ℕ) (closer run : DelimiterRun) → length nodes ≡ item → more ≡ nodes ++ node.TheVariants.Run closer ∷ []
-    → Closing (reverse (items_of source nodes)) mid bs1 place (run_of closer) → spent mid bs1 ≤ spent l bs + (14 + run.left) → Finishes mid bs1 new bs2 place (run_of closer) item
+    → Closing (reverse (items_of source nodes)) mid bs1 place (run_of closer) → ((kinds : ℕ) → kind (run_of run) < kinds → spent kinds mid bs1 ≤ spent kinds l bs + (kinds + 1 + run.left))
+    → l.looks + items_emphases (items_of source nodes) ≤ mid.looks + items_emphases (items_of source old) → Finishes mid bs1 new bs2 place (run_of closer) item
     → ((closer.closes ≡ false) ⊎ (nearest_opener (run_of closer) (reverse (items_of source nodes)) [] ≡ None))
     → passed (reverse (items_of source nodes)) (Delimiters (run_of closer)) ≡ passed (reverse (items_of source old)) (Delimiters (run_of run)) → Adds source old l bs more new bs2 (run_of run)
-add-end source old nodes more l mid new bs bs1 bs2 place item closer run n e c s f stop p = record {
+add-end source old nodes more l mid new bs bs1 bs2 place item closer run n e c s h f stop p = record {
   ready = subst (λ v. Ready v new bs2) (sym turned) r.0;
-  paid = omega (arith, r.1, s);
+  paid = λ kinds known. omega (arith, r.1 kinds, s kinds known);
+  made = omega (arith, r.2, h, ap (λ t. items_emphases (items_of source t)) e, ap items_emphases (map-append (item_of source) nodes (node.TheVariants.Run closer ∷ [])), both-hold (items_of source nodes) (Delimiters (run_of closer) ∷ []));
   passes = turned ∙ sym (pass-stays (reverse (items_of source nodes)) (run_of closer) stop) ∙ p;
 }
   where
     turned : reverse (items_of source more) ≡ Delimiters (run_of closer) ∷ reverse (items_of source nodes)
     turned = ap (λ l. reverse (items_of source l)) e ∙ last-item source nodes (node.TheVariants.Run closer)
 
-    r : Ready (Delimiters (run_of closer) ∷ reverse (items_of source nodes)) new bs2 × (spent new bs2 ≤ spent mid bs1) × (new.looks ≡ mid.looks)
+    r : Ready (Delimiters (run_of closer) ∷ reverse (items_of source nodes)) new bs2 × ((kinds : ℕ) → spent kinds new bs2 ≤ spent kinds mid bs1) × (new.looks ≡ mid.looks)
     r = f (reverse (items_of source nodes)) (length-reverse (items_of source nodes) ∙ length-map nodes (item_of source) ∙ n) c
 
 -- the pass over all nodes
@@ -220,8 +253,13 @@ zero-at k [] z = omega arith
 zero-at zero (b ∷ bs) z = let q : b ≡ 0 = z.0 in omega (arith, q)
 zero-at (suc k) (b ∷ bs) z = zero-at k bs z.1
 
-pub ready-none : (l : Listed) → l.entries ≡ [] → Ready [] l zeros × (spent l zeros ≤ l.looks)
-unfolding openers_of reserve
+no-looks : (bottoms : List ℕ) → reserve bottoms [] ≡ 0
+unfolding reserve
+no-looks [] = refl
+no-looks (b ∷ bottoms) = omega (arith, sum_by-cons (λ (n : ℕ). above n []) b bottoms, no-looks bottoms)
+
+pub ready-none : (l : Listed) → l.entries ≡ [] → Ready [] l zeros × ((kinds : ℕ) → spent kinds l zeros ≤ l.looks)
+unfolding openers_of
 ready-none l e = (
   record {
     stands = ap places_of e;
@@ -231,14 +269,42 @@ ready-none l e = (
     low = λ j. (let q : get_or zeros j 0 ≤ 0 = zero-at j zeros (refl, (refl, (refl, (refl, (refl, (refl, (refl, (refl, (refl, (refl, (refl, (refl, (refl, tt))))))))))))) in omega (arith, q));
     sound = λ c m h. subst (NoneBeneath c (get_or zeros (kind c) 0)) (sym e) tt;
   },
-  omega (arith, ap (reserve zeros) e, ap characters e),
+  λ kinds. omega (arith, ap (reserve (take kinds zeros)) e, no-looks (take kinds zeros), ap characters e),
 )
 
-pub allowance-more : (source : List ℕ) (nodes : List Node) (x : Node) → allowance (items_of source (nodes ++ x ∷ [])) ≡ allowance (items_of source nodes) + allowed (item_of source x)
-allowance-more source nodes x = ap allowance (map-append (item_of source) nodes (x ∷ [])) ∙ sum_by-append allowed (items_of source nodes) (item_of source x ∷ []) ∙ omega (arith, sum_by-cons allowed (item_of source x) [])
+pub allowance-both : (kinds : ℕ) (items more : List Item) → allowance kinds (items ++ more) ≡ allowance kinds items + allowance kinds more
+allowance-both kinds items more = sum_by-append (allowed kinds) items more
 
-pub allowance-split : (source : List ℕ) (done rest : List Node) → allowance (items_of source (done ++ rest)) ≡ allowance (items_of source done) + allowance (items_of source rest)
-allowance-split source done rest = ap allowance (map-append (item_of source) done rest) ∙ sum_by-append allowed (items_of source done) (items_of source rest)
+pub allowance-one : (kinds : ℕ) (item : Item) → allowance kinds (item ∷ []) ≡ allowed kinds item
+allowance-one kinds item = omega (arith, sum_by-cons (allowed kinds) item [])
+
+pub allowance-more : (kinds : ℕ) (source : List ℕ) (nodes : List Node) (x : Node) → allowance kinds (items_of source (nodes ++ x ∷ [])) ≡ allowance kinds (items_of source nodes) + allowed kinds (item_of source x)
+allowance-more kinds source nodes x = ap (allowance kinds) (map-append (item_of source) nodes (x ∷ [])) ∙ allowance-both kinds (items_of source nodes) (item_of source x ∷ []) ∙ ap (λ n. allowance kinds (items_of source nodes) + n) (allowance-one kinds (item_of source x))
+
+pub allowance-split : (kinds : ℕ) (source : List ℕ) (done rest : List Node) → allowance kinds (items_of source (done ++ rest)) ≡ allowance kinds (items_of source done) + allowance kinds (items_of source rest)
+allowance-split kinds source done rest = ap (allowance kinds) (map-append (item_of source) done rest) ∙ allowance-both kinds (items_of source done) (items_of source rest)
+
+pub emphases-more : (source : List ℕ) (nodes : List Node) (x : Node) → items_emphases (items_of source (nodes ++ x ∷ [])) ≡ items_emphases (items_of source nodes) + item_emphases (item_of source x)
+emphases-more source nodes x = omega (arith, ap items_emphases (map-append (item_of source) nodes (x ∷ [])), both-hold (items_of source nodes) (item_of source x ∷ []))
+
+-- runs of the first so many kinds
+
+pub of-append : (kinds : ℕ) (items more : List Item) → AreOf kinds items → AreOf kinds more → AreOf kinds (items ++ more)
+of-append kinds [] more is others = others
+of-append kinds (item ∷ items) more is others = (is.0, of-append kinds items more is.1 others)
+
+pub of-split : (kinds : ℕ) (items more : List Item) → AreOf kinds (items ++ more) → AreOf kinds items × AreOf kinds more
+of-split kinds [] more is = (tt, is)
+of-split kinds (item ∷ items) more is = let rest = of-split kinds items more is.1 in ((is.0, rest.0), rest.1)
+
+-- there are thirteen
+pub of-thirteen : (items : List Item) → AreOf 13 items
+of-thirteen [] = tt
+of-thirteen (Item.Characters text ∷ items) = (tt, of-thirteen items)
+of-thirteen (Finished inline ∷ items) = (tt, of-thirteen items)
+of-thirteen (Item.Linked inline ∷ items) = (tt, of-thirteen items)
+of-thirteen (Delimiters run ∷ items) = (kind-small run, of-thirteen items)
+of-thirteen (Item.Opener image behind ∷ items) = (tt, of-thirteen items)
 
 -- other nodes pair with nothing, and open for nothing
 same-openers : (source : List ℕ) (before : List Item) (x : Node) → ((r : DelimiterRun) → x ≢ node.TheVariants.Run r) → openers_of (item_of source x ∷ before) ≡ openers_of before

@@ -21,14 +21,16 @@ use Rattle.cm_inline.specs.declared.links.LinkEnd.{LinkEnd}
 use Rattle.cm_inline.specs.declared.nodes.Node.{Node}
 use Rattle.cm_inline.specs.declared.nodes.Node.TheVariants.{Piece, Characters, Finished, Run, Opener}
 use Rattle.cm_inline.specs.steps.Nodes.{item_of, items_of, text_between, IsPart, IsOpener, AreParts}
-use Rattle.cm_inline.specs.steps.Pairs.{allowed, allowance}
+use Rattle.cm_inline.specs.Emphases.{emphases}
+use Rattle.cm_inline.specs.steps.Pairs.{AreLooks, Keeps, allowance}
 use Rattle.cm_inline.specs.steps.Links.{ends_of}
 use Rattle.cm_inline.specs.steps.Depths.{items_depth}
 use Rattle.cm_inline.specs.steps.Missing.{Knows}
 use Rattle.cm_inline.specs.steps.Reads.{Stands, atom_in, item_for, IsAtom}
 use Rattle.cm_inline.specs.steps.Brackets.{bracket_in, brackets_from, AreBefore, LinksEnd, IsRead, outside_of, inside_of, link_of, link_made, left_as_text, closed_at, end_for}
 use Rattle.cm_inline.proofs.BracketLemmas.{Split, split-last, brackets-append, outside-is, inside-is, link-behind, closes-opener, closed_or}
-use Rattle.cm_inline.proofs.PairLemmas.{parts-append, part-behind, allowance-split, allowance-more}
+use Rattle.cm_inline.proofs.KeepsLemmas.{keeps-link, keeps-text}
+use Rattle.cm_inline.proofs.PairLemmas.{parts-append, part-behind, allowance-both}
 use Rattle.cm_inline.proofs.DeeperLemmas.{both, link-depth, image-depth, made-depth}
 use Rattle.cm_inline.proofs.SliceLemmas.{one-slice}
 
@@ -214,16 +216,9 @@ module _ (source : List ℕ) (nodes : List Node) (others : List Bracket) (b : Br
       ∙ brackets-append 0 w.front (opener ∷ w.inside)
       ∙ ap (λ n. brackets_from 0 w.front ++ brackets_from (suc n) w.inside) place ∙ ap (λ t. brackets_from 0 w.front ++ t) w.inner ∙ append-nil (brackets_from 0 w.front) ∙ w.outer
 
-  text-allowance : allowance (items_of source (with_text nodes b at)) ≡ allowance (items_of source nodes)
-  text-allowance =
-      let one = ap (λ t. allowance (items_of source t)) text-nodes ∙ allowance-more source (w.front ++ opener ∷ w.inside) closer in
-      let two = allowance-split source w.front (opener ∷ w.inside) in
-      let three = ap (λ t. allowance (items_of source t)) w.whole ∙ allowance-split source w.front (Opener b.image b.behind ∷ w.inside) in
-      omega (arith, one, two, three)
-
-pub text-read : (source : List ℕ) (nodes : List Node) (others : List Bracket) (b : Bracket) (at links_end looks : ℕ) (ends : Ends) → IsUtf8 source → Stands source at 93 → IsRead source at nodes (others ++ b ∷ []) links_end looks ends
-    → IsRead source (at + 1) (with_text nodes b at) others links_end looks ends
-text-read source nodes others b at links_end looks ends utf8 s r =
+pub text-read : (source : List ℕ) (nodes : List Node) (others : List Bracket) (b : Bracket) (at links_end : ℕ) (ends : Ends) → IsUtf8 source → Stands source at 93 → IsRead source at nodes (others ++ b ∷ []) links_end ends
+    → IsRead source (at + 1) (with_text nodes b at) others links_end ends
+text-read source nodes others b at links_end ends utf8 s r =
     let w = split-last 0 nodes others b r.unclosed in
     let n = text-nodes source nodes others b w at in
     record {
@@ -232,7 +227,6 @@ text-read source nodes others b at links_end looks ends utf8 s r =
       before = before-later at (at + 1) others (omega arith) (before-split at others (b ∷ []) r.before).0;
       links = subst (λ t. LinksEnd source t links_end) (sym n) (links-more source (w.front ++ opener source nodes others b w at ∷ w.inside) (Piece at (at + 1)) links_end refl
           (links-in-place source w.front w.inside (Opener b.image b.behind) (opener source nodes others b w at) links_end refl (subst (λ t. LinksEnd source t links_end) w.whole r.links)));
-      paid = omega (arith, r.paid, text-allowance source nodes others b w at);
       knows = r.knows;
       within = (behind-closer source nodes others b w at utf8 s).0;
       boundary = behind-closer source nodes others b w at utf8 s;
@@ -240,25 +234,20 @@ text-read source nodes others b at links_end looks ends utf8 s r =
 
 -- a link or an image
 
-pub link-read : (source : List ℕ) (nodes more : List Node) (others : List Bracket) (b : Bracket) (made : Node) (at links_end end looks later : ℕ) (ends : Ends) → IsRead source at nodes (others ++ b ∷ []) links_end looks ends
-    → more ≡ take b.node nodes ++ made ∷ [] → IsPart source made → bracket_in (length (take b.node nodes) + 0) made ≡ [] → allowed (item_of source made) ≡ 0 → later ≤ looks + allowance (inside_of source nodes b)
-    → LinksEnd source (take b.node nodes ++ made ∷ []) end → IsRead source at more others end later ends
+pub link-read : (source : List ℕ) (nodes more : List Node) (others : List Bracket) (b : Bracket) (made : Node) (at links_end end : ℕ) (ends : Ends) → IsRead source at nodes (others ++ b ∷ []) links_end ends
+    → more ≡ take b.node nodes ++ made ∷ [] → IsPart source made → bracket_in (length (take b.node nodes) + 0) made ≡ []
+    → LinksEnd source (take b.node nodes ++ made ∷ []) end → IsRead source at more others end ends
 unfolding brackets_from
-link-read source nodes more others b made at links_end end looks later ends r is part none free paid links =
+link-read source nodes more others b made at links_end end ends r is part none links =
     let w = split-last 0 nodes others b r.unclosed in
     let o = outside-is source nodes others b w in
     let both = parts-split source w.front (Opener b.image b.behind ∷ w.inside) (subst (AreParts source) w.whole r.parts) in
     let front = take b.node nodes in
-    let split = ap (λ t. allowance (items_of source t)) w.whole ∙ allowance-split source w.front (Opener b.image b.behind ∷ w.inside) in
-    let inner : allowance (inside_of source nodes b) ≡ allowance (items_of source w.inside) = ap (λ t. allowance (items_of source t)) (inside-is source nodes others b w) in
-    let whole = ap (λ t. allowance (items_of source t)) is ∙ allowance-more source front made in
-    let outer : allowance (items_of source front) ≡ allowance (items_of source w.front) = ap (λ t. allowance (items_of source t)) o in
     record {
       parts = subst (AreParts source) (sym is) (parts-append source front (made ∷ []) (subst (AreParts source) (sym o) both.0) (part, tt));
       unclosed = ap (brackets_from 0) is ∙ brackets-append 0 front (made ∷ []) ∙ ap (λ t. brackets_from 0 front ++ (t ++ [])) none ∙ append-nil (brackets_from 0 front) ∙ ap (brackets_from 0) o ∙ w.outer;
       before = (before-split at others (b ∷ []) r.before).0;
       links = subst (λ t. LinksEnd source t end) (sym is) links;
-      paid = omega (arith, r.paid, paid, split, inner, whole, outer, free);
       knows = r.knows;
       within = r.within;
       boundary = r.boundary;
@@ -272,14 +261,13 @@ links-before source nodes others b links_end w links none =
     subst (λ t. LinksEnd source t links_end) (sym (outside-is source nodes others b w)) (links-cut source w.front (Opener b.image b.behind ∷ w.inside) links_end inner (subst (λ t. LinksEnd source t links_end) w.whole links))
 
 -- nothing is read yet
-pub nothing-read : (source : List ℕ) (nodes : List Node) (brackets : List Bracket) (looks : ℕ) (ends : Ends) → IsUtf8 source → nodes ≡ [] → brackets ≡ [] → looks ≡ 0 → Knows source ends → IsRead source 0 nodes brackets 0 looks ends
+pub nothing-read : (source : List ℕ) (nodes : List Node) (brackets : List Bracket) (ends : Ends) → IsUtf8 source → nodes ≡ [] → brackets ≡ [] → Knows source ends → IsRead source 0 nodes brackets 0 ends
 unfolding brackets_from holds_link
-nothing-read source nodes brackets looks ends utf8 no-nodes no-brackets no-looks knows = record {
+nothing-read source nodes brackets ends utf8 no-nodes no-brackets knows = record {
   parts = subst (AreParts source) (sym no-nodes) tt;
   unclosed = ap (brackets_from 0) no-nodes ∙ sym no-brackets;
   before = subst (AreBefore 0) (sym no-brackets) tt;
   links = subst (λ t. LinksEnd source t 0) (sym no-nodes) none;
-  paid = omega (arith, no-looks, ap (λ t. allowance (items_of source t)) no-nodes);
   knows = knows;
   within = omega arith;
   boundary = IsCharBoundary-start source utf8;
@@ -301,10 +289,6 @@ linked-is : (source : List ℕ) (inline : Inline) (depth : ℕ) (holds : Bool) �
 linked-is source inline depth true = refl
 linked-is source inline depth false = refl
 
-none-allowed : (source : List ℕ) (inline : Inline) (depth : ℕ) (holds : Bool) → allowed (item_of source (Finished inline depth holds)) ≡ 0
-none-allowed source inline depth true = refl
-none-allowed source inline depth false = refl
-
 made-is : (source : List ℕ) (image : Bool) (dest title : List ℕ) (inside : List Item) (depth : ℕ) (holds : Bool) → holds ≡ (not image || holds_link inside)
     → item_of source (Finished (link_of image dest title (emphasis_of inside)) depth holds) ≡ made image dest title inside
 made-is source false dest title inside depth holds e = ap (λ h. item_of source (Finished (Link dest title (emphasis_of inside)) depth h)) e
@@ -321,8 +305,8 @@ pub record Made (source : List ℕ) (nodes more : List Node) (b : Bracket) (dest
   pub depth_is : depth ≡ inlines_depth content
   pub holds_is : holds ≡ (not b.image || nat_lt b.node links_end)
 
-module _ (source : List ℕ) (nodes more : List Node) (others : List Bracket) (b : Bracket) (dest title : List ℕ) (content : List Inline) (depth : ℕ) (holds : Bool) (at links_end looks later : ℕ) (ends : Ends)
-    (r : IsRead source at nodes (others ++ b ∷ []) links_end looks ends) (m : Made source nodes more b dest title content depth holds links_end) where
+module _ (source : List ℕ) (nodes more : List Node) (others : List Bracket) (b : Bracket) (dest title : List ℕ) (content : List Inline) (depth : ℕ) (holds : Bool) (at links_end : ℕ) (ends : Ends)
+    (r : IsRead source at nodes (others ++ b ∷ []) links_end ends) (m : Made source nodes more b dest title content depth holds links_end) where
   abbrev node : Node
   node = Finished (link_of b.image dest title content) (depth + 1) holds
 
@@ -337,16 +321,16 @@ module _ (source : List ℕ) (nodes more : List Node) (others : List Bracket) (b
   part true = image-depth dest title content ∙ ap (λ n. n + 1) (sym m.depth_is)
   part false = link-depth dest title content ∙ ap (λ n. n + 1) (sym m.depth_is)
 
-  pub read-linked : holds ≡ true → later ≤ looks + allowance (inside_of source nodes b) → IsRead source at more others (length more) later ends
-  read-linked is paid =
+  pub read-linked : holds ≡ true → IsRead source at more others (length more) ends
+  read-linked is =
       let size : length more ≡ length (take b.node nodes) + 1 = ap length m.nodes_are ∙ length-append (take b.node nodes) (node ∷ []) in
-      subst (λ n. IsRead source at more others n later ends) (sym size)
-      (link-read source nodes more others b node at links_end (length (take b.node nodes) + 1) looks later ends r m.nodes_are (part b.image) refl (none-allowed source (link_of b.image dest title content) (depth + 1) holds) paid
+      subst (λ n. IsRead source at more others n ends) (sym size)
+      (link-read source nodes more others b node at links_end (length (take b.node nodes) + 1) ends r m.nodes_are (part b.image) refl
       (links-linked source (take b.node nodes) node (linked-is source (link_of b.image dest title content) (depth + 1) holds ∙ is)))
 
-  pub read-other : holds ≡ false → later ≤ looks + allowance (inside_of source nodes b) → IsRead source at more others links_end later ends
-  read-other is paid =
-      link-read source nodes more others b node at links_end links_end looks later ends r m.nodes_are (part b.image) refl (none-allowed source (link_of b.image dest title content) (depth + 1) holds) paid
+  pub read-other : holds ≡ false → IsRead source at more others links_end ends
+  read-other is =
+      link-read source nodes more others b node at links_end links_end ends r m.nodes_are (part b.image) refl
       (links-more source (take b.node nodes) node links_end (linked-is source (link_of b.image dest title content) (depth + 1) holds ∙ is)
       (links-before source nodes others b links_end (split-last 0 nodes others b r.unclosed) r.links (right (not b.image) (nat_lt b.node links_end) (sym m.holds_is ∙ is))))
     where
@@ -360,55 +344,73 @@ link-deeper source nodes b dest title limit deep =
     let made-one = made b.image dest title (inside_of source nodes b) in
     omega (arith, deep, made-depth b.image dest title (inside_of source nodes b), both (outside_of source nodes b) (made-one ∷ []))
 
+-- the nodes up to their last bracket, it, and those behind it, as items
+items-split : (source : List ℕ) (nodes : List Node) (others : List Bracket) (b : Bracket) → Split nodes 0 others b
+    → items_of source nodes ≡ outside_of source nodes b ++ Item.Opener b.image (drop b.behind source) ∷ inside_of source nodes b
+items-split source nodes others b w =
+    ap (items_of source) w.whole ∙ map-append (item_of source) w.front (Opener b.image b.behind ∷ w.inside)
+    ∙ ap (λ t. items_of source t ++ Item.Opener b.image (drop b.behind source) ∷ items_of source w.inside) (sym (outside-is source nodes others b w))
+    ∙ ap (λ t. outside_of source nodes b ++ Item.Opener b.image (drop b.behind source) ∷ items_of source t) (sym (inside-is source nodes others b w))
+
 -- the looks for which the inside pays are among those of all nodes
-pub inside-pays : (source : List ℕ) (nodes : List Node) (others : List Bracket) (b : Bracket) → Split nodes 0 others b → allowance (inside_of source nodes b) ≤ allowance (items_of source nodes)
-inside-pays source nodes others b w =
-    let inner : allowance (inside_of source nodes b) ≡ allowance (items_of source w.inside) = ap (λ t. allowance (items_of source t)) (inside-is source nodes others b w) in
-    let split = ap (λ t. allowance (items_of source t)) w.whole ∙ allowance-split source w.front (Opener b.image b.behind ∷ w.inside) in
-    omega (arith, inner, split)
+pub inside-pays : (kinds : ℕ) (source : List ℕ) (nodes : List Node) (others : List Bracket) (b : Bracket) → Split nodes 0 others b → allowance kinds (inside_of source nodes b) ≤ allowance kinds (items_of source nodes)
+inside-pays kinds source nodes others b w =
+    let opener = Item.Opener b.image (drop b.behind source) in
+    omega (arith, ap (allowance kinds) (items-split source nodes others b w), allowance-both kinds (outside_of source nodes b) (opener ∷ inside_of source nodes b), allowance-both kinds (opener ∷ []) (inside_of source nodes b))
+
+pub made-keeps : (source : List ℕ) (nodes more : List Node) (others : List Bracket) (b : Bracket) (dest title : List ℕ) (looks later : ℕ) → Split nodes 0 others b → items_of source more ≡ link_made source nodes b dest title
+    → AreLooks looks (inside_of source nodes b) later (emphases (emphasis_of (inside_of source nodes b))) → Keeps looks (items_of source nodes) later (items_of source more)
+made-keeps source nodes more others b dest title looks later w is looked =
+    subst (λ t. Keeps looks t later (items_of source more)) (sym (items-split source nodes others b w)) (subst (Keeps looks (outside_of source nodes b ++ Item.Opener b.image (drop b.behind source) ∷ inside_of source nodes b) later) (sym is)
+    (keeps-link looks (outside_of source nodes b) (inside_of source nodes b) b.image (drop b.behind source) dest title later looked))
+
+pub text-keeps : (source : List ℕ) (nodes more : List Node) (others : List Bracket) (b : Bracket) (looks later : ℕ) → Split nodes 0 others b → items_of source more ≡ left_as_text source nodes b → later ≡ looks
+    → Keeps looks (items_of source nodes) later (items_of source more)
+text-keeps source nodes more others b looks later w is same =
+    subst (λ n. Keeps looks (items_of source nodes) n (items_of source more)) (sym same) (subst (λ t. Keeps looks t looks (items_of source more)) (sym (items-split source nodes others b w))
+    (subst (Keeps looks (outside_of source nodes b ++ Item.Opener b.image (drop b.behind source) ∷ inside_of source nodes b) looks) (sym is)
+    (keeps-text looks (outside_of source nodes b) (inside_of source nodes b) b.image (drop b.behind source) (bracket_text b.image) (93 ∷ []))))
 
 -- reading goes on at a later place
-pub read-further : (source : List ℕ) (nodes : List Node) (brackets : List Bracket) (at end links_end looks : ℕ) (ends : Ends) → at ≤ end → IsCharBoundary source end → IsRead source at nodes brackets links_end looks ends
-    → IsRead source end nodes brackets links_end looks ends
-read-further source nodes brackets at end links_end looks ends low boundary r = record {
+pub read-further : (source : List ℕ) (nodes : List Node) (brackets : List Bracket) (at end links_end : ℕ) (ends : Ends) → at ≤ end → IsCharBoundary source end → IsRead source at nodes brackets links_end ends
+    → IsRead source end nodes brackets links_end ends
+read-further source nodes brackets at end links_end ends low boundary r = record {
   parts = r.parts;
   unclosed = r.unclosed;
   before = before-later at end brackets low r.before;
   links = r.links;
-  paid = omega (arith, r.paid, low);
   knows = r.knows;
   within = boundary.0;
   boundary = boundary;
 }
 
 -- a piece of text more
-pub piece-read : (source : List ℕ) (nodes : List Node) (brackets : List Bracket) (at end links_end looks : ℕ) (ends : Ends) → at ≤ end → IsCharBoundary source end → IsRead source at nodes brackets links_end looks ends
-    → IsRead source end (nodes ++ Piece at end ∷ []) brackets links_end looks ends
+pub piece-read : (source : List ℕ) (nodes : List Node) (brackets : List Bracket) (at end links_end : ℕ) (ends : Ends) → at ≤ end → IsCharBoundary source end → IsRead source at nodes brackets links_end ends
+    → IsRead source end (nodes ++ Piece at end ∷ []) brackets links_end ends
 unfolding brackets_from
-piece-read source nodes brackets at end links_end looks ends low boundary r = record {
+piece-read source nodes brackets at end links_end ends low boundary r = record {
   parts = parts-append source nodes (Piece at end ∷ []) r.parts ((low, r.boundary, boundary), tt);
   unclosed = brackets-append 0 nodes (Piece at end ∷ []) ∙ append-nil (brackets_from 0 nodes) ∙ r.unclosed;
   before = before-later at end brackets low r.before;
   links = links-more source nodes (Piece at end) links_end refl r.links;
-  paid = omega (arith, r.paid, low, allowance-more source nodes (Piece at end));
   knows = r.knows;
   within = boundary.0;
   boundary = boundary;
 }
 
-pub text-more : (source : List ℕ) (nodes : List Node) (brackets : List Bracket) (at end links_end looks : ℕ) (ends : Ends) → at ≤ end → IsCharBoundary source end → IsRead source at nodes brackets links_end looks ends
-    → IsRead source end (nodes ++ text_between at end) brackets links_end looks ends
-text-more source nodes brackets at end links_end looks ends low boundary r = go (nat_lt at end)
+pub text-more : (source : List ℕ) (nodes : List Node) (brackets : List Bracket) (at end links_end : ℕ) (ends : Ends) → at ≤ end → IsCharBoundary source end → IsRead source at nodes brackets links_end ends
+    → IsRead source end (nodes ++ text_between at end) brackets links_end ends
+text-more source nodes brackets at end links_end ends low boundary r = go (nat_lt at end)
   where
-    go : (some : Bool) → IsRead source end (nodes ++ (if some then Piece at end ∷ [] else [])) brackets links_end looks ends
-    go true = piece-read source nodes brackets at end links_end looks ends low boundary r
-    go false = subst (λ t. IsRead source end t brackets links_end looks ends) (sym (append-nil nodes)) (read-further source nodes brackets at end links_end looks ends low boundary r)
+    go : (some : Bool) → IsRead source end (nodes ++ (if some then Piece at end ∷ [] else [])) brackets links_end ends
+    go true = piece-read source nodes brackets at end links_end ends low boundary r
+    go false = subst (λ t. IsRead source end t brackets links_end ends) (sym (append-nil nodes)) (read-further source nodes brackets at end links_end ends low boundary r)
 
 -- a `]` that closes nothing
-pub closer-read : (source : List ℕ) (nodes : List Node) (brackets : List Bracket) (at links_end looks : ℕ) (ends : Ends) → IsUtf8 source → Stands source at 93 → IsRead source at nodes brackets links_end looks ends
-    → IsRead source (at + 1) (nodes ++ Piece at (at + 1) ∷ []) brackets links_end looks ends
-closer-read source nodes brackets at links_end looks ends utf8 s r =
-    piece-read source nodes brackets at (at + 1) links_end looks ends (omega arith) (IsCharBoundary-after_ascii source at utf8 s.within (omega (arith, s.byte))) r
+pub closer-read : (source : List ℕ) (nodes : List Node) (brackets : List Bracket) (at links_end : ℕ) (ends : Ends) → IsUtf8 source → Stands source at 93 → IsRead source at nodes brackets links_end ends
+    → IsRead source (at + 1) (nodes ++ Piece at (at + 1) ∷ []) brackets links_end ends
+closer-read source nodes brackets at links_end ends utf8 s r =
+    piece-read source nodes brackets at (at + 1) links_end ends (omega arith) (IsCharBoundary-after_ascii source at utf8 s.within (omega (arith, s.byte))) r
 
 -- an atom more
 
@@ -440,10 +442,10 @@ bracket-before a source n (Finished inline depth holds) end part within e = tt
 bracket-before a source n (Run run) end part within e = tt
 bracket-before a source n (Opener image behind) end part within e = (opener-ends a source image behind end part.end.0 within e, tt)
 
-pub atom-read : (rules : Rules) (source : List ℕ) (nodes : List Node) (brackets : List Bracket) (at : ℕ) (node : Node) (end links_end looks : ℕ) (ends later : Ends) → IsAtom rules source at node end → Knows source later
-    → IsRead source at nodes brackets links_end looks ends → IsRead source end (nodes ++ node ∷ []) (brackets ++ bracket_in (length nodes) node) links_end looks later
+pub atom-read : (rules : Rules) (source : List ℕ) (nodes : List Node) (brackets : List Bracket) (at : ℕ) (node : Node) (end links_end : ℕ) (ends later : Ends) → IsAtom rules source at node end → Knows source later
+    → IsRead source at nodes brackets links_end ends → IsRead source end (nodes ++ node ∷ []) (brackets ++ bracket_in (length nodes) node) links_end later
 unfolding brackets_from
-atom-read rules source nodes brackets at node end links_end looks ends later is knows r =
+atom-read rules source nodes brackets at node end links_end ends later is knows r =
     let low : at ≤ end = omega (arith, is.further) in
     let a = (atom_in rules source at).atom in
     let item : item_for a (drop end source) ≡ Some (item_of source node) = ap (item_for a) (sym is.rest) ∙ is.item in
@@ -453,7 +455,6 @@ atom-read rules source nodes brackets at node end links_end looks ends later is 
       unclosed = brackets-append 0 nodes (node ∷ []) ∙ ap (λ t. brackets_from 0 nodes ++ t) (append-nil (bracket_in (length nodes + 0) node)) ∙ ap (λ n. brackets_from 0 nodes ++ bracket_in n node) place ∙ ap (λ t. t ++ bracket_in (length nodes) node) r.unclosed;
       before = before-append end brackets (bracket_in (length nodes) node) (before-later at end brackets low r.before) (bracket-before a source (length nodes) node end is.part is.within item);
       links = links-more source nodes node links_end (no-link a (drop end source) (item_of source node) item) r.links;
-      paid = omega (arith, r.paid, low, is.paid, allowance-more source nodes node);
       knows = knows;
       within = is.within;
       boundary = is.boundary;
@@ -482,9 +483,9 @@ makes source nodes left front inside more b dest title inline content depth hold
 }
 
 -- what a `]` closes, once it is known what follows it
-pub closes : (defined : Defined) (source : List ℕ) (nodes : List Node) (others : List Bracket) (b : Bracket) (links_end looks at : ℕ) (ends : Ends) (found : Option LinkEnd) → IsRead source at nodes (others ++ b ∷ []) links_end looks ends
+pub closes : (defined : Defined) (source : List ℕ) (nodes : List Node) (others : List Bracket) (b : Bracket) (links_end at : ℕ) (ends : Ends) (found : Option LinkEnd) → IsRead source at nodes (others ++ b ∷ []) links_end ends
     → Stands source at 93 → ends_of source found ≡ end_for defined source b links_end at → closed_at defined source nodes at ≡ closed_or source nodes b (drop (at + 1) source) (ends_of source found)
-closes defined source nodes others b links_end looks at ends found r stands is =
+closes defined source nodes others b links_end at ends found r stands is =
     closes-opener defined source nodes others b links_end at (split-last 0 nodes others b r.unclosed) r.links (before-split at others (b ∷ []) r.before).1.0 stands.within
     ∙ ap (closed_or source nodes b (drop (at + 1) source)) (sym is)
 
@@ -497,8 +498,8 @@ none-left old new n size is = let none = none-there old size in (none, is ∙ ap
     take-none (suc n) = refl
 
 -- the same, told of the same
-pub same-read : (source : List ℕ) (at : ℕ) (nodes more : List Node) (brackets later : List Bracket) (links_end links looks count : ℕ) (ends known : Ends) → more ≡ nodes → later ≡ brackets → links ≡ links_end → count ≡ looks → known ≡ ends
-    → IsRead source at nodes brackets links_end looks ends → IsRead source at more later links count known
-same-read source at nodes more brackets later links_end links looks count ends known n b l c k r =
-    subst (λ t. IsRead source at t later links count known) (sym n) (subst (λ t. IsRead source at nodes t links count known) (sym b) (subst (λ t. IsRead source at nodes brackets t count known) (sym l)
-    (subst (λ t. IsRead source at nodes brackets links_end t known) (sym c) (subst (λ t. IsRead source at nodes brackets links_end looks t) (sym k) r))))
+pub same-read : (source : List ℕ) (at : ℕ) (nodes more : List Node) (brackets later : List Bracket) (links_end links : ℕ) (ends known : Ends) → more ≡ nodes → later ≡ brackets → links ≡ links_end → known ≡ ends
+    → IsRead source at nodes brackets links_end ends → IsRead source at more later links known
+same-read source at nodes more brackets later links_end links ends known n b l k r =
+    subst (λ t. IsRead source at t later links known) (sym n) (subst (λ t. IsRead source at nodes t links known) (sym b) (subst (λ t. IsRead source at nodes brackets t known) (sym l)
+    (subst (λ t. IsRead source at nodes brackets links_end t) (sym k) r)))

@@ -1,6 +1,6 @@
 -- The bound on looks: what a search, a removal and a push do to the looks that may still be made.
-use Rattle.std.proofs.Common.{◌≡◌, ℕ, zero, ◌+◌, ◌*◌, ◌<◌, ◌≤◌, Bool, true, false, cond, nat_le, List, [], ◌∷◌, ◌++◌, length, set, get_or, sum_by, refl, ap, arith, length-append}
-use Rattle.std.proofs.lemmas.List.Sums.{sum_by-append, sum_by-cons, sum_by-set}
+use Rattle.std.proofs.Common.{◌≡◌, ℕ, zero, ◌+◌, ◌*◌, ◌<◌, ◌≤◌, Bool, true, false, cond, nat_le, List, [], ◌∷◌, ◌++◌, length, sum_by, refl, ap, arith, length-append}
+use Rattle.std.proofs.lemmas.List.Sums.{sum_by-append, sum_by-cons}
 use Rattle.std.proofs.lemmas.Bool.{leb-true}
 use Rattle.cm_inline.specs.steps.Entries.{Entry, above, reserve, Below}
 
@@ -47,10 +47,3 @@ above-all n (e ∷ es) h = omega (arith, above-cons n e es, above-all n es h.1, 
     no_more : (b : Bool) → nat_le n e.place ≡ b → one_if (nat_le n e.place) ≡ zero
     no_more true k = let p : n ≤ e.place = leb-true n e.place k in let q : e.place < n = h.0 in absurd (omega arith)
     no_more false k = ap one_if k
-
--- a search in vain for a kind of closer pays for its looks by the new bottom
-pub reserve-raise : (bs : List ℕ) (k n : ℕ) (xs zs : List Entry) → k < length bs → Below n xs → above n zs ≤ above (get_or bs k 0) zs →
-    reserve (set bs k n) (xs ++ zs) + above (get_or bs k 0) xs ≤ reserve bs (xs ++ zs)
-unfolding reserve
-reserve-raise bs k n xs zs h p q =
-    omega (arith, sum_by-set (λ (b : ℕ). above b (xs ++ zs)) bs k n 0 h, above-append n xs zs, above-append (get_or bs k 0) xs zs, above-all n xs p)

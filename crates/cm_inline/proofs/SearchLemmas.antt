@@ -121,11 +121,6 @@ sound-below bs xs ys s c m h = beneath-front c (get_or bs (kind c) 0) xs ys (s c
 pub sound-push : (bs : List ℕ) (e : Entry) (es : List Entry) → ((k : ℕ) → get_or bs k 0 ≤ e.place) → AreSound bs es → AreSound bs (e ∷ es)
 sound-push bs e es p s c m h = ((λ q. (let r : get_or bs (kind c) 0 ≤ e.place = p (kind c) in absurd (omega (arith, r, q)))), s c m h)
 
--- the number of characters left says nothing of what an entry opens for
-pub sound-left : (bs : List ℕ) (e : Entry) (n : ℕ) (es : List Entry) → AreSound bs (e ∷ es) → AreSound bs (record e { run = record e.run { left = n } } ∷ es)
-unfolding delimiters_match
-sound-left bs e n es s c m h = ((s c m h).0, (s c m h).1)
-
 -- Entries that stand for the openers among the items.
 pub record Nearest (c : Run) (before : List Item) (e : Entry) (below : List Entry) : Type 0 where
   pub inside : List Item

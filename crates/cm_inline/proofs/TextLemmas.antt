@@ -1,16 +1,17 @@
 -- Where a text ends.
 use Rattle.std.proofs.Common.{◌≡◌, ℕ, zero, suc, ◌+◌, ◌-◌, ◌<◌, ◌≤◌, ◌==◌, ◌&&◌, ◌||◌, not, Bool, true, false, List, [], ◌∷◌, ◌++◌, length, take, drop, get_or, replicate, refl, sym, ap, subst, ◌∙◌, arith, append_assoc, length-append, length-drop, get_or-drop, drop-drop, take_all}
-use Rattle.std.specs.Prelude.{min, nat_lt, cond, if◌then◌else◌}
-use Rattle.std.specs.List.{list_all, slice_range, position_or_len}
+use Rattle.std.specs.Prelude.{min, nat_lt, cond}
+use Rattle.std.specs.List.{list_all, list_any, slice_range, position_or_len}
 use Rattle.std.specs.Str.{IsCharBoundary}
-use Rattle.std.proofs.lemmas.Bool.{and_parts, eqb-true}
+use Rattle.std.proofs.lemmas.Bool.{and_parts}
 use Rattle.std.proofs.lemmas.Bool.Decides.{nat_tests}
 use Rattle.std.proofs.lemmas.List.{drop_more, length-take}
 use Rattle.std.proofs.lemmas.Str.{IsCharBoundary-before_ascii}
 use Rattle.cm_text.specs.Search.{next_place, is_marked}
-use Rattle.cm_scan.specs.Words.{begins_with, keep_byte, trim_end_by, trim_end_spaces}
+use Rattle.cm_scan.specs.Words.{begins_with, is_empty, trim_end_spaces}
 use Rattle.cm_scan.specs.Autolinks.{ends_with}
 use Rattle.cm_scan.specs.InlineLaws.{is_plain_byte, keeps_spaces}
+use Rattle.cm_scan.proofs.TrimLemmas.{trimmed}
 use Rattle.cm_scan.proofs.InlineLemmas.{unmarked_is_plain, plain_is_itself}
 use Rattle.cm_text.specs.Rules.{Rules}
 use Rattle.cm_tree.specs.declared.tree.Inline.TheVariants.{Text}
@@ -102,30 +103,6 @@ text-to-markup source at end within e other =
         ap2 : (b == 32) ≡ false → (b == 10) ≡ false → not ((b == 32 || b == 10) && ends_with 32 (slice_range source at end)) ≡ true
         ap2 p q = ap (λ v. not ((v || b == 10) && ends_with 32 (slice_range source at end))) p ∙ ap (λ v. not (v && ends_with 32 (slice_range source at end))) q
 
--- a text and the spaces at its end
-record Trimmed (text : List ℕ) : Type 0 where
-  count : ℕ
-  is : text ≡ trim_end_spaces text ++ replicate count 32
-  ended : ends_with 32 (trim_end_spaces text) ≡ false
-
-trimmed : (text : List ℕ) → Trimmed text
-unfolding trim_end_by ends_with
-trimmed [] = record { count = 0; is = refl; ended = refl }
-trimmed (b ∷ bs) =
-    let again = trimmed bs in
-    let parts = go (trim_end_by false bs) again.count again.is again.ended in
-    record { count = parts.0; is = parts.1; ended = parts.2 }
-  where
-    lone : (space : Bool) → (b == 32) ≡ space → (count : ℕ) → bs ≡ replicate count 32
-        → (k : ℕ) × (b ∷ bs ≡ (if space then [] else b ∷ []) ++ replicate k 32) × (ends_with 32 (if space then [] else b ∷ []) ≡ false)
-    lone true p count is = (suc count, ap (λ c. c ∷ bs) (eqb-true b 32 p) ∙ ap (λ t. 32 ∷ t) is, refl)
-    lone false p count is = (count, ap (λ t. b ∷ t) is, p)
-
-    go : (left : List ℕ) → (count : ℕ) → bs ≡ left ++ replicate count 32 → ends_with 32 left ≡ false
-        → (k : ℕ) × (b ∷ bs ≡ keep_byte false b left ++ replicate k 32) × (ends_with 32 (keep_byte false b left) ≡ false)
-    go [] count is ended = lone (b == 32) refl count is
-    go (c ∷ cs) count is ended = (count, ap (λ t. b ∷ t) is, ended)
-
 drop-past : (front rest : List ℕ) → drop (length front) (front ++ rest) ≡ rest
 drop-past [] rest = refl
 drop-past (b ∷ bs) rest = drop-past bs rest
@@ -188,3 +165,31 @@ plain-to-end source e =
 pub one-text : (rules : Rules) (defined : Defined) (source : List ℕ) → (length source == 0) ≡ false → length source ≡ next_place is_marked source 0 → inlines_of rules defined source ≡ Text source ∷ []
 one-text rules defined [] some e = absurd (cc some)
 one-text rules defined (b ∷ bs) some e = plain_is_itself rules defined (b ∷ bs) (plain-to-end (b ∷ bs) e)
+
+-- the next markup is at the end just where there is none
+none-marked : (text : List ℕ) → (position_or_len is_marked text == length text) ≡ not (list_any is_marked text)
+none-marked [] = refl
+none-marked (b ∷ bs) = go (is_marked b) (none-marked bs)
+  where
+    next : (m n : ℕ) → (1 + m == suc n) ≡ (m == n)
+    next m n = grind (arith, nat_tests)
+
+    other : (n : ℕ) → (0 == suc n) ≡ false
+    other n = grind (arith, nat_tests)
+
+    go : (m : Bool) → (position_or_len is_marked bs == length bs) ≡ not (list_any is_marked bs) → (cond (not m) (1 + position_or_len is_marked bs) 0 == suc (length bs)) ≡ not (m || list_any is_marked bs)
+    go true rest = other (length bs)
+    go false rest = next (position_or_len is_marked bs) (length bs) ∙ rest
+
+pub is-unmarked : (source : List ℕ) → (next_place is_marked source 0 == length source) ≡ not (list_any is_marked source)
+is-unmarked source =
+    let found = up-to source in
+    let place : next_place is_marked source 0 ≡ position_or_len is_marked source = omega (arith, found.within) in
+    ap (λ n. n == length source) place ∙ none-marked source
+
+pub is-empty : (source : List ℕ) → (length source == 0) ≡ is_empty source
+is-empty [] = refl
+is-empty (b ∷ bs) = some (length bs)
+  where
+    some : (n : ℕ) → (suc n == 0) ≡ false
+    some n = grind (arith, nat_tests)

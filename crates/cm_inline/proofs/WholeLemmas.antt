@@ -35,11 +35,11 @@ use Rattle.cm_inline.proofs.PairLemmas.{last-item}
 use Rattle.cm_inline.proofs.SliceLemmas.{slice-front, before-later, before-one}
 
 -- the items from a place on, behind items that have the last first
-abbrev items_from : Rules → Defined → List ℕ → ℕ → List pairing.Item → List pairing.Item
+abbrev pub items_from : Rules → Defined → List ℕ → ℕ → List pairing.Item → List pairing.Item
 items_from rules defined source at items = items_after rules defined zero (reverse (take at source)) (drop at source) items
 
 -- one step at a place
-abbrev step_at : Rules → Defined → List ℕ → ℕ → List pairing.Item → Bracketed
+abbrev pub step_at : Rules → Defined → List ℕ → ℕ → List pairing.Item → Bracketed
 step_at rules defined source at items = item_step rules defined (reverse (take at source)) (get_or source at 0) (drop (at + 1) source) items
 
 -- a step takes the source up to a place
@@ -65,7 +65,7 @@ ahead-step rules defined source nodes more at end within further gives =
     )
 
 -- an atom that puts one item
-adds-item : (defined : Defined) (items : List pairing.Item) (a : Atom) (rest : List ℕ) (i : pairing.Item) → item_for a rest ≡ Some i → add_atom defined items a rest ≡ with_item items i rest
+pub adds-item : (defined : Defined) (items : List pairing.Item) (a : Atom) (rest : List ℕ) (i : pairing.Item) → item_for a rest ≡ Some i → add_atom defined items a rest ≡ with_item items i rest
 unfolding add_atom
 adds-item defined items (Plain text) rest i e = ap (λ i. with_item items i rest) (cc e)
 adds-item defined items (Whole inline) rest i e = ap (λ i. with_item items i rest) (cc e)
@@ -85,7 +85,7 @@ ahead-atom rules defined source nodes at node end within is =
     ∙ ap (λ t. record { items = t; rest = drop end source }) (sym (last-item source nodes node))
     )
 
-bracket-at : (rules : Rules) (defined : Defined) (source : List ℕ) (nodes : List Node) (at : ℕ) → Stands source at 93 → step_at rules defined source at (reverse (items_of source nodes)) ≡ closed_at defined source nodes at
+pub bracket-at : (rules : Rules) (defined : Defined) (source : List ℕ) (nodes : List Node) (at : ℕ) → Stands source at 93 → step_at rules defined source at (reverse (items_of source nodes)) ≡ closed_at defined source nodes at
 bracket-at rules defined source nodes at stands =
     ap (λ b. item_step rules defined (reverse (take at source)) b (drop (at + 1) source) (reverse (items_of source nodes))) stands.byte
     ∙ bracket_step rules defined (reverse (take at source)) (drop (at + 1) source) (reverse (items_of source nodes))
@@ -112,7 +112,7 @@ pieces-pieces : (text : List ℕ) → in_pieces (one_by_one text) ≡ one_by_one
 pieces-pieces [] = refl
 pieces-pieces (b ∷ bs) = ap (λ t. pairing.Characters (b ∷ []) ∷ t) (pieces-pieces bs)
 
-text-pieces : (source : List ℕ) (nodes : List Node) (at end : ℕ) → let text = slice_range source at end in
+pub text-pieces : (source : List ℕ) (nodes : List Node) (at end : ℕ) → let text = slice_range source at end in
     in_pieces (reverse (reverse (one_by_one text) ++ reverse (items_of source nodes))) ≡ in_pieces (reverse (reverse (items_of source (nodes ++ Piece at end ∷ []))))
 text-pieces source nodes at end =
     let text = one_by_one (slice_range source at end) in
@@ -138,7 +138,7 @@ text-on rules defined source nodes at end is =
     ∙ reading_in_pieces rules defined zero (reverse (take end source)) (drop end source) (reverse (one_by_one text) ++ items) (reverse (items_of source (nodes ++ Piece at end ∷ []))) (text-pieces source nodes at end)
     )
 
-nat_lt-false : (a b : ℕ) → nat_lt a b ≡ false → b ≤ a
+pub nat_lt-false : (a b : ℕ) → nat_lt a b ≡ false → b ≤ a
 nat_lt-false a b e = grind (arith, nat_tests, e)
 
 pub ahead-text : (rules : Rules) (defined : Defined) (source : List ℕ) (nodes : List Node) (at end : ℕ) → IsTextTo source at end

@@ -1,2 +1,4 @@
+pub mod Emphases
 pub mod Reading
 pub mod steps
+pub mod WorkedExamples

@@ -1,19 +1,28 @@
 -- What reading the inlines of a leaf answers.
-use Rattle.std.specs.Prelude.{◌≡◌, ℕ, ◌*◌, ◌≤◌, true, false, List, length, Result, Ok, Err, ⊤}
+use Rattle.std.specs.Prelude.{◌≡◌, ℕ, ◌*◌, ◌≤◌, true, false, if◌then◌else◌, List, Result, Ok, Err, ⊤}
 use Rattle.cm_text.specs.Rules.{Rules}
 use Rattle.cm_tree.specs.Definitions.{Targets}
 use Rattle.cm_tree.specs.declared.tree.Inline.{Inline}
 use Rattle.cm_scan.specs.Brackets.{Defined, defined_in}
 use Rattle.cm_scan.specs.Inlines.{inlines_of, nests_past}
+use Rattle.cm_scan.specs.Runs.{runs_of, characters_of}
+use Rattle.cm_inline.specs.Emphases.{emphases}
 use Rattle.cm_inline.specs.declared.fault.InlineFault.{InlineFault}
 use Rattle.cm_inline.specs.declared.fault.InlineFault.TheVariants.{InlinesTooDeep, NoMemory}
 use Rattle.cm_inline.specs.declared.reading.Steps.{Steps}
 
--- The inlines of a source, which don't nest past the limit; fifteen openers or fewer were looked at for each of its bytes.
+-- How many openers are looked at for a character of a delimiter run, at most: one in vain for each of the twelve kinds of closers,
+-- and one more where runs of tildes are of a kind of their own; one if it is taken out between a pair; one for a pair.
+abbrev pub looks_at_most : Rules → ℕ
+looks_at_most rules = if rules.strike then 15 else 14
+
+-- The inlines of a source, which don't nest past the limit. So many openers were looked at as its delimiter runs allow, or fewer, and
+-- one or more for each emphasis, strong emphasis or strikethrough that was made.
 pub record Read (rules : Rules) (defined : Defined) (limit : ℕ) (source : List ℕ) (answer : List Inline × Steps) : Type 0 where
   pub content : answer.0 ≡ inlines_of rules defined source
   pub within : nests_past rules defined limit source ≡ false
-  pub steps : answer.1.0 ≤ 15 * length source
+  pub most : answer.1.0 ≤ looks_at_most rules * characters_of (runs_of rules defined source)
+  pub least : emphases answer.0 ≤ answer.1.0
 
 -- the inlines of a source, or that they nest past the limit; memory may be refused
 abbrev pub Reads : Result (List Inline × Steps) InlineFault → Rules → Targets → (limit : ℕ) → List ℕ → Type 0

@@ -5,7 +5,6 @@ ghost use Rattle.cm_tree.specs.declared.tree.Inline.TheVariants.{Soft, Hard};
 ghost use Rattle.cm_scan.specs.RawHtml.{raw_html};
 ghost use Rattle.cm_scan.specs.Scanned.{reading_of, whole_of, autolink_with};
 ghost use Rattle.cm_scan.specs.Atoms.{link_of};
-ghost use Rattle.cm_scan.specs.Words.{begins_with};
 ghost use Rattle.cm_text.specs.Rules.{Rules};
 ghost use Rattle.cm_inline.specs.steps.Missing.{Knows};
 ghost use Rattle.cm_inline.specs.declared.nodes.Node.TheVariants.{Piece, Opener};
@@ -17,7 +16,7 @@ use crate::ends::{Ends, form_at};
 use crate::flanking::run_between;
 use crate::nodes::Node;
 use crate::runs::Marker;
-use cm_scan::{Autolink, after_run, autolink, code_span, raw_html_by, trim_end_spaces};
+use cm_scan::{Autolink, after_run, autolink, code_span, is_next, raw_html_by, trim_end_spaces};
 use cm_text::{Rules, is_ascii_punct, next_markup, reference_at};
 use cm_tree::{Inline, Items, Text};
 use std::alloc::{AllocError, Global};
@@ -82,14 +81,6 @@ fn opener(image: bool, behind: usize) -> (Node, usize)
     ensures { result ≡ (Opener image behind, behind) }
 {
     (Node::Opener { image, behind }, behind)
-}
-
-/// Whether this byte stands at a place.
-#[inline(always)]
-fn is_at(source: &str, at: usize, b: u8) -> bool
-    ensures { result ≡ begins_with b (drop at source.now) }
-{
-    at < source.len() && source.as_bytes()[at] == b
 }
 
 /// A code span, or the whole backtick string as text (6.1 Code spans).
@@ -200,7 +191,7 @@ fn backslash(source: &str, at: usize) -> (Node, usize)
     requires { Stands source.now at 92 }
     ensures { (rules : Rules) → IsAtom rules source.now at result.0 result.1 }
 {
-    if is_at(source, at + 1, b'\n') {
+    if is_next(source.as_bytes(), at + 1, b'\n') {
         return (Node::flat(Inline::Hard), at + 2);
     }
     if at + 1 < source.len() && is_ascii_punct(source.as_bytes()[at + 1] as char) {
@@ -226,7 +217,7 @@ fn line_break(source: &str, at: usize) -> (Node, usize)
     ensures { (rules : Rules) → IsAtom rules source.now at result.0 result.1 }
 {
     let feed = after_run(b' ', source, at);
-    if !is_at(source, feed, b'\n') {
+    if !is_next(source.as_bytes(), feed, b'\n') {
         return text(at, at + 1);
     }
     (Node::flat(break_behind(feed - at)), feed + 1)
@@ -248,7 +239,7 @@ fn exclamation_mark(source: &str, at: usize) -> (Node, usize)
     requires { Stands source.now at 33 }
     ensures { (rules : Rules) → IsAtom rules source.now at result.0 result.1 }
 {
-    if is_at(source, at + 1, b'[') {
+    if is_next(source.as_bytes(), at + 1, b'[') {
         return opener(true, at + 2);
     }
     text(at, at + 1)

@@ -1,11 +1,12 @@
 //! Links and images by their brackets (CommonMark 0.31.2, 6.3 Links, 6.4 Images).
-ghost use Rattle.std.specs.Prelude.{◌≡◌, ◌+◌, ◌<◌, ◌≤◌, ◌++◌, [], ◌∷◌, drop, length, reverse, not, ◌||◌, nat_lt, IfOk, OnOk, IfSome, Err};
+ghost use Rattle.std.specs.Prelude.{◌≡◌, ◌+◌, ◌<◌, ◌≤◌, ◌^◌, ◌++◌, [], ◌∷◌, drop, length, reverse, not, ◌||◌, nat_lt, IfOk, OnOk, IfSome, Err};
 ghost use Rattle.std.specs.Str.{IsCharBoundary};
 ghost use Rattle.cm_scan.specs.Brackets.{defined_in};
 ghost use Rattle.cm_scan.specs.Pairing.{bracket_text};
 ghost use Rattle.cm_inline.specs.declared.fault.InlineFault.TheVariants.{InlinesTooDeep};
 ghost use Rattle.cm_inline.specs.steps.Nodes.{items_of, IsOpener};
 ghost use Rattle.cm_inline.specs.steps.Depths.{items_depth};
+ghost use Rattle.cm_inline.specs.steps.Pairs.{Keeps, allowance};
 ghost use Rattle.cm_inline.specs.steps.Reads.{Stands};
 ghost use Rattle.cm_inline.specs.steps.Links.{ends_of};
 ghost use Rattle.cm_inline.specs.steps.Brackets.{IsReadTo, IsReadWith, bracket_in, link_of, link_made, left_as_text, closed_at, end_for};
@@ -28,6 +29,9 @@ pub(crate) struct Bracket {
     pub(crate) behind: usize,
 }
 
+/// Room for the nodes of a short leaf. More are made room for as they come.
+const ROOM: usize = 8;
+
 /// A leaf's source as far as it is read.
 #[derive(Drop)]
 pub(crate) struct Reader {
@@ -44,17 +48,18 @@ pub(crate) struct Reader {
 
 impl Reader {
     /// Nothing was read yet.
-    pub(crate) fn of(alloc: Global, source: &str) -> Reader
-        ensures read { IsReadTo source.now 0 result }
-        ensures nodes { result.nodes.items ≡ [] }
+    pub(crate) fn of(alloc: Global, source: &str) -> Result<Reader, AllocError>
+        ensures read { IfOk result (IsReadTo source.now 0) }
+        ensures nodes { IfOk result (λ reader. reader.nodes.items ≡ []) }
+        ensures looks { IfOk result (λ reader. reader.openers.list.looks ≡ 0) }
     {
-        Reader {
-            nodes: Vec::new(alloc),
+        Ok(Reader {
+            nodes: Vec::with_capacity(alloc, ROOM)?,
             brackets: Vec::new(alloc),
             links_end: 0,
             openers: Openers::new(alloc),
             ends: Ends::of(source),
-        }
+        })
     }
 
     /// Adds a node that is no link.
@@ -86,8 +91,10 @@ impl Reader {
     ) -> Result<usize, InlineFault>
         requires stands { Stands source.now at 93 }
         requires read { IsReadTo source.now at self.old }
+        requires few { self.old.openers.list.looks + allowance 13 (items_of source.now self.old.nodes.items) < 2 ^ 127 }
         ensures read { IfOk result (λ end. IsReadTo source.now end self.new) }
         ensures further { IfOk result (λ end. at < end) }
+        ensures keeps { IfOk result (λ end. Keeps self.old.openers.list.looks (items_of source.now self.old.nodes.items) self.new.openers.list.looks (items_of source.now self.new.nodes.items)) }
         ensures closed { IfOk result (λ end. closed_at (defined_in definitions.now) source.now self.old.nodes.items at ≡ record { items = reverse (items_of source.now self.new.nodes.items); rest = drop end source.now }) }
         ensures deep { result ≡ Err InlinesTooDeep → limit < items_depth (closed_at (defined_in definitions.now) source.now self.old.nodes.items at).items }
     {
@@ -159,7 +166,9 @@ impl Reader {
         end: LinkEnd,
     ) -> Result<(), InlineFault>
         requires read { IsReadWith source.now end.end self.old bracket }
+        requires few { self.old.openers.list.looks + allowance 13 (items_of source.now self.old.nodes.items) < 2 ^ 127 }
         ensures read { OnOk result (IsReadTo source.now end.end self.new) }
+        ensures keeps { OnOk result (Keeps self.old.openers.list.looks (items_of source.now self.old.nodes.items) self.new.openers.list.looks (items_of source.now self.new.nodes.items)) }
         ensures items { OnOk result (items_of source.now self.new.nodes.items ≡ link_made source.now self.old.nodes.items bracket end.dest end.title) }
         ensures deep { result ≡ Err InlinesTooDeep → limit < items_depth (link_made source.now self.old.nodes.items bracket end.dest end.title) }
     {
@@ -187,6 +196,7 @@ impl Reader {
         requires stands { Stands source.now at 93 }
         requires read { IsReadWith source.now at self.old bracket }
         ensures read { OnOk result (IsReadTo source.now (at + 1) self.new) }
+        ensures same { self.new.openers ≡ self.old.openers }
         ensures items { OnOk result (items_of source.now self.new.nodes.items ≡ left_as_text source.now self.old.nodes.items bracket) }
     {
         self.nodes[bracket.node] = Node::Piece {

@@ -2,10 +2,11 @@
 ghost use Rattle.std.specs.Prelude.{◌≡◌, ℕ, ◌-◌, ◌≤◌, length, take, drop, reverse};
 ghost use Rattle.std.specs.Str.{IsCharBoundary};
 ghost use Rattle.cm_scan.specs.Delimiters.{neighbour, is_left_flanking, may_open};
-ghost use Rattle.cm_scan.specs.Atoms.{first_character, last_character, run_between};
+ghost use Rattle.cm_scan.specs.Atoms.{run_between};
 ghost use Rattle.cm_inline.specs.steps.Runs.{byte_of, run_of, neighbour_of};
 
 use crate::runs::{DelimiterRun, Marker};
+use cm_scan::{first_character, last_character};
 use cm_text::{Rules, is_punct_by, is_space};
 
 /// How a run sees the character beside it.
@@ -51,20 +52,6 @@ fn may_open(marker: Marker, before: Neighbour, after: Neighbour) -> bool
         && (!matches!(marker, Marker::Underscore)
             || !is_left_flanking(after, before)
             || matches!(before, Neighbour::Punctuation))
-}
-
-/// The last character of a text.
-fn last_character(text: &str) -> Option<char>
-    ensures { result ≡ last_character (reverse text.now) }
-{
-    text.chars().next_back()
-}
-
-/// The first character of a text.
-fn first_character(text: &str) -> Option<char>
-    ensures { result ≡ first_character text.now }
-{
-    text.chars().next()
 }
 
 /// The delimiter run that stands between two places.

@@ -8,6 +8,7 @@ mod delimiters;
 mod ends;
 mod fault;
 mod flanking;
+pub mod laws;
 mod links;
 mod nearest;
 mod nodes;

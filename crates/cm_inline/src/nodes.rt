@@ -1,10 +1,11 @@
 //! The list of nodes into which a leaf's source is read, and the inlines that come of it.
 ghost use Rattle.std.specs.Prelude.{◌≡◌, ◌++◌, ◌≤◌, [], ◌∷◌, length, string_bytes, encode_utf8_all, replicate, drop, false, IfOk, OnOk};
+ghost use Rattle.std.specs.List.{list_any};
 ghost use Rattle.cm_text.specs.References.{chars_of};
 ghost use Rattle.cm_scan.specs.Pairing.{settled, text_before};
 ghost use Rattle.cm_inline.specs.declared.nodes.Node.TheVariants.{Finished};
 ghost use Rattle.cm_inline.specs.steps.Runs.{byte_of};
-ghost use Rattle.cm_inline.specs.steps.Nodes.{is_text, node_depth, nodes_depth, text_in, text_in_front, behind_texts, text_between, inline_of, items_of, IsPart, AreParts};
+ghost use Rattle.cm_inline.specs.steps.Nodes.{is_closer, is_text, node_depth, nodes_depth, text_in, text_in_front, behind_texts, text_between, inline_of, items_of, IsPart, AreParts};
 
 use crate::runs::DelimiterRun;
 use cm_text::Chars;
@@ -59,6 +60,16 @@ impl Node {
             _ => 0,
         }
     }
+
+    /// Whether it is a run that may close.
+    fn is_closer(&self) -> bool
+        ensures { result ≡ is_closer self.now }
+    {
+        match self {
+            Node::Run(run) => run.closes,
+            _ => false,
+        }
+    }
 }
 
 /// How deep the inlines among the nodes nest.
@@ -70,6 +81,13 @@ pub(crate) fn depth_of_all(nodes: &[Node]) -> usize
         deepest = deepest.max(node.depth());
     }
     deepest
+}
+
+/// Whether one of the nodes is a run that may close.
+pub(crate) fn has_closer(nodes: &[Node]) -> bool
+    ensures { result ≡ list_any is_closer nodes.now }
+{
+    nodes.iter().any(|node| node.is_closer())
 }
 
 /// About how many bytes of text the nodes begin with, and never fewer.

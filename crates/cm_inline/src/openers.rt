@@ -59,7 +59,7 @@ pub(crate) fn take_opener(
 ) -> Option<Delimiter>
     requires closes { run.closes ≡ true }
     requires closing { IsClosing openers.old.list openers.old.bottoms closer (run_of run) }
-    requires few { spent openers.old.list openers.old.bottoms < 2 ^ 127 }
+    requires few { spent 13 openers.old.list openers.old.bottoms < 2 ^ 127 }
     ensures { MatchOption result (FindsNone openers.old.list openers.old.bottoms openers.new.list openers.new.bottoms closer (run_of run)) (λ d. Opens openers.old.list openers.old.bottoms openers.new.list openers.new.bottoms closer (run_of run) (entry_of d)) }
 {
     let Some(opener) = find(openers, closer, run) else {

@@ -10,11 +10,12 @@ ghost use Rattle.cm_inline.specs.steps.Entries.{is_listed};
 ghost use Rattle.cm_inline.specs.steps.Openers.{spent, cut, Ready, Spends};
 ghost use Rattle.cm_inline.specs.steps.Runs.{run_of, rest_of, entry_of, byte_of};
 ghost use Rattle.cm_inline.specs.steps.Nodes.{item_of, items_of, rest_in, nodes_depth, IsPart, AreParts};
-ghost use Rattle.cm_inline.specs.steps.Pairs.{Adds, allowance};
+ghost use Rattle.cm_inline.specs.Emphases.{emphases};
+ghost use Rattle.cm_inline.specs.steps.Pairs.{Adds, AreLooks, allowance, items_emphases};
 
 use crate::delimiters::Delimiter;
 use crate::fault::InlineFault;
-use crate::nodes::{Node, depth_of_all, push_node, settle};
+use crate::nodes::{Node, depth_of_all, has_closer, push_node, settle};
 use crate::openers::{Openers, begin, drop_closer, finish, spend, take_opener};
 use crate::runs::{DelimiterRun, Marker, used, without};
 use cm_tree::{Inline, Items};
@@ -109,7 +110,7 @@ fn add_run(
 ) -> Result<(), InlineFault>
     requires ready { Ready (reverse (items_of source.now before.old.items)) openers.old.list openers.old.bottoms }
     requires parts { AreParts source.now before.old.items }
-    requires few { spent openers.old.list openers.old.bottoms + (14 + run.left) < 2 ^ 127 }
+    requires few { spent 13 openers.old.list openers.old.bottoms + (14 + run.left) < 2 ^ 127 }
     ensures adds { OnOk result (Adds source.now before.old.items openers.old.list openers.old.bottoms before.new.items openers.new.list openers.new.bottoms (run_of run)) }
     ensures deep { result ≡ Err InlinesTooDeep → limit < items_depth (passed (reverse (items_of source.now before.old.items)) (Delimiters (run_of run))) }
     ensures parts { OnOk result (AreParts source.now before.new.items) }
@@ -142,13 +143,16 @@ pub(crate) fn pair_all(
     openers: &mut Openers,
 ) -> Result<Vec<Node>, InlineFault>
     requires parts { AreParts source.now nodes.items }
-    requires few { openers.old.list.looks + allowance (items_of source.now nodes.items) < 2 ^ 127 }
+    requires few { openers.old.list.looks + allowance 13 (items_of source.now nodes.items) < 2 ^ 127 }
     ensures pairs { IfOk result (λ made. items_of source.now made.items ≡ pair_all (items_of source.now nodes.items)) }
     ensures parts { IfOk result (λ made. AreParts source.now made.items) }
     ensures deep { result ≡ Err InlinesTooDeep → limit < items_depth (pair_all (items_of source.now nodes.items)) }
-    ensures looks { OnOk result (openers.new.list.looks ≤ openers.old.list.looks + allowance (items_of source.now nodes.items)) }
+    ensures looks { OnOk result (AreLooks openers.old.list.looks (items_of source.now nodes.items) openers.new.list.looks (items_emphases (pair_all (items_of source.now nodes.items)))) }
 {
-    let mut before = Vec::new(alloc);
+    if !has_closer(&nodes) {
+        return Ok(nodes);
+    }
+    let mut before = Vec::with_capacity(alloc, nodes.len())?;
     openers.clear();
     for node in nodes {
         match node {
@@ -168,11 +172,11 @@ pub(crate) fn emphasis_of(
     openers: &mut Openers,
 ) -> Result<(Items<Inline>, usize), InlineFault>
     requires parts { AreParts source.now nodes.items }
-    requires few { openers.old.list.looks + allowance (items_of source.now nodes.items) < 2 ^ 127 }
+    requires few { openers.old.list.looks + allowance 13 (items_of source.now nodes.items) < 2 ^ 127 }
     ensures content { IfOk result (λ made. made.0 ≡ emphasis_of (items_of source.now nodes.items)) }
     ensures depth { IfOk result (λ made. made.1 ≡ inlines_depth (emphasis_of (items_of source.now nodes.items))) }
     ensures deep { result ≡ Err InlinesTooDeep → limit < inlines_depth (emphasis_of (items_of source.now nodes.items)) }
-    ensures looks { OnOk result (openers.new.list.looks ≤ openers.old.list.looks + allowance (items_of source.now nodes.items)) }
+    ensures looks { OnOk result (AreLooks openers.old.list.looks (items_of source.now nodes.items) openers.new.list.looks (emphases (emphasis_of (items_of source.now nodes.items)))) }
 {
     let made = pair_all(alloc, source, limit, nodes, openers)?;
     let depth = depth_of_all(&made);

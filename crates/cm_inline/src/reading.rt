@@ -1,6 +1,9 @@
 //! The inlines of a leaf.
-ghost use Rattle.std.specs.Prelude.{◌≡◌, ◌<◌, ℕ, [], ◌∷◌, true, length, IfOk, IsTrue, Err};
+ghost use Rattle.std.specs.Prelude.{◌≡◌, ◌<◌, ◌&&◌, not, ℕ, [], ◌∷◌, true, length, IfOk, IsTrue, Err};
+ghost use Rattle.std.specs.List.{list_any};
 ghost use Rattle.cm_text.specs.Rules.{Rules, profile};
+ghost use Rattle.cm_text.specs.Search.{is_marked};
+ghost use Rattle.cm_scan.specs.Words.{is_empty};
 ghost use Rattle.cm_tree.specs.declared.tree.Inline.TheVariants.{Text};
 ghost use Rattle.cm_scan.specs.Brackets.{Defined, defined_in};
 ghost use Rattle.cm_scan.specs.Pairing.{emphasis_of};
@@ -11,7 +14,7 @@ ghost use Rattle.cm_inline.specs.declared.fault.InlineFault.TheVariants.{Inlines
 ghost use Rattle.cm_inline.specs.Reading.{Reads};
 ghost use Rattle.cm_inline.specs.steps.Brackets.{IsReadTo};
 ghost use Rattle.cm_inline.specs.steps.Nodes.{items_of};
-ghost use Rattle.cm_inline.specs.steps.Reads.{ahead};
+ghost use Rattle.cm_inline.specs.steps.Reads.{Pays, ahead};
 
 use crate::atoms::{atom, text_end};
 use crate::brackets::Reader;
@@ -22,7 +25,8 @@ use cm_text::{Rules, next_markup};
 use cm_tree::{Definitions, Inline, Items};
 use std::alloc::Global;
 
-/// How many openers the pairing of delimiter runs has looked at.
+/// How many openers the pairing of delimiter runs has looked at: one or more for each emphasis, strong emphasis and
+/// strikethrough that it made, and at most 14 for each character of the runs, or 15 with strikethrough on.
 #[derive(Clone, Copy, Debug, PartialEq, Eq)]
 pub struct Steps(pub u128);
 
@@ -38,8 +42,10 @@ fn read_on(
 ) -> Result<usize, InlineFault>
     requires read { IsReadTo source.now at reader.old }
     requires within { at < length source.now }
+    requires pays { Pays rules (defined_in definitions.now) source.now reader.old.nodes.items at reader.old.openers.list.looks }
     ensures read { IfOk result (λ end. IsReadTo source.now end reader.new) }
     ensures further { IfOk result (λ end. at < end) }
+    ensures pays { IfOk result (λ end. Pays rules (defined_in definitions.now) source.now reader.new.nodes.items end reader.new.openers.list.looks) }
     ensures ahead { IfOk result (λ end. ahead rules (defined_in definitions.now) source.now reader.new.nodes.items end ≡ ahead rules (defined_in definitions.now) source.now reader.old.nodes.items at) }
     ensures deep { result ≡ Err InlinesTooDeep → limit < inlines_depth (emphasis_of (ahead rules (defined_in definitions.now) source.now reader.old.nodes.items at)) }
 {
@@ -65,10 +71,11 @@ fn read_all(
     limit: usize,
 ) -> Result<Reader, InlineFault>
     ensures read { IfOk result (λ reader. IsReadTo source.now (length source.now) reader) }
+    ensures pays { IfOk result (λ reader. Pays rules (defined_in definitions.now) source.now reader.nodes.items (length source.now) reader.openers.list.looks) }
     ensures items { IfOk result (λ reader. in_pieces (items_of source.now reader.nodes.items) ≡ in_pieces (inlines.items_of rules (defined_in definitions.now) source.now)) }
     ensures deep { result ≡ Err InlinesTooDeep → inlines.nests_past rules (defined_in definitions.now) limit source.now ≡ true }
 {
-    let mut reader = Reader::of(alloc, source);
+    let mut reader = Reader::of(alloc, source)?;
     let mut at = 0;
     while at < source.len() {
         at = read_on(alloc, rules, source, definitions, limit, &mut reader, at)?;
@@ -76,12 +83,13 @@ fn read_all(
     Ok(reader)
 }
 
-/// Whether a source is nothing but text, so that it is its one inline itself, by all rules and whatever is defined. It
-/// takes no memory.
+/// Whether a source has none of the bytes with which anything but text may begin, and isn't empty: it is its one inline
+/// itself then, by all rules and whatever is defined. It takes no memory.
 ///
-/// Where it isn't known at once, it answers false.
+/// Of other sources that come to one text, such as `a!`, it answers false.
 pub fn is_one_text(source: &str) -> bool
-    ensures { IsTrue result → (rules : Rules) (defined : Defined) → inlines.inlines_of rules defined source.now ≡ Text source.now ∷ [] }
+    ensures unmarked { result ≡ (not (is_empty source.now) && not (list_any is_marked source.now)) }
+    ensures text { IsTrue result → (rules : Rules) (defined : Defined) → inlines.inlines_of rules defined source.now ≡ Text source.now ∷ [] }
 {
     !source.is_empty() && next_markup(source.as_bytes(), 0) == source.len()
 }

@@ -1,5 +1,5 @@
 -- Brackets of which nothing was made yet, and what a `]` makes of the nodes.
-use Rattle.std.specs.Prelude.{◌≡◌, ℕ, suc, ◌+◌, ◌*◌, ◌≤◌, Bool, true, false, nat_lt, not, ◌&&◌, List, [], ◌∷◌, ◌++◌, length, take, drop, reverse, Option, None, ⊤}
+use Rattle.std.specs.Prelude.{◌≡◌, ℕ, suc, ◌+◌, ◌≤◌, Bool, true, false, nat_lt, not, ◌&&◌, List, [], ◌∷◌, ◌++◌, length, take, drop, reverse, Option, None, ⊤}
 use Rattle.std.specs.List.{slice_range}
 use Rattle.std.specs.Str.{IsCharBoundary}
 use Rattle.cm_tree.specs.declared.tree.Inline.{Inline}
@@ -13,7 +13,6 @@ use Rattle.cm_inline.specs.declared.nodes.Node.{Node}
 use Rattle.cm_inline.specs.declared.nodes.Node.TheVariants.{Piece, Characters, Finished, Run, Opener}
 use Rattle.cm_inline.specs.steps.Missing.{Knows}
 use Rattle.cm_inline.specs.steps.Nodes.{items_of, AreParts}
-use Rattle.cm_inline.specs.steps.Pairs.{allowance}
 
 -- the bracket that a node is, which has this number
 abbrev pub bracket_in : ℕ → Node → List Bracket
@@ -37,24 +36,23 @@ AreBefore at (bracket ∷ brackets) = (bracket.behind ≤ at) × AreBefore at br
 abbrev pub LinksEnd : List ℕ → List Node → ℕ → Type 0
 LinksEnd source nodes end = (n : ℕ) → holds_link (items_of source (drop n nodes)) ≡ nat_lt n end
 
--- A source that is read up to a place: its nodes and those of them that are brackets, where its links end, how many openers were
--- looked at, and what is known of the rest. Fifteen looks for each byte pay for those that were made and all that the nodes need.
-pub record IsRead (source : List ℕ) (at : ℕ) (nodes : List Node) (brackets : List Bracket) (links_end looks : ℕ) (ends : Ends) : Type 0 where
+-- A source that is read up to a place: its nodes and those of them that are brackets, where its links end, and what is known of the
+-- rest.
+pub record IsRead (source : List ℕ) (at : ℕ) (nodes : List Node) (brackets : List Bracket) (links_end : ℕ) (ends : Ends) : Type 0 where
   pub parts : AreParts source nodes
   pub unclosed : brackets_from 0 nodes ≡ brackets
   pub before : AreBefore at brackets
   pub links : LinksEnd source nodes links_end
-  pub paid : looks + allowance (items_of source nodes) ≤ 15 * at
   pub knows : Knows source ends
   pub within : at ≤ length source
   pub boundary : IsCharBoundary source at
 
 abbrev pub IsReadTo : List ℕ → ℕ → Reader → Type 0
-IsReadTo source at reader = IsRead source at reader.nodes.items reader.brackets.items reader.links_end reader.openers.list.looks reader.ends
+IsReadTo source at reader = IsRead source at reader.nodes.items reader.brackets.items reader.links_end reader.ends
 
 -- the same with one bracket more, which a `]` closes
 abbrev pub IsReadWith : List ℕ → ℕ → Reader → Bracket → Type 0
-IsReadWith source at reader bracket = IsRead source at reader.nodes.items (reader.brackets.items ++ bracket ∷ []) reader.links_end reader.openers.list.looks reader.ends
+IsReadWith source at reader bracket = IsRead source at reader.nodes.items (reader.brackets.items ++ bracket ∷ []) reader.links_end reader.ends
 
 -- what a `]` at a place makes of the nodes, and what it leaves of the source
 abbrev pub closed_at : Defined → List ℕ → List Node → ℕ → Bracketed

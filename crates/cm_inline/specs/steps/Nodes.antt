@@ -51,6 +51,14 @@ node_depth (Opener image behind) = 0
 abbrev pub nodes_depth : List Node → ℕ
 nodes_depth nodes = greatest (map node_depth nodes)
 
+-- the node is a run that may close
+abbrev pub is_closer : Node → Bool
+is_closer (Piece from to) = false
+is_closer (Characters chars) = false
+is_closer (Finished inline depth holds_link) = false
+is_closer (Run run) = run.closes
+is_closer (Opener image behind) = false
+
 -- once nothing more is made of it, the node is text
 abbrev pub is_text : Node → Bool
 is_text (Piece from to) = true

@@ -1,14 +1,15 @@
 -- The list of runs beside the items before a place, which are given with the last first.
-use Rattle.std.specs.Prelude.{◌≡◌, ℕ, ◌+◌, ◌<◌, ◌≤◌, true, List, [], ◌∷◌, ◌++◌, length, get_or, reverse, Some, None}
+use Rattle.std.specs.Prelude.{◌≡◌, ℕ, ◌+◌, ◌<◌, ◌≤◌, true, List, [], ◌∷◌, ◌++◌, length, take, get_or, reverse, Some, None}
 use Rattle.cm_scan.specs.Delimiters.{Run}
 use Rattle.cm_scan.specs.Pairing.{Item, Finished, Delimiters, nearest_opener}
 use Rattle.cm_tree.specs.declared.tree.Inline.{Inline}
 use Rattle.cm_inline.specs.steps.Entries.{Entry, Listed, Below, Falling, answers, reserve}
-use Rattle.cm_inline.specs.steps.Searching.{AreSound, openers_of, places_of, characters}
+use Rattle.cm_inline.specs.steps.Searching.{AreSound, kind, openers_of, places_of, characters}
 
--- the looks that were made and those that may still be made: one for each character left besides
-abbrev pub spent : Listed → List ℕ → ℕ
-spent l bottoms = l.looks + reserve bottoms l.entries + characters l.entries
+-- The looks that were made and those that may still be made for the first so many kinds of closers: one for each character left
+-- besides.
+abbrev pub spent : (kinds : ℕ) → Listed → List ℕ → ℕ
+spent kinds l bottoms = l.looks + reserve (take kinds bottoms) l.entries + characters l.entries
 
 -- no bottom is known
 abbrev pub zeros : List ℕ
@@ -65,16 +66,16 @@ IsClosing l bottoms place closer = (before : List Item) × Closing before l bott
 -- a run that came in as a closer
 abbrev pub Begins : Listed → List ℕ → Listed → List ℕ → ℕ → Run → Type 0
 Begins old bottoms new new_bottoms place run =
-    (before : List Item) → Ready before old bottoms → Closing before new new_bottoms place run × (spent new new_bottoms ≤ spent old bottoms + (14 + run.left)) × (new.looks ≡ old.looks)
+    (before : List Item) → Ready before old bottoms → Closing before new new_bottoms place run × ((kinds : ℕ) → spent kinds new new_bottoms ≤ spent kinds old bottoms + (kinds + 1 + run.left)) × (new.looks ≡ old.looks)
 
 -- a search in vain, and one that found an opener
 abbrev pub FindsNone : Listed → List ℕ → Listed → List ℕ → ℕ → Run → Type 0
 FindsNone old bottoms new new_bottoms place closer =
-    (before : List Item) → Closing before old bottoms place closer → Closing before new new_bottoms place closer × (nearest_opener closer before [] ≡ None) × (spent new new_bottoms ≤ spent old bottoms) × (old.looks ≤ new.looks)
+    (before : List Item) → Closing before old bottoms place closer → Closing before new new_bottoms place closer × (nearest_opener closer before [] ≡ None) × ((kinds : ℕ) → kind closer < kinds → spent kinds new new_bottoms ≤ spent kinds old bottoms) × (old.looks ≤ new.looks)
 
 abbrev pub Opens : Listed → List ℕ → Listed → List ℕ → ℕ → Run → Entry → Type 0
 Opens old bottoms new new_bottoms place closer opener =
-    (before : List Item) → Closing before old bottoms place closer → Open before new new_bottoms place closer opener × (spent new new_bottoms ≤ spent old bottoms + 1) × (old.looks + 1 ≤ new.looks)
+    (before : List Item) → Closing before old bottoms place closer → Open before new new_bottoms place closer opener × ((kinds : ℕ) → spent kinds new new_bottoms ≤ spent kinds old bottoms + 1) × (old.looks + 1 ≤ new.looks)
 
 -- a pair that leaves so much of its opener and of the closer
 abbrev pub cut : ℕ → Run → Run
@@ -83,13 +84,13 @@ cut left r = record r { left = left }
 abbrev pub Spends : Listed → List ℕ → Listed → List ℕ → Entry → List Item → Type 0
 Spends old bottoms new new_bottoms opener rest =
     (before : List Item) (place : ℕ) (closer : Run) (n : ℕ) (i : Inline) (w : Open before old bottoms place closer opener) → n ≤ closer.left →
-    Closing (Finished i ∷ (rest ++ w.items)) new new_bottoms place (cut n closer) × (spent new new_bottoms + 1 ≤ spent old bottoms) × (new.looks ≡ old.looks)
+    Closing (Finished i ∷ (rest ++ w.items)) new new_bottoms place (cut n closer) × ((kinds : ℕ) → spent kinds new new_bottoms + 1 ≤ spent kinds old bottoms) × (new.looks ≡ old.looks)
 
 -- the closer among the items, and a closer that is gone
 abbrev pub Finishes : Listed → List ℕ → Listed → List ℕ → ℕ → Run → ℕ → Type 0
 Finishes old bottoms new new_bottoms place closer item =
-    (before : List Item) → length before ≡ item → Closing before old bottoms place closer → Ready (Delimiters closer ∷ before) new new_bottoms × (spent new new_bottoms ≤ spent old bottoms) × (new.looks ≡ old.looks)
+    (before : List Item) → length before ≡ item → Closing before old bottoms place closer → Ready (Delimiters closer ∷ before) new new_bottoms × ((kinds : ℕ) → spent kinds new new_bottoms ≤ spent kinds old bottoms) × (new.looks ≡ old.looks)
 
 abbrev pub Drops : Listed → List ℕ → Listed → List ℕ → ℕ → Type 0
 Drops old bottoms new new_bottoms place =
-    (before : List Item) (closer : Run) → Closing before old bottoms place closer → Ready before new new_bottoms × (spent new new_bottoms ≤ spent old bottoms) × (new.looks ≡ old.looks)
+    (before : List Item) (closer : Run) → Closing before old bottoms place closer → Ready before new new_bottoms × ((kinds : ℕ) → spent kinds new new_bottoms ≤ spent kinds old bottoms) × (new.looks ≡ old.looks)

@@ -1,24 +1,58 @@
--- Pairs of delimiter runs among the nodes of a source, made in one pass.
-use Rattle.std.specs.Prelude.{◌≡◌, ℕ, ◌+◌, ◌≤◌, List, reverse, sum_by}
+-- Pairs of delimiter runs among the nodes of a source, made in one pass, and the looks that they take.
+use Rattle.std.specs.Prelude.{◌≡◌, ℕ, ◌+◌, ◌<◌, ◌≤◌, List, [], ◌∷◌, map, reverse, sum_by, ⊤}
 use Rattle.cm_scan.specs.Delimiters.{Run}
-use Rattle.cm_scan.specs.Pairing.{Item, Delimiters}
+use Rattle.cm_scan.specs.Pairing.{Item, Finished, Linked, Delimiters}
 use Rattle.cm_scan.specs.OnePass.{passed}
+use Rattle.cm_inline.specs.Emphases.{sum, emphases_of}
 use Rattle.cm_inline.specs.declared.nodes.Node.{Node}
 use Rattle.cm_inline.specs.steps.Entries.{Listed}
 use Rattle.cm_inline.specs.steps.Nodes.{items_of}
 use Rattle.cm_inline.specs.steps.Openers.{Ready, spent}
+use Rattle.cm_inline.specs.steps.Searching.{kind}
 
--- A run is added behind nodes, and makes all its pairs first: the list stands for the openers among the nodes again, and fourteen
--- looks are paid for the run, and one for each of its characters.
+-- The looks for which items pay, where closers are of so many kinds: for each run one in vain for each kind, one for its removal, and
+-- one for each of its characters.
+abbrev pub allowed : (kinds : ℕ) → Item → ℕ
+allowed kinds (Delimiters run) = kinds + 1 + run.left
+allowed kinds _ = 0
+
+abbrev pub allowance : (kinds : ℕ) → List Item → ℕ
+allowance kinds items = sum_by (allowed kinds) items
+
+-- the runs among items are of the first so many kinds
+abbrev pub IsOf : (kinds : ℕ) → Item → Type 0
+IsOf kinds (Delimiters run) = kind run < kinds
+IsOf kinds _ = ⊤
+
+abbrev pub AreOf : (kinds : ℕ) → List Item → Type 0
+AreOf kinds [] = ⊤
+AreOf kinds (item ∷ items) = IsOf kinds item × AreOf kinds items
+
+-- how many of emphasis, strong emphasis and strikethrough are finished among items
+abbrev pub item_emphases : Item → ℕ
+item_emphases (Finished inline) = emphases_of inline
+item_emphases (Linked inline) = emphases_of inline
+item_emphases _ = 0
+
+abbrev pub items_emphases : List Item → ℕ
+items_emphases items = sum (map item_emphases items)
+
+-- A run is added behind nodes, and makes all its pairs first: the list stands for the openers among the nodes again, the run pays for
+-- the looks, and each emphasis that is made takes one.
 pub record Adds (source : List ℕ) (old : List Node) (old_list : Listed) (old_bottoms : List ℕ) (new : List Node) (new_list : Listed) (new_bottoms : List ℕ) (run : Run) : Type 0 where
   pub ready : Ready (reverse (items_of source new)) new_list new_bottoms
-  pub paid : spent new_list new_bottoms ≤ spent old_list old_bottoms + (14 + run.left)
+  pub paid : (kinds : ℕ) → kind run < kinds → spent kinds new_list new_bottoms ≤ spent kinds old_list old_bottoms + (kinds + 1 + run.left)
+  pub made : old_list.looks + items_emphases (items_of source new) ≤ new_list.looks + items_emphases (items_of source old)
   pub passes : reverse (items_of source new) ≡ passed (reverse (items_of source old)) (Delimiters run)
 
--- the looks for which the items pay
-abbrev pub allowed : Item → ℕ
-allowed (Delimiters run) = 14 + run.left
-allowed _ = 0
+-- The looks at the end, where items come to what holds so many emphases: the items pay for those that were added, and each emphasis
+-- that was made took one.
+pub record AreLooks (looks : ℕ) (items : List Item) (later emphases : ℕ) : Type 0 where
+  pub paid : (kinds : ℕ) → AreOf kinds items → later ≤ looks + allowance kinds items
+  pub made : looks + emphases ≤ later + items_emphases items
 
-abbrev pub allowance : List Item → ℕ
-allowance items = sum_by allowed items
+-- Items come to others with more looks: those for which the items pay are still enough, and each emphasis that was made took one.
+pub record Keeps (looks : ℕ) (items : List Item) (later : ℕ) (others : List Item) : Type 0 where
+  pub are : (kinds : ℕ) → AreOf kinds items → AreOf kinds others
+  pub paid : (kinds : ℕ) → AreOf kinds items → later + allowance kinds others ≤ looks + allowance kinds items
+  pub made : looks + items_emphases others ≤ later + items_emphases items

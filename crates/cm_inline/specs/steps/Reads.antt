@@ -1,5 +1,5 @@
 -- One atom of a source as a node.
-use Rattle.std.specs.Prelude.{◌≡◌, ℕ, zero, ◌+◌, ◌-◌, ◌*◌, ◌<◌, ◌≤◌, ◌==◌, ◌||◌, Bool, true, List, Option, Some, None, length, take, drop, reverse, slice_index}
+use Rattle.std.specs.Prelude.{◌≡◌, ℕ, zero, ◌+◌, ◌*◌, ◌<◌, ◌≤◌, ◌==◌, ◌||◌, if◌then◌else◌, Bool, true, List, Option, Some, None, length, take, drop, reverse, slice_index, ⊤}
 use Rattle.std.specs.List.{list_all, slice_range}
 use Rattle.std.specs.Str.{IsCharBoundary}
 use Rattle.cm_text.specs.Rules.{Rules}
@@ -9,9 +9,13 @@ use Rattle.cm_scan.specs.Pieces.{in_pieces}
 use Rattle.cm_scan.specs.Brackets.{Defined}
 use Rattle.cm_scan.specs.Inlines.{items_after}
 use Rattle.cm_scan.specs.InlineLaws.{is_plain_byte, keeps_spaces}
+use Rattle.cm_scan.specs.Runs.{runs_after, runs_of, characters_of}
 use Rattle.cm_inline.specs.declared.nodes.Node.{Node}
 use Rattle.cm_inline.specs.steps.Nodes.{item_of, items_of, IsPart}
-use Rattle.cm_inline.specs.steps.Pairs.{allowed}
+use Rattle.cm_inline.specs.Emphases.{emphases_of}
+use Rattle.cm_inline.specs.Reading.{looks_at_most}
+use Rattle.cm_inline.specs.steps.Searching.{kind}
+use Rattle.cm_inline.specs.steps.Pairs.{AreOf, allowance, items_emphases}
 
 -- this byte stands at the place, where a character begins
 pub record Stands (source : List ℕ) (at b : ℕ) : Type 0 where
@@ -43,7 +47,18 @@ item_for (Delimiter run) rest = Some (items.Delimiters run)
 item_for (OpenBracket image) rest = Some (items.Opener image rest)
 item_for CloseBracket rest = None
 
--- The node is the atom at the place, which ends at the other, and fifteen looks for each of its bytes are enough for it.
+-- how many kinds of closers there are
+abbrev pub kinds_by : Rules → ℕ
+kinds_by rules = if rules.strike then 13 else 12
+
+-- An item that an atom puts holds no emphasis yet, and a run is of the first so many kinds and has all its characters left.
+abbrev pub IsNew : (kinds : ℕ) → items.Item → Type 0
+IsNew kinds (items.Finished inline) = emphases_of inline ≡ 0
+IsNew kinds (items.Linked inline) = emphases_of inline ≡ 0
+IsNew kinds (items.Delimiters run) = (kind run < kinds) × (run.left ≡ run.whole) × (1 ≤ run.whole)
+IsNew kinds _ = ⊤
+
+-- The node is the atom at the place, which ends at the other.
 pub record IsAtom (rules : Rules) (source : List ℕ) (at : ℕ) (node : Node) (end : ℕ) : Type 0 where
   pub rest : (atom_in rules source at).rest ≡ drop end source
   pub item : item_for (atom_in rules source at).atom (atom_in rules source at).rest ≡ Some (item_of source node)
@@ -51,8 +66,19 @@ pub record IsAtom (rules : Rules) (source : List ℕ) (at : ℕ) (node : Node) (
   pub further : at < end
   pub within : end ≤ length source
   pub boundary : IsCharBoundary source end
-  pub paid : allowed (item_of source node) ≤ 15 * (end - at)
+  pub fresh : IsNew (kinds_by rules) (item_of source node)
 
 -- the items to which reading on from a place brings these nodes, with each text in pieces of a byte
 abbrev pub ahead : Rules → Defined → List ℕ → List Node → ℕ → List items.Item
 ahead rules defined source nodes at = in_pieces (reverse (items_after rules defined zero (reverse (take at source)) (drop at source) (reverse (items_of source nodes))))
+
+-- how many characters the delimiter runs have that follow a place, where nodes stand before it
+abbrev pub characters_ahead : Rules → Defined → List ℕ → List Node → ℕ → ℕ
+characters_ahead rules defined source nodes at = characters_of (runs_after rules defined zero (reverse (take at source)) (drop at source) (reverse (items_of source nodes)))
+
+-- A source is read up to a place with so many looks: the looks for which the nodes pay and those that the runs ahead allow are enough, and
+-- each emphasis that was made took one.
+pub record Pays (rules : Rules) (defined : Defined) (source : List ℕ) (nodes : List Node) (at looks : ℕ) : Type 0 where
+  pub are : AreOf (kinds_by rules) (items_of source nodes)
+  pub paid : looks + allowance (kinds_by rules) (items_of source nodes) + looks_at_most rules * characters_ahead rules defined source nodes at ≤ looks_at_most rules * characters_of (runs_of rules defined source)
+  pub made : items_emphases (items_of source nodes) ≤ looks

@@ -1,14 +1,15 @@
 use Rattle.std.proofs.Common.{◌+◌, true, sym, ◌∙◌}
 use Rattle.cm_inline.specs.declared.nodes.Node.TheVariants.{Piece, Opener}
 use Rattle.cm_inline.proofs.AtomLemmas.{told, image-is, bang-is-text}
+use Rattle.cm_inline.proofs.LinkLemmas.{next-of}
 use Rattle.cm_inline.proofs.atoms.exclamation_mark.Goals as goal
 
-pub returns-then-is_at : goal.returns-then-is_at
-returns-then-is_at c =
+pub returns-then-is_next : goal.returns-then-is_next
+returns-then-is_next c =
     λ rules. told rules c.args.source.now c.args.at c.opener.result (Opener true (c.args.at + 2)) (c.args.at + 2) c.opener.ensures
-    (image-is rules c.args.source.now c.args.at c.utf8.source c.requires (sym c.is_at.ensures ∙ c.if-is_at.true))
+    (image-is rules c.args.source.now c.args.at c.utf8.source c.requires (sym (next-of 91 c.args.source.now c.as_bytes.result.now (c.args.at + 1) c.is_next.result c.as_bytes.ensures.value c.is_next.ensures) ∙ c.if-is_next.true))
 
 pub returns : goal.returns
 returns c =
     λ rules. told rules c.args.source.now c.args.at c.text.result (Piece c.args.at (c.args.at + 1)) (c.args.at + 1) c.text.ensures
-    (bang-is-text rules c.args.source.now c.args.at c.utf8.source c.requires (sym c.is_at.ensures ∙ c.if-is_at.false))
+    (bang-is-text rules c.args.source.now c.args.at c.utf8.source c.requires (sym (next-of 91 c.args.source.now c.as_bytes.result.now (c.args.at + 1) c.is_next.result c.as_bytes.ensures.value c.is_next.ensures) ∙ c.if-is_next.false))

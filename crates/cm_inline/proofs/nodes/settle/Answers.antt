@@ -1,9 +1,9 @@
 use Rattle.std.proofs.Common.{◌≡◌, ◌+◌, ◌-◌, [], ◌∷◌, ◌++◌, length, take, drop, sym, ap, subst, ◌∙◌, arith, drop-drop}
 use Rattle.std.specs.Prelude.{slice_index_or}
-use Rattle.std.proofs.lemmas.List.{append-nil, drop_more, drop_all, drop-set-lt, length-set}
+use Rattle.std.proofs.lemmas.List.{append-nil, take_rest, drop_more, drop_all, drop-set-lt, length-set}
 use Rattle.cm_scan.specs.Pairing.{text_before, settled_after, settled}
 use Rattle.cm_inline.specs.steps.Nodes.{items_of, inline_of, text_in_front, AreParts}
-use Rattle.cm_inline.proofs.NodeLemmas.{parts-drop, settled-left, settled-on, all-from, left-behind}
+use Rattle.cm_inline.proofs.NodeLemmas.{parts-drop, settled-left, settled-on, left-behind}
 use Rattle.cm_inline.proofs.nodes.settle.Goals as goal
 
 pub loop-at-init : goal.loop-at-init
@@ -14,7 +14,7 @@ loop-at-init c = record {
 
 pub push_texts-requires : goal.push_texts-requires
 push_texts-requires c =
-    let same = all-from c.deref-in-loop-at.result.now c.loop-at.at ∙ ap (drop c.loop-at.at) c.deref-in-loop-at.ensures.value in
+    let same = take_rest c.deref-in-loop-at.result.now c.loop-at.at ∙ ap (drop c.loop-at.at) c.deref-in-loop-at.ensures.value in
     subst (AreParts c.args.source.now) (sym same) c.loop-at.invariant.parts
 
 pub loop-at-smaller-then-at-len : goal.loop-at-smaller-then-at-len
@@ -27,7 +27,7 @@ loop-at-preserved-then-at-len c =
     let at = c.loop-at.at in
     let next = c.loop-at.at + c.in_ok-at.field-0 in
     let node = c.replace-node.result in
-    let same = all-from c.deref-in-loop-at.result.now at ∙ ap (drop at) c.deref-in-loop-at.ensures.value in
+    let same = take_rest c.deref-in-loop-at.result.now at ∙ ap (drop at) c.deref-in-loop-at.ensures.value in
     let left = left-behind nodes (take (length c.deref-in-loop-at.result.now - at) (drop at c.deref-in-loop-at.result.now)) at c.in_ok-at.field-0 same c.in_ok-at.ensures.rest in
     let is : slice_index_or nodes next node ≡ node = subst (λ n. slice_index_or nodes next n ≡ n) (sym c.replace-node.ensures.value) (sym c.index_mut.ensures.value) in
     let first = drop_more nodes next node (omega (arith, c.if-at-len.true, c.len-in-loop-at.ensures)) ∙ ap (λ n. n ∷ drop (next + 1) nodes) is in
@@ -48,7 +48,7 @@ pub loop-at-preserved : goal.loop-at-preserved
 loop-at-preserved c =
     let source = c.args.source.now in
     let nodes = c.loop-at.nodes.items in
-    let same = all-from c.deref-in-loop-at.result.now c.loop-at.at ∙ ap (drop c.loop-at.at) c.deref-in-loop-at.ensures.value in
+    let same = take_rest c.deref-in-loop-at.result.now c.loop-at.at ∙ ap (drop c.loop-at.at) c.deref-in-loop-at.ensures.value in
     let left = left-behind nodes (take (length c.deref-in-loop-at.result.now - c.loop-at.at) (drop c.loop-at.at c.deref-in-loop-at.result.now)) c.loop-at.at c.in_ok-at.field-0 same c.in_ok-at.ensures.rest in
     record {
       settled = ap (λ done. done ++ settled (items_of source (drop (c.loop-at.at + c.in_ok-at.field-0) nodes))) (c.in_ok-at.ensures.pushed ∙ ap (λ t. c.loop-at.content.items ++ text_before (text_in_front source t) []) same)

@@ -11,7 +11,7 @@ find-requires-clause-there c =
     between-closer c.args.closer c.args.openers.now.list.entries (closing-there c.args.openers.now.list c.args.openers.now.bottoms c.args.closer (run_of c.args.run) c.requires.closing)
 
 pub find-requires-clause-few : goal.find-requires-clause-few
-find-requires-clause-few c = spent-few c.args.openers.now.list c.args.openers.now.bottoms (2 ^ 127) c.requires.few
+find-requires-clause-few c = spent-few 13 c.args.openers.now.list c.args.openers.now.bottoms (2 ^ 127) c.requires.few
 
 pub take_between-requires-clause-there : goal.take_between-requires-clause-there
 take_between-requires-clause-there c =

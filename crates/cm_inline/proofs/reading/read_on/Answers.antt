@@ -4,7 +4,10 @@ use Rattle.cm_scan.specs.Pairing.{emphasis_of}
 use Rattle.cm_tree.specs.Depth.{inlines_depth}
 use Rattle.cm_inline.specs.declared.openers.Openers.{Openers}
 use Rattle.cm_inline.specs.steps.Brackets.{IsRead, bracket_in}
-use Rattle.cm_inline.specs.steps.Reads.{ahead}
+use Rattle.cm_inline.specs.steps.Reads.{Pays, ahead}
+use Rattle.cm_inline.specs.steps.Nodes.{items_of, text_between}
+use Rattle.cm_inline.specs.steps.Pairs.{allowance}
+use Rattle.cm_inline.proofs.PaysLemmas.{text-pays, atom-more-pays, closed-pays, pays-few}
 use Rattle.cm_inline.proofs.ReaderLemmas.{text-more, atom-read, same-read}
 use Rattle.cm_inline.proofs.WholeLemmas.{ahead-text, ahead-atom, ahead-closed, closed-deeper}
 use Rattle.cm_inline.proofs.reading.read_on.Goals as goal
@@ -13,8 +16,8 @@ pub returns-then-end-source-clause-read : goal.returns-then-end-source-clause-re
 returns-then-end-source-clause-read c =
     let reader = c.args.reader.now in
     let text = c.text_end-end.ensures in
-    let r = text-more c.args.source.now reader.nodes.items reader.brackets.items c.args.at c.text_end-end.result reader.links_end reader.openers.list.looks reader.ends text.low text.boundary c.requires.read in
-    subst (λ t. IsRead c.args.source.now c.text_end-end.result t reader.brackets.items reader.links_end reader.openers.list.looks reader.ends) (sym c.in_ok-push_text.ensures) r
+    let r = text-more c.args.source.now reader.nodes.items reader.brackets.items c.args.at c.text_end-end.result reader.links_end reader.ends text.low text.boundary c.requires.read in
+    subst (λ t. IsRead c.args.source.now c.text_end-end.result t reader.brackets.items reader.links_end reader.ends) (sym c.in_ok-push_text.ensures) r
 
 pub returns-then-end-source-clause-ahead : goal.returns-then-end-source-clause-ahead
 returns-then-end-source-clause-ahead c =
@@ -26,8 +29,8 @@ pub close-requires-clause-read : goal.close-requires-clause-read
 close-requires-clause-read c =
     let reader = c.args.reader.now in
     let text = c.text_end-end.ensures in
-    let r = text-more c.args.source.now reader.nodes.items reader.brackets.items c.args.at c.text_end-end.result reader.links_end reader.openers.list.looks reader.ends text.low text.boundary c.requires.read in
-    subst (λ t. IsRead c.args.source.now c.text_end-end.result t reader.brackets.items reader.links_end reader.openers.list.looks reader.ends) (sym c.in_ok-push_text.ensures) r
+    let r = text-more c.args.source.now reader.nodes.items reader.brackets.items c.args.at c.text_end-end.result reader.links_end reader.ends text.low text.boundary c.requires.read in
+    subst (λ t. IsRead c.args.source.now c.text_end-end.result t reader.brackets.items reader.links_end reader.ends) (sym c.in_ok-push_text.ensures) r
 
 pub returns-then-as_bytes-end-eq93-clause-ahead : goal.returns-then-as_bytes-end-eq93-clause-ahead
 returns-then-as_bytes-end-eq93-clause-ahead c =
@@ -55,12 +58,12 @@ returns-clause-read c =
     let reader = c.args.reader.now in
     let text = c.text_end-end.ensures in
     let end = c.text_end-end.result in
-    let r = text-more source reader.nodes.items reader.brackets.items c.args.at end reader.links_end reader.openers.list.looks reader.ends text.low text.boundary c.requires.read in
-    let t = subst (λ t. IsRead source end t reader.brackets.items reader.links_end reader.openers.list.looks reader.ends) (sym c.in_ok-push_text.ensures) r in
-    let a = atom-read c.args.rules source c.push_text.new.nodes.items reader.brackets.items end c.in_ok-node.node c.in_ok-node.behind reader.links_end reader.openers.list.looks reader.ends c.atom.new.ends c.in_ok-node.ensures.atom c.in_ok-node.ensures.knows t in
+    let r = text-more source reader.nodes.items reader.brackets.items c.args.at end reader.links_end reader.ends text.low text.boundary c.requires.read in
+    let t = subst (λ t. IsRead source end t reader.brackets.items reader.links_end reader.ends) (sym c.in_ok-push_text.ensures) r in
+    let a = atom-read c.args.rules source c.push_text.new.nodes.items reader.brackets.items end c.in_ok-node.node c.in_ok-node.behind reader.links_end reader.ends c.atom.new.ends c.in_ok-node.ensures.atom c.in_ok-node.ensures.knows t in
     let add = c.in_ok-add.ensures in
     same-read source c.in_ok-node.behind (c.push_text.new.nodes.items ++ c.in_ok-node.node ∷ []) c.add.new.self.nodes.items (reader.brackets.items ++ bracket_in (length c.push_text.new.nodes.items) c.in_ok-node.node) c.add.new.self.brackets.items reader.links_end c.add.new.self.links_end
-    reader.openers.list.looks c.add.new.self.openers.list.looks c.atom.new.ends c.add.new.self.ends add.nodes add.brackets add.same.0 (ap (λ (o : Openers). o.list.looks) add.same.1) add.same.2 a
+    c.atom.new.ends c.add.new.self.ends add.nodes add.brackets add.same.0 add.same.2 a
 
 pub returns-clause-ahead : goal.returns-clause-ahead
 returns-clause-ahead c =
@@ -71,3 +74,45 @@ returns-clause-ahead c =
     ap (λ t. ahead c.args.rules defined source t c.in_ok-node.behind) c.in_ok-add.ensures.nodes
     ∙ ahead-atom c.args.rules defined source c.push_text.new.nodes.items end c.in_ok-node.node c.in_ok-node.behind (omega (arith, c.text_end-end.ensures.boundary.0, c.if-end-source.false)) c.in_ok-node.ensures.atom
     ∙ ap (λ t. ahead c.args.rules defined source t end) c.in_ok-push_text.ensures ∙ ahead-text c.args.rules defined source nodes c.args.at end c.text_end-end.ensures
+
+-- the text more, as it was pushed
+pub returns-then-end-source-clause-pays : goal.returns-then-end-source-clause-pays
+returns-then-end-source-clause-pays c =
+    let reader = c.args.reader.now in
+    subst (λ t. Pays c.args.rules (defined_in c.args.definitions.now) c.args.source.now t c.text_end-end.result reader.openers.list.looks) (sym c.in_ok-push_text.ensures)
+    (text-pays c.args.rules (defined_in c.args.definitions.now) c.args.source.now reader.nodes.items c.args.at c.text_end-end.result reader.openers.list.looks c.text_end-end.ensures c.requires.pays)
+
+pub close-requires-clause-few : goal.close-requires-clause-few
+close-requires-clause-few c =
+    let reader = c.args.reader.now in
+    let rules = c.args.rules in
+    let defined = defined_in c.args.definitions.now in
+    let source = c.args.source.now in
+    let pays = text-pays rules defined source reader.nodes.items c.args.at c.text_end-end.result reader.openers.list.looks c.text_end-end.ensures c.requires.pays in
+    let few = pays-few rules defined source (reader.nodes.items ++ text_between c.args.at c.text_end-end.result) c.text_end-end.result reader.openers.list.looks pays (omega (arith, c.as_bytes.ensures.len)) in
+    omega (arith, few, ap (λ t. allowance 13 (items_of source t)) c.in_ok-push_text.ensures)
+
+pub returns-then-as_bytes-end-eq93-clause-pays : goal.returns-then-as_bytes-end-eq93-clause-pays
+returns-then-as_bytes-end-eq93-clause-pays c =
+    let reader = c.args.reader.now in
+    let rules = c.args.rules in
+    let defined = defined_in c.args.definitions.now in
+    let source = c.args.source.now in
+    let end = c.text_end-end.result in
+    let pays = text-pays rules defined source reader.nodes.items c.args.at end reader.openers.list.looks c.text_end-end.ensures c.requires.pays in
+    closed-pays c.close.result rules defined source c.push_text.new.nodes.items c.close.new.self.nodes.items end reader.openers.list.looks c.close.new.self.openers.list.looks
+    (record { within = omega (arith, c.text_end-end.ensures.boundary.0, c.if-end-source.false); boundary = c.text_end-end.ensures.boundary; byte = ap (λ t. get_or t end 0) (sym c.as_bytes.ensures.value) ∙ c.if-as_bytes-end-eq93.true })
+    (subst (λ t. Pays rules defined source t end reader.openers.list.looks) (sym c.in_ok-push_text.ensures) pays) c.close.ensures.further c.close.ensures.keeps c.close.ensures.closed
+
+pub returns-clause-pays : goal.returns-clause-pays
+returns-clause-pays c =
+    let reader = c.args.reader.now in
+    let rules = c.args.rules in
+    let defined = defined_in c.args.definitions.now in
+    let source = c.args.source.now in
+    let end = c.text_end-end.result in
+    let pays = subst (λ t. Pays rules defined source t end reader.openers.list.looks) (sym c.in_ok-push_text.ensures)
+    (text-pays rules defined source reader.nodes.items c.args.at end reader.openers.list.looks c.text_end-end.ensures c.requires.pays) in
+    let more = atom-more-pays rules defined source c.push_text.new.nodes.items end c.in_ok-node.node c.in_ok-node.behind reader.openers.list.looks (omega (arith, c.text_end-end.ensures.boundary.0, c.if-end-source.false)) c.in_ok-node.ensures.atom pays in
+    subst (λ t. Pays rules defined source t c.in_ok-node.behind c.add.new.self.openers.list.looks) (sym c.in_ok-add.ensures.nodes)
+    (subst (Pays rules defined source (c.push_text.new.nodes.items ++ c.in_ok-node.node ∷ []) c.in_ok-node.behind) (sym (ap (λ (o : Openers). o.list.looks) c.in_ok-add.ensures.same.1)) more)

@@ -29,8 +29,8 @@ pub returns-clause-read : goal.returns-clause-read
 returns-clause-read c =
     let r = c.requires.read in
     let now = c.args.self.now in
-    then-ok c.push_node.result (λ is. subst (λ t. IsRead c.args.source.now (c.args.at + 1) t now.brackets.items now.links_end now.openers.list.looks now.ends) (sym is)
-    (text-read c.args.source.now now.nodes.items now.brackets.items c.args.bracket c.args.at now.links_end now.openers.list.looks now.ends c.utf8.source c.requires.stands r)) (more-is c)
+    then-ok c.push_node.result (λ is. subst (λ t. IsRead c.args.source.now (c.args.at + 1) t now.brackets.items now.links_end now.ends) (sym is)
+    (text-read c.args.source.now now.nodes.items now.brackets.items c.args.bracket c.args.at now.links_end now.ends c.utf8.source c.requires.stands r)) (more-is c)
 
 pub returns-clause-items : goal.returns-clause-items
 returns-clause-items c =

@@ -4,12 +4,13 @@ use Rattle.cm_tree.specs.Depth.{inlines_depth}
 use Rattle.cm_scan.specs.Pairing.{emphasis_of}
 use Rattle.cm_inline.specs.declared.fault.InlineFault.TheVariants.{InlinesTooDeep}
 use Rattle.cm_inline.specs.steps.Nodes.{AreParts}
-use Rattle.cm_inline.specs.steps.Pairs.{allowance}
+use Rattle.cm_inline.specs.Emphases.{emphases}
+use Rattle.cm_inline.specs.steps.Pairs.{AreLooks, allowance}
 use Rattle.cm_inline.specs.steps.Brackets.{IsRead}
 use Rattle.cm_inline.proofs.BracketLemmas.{split-last, split-within}
 use Rattle.cm_inline.proofs.NodeLemmas.{parts-drop}
 use Rattle.cm_inline.proofs.DeeperLemmas.{same-fault}
-use Rattle.cm_inline.proofs.ReaderLemmas.{makes, inside-items, link-items, read-linked, read-other, link-deeper, inside-pays}
+use Rattle.cm_inline.proofs.ReaderLemmas.{makes, inside-items, link-items, read-linked, read-other, link-deeper, inside-pays, made-keeps}
 use Rattle.cm_inline.proofs.brackets.Reader.make_link.Goals as goal
 
 pub overflow_add-bracket : goal.overflow_add-bracket
@@ -31,7 +32,7 @@ pub emphasis_of-requires-clause-few : goal.emphasis_of-requires-clause-few
 emphasis_of-requires-clause-few c =
     let now = c.args.self.now in
     let r = c.requires.read in
-    omega (arith, r.paid, inside-pays c.args.source.now now.nodes.items now.brackets.items c.args.bracket (split-last 0 now.nodes.items now.brackets.items c.args.bracket r.unclosed), ap allowance (inside-items c.args.source.now c.args.self.now.nodes.items c.in_ok-inside.inside.items c.args.bracket c.in_ok-inside.ensures.tail))
+    omega (arith, c.requires.few, inside-pays 13 c.args.source.now now.nodes.items now.brackets.items c.args.bracket (split-last 0 now.nodes.items now.brackets.items c.args.bracket r.unclosed), ap (allowance 13) (inside-items c.args.source.now c.args.self.now.nodes.items c.in_ok-inside.inside.items c.args.bracket c.in_ok-inside.ensures.tail))
 
 pub returns-in_err-content-clause-deep : goal.returns-in_err-content-clause-deep
 returns-in_err-content-clause-deep c = λ e.
@@ -47,29 +48,50 @@ pub returns-then-holds_link-clause-read : goal.returns-then-holds_link-clause-re
 returns-then-holds_link-clause-read c =
     let now = c.args.self.now in
     let more = c.push_node.new.nodes.items in
-    let later = c.emphasis_of.new.openers.list.looks in
-    subst (λ n. IsRead c.args.source.now c.args.end.end more now.brackets.items n later now.ends) (sym (c.len-self.ensures ∙ c.push_node.new.nodes.ok.0))
-    (read-linked c.args.source.now now.nodes.items more now.brackets.items c.args.bracket c.args.end.dest c.args.end.title c.in_ok-content.content c.in_ok-content.depth c.holds_link-holds_link.result c.args.end.end now.links_end now.openers.list.looks later now.ends
+    subst (λ n. IsRead c.args.source.now c.args.end.end more now.brackets.items n now.ends) (sym (c.len-self.ensures ∙ c.push_node.new.nodes.ok.0))
+    (read-linked c.args.source.now now.nodes.items more now.brackets.items c.args.bracket c.args.end.dest c.args.end.title c.in_ok-content.content c.in_ok-content.depth c.holds_link-holds_link.result c.args.end.end now.links_end now.ends
     c.requires.read (makes c.args.source.now now.nodes.items c.split_off.new.self.items c.truncate.new.self.items c.in_ok-inside.inside.items c.push_node.new.nodes.items c.args.bracket c.args.end.dest c.args.end.title c.link_of.result c.in_ok-content.content c.in_ok-content.depth
-    c.holds_link-holds_link.result now.links_end c.in_ok-inside.ensures.items c.in_ok-inside.ensures.tail c.truncate.ensures.items c.link_of.ensures c.in_ok-push_node.ensures c.in_ok-content.ensures.content c.in_ok-content.ensures.depth c.holds_link-holds_link.ensures) c.if-holds_link.true (omega (arith, c.in_ok-content.ensures.looks, ap allowance (inside-items c.args.source.now c.args.self.now.nodes.items c.in_ok-inside.inside.items c.args.bracket c.in_ok-inside.ensures.tail))))
+    c.holds_link-holds_link.result now.links_end c.in_ok-inside.ensures.items c.in_ok-inside.ensures.tail c.truncate.ensures.items c.link_of.ensures c.in_ok-push_node.ensures c.in_ok-content.ensures.content c.in_ok-content.ensures.depth c.holds_link-holds_link.ensures) c.if-holds_link.true)
 
 pub returns-then-holds_link-clause-items : goal.returns-then-holds_link-clause-items
 returns-then-holds_link-clause-items c =
     let now = c.args.self.now in
     link-items c.args.source.now now.nodes.items c.push_node.new.nodes.items now.brackets.items c.args.bracket c.args.end.dest c.args.end.title c.in_ok-content.content c.in_ok-content.depth c.holds_link-holds_link.result c.args.end.end now.links_end
-    now.openers.list.looks c.emphasis_of.new.openers.list.looks now.ends c.requires.read (makes c.args.source.now now.nodes.items c.split_off.new.self.items c.truncate.new.self.items c.in_ok-inside.inside.items c.push_node.new.nodes.items c.args.bracket c.args.end.dest c.args.end.title c.link_of.result c.in_ok-content.content c.in_ok-content.depth
+    now.ends c.requires.read (makes c.args.source.now now.nodes.items c.split_off.new.self.items c.truncate.new.self.items c.in_ok-inside.inside.items c.push_node.new.nodes.items c.args.bracket c.args.end.dest c.args.end.title c.link_of.result c.in_ok-content.content c.in_ok-content.depth
     c.holds_link-holds_link.result now.links_end c.in_ok-inside.ensures.items c.in_ok-inside.ensures.tail c.truncate.ensures.items c.link_of.ensures c.in_ok-push_node.ensures c.in_ok-content.ensures.content c.in_ok-content.ensures.depth c.holds_link-holds_link.ensures)
 
 pub returns-else-holds_link-clause-read : goal.returns-else-holds_link-clause-read
 returns-else-holds_link-clause-read c =
     let now = c.args.self.now in
     read-other c.args.source.now now.nodes.items c.push_node.new.nodes.items now.brackets.items c.args.bracket c.args.end.dest c.args.end.title c.in_ok-content.content c.in_ok-content.depth c.holds_link-holds_link.result c.args.end.end now.links_end
-    now.openers.list.looks c.emphasis_of.new.openers.list.looks now.ends c.requires.read (makes c.args.source.now now.nodes.items c.split_off.new.self.items c.truncate.new.self.items c.in_ok-inside.inside.items c.push_node.new.nodes.items c.args.bracket c.args.end.dest c.args.end.title c.link_of.result c.in_ok-content.content c.in_ok-content.depth
-    c.holds_link-holds_link.result now.links_end c.in_ok-inside.ensures.items c.in_ok-inside.ensures.tail c.truncate.ensures.items c.link_of.ensures c.in_ok-push_node.ensures c.in_ok-content.ensures.content c.in_ok-content.ensures.depth c.holds_link-holds_link.ensures) c.if-holds_link.false (omega (arith, c.in_ok-content.ensures.looks, ap allowance (inside-items c.args.source.now c.args.self.now.nodes.items c.in_ok-inside.inside.items c.args.bracket c.in_ok-inside.ensures.tail)))
+    now.ends c.requires.read (makes c.args.source.now now.nodes.items c.split_off.new.self.items c.truncate.new.self.items c.in_ok-inside.inside.items c.push_node.new.nodes.items c.args.bracket c.args.end.dest c.args.end.title c.link_of.result c.in_ok-content.content c.in_ok-content.depth
+    c.holds_link-holds_link.result now.links_end c.in_ok-inside.ensures.items c.in_ok-inside.ensures.tail c.truncate.ensures.items c.link_of.ensures c.in_ok-push_node.ensures c.in_ok-content.ensures.content c.in_ok-content.ensures.depth c.holds_link-holds_link.ensures) c.if-holds_link.false
 
 pub returns-else-holds_link-clause-items : goal.returns-else-holds_link-clause-items
 returns-else-holds_link-clause-items c =
     let now = c.args.self.now in
     link-items c.args.source.now now.nodes.items c.push_node.new.nodes.items now.brackets.items c.args.bracket c.args.end.dest c.args.end.title c.in_ok-content.content c.in_ok-content.depth c.holds_link-holds_link.result c.args.end.end now.links_end
-    now.openers.list.looks c.emphasis_of.new.openers.list.looks now.ends c.requires.read (makes c.args.source.now now.nodes.items c.split_off.new.self.items c.truncate.new.self.items c.in_ok-inside.inside.items c.push_node.new.nodes.items c.args.bracket c.args.end.dest c.args.end.title c.link_of.result c.in_ok-content.content c.in_ok-content.depth
+    now.ends c.requires.read (makes c.args.source.now now.nodes.items c.split_off.new.self.items c.truncate.new.self.items c.in_ok-inside.inside.items c.push_node.new.nodes.items c.args.bracket c.args.end.dest c.args.end.title c.link_of.result c.in_ok-content.content c.in_ok-content.depth
     c.holds_link-holds_link.result now.links_end c.in_ok-inside.ensures.items c.in_ok-inside.ensures.tail c.truncate.ensures.items c.link_of.ensures c.in_ok-push_node.ensures c.in_ok-content.ensures.content c.in_ok-content.ensures.depth c.holds_link-holds_link.ensures)
+
+pub returns-then-holds_link-clause-keeps : goal.returns-then-holds_link-clause-keeps
+returns-then-holds_link-clause-keeps c =
+    let now = c.args.self.now in
+    let source = c.args.source.now in
+    let made = makes source now.nodes.items c.split_off.new.self.items c.truncate.new.self.items c.in_ok-inside.inside.items c.push_node.new.nodes.items c.args.bracket c.args.end.dest c.args.end.title c.link_of.result c.in_ok-content.content c.in_ok-content.depth
+    c.holds_link-holds_link.result now.links_end c.in_ok-inside.ensures.items c.in_ok-inside.ensures.tail c.truncate.ensures.items c.link_of.ensures c.in_ok-push_node.ensures c.in_ok-content.ensures.content c.in_ok-content.ensures.depth c.holds_link-holds_link.ensures in
+    made-keeps source now.nodes.items c.push_node.new.nodes.items now.brackets.items c.args.bracket c.args.end.dest c.args.end.title now.openers.list.looks c.emphasis_of.new.openers.list.looks
+    (split-last 0 now.nodes.items now.brackets.items c.args.bracket c.requires.read.unclosed)
+    (link-items source now.nodes.items c.push_node.new.nodes.items now.brackets.items c.args.bracket c.args.end.dest c.args.end.title c.in_ok-content.content c.in_ok-content.depth c.holds_link-holds_link.result c.args.end.end now.links_end now.ends c.requires.read made)
+    (subst (λ t. AreLooks now.openers.list.looks t c.emphasis_of.new.openers.list.looks (emphases (emphasis_of t))) (inside-items source now.nodes.items c.in_ok-inside.inside.items c.args.bracket c.in_ok-inside.ensures.tail) c.in_ok-content.ensures.looks)
+
+pub returns-else-holds_link-clause-keeps : goal.returns-else-holds_link-clause-keeps
+returns-else-holds_link-clause-keeps c =
+    let now = c.args.self.now in
+    let source = c.args.source.now in
+    let made = makes source now.nodes.items c.split_off.new.self.items c.truncate.new.self.items c.in_ok-inside.inside.items c.push_node.new.nodes.items c.args.bracket c.args.end.dest c.args.end.title c.link_of.result c.in_ok-content.content c.in_ok-content.depth
+    c.holds_link-holds_link.result now.links_end c.in_ok-inside.ensures.items c.in_ok-inside.ensures.tail c.truncate.ensures.items c.link_of.ensures c.in_ok-push_node.ensures c.in_ok-content.ensures.content c.in_ok-content.ensures.depth c.holds_link-holds_link.ensures in
+    made-keeps source now.nodes.items c.push_node.new.nodes.items now.brackets.items c.args.bracket c.args.end.dest c.args.end.title now.openers.list.looks c.emphasis_of.new.openers.list.looks
+    (split-last 0 now.nodes.items now.brackets.items c.args.bracket c.requires.read.unclosed)
+    (link-items source now.nodes.items c.push_node.new.nodes.items now.brackets.items c.args.bracket c.args.end.dest c.args.end.title c.in_ok-content.content c.in_ok-content.depth c.holds_link-holds_link.result c.args.end.end now.links_end now.ends c.requires.read made)
+    (subst (λ t. AreLooks now.openers.list.looks t c.emphasis_of.new.openers.list.looks (emphases (emphasis_of t))) (inside-items source now.nodes.items c.in_ok-inside.inside.items c.args.bracket c.in_ok-inside.ensures.tail) c.in_ok-content.ensures.looks)
