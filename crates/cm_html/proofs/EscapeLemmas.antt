@@ -4,7 +4,7 @@ use Rattle.std.specs.Prelude.{flat_map}
 use Rattle.std.specs.List.{position}
 use Rattle.cm_html.specs.Escape.{is_escaped, escape_byte, escape}
 use Rattle.cm_html.specs.Listing.{has_escape, quote_byte}
-use Rattle.cm_html.proofs.ReplacedLemmas.{Keeps, replaced-found, replaced-none}
+use Rattle.cm_text.proofs.ReplacedLemmas.{Keeps, replaced-found, replaced-none}
 
 -- any other byte stands for itself
 escape_byte-plain : Keeps is_escaped escape_byte

@@ -1,6 +1,9 @@
 pub mod Pushed
 pub mod ListingLemmas
-pub mod ReplacedLemmas
 pub mod EscapeLemmas
 pub mod Words
 pub mod Destinations
+pub mod MarkupSteps
+pub mod MarkupTexts
+pub mod MarkupInlines
+pub mod MarkupBlocks

@@ -1,5 +1,8 @@
 pub mod Escape
 pub mod Html
 pub mod Listing
+pub mod Markup
+pub mod MarkupExamples
+pub mod Tags
 pub mod WorkedExamples
 pub mod Writing

@@ -18,9 +18,13 @@ pub(crate) fn push_blocks(out: &mut String, blocks: &[Block]) -> Result<(), Allo
     Ok(())
 }
 
-/// Writes a block that stands in no item.
+/// Adds the HTML of a block that stands in no item.
+///
+/// # Errors
+///
+/// `AllocError` where a request for memory was refused; a beginning of the HTML may have been added then.
 #[cycle(blocks)]
-fn push_block(out: &mut String, block: &Block) -> Result<(), AllocError>
+pub fn push_block(out: &mut String, block: &Block) -> Result<(), AllocError>
     ensures { OnOk result (string_bytes out.new ≡ string_bytes out.old ++ alone (written block.now)) }
 {
     match block {

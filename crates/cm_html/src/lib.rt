@@ -11,6 +11,7 @@ mod quoting;
 mod rendering;
 mod search;
 
+pub use blocks::push_block;
 pub use fault::HtmlFault;
 pub use listings::listing;
 pub use rendering::{html, write_html, write_listing};

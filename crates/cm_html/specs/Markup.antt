@@ -1,0 +1,107 @@
+-- The tags in some bytes, if these are markup: text, and tags of a fixed list, each closed in its place. The bytes are read from the
+-- left, with the names of the elements that are open.
+use Rattle.std.specs.Prelude.{ℕ, ◌==◌, Bool, true, false, not, ◌&&◌, ◌||◌, Option, Some, None, List, [], ◌∷◌, ◌++◌, codes, drop, if◌then◌else◌}
+use Rattle.std.specs.Option.{is_some}
+use Rattle.std.specs.Char.{is_ascii_digit}
+use Rattle.std.specs.List.{list_any, list_all, before_first}
+use Rattle.std.specs.Str.{bytes_eq}
+
+-- the text begins with this word
+abbrev pub begins : List ℕ → List ℕ → Bool
+begins [] text = true
+begins (c ∷ cs) [] = false
+begins (c ∷ cs) (b ∷ bs) = c == b && begins cs bs
+
+-- what stands behind the `&` of a reference
+abbrev pub references : List (List ℕ)
+references = codes "amp;" ∷ codes "lt;" ∷ codes "gt;" ∷ codes "quot;" ∷ []
+
+-- a byte of a text, by what follows it: no `<`, `>` or `"`, and a `&` only at the front of a reference
+abbrev pub may_stand : ℕ → List ℕ → Bool
+may_stand b next = if b == 38 then list_any (λ reference. begins reference next) references else not (b == 60 || b == 62 || b == 34)
+
+abbrev pub is_text : List ℕ → Bool
+is_text [] = true
+is_text (b ∷ bs) = may_stand b bs && is_text bs
+
+-- A tag is what stands between `<` and `>`, without what stands in its quotes. Those that open an element:
+abbrev pub opening_tags : List (List ℕ)
+opening_tags =
+    codes "p" ∷ codes "h1" ∷ codes "h2" ∷ codes "h3" ∷ codes "h4" ∷ codes "h5" ∷ codes "h6"
+    ∷ codes "pre" ∷ codes "code" ∷ codes "code class=\"\"" ∷ codes "blockquote"
+    ∷ codes "ul" ∷ codes "ol" ∷ codes "ol start=\"\"" ∷ codes "li"
+    ∷ codes "em" ∷ codes "strong" ∷ codes "del" ∷ codes "a href=\"\"" ∷ codes "a href=\"\" title=\"\"" ∷ []
+
+-- those of an element without content
+abbrev pub lone_tags : List (List ℕ)
+lone_tags = codes "hr /" ∷ codes "br /" ∷ codes "img src=\"\" alt=\"\" /" ∷ codes "img src=\"\" alt=\"\" title=\"\" /" ∷ []
+
+abbrev pub is_among : List (List ℕ) → List ℕ → Bool
+is_among tags tag = list_any (bytes_eq tag) tags
+
+-- what may stand in quotes, by the tag in front: a text; of a class the name of a language, and of a start a number
+abbrev pub may_be_value : List ℕ → List ℕ → Bool
+may_be_value tag value =
+    is_text value
+    && (if bytes_eq tag (codes "code class=") then begins (codes "language-") value
+    else (if bytes_eq tag (codes "ol start=") then list_all is_ascii_digit value else true))
+
+-- Where a reader stands, with the names of the open elements, the innermost first: in text; in a tag, with what was read of it; in a
+-- value, with the tag in front and what was read of the value; or behind what is no markup.
+pub data Place : Type 0 where
+  InText : List (List ℕ) → Place
+  InTag : List ℕ → List (List ℕ) → Place
+  InValue : List ℕ → List ℕ → List (List ℕ) → Place
+  Refused : Place
+
+-- behind the closing tag of an element, which has to be the innermost
+abbrev pub closed : List ℕ → List (List ℕ) → Place
+closed name [] = Refused
+closed name (innermost ∷ names) = if bytes_eq name innermost then InText names else Refused
+
+abbrev pub behind_tag : List ℕ → List (List ℕ) → Place
+behind_tag tag names =
+    if begins (codes "/") tag then closed (drop 1 tag) names
+    else (if is_among lone_tags tag then InText names
+    else (if is_among opening_tags tag then InText (before_first (λ b. b == 32) tag ∷ names) else Refused))
+
+-- behind one more byte, by what follows it
+abbrev pub behind : Place → ℕ → List ℕ → Place
+behind (InText names) b next = if b == 60 then InTag [] names else (if may_stand b next then InText names else Refused)
+behind (InTag tag names) b next =
+    if b == 62 then behind_tag tag names else (if b == 34 then InValue tag [] names else InTag (tag ++ b ∷ []) names)
+behind (InValue tag value names) b next =
+    if b == 34
+    then (if may_be_value tag value then InTag (tag ++ codes "\"\"") names else Refused)
+    else InValue tag (value ++ b ∷ []) names
+behind Refused b next = Refused
+
+-- the tag that this byte ends
+abbrev pub ended : Place → ℕ → List (List ℕ)
+ended (InTag tag names) b = if b == 62 then tag ∷ [] else []
+ended place b = []
+
+-- tags in front of those that follow, if there is nothing but markup
+abbrev pub and_tag : List ℕ → Option (List (List ℕ)) → Option (List (List ℕ))
+and_tag tag None = None
+and_tag tag (Some tags) = Some (tag ∷ tags)
+
+abbrev pub and_tags : List (List ℕ) → Option (List (List ℕ)) → Option (List (List ℕ))
+and_tags [] following = following
+and_tags (tag ∷ tags) following = and_tag tag (and_tags tags following)
+
+-- at the end nothing is open
+abbrev pub at_end : Place → Option (List (List ℕ))
+at_end (InText []) = Some []
+at_end _ = None
+
+abbrev pub tags_from : Place → List ℕ → Option (List (List ℕ))
+tags_from place [] = at_end place
+tags_from place (b ∷ bs) = and_tags (ended place b) (tags_from (behind place b bs) bs)
+
+-- the tags in the bytes, in order, or nothing where these aren't markup
+abbrev pub tags_in : List ℕ → Option (List (List ℕ))
+tags_in bytes = tags_from (InText []) bytes
+
+abbrev pub is_markup : List ℕ → Bool
+is_markup bytes = is_some (tags_in bytes)
