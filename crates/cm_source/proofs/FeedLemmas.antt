@@ -1,0 +1,135 @@
+-- What is spelled of a text has no line feed.
+use Rattle.std.proofs.Common.{◌≡◌, ℕ, ◌+◌, ◌<◌, ◌≤◌, ◌==◌, ◌&&◌, ◌||◌, Bool, true, false, List, [], ◌∷◌, ◌++◌, length, take, drop, get_or, replicate, Some, None, refl, sym, ap, subst, ◌∙◌, arith, suc, zero, take_all}
+use Rattle.std.specs.Prelude.{if◌then◌else◌, codes}
+use Rattle.std.specs.Fmt.{decimal}
+use Rattle.std.specs.Char.{is_ascii_control}
+use Rattle.std.specs.List.{list_any, position, position_or_len}
+use Rattle.std.proofs.lemmas.List.{drop_more, take-append-drop}
+use Rattle.std.proofs.lemmas.List.Quantifiers.{position-Some}
+use Rattle.std.proofs.lemmas.List.Sums.{fails_before_first}
+use Rattle.std.specs.Char.{digit_value}
+use Rattle.std.specs.Str.Parse.{AllDigits}
+use Rattle.std.proofs.lemmas.Bool.{eqb-true}
+use Rattle.std.proofs.lemmas.Fmt.{decimal_is_IsNumeral}
+use Rattle.std.proofs.lemmas.List.Folds.{list_any-append}
+use Rattle.cm_text.specs.Characters.{is_ascii_punct}
+use Rattle.cm_scan.specs.Words.{is_empty}
+use Rattle.cm_source.specs.Spelling.{in_front, ended_lines}
+use Rattle.cm_source.specs.Texts.{numbered, spelled_byte, spelled_bytes, edge_byte, spelled_text, spelled_title, spelled_target}
+
+abbrev pub has_feed : List ℕ → Bool
+has_feed text = list_any (λ b. b == 10) text
+
+pub both-without : (xs ys : List ℕ) → has_feed xs ≡ false → has_feed ys ≡ false → has_feed (xs ++ ys) ≡ false
+both-without xs ys e f = list_any-append (λ b. b == 10) xs ys ∙ ap (λ v. v || has_feed ys) e ∙ f
+
+digits-without : (ds : List ℕ) → AllDigits 10 ds → has_feed ds ≡ false
+digits-without [] are = refl
+digits-without (c ∷ cs) are = go (c == 10) refl (digits-without cs are.1)
+  where
+    go : (feed : Bool) → (c == 10) ≡ feed → has_feed cs ≡ false → feed || has_feed cs ≡ false
+    go true e rest = let low : digit_value 10 < 10 = subst (λ d. digit_value d < 10) (eqb-true c 10 e) are.0 in absurd (omega (arith, low))
+    go false e rest = rest
+
+pub numbered-without : (b : ℕ) → b < 128 → has_feed (numbered b) ≡ false
+numbered-without b small =
+    let digits = (decimal_is_IsNumeral b (omega (arith, small))).0 in
+    both-without (codes "&#" ++ decimal b) (codes ";") (both-without (codes "&#") (decimal b) refl (digits-without (decimal b) digits.1)) refl
+
+byte-without : (b : ℕ) → has_feed (spelled_byte b) ≡ false
+unfolding spelled_byte
+byte-without b = go (b == 96 || is_ascii_control b) refl (is_ascii_punct b)
+  where
+    no-feed : (b == 96 || is_ascii_control b) ≡ false → (b == 10) ≡ false
+    no-feed e = grind (arith, e)
+
+    small : (b == 96 || is_ascii_control b) ≡ true → b < 128
+    small e = grind (arith, e)
+
+    go : (numbers : Bool) → (b == 96 || is_ascii_control b) ≡ numbers → (punct : Bool) → has_feed (if numbers then numbered b else (if punct then 92 ∷ b ∷ [] else b ∷ [])) ≡ false
+    go true e punct = numbered-without b (small e)
+    go false e true = ap (λ v. v || false) (no-feed e)
+    go false e false = ap (λ v. v || false) (no-feed e)
+
+pub bytes-without : (text : List ℕ) → has_feed (spelled_bytes text) ≡ false
+bytes-without [] = refl
+bytes-without (b ∷ bs) = both-without (spelled_byte b) (spelled_bytes bs) (byte-without b) (bytes-without bs)
+
+edge-without : (edge : Bool) (b : ℕ) → has_feed (edge_byte edge b) ≡ false
+edge-without edge b = go (edge && b == 32)
+  where
+    go : (v : Bool) → has_feed (if v then numbered 32 else spelled_byte b) ≡ false
+    go true = numbered-without 32 (omega arith)
+    go false = byte-without b
+
+pub text-without : (first last : Bool) (text : List ℕ) → has_feed (spelled_text first last text) ≡ false
+unfolding spelled_text
+text-without first last [] = refl
+text-without first last (b ∷ bs) = both-without (edge_byte (first || last && is_empty bs) b) (spelled_text false last bs) (edge-without (first || last && is_empty bs) b) (text-without false last bs)
+
+title-without : (title : List ℕ) → has_feed (spelled_title title) ≡ false
+title-without [] = refl
+title-without (b ∷ bs) = both-without (codes " \"" ++ spelled_bytes (b ∷ bs)) (codes "\"") (both-without (codes " \"") (spelled_bytes (b ∷ bs)) refl (bytes-without (b ∷ bs))) refl
+
+pub target-without : (dest title : List ℕ) → has_feed (spelled_target dest title) ≡ false
+unfolding spelled_target
+target-without dest title =
+    both-without (codes "](<" ++ spelled_bytes dest ++ codes ">" ++ spelled_title title) (codes ")")
+    (both-without (codes "](<" ++ spelled_bytes dest ++ codes ">") (spelled_title title)
+    (both-without (codes "](<" ++ spelled_bytes dest) (codes ">") (both-without (codes "](<") (spelled_bytes dest) refl (bytes-without dest)) refl) (title-without title)) refl
+
+-- a text up to its first line feed
+
+none-before : (i : ℕ) (text : List ℕ) → ((k : ℕ) → k < i → (get_or text k 0 == 10) ≡ false) → has_feed (take i text) ≡ false
+none-before zero text none = refl
+none-before (suc i) [] none = refl
+none-before (suc i) (b ∷ bs) none = ap (λ v. v || has_feed (take i bs)) (none 0 (omega arith)) ∙ none-before i bs (λ k low. none (suc k) (omega (arith, low)))
+
+pub feed-at : (text : List ℕ) (i : ℕ) → position (λ b. b == 10) text ≡ Some i → (has_feed (take i text) ≡ false) × (text ≡ take i text ++ 10 ∷ drop (i + 1) text)
+feed-at text i found =
+    let first = position-Some (λ b. b == 10) text i 0 found in
+    (none-before i text first.2, sym (take-append-drop i text) ∙ ap (λ t. take i text ++ t) (drop_more text i 0 first.0 ∙ ap (λ b. b ∷ drop (i + 1) text) (eqb-true (get_or text i 0) 10 first.1)))
+
+pub no-feed : (text : List ℕ) → position (λ b. b == 10) text ≡ None → has_feed text ≡ false
+no-feed text none =
+    let past : length text ≤ position_or_len (λ b. b == 10) text = grind (arith, none) in
+    ap has_feed (sym (take_all (length text) text (omega arith))) ∙ none-before (length text) text (λ k low. fails_before_first (λ b. b == 10) text k 0 (omega (arith, low, past)))
+
+-- the lines of a text that line feeds end
+
+pub ended-first : (line rest : List ℕ) → has_feed line ≡ false → ended_lines (line ++ 10 ∷ rest) ≡ line ∷ ended_lines rest
+unfolding ended_lines
+ended-first [] rest none = refl
+ended-first (b ∷ bs) rest none = go (b == 10) none (λ h. ended-first bs rest h)
+  where
+    go : (feed : Bool) → feed || has_feed bs ≡ false → (has_feed bs ≡ false → ended_lines (bs ++ 10 ∷ rest) ≡ bs ∷ ended_lines rest)
+        → (if feed then [] ∷ ended_lines (bs ++ 10 ∷ rest) else in_front b (ended_lines (bs ++ 10 ∷ rest))) ≡ (b ∷ bs) ∷ ended_lines rest
+    go true none again = absurd (cc none)
+    go false none again = ap (in_front b) (again none)
+
+pub ended-last : (b : ℕ) (bs : List ℕ) → has_feed (b ∷ bs) ≡ false → ended_lines (b ∷ bs) ≡ (b ∷ bs) ∷ []
+unfolding ended_lines
+ended-last b [] none = go (b == 10) none
+  where
+    go : (feed : Bool) → feed || false ≡ false → (if feed then [] ∷ [] else in_front b []) ≡ (b ∷ []) ∷ []
+    go true none = absurd (cc none)
+    go false none = refl
+ended-last b (c ∷ cs) none = go (b == 10) none (λ h. ended-last c cs h)
+  where
+    go : (feed : Bool) → feed || has_feed (c ∷ cs) ≡ false → (has_feed (c ∷ cs) ≡ false → ended_lines (c ∷ cs) ≡ (c ∷ cs) ∷ [])
+        → (if feed then [] ∷ ended_lines (c ∷ cs) else in_front b (ended_lines (c ∷ cs))) ≡ (b ∷ c ∷ cs) ∷ []
+    go true none again = absurd (cc none)
+    go false none again = ap (in_front b) (again none)
+
+pub ended-nothing : (text : List ℕ) → (length text == 0) ≡ true → ended_lines text ≡ []
+unfolding ended_lines
+ended-nothing [] e = refl
+ended-nothing (b ∷ bs) e = let none : length (b ∷ bs) ≡ 0 = eqb-true (length (b ∷ bs)) 0 e in absurd (omega (arith, none))
+
+pub ended-rest : (text : List ℕ) → (length text == 0) ≡ false → has_feed text ≡ false → ended_lines text ≡ text ∷ []
+ended-rest [] e none = absurd (cc e)
+ended-rest (b ∷ bs) e none = ended-last b bs none
+
+pub marks-without : (n : ℕ) → has_feed (replicate n 96) ≡ false
+marks-without zero = refl
+marks-without (suc n) = marks-without n

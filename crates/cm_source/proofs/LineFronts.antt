@@ -1,0 +1,397 @@
+-- What a line begins with that is nothing but text, whatever stands further on in it.
+use Rattle.std.proofs.Common.{◌≡◌, ℕ, zero, suc, ◌==◌, ◌&&◌, ◌||◌, not, cond, Bool, true, false, List, [], ◌∷◌, ◌++◌, replicate, Option, Some, None, refl, sym, ap, subst, ◌∙◌, arith}
+use Rattle.std.specs.Prelude.{⊤, if◌then◌else◌, nat_le, length}
+use Rattle.std.specs.List.{list_all, list_any}
+use Rattle.std.proofs.lemmas.Bool.{cond-true, cond-false, or_parts, or_from, eqb-true, ne_eqb}
+use Rattle.cm_text.specs.Rules.{Rules}
+use Rattle.cm_tree.specs.declared.tree.ListKind.{ListKind}
+use Rattle.cm_scan.specs.Words.{is_space_or_tab, is_digit, is_blank_text, begins_with, skip, front_of, run_length, after_run, given, trim, trim_start, keep_byte, trim_end_by, trim_end, is_trimmed}
+use Rattle.cm_scan.specs.LineForms.{backticks_or, ItemMarker, is_thematic_break, atx_heading, underline, opening_fence, fence_of, Fence, item_marker, bullet_marker, ordered_marker, marker_behind, is_number, decimal_value, ordered_kind, marker_at_gap}
+use Rattle.cm_scan.specs.HtmlBlocks.{html_start}
+use Rattle.cm_scan.specs.Starts.{TextLine, start_of_content}
+use Rattle.cm_scan.specs.BlockLaws.{is_unindented}
+use Rattle.cm_source.specs.Spelling.{in_front, parted_lines}
+use Rattle.cm_source.specs.steps.Sources.{is_only, IsTextLine, AllTextLines}
+
+-- bytes that a test tells apart
+pub differs : (test : ℕ → Bool) (b c : ℕ) → test b ≡ true → test c ≡ false → (b == c) ≡ false
+differs test b c t f = ne_eqb b c (λ e. absurd (cc (t, f, ap test e)))
+
+pub differs' : (test : ℕ → Bool) (b c : ℕ) → test b ≡ false → test c ≡ true → (b == c) ≡ false
+differs' test b c f t = ne_eqb b c (λ e. absurd (cc (t, f, ap test e)))
+
+-- a byte with which only text begins
+pub record IsQuiet (b : ℕ) : Type 0 where
+  pub no_quote : (b == 62) ≡ false
+  pub no_hash : (b == 35) ≡ false
+  pub no_backtick : (b == 96) ≡ false
+  pub no_tilde : (b == 126) ≡ false
+  pub no_angle : (b == 60) ≡ false
+  pub no_dash : (b == 45) ≡ false
+  pub no_underscore : (b == 95) ≡ false
+  pub no_star : (b == 42) ≡ false
+  pub no_plus : (b == 43) ≡ false
+  pub no_equals : (b == 61) ≡ false
+  pub no_space : (b == 32) ≡ false
+  pub no_tab : (b == 9) ≡ false
+  pub no_digit : is_digit b ≡ false
+  pub no_line_feed : (b == 10) ≡ false
+
+-- a byte behind stars or tildes at which neither a marker nor a run ends
+pub record IsInner (b : ℕ) : Type 0 where
+  pub no_star : (b == 42) ≡ false
+  pub no_tilde : (b == 126) ≡ false
+  pub no_space : (b == 32) ≡ false
+  pub no_tab : (b == 9) ≡ false
+  pub no_line_feed : (b == 10) ≡ false
+
+-- behind the digits at its front stands neither `.` nor `)`
+unfoldable pub ends_number : List ℕ → Bool
+ends_number [] = true
+ends_number (b ∷ bs) = elim (is_digit b) [ true ↦ ends_number bs | false ↦ not (b == 46) && not (b == 41) ]
+
+-- the first line of a text
+unfoldable pub line_of : List ℕ → List ℕ
+line_of [] = []
+line_of (b ∷ bs) = if b == 10 then [] else b ∷ line_of bs
+
+-- how a line begins that is nothing but text
+pub data Front : List ℕ → Type 0 where
+  quiet : (b : ℕ) (bs : List ℕ) → IsQuiet b → Front (b ∷ bs)
+  number : (b : ℕ) (bs : List ℕ) → is_digit b ≡ true → ends_number (b ∷ bs) ≡ true → Front (b ∷ bs)
+  one_star : (b : ℕ) (bs : List ℕ) → IsInner b → Front (42 ∷ b ∷ bs)
+  two_stars : (b : ℕ) (bs : List ℕ) → IsInner b → Front (42 ∷ 42 ∷ b ∷ bs)
+  two_tildes : (b : ℕ) (bs : List ℕ) → IsInner b → Front (126 ∷ 126 ∷ b ∷ bs)
+  backticks : (n b : ℕ) (bs : List ℕ) → (b == 96) ≡ false → (b == 10) ≡ false → list_any (λ c. c == 96) (line_of (b ∷ bs)) ≡ true
+      → Front (replicate (suc n) 96 ++ b ∷ bs)
+
+-- a line that is text, the first of its paragraph or not
+pub record IsText (rules : Rules) (line : List ℕ) : Type 0 where
+  pub bare : is_unindented line ≡ true
+  pub starts : start_of_content rules line ≡ TextLine
+  pub no_underline : underline line ≡ None
+  pub no_dashes : is_only 45 line ≡ false
+  pub no_stars : is_only 42 line ≡ false
+
+-- ---- lines
+
+line-keeps : (b : ℕ) (bs : List ℕ) → (b == 10) ≡ false → line_of (b ∷ bs) ≡ b ∷ line_of bs
+unfolding line_of
+line-keeps b bs e = cond-false (b == 10) [] (b ∷ line_of bs) e
+
+line-run : (n : ℕ) (rest : List ℕ) → line_of (replicate n 96 ++ rest) ≡ replicate n 96 ++ line_of rest
+unfolding line_of
+line-run zero rest = refl
+line-run (suc n) rest = ap (λ l. 96 ∷ l) (line-run n rest)
+
+pub ends-digit : (b : ℕ) (bs : List ℕ) → is_digit b ≡ true → ends_number (b ∷ bs) ≡ ends_number bs
+unfolding ends_number
+ends-digit b bs e = ap (λ v. elim v as (λ _. Bool) [ true ↦ ends_number bs | false ↦ not (b == 46) && not (b == 41) ]) e
+
+pub ends-other : (b : ℕ) (bs : List ℕ) → is_digit b ≡ false → ends_number (b ∷ bs) ≡ (not (b == 46) && not (b == 41))
+unfolding ends_number
+ends-other b bs e = ap (λ v. elim v as (λ _. Bool) [ true ↦ ends_number bs | false ↦ not (b == 46) && not (b == 41) ]) e
+
+line-ends : (bs : List ℕ) → ends_number bs ≡ true → ends_number (line_of bs) ≡ true
+unfolding line_of ends_number
+line-ends [] e = refl
+line-ends (b ∷ bs) e = go (b == 10) (is_digit b) refl refl (line-ends bs)
+  where
+    -- the end of a line, a digit, another byte
+    go : (v d : Bool) → (b == 10) ≡ v → is_digit b ≡ d → (ends_number bs ≡ true → ends_number (line_of bs) ≡ true) → ends_number (line_of (b ∷ bs)) ≡ true
+    go true d p q again = ap ends_number (cond-true (b == 10) [] (b ∷ line_of bs) p)
+    go false true p q again = ap ends_number (line-keeps b bs p) ∙ ends-digit b (line_of bs) q ∙ again (sym (ends-digit b bs q) ∙ e)
+    go false false p q again = ap ends_number (line-keeps b bs p) ∙ ends-other b (line_of bs) q ∙ sym (ends-other b bs q) ∙ e
+
+-- ---- a quiet byte
+
+no-run : (marker b : ℕ) (bs : List ℕ) → (b == marker) ≡ false → run_length marker (b ∷ bs) ≡ 0
+unfolding run_length
+no-run marker b bs e = ap (λ v. elim v as (λ _. ℕ) [ true ↦ suc (run_length marker bs) | false ↦ 0 ]) e
+
+no-heading : (b : ℕ) (bs : List ℕ) → (b == 35) ≡ false → atx_heading (b ∷ bs) ≡ None
+unfolding atx_heading
+no-heading b bs e = rw (no-run 35 b bs e) refl
+
+no-fence-of : (marker b : ℕ) (bs : List ℕ) → (b == marker) ≡ false → fence_of marker (b ∷ bs) ≡ None
+unfolding fence_of
+no-fence-of marker b bs e = rw (no-run marker b bs e) refl
+
+no-fence : (b : ℕ) (bs : List ℕ) → (b == 96) ≡ false → (b == 126) ≡ false → opening_fence (b ∷ bs) ≡ None
+unfolding opening_fence
+no-fence b bs e f = rw (no-fence-of 96 b bs e, no-fence-of 126 b bs f) refl
+
+no-html : (rules : Rules) (b : ℕ) (bs : List ℕ) → (b == 60) ≡ false → html_start rules (b ∷ bs) ≡ None
+unfolding html_start
+no-html rules b bs e = rw (e, html_start) refl
+
+no-bullet : (b : ℕ) (bs : List ℕ) → (b == 45) ≡ false → (b == 43) ≡ false → (b == 42) ≡ false → bullet_marker (b ∷ bs) ≡ None
+unfolding bullet_marker
+no-bullet b bs e f g = rw (e, f, g) refl
+
+no-digits : (text : List ℕ) → marker_behind [] text ≡ None
+unfolding marker_behind
+no-digits [] = refl
+no-digits (b ∷ bs) = refl
+
+no-number : (b : ℕ) (bs : List ℕ) → is_digit b ≡ false → ordered_marker (b ∷ bs) ≡ None
+unfolding ordered_marker front_of
+no-number b bs e = ap (λ v. marker_behind (elim v as (λ _. List ℕ) [ true ↦ b ∷ front_of is_digit bs | false ↦ [] ]) (skip is_digit (b ∷ bs))) e ∙ no-digits (skip is_digit (b ∷ bs))
+
+no-break : (b : ℕ) (bs : List ℕ) → (b == 45) ≡ false → (b == 95) ≡ false → (b == 42) ≡ false → (b == 32) ≡ false → (b == 9) ≡ false → is_thematic_break (b ∷ bs) ≡ false
+unfolding is_thematic_break
+no-break b bs e f g h k = rw (e, f, g, h, k) refl
+
+quiet-start : (rules : Rules) (b : ℕ) (bs : List ℕ) → IsQuiet b → start_of_content rules (b ∷ bs) ≡ TextLine
+unfolding start_of_content item_marker
+quiet-start rules b bs q =
+    rw (
+      q.no_quote,
+      no-heading b bs q.no_hash,
+      no-fence b bs q.no_backtick q.no_tilde,
+      no-html rules b bs q.no_angle,
+      no-break b bs q.no_dash q.no_underscore q.no_star q.no_space q.no_tab,
+      no-bullet b bs q.no_dash q.no_plus q.no_star,
+      no-number b bs q.no_digit,
+    ) refl
+
+no-level : (b : ℕ) (bs : List ℕ) → (b == 61) ≡ false → (b == 45) ≡ false → underline (b ∷ bs) ≡ None
+unfolding underline
+no-level b bs e f = rw (no-run 61 b bs e, no-run 45 b bs f) refl
+
+quiet-text : (rules : Rules) (b : ℕ) (bs : List ℕ) → IsQuiet b → IsText rules (b ∷ bs)
+quiet-text rules b bs q = record {
+  bare = rw (q.no_space, q.no_tab) refl;
+  starts = quiet-start rules b bs q;
+  no_underline = no-level b bs q.no_equals q.no_dash;
+  no_dashes = rw (q.no_dash, q.no_space, q.no_tab) refl;
+  no_stars = rw (q.no_star, q.no_space, q.no_tab) refl;
+}
+
+-- ---- a number
+
+both-other : (b : ℕ) → (not (b == 46) && not (b == 41)) ≡ true → ((b == 46) ≡ false) × ((b == 41) ≡ false)
+both-other b e = go (b == 46) (b == 41) e
+  where
+    go : (v w : Bool) → (not v && not w) ≡ true → (v ≡ false) × (w ≡ false)
+    go false false k = (refl, refl)
+    go true w k = absurd (cc k)
+    go false true k = absurd (cc k)
+
+no-delimiter : (digits : List ℕ) (b : ℕ) (bs : List ℕ) → (b == 46) ≡ false → (b == 41) ≡ false → marker_behind digits (b ∷ bs) ≡ None
+unfolding marker_behind
+no-delimiter digits b bs p q = go (is_number digits)
+  where
+    go : (v : Bool) → elim v as (λ _. Option ItemMarker) [ true ↦ marker_at_gap (ordered_kind (decimal_value digits) b) (length digits) bs | false ↦ None ] ≡ None
+    go true = rw (p, q) refl
+    go false = refl
+
+no-marker : (digits text : List ℕ) → ends_number text ≡ true → marker_behind digits (skip is_digit text) ≡ None
+unfolding skip marker_behind
+no-marker digits [] e = refl
+no-marker digits (b ∷ bs) e = go (is_digit b) refl (no-marker digits bs)
+  where
+    go : (d : Bool) → is_digit b ≡ d → (ends_number bs ≡ true → marker_behind digits (skip is_digit bs) ≡ None) → marker_behind digits (skip is_digit (b ∷ bs)) ≡ None
+    go true d again = ap (λ v. marker_behind digits (elim v as (λ _. List ℕ) [ true ↦ skip is_digit bs | false ↦ b ∷ bs ])) d ∙ again (sym (ends-digit b bs d) ∙ e)
+    go false d again =
+        let other = both-other b (sym (ends-other b bs d) ∙ e) in
+        ap (λ v. marker_behind digits (elim v as (λ _. List ℕ) [ true ↦ skip is_digit bs | false ↦ b ∷ bs ])) d ∙ no-delimiter digits b bs other.0 other.1
+
+-- a digit begins nothing but a marker
+record IsDigit (b : ℕ) : Type 0 where
+  no_quote : (b == 62) ≡ false
+  no_hash : (b == 35) ≡ false
+  no_backtick : (b == 96) ≡ false
+  no_tilde : (b == 126) ≡ false
+  no_angle : (b == 60) ≡ false
+  no_dash : (b == 45) ≡ false
+  no_underscore : (b == 95) ≡ false
+  no_star : (b == 42) ≡ false
+  no_plus : (b == 43) ≡ false
+  no_equals : (b == 61) ≡ false
+  no_space : (b == 32) ≡ false
+  no_tab : (b == 9) ≡ false
+  no_line_feed : (b == 10) ≡ false
+
+digit : (b : ℕ) → is_digit b ≡ true → IsDigit b
+digit b e = record {
+  no_quote = differs is_digit b 62 e refl;
+  no_hash = differs is_digit b 35 e refl;
+  no_backtick = differs is_digit b 96 e refl;
+  no_tilde = differs is_digit b 126 e refl;
+  no_angle = differs is_digit b 60 e refl;
+  no_dash = differs is_digit b 45 e refl;
+  no_underscore = differs is_digit b 95 e refl;
+  no_star = differs is_digit b 42 e refl;
+  no_plus = differs is_digit b 43 e refl;
+  no_equals = differs is_digit b 61 e refl;
+  no_space = differs is_digit b 32 e refl;
+  no_tab = differs is_digit b 9 e refl;
+  no_line_feed = differs is_digit b 10 e refl;
+}
+
+number-start : (rules : Rules) (b : ℕ) (bs : List ℕ) → IsDigit b → ordered_marker (b ∷ bs) ≡ None → start_of_content rules (b ∷ bs) ≡ TextLine
+unfolding start_of_content item_marker
+number-start rules b bs q none =
+    rw (
+      q.no_quote,
+      no-heading b bs q.no_hash,
+      no-fence b bs q.no_backtick q.no_tilde,
+      no-html rules b bs q.no_angle,
+      no-break b bs q.no_dash q.no_underscore q.no_star q.no_space q.no_tab,
+      no-bullet b bs q.no_dash q.no_plus q.no_star,
+      none,
+    ) refl
+
+number-text : (rules : Rules) (b : ℕ) (bs : List ℕ) → is_digit b ≡ true → ends_number (b ∷ bs) ≡ true → IsText rules (b ∷ bs)
+unfolding ordered_marker
+number-text rules b bs d e =
+    let q = digit b d in
+    record {
+      bare = rw (q.no_space, q.no_tab) refl;
+      starts = number-start rules b bs q (no-marker (front_of is_digit (b ∷ bs)) (b ∷ bs) e);
+      no_underline = no-level b bs q.no_equals q.no_dash;
+      no_dashes = rw (q.no_dash, q.no_space, q.no_tab) refl;
+      no_stars = rw (q.no_star, q.no_space, q.no_tab) refl;
+    }
+
+-- ---- stars and tildes
+
+star-start : (rules : Rules) (b : ℕ) (bs : List ℕ) → IsInner b → start_of_content rules (42 ∷ b ∷ bs) ≡ TextLine
+unfolding start_of_content atx_heading opening_fence fence_of html_start is_thematic_break item_marker bullet_marker ordered_marker marker_behind run_length after_run skip front_of
+star-start rules b bs q = rw (q.no_star, q.no_space, q.no_tab) refl
+
+star-text : (rules : Rules) (b : ℕ) (bs : List ℕ) → IsInner b → IsText rules (42 ∷ b ∷ bs)
+unfolding underline run_length
+star-text rules b bs q = record { bare = refl; starts = star-start rules b bs q; no_underline = refl; no_dashes = refl; no_stars = rw (q.no_star, q.no_space, q.no_tab) refl }
+
+stars-start : (rules : Rules) (b : ℕ) (bs : List ℕ) → IsInner b → start_of_content rules (42 ∷ 42 ∷ b ∷ bs) ≡ TextLine
+unfolding start_of_content atx_heading opening_fence fence_of html_start is_thematic_break item_marker bullet_marker ordered_marker marker_behind run_length after_run skip front_of
+stars-start rules b bs q = rw (q.no_star, q.no_space, q.no_tab) refl
+
+stars-text : (rules : Rules) (b : ℕ) (bs : List ℕ) → IsInner b → IsText rules (42 ∷ 42 ∷ b ∷ bs)
+unfolding underline run_length
+stars-text rules b bs q = record { bare = refl; starts = stars-start rules b bs q; no_underline = refl; no_dashes = refl; no_stars = rw (q.no_star, q.no_space, q.no_tab) refl }
+
+tildes-start : (rules : Rules) (b : ℕ) (bs : List ℕ) → IsInner b → start_of_content rules (126 ∷ 126 ∷ b ∷ bs) ≡ TextLine
+unfolding start_of_content atx_heading opening_fence fence_of html_start is_thematic_break item_marker bullet_marker ordered_marker marker_behind run_length after_run skip front_of
+tildes-start rules b bs q = rw q.no_tilde refl
+
+tildes-text : (rules : Rules) (b : ℕ) (bs : List ℕ) → IsInner b → IsText rules (126 ∷ 126 ∷ b ∷ bs)
+unfolding underline run_length
+tildes-text rules b bs q = record { bare = refl; starts = tildes-start rules b bs q; no_underline = refl; no_dashes = refl; no_stars = refl }
+
+-- ---- backticks
+
+holds_backtick : List ℕ → Bool
+holds_backtick t = list_any (λ c. c == 96) t
+
+front-kept : (t : List ℕ) → holds_backtick t ≡ true → holds_backtick (trim_start t) ≡ true
+unfolding skip holds_backtick
+front-kept [] e = absurd (cc e)
+front-kept (b ∷ bs) e = go (is_space_or_tab b) refl (front-kept bs)
+  where
+    go : (v : Bool) → is_space_or_tab b ≡ v → (holds_backtick bs ≡ true → holds_backtick (trim_start bs) ≡ true)
+        → holds_backtick (elim (is_space_or_tab b) as (λ _. List ℕ) [ true ↦ trim_start bs | false ↦ b ∷ bs ]) ≡ true
+    go true p again = ap (λ v. holds_backtick (elim v as (λ _. List ℕ) [ true ↦ trim_start bs | false ↦ b ∷ bs ])) p
+        ∙ again (sym (ap (λ v. v || holds_backtick bs) (differs is_space_or_tab b 96 p refl)) ∙ e)
+    go false p again = ap (λ v. holds_backtick (elim v as (λ _. List ℕ) [ true ↦ trim_start bs | false ↦ b ∷ bs ])) p ∙ e
+
+end-kept : (t : List ℕ) → holds_backtick t ≡ true → holds_backtick (trim_end t) ≡ true
+unfolding trim_end_by holds_backtick
+end-kept [] e = absurd (cc e)
+end-kept (b ∷ bs) e = go (trim_end bs) (end-kept bs) (b == 96) refl
+  where
+    -- the byte is the last one, or not
+    last : (v : Bool) → is_space_or_tab b ≡ v → (b == 96) ≡ true → holds_backtick (if v then [] else b ∷ []) ≡ true
+    last true p q = absurd (cc (p, sym (ap is_space_or_tab (eqb-true b 96 q))))
+    last false p q = ap (λ v. v || false) q
+
+    go : (left : List ℕ) → (holds_backtick bs ≡ true → holds_backtick left ≡ true) → (v : Bool) → (b == 96) ≡ v → holds_backtick (keep_byte true b left) ≡ true
+    go [] again true q = last (is_space_or_tab b) refl q
+    go [] again false q = absurd (cc (again (sym (ap (λ v. v || holds_backtick bs) q) ∙ e)))
+    go (c ∷ cs) again true q = ap (λ v. v || holds_backtick (c ∷ cs)) q
+    go (c ∷ cs) again false q = ap (λ v. v || holds_backtick (c ∷ cs)) q ∙ again (sym (ap (λ v. v || holds_backtick bs) q) ∙ e)
+
+run-counted : (n b : ℕ) (bs : List ℕ) → (b == 96) ≡ false → run_length 96 (replicate n 96 ++ b ∷ bs) ≡ n
+unfolding run_length
+run-counted zero b bs e = no-run 96 b bs e
+run-counted (suc n) b bs e = ap suc (run-counted n b bs e)
+
+run-left : (n b : ℕ) (bs : List ℕ) → (b == 96) ≡ false → after_run 96 (replicate n 96 ++ b ∷ bs) ≡ b ∷ bs
+unfolding after_run
+run-left zero b bs e = ap (λ v. elim v as (λ _. List ℕ) [ true ↦ after_run 96 bs | false ↦ b ∷ bs ]) e
+run-left (suc n) b bs e = run-left n b bs e
+
+-- no fence, since what would be its info string holds a backtick
+fence-holds : (text : List ℕ) → holds_backtick (trim (after_run 96 text)) ≡ true → fence_of 126 text ≡ None → opening_fence text ≡ None
+unfolding opening_fence fence_of holds_backtick
+fence-holds text e none = go (nat_le 3 (run_length 96 text))
+  where
+    go : (v : Bool) → backticks_or (given v (record { marker = 96; count = run_length 96 text; info = trim (after_run 96 text) })) (fence_of 126 text) ≡ None
+    go true = ap (λ v. given (not v) (record { marker = 96; count = run_length 96 text; info = trim (after_run 96 text) })) e
+    go false = none
+
+ticks-start : (rules : Rules) (bs : List ℕ) → opening_fence (96 ∷ bs) ≡ None → start_of_content rules (96 ∷ bs) ≡ TextLine
+unfolding start_of_content atx_heading html_start is_thematic_break item_marker bullet_marker ordered_marker marker_behind run_length after_run skip front_of
+ticks-start rules bs none = rw none refl
+
+ticks-text : (rules : Rules) (n b : ℕ) (bs : List ℕ) → (b == 96) ≡ false → holds_backtick (b ∷ bs) ≡ true → IsText rules (replicate (suc n) 96 ++ b ∷ bs)
+unfolding underline run_length fence_of
+ticks-text rules n b bs e holds =
+    let rest = replicate n 96 ++ b ∷ bs in
+    let kept = ap (λ t. holds_backtick (trim t)) (run-left (suc n) b bs e) ∙ end-kept (trim_start (b ∷ bs)) (front-kept (b ∷ bs) holds) in
+    record { bare = refl; starts = ticks-start rules rest (fence-holds (96 ∷ rest) kept (no-fence-of 126 96 rest refl)); no_underline = refl; no_dashes = refl; no_stars = refl }
+
+-- ---- the first line of a text with such a front
+
+pub front-line : (rules : Rules) (text : List ℕ) → Front text → IsText rules (line_of text)
+unfolding line_of holds_backtick
+front-line rules text (quiet b bs q) = subst (IsText rules) (sym (line-keeps b bs q.no_line_feed)) (quiet-text rules b (line_of bs) q)
+front-line rules text (number b bs d e) =
+    let kept = line-keeps b bs (digit b d).no_line_feed in
+    subst (IsText rules) (sym kept) (number-text rules b (line_of bs) d (sym (ap ends_number kept) ∙ line-ends (b ∷ bs) e))
+front-line rules text (one_star b bs q) = subst (λ l. IsText rules (42 ∷ l)) (sym (line-keeps b bs q.no_line_feed)) (star-text rules b (line_of bs) q)
+front-line rules text (two_stars b bs q) = subst (λ l. IsText rules (42 ∷ 42 ∷ l)) (sym (line-keeps b bs q.no_line_feed)) (stars-text rules b (line_of bs) q)
+front-line rules text (two_tildes b bs q) = subst (λ l. IsText rules (126 ∷ 126 ∷ l)) (sym (line-keeps b bs q.no_line_feed)) (tildes-text rules b (line_of bs) q)
+front-line rules text (backticks n b bs e no_end holds) =
+    subst (IsText rules) (sym (line-run (suc n) (b ∷ bs) ∙ ap (λ l. replicate (suc n) 96 ++ l) (line-keeps b bs no_end)))
+    (ticks-text rules n b (line_of bs) e (sym (ap holds_backtick (line-keeps b bs no_end)) ∙ holds))
+
+-- ---- all lines of a text
+
+-- each line begins with such a front, the first one where the text stands at the front of a line
+unfoldable pub LinesBegin : (at_front : Bool) → List ℕ → Type 0
+LinesBegin at_front [] = at_front ≡ false
+LinesBegin at_front (b ∷ bs) = (at_front ≡ true → Front (b ∷ bs)) × LinesBegin (b == 10) bs
+
+-- the lines behind the first one
+unfoldable pub further_lines : List ℕ → List (List ℕ)
+further_lines [] = []
+further_lines (b ∷ bs) = if b == 10 then parted_lines bs else further_lines bs
+
+pub parted-lines : (text : List ℕ) → parted_lines text ≡ line_of text ∷ further_lines text
+unfolding parted_lines line_of further_lines
+parted-lines [] = refl
+parted-lines (b ∷ bs) = go (b == 10) refl (parted-lines bs)
+  where
+    go : (v : Bool) → (b == 10) ≡ v → parted_lines bs ≡ line_of bs ∷ further_lines bs
+        → (if v then [] ∷ parted_lines bs else in_front b (parted_lines bs)) ≡ (if v then [] else b ∷ line_of bs) ∷ (if v then parted_lines bs else further_lines bs)
+    go true p again = refl
+    go false p again = ap (in_front b) again
+
+is-further : (rules : Rules) (line : List ℕ) → IsText rules line → IsTextLine rules line
+is-further rules line t = record { bare = t.bare; starts = t.starts; no_underline = t.no_underline }
+
+pub lines-are-text : (rules : Rules) (at_front : Bool) (text : List ℕ) → LinesBegin at_front text → AllTextLines rules (further_lines text)
+unfolding LinesBegin further_lines
+lines-are-text rules at_front [] begin = tt
+lines-are-text rules at_front (b ∷ bs) begin = go (b == 10) refl begin.1 (lines-are-text rules (b == 10) bs begin.1)
+  where
+    go : (v : Bool) → (b == 10) ≡ v → LinesBegin (b == 10) bs → AllTextLines rules (further_lines bs) → AllTextLines rules (if v then parted_lines bs else further_lines bs)
+    go true p here again = subst (AllTextLines rules) (sym (parted-lines bs)) (is-further rules (line_of bs) (front-line rules bs (first bs (subst (λ v. LinesBegin v bs) p here))), again)
+      where
+        first : (t : List ℕ) → LinesBegin true t → Front t
+        first [] e = absurd (cc e)
+        first (c ∷ cs) e = e.0 refl
+    go false p here again = again

@@ -1,0 +1,96 @@
+-- The contents and info strings of trees that can be spelled have sources that read back in their blocks.
+use Rattle.std.proofs.Common.{◌≡◌, ℕ, ◌==◌, ◌&&◌, ◌||◌, not, Bool, true, false, List, [], ◌∷◌, map, None, refl, sym, ap, ◌∙◌}
+use Rattle.std.specs.List.{list_all, list_any}
+use Rattle.std.proofs.lemmas.Bool.{and_parts, or_from}
+use Rattle.cm_text.specs.Rules.{Rules}
+use Rattle.cm_tree.specs.declared.tree.Inline.{Inline}
+use Rattle.cm_scan.specs.LineForms.{without_closing}
+use Rattle.cm_scan.specs.Words.{skip, trim_end_by, trim, trim_end, trim_start}
+use Rattle.cm_source.specs.BlocksBack.{ContentsGiveSources}
+use Rattle.cm_source.specs.Inlines.{spelled, join, spelled_content}
+use Rattle.cm_source.specs.InlineRefusals.{Place, has_nul, paragraph_refusal, heading_refusal}
+use Rattle.cm_source.specs.Texts.{spelled_text}
+use Rattle.cm_source.specs.steps.Sources.{is_clean, is_one_line, IsParagraphSource, IsHeadingSource, IsInfoSource}
+use Rattle.cm_source.proofs.ContentEnds.{trimmed-start, trimmed-end, unclosed, text-bare, text-well, content-bare, content-ends}
+use Rattle.cm_source.proofs.ContentFronts.{paragraph-lines}
+use Rattle.cm_source.proofs.ContentLabels.{defines-nothing, content-none}
+use Rattle.cm_source.proofs.KeptBytes.{is_kept, contents-keep, text-is-line, is_line_byte}
+use Rattle.cm_source.proofs.LineFronts.{Front, LinesBegin, line_of, further_lines, parted-lines, front-line, lines-are-text}
+use Rattle.cm_source.proofs.SpelledBytes.{is_tame, text-tame}
+use Rattle.cm_source.proofs.UnescapeBack.{unescape_text}
+
+first-front : (text : List ℕ) → LinesBegin true text → Front text
+unfolding LinesBegin
+first-front [] begin = absurd (cc begin)
+first-front (b ∷ bs) begin = begin.0 refl
+
+abbrev pub of_paragraph : Place
+of_paragraph = record { heading = false; opens_paragraph = true; in_opening_link = false }
+
+abbrev pub of_heading : Place
+of_heading = record { heading = true; opens_paragraph = false; in_opening_link = false }
+
+paragraph-source : (rules : Rules) (content : List Inline) → paragraph_refusal rules content ≡ None → list_any (λ i. true) content ≡ true → IsParagraphSource rules (spelled_content content)
+unfolding is_kept
+paragraph-source rules [] e some = absurd (cc some)
+paragraph-source rules (i ∷ is) e some =
+    let source = spelled_content (i ∷ is) in
+    let begin = paragraph-lines rules i is of_paragraph refl e in
+    let line = front-line rules source (first-front source begin) in
+    record {
+      clean = contents-keep rules false (i ∷ is) of_paragraph refl None e true true;
+      first = line_of source;
+      further = further_lines source;
+      lines = parted-lines source;
+      bare = line.bare;
+      starts = line.starts;
+      no_dashes = line.no_dashes;
+      no_stars = line.no_stars;
+      others = lines-are-text rules true source begin;
+      trimmed = trimmed-end false source (content-ends rules i is of_paragraph None e true).well;
+      defines_nothing = defines-nothing source (content-none rules i is of_paragraph refl e true);
+    }
+
+heading-source : (rules : Rules) (content : List Inline) → heading_refusal rules content ≡ None → IsHeadingSource (spelled_content content)
+unfolding is_kept is_line_byte skip trim_end_by without_closing
+heading-source rules [] e = record { clean = refl; trimmed = refl; unclosed = refl }
+heading-source rules (i ∷ is) e =
+    let source = spelled_content (i ∷ is) in
+    let ends = (content-ends rules i is of_heading None e true).well in
+    record {
+      clean = contents-keep rules true (i ∷ is) of_heading refl None e true true;
+      trimmed = ap trim_end (trimmed-start source (content-bare rules i is of_heading e true)) ∙ trimmed-end false source ends;
+      unclosed = unclosed true false source refl ends;
+    }
+
+no-backtick : (text : List ℕ) → list_all is_tame text ≡ true → list_any (λ b. b == 96) text ≡ false
+unfolding is_tame
+no-backtick [] e = refl
+no-backtick (b ∷ bs) e =
+    let parts = and_parts (is_tame b) (list_all is_tame bs) e in
+    or_from (b == 96) (list_any (λ c. c == 96) bs) (last (b == 0) (b == 10) (b == 13) (b == 96) parts.0) (no-backtick bs parts.1)
+  where
+    last : (v w x y : Bool) → (not v && (not w && (not x && not y))) ≡ true → y ≡ false
+    last v w x false k = refl
+    last true w x true k = absurd (cc k)
+    last false true x true k = absurd (cc k)
+    last false false true true k = absurd (cc k)
+    last false false false true k = absurd (cc k)
+
+info-source : (rules : Rules) (info : List ℕ) → IsInfoSource (spelled_text true true info)
+unfolding is_line_byte skip trim_end_by spelled_text
+info-source rules info = record { clean = text-is-line true true info; trimmed = trimmed-info info; no_backtick = no-backtick (spelled_text true true info) (text-tame true true info) }
+  where
+    trimmed-info : (info : List ℕ) → trim (spelled_text true true info) ≡ spelled_text true true info
+    trimmed-info [] = refl
+    trimmed-info (b ∷ bs) =
+        let source = spelled_text true true (b ∷ bs) in
+        ap trim_end (trimmed-start source (text-bare rules true (b ∷ bs) refl)) ∙ trimmed-end false source (text-well true (b ∷ bs) refl).well
+
+pub contents_give_sources : (rules : Rules) → ContentsGiveSources rules
+contents_give_sources rules = record {
+  paragraphs = paragraph-source rules;
+  headings = heading-source rules;
+  infos = λ info nul. info-source rules info;
+  infos_back = λ info nul. unescape_text true true info nul;
+}

@@ -1,0 +1,108 @@
+-- Which bytes a spelled text has.
+use Rattle.std.proofs.Common.{◌≡◌, ℕ, zero, suc, ◌<◌, ◌==◌, ◌&&◌, ◌||◌, not, cond, Bool, true, false, List, [], ◌∷◌, ◌++◌, replicate, codes, refl, sym, ap, subst, ◌∙◌, arith}
+use Rattle.std.specs.Prelude.{if◌then◌else◌}
+use Rattle.std.specs.Fmt.{decimal, digits}
+use Rattle.std.specs.List.{list_all}
+use Rattle.std.specs.Char.{is_ascii_control}
+use Rattle.std.proofs.lemmas.Bool.{cond-true, cond-false, or_parts, and_from, and_parts, agree_below_at, eqb-true, ne_eqb}
+use Rattle.cm_text.specs.Characters.{is_ascii_punct}
+use Rattle.cm_scan.specs.Words.{is_digit, is_empty}
+use Rattle.cm_source.specs.Texts.{numbered, spelled_byte, spelled_bytes, edge_byte, spelled_text, spelled_title, spelled_target}
+use Rattle.cm_source.specs.steps.Bytes.{is_spelled}
+use Rattle.cm_source.proofs.TextLemmas.{by-number, behind-backslash, spelled-ascii}
+use Rattle.cm_source.proofs.LineFronts.{differs, differs'}
+
+-- ---- tests of all bytes
+
+module _ (test : ℕ → Bool) where
+  pub all-both : (front rest : List ℕ) → list_all test front ≡ true → list_all test rest ≡ true → list_all test (front ++ rest) ≡ true
+  all-both [] rest f r = r
+  all-both (b ∷ bs) rest f r = let parts = and_parts (test b) (list_all test bs) f in and_from (test b) (list_all test (bs ++ rest)) parts.0 (all-both bs rest parts.1 r)
+
+  pub all-times : (n b : ℕ) → test b ≡ true → list_all test (replicate n b) ≡ true
+  all-times zero b t = refl
+  all-times (suc n) b t = and_from (test b) (list_all test (replicate n b)) t (all-times n b t)
+
+pub all-so : (test other : ℕ → Bool) → ((b : ℕ) → test b ≡ true → other b ≡ true) → (text : List ℕ) → list_all test text ≡ true → list_all other text ≡ true
+all-so test other so [] e = refl
+all-so test other so (b ∷ bs) e = let parts = and_parts (test b) (list_all test bs) e in and_from (other b) (list_all other bs) (so b parts.0) (all-so test other so bs parts.1)
+
+-- ---- one byte
+
+pub all-digits : (c : ℕ) → c < 128 → list_all is_digit (decimal c) ≡ true
+unfolding digits
+all-digits c low = agree_below_at (λ n. list_all is_digit (decimal n)) (λ n. true) 128 c refl low
+
+-- how a byte is spelled: by its number, behind a backslash, or as it is
+pub data ByteForm : (b : ℕ) → List ℕ → Type 0 where
+  by_number : (b : ℕ) → b < 128 → ByteForm b (numbered b)
+  escaped : (b : ℕ) → is_ascii_punct b ≡ true → (b == 96) ≡ false → ByteForm b (92 ∷ b ∷ [])
+  itself : (b : ℕ) → is_ascii_punct b ≡ false → is_ascii_control b ≡ false → ByteForm b (b ∷ [])
+
+pub byte-form : (b : ℕ) → ByteForm b (spelled_byte b)
+unfolding spelled_byte
+byte-form b = go (b == 96) (is_ascii_control b) (is_ascii_punct b) refl refl refl
+  where
+    go : (tick control punct : Bool) → (b == 96) ≡ tick → is_ascii_control b ≡ control → is_ascii_punct b ≡ punct
+        → ByteForm b (if tick || control then numbered b else (if punct then 92 ∷ b ∷ [] else b ∷ []))
+    go true control punct p q r = by_number b (subst (λ c. c < 128) (sym (eqb-true b 96 p)) (omega arith))
+    go false true punct p q r = by_number b (grind (arith, q))
+    go false false true p q r = escaped b r p
+    go false false false p q r = itself b r q
+
+-- a byte at an edge of a line, or not
+pub edge-form : (at_edge : Bool) (b : ℕ) → ByteForm b (edge_byte at_edge b)
+edge-form at_edge b = go at_edge (b == 32) refl
+  where
+    go : (edge space : Bool) → (b == 32) ≡ space → ByteForm b (if edge && space then numbered 32 else spelled_byte b)
+    go true true e = subst (λ c. ByteForm c (numbered 32)) (sym (eqb-true b 32 e)) (by_number 32 (omega arith))
+    go true false e = byte-form b
+    go false space e = byte-form b
+
+-- ---- the bytes of spelled texts
+
+-- no U+0000, no line ending, no backtick
+unfoldable pub is_tame : ℕ → Bool
+is_tame b = not (b == 0) && (not (b == 10) && (not (b == 13) && not (b == 96)))
+
+tame : (b : ℕ) → (b == 0) ≡ false → (b == 10) ≡ false → (b == 13) ≡ false → (b == 96) ≡ false → is_tame b ≡ true
+unfolding is_tame
+tame b e f g h = rw (e, f, g, h) refl
+
+digit-tame : (b : ℕ) → is_digit b ≡ true → is_tame b ≡ true
+digit-tame b d = tame b (differs is_digit b 0 d refl) (differs is_digit b 10 d refl) (differs is_digit b 13 d refl) (differs is_digit b 96 d refl)
+
+number-tame : (b : ℕ) → b < 128 → list_all is_tame (numbered b) ≡ true
+unfolding is_tame
+number-tame b low = all-both is_tame (decimal b) (59 ∷ []) (all-so is_digit is_tame digit-tame (decimal b) (all-digits b low)) refl
+
+form-tame : (b : ℕ) (front : List ℕ) → ByteForm b front → list_all is_tame front ≡ true
+unfolding is_tame
+form-tame b front (by_number c low) = number-tame c low
+form-tame b front (escaped c punct tick) =
+    ap (λ v. v && true) (tame c (differs is_ascii_punct c 0 punct refl) (differs is_ascii_punct c 10 punct refl) (differs is_ascii_punct c 13 punct refl) tick)
+form-tame b front (itself c punct control) =
+    ap (λ v. v && true) (tame c (differs' is_ascii_control c 0 control refl) (differs' is_ascii_control c 10 control refl) (differs' is_ascii_control c 13 control refl) (differs' is_ascii_punct c 96 punct refl))
+
+pub text-tame : (first last : Bool) (text : List ℕ) → list_all is_tame (spelled_text first last text) ≡ true
+unfolding spelled_text
+text-tame first last [] = refl
+text-tame first last (b ∷ bs) =
+    let at_edge = first || last && is_empty bs in
+    all-both is_tame (edge_byte at_edge b) (spelled_text false last bs) (form-tame b (edge_byte at_edge b) (edge-form at_edge b)) (text-tame false last bs)
+
+pub bytes-tame : (text : List ℕ) → list_all is_tame (spelled_bytes text) ≡ true
+bytes-tame [] = refl
+bytes-tame (b ∷ bs) = all-both is_tame (spelled_byte b) (spelled_bytes bs) (form-tame b (spelled_byte b) (byte-form b)) (bytes-tame bs)
+
+title-tame : (title : List ℕ) → list_all is_tame (spelled_title title) ≡ true
+unfolding is_tame
+title-tame [] = refl
+title-tame (b ∷ bs) = all-both is_tame (spelled_bytes (b ∷ bs)) (codes "\"") (bytes-tame (b ∷ bs)) refl
+
+pub target-tame : (dest title : List ℕ) → list_all is_tame (spelled_target dest title) ≡ true
+unfolding spelled_target is_tame
+target-tame dest title =
+    all-both is_tame (codes "](<" ++ spelled_bytes dest ++ codes ">" ++ spelled_title title) (codes ")")
+    (all-both is_tame (codes "](<" ++ spelled_bytes dest ++ codes ">") (spelled_title title)
+    (all-both is_tame (codes "](<" ++ spelled_bytes dest) (codes ">") (bytes-tame dest) refl) (title-tame title)) refl

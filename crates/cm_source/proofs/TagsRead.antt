@@ -1,0 +1,67 @@
+-- Raw HTML that is one tag is read as it is, whatever stands behind it.
+use Rattle.std.proofs.Common.{◌≡◌, ℕ, ◌-◌, Bool, true, false, ◌==◌, List, [], ◌∷◌, ◌++◌, length, take_all, Option, Some, None, refl, sym, ap, subst, ◌∙◌, arith}
+use Rattle.std.proofs.lemmas.Bool.{eqb-true, false≢true}
+use Rattle.cm_text.specs.Rules.{Rules}
+use Rattle.cm_tree.specs.declared.tree.Inline.TheVariants.{Html}
+use Rattle.cm_scan.specs.Words.{is_empty, after_word}
+use Rattle.cm_scan.specs.Tags.{open_tag, closing_tag}
+use Rattle.cm_scan.specs.RawHtml.{from_to, comment, declaration, raw_html}
+use Rattle.cm_scan.specs.Autolinks.{Autolink, in_angles, autolink}
+use Rattle.cm_scan.specs.Angles.{Angled, Linked, Tagged, before, tagged, at_angle}
+use Rattle.cm_scan.specs.Atoms.{AtomRead, Whole, read, link_of, or_byte, angle_atom, markup_atom, atom_at}
+use Rattle.cm_scan.proofs.AngleLemmas.{whole_tag_goes_on}
+use Rattle.cm_source.specs.InlineRefusals.{is_one_tag}
+use Rattle.cm_source.proofs.BytesRead.{atom_left}
+
+before_nothing : (text : List ℕ) → before [] text ≡ text
+unfolding before
+before_nothing text = take_all (length text - length {A = ℕ} []) text (omega arith)
+
+abbrev whole : List ℕ → Angled
+whole text = Tagged (record { text = text; rest = [] })
+
+one_tag_is : (rules : Rules) (text : List ℕ) → is_one_tag rules text ≡ true → at_angle rules text ≡ Some (whole text)
+unfolding at_angle
+one_tag_is rules text e = go (autolink text) (raw_html rules text) e
+  where
+    by : Option Autolink → Option (List ℕ) → Option Angled
+    by o p = elim o [ Some link ↦ Some (Linked link) | None ↦ tagged text p ]
+
+    is_one : Option Angled → Bool
+    is_one o = elim o [ Some (Tagged tag) ↦ is_empty tag.rest | Some (Linked link) ↦ false | None ↦ false ]
+
+    go : (o : Option Autolink) (p : Option (List ℕ)) → is_one (by o p) ≡ true → by o p ≡ Some (whole text)
+    go (Some link) p e = absurd (false≢true e)
+    go None None e = absurd (false≢true e)
+    go None (Some []) e = ap (λ t. Some (Tagged (record { text = t; rest = [] }))) (before_nothing text)
+    go None (Some (b ∷ bs)) e = absurd (false≢true e)
+
+-- nothing else begins with `<`
+no_tag : (rules : Rules) (b : ℕ) (bs : List ℕ) → (b == 60) ≡ false → at_angle rules (b ∷ bs) ≡ None
+unfolding at_angle autolink in_angles raw_html open_tag closing_tag comment from_to declaration after_word
+no_tag rules b bs e = grind (arith, e)
+
+no_tag_here : (rules : Rules) → is_one_tag rules [] ≡ false
+unfolding at_angle autolink in_angles raw_html open_tag closing_tag comment from_to declaration after_word
+no_tag_here rules = refl
+
+pub some_tag : (rules : Rules) → is_one_tag rules [] ≡ true → ⊥
+some_tag rules e = false≢true (sym (no_tag_here rules) ∙ e)
+
+tag_first : (rules : Rules) (b : ℕ) (bs : List ℕ) → is_one_tag rules (b ∷ bs) ≡ true → b ≡ 60
+tag_first rules b bs e = go (b == 60) refl
+  where
+    go : (t : Bool) → (b == 60) ≡ t → b ≡ 60
+    go true f = eqb-true b 60 f
+    go false f = absurd (false≢true (sym (ap (λ o. elim o as (λ _. Bool) [ Some (Tagged tag) ↦ is_empty tag.rest | Some (Linked link) ↦ false | None ↦ false ]) (no_tag rules b bs f)) ∙ e))
+
+pub atom_tag : (rules : Rules) (passed : List ℕ) (b : ℕ) (bs rest : List ℕ) → is_one_tag rules (b ∷ bs) ≡ true → atom_at rules passed b (bs ++ rest) ≡ atom_left (Whole (Html (b ∷ bs))) rest
+unfolding atom_at markup_atom angle_atom
+atom_tag rules passed b bs rest e =
+    let first : b ≡ 60 = tag_first rules b bs e in
+    subst (λ c. atom_at rules passed c (bs ++ rest) ≡ atom_left (Whole (Html (c ∷ bs))) rest) (sym first)
+    (ap (λ o. or_byte 60 (bs ++ rest) (elim o as (λ _. Option AtomRead) [
+      | Some (Linked link) ↦ read (Whole (link_of link)) link.rest
+      | Some (Tagged tag) ↦ read (Whole (Html tag.text)) tag.rest
+      | None ↦ None
+    ])) (whole_tag_goes_on rules (60 ∷ bs) rest (one_tag_is rules (60 ∷ bs) (subst (λ c. is_one_tag rules (c ∷ bs) ≡ true) first e))))

@@ -1,0 +1,196 @@
+-- A spelled destination and title are read as they are, behind the `]` of a link or an image.
+use Rattle.std.proofs.Common.{◌≡◌, ℕ, Bool, true, false, not, ◌&&◌, ◌||◌, ◌==◌, List, [], ◌∷◌, ◌++◌, drop, Option, Some, None, refl, sym, ap, ◌∙◌, arith, append_assoc, append-nil}
+use Rattle.std.specs.Fmt.{digits}
+use Rattle.std.specs.List.{list_all, list_any}
+use Rattle.std.proofs.lemmas.Bool.{and_parts, or_parts, agree_below, agree_below_at, not-true}
+use Rattle.std.proofs.lemmas.Bool.Decides.{nat_tests}
+use Rattle.cm_text.specs.Characters.{is_ascii_punct}
+use Rattle.cm_text.specs.Unescaping.{unescape}
+use Rattle.cm_scan.specs.Words.{begins_with, skip, trim_start, after_word, given}
+use Rattle.cm_scan.specs.Tags.{after_gap}
+use Rattle.cm_scan.specs.Links.{Reading, behind, keep_if, escapes_next, closed_by, destination, has_blank_line, has_no_blank_line, title_in, title}
+use Rattle.cm_scan.specs.Brackets.{LinkEnd, link_end, closed, after_destination, inline_end, Defined, reference_end, end_at}
+use Rattle.cm_source.specs.Texts.{numbered, spelled_bytes, spelled_title, spelled_target}
+use Rattle.cm_source.specs.InlineRefusals.{has_nul}
+use Rattle.cm_source.proofs.BytesRead.{reading}
+use Rattle.cm_source.proofs.Ways.{Way, ByNumber, Escaped, AsItIs, Ways, NoByte, OneByte, is_numbered, ways}
+use Rattle.cm_source.proofs.UnescapeBack.{unescape_bytes}
+
+-- bytes in front of what was read
+onto : List ℕ → Option Reading → Option Reading
+onto [] o = o
+onto (b ∷ bs) o = behind b (onto bs o)
+
+onto_append : (xs ys : List ℕ) (o : Option Reading) → onto (xs ++ ys) o ≡ onto xs (onto ys o)
+unfolding onto
+onto_append [] ys o = refl
+onto_append (x ∷ xs) ys o = ap (behind x) (onto_append xs ys o)
+
+onto_read : (xs text rest : List ℕ) → onto xs (Some (reading text rest)) ≡ Some (reading (xs ++ text) rest)
+unfolding onto
+onto_read [] text rest = refl
+onto_read (x ∷ xs) text rest = ap (behind x) (onto_read xs text rest)
+
+-- ---- up to the byte that closes
+
+-- a byte that ends a destination or a title, or can't stand in it
+abbrev is_stop : ℕ → Bool
+is_stop b = b == 10 || b == 34 || b == 60 || b == 62
+
+-- the other bytes are passed, and a backslash is none of these bytes
+abbrev PassesOthers : (closes forbidden : ℕ → Bool) → Type 0
+PassesOthers closes forbidden = (b : ℕ) → is_stop b ≡ false → (closes b ≡ false) × (forbidden b ≡ false)
+
+abbrev is_passed : ℕ → Bool
+is_passed b = not (is_stop b || b == 92)
+
+passed_is : (b : ℕ) → is_passed b ≡ true → (is_stop b ≡ false) × ((b == 92) ≡ false)
+passed_is b e = or_parts (is_stop b) (b == 92) (not-true (is_stop b || b == 92) e)
+
+escapes_none : (b : ℕ) (bs : List ℕ) → (b == 92) ≡ false → escapes_next b bs ≡ false
+escapes_none b [] e = refl
+escapes_none b (c ∷ cs) e = ap (λ t. t && is_ascii_punct c) e
+
+module _ (closes forbidden : ℕ → Bool) (others : PassesOthers closes forbidden) where
+  by_tests : ℕ → (rest : List ℕ) → (closing barred escaped : Bool) → Option Reading
+  by_tests b rest closing barred escaped = elim closing [ true ↦ Some (reading [] rest) | false ↦ elim barred [ true ↦ None | false ↦ behind b (closed_by closes forbidden escaped rest) ] ]
+
+  -- a byte that neither ends the part nor is forbidden
+  byte_passed : (b : ℕ) (rest : List ℕ) (escaped : Bool) → is_stop b ≡ false → escapes_next b rest ≡ escaped
+      → closed_by closes forbidden false (b ∷ rest) ≡ behind b (closed_by closes forbidden escaped rest)
+  unfolding closed_by by_tests
+  byte_passed b rest escaped e f =
+      ap (λ t. by_tests b rest t (forbidden b) (escapes_next b rest)) (others b e).0
+      ∙ ap (λ t. by_tests b rest false t (escapes_next b rest)) (others b e).1
+      ∙ ap (λ t. by_tests b rest false false t) f
+
+  bytes_passed : (bs rest : List ℕ) → list_all is_passed bs ≡ true → closed_by closes forbidden false (bs ++ rest) ≡ onto bs (closed_by closes forbidden false rest)
+  unfolding onto
+  bytes_passed [] rest e = refl
+  bytes_passed (b ∷ bs) rest e =
+      let both = and_parts (is_passed b) (list_all is_passed bs) e in
+      let no = passed_is b both.0 in
+      byte_passed b (bs ++ rest) false no.0 (escapes_none b (bs ++ rest) no.1) ∙ ap (behind b) (bytes_passed bs rest both.1)
+
+  numbers_pass : agree_below (λ b. list_all is_passed (numbered b)) (λ b. true) 128 ≡ true
+  unfolding digits
+  numbers_pass = refl
+
+  plain_passes : (b : ℕ) → is_numbered b ≡ false → is_ascii_punct b ≡ false → is_passed b ≡ true
+  plain_passes b e f = grind (arith, nat_tests, e, f)
+
+  way_passed : (b : ℕ) (front rest : List ℕ) → Way b front → closed_by closes forbidden false (front ++ rest) ≡ onto front (closed_by closes forbidden false rest)
+  unfolding closed_by onto
+  way_passed b front rest (ByNumber low) = bytes_passed (numbered b) rest (agree_below_at (λ b. list_all is_passed (numbered b)) (λ b. true) 128 b numbers_pass low)
+  way_passed b front rest (Escaped punct) = byte_passed 92 (b ∷ rest) true refl punct
+  way_passed b front rest (AsItIs printed plain) = bytes_passed (b ∷ []) rest (ap (λ t. t && true) (plain_passes b printed plain))
+
+  ways_passed : (text front rest : List ℕ) → Ways text front → closed_by closes forbidden false (front ++ rest) ≡ onto front (closed_by closes forbidden false rest)
+  unfolding onto
+  ways_passed text front rest NoByte = refl
+  ways_passed text front rest (OneByte {b = b} {bs = bs} {first = first} {others = further} one more) =
+      ap (closed_by closes forbidden false) (append_assoc first further rest)
+      ∙ way_passed b first (further ++ rest) one
+      ∙ ap (onto first) (ways_passed bs further rest more)
+      ∙ sym (onto_append first further (closed_by closes forbidden false rest))
+
+  -- spelled bytes up to the one that closes
+  closed_read : (close : ℕ) (text rest : List ℕ) → closes close ≡ true → closed_by closes forbidden false (spelled_bytes text ++ close ∷ rest) ≡ Some (reading (spelled_bytes text) rest)
+  unfolding closed_by by_tests
+  closed_read close text rest e =
+      ways_passed text (spelled_bytes text) (close ∷ rest) (ways text)
+      ∙ ap (λ t. onto (spelled_bytes text) (by_tests close rest t (forbidden close) (escapes_next close rest))) e
+      ∙ onto_read (spelled_bytes text) [] rest ∙ ap (λ t. Some (reading t rest)) (append-nil (spelled_bytes text))
+
+-- ---- destination and title
+
+no_stop : (b : ℕ) → is_stop b ≡ false → ((b == 62) ≡ false) × (((b == 60) || (b == 10)) ≡ false)
+no_stop b e = (grind (arith, nat_tests, e), grind (arith, nat_tests, e))
+
+no_quote : (b : ℕ) → is_stop b ≡ false → ((b == 34) ≡ false) × (false ≡ false)
+no_quote b e = (grind (arith, nat_tests, e), refl)
+
+destination_read : (dest rest : List ℕ) → destination (60 ∷ (spelled_bytes dest ++ 62 ∷ rest)) ≡ Some (reading (spelled_bytes dest) rest)
+unfolding destination
+destination_read dest rest = closed_read (λ c. c == 62) (λ c. c == 60 || c == 10) no_stop 62 dest rest refl
+
+-- no line feed stands in spelled bytes
+abbrev has_feed : List ℕ → Bool
+has_feed text = list_any (λ b. b == 10) text
+
+feed_append : (xs ys : List ℕ) → has_feed xs ≡ false → has_feed ys ≡ false → has_feed (xs ++ ys) ≡ false
+feed_append [] ys h k = k
+feed_append (x ∷ xs) ys h k = let parts = or_parts (x == 10) (has_feed xs) h in ap (λ t. t || has_feed (xs ++ ys)) parts.0 ∙ feed_append xs ys parts.1 k
+
+numbers_feed : agree_below (λ b. has_feed (numbered b)) (λ b. false) 128 ≡ true
+unfolding digits
+numbers_feed = refl
+
+punct_feed : (b : ℕ) → is_ascii_punct b ≡ true → has_feed (92 ∷ b ∷ []) ≡ false
+punct_feed b e = grind (arith, nat_tests, e)
+
+plain_feed : (b : ℕ) → is_numbered b ≡ false → has_feed (b ∷ []) ≡ false
+plain_feed b e = grind (arith, nat_tests, e)
+
+way_feed : (b : ℕ) (front : List ℕ) → Way b front → has_feed front ≡ false
+way_feed b front (ByNumber low) = agree_below_at (λ b. has_feed (numbered b)) (λ b. false) 128 b numbers_feed low
+way_feed b front (Escaped punct) = punct_feed b punct
+way_feed b front (AsItIs printed plain) = plain_feed b printed
+
+pub ways_feed : (text front : List ℕ) → Ways text front → has_feed front ≡ false
+ways_feed text front NoByte = refl
+ways_feed text front (OneByte {b = b} {bs = bs} {first = first} {others = others} one more) = feed_append first others (way_feed b first one) (ways_feed bs others more)
+
+no_blank_line : (text : List ℕ) → has_feed text ≡ false → has_blank_line text ≡ false
+unfolding has_blank_line
+no_blank_line [] e = refl
+no_blank_line (b ∷ bs) e =
+    let parts = or_parts (b == 10) (has_feed bs) e in
+    ap (λ t. (t && begins_with 10 (trim_start bs)) || has_blank_line bs) parts.0 ∙ no_blank_line bs parts.1
+
+title_read : (text rest : List ℕ) → title (34 ∷ (spelled_bytes text ++ 34 ∷ rest)) ≡ Some (reading (spelled_bytes text) rest)
+unfolding title title_in
+title_read text rest =
+    ap (keep_if has_no_blank_line) (closed_read (λ c. c == 34) (λ c. false) no_quote 34 text rest refl)
+    ∙ ap (λ t. given (not t) (reading (spelled_bytes text) rest)) (no_blank_line (spelled_bytes text) (ways_feed text (spelled_bytes text) (ways text)))
+
+-- ---- the end of a link
+
+closed_here : (dest title rest : List ℕ) → closed dest title (41 ∷ rest) ≡ Some (link_end (unescape dest, unescape title) rest)
+unfolding after_gap skip after_word
+closed_here dest title rest = refl
+
+after_destination_read : (dest text rest : List ℕ) → after_destination dest (spelled_title text ++ 41 ∷ rest) ≡ Some (link_end (unescape dest, unescape (spelled_bytes text)) rest)
+unfolding after_destination after_gap skip after_word
+after_destination_read dest [] rest = refl
+after_destination_read dest (b ∷ bs) rest =
+    ap (λ t. after_destination dest (32 ∷ 34 ∷ t)) (append_assoc (spelled_bytes (b ∷ bs)) (34 ∷ []) (41 ∷ rest))
+    ∙ ap (λ o. elim o as (λ _. Option LinkEnd) [
+      | Some t ↦ closed dest t.text t.rest
+      | None ↦ closed dest [] (32 ∷ 34 ∷ (spelled_bytes (b ∷ bs) ++ 34 ∷ 41 ∷ rest))
+    ]) (title_read (b ∷ bs) (41 ∷ rest))
+
+target_parts : (dest text rest : List ℕ) → drop 1 (spelled_target dest text) ++ rest ≡ 40 ∷ 60 ∷ (spelled_bytes dest ++ 62 ∷ (spelled_title text ++ 41 ∷ rest))
+unfolding spelled_target
+target_parts dest text rest =
+    let d : List ℕ = spelled_bytes dest in
+    let t : List ℕ = spelled_title text in
+    ap (λ l. 40 ∷ 60 ∷ l) (append_assoc (d ++ 62 ∷ [] ++ t) (41 ∷ []) rest ∙ append_assoc (d ++ 62 ∷ []) t (41 ∷ rest) ∙ append_assoc d (62 ∷ []) (t ++ 41 ∷ rest))
+
+inline_end_read : (dest text rest : List ℕ) → inline_end (40 ∷ 60 ∷ (spelled_bytes dest ++ 62 ∷ (spelled_title text ++ 41 ∷ rest))) ≡ Some (link_end (unescape (spelled_bytes dest), unescape (spelled_bytes text)) rest)
+unfolding inline_end after_word after_gap skip
+inline_end_read dest text rest =
+    ap (λ o. elim o as (λ _. Option LinkEnd) [
+      | Some d ↦ after_destination d.text d.rest
+      | None ↦ closed [] [] (60 ∷ (spelled_bytes dest ++ 62 ∷ (spelled_title text ++ 41 ∷ rest)))
+    ]) (destination_read dest (spelled_title text ++ 41 ∷ rest))
+    ∙ after_destination_read (spelled_bytes dest) text rest
+
+pub end_read : (defined : Defined) (between dest text rest : List ℕ) → has_nul dest ≡ false → has_nul text ≡ false
+    → end_at defined between (drop 1 (spelled_target dest text) ++ rest) ≡ Some (link_end (dest, text) rest)
+unfolding end_at
+end_read defined between dest text rest h k =
+    let whole : List ℕ = drop 1 (spelled_target dest text) ++ rest in
+    ap (λ o. elim o as (λ _. Option LinkEnd) [ Some end ↦ Some end | None ↦ reference_end defined between whole ]) (ap inline_end (target_parts dest text rest) ∙ inline_end_read dest text rest)
+    ∙ ap (λ t. Some (link_end (t, unescape (spelled_bytes text)) rest)) (unescape_bytes dest h)
+    ∙ ap (λ t. Some (link_end (dest, t) rest)) (unescape_bytes text k)

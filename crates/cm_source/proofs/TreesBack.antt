@@ -1,0 +1,204 @@
+-- A spelling in UTF-8 is that of a tree whose contents are texts in UTF-8.
+use Rattle.std.proofs.Common.{◌≡◌, ℕ, zero, suc, ◌+◌, ◌==◌, Bool, true, false, not, List, [], ◌∷◌, ◌++◌, length, map, flat_map, replicate, IsUtf8, Option, Some, None, if◌then◌else◌, refl, sym, ap, subst, ◌∙◌, arith, append_assoc}
+use Rattle.std.specs.Prelude.{⊤, String, string_bytes}
+use Rattle.std.proofs.lemmas.Bool.{and_from, eqb-true}
+use Rattle.std.proofs.lemmas.Str.{IsUtf8-append, IsUtf8-nil, IsUtf8-string_bytes}
+use Rattle.cm_text.specs.Rules.{Rules}
+use Rattle.cm_text.proofs.Utf8Lemmas.{IsUtf8-cancel}
+use Rattle.cm_tree.specs.declared.tree.Inline.{Inline}
+use Rattle.cm_tree.specs.declared.tree.ListKind.{ListKind}
+use Rattle.cm_tree.specs.declared.tree.Block.{Block}
+use Rattle.cm_tree.specs.declared.tree.Block.TheOpen as block
+use Rattle.cm_tree.specs.declared.tree.Block.TheVariants.{Paragraph, Heading, Quote, List as ListBlock}
+use Rattle.cm_tree.specs.declared.tree.Block.TheViews.{outs-Paragraph, outs-Heading, outs-Code, outs-Html, outs-Break, outs-Definition, outs-Quote, outs-List}
+use Rattle.cm_tree.specs.declared.tree.Block.TheFolds.{fold_out-Block}
+use Rattle.cm_source.specs.Inlines.{spelled_content}
+use Rattle.cm_source.specs.InlineRefusals.{refused, paragraph_refusal, heading_refusal}
+use Rattle.cm_source.specs.Refusals.{IsSpellable, Face, Judged, judged, refusal_of_all, refusal_of_items, list_reasons, faces}
+use Rattle.cm_source.specs.Refusals as refusals
+use Rattle.cm_source.specs.Spelling.{in_front, parted_lines, spaced, after_space, gap, joined, quoted, quote_lines, marker, indented, item_lines, list_lines, block_step, lines_of_block, lines_of_blocks, spelling_of}
+use Rattle.cm_source.specs.Utf8Inlines.{all_of, has_utf8}
+use Rattle.cm_source.specs.Utf8Blocks.{utf8_step, has_texts, HaveTexts}
+use Rattle.cm_source.specs.Fitting.{SpellingsHaveTexts}
+use Rattle.cm_source.proofs.AcceptedLemmas.{or-none}
+use Rattle.cm_source.proofs.Neighbours.{ascii-utf8}
+use Rattle.cm_source.proofs.InlineEdges.{split-ascii}
+use Rattle.cm_source.proofs.TextsBack.{accepted-texts}
+use Rattle.cm_source.proofs.BlockInduction.{AllHold, ItemsHold, Cases, all-by-cases}
+
+-- ---- lines
+
+abbrev AllUtf8 : List (List ℕ) → Type 0
+AllUtf8 [] = ⊤
+AllUtf8 (line ∷ lines) = IsUtf8 line × AllUtf8 lines
+
+abbrev EachUtf8 : List (List (List ℕ)) → Type 0
+EachUtf8 [] = ⊤
+EachUtf8 (lines ∷ others) = AllUtf8 lines × EachUtf8 others
+
+both-parts : (xs ys : List (List ℕ)) → AllUtf8 (xs ++ ys) → AllUtf8 xs × AllUtf8 ys
+both-parts [] ys u = (tt, u)
+both-parts (x ∷ xs) ys u = let more = both-parts xs ys u.1 in ((u.0, more.0), more.1)
+
+-- lines that line feeds end
+ended-utf8 : (lines : List (List ℕ)) → IsUtf8 (flat_map (λ line. line ++ 10 ∷ []) lines) → AllUtf8 lines
+ended-utf8 [] u = tt
+ended-utf8 (line ∷ lines) u =
+    let rest = flat_map (λ line. line ++ 10 ∷ []) lines in
+    let parts = split-ascii line 10 rest (omega arith) (subst IsUtf8 (append_assoc line (10 ∷ []) rest) u) in
+    (parts.0, ended-utf8 lines parts.1)
+
+-- lines that line feeds part, put together again
+abbrev unparted : List (List ℕ) → List ℕ
+unparted [] = []
+unparted (line ∷ []) = line
+unparted (line ∷ next ∷ lines) = line ++ 10 ∷ unparted (next ∷ lines)
+
+unparted-utf8 : (lines : List (List ℕ)) → AllUtf8 lines → IsUtf8 (unparted lines)
+unparted-utf8 [] u = IsUtf8-nil
+unparted-utf8 (line ∷ []) u = u.0
+unparted-utf8 (line ∷ next ∷ lines) u = IsUtf8-append line (10 ∷ unparted (next ∷ lines)) u.0 (IsUtf8-append (10 ∷ []) (unparted (next ∷ lines)) (ascii-utf8 (10 ∷ []) refl) (unparted-utf8 (next ∷ lines) u.1))
+
+unparted-front : (b : ℕ) (lines : List (List ℕ)) → unparted (in_front b lines) ≡ b ∷ unparted lines
+unparted-front b [] = refl
+unparted-front b (line ∷ []) = refl
+unparted-front b (line ∷ next ∷ lines) = refl
+
+abbrev is_some_line : List (List ℕ) → Bool
+is_some_line [] = false
+is_some_line (line ∷ lines) = true
+
+unparted-more : (lines : List (List ℕ)) → is_some_line lines ≡ true → unparted ([] ∷ lines) ≡ 10 ∷ unparted lines
+unparted-more [] e = absurd (cc e)
+unparted-more (line ∷ lines) e = refl
+
+parted-some : (text : List ℕ) → is_some_line (parted_lines text) ≡ true
+unfolding parted_lines
+parted-some [] = refl
+parted-some (b ∷ bs) = go (b == 10) (parted_lines bs)
+  where
+    go : (v : Bool) (lines : List (List ℕ)) → is_some_line (if v then [] ∷ lines else in_front b lines) ≡ true
+    go true lines = refl
+    go false [] = refl
+    go false (line ∷ lines) = refl
+
+unparted-parted : (text : List ℕ) → unparted (parted_lines text) ≡ text
+unfolding parted_lines
+unparted-parted [] = refl
+unparted-parted (b ∷ bs) = go (b == 10) refl (unparted-parted bs)
+  where
+    go : (v : Bool) → (b == 10) ≡ v → unparted (parted_lines bs) ≡ bs → unparted (if v then [] ∷ parted_lines bs else in_front b (parted_lines bs)) ≡ b ∷ bs
+    go true e again = unparted-more (parted_lines bs) (parted-some bs) ∙ ap (λ l. 10 ∷ l) again ∙ ap (λ n. n ∷ bs) (sym (eqb-true b 10 e))
+    go false e again = unparted-front b (parted_lines bs) ∙ ap (λ l. b ∷ l) again
+
+parted-utf8 : (text : List ℕ) → AllUtf8 (parted_lines text) → IsUtf8 text
+parted-utf8 text u = subst IsUtf8 (unparted-parted text) (unparted-utf8 (parted_lines text) u)
+
+-- ---- what stands in front of lines
+
+joined-behind : (apart : Bool) (others : List (List (List ℕ))) → AllUtf8 (flat_map (λ lines. gap apart ++ lines) others) → EachUtf8 others
+joined-behind apart [] u = tt
+joined-behind apart (lines ∷ others) u =
+    let parts = both-parts (gap apart ++ lines) (flat_map (λ lines. gap apart ++ lines) others) u in
+    ((both-parts (gap apart) lines parts.0).1, joined-behind apart others parts.1)
+
+joined-utf8 : (apart : Bool) (all : List (List (List ℕ))) → AllUtf8 (joined apart all) → EachUtf8 all
+joined-utf8 apart [] u = tt
+joined-utf8 apart (first ∷ others) u = let parts = both-parts first (flat_map (λ lines. gap apart ++ lines) others) u in (parts.0, joined-behind apart others parts.1)
+
+-- a line behind a mark and a space
+spaced-utf8 : (mark line : List ℕ) → IsUtf8 (mark ++ spaced line) → IsUtf8 line
+spaced-utf8 mark [] u = IsUtf8-nil
+spaced-utf8 mark (b ∷ bs) u = (split-ascii mark 32 (b ∷ bs) (omega arith) u).1
+
+spaces-utf8 : (n : ℕ) (line : List ℕ) → IsUtf8 (replicate n 32 ++ line) → IsUtf8 line
+spaces-utf8 zero line u = u
+spaces-utf8 (suc n) line u = spaces-utf8 n line (IsUtf8-cancel (32 ∷ []) (replicate n 32 ++ line) (ascii-utf8 (32 ∷ []) refl) u)
+
+quoted-utf8 : (lines : List (List ℕ)) → AllUtf8 (map quoted lines) → AllUtf8 lines
+quoted-utf8 [] u = tt
+quoted-utf8 (line ∷ lines) u = (spaced-utf8 (62 ∷ []) line u.0, quoted-utf8 lines u.1)
+
+quote-utf8 : (lines : List (List ℕ)) → AllUtf8 (quote_lines lines) → AllUtf8 lines
+quote-utf8 [] u = tt
+quote-utf8 (line ∷ lines) u = quoted-utf8 (line ∷ lines) u
+
+indented-utf8 : (columns : ℕ) (lines : List (List ℕ)) → AllUtf8 (map (indented columns) lines) → AllUtf8 lines
+indented-utf8 columns [] u = tt
+indented-utf8 columns ([] ∷ lines) u = (IsUtf8-nil, indented-utf8 columns lines u.1)
+indented-utf8 columns ((b ∷ bs) ∷ lines) u = (spaces-utf8 columns (b ∷ bs) u.0, indented-utf8 columns lines u.1)
+
+item-utf8 : (mark : List ℕ) (lines : List (List ℕ)) → AllUtf8 (item_lines mark lines) → AllUtf8 lines
+item-utf8 mark [] u = tt
+item-utf8 mark (line ∷ lines) u = (spaced-utf8 mark line u.0, indented-utf8 (length mark + 1) lines u.1)
+
+-- ---- blocks
+
+module _ (rules : Rules) where
+  abbrev HasTexts : Block → Type 0
+  HasTexts b = (before : Option Face) → (judged rules b).refusal before ≡ None → AllUtf8 (lines_of_block b) → has_texts b ≡ true
+
+  all-texts : (blocks : List Block) → AllHold HasTexts blocks → (before : Option Face) → refusal_of_all before (map (judged rules) blocks) ≡ None → EachUtf8 (map lines_of_block blocks)
+      → all_of (map has_texts blocks) ≡ true
+  unfolding AllHold
+  all-texts [] hold before e u = refl
+  all-texts (b ∷ bs) hold before e u =
+      let parts = or-none ((judged rules b).refusal before) (refusal_of_all (Some (judged rules b).face) (map (judged rules) bs)) e in
+      and_from (has_texts b) (all_of (map has_texts bs)) (hold.0 before parts.0 u.0) (all-texts bs hold.1 (Some (judged rules b).face) parts.1 u.1)
+
+  items-texts : (kind : ListKind) (tight : Bool) (items : List (List Block)) → ItemsHold HasTexts items → refusal_of_items (map (map (judged rules)) items) ≡ None
+      → EachUtf8 (map (λ blocks. item_lines (marker kind) (joined (not tight) blocks)) (map (map lines_of_block) items)) → all_of (map all_of (map (map has_texts) items)) ≡ true
+  unfolding ItemsHold
+  items-texts kind tight [] hold e u = refl
+  items-texts kind tight (item ∷ items) hold e u =
+      let parts = or-none (refusal_of_all None (map (judged rules) item)) (refusal_of_items (map (map (judged rules)) items)) e in
+      let lines = map lines_of_block item in
+      and_from (all_of (map has_texts item)) (all_of (map all_of (map (map has_texts) items)))
+      (all-texts item hold.0 None parts.0 (joined-utf8 (not tight) lines (item-utf8 (marker kind) (joined (not tight) lines) u.0)))
+      (items-texts kind tight items hold.1 parts.1 u.1)
+
+  -- behind the marks of a heading
+  heading-texts : (level : ℕ) (content : List Inline) → heading_refusal rules content ≡ None → IsUtf8 (replicate level 35 ++ after_space content) → all_of (map has_utf8 content) ≡ true
+  heading-texts level [] e u = refl
+  heading-texts level (i ∷ is) e u =
+      accepted-texts rules (record { heading = true; opens_paragraph = false; in_opening_link = false }) (i ∷ is) e (split-ascii (replicate level 35) 32 (spelled_content (i ∷ is)) (omega arith) u).1
+
+  texts-cases : Cases HasTexts
+  texts-cases = record {
+    paragraph = λ content before e u.
+        let judged_is : judged rules (Paragraph content) ≡ refusals.block_step rules (block.Paragraph content) = simp (fold_out-Block Judged (refusals.block_step rules), outs-Paragraph) in
+        let lines_are : lines_of_block (Paragraph content) ≡ parted_lines (spelled_content content) = simp (fold_out-Block (List (List ℕ)) block_step, outs-Paragraph) in
+        let texts_are : has_texts (Paragraph content) ≡ all_of (map has_utf8 content) = simp (fold_out-Block Bool utf8_step, outs-Paragraph) in
+        let accepted = (or-none _ (paragraph_refusal rules content) (sym (ap (λ (j : Judged). j.refusal before) judged_is) ∙ e)).1 in
+        texts_are ∙ accepted-texts rules (record { heading = false; opens_paragraph = true; in_opening_link = false }) content accepted (parted-utf8 (spelled_content content) (subst AllUtf8 lines_are u));
+    heading = λ level content before e u.
+        let judged_is : judged rules (Heading level content) ≡ refusals.block_step rules (block.Heading level content) = simp (fold_out-Block Judged (refusals.block_step rules), outs-Heading) in
+        let lines_are : lines_of_block (Heading level content) ≡ parted_lines (replicate level 35 ++ after_space content) = simp (fold_out-Block (List (List ℕ)) block_step, outs-Heading) in
+        let texts_are : has_texts (Heading level content) ≡ all_of (map has_utf8 content) = simp (fold_out-Block Bool utf8_step, outs-Heading) in
+        let accepted = (or-none _ (heading_refusal rules content) (sym (ap (λ (j : Judged). j.refusal before) judged_is) ∙ e)).1 in
+        texts_are ∙ heading-texts level content accepted (parted-utf8 (replicate level 35 ++ after_space content) (subst AllUtf8 lines_are u));
+    code = λ info text before e u. simp (fold_out-Block Bool utf8_step, outs-Code);
+    html = λ text before e u. simp (fold_out-Block Bool utf8_step, outs-Html);
+    thematic_break = λ before e u. simp (fold_out-Block Bool utf8_step, outs-Break);
+    definition = λ label dest title before e u. simp (fold_out-Block Bool utf8_step, outs-Definition);
+    quote = λ blocks hold before e u.
+        let judged_is : judged rules (Quote blocks) ≡ refusals.block_step rules (block.Quote (map (judged rules) blocks)) = simp (fold_out-Block Judged (refusals.block_step rules), outs-Quote) in
+        let lines_are : lines_of_block (Quote blocks) ≡ quote_lines (joined true (map lines_of_block blocks)) = simp (fold_out-Block (List (List ℕ)) block_step, outs-Quote) in
+        let texts_are : has_texts (Quote blocks) ≡ all_of (map has_texts blocks) = simp (fold_out-Block Bool utf8_step, outs-Quote) in
+        let lines = map lines_of_block blocks in
+        texts_are ∙ all-texts blocks hold None (sym (ap (λ (j : Judged). j.refusal before) judged_is) ∙ e) (joined-utf8 true lines (quote-utf8 (joined true lines) (subst AllUtf8 lines_are u)));
+    list = λ kind tight items hold before e u.
+        let judged_is : judged rules (ListBlock kind tight items) ≡ refusals.block_step rules (block.List kind tight (map (map (judged rules)) items)) = simp (fold_out-Block Judged (refusals.block_step rules), outs-List) in
+        let lines_are : lines_of_block (ListBlock kind tight items) ≡ list_lines kind tight (map (map lines_of_block) items) = simp (fold_out-Block (List (List ℕ)) block_step, outs-List) in
+        let texts_are : has_texts (ListBlock kind tight items) ≡ all_of (map all_of (map (map has_texts) items)) = simp (fold_out-Block Bool utf8_step, outs-List) in
+        let accepted = (or-none (refused (list_reasons kind tight (map faces (map (map (judged rules)) items)) before)) (refusal_of_items (map (map (judged rules)) items)) (sym (ap (λ (j : Judged). j.refusal before) judged_is) ∙ e)).1 in
+        texts_are ∙ items-texts kind tight items hold accepted (joined-utf8 (not tight) (map (λ blocks. item_lines (marker kind) (joined (not tight) blocks)) (map (map lines_of_block) items)) (subst AllUtf8 lines_are u));
+  }
+
+pub spellings_have_texts : SpellingsHaveTexts
+spellings_have_texts rules blocks e u =
+    all-texts rules blocks (all-by-cases (HasTexts rules) (texts-cases rules) blocks) None e (joined-utf8 true (map lines_of_block blocks) (ended-utf8 (lines_of_blocks true blocks) u))
+
+-- so the contents of a tree are whose spelling a program has as a string
+pub written_has_texts : {Z : Type 0} (rules : Rules) (blocks : List Block) (text : String Z) → IsSpellable rules blocks → string_bytes text ≡ spelling_of blocks → HaveTexts blocks
+written_has_texts rules blocks text e is = spellings_have_texts rules blocks e (subst IsUtf8 is (IsUtf8-string_bytes text))

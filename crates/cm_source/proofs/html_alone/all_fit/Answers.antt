@@ -1,0 +1,54 @@
+use Rattle.std.proofs.Common.{◌≡◌, ◌==◌, ◌&&◌, ◌∷◌, Some, None, take, drop, get_or, ◌+◌, ap, sym, ◌∙◌, arith}
+use Rattle.std.specs.List.{position}
+use Rattle.std.proofs.Math.Bool.{and-true}
+use Rattle.std.proofs.lemmas.Bool.{eqb-true}
+use Rattle.std.proofs.lemmas.List.Quantifiers.{position-Some}
+use Rattle.cm_scan.specs.HtmlKinds.{kind_of}
+use Rattle.cm_source.specs.Spelling.{ended_lines}
+use Rattle.cm_source.specs.steps.HtmlLines.{all_fit}
+use Rattle.cm_source.proofs.FeedLemmas.{feed-at, no-feed, ended-first, ended-nothing, ended-rest}
+use Rattle.cm_source.proofs.HtmlLemmas.{fit-first}
+use Rattle.cm_source.proofs.html_alone.all_fit.Goals as goal
+
+pub cut_at-requires-clause-ascii : goal.cut_at-requires-clause-ascii
+cut_at-requires-clause-ascii c =
+    let found : position (λ b. b == 10) c.loop-at.rest.now ≡ Some c.in-Some.at = cc in
+    let byte = eqb-true (get_or c.loop-at.rest.now c.in-Some.at 0) 10 (position-Some (λ b. b == 10) c.loop-at.rest.now c.in-Some.at 0 found).1 in
+    omega (arith, byte)
+
+pub returns-then-not-fits : goal.returns-then-not-fits
+returns-then-not-fits c =
+    let found : position (λ b. b == 10) c.loop-at.rest.now ≡ Some c.in-Some.at = cc in
+    let rest = c.loop-at.rest.now in
+    let line = c.cut_at.result.0.now in
+    let behind = c.cut_at.result.1.now in
+    let at = feed-at rest c.in-Some.at found in
+    let is = ap ended_lines at.1 ∙ ended-first (take c.in-Some.at rest) (drop (c.in-Some.at + 1) rest) at.0 ∙ ap (λ l. l ∷ ended_lines (drop (c.in-Some.at + 1) rest)) (sym c.cut_at.ensures.before)
+    ∙ ap (λ b. line ∷ ended_lines b) (sym c.cut_at.ensures.after) in
+    sym (fit-first (kind_of c.args.kind) rest line behind c.fits.result c.is_empty.result is c.is_empty.ensures c.fits.ensures ∙ ap (λ v. v && all_fit (kind_of c.args.kind) (ended_lines behind)) c.if-not-fits.true)
+    ∙ c.loop-at.invariant.1
+
+pub loop-at-preserved : goal.loop-at-preserved
+loop-at-preserved c =
+    let found : position (λ b. b == 10) c.loop-at.rest.now ≡ Some c.in-Some.at = cc in
+    let rest = c.loop-at.rest.now in
+    let line = c.cut_at.result.0.now in
+    let behind = c.cut_at.result.1.now in
+    let at = feed-at rest c.in-Some.at found in
+    let is = ap ended_lines at.1 ∙ ended-first (take c.in-Some.at rest) (drop (c.in-Some.at + 1) rest) at.0 ∙ ap (λ l. l ∷ ended_lines (drop (c.in-Some.at + 1) rest)) (sym c.cut_at.ensures.before)
+    ∙ ap (λ b. line ∷ ended_lines b) (sym c.cut_at.ensures.after) in (
+      c.cut_at.ensures.after_utf8,
+      sym (fit-first (kind_of c.args.kind) rest line behind c.fits.result c.is_empty.result is c.is_empty.ensures c.fits.ensures ∙ ap (λ v. v && all_fit (kind_of c.args.kind) (ended_lines behind)) c.if-not-fits.false)
+          ∙ c.loop-at.invariant.1,
+    )
+
+pub returns-then-is_empty : goal.returns-then-is_empty
+returns-then-is_empty c =
+    let empty = c.if-is_empty.true in
+    empty ∙ sym (ap (all_fit (kind_of c.args.kind)) (ended-nothing c.loop-at.rest.now (sym c.is_empty-2.ensures ∙ empty))) ∙ c.loop-at.invariant.1
+
+pub returns-else-is_empty : goal.returns-else-is_empty
+returns-else-is_empty c =
+    let rest = c.loop-at.rest.now in
+    let none : position (λ b. b == 10) rest ≡ None = cc in
+    c.fits-else-is_empty.ensures ∙ sym (and-true _) ∙ sym (ap (all_fit (kind_of c.args.kind)) (ended-rest rest (sym c.is_empty-2.ensures ∙ c.if-is_empty.false) (no-feed rest none))) ∙ c.loop-at.invariant.1

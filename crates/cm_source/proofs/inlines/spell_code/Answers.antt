@@ -1,0 +1,22 @@
+use Rattle.std.proofs.Common.{ℕ, List, ◌+◌, ◌++◌, replicate, ap, subst, sym, ◌∙◌}
+use Rattle.cm_source.specs.Texts.{longest_run}
+use Rattle.cm_source.specs.steps.Laid.{Lays}
+use Rattle.cm_source.proofs.LaidLemmas.{then-ok, lays-then}
+use Rattle.cm_source.proofs.SpellLemmas.{code-is}
+use Rattle.cm_source.proofs.inlines.spell_code.Goals as goal
+
+pub returns : goal.returns
+returns c =
+    let text = c.args.text.now in
+    let start = c.args.source.now in
+    let one = c.push_marks.new.self in
+    let two = c.push.new.self in
+    let three = c.push_lines.new.self in
+    let four = c.push-2.new.self in
+    let marks : List ℕ = replicate (c.longest_run-marks.result + 1) 96 in
+    let pad = c.padding-padding.result.now in
+    let shape = ap (λ n. replicate (n + 1) 96 ++ pad ++ text ++ pad ++ replicate (n + 1) 96) c.longest_run-marks.ensures.longest
+    ∙ ap (λ p. replicate (longest_run 0 text + 1) 96 ++ p ++ text ++ p ++ replicate (longest_run 0 text + 1) 96) c.padding-padding.ensures.padding ∙ sym (code-is text) in
+    let front = lays-then start two three (marks ++ pad) text (lays-then start one two marks pad c.in_ok-push_marks.ensures c.in_ok-push.ensures) c.in_ok-push_lines.ensures in
+    then-ok c.push_marks-2.result (λ last. subst (Lays start c.push_marks-2.new.self) shape
+    (lays-then start four c.push_marks-2.new.self (marks ++ pad ++ text ++ pad) marks (lays-then start three four (marks ++ pad ++ text) pad front c.in_ok-push-2.ensures) last)) c.push_marks-2.ensures

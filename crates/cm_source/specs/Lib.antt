@@ -1,0 +1,16 @@
+pub mod Answers
+pub mod BlocksBack
+pub mod ContentBack
+pub mod Definitions
+pub mod Fitting
+pub mod InlineRefusals
+pub mod Inlines
+pub mod RefusalExamples
+pub mod Refusals
+pub mod Spelling
+pub mod steps
+pub mod Texts
+pub mod Utf8Blocks
+pub mod Utf8Inlines
+pub mod WorkedExamples
+pub mod ReadingBack

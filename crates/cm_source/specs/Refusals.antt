@@ -1,0 +1,156 @@
+-- Which trees can't be spelled so that they read back, and why not: the first reason in document order, parents first.
+use Rattle.std.specs.Prelude.{◌≡◌, ℕ, ◌^◌, Bool, true, false, not, ◌==◌, ◌&&◌, ◌||◌, nat_le, List, [], ◌∷◌, map, Option, Some, None}
+use Rattle.std.specs.List.{list_any, list_all}
+use Rattle.cm_text.specs.Rules.{Rules}
+use Rattle.cm_text.specs.Lines.{lines_of, plain_lines_of}
+use Rattle.cm_tree.specs.declared.tree.Block.{Block, Block-F}
+use Rattle.cm_tree.specs.declared.tree.Block.TheOpen as block
+use Rattle.cm_tree.specs.declared.tree.Block.TheFolds.{fold-Block}
+use Rattle.cm_tree.specs.declared.tree.ListKind.{ListKind}
+use Rattle.cm_tree.specs.declared.tree.ListKind.TheVariants.{Dot, Paren}
+use Rattle.cm_scan.specs.Words.{is_empty, begins_with, same_bytes, ◌<|>◌}
+use Rattle.cm_scan.specs.Autolinks.{ends_with}
+use Rattle.cm_scan.specs.LineForms.{is_same_kind}
+use Rattle.cm_scan.specs.HtmlBlocks.{html_start, is_html_end, ends_at_blank_line}
+use Rattle.cm_scan.specs.Parts.{Parts, none, leaf, html}
+use Rattle.cm_scan.specs.Blocks.{parts_of}
+use Rattle.cm_source.specs.declared.why.Why.{Why}
+use Rattle.cm_source.specs.declared.why.Why.TheVariants.{Definition, Nul, Shape, CodeText, HtmlBlock, AdjacentLists, ItemBeginsWithList, Looseness}
+use Rattle.cm_source.specs.InlineRefusals.{refused, has_nul, paragraph_refusal, heading_refusal}
+
+-- What the blocks round a block see of it: the list that it is, with whether its first item has a block.
+pub data Face : Type 0 where
+  ParagraphFace : Face
+  CodeFace : Face
+  QuoteFace : Face
+  ListFace : ListKind → (filled : Bool) → Face
+  OtherFace : Face
+
+-- a list begins here
+abbrev pub is_list : List Face → Bool
+is_list (ListFace kind filled ∷ others) = true
+is_list _ = false
+
+-- an ordered list that doesn't begin at 1, which can't interrupt a paragraph
+abbrev pub begins_late : ListKind → Bool
+begins_late (Dot start) = not (start == 1)
+begins_late (Paren start) = not (start == 1)
+begins_late kind = false
+
+-- a block that can follow a paragraph without an empty line
+abbrev pub can_follow : Face → Bool
+can_follow CodeFace = true
+can_follow QuoteFace = true
+can_follow (ListFace kind filled) = filled && not (begins_late kind)
+can_follow face = false
+
+-- the blocks of an item of a tight list
+abbrev pub is_tight_item : List Face → Bool
+is_tight_item [] = true
+is_tight_item (one ∷ []) = true
+is_tight_item (ParagraphFace ∷ next ∷ []) = can_follow next
+is_tight_item blocks = false
+
+-- A tight list has such items; a loose one has two items or more, or one with two blocks or more.
+abbrev pub has_two : {A : Type 0} → List A → Bool
+has_two (first ∷ second ∷ others) = true
+has_two _ = false
+
+abbrev pub is_as_said : (tight : Bool) → List (List Face) → Bool
+is_as_said true items = list_all is_tight_item items
+is_as_said false items = has_two items || list_any has_two items
+
+-- an ordered list begins at 10^9 or later
+abbrev pub begins_too_high : ListKind → Bool
+begins_too_high (Dot start) = nat_le (10 ^ 9) start
+begins_too_high (Paren start) = nat_le (10 ^ 9) start
+begins_too_high kind = false
+
+-- the text is nothing, or lines that line feeds end
+abbrev pub is_code_text : List ℕ → Bool
+is_code_text text = (is_empty text || ends_with 10 text) && not (list_any (λ b. b == 13) text)
+
+-- the last of some lines holds the end that an HTML block of the first line's kind has, if it has one
+abbrev pub last_line : List (List ℕ) → List ℕ
+last_line [] = []
+last_line (line ∷ []) = line
+last_line (line ∷ next ∷ lines) = last_line (next ∷ lines)
+
+abbrev pub first_line : List (List ℕ) → List ℕ
+first_line [] = []
+first_line (line ∷ lines) = line
+
+abbrev pub is_html_ended : Rules → List ℕ → Bool
+is_html_ended rules text = elim (html_start rules (first_line (lines_of text))) [
+  | Some kind ↦ ends_at_blank_line kind || is_html_end kind (last_line (lines_of text))
+  | None ↦ false
+]
+
+-- one HTML block with this text
+abbrev pub is_html_part : List ℕ → Parts → Bool
+is_html_part text (leaf (html read) lines none) = same_bytes read text
+is_html_part text parts = false
+
+-- it begins with `<`, read alone it is this one block, and its last line holds the end of its kind, if its kind has one
+abbrev pub is_html_block : Rules → List ℕ → Bool
+is_html_block rules text = begins_with 60 text && is_html_part text (parts_of rules (plain_lines_of text)) && is_html_ended rules text
+
+-- A block as it is judged: what others see of it, and why it is refused behind another.
+pub record Judged : Type 0 where
+  pub face : Face
+  pub refusal : (before : Option Face) → Option Why
+
+abbrev pub faces : List Judged → List Face
+faces blocks = map (λ (b : Judged). b.face) blocks
+
+-- blocks, one after another
+abbrev pub refusal_of_all : (before : Option Face) → List Judged → Option Why
+refusal_of_all before [] = None
+refusal_of_all before (next ∷ others) = next.refusal before <|> refusal_of_all (Some next.face) others
+
+abbrev pub refusal_of_items : List (List Judged) → Option Why
+refusal_of_items [] = None
+refusal_of_items (item ∷ items) = refusal_of_all None item <|> refusal_of_items items
+
+-- a list of the same kind stands right before
+abbrev pub is_behind_same : ListKind → Option Face → Bool
+is_behind_same kind (Some (ListFace other filled)) = is_same_kind kind other
+is_behind_same kind _ = false
+
+abbrev pub list_reasons : ListKind → (tight : Bool) → List (List Face) → Option Face → List (Bool × Why)
+list_reasons kind tight items before =
+    (not (list_any (λ item. true) items) || begins_too_high kind, Shape) ∷ (is_behind_same kind before, AdjacentLists)
+    ∷ (list_any is_list items, ItemBeginsWithList) ∷ (not (is_as_said tight items), Looseness) ∷ []
+
+-- the first item of a list has a block
+abbrev pub is_filled : List (List Judged) → Bool
+is_filled ((block ∷ blocks) ∷ items) = true
+is_filled _ = false
+
+abbrev pub leaf_block : Face → Option Why → Judged
+leaf_block face refusal = record { face = face; refusal = λ before. refusal }
+
+-- one block, with how each block inside is judged in its place
+abbrev pub block_step : Rules → Block-F Judged → Judged
+block_step rules (block.Paragraph content) = leaf_block ParagraphFace (refused ((not (list_any (λ i. true) content), Shape) ∷ []) <|> paragraph_refusal rules content)
+block_step rules (block.Heading level content) = leaf_block OtherFace (refused ((not (nat_le 1 level && nat_le level 6), Shape) ∷ []) <|> heading_refusal rules content)
+block_step rules (block.Code info text) = leaf_block CodeFace (refused ((has_nul info || has_nul text, Nul) ∷ (not (is_code_text text), CodeText) ∷ []))
+block_step rules (block.Html text) = leaf_block OtherFace (refused ((has_nul text, Nul) ∷ (not (is_html_block rules text), HtmlBlock) ∷ []))
+block_step rules block.Break = leaf_block OtherFace None
+block_step rules (block.Definition label dest title) = leaf_block OtherFace (Some Definition)
+block_step rules (block.Quote blocks) = leaf_block QuoteFace (refusal_of_all None blocks)
+block_step rules (block.List kind tight items) = record {
+  face = ListFace kind (is_filled items);
+  refusal = λ before. refused (list_reasons kind tight (map faces items) before) <|> refusal_of_items items;
+}
+
+abbrev pub judged : Rules → Block → Judged
+judged rules = fold-Block Judged (block_step rules)
+
+-- the first reason why a tree can't be spelled, by these rules
+abbrev pub refusal_of : Rules → List Block → Option Why
+refusal_of rules blocks = refusal_of_all None (map (judged rules) blocks)
+
+-- it can be spelled
+abbrev pub IsSpellable : Rules → List Block → Type 0
+IsSpellable rules blocks = refusal_of rules blocks ≡ None

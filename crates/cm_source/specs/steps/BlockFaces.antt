@@ -1,0 +1,21 @@
+-- How the code has what stands beside a block.
+use Rattle.std.specs.Prelude.{Bool, true, false, Option, option_map}
+use Rattle.cm_source.specs.Refusals as refusals
+use Rattle.cm_source.specs.declared.refusals.Face.{Face}
+use Rattle.cm_source.specs.declared.refusals.Face.TheVariants.{Paragraph, Code, Quote, List, Other}
+
+-- the face of the definitions
+abbrev pub shown : Face → refusals.Face
+shown Paragraph = refusals.ParagraphFace
+shown Code = refusals.CodeFace
+shown Quote = refusals.QuoteFace
+shown (List kind filled) = refusals.ListFace kind filled
+shown Other = refusals.OtherFace
+
+-- that of what stands there, if anything does
+abbrev pub seen : Option Face → Option refusals.Face
+seen beside = option_map shown beside
+
+abbrev pub is_paragraph : refusals.Face → Bool
+is_paragraph refusals.ParagraphFace = true
+is_paragraph face = false

@@ -1,0 +1,22 @@
+-- How the code has what stands beside an inline, and where it stands.
+use Rattle.std.specs.Prelude.{Option, option_map}
+use Rattle.cm_source.specs.InlineRefusals as refusals
+use Rattle.cm_source.specs.declared.inline_refusals.Face.{Face}
+use Rattle.cm_source.specs.declared.inline_refusals.Face.TheVariants.{Text, Code, Break, Emphasis, Other}
+use Rattle.cm_source.specs.declared.inline_refusals.Place.{Place}
+
+-- the face of the definitions
+abbrev pub shown : Face → refusals.Face
+shown (Text first last) = refusals.TextFace first last
+shown Code = refusals.CodeFace
+shown Break = refusals.BreakFace
+shown Emphasis = refusals.EmphasisFace
+shown Other = refusals.OtherFace
+
+-- that of what stands there, if anything does
+abbrev pub seen : Option Face → Option refusals.Face
+seen beside = option_map shown beside
+
+-- the place of the definitions
+abbrev pub place_of : Place → refusals.Place
+place_of place = record { heading = place.heading; opens_paragraph = place.opens_paragraph; in_opening_link = place.in_opening_link }

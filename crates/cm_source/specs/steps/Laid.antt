@@ -1,0 +1,95 @@
+-- Source that is written line by line, each line behind what stands in front of it.
+use Rattle.std.specs.Prelude.{◌≡◌, ℕ, ◌==◌, if◌then◌else◌, List, [], ◌∷◌, ◌++◌, length, flat_map, string_bytes, Bool, true, false}
+use Rattle.cm_scan.specs.Words.{trim_end_spaces}
+use Rattle.cm_source.specs.declared.source.Source.{Source}
+
+-- a line behind what stands in front of it; in front of an empty one no spaces stand at the end
+abbrev pub behind : (front line : List ℕ) → List ℕ
+behind front [] = trim_end_spaces front
+behind front (b ∷ bs) = front ++ b ∷ bs
+
+-- further lines, each ended by a line feed
+abbrev pub further_lines : (front : List ℕ) → List (List ℕ) → List ℕ
+further_lines front lines = flat_map (λ line. behind front line ++ 10 ∷ []) lines
+
+-- lines, of which the first stands behind something else
+abbrev pub all_lines : (first front : List ℕ) → List (List ℕ) → List ℕ
+all_lines first front [] = []
+all_lines first front (line ∷ lines) = behind first line ++ 10 ∷ further_lines front lines
+
+-- what stands in front of the line that follows
+abbrev pub next_front : (first front : List ℕ) → List (List ℕ) → List ℕ
+next_front first front [] = first
+next_front first front (line ∷ lines) = front
+
+-- a text behind which the spaces of another can be stripped by themselves
+abbrev pub IsEnded : List ℕ → Type 0
+IsEnded done = (text : List ℕ) → trim_end_spaces (done ++ text) ≡ done ++ trim_end_spaces text
+
+-- no line has begun, or one of which only what stands in front of it is written
+abbrev pub StandsAt : (begun : Bool) → (line : ℕ) → (text done first front : List ℕ) → Type 0
+StandsAt false line text done first front = (text ≡ done) × (first ≡ front)
+StandsAt true line text done first front = (text ≡ done ++ first) × (line ≡ length text)
+
+-- Between two lines, of which the next one has begun or not: these are done, this stands in front of the next one, and this in front of those that follow it.
+pub record IsBetween (source : Source) (begun : Bool) (done first front : List ℕ) : Type 0 where
+  pub begun_is : source.begun ≡ begun
+  pub stands : StandsAt begun source.line (string_bytes source.text) done first front
+  pub front_is : string_bytes source.front ≡ front
+  pub ended : IsEnded done
+
+abbrev pub next_begun : (begun : Bool) → List (List ℕ) → Bool
+next_begun begun [] = begun
+next_begun begun (line ∷ lines) = false
+
+-- a place in a line: the lines before it, what stands in front of it, and its content so far
+pub record Place : Type 0 where
+  pub done : List ℕ
+  pub first : List ℕ
+  pub last : List ℕ
+
+pub record IsInside (source : Source) (place : Place) (front : List ℕ) : Type 0 where
+  pub text : string_bytes source.text ≡ place.done ++ place.first ++ place.last
+  pub begun : source.begun ≡ true
+  pub line : source.line ≡ length (place.done ++ place.first)
+  pub front_is : string_bytes source.front ≡ front
+  pub ended : IsEnded place.done
+
+-- the lines up to a place, once its line is ended
+abbrev pub up_to : Place → List ℕ
+up_to place = place.done ++ behind place.first place.last ++ 10 ∷ []
+
+-- where a content leads that stands in lines
+unfoldable pub lay : (front : List ℕ) → Place → List ℕ → Place
+lay front place [] = place
+lay front place (b ∷ bs) =
+    lay front (if b == 10 then record { done = up_to place; first = front; last = [] } else record place { last = place.last ++ b ∷ [] }) bs
+
+-- what calls do: write lines, begin and end one, and write in one
+abbrev pub Writes : Source → Source → List (List ℕ) → Type 0
+Writes old new lines = (begun : Bool) (done first front : List ℕ) → IsBetween old begun done first front
+    → IsBetween new (next_begun begun lines) (done ++ all_lines first front lines) (next_front first front lines) front
+
+abbrev pub Begins : Source → Source → Type 0
+Begins old new = (begun : Bool) (done first front : List ℕ) → IsBetween old begun done first front → IsInside new (record { done = done; first = first; last = [] }) front
+
+abbrev pub Ends : Source → Source → Type 0
+Ends old new = (place : Place) (front : List ℕ) → IsInside old place front → IsBetween new false (up_to place) front front
+
+abbrev pub Lays : Source → Source → List ℕ → Type 0
+Lays old new content = (place : Place) (front : List ℕ) → IsInside old place front → IsInside new (lay front place content) front
+
+-- a container is entered behind a mark, and something stands in front of its further lines
+abbrev pub Enters : Source → Source → (mark further : List ℕ) → Type 0
+Enters old new mark further = (begun : Bool) (done first front : List ℕ) → IsBetween old begun done first front → IsBetween new true done (first ++ mark) (front ++ further)
+
+-- one empty line, where there is no line
+abbrev pub or_empty_line : List (List ℕ) → List (List ℕ)
+or_empty_line [] = [] ∷ []
+or_empty_line (line ∷ lines) = line ∷ lines
+
+-- A container whose first line had begun is left: if no line of it was ended, an empty one is. In front of further lines stands again
+-- what did before.
+abbrev pub Leaves : Source → Source → (front : List ℕ) → Type 0
+Leaves old new front = (done first inner : List ℕ) (lines : List (List ℕ)) → IsBetween old (next_begun true lines) (done ++ all_lines first inner lines) (next_front first inner lines) inner
+    → IsBetween new false (done ++ all_lines first inner (or_empty_line lines)) front front

@@ -1,0 +1,144 @@
+-- A step of the proof that blocks read back, and nothing that has to be believed: the blocks of a tree as an outline, in which each block
+-- stands in front of those that follow it.
+use Rattle.std.specs.Prelude.{ℕ, Bool, true, false, not, ◌&&◌, ◌||◌, List, [], ◌∷◌, ◌++◌, map, codes}
+use Rattle.cm_tree.specs.declared.tree.Block.{Block, Block-F}
+use Rattle.cm_tree.specs.declared.tree.Block.TheOpen as block
+use Rattle.cm_tree.specs.declared.tree.Block.TheVariants.{Quote, List as ListBlock}
+use Rattle.cm_tree.specs.declared.tree.Block.TheFolds.{fold-Block}
+use Rattle.cm_tree.specs.declared.tree.ListKind.{ListKind}
+use Rattle.cm_scan.specs.LineForms.{is_same_kind}
+use Rattle.cm_scan.specs.Parts.{LeafPart, paragraph, heading, code, html, thematic_break, definition, leaf_block}
+use Rattle.cm_scan.specs.Starts.{starts_at_one}
+use Rattle.cm_source.specs.Inlines.{spelled_content}
+use Rattle.cm_source.specs.Texts.{spelled_text}
+use Rattle.cm_source.specs.Spelling.{parted_lines, ended_lines, heading_lines, code_lines, gap, quote_lines, marker, item_lines}
+
+-- a leaf block, and the lines that are spelled for it
+pub record SpelledLeaf : Type 0 where
+  pub part : LeafPart
+  pub lines : List (List ℕ)
+
+-- blocks, each in front of those that follow it; and items, of which a list has at least one
+mutual
+  pub data Outline : Type 0 where
+    no_blocks : Outline
+    leaf_then : SpelledLeaf → Outline → Outline
+    quote_then : Outline → Outline → Outline
+    list_then : ListKind → (tight : Bool) → OutlineItems → Outline → Outline
+
+  pub data OutlineItems : Type 0 where
+    last_one : Outline → OutlineItems
+    one_and : Outline → OutlineItems → OutlineItems
+
+abbrev pub is_none : Outline → Bool
+is_none no_blocks = true
+is_none _ = false
+
+-- the blocks, with the source of each content in its place
+unfoldable mutual
+  pub tree : Outline → List Block
+  tree no_blocks = []
+  tree (leaf_then x rest) = leaf_block x.part ∷ tree rest
+  tree (quote_then inside rest) = Quote (tree inside) ∷ tree rest
+  tree (list_then kind tight items rest) = ListBlock kind tight (items_tree items) ∷ tree rest
+
+  pub items_tree : OutlineItems → List (List Block)
+  items_tree (last_one inside) = tree inside ∷ []
+  items_tree (one_and inside items) = tree inside ∷ items_tree items
+
+-- whether an empty line follows a block: the blocks stand apart, and others follow it; or the last one has one behind it
+abbrev pub gap_before : (apart behind_last : Bool) → Outline → Bool
+gap_before apart behind_last no_blocks = behind_last
+gap_before apart behind_last _ = apart
+
+-- the lines that are spelled for blocks, with an empty line behind the last or not; and for items
+unfoldable mutual
+  pub block_lines : (apart behind_last : Bool) → Outline → List (List ℕ)
+  block_lines apart behind_last no_blocks = []
+  block_lines apart behind_last (leaf_then x rest) = x.lines ++ gap (gap_before apart behind_last rest) ++ block_lines apart behind_last rest
+  block_lines apart behind_last (quote_then inside rest) =
+      quote_lines (block_lines true false inside) ++ gap (gap_before apart behind_last rest) ++ block_lines apart behind_last rest
+  block_lines apart behind_last (list_then kind tight items rest) =
+      lines_of_items kind tight items ++ gap (gap_before apart behind_last rest) ++ block_lines apart behind_last rest
+
+  pub lines_of_items : ListKind → (tight : Bool) → OutlineItems → List (List ℕ)
+  lines_of_items kind tight (last_one inside) = item_lines (marker kind) (block_lines (not tight) false inside)
+  lines_of_items kind tight (one_and inside items) =
+      item_lines (marker kind) (block_lines (not tight) false inside) ++ gap (not tight) ++ lines_of_items kind tight items
+
+-- What blocks are to those before them
+
+abbrev pub is_paragraph : LeafPart → Bool
+is_paragraph (paragraph source) = true
+is_paragraph _ = false
+
+abbrev pub is_code : LeafPart → Bool
+is_code (code info text) = true
+is_code _ = false
+
+abbrev pub first_inside : OutlineItems → Outline
+first_inside (last_one inside) = inside
+first_inside (one_and inside items) = inside
+
+-- one block that can interrupt a paragraph: code, a quote, or a list whose first item has a block
+abbrev pub interrupts_alone : Outline → Bool
+interrupts_alone no_blocks = false
+interrupts_alone (leaf_then x rest) = is_none rest && is_code x.part
+interrupts_alone (quote_then inside rest) = is_none rest
+interrupts_alone (list_then kind tight items rest) = is_none rest && starts_at_one kind && not (is_none (first_inside items))
+
+-- an item of a tight list has no block; one; or a paragraph and one such block
+abbrev pub fits_tight : Outline → Bool
+fits_tight no_blocks = true
+fits_tight (leaf_then x rest) = is_none rest || is_paragraph x.part && interrupts_alone rest
+fits_tight (quote_then inside rest) = is_none rest
+fits_tight (list_then kind tight items rest) = is_none rest
+
+-- a loose list has a second item, or a second block in its item
+abbrev pub has_two_blocks : Outline → Bool
+has_two_blocks no_blocks = false
+has_two_blocks (leaf_then x rest) = not (is_none rest)
+has_two_blocks (quote_then inside rest) = not (is_none rest)
+has_two_blocks (list_then kind tight items rest) = not (is_none rest)
+
+abbrev pub can_be_loose : OutlineItems → Bool
+can_be_loose (last_one inside) = has_two_blocks inside
+can_be_loose (one_and inside items) = true
+
+abbrev pub begins_with_list : Outline → Bool
+begins_with_list (list_then kind tight items rest) = true
+begins_with_list _ = false
+
+-- a list with items of this kind comes first
+abbrev pub begins_with_kind : ListKind → Outline → Bool
+begins_with_kind kind (list_then other tight items rest) = is_same_kind kind other
+begins_with_kind kind _ = false
+
+-- The outline of a tree
+
+-- blocks, each in front of those that follow it
+abbrev pub chain : List (Outline → Outline) → Outline
+chain [] = no_blocks
+chain (block ∷ blocks) = block (chain blocks)
+
+abbrev pub chain_items : List (List (Outline → Outline)) → OutlineItems
+chain_items [] = last_one no_blocks
+chain_items (item ∷ []) = last_one (chain item)
+chain_items (item ∷ next ∷ items) = one_and (chain item) (chain_items (next ∷ items))
+
+-- one block, with each block inside in front of what follows it
+abbrev pub outline_step : Block-F (Outline → Outline) → Outline → Outline
+outline_step (block.Paragraph content) rest = leaf_then (record { part = paragraph (spelled_content content); lines = parted_lines (spelled_content content) }) rest
+outline_step (block.Heading level content) rest = leaf_then (record { part = heading level (spelled_content content); lines = heading_lines level content }) rest
+outline_step (block.Code info text) rest = leaf_then (record { part = code (spelled_text true true info) text; lines = code_lines info text }) rest
+outline_step (block.Html text) rest = leaf_then (record { part = html text; lines = ended_lines text }) rest
+outline_step block.Break rest = leaf_then (record { part = thematic_break; lines = codes "___" ∷ [] }) rest
+outline_step (block.Definition label dest title) rest = leaf_then (record { part = definition label dest title; lines = [] }) rest
+outline_step (block.Quote blocks) rest = quote_then (chain blocks) rest
+outline_step (block.List kind tight items) rest = list_then kind tight (chain_items items) rest
+
+abbrev pub in_front_of : Block → Outline → Outline
+in_front_of = fold-Block (Outline → Outline) outline_step
+
+abbrev pub outline_of : List Block → Outline
+outline_of blocks = chain (map in_front_of blocks)

@@ -1,0 +1,498 @@
+//! Which inlines can't be spelled so that they read back, and why not.
+ghost use Rattle.std.specs.Prelude.{◌≡◌, [], ◌∷◌, None, not, ◌&&◌, ◌||◌, map};
+ghost use Rattle.cm_text.specs.Rules as text_rules;
+ghost use Rattle.cm_scan.specs.Words.{is_empty, ◌<|>◌};
+ghost use Rattle.cm_source.specs.Answers.{ok_unless};
+ghost use Rattle.cm_source.specs.InlineRefusals.{refused, has_nul, has_line_ending, is_text, is_emphasis, is_whitespace, is_plain, first_of, last_of, further_in, inside_link, judged, first_face, last_face, hold_emphasis, hold_link, has_wrong_edge, emphasis_reasons, emphasis, ends_a_label, is_one_tag, code_reasons, html_reasons, break_reasons, refusal_of_all, paragraph_refusal, heading_refusal};
+ghost use Rattle.cm_source.specs.steps.InlineFaces.{shown, seen, place_of};
+
+use crate::why::Why;
+use cm_scan::{autolink, first_character, holds_from, last_character, raw_html_by};
+use cm_text::{Rules, is_punct_by, is_space};
+use cm_tree::Inline;
+
+/// What the inlines beside an inline see of it.
+#[derive(Clone, Copy)]
+enum Face {
+    /// A text, by its first and its last character.
+    Text {
+        first: Option<char>,
+        last: Option<char>,
+    },
+    Code,
+    Break,
+    /// Emphasis, strong emphasis or strikethrough.
+    Emphasis,
+    Other,
+}
+
+/// Where an inline stands.
+#[derive(Clone, Copy)]
+struct Place {
+    /// In a heading.
+    heading: bool,
+    /// As the first inline of a paragraph.
+    opens_paragraph: bool,
+    /// In a link that is the first inline of a paragraph.
+    in_opening_link: bool,
+}
+
+impl Place {
+    /// The place behind the first inline of a paragraph, or inside of it.
+    fn further(self) -> Place
+        ensures { place_of result ≡ further_in (place_of self) }
+    {
+        Place {
+            opens_paragraph: false,
+            ..self
+        }
+    }
+
+    /// The place inside of a link.
+    fn inside_link(self) -> Place
+        ensures { place_of result ≡ inside_link (place_of self) }
+    {
+        Place {
+            opens_paragraph: false,
+            in_opening_link: self.in_opening_link || self.opens_paragraph,
+            ..self
+        }
+    }
+}
+
+/// Refuses for a reason where it holds.
+pub(crate) fn refuse_if(holds: bool, why: Why) -> Result<(), Why>
+    ensures { result ≡ ok_unless (refused ((holds, why) ∷ [])) }
+{
+    if holds { Err(why) } else { Ok(()) }
+}
+
+/// Whether a string has U+0000.
+pub(crate) fn has_nul(text: &str) -> bool
+    ensures { result ≡ has_nul text.now }
+{
+    text.as_bytes().iter().any(|b| *b == 0)
+}
+
+/// Whether one of two strings has U+0000.
+pub(crate) fn has_nul_in(one: &str, other: &str) -> bool
+    ensures { result ≡ (has_nul one.now || has_nul other.now) }
+{
+    has_nul(one) || has_nul(other)
+}
+
+/// Whether a string has a line ending.
+fn has_line_ending(text: &str) -> bool
+    ensures { result ≡ has_line_ending text.now }
+{
+    text.as_bytes().iter().any(|b| *b == b'\n' || *b == b'\r')
+}
+
+/// Whether this is Unicode whitespace.
+fn is_whitespace(c: Option<char>) -> bool
+    ensures { result ≡ is_whitespace c }
+{
+    match c {
+        Some(c) => is_space(c),
+        None => false,
+    }
+}
+
+/// Whether this is a plain character.
+fn is_plain(rules: Rules, c: Option<char>) -> bool
+    ensures { result ≡ is_plain rules c }
+{
+    match c {
+        Some(c) => !is_space(c) && !c.is_ascii_control() && !is_punct_by(rules, c),
+        None => false,
+    }
+}
+
+/// What the inlines beside an inline see of it.
+fn face_of(inline: &Inline) -> Face
+    ensures { (rules : text_rules.Rules) → shown result ≡ (judged rules inline.now).face }
+{
+    match inline {
+        Inline::Text(text) => Face::Text {
+            first: first_character(text.as_str()),
+            last: last_character(text.as_str()),
+        },
+        Inline::Code(_) => Face::Code,
+        Inline::Soft => Face::Break,
+        Inline::Hard => Face::Break,
+        Inline::Emph(_) => Face::Emphasis,
+        Inline::Strong(_) => Face::Emphasis,
+        Inline::Strike(_) => Face::Emphasis,
+        _ => Face::Other,
+    }
+}
+
+/// The face of the first inline, if there is one.
+fn first_face(inlines: &[Inline]) -> Option<Face>
+    ensures { (rules : text_rules.Rules) → seen result ≡ first_face (map (judged rules) inlines.now) }
+{
+    match inlines.first() {
+        Some(first) => Some(face_of(first)),
+        None => None,
+    }
+}
+
+/// The face of the last inline, if there is one.
+fn last_face(inlines: &[Inline]) -> Option<Face>
+    ensures { (rules : text_rules.Rules) → seen result ≡ last_face (map (judged rules) inlines.now) }
+{
+    match inlines.last() {
+        Some(last) => Some(face_of(last)),
+        None => None,
+    }
+}
+
+/// The first character of what stands there, if it is a text.
+fn first_of(beside: Option<Face>) -> Option<char>
+    ensures { result ≡ first_of (seen beside) }
+{
+    match beside {
+        Some(Face::Text { first, .. }) => first,
+        _ => None,
+    }
+}
+
+/// The last character of what stands there, if it is a text.
+fn last_of(beside: Option<Face>) -> Option<char>
+    ensures { result ≡ last_of (seen beside) }
+{
+    match beside {
+        Some(Face::Text { last, .. }) => last,
+        _ => None,
+    }
+}
+
+/// Whether this is emphasis, strong emphasis or strikethrough.
+fn is_emphasis(beside: Option<Face>) -> bool
+    ensures { result ≡ is_emphasis (seen beside) }
+{
+    matches!(beside, Some(Face::Emphasis))
+}
+
+/// Whether emphasis stands among inlines, at any depth. The search ends where it finds one.
+#[cycle(emphasis)]
+fn hold_emphasis(inlines: &[Inline]) -> bool
+    ensures { (rules : text_rules.Rules) → result ≡ hold_emphasis (map (judged rules) inlines.now) }
+{
+    for inline in inlines {
+        if has_emphasis(inline) {
+            return true;
+        }
+    }
+    false
+}
+
+#[cycle(emphasis)]
+fn has_emphasis(inline: &Inline) -> bool
+    ensures { (rules : text_rules.Rules) → result ≡ (judged rules inline.now).has_emphasis }
+{
+    match inline {
+        Inline::Emph(_) => true,
+        Inline::Strong(_) => true,
+        Inline::Strike(_) => true,
+        Inline::Link { content, .. } => hold_emphasis(content.as_slice()),
+        Inline::Image { content, .. } => hold_emphasis(content.as_slice()),
+        _ => false,
+    }
+}
+
+/// Whether a link stands among inlines, at any depth. The search ends where it finds one.
+#[cycle(links)]
+fn hold_link(inlines: &[Inline]) -> bool
+    ensures { (rules : text_rules.Rules) → result ≡ hold_link (map (judged rules) inlines.now) }
+{
+    for inline in inlines {
+        if has_link(inline) {
+            return true;
+        }
+    }
+    false
+}
+
+#[cycle(links)]
+fn has_link(inline: &Inline) -> bool
+    ensures { (rules : text_rules.Rules) → result ≡ (judged rules inline.now).has_link }
+{
+    match inline {
+        Inline::Link { .. } => true,
+        Inline::Emph(content) => hold_link(content.as_slice()),
+        Inline::Strong(content) => hold_link(content.as_slice()),
+        Inline::Strike(content) => hold_link(content.as_slice()),
+        Inline::Image { content, .. } => hold_link(content.as_slice()),
+        _ => false,
+    }
+}
+
+/// Whether a delimiter run wouldn't open or close emphasis between these characters, outside and inside of it.
+fn is_wrong_edge(rules: Rules, outside: Option<char>, inside: Option<char>) -> bool
+    ensures { result ≡ (is_whitespace inside || is_plain rules outside && not (is_plain rules inside)) }
+{
+    is_whitespace(inside) || is_plain(rules, outside) && !is_plain(rules, inside)
+}
+
+/// Whether emphasis between these has no content, or a wrong edge.
+fn has_wrong_edge(
+    rules: Rules,
+    before: Option<Face>,
+    content: &[Inline],
+    after: Option<Face>,
+) -> bool
+    ensures { result ≡ has_wrong_edge rules (seen before) (map (judged rules) content.now) (seen after) }
+{
+    if content.is_empty() {
+        return true;
+    }
+    let first = first_of(first_face(content));
+    let last = last_of(last_face(content));
+    is_wrong_edge(rules, last_of(before), first) || is_wrong_edge(rules, first_of(after), last)
+}
+
+/// Refuses emphasis with such a content between these.
+///
+/// Where emphasis holds another, the walk ends here. So no inline is searched for emphasis twice, however deep it
+/// stands, and the walk takes time in proportion to the tree.
+fn check_emphasis(
+    rules: Rules,
+    content: &[Inline],
+    before: Option<Face>,
+    after: Option<Face>,
+) -> Result<(), Why>
+    ensures { result ≡ ok_unless (refused (emphasis_reasons rules (map (judged rules) content.now) (seen before) (seen after))) }
+{
+    refuse_if(hold_emphasis(content), Why::EmphasisNested)?;
+    refuse_if(is_emphasis(before), Why::EmphasisTouching)?;
+    refuse_if(
+        has_wrong_edge(rules, before, content, after),
+        Why::EmphasisEdge,
+    )
+}
+
+/// Whether a text in a link that is the first inline of a paragraph holds `]:`, so that it would be read as a
+/// definition.
+fn ends_a_label(place: Place, text: &str) -> bool
+    ensures { result ≡ ends_a_label (place_of place) text.now }
+{
+    place.in_opening_link && holds_from(text, 0, "]:")
+}
+
+/// Whether a text is read as one piece of raw HTML, and nothing else.
+fn is_one_tag(rules: Rules, text: &str) -> bool
+    ensures { result ≡ is_one_tag rules text.now }
+{
+    if autolink(text, 0).is_some() {
+        return false;
+    }
+    match raw_html_by(rules, text, 0) {
+        Some((_, end)) => end == text.len(),
+        None => false,
+    }
+}
+
+/// Refuses a text behind this.
+fn check_text(text: &str, before: Option<Face>) -> Result<(), Why>
+    ensures { result ≡ ok_unless (refused ((has_nul text.now, Why.Nul) ∷ (is_empty text.now || is_text (seen before), Why.Text) ∷ [])) }
+{
+    refuse_if(has_nul(text), Why::Nul)?;
+    refuse_if(
+        text.is_empty() || matches!(before, Some(Face::Text { .. })),
+        Why::Text,
+    )
+}
+
+/// Refuses a code span at a place, behind this.
+fn check_code(place: Place, text: &str, before: Option<Face>) -> Result<(), Why>
+    ensures { result ≡ ok_unless (refused (code_reasons (place_of place) text.now (seen before))) }
+{
+    refuse_if(has_nul(text), Why::Nul)?;
+    refuse_if(
+        text.is_empty()
+            || has_line_ending(text)
+            || matches!(before, Some(Face::Code))
+            || ends_a_label(place, text),
+        Why::CodeSpan,
+    )
+}
+
+/// Refuses raw HTML at a place, behind this.
+fn check_html(rules: Rules, place: Place, text: &str, before: Option<Face>) -> Result<(), Why>
+    ensures { result ≡ ok_unless (refused (html_reasons rules (place_of place) text.now (seen before))) }
+{
+    refuse_if(has_nul(text), Why::Nul)?;
+    refuse_if(
+        has_line_ending(text)
+            || !is_one_tag(rules, text)
+            || place.opens_paragraph
+            || matches!(before, Some(Face::Break))
+            || ends_a_label(place, text),
+        Why::RawHtml,
+    )
+}
+
+/// Refuses a line break at a place, between these.
+fn check_break(place: Place, before: Option<Face>, after: Option<Face>) -> Result<(), Why>
+    ensures { result ≡ ok_unless (refused (break_reasons (place_of place) (seen before) (seen after))) }
+{
+    refuse_if(
+        place.heading || before.is_none() || after.is_none() || matches!(before, Some(Face::Break)),
+        Why::LineBreak,
+    )
+}
+
+/// Refuses inlines from a place on.
+#[cycle(inlines)]
+fn check_inlines(rules: Rules, place: Place, inlines: &[Inline]) -> Result<(), Why>
+    ensures { result ≡ ok_unless (refusal_of_all (place_of place) None (map (judged rules) inlines.now)) }
+{
+    let mut place = place;
+    let mut before = None;
+    for (at, inline) in inlines.iter().enumerate() {
+        check_inline(rules, place, inline, before, first_face(&inlines[at + 1..]))?;
+        place = place.further();
+        before = Some(face_of(inline));
+    }
+    Ok(())
+}
+
+/// Refuses an inline at a place, between these.
+#[cycle(inlines)]
+fn check_inline(
+    rules: Rules,
+    place: Place,
+    inline: &Inline,
+    before: Option<Face>,
+    after: Option<Face>,
+) -> Result<(), Why>
+    ensures { result ≡ ok_unless ((judged rules inline.now).refusal (place_of place) (seen before) (seen after)) }
+{
+    match inline {
+        Inline::Text(text) => check_text(text.as_str(), before),
+        Inline::Code(text) => check_code(place, text.as_str(), before),
+        Inline::Html(text) => check_html(rules, place, text.as_str(), before),
+        Inline::Soft => check_break(place, before, after),
+        Inline::Hard => check_break(place, before, after),
+        Inline::Emph(content) => {
+            check_between(rules, place, false, content.as_slice(), before, after)
+        }
+        Inline::Strong(content) => {
+            check_between(rules, place, false, content.as_slice(), before, after)
+        }
+        Inline::Strike(content) => {
+            check_between(rules, place, true, content.as_slice(), before, after)
+        }
+        Inline::Link {
+            dest,
+            title,
+            content,
+        } => check_link(
+            rules,
+            place,
+            dest.as_str(),
+            title.as_str(),
+            content.as_slice(),
+        ),
+        Inline::Image {
+            dest,
+            title,
+            content,
+        } => check_image(
+            rules,
+            place,
+            dest.as_str(),
+            title.as_str(),
+            content.as_slice(),
+        ),
+    }
+}
+
+/// Refuses strikethrough where the rules have it off.
+fn check_strike(rules: Rules, strike: bool) -> Result<(), Why>
+    ensures { result ≡ ok_unless (refused ((strike && not rules.strike, Why.StrikeOff) ∷ [])) }
+{
+    refuse_if(strike && !rules.strike(), Why::StrikeOff)
+}
+
+/// Refuses emphasis, strong emphasis or strikethrough at a place, between these.
+#[cycle(inlines)]
+fn check_between(
+    rules: Rules,
+    place: Place,
+    strike: bool,
+    content: &[Inline],
+    before: Option<Face>,
+    after: Option<Face>,
+) -> Result<(), Why>
+    ensures { result ≡ ok_unless ((emphasis rules strike (map (judged rules) content.now)).refusal (place_of place) (seen before) (seen after)) }
+{
+    check_emphasis(rules, content, before, after)?;
+    check_strike(rules, strike)?;
+    check_inlines(rules, place.further(), content)
+}
+
+/// Refuses a link with such a destination, title and content.
+///
+/// Where a link holds another, the walk ends here. So no inline is searched for links twice.
+fn check_target(dest: &str, title: &str, content: &[Inline]) -> Result<(), Why>
+    ensures { (rules : text_rules.Rules) → result ≡ ok_unless (refused ((has_nul dest.now || has_nul title.now, Why.Nul) ∷ (hold_link (map (judged rules) content.now), Why.LinkInLink) ∷ [])) }
+{
+    refuse_if(has_nul_in(dest, title), Why::Nul)?;
+    refuse_if(hold_link(content), Why::LinkInLink)
+}
+
+/// Refuses a link at a place.
+#[cycle(inlines)]
+fn check_link(
+    rules: Rules,
+    place: Place,
+    dest: &str,
+    title: &str,
+    content: &[Inline],
+) -> Result<(), Why>
+    ensures { result ≡ ok_unless (refused ((has_nul dest.now || has_nul title.now, Why.Nul) ∷ (hold_link (map (judged rules) content.now), Why.LinkInLink) ∷ []) <|> refusal_of_all (inside_link (place_of place)) None (map (judged rules) content.now)) }
+{
+    check_target(dest, title, content)?;
+    check_inlines(rules, place.inside_link(), content)
+}
+
+/// Refuses an image at a place.
+#[cycle(inlines)]
+fn check_image(
+    rules: Rules,
+    place: Place,
+    dest: &str,
+    title: &str,
+    content: &[Inline],
+) -> Result<(), Why>
+    ensures { result ≡ ok_unless (refused ((has_nul dest.now || has_nul title.now, Why.Nul) ∷ []) <|> refusal_of_all (further_in (place_of place)) None (map (judged rules) content.now)) }
+{
+    refuse_if(has_nul_in(dest, title), Why::Nul)?;
+    check_inlines(rules, place.further(), content)
+}
+
+/// Refuses the content of a paragraph.
+pub(crate) fn check_in_paragraph(rules: Rules, content: &[Inline]) -> Result<(), Why>
+    ensures { result ≡ ok_unless (paragraph_refusal rules content.now) }
+{
+    let place = Place {
+        heading: false,
+        opens_paragraph: true,
+        in_opening_link: false,
+    };
+    check_inlines(rules, place, content)
+}
+
+/// Refuses the content of a heading.
+pub(crate) fn check_in_heading(rules: Rules, content: &[Inline]) -> Result<(), Why>
+    ensures { result ≡ ok_unless (heading_refusal rules content.now) }
+{
+    let place = Place {
+        heading: true,
+        opens_paragraph: false,
+        in_opening_link: false,
+    };
+    check_inlines(rules, place, content)
+}

@@ -1,0 +1,227 @@
+//! The source so far, line by line.
+ghost use Rattle.std.specs.Prelude.{◌≡◌, ◌≢◌, ◌==◌, ◌<◌, ℕ, [], ◌∷◌, false, length, replicate, position, ◌+◌, ◌++◌, codes, string_bytes, IfOk, OnOk};
+ghost use Rattle.std.specs.List.{list_any};
+ghost use Rattle.cm_scan.specs.Words.{trim_end_spaces};
+ghost use Rattle.cm_source.specs.steps.Laid.{IsBetween, Begins, Ends, Lays, Writes, Enters, Leaves};
+ghost use Rattle.cm_source.specs.Spelling.{ended_lines, marker};
+
+use cm_scan::trim_end_spaces;
+use cm_text::cut_at;
+use cm_tree::ListKind;
+use std::alloc::{AllocError, Global};
+use std::mem;
+
+/// Where the first line feed stands.
+pub(crate) fn find_feed(bytes: &[u8]) -> Option<usize>
+    ensures { result ≡ position (λ b. b == 10) bytes.now }
+{
+    bytes.iter().position(|b| *b == b'\n')
+}
+
+/// A text with so many spaces behind it.
+fn with_spaces(alloc: Global, text: &str, count: usize) -> Result<String, AllocError>
+    ensures { IfOk result (λ out. string_bytes out ≡ text.now ++ replicate count 32) }
+{
+    let mut out = String::new(alloc);
+    out.push_str(text)?;
+    for _ in 0..count {
+        out.push_str(" ")?;
+    }
+    Ok(out)
+}
+
+/// A text with the mark of a quote behind it.
+fn with_quote_mark(alloc: Global, text: &str) -> Result<String, AllocError>
+    ensures { IfOk result (λ out. string_bytes out ≡ text.now ++ codes "> ") }
+{
+    let mut out = String::new(alloc);
+    out.push_str(text)?;
+    out.push_str("> ")?;
+    Ok(out)
+}
+
+/// Writes the marker of an item and a space, and answers how many bytes they are.
+fn push_marker(out: &mut String, kind: ListKind) -> Result<usize, AllocError>
+    ensures written { OnOk result (string_bytes out.new ≡ string_bytes out.old ++ marker kind ++ codes " ") }
+    ensures width { IfOk result (λ width. width ≡ length (marker kind) + 1) }
+{
+    let before = out.len();
+    match kind {
+        ListKind::Dash => out.push_str("- ")?,
+        ListKind::Plus => out.push_str("+ ")?,
+        ListKind::Star => out.push_str("* ")?,
+        ListKind::Dot { start } => write!(out, "{start}. ")?,
+        ListKind::Paren { start } => write!(out, "{start}) ")?,
+    }
+    Ok(out.len() - before)
+}
+
+/// Takes the spaces off the end of a text.
+fn strip_end(text: &mut String)
+    ensures { string_bytes text.new ≡ trim_end_spaces (string_bytes text.old) }
+{
+    let kept = trim_end_spaces(text).len();
+    text.truncate(kept);
+}
+
+/// Lines of source, each behind what stands in front of it in its containers.
+#[derive(Drop)]
+pub(crate) struct Source {
+    pub(crate) text: String,
+    /// What stands in front of each further line.
+    pub(crate) front: String,
+    /// Whether the last line has begun.
+    pub(crate) begun: bool,
+    /// Where its content begins then.
+    pub(crate) line: usize,
+}
+
+impl Source {
+    /// No line.
+    pub(crate) fn new(alloc: Global) -> Source
+        ensures { IsBetween result false [] [] [] }
+    {
+        Source {
+            text: String::new(alloc),
+            front: String::new(alloc),
+            begun: false,
+            line: 0,
+        }
+    }
+
+    /// Begins a line, unless one has begun.
+    pub(crate) fn begin_line(&mut self) -> Result<(), AllocError>
+        ensures begins { OnOk result (Begins self.old self.new) }
+        ensures same { self.new.front ≡ self.old.front }
+    {
+        if !self.begun {
+            self.text.push_str(&self.front)?;
+            self.begun = true;
+            self.line = self.text.len();
+        }
+        Ok(())
+    }
+
+    /// Ends the line that has begun. In front of an empty one no spaces stand at the end.
+    pub(crate) fn end_line(&mut self) -> Result<(), AllocError>
+        ensures { OnOk result (Ends self.old self.new) }
+    {
+        if self.line == self.text.len() {
+            strip_end(&mut self.text);
+        }
+        self.text.push_str("\n")?;
+        self.begun = false;
+        Ok(())
+    }
+
+    /// Ends a line and begins the next one.
+    pub(crate) fn break_line(&mut self) -> Result<(), AllocError>
+        ensures { OnOk result (Lays self.old self.new (10 ∷ [])) }
+    {
+        self.end_line()?;
+        self.begin_line()
+    }
+
+    /// Writes what stands in one line.
+    pub(crate) fn push(&mut self, text: &str) -> Result<(), AllocError>
+        requires { list_any (λ b. b == 10) text.now ≡ false }
+        ensures { OnOk result (Lays self.old self.new text.now) }
+    {
+        self.text.push_str(text)
+    }
+
+    /// Writes what stands in one or more lines.
+    pub(crate) fn push_lines(&mut self, text: &str) -> Result<(), AllocError>
+        ensures { OnOk result (Lays self.old self.new text.now) }
+    {
+        let mut rest = text;
+        while let Some(at) = find_feed(rest.as_bytes()) {
+            let (line, behind) = cut_at(rest, at);
+            self.push(line)?;
+            self.break_line()?;
+            rest = behind;
+        }
+        self.push(rest)
+    }
+
+    /// Writes a character so many times.
+    pub(crate) fn push_marks(&mut self, mark: char, count: usize) -> Result<(), AllocError>
+        requires ascii { mark < 128 }
+        requires one_line { mark ≢ 10 }
+        ensures { OnOk result (Lays self.old self.new (replicate count mark)) }
+    {
+        for _ in 0..count {
+            self.text.push(mark)?;
+        }
+        Ok(())
+    }
+
+    /// Writes an empty line.
+    pub(crate) fn empty_line(&mut self) -> Result<(), AllocError>
+        ensures { OnOk result (Writes self.old self.new ([] ∷ [])) }
+    {
+        self.begin_line()?;
+        self.end_line()
+    }
+
+    /// Writes the lines of a text that line feeds end.
+    pub(crate) fn push_ended_lines(&mut self, text: &str) -> Result<(), AllocError>
+        ensures { OnOk result (Writes self.old self.new (ended_lines text.now)) }
+    {
+        let mut rest = text;
+        while let Some(at) = find_feed(rest.as_bytes()) {
+            let (line, behind) = cut_at(rest, at);
+            self.push_line(line)?;
+            rest = behind;
+        }
+        if rest.is_empty() {
+            return Ok(());
+        }
+        self.push_line(rest)
+    }
+
+    /// Writes a line.
+    pub(crate) fn push_line(&mut self, text: &str) -> Result<(), AllocError>
+        requires { list_any (λ b. b == 10) text.now ≡ false }
+        ensures { OnOk result (Writes self.old self.new (text.now ∷ [])) }
+    {
+        self.begin_line()?;
+        self.push(text)?;
+        self.end_line()
+    }
+
+    /// Enters a quote, and gives what stood in front of further lines.
+    pub(crate) fn enter_quote(&mut self, alloc: Global) -> Result<String, AllocError>
+        ensures enters { OnOk result (Enters self.old self.new (codes "> ") (codes "> ")) }
+        ensures front { IfOk result (λ front. string_bytes front ≡ string_bytes self.old.front) }
+    {
+        self.begin_line()?;
+        self.text.push_str("> ")?;
+        self.line = self.text.len();
+        let front = with_quote_mark(alloc, &self.front)?;
+        Ok(mem::replace(&mut self.front, front))
+    }
+
+    /// Enters an item, and gives what stood in front of further lines.
+    pub(crate) fn enter_item(&mut self, alloc: Global, kind: ListKind) -> Result<String, AllocError>
+        ensures enters { OnOk result (Enters self.old self.new (marker kind ++ codes " ") (replicate (length (marker kind) + 1) 32)) }
+        ensures front { IfOk result (λ front. string_bytes front ≡ string_bytes self.old.front) }
+    {
+        self.begin_line()?;
+        let width = push_marker(&mut self.text, kind)?;
+        self.line = self.text.len();
+        let front = with_spaces(alloc, &self.front, width)?;
+        Ok(mem::replace(&mut self.front, front))
+    }
+
+    /// Leaves a container, in front of whose further lines this stood.
+    pub(crate) fn leave(&mut self, front: String) -> Result<(), AllocError>
+        ensures { OnOk result (Leaves self.old self.new (string_bytes front)) }
+    {
+        if self.begun {
+            self.end_line()?;
+        }
+        self.front = front;
+        Ok(())
+    }
+}
