@@ -15,9 +15,9 @@ use Rattle.clap.specs.declared.builder.value_parser.Reading.TheVariants.{AsWritt
 use Rattle.clap.proofs.OnLiterals.{clap_on_literals}
 use Rattle.cm_text.specs.Limits.{LimitsView}
 use Rattle.cm_tool.specs.declared.job.Job.{Job}
-use Rattle.cm_tool.specs.declared.job.Job.TheVariants.{Render, Tree}
+use Rattle.cm_tool.specs.declared.job.Job.TheVariants.{Render, Tree, Rewrite, Examples}
 use Rattle.cm_tool.specs.declared.job.Task.{Task}
-use Rattle.cm_tool.specs.CommandLine.{are_limits, each_once, file_in, file_rule, found_for, given_for, hold_an_option, is_given, is_limit, is_option, is_set, job_in, job_of, limits_at, limits_by, limits_in, limits_of, name_of, number_for, numbers_in, older_rule, option_of, rules_in, stops_of, strike_rule, value_of, words_for, words_of, Blocks, Choice, Inlines, IsTaskOf, Older, Strike}
+use Rattle.cm_tool.specs.CommandLine.{are_limits, each_once, file_in, file_rule, found_for, given_for, hold_an_option, is_given, is_limit, is_option, is_set, job_in, job_of, limits_at, limits_by, limits_in, limits_of, name_of, number_for, numbers_in, older_rule, option_of, reads_a_text, rules_in, stops_of, strike_rule, value_of, words_for, words_of, Blocks, Choice, Inlines, IsTaskOf, Older, Strike}
 use Rattle.cm_tool.proofs.CommandLineLemmas.{no_dashes, no_long, no_short, plain_limit}
 use Rattle.cm_tool.proofs.RowLemmas.{first_default, or_assoc, row_by, used_new, with_defaults}
 use Rattle.cm_tool.proofs.WalkedLemmas.{cmk_built, job_rules}
@@ -47,10 +47,12 @@ job_shape name = record (slice_index_or cmk_built.subs 0 cmk_built.top) { name =
 abbrev top_names : Names
 top_names = names_of cmk_built
 
-pub enters : (name : Text) (job : Job) (words : List Text) → found_for (name ∷ name_of job ∷ words) ≡ Some (name_of job, rows_after job_rules [] words)
+pub enters : (name : Text) (job : Job) (words : List Text) → reads_a_text job ≡ true → found_for (name ∷ name_of job ∷ words) ≡ Some (name_of job, rows_after job_rules [] words)
 unfolding clap_on_literals
-enters name Render words = ap (λ (w : Walk). entered cmk_built w.stopped) (stays cmk_built.top.rules top_names (codes "render") [] words)
-enters name Tree words = ap (λ (w : Walk). entered cmk_built w.stopped) (stays cmk_built.top.rules top_names (codes "tree") [] words)
+enters name Render words text = ap (λ (w : Walk). entered cmk_built w.stopped) (stays cmk_built.top.rules top_names (codes "render") [] words)
+enters name Tree words text = ap (λ (w : Walk). entered cmk_built w.stopped) (stays cmk_built.top.rules top_names (codes "tree") [] words)
+enters name Rewrite words text = ap (λ (w : Walk). entered cmk_built w.stopped) (stays cmk_built.top.rules top_names (codes "rewrite") [] words)
+enters name Examples words text = cc
 
 -- what is left to go wrong, once the walk has ended
 abbrev after_walk : Walk → Kinds → Kinds
@@ -63,15 +65,19 @@ or_none : (ks : Kinds) → or_else ks [] ≡ ks
 or_none [] = refl
 or_none (k ∷ ks) = refl
 
-pub enters_right : (name : Text) (job : Job) (words : List Text)
+pub enters_right : (name : Text) (job : Job) (words : List Text) → reads_a_text job ≡ true
     → stops_of (name ∷ name_of job ∷ words) ≡ level_fault (job_shape (name_of job)) [] nothing_held words false []
 unfolding clap_on_literals
-enters_right name Render words =
+enters_right name Render words text =
     ap₂ after_walk (stays cmk_built.top.rules top_names (codes "render") [] words) (stays_right cmk_built.top top_names (codes "render") [] words)
     ∙ or_none (level_fault (job_shape (codes "render")) [] nothing_held words false [])
-enters_right name Tree words =
+enters_right name Tree words text =
     ap₂ after_walk (stays cmk_built.top.rules top_names (codes "tree") [] words) (stays_right cmk_built.top top_names (codes "tree") [] words)
     ∙ or_none (level_fault (job_shape (codes "tree")) [] nothing_held words false [])
+enters_right name Rewrite words text =
+    ap₂ after_walk (stays cmk_built.top.rules top_names (codes "rewrite") [] words) (stays_right cmk_built.top top_names (codes "rewrite") [] words)
+    ∙ or_none (level_fault (job_shape (codes "rewrite")) [] nothing_held words false [])
+enters_right name Examples words text = cc
 
 or_else_assoc : (a b c : Kinds) → or_else (or_else a b) c ≡ or_else a (or_else b c)
 or_else_assoc [] b c = refl
@@ -370,36 +376,36 @@ numbers_fault (Inlines number ∷ choices) = number_fault (is_limit number) (are
 numbers_fault (Older ∷ choices) = numbers_fault choices
 numbers_fault (Strike ∷ choices) = numbers_fault choices
 
-asked_fault : (name : Text) (job : Job) (choices : List Choice) (file : Option Text) → each_once choices ≡ true → ArePlain choices
+asked_fault : (name : Text) (job : Job) (choices : List Choice) (file : Option Text) → reads_a_text job ≡ true → each_once choices ≡ true → ArePlain choices
     → IfSome file (λ f. is_option f ≡ false) → stops_of (name ∷ words_for job choices file) ≡ all_fault choices
-asked_fault name job choices file once plain plain_file =
-    enters_right name job (flat_map words_of choices ++ file_words file) ∙ level_right (name_of job) (flat_map words_of choices ++ file_words file)
+asked_fault name job choices file text once plain plain_file =
+    enters_right name job (flat_map words_of choices ++ file_words file) text ∙ level_right (name_of job) (flat_map words_of choices ++ file_words file)
     ∙ options_right (name_of job) choices file nothing_held once (all_new choices) plain plain_file
 
-pub asked_right : (name : Text) (job : Job) (choices : List Choice) (file : Option Text) → each_once choices ≡ true
+pub asked_right : (name : Text) (job : Job) (choices : List Choice) (file : Option Text) → reads_a_text job ≡ true → each_once choices ≡ true
     → are_limits choices ≡ true → IfSome file (λ f. is_option f ≡ false)
     → stops_of (name ∷ words_for job choices file) ≡ []
-asked_right name job choices file once numbers plain =
-    asked_fault name job choices file once (plain_numbers choices (limits_plain (numbers_in choices) numbers)) plain
+asked_right name job choices file text once numbers plain =
+    asked_fault name job choices file text once (plain_numbers choices (limits_plain (numbers_in choices) numbers)) plain
     ∙ numbers_fault choices ∙ ap (λ b. cond b [] (ValueValidation ∷ [])) numbers
 
-pub asked_wrong : (name : Text) (job : Job) (choices : List Choice) (file : Option Text) → each_once choices ≡ true
+pub asked_wrong : (name : Text) (job : Job) (choices : List Choice) (file : Option Text) → reads_a_text job ≡ true → each_once choices ≡ true
     → are_limits choices ≡ false → hold_an_option choices ≡ false → IfSome file (λ f. is_option f ≡ false)
     → stops_of (name ∷ words_for job choices file) ≡ ValueValidation ∷ []
-asked_wrong name job choices file once out numbers plain =
-    asked_fault name job choices file once (plain_numbers choices numbers) plain
+asked_wrong name job choices file text once out numbers plain =
+    asked_fault name job choices file text once (plain_numbers choices numbers) plain
     ∙ numbers_fault choices ∙ ap (λ b. cond b [] (ValueValidation ∷ [])) out
 
 -- the rows at the end
 abbrev end_rows : List Choice → Option Text → List Row
 end_rows choices file = fold with_default (map row_for choices ++ file_rows file) job_rules
 
-asked_found : (name : Text) (job : Job) (choices : List Choice) (file : Option Text) → each_once choices ≡ true → ArePlain choices
+asked_found : (name : Text) (job : Job) (choices : List Choice) (file : Option Text) → reads_a_text job ≡ true → each_once choices ≡ true → ArePlain choices
     → IfSome file (λ f. is_option f ≡ false) → found_for (name ∷ words_for job choices file) ≡ Some (name_of job, end_rows choices file)
-asked_found name job choices file once plain plain_file =
+asked_found name job choices file text once plain plain_file =
     let rows = options_settled choices nothing_held once (all_new choices) in
     let held = ap (λ (w : Walk). w.held) (options_walked choices nothing_held (file_words file) plain) ∙ file_walked file (held_after choices nothing_held) plain_file in
-    enters name job (flat_map words_of choices ++ file_words file)
+    enters name job (flat_map words_of choices ++ file_words file) text
     ∙ ap (λ h. Some (name_of job, fold with_default (settled job_rules h).rows job_rules)) held
     ∙ ap (λ rs. Some (name_of job, fold with_default rs job_rules))
     (file_settled file (held_after choices nothing_held) rows.1 ∙ ap (λ rs. rs ++ file_rows file) rows.0)
@@ -511,17 +517,25 @@ end_limits choices file =
     (end_older choices file) (end_strike choices file)
 
 -- so the task is the one that they ask for
-pub asked_task : (name : Text) (job : Job) (choices : List Choice) (file : Option Text) (task : Task) → each_once choices ≡ true
+pub asked_task : (name : Text) (job : Job) (choices : List Choice) (file : Option Text) (task : Task) → reads_a_text job ≡ true → each_once choices ≡ true
     → are_limits choices ≡ true → IfSome file (λ f. is_option f ≡ false)
     → IsTaskOf (found_for (name ∷ words_for job choices file)) task
     → (task.job ≡ job) × (option_map string_bytes task.file ≡ file) × (Some task.limits ≡ limits_by choices)
-asked_task name job choices file task once numbers plain is =
-    let found = asked_found name job choices file once (plain_numbers choices (limits_plain (numbers_in choices) numbers)) plain in (
+asked_task name job choices file task text once numbers plain is =
+    let found = asked_found name job choices file text once (plain_numbers choices (limits_plain (numbers_in choices) numbers)) plain in (
       ap (λ (o : Option Job). unwrap_or o job) (sym is.job ∙ ap job_in found ∙ by_name job),
       sym is.file ∙ ap file_in found ∙ end_file choices file,
-      sym is.limits ∙ ap limits_in found ∙ end_limits choices file,
+      sym is.limits ∙ ap limits_in found ∙ of_text job text ∙ end_limits choices file,
     )
   where
     by_name : (j : Job) → job_of (name_of j) ≡ Some j
     by_name Render = refl
     by_name Tree = refl
+    by_name Rewrite = refl
+    by_name Examples = refl
+
+    of_text : (j : Job) → reads_a_text j ≡ true → limits_in (Some (name_of j, end_rows choices file)) ≡ limits_at (end_rows choices file)
+    of_text Render t = refl
+    of_text Tree t = refl
+    of_text Rewrite t = refl
+    of_text Examples t = cc

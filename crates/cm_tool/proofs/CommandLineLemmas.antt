@@ -1,6 +1,6 @@
 -- How clap reads the command line of cmk.
 use Rattle.std.proofs.Common.{◌≡◌, ◌∙◌, ◌≤◌, ◌^◌, ℕ, List, [], ◌∷◌, Some, None, refl, ap, ap₂, sym, subst, inl, inr, bytes_eq, arith, Option, true, false, ◌||◌}
-use Rattle.std.specs.Prelude.{◌⊎◌, ⊤, Result, Err, ◌==◌, codes, option_map, unwrap_or, Bool}
+use Rattle.std.specs.Prelude.{◌⊎◌, ⊤, Result, Err, ◌==◌, codes, option_and_then, option_map, unwrap_or, Bool}
 use Rattle.std.specs.Option.{option_map_or}
 use Rattle.std.proofs.lemmas.Bool.{eqb-true, le-leb}
 use Rattle.std.specs.Str.Parse.{ParsesUnsigned, ExplainsUnsignedError, HasUnsignedDigitsIfOk, digits_value, without_leading_plus}
@@ -20,9 +20,10 @@ use Rattle.std.specs.Box.{box_value}
 use Rattle.clap.specs.Words.{Kinds, IsAmong}
 use Rattle.clap.specs.declared.error.kind.ErrorKind.{ErrorKind}
 use Rattle.clap.specs.declared.error.kind.ErrorKind.TheVariants.{DisplayHelp, DisplayVersion, OutOfMemory}
+use Rattle.cm_tool.specs.declared.job.Job.{Job}
 use Rattle.cm_tool.specs.declared.job.Stop.{Stop}
 use Rattle.cm_tool.specs.declared.job.Stop.TheVariants.{Help, Wrong, NoMemory}
-use Rattle.cm_tool.specs.CommandLine.{Found, IsMistake, IsRead, StopsBy, as_number, cmk_app, fits, is_limit, is_option, is_set}
+use Rattle.cm_tool.specs.CommandLine.{Found, IsMistake, IsRead, StopsBy, as_number, cmk_app, fits, is_limit, is_option, is_set, limits_for_job}
 use Rattle.std.proofs.lemmas.Slice.Eq.{bytes_eq-Decides}
 
 pub cmk_is_simple : is_simple_and_free cmk_app ≡ true
@@ -171,3 +172,12 @@ is_mistake kind kinds (Help text) (inr among) memory by are =
     only : AsksForHelp kind → (kind ≡ ValueValidation) ⊎ ⊥ → ⊥
     only help (inl is) = subst AsksForHelp is help
     only help (inr none) = none
+
+-- one name has one job
+pub same_job : (a b : Job) → Some a ≡ Some b → a ≡ b
+same_job a b is = ap (λ (o : Option Job). unwrap_or o a) is
+
+-- the limits are those of the job that is named
+pub limits_of_job : (named : Option Job) (job : Job) (rows : List Row) → named ≡ Some job
+    → option_and_then (λ j. limits_for_job j rows) named ≡ limits_for_job job rows
+limits_of_job named job rows is = ap (λ (o : Option Job). option_and_then (λ j. limits_for_job j rows) o) is

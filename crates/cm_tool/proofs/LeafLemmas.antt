@@ -1,9 +1,9 @@
 -- The leaves of blocks, how deep their inlines nest, and how they are numbered.
-use Rattle.std.proofs.Common.{◌≡◌, ◌∙◌, ◌≤◌, ◌<◌, ◌+◌, ℕ, suc, List, [], ◌∷◌, ◌++◌, length, map, drop, take, get_or, true, false, refl, sym, ap, ap₂, subst, append_assoc, append-nil, arith, take_all, take-append-drop}
-use Rattle.std.specs.Prelude.{Bool, Option, Err, flat_map, option_map}
+use Rattle.std.proofs.Common.{◌≡◌, ◌∙◌, ◌≤◌, ◌<◌, ◌+◌, ℕ, suc, List, [], ◌∷◌, ◌++◌, length, map, drop, take, get_or, true, false, refl, sym, ap, ap₂, subst, append_assoc, append-nil, arith, length-append, take_all, take-append-drop}
+use Rattle.std.specs.Prelude.{Bool, Option, None, Err, flat_map, option_map}
 use Rattle.std.proofs.lemmas.Bool.{ltb-false, ltb-true}
 use Rattle.std.proofs.lemmas.Grind.{flat_map-append}
-use Rattle.std.proofs.lemmas.List.{map-append, take_more, take_more_set}
+use Rattle.std.proofs.lemmas.List.{map-append, nil_from_length, take_more, take_more_set}
 use Rattle.std.proofs.Math.Seq.{drop-cons, take-append_seam}
 use Rattle.std.proofs.Math.ListN.{set}
 use Rattle.cm_text.specs.Rules.{Rules}
@@ -18,10 +18,12 @@ use Rattle.cm_scan.specs.Brackets.{Defined, defined_in}
 use Rattle.cm_scan.specs.Inlines.{inlines_of, depth_of_leaf, nests_past}
 use Rattle.cm_inline.specs.declared.fault.InlineFault.{InlineFault}
 use Rattle.cm_inline.specs.declared.fault.InlineFault.TheVariants as inline
+use Rattle.cm_html.specs.Html.{alone, html_of, written}
 use Rattle.cm_inline.specs.Reading.{Reads}
 use Rattle.cm_tool.specs.declared.fault.Fault.{Fault}
 use Rattle.cm_tool.specs.declared.fault.Fault.TheVariants.{InlinesTooDeep}
-use Rattle.cm_tool.specs.Leaves.{block_read, depths_in, depths_step, first_past, concat_items, leaf_depths, read_step, with_inlines}
+use Rattle.cm_tool.specs.Leaves.{depths_in, depths_step, first_past, concat_items, leaf_depths}
+use Rattle.cm_scan.specs.Documents.{block_read, read_step, with_inlines}
 use Rattle.cm_tool.specs.Parsing.{TellsFault}
 use Rattle.cm_tool.specs.steps.Numbering.{Passes, TellsLeaf}
 
@@ -122,3 +124,40 @@ module _ (rules : Rules) (defined : Defined) where
 
   pub list_depths : (kind : ListKind) (tight : Bool) (items : List (List Block)) → flat_map item_depths_read items ≡ depths_read (ListBlock kind tight items)
   list_depths kind tight items = items_are items ∙ simp (fold_out-Block Block (read_step rules defined), fold_out-Block (List ℕ) depths_step, outs-List)
+
+-- ---- blocks that are written as they are read
+
+-- where all have been taken
+pub nothing_left : {A : Type 0} (xs taken left : List A) → xs ≡ taken ++ left → taken ≡ xs → left ≡ []
+nothing_left xs taken left whole all = nil_from_length left (omega (arith, ap length whole, ap length all, length-append taken left))
+
+module _ (rules : Rules) (defined : Defined) where
+  -- What stands so far of a whole, with the HTML of the blocks that are left.
+  abbrev pub Writes : List Block → List ℕ → List ℕ → Type 0
+  Writes left html whole = html ++ html_of (with_inlines rules defined left) ≡ whole
+
+  pub write_next : (block : Block) (left : List Block) (html more whole : List ℕ) → more ≡ html ++ alone (written (block_read rules defined block))
+      → Writes (block ∷ left) html whole → Writes left more whole
+  write_next block left html more whole is so_far =
+      ap (λ t. t ++ html_of (with_inlines rules defined left)) is
+      ∙ append_assoc html (alone (written (block_read rules defined block))) (html_of (with_inlines rules defined left)) ∙ so_far
+
+  -- How leaves of these depths are numbered is told by the blocks that are left, where the first leaf of these has this number.
+  abbrev pub Numbers : (limit : ℕ) → List Block → ℕ → List ℕ → Type 0
+  Numbers limit left next depths = (more : List ℕ) → first_past limit 1 (depths ++ more) ≡ first_past limit next (leaf_depths (with_inlines rules defined left) ++ more)
+
+  pub number_next : (limit : ℕ) (block : Block) (left : List Block) (next behind : ℕ) (depths : List ℕ) → Passes limit next behind (depths_read rules defined block)
+      → Numbers limit (block ∷ left) next depths → Numbers limit left behind depths
+  number_next limit block left next behind depths pass so_far more =
+      let rest = leaf_depths (with_inlines rules defined left) in
+      so_far more ∙ ap (first_past limit next) (append_assoc (depths_read rules defined block) rest more) ∙ pass (rest ++ more)
+
+  pub block_told : (fault : Fault) (limit : ℕ) (block : Block) (left : List Block) (next : ℕ) (depths : List ℕ) → TellsLeaf fault limit next (depths_read rules defined block)
+      → Numbers limit (block ∷ left) next depths → TellsFault fault (option_map InlinesTooDeep (first_past limit 1 depths))
+  block_told fault limit block left next depths told so_far =
+      let rest = leaf_depths (with_inlines rules defined left) in
+      subst (λ leaf. TellsFault fault (option_map InlinesTooDeep leaf))
+      (sym (ap (first_past limit 1) (sym (append-nil depths)) ∙ so_far [] ∙ ap (first_past limit next) (append_assoc (depths_read rules defined block) rest []))) (told (rest ++ []))
+
+  pub none_past : (limit next : ℕ) (depths : List ℕ) → Numbers limit [] next depths → first_past limit 1 depths ≡ None
+  none_past limit next depths so_far = ap (first_past limit 1) (sym (append-nil depths)) ∙ so_far []

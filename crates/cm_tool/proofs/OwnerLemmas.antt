@@ -14,8 +14,8 @@ use Rattle.cm_scan.specs.Blocks.{parts_of, blocks_of}
 use Rattle.cm_scan.specs.Laws.{total_of_all, leaves_step, leaves_in}
 use Rattle.cm_scan.proofs.Owners.{quote-leaves, list-leaves, tree-leaves}
 use Rattle.cm_scan.proofs.Counted.{one_owner, in_order}
-use Rattle.cm_tool.specs.Leaves.{read_step, block_read, with_inlines}
-use Rattle.cm_tool.specs.Document.{defined_by}
+use Rattle.cm_scan.specs.Documents.{read_step, block_read, with_inlines}
+use Rattle.cm_scan.specs.Documents.{defined_by}
 use Rattle.cm_tool.specs.Owners.{OneOwnerALine, RunsInOrder}
 use Rattle.cm_tool.proofs.EndedLemmas.{all_are_lines}
 

@@ -1,6 +1,6 @@
 -- What a parser stands for, as more bytes come.
 use Rattle.std.proofs.Common.{◌≡◌, ℕ, ◌+◌, Bool, true, false, List, [], ◌∷◌, ◌++◌, length, drop, map, refl, sym, ap, ap₂, subst, ◌∙◌, append_assoc, length-append, Some, None}
-use Rattle.std.specs.Prelude.{Option, Ok, Err}
+use Rattle.std.specs.Prelude.{Option, Result, Ok, Err, IfOk, IfErr}
 use Rattle.cm_text.specs.Answers.{answer_after}
 use Rattle.std.specs.Option.{option_map, option_or}
 use Rattle.cm_text.specs.declared.fault.TextFault.{TextFault}
@@ -17,6 +17,7 @@ use Rattle.cm_scan.specs.Laws.{AreLines}
 use Rattle.cm_tree.specs.declared.tree.Block.{Block}
 use Rattle.cm_tree.specs.declared.tree.Owner.{Owner}
 use Rattle.cm_tree.specs.declared.tree.Doc.{Doc}
+use Rattle.cm_html.specs.Html.{html_of}
 use Rattle.cm_block.specs.declared.fault.BlockFault.{BlockFault}
 use Rattle.cm_block.specs.declared.fault.BlockFault.TheVariants as blocks
 use Rattle.cm_block.specs.declared.parser.BlockParser.{BlockParser}
@@ -26,10 +27,14 @@ use Rattle.cm_block.proofs.Depths.{too_deep_stays}
 use Rattle.cm_tool.specs.declared.fault.Fault.{Fault}
 use Rattle.cm_tool.specs.declared.fault.Fault.TheVariants.{BlocksTooDeep, InlinesTooDeep}
 use Rattle.cm_tool.specs.Fault.{told, refused}
-use Rattle.cm_tool.specs.Leaves.{first_leaf_past, with_inlines}
-use Rattle.cm_tool.specs.Document.{doc_of, tree_of}
+use Rattle.cm_tool.specs.Leaves.{first_leaf_past}
+use Rattle.cm_scan.specs.Documents.{with_inlines}
+use Rattle.cm_tool.specs.Document.{doc_of}
+use Rattle.cm_scan.specs.Documents.{tree_of}
 use Rattle.cm_tool.specs.Faults.{fault_of, settled_fault_of}
 use Rattle.cm_tool.specs.Parsing.{Goes, TellsFault}
+use Rattle.cm_tool.specs.Writing.{converted}
+use Rattle.cm_tool.specs.steps.Ends.{IsOutline, Makes}
 use Rattle.cm_tool.proofs.EndedLemmas.{all_are_lines, ended_are_lines, ended_stay}
 use Rattle.cm_tool.specs.steps.FaultOrder.{leaf_deep, of_four, of_two}
 use Rattle.cm_tool.proofs.OrderLemmas.{faults_in_order}
@@ -246,3 +251,17 @@ module _ (limits : LimitsView) where
       let none = sym (ap₂ (λ (l : LimitsView) t. first_leaf_past l.inlines t) same tree) ∙ within in
       let o = subst (λ (l : LimitsView). OutlineOf outline l.rules (plain_lines_of (text_of bytes))) was is in
       (left ∙ ap (option_map InlinesTooDeep) none, ap₂ doc_with tree o.owners)
+
+  -- The HTML of an outline with its leaves read is that of the text.
+  pub html_made : {A : Type 0} (bytes_of : A → List ℕ) (now : LimitsView) (outline : Outline) (r : Result A Fault) (bytes : List ℕ) → now ≡ limits
+      → IsOutline limits bytes outline
+      → IfOk r (λ html. bytes_of html ≡ html_of (with_inlines now.rules (defined_in outline.definitions) outline.blocks))
+      → IfOk r (λ _. first_leaf_past now.inlines (with_inlines now.rules (defined_in outline.definitions) outline.blocks) ≡ None)
+      → IfErr r (λ fault. TellsFault fault (option_map InlinesTooDeep (first_leaf_past now.inlines (with_inlines now.rules (defined_in outline.definitions) outline.blocks))))
+      → Makes (λ html. bytes_of html ≡ converted limits.rules bytes) r limits bytes
+  html_made bytes_of now outline (Ok html) bytes same is made within told =
+      let tree = tree_read now limits outline bytes same refl is.same in
+      let none = sym (ap₂ (λ (l : LimitsView) t. first_leaf_past l.inlines t) same tree) ∙ within in
+      (is.left ∙ ap (option_map InlinesTooDeep) none, made ∙ ap html_of tree)
+  html_made bytes_of now outline (Err fault) bytes same is made within told =
+      leaf_told fault now limits outline bytes same refl is.same is.left told

@@ -7,7 +7,7 @@ use Rattle.cm_text.specs.Feed.{Feed}
 use Rattle.cm_text.specs.Settled.{AreBytes}
 use Rattle.cm_block.specs.declared.parser.BlockParser.{BlockParser}
 use Rattle.cm_tool.specs.declared.fault.Fault.{Fault}
-use Rattle.cm_tool.specs.declared.fault.Fault.TheVariants.{NotUtf8, TooLong, BlocksTooDeep, InlinesTooDeep, NoMemory, ReadFailed, WriteFailed}
+use Rattle.cm_tool.specs.declared.fault.Fault.TheVariants.{NotUtf8, TooLong, BlocksTooDeep, InlinesTooDeep, NoMemory, ReadFailed, WriteFailed, Unspellable, BadExampleFile, ExampleDiffers}
 use Rattle.cm_tool.specs.Faults.{fault_of, settled_fault_of}
 use Rattle.cm_tool.specs.Parsing.{Goes, TellsFault, Answers}
 use Rattle.cm_tool.specs.steps.Pushing.{Pushes}
@@ -68,6 +68,9 @@ told_stays limits bytes more (InlinesTooDeep leaf) are h = settled_stays limits 
 told_stays limits bytes more NoMemory are h = tt
 told_stays limits bytes more ReadFailed are h = absurd h
 told_stays limits bytes more (WriteFailed written) are h = absurd h
+told_stays limits bytes more (Unspellable why) are h = absurd h
+told_stays limits bytes more (BadExampleFile line) are h = absurd h
+told_stays limits bytes more (ExampleDiffers number) are h = absurd h
 
 bytes_behind : (front back : List ℕ) → AreBytes (front ++ back) → AreBytes back
 bytes_behind [] back are = are

@@ -1,6 +1,6 @@
 -- What clap finds in words that call for no stop, at the subcommands of cmk: values of the options that fit them.
 use Rattle.std.proofs.Common.{◌≡◌, ◌∙◌, List, [], ◌∷◌, ◌++◌, ◌&&◌, ◌||◌, ℕ, zero, suc, length, drop, Option, Some, None, Bool, true, false, not, refl, sym, subst, bytes_eq, true≢false, ◌==◌, arith, ne_eqb}
-use Rattle.std.specs.Prelude.{codes, cond, encode_utf8, fold, find, is_some, option_map, slice_get, slice_index_or, IfSome, IsSome, IsSomeAnd, ⊤}
+use Rattle.std.specs.Prelude.{codes, cond, encode_utf8, fold, find, is_some, option_map, slice_get, slice_index_or, IfSome, IsSomeAnd, ⊤}
 use Rattle.std.specs.List.{AllByRecursion}
 use Rattle.std.specs.Option.{option_map_or, option_or}
 use Rattle.std.specs.Str.{chars}
@@ -17,7 +17,9 @@ use Rattle.clap.specs.declared.error.kind.ErrorKind.{ErrorKind}
 use Rattle.clap.specs.declared.error.kind.ErrorKind.TheVariants as kind
 use Rattle.clap.specs.declared.parser.matches.ValueSource.{ValueSource}
 use Rattle.clap.specs.declared.parser.matches.ValueSource.TheVariants.{CommandLine, DefaultValue}
-use Rattle.cm_tool.specs.CommandLine.{cmk_app, file_rule, fits, flag_rule, found_for, is_limit, job_app, limit_rule, job_of, stops_of, AreRead, IsJob, IsRead}
+use Rattle.cm_tool.specs.declared.job.Job.{Job}
+use Rattle.cm_tool.specs.declared.job.Job.TheVariants.{Render, Tree, Rewrite, Examples}
+use Rattle.cm_tool.specs.CommandLine.{cmk_app, examples_app, file_rule, fits, flag_rule, found_for, is_limit, job_app, limit_rule, job_of, reads_a_text, stops_of, AreRead, FlagsAreRead, IsJob, IsRead}
 use Rattle.cm_tool.proofs.RowLemmas.{first_default, row_by, with_defaults}
 
 -- ---- kinds that are none
@@ -83,9 +85,9 @@ set_fine : (id : Text) (values : List Text) (rows : List Row) → FirstFits id v
     → AreFine (with_values id AsWritten CommandLine values (without id rows))
 set_fine id values rows new fine = with_values_fine id CommandLine values _ new (without_fine id rows fine)
 
-file_fine : IsFineRule (with_index 1 (filled file_rule))
-file_fine again [] rows none fine = absurd (cc)
-file_fine again (v ∷ vs) rows none fine = set_fine (codes "file") (v ∷ vs) rows refl fine
+file_fine : (needed : Bool) → IsFineRule (with_index 1 (filled (record file_rule { required = needed })))
+file_fine needed again [] rows none fine = absurd (cc)
+file_fine needed again (v ∷ vs) rows none fine = set_fine (codes "file") (v ∷ vs) rows refl fine
 
 limit_fine : (name : Text) → ((value : Text) → fits name value ≡ is_limit value) → IsFineRule (filled (limit_rule name))
 limit_fine name fit again values rows none fine = set_fine name _ rows (in_range values none) fine
@@ -330,27 +332,56 @@ job_rules = (built_leaf (job_app []).top).rules
 
 job_rules_fine : AllByRecursion IsFineRule job_rules
 job_rules_fine =
-    (file_fine, (limit_fine (codes "blocks") (λ v. refl), (limit_fine (codes "inlines") (λ v. refl), (flag_fine (codes "older") refl, (flag_fine (codes "strike") refl, (help_fine, tt))))))
+    (file_fine false, (limit_fine (codes "blocks") (λ v. refl), (limit_fine (codes "inlines") (λ v. refl), (flag_fine (codes "older") refl, (flag_fine (codes "strike") refl, (help_fine, tt))))))
 
 job_defaults_fine : AllByRecursion HasFineDefault job_rules
 job_defaults_fine = ((refl, tt), ((refl, refl), ((refl, refl), ((refl, refl), ((refl, refl), ((refl, tt), tt))))))
 
--- what is found for the options of a job's subcommand
-job_options : (s : Shape) (words : List Text) → s.rules ≡ job_rules → level_fault s [] nothing_held words false [] ≡ []
-    → AreRead (rows_after s.rules [] words)
-job_options s words rules none =
-    let of_job = subst (AllByRecursion IsFineRule) (sym rules) job_rules_fine in
+-- those of the subcommand `examples`
+abbrev example_rules : List Rule
+example_rules = (built_leaf examples_app.top).rules
+
+example_rules_fine : AllByRecursion IsFineRule example_rules
+example_rules_fine = (file_fine true, (flag_fine (codes "older") refl, (flag_fine (codes "strike") refl, (help_fine, tt))))
+
+example_defaults_fine : AllByRecursion HasFineDefault example_rules
+example_defaults_fine = ((refl, tt), ((refl, refl), ((refl, refl), ((refl, tt), tt))))
+
+-- an option of a subcommand that has a default is read
+option_read : (id : Text) (s : Shape) (words : List Text) → AllByRecursion IsFineRule s.rules → AllByRecursion HasFineDefault s.rules
+    → is_some (first_default id s.rules) ≡ true → level_fault s [] nothing_held words false [] ≡ [] → IsRead id (rows_after s.rules [] words)
+option_read id s words of_job defaults default none =
     let walked_so = walk_fine s of_job [] (walk_from nothing_held) words (no_first _ _ none) tt in
     let settled_none = no_first (settle_fault s.rules s.args_override_self (walk s.rules [] nothing_held words).held) _
     (no_second (walk_fault s [] (walk_from nothing_held) words) _ none) in
     let rows = (settled s.rules (walk s.rules [] nothing_held words).held).rows in
     let fine = settled_fine s of_job (walk s.rules [] nothing_held words).held settled_none walked_so in
-    let all_fine = defaults_fine s.rules rows (subst (AllByRecursion HasFineDefault) (sym rules) job_defaults_fine) fine in
+    row_read id _ (defaults_fine s.rules rows defaults fine) (has_default id rows s.rules default)
+
+-- what is found for the options of a subcommand that reads a text
+job_options : (s : Shape) (words : List Text) → s.rules ≡ job_rules → level_fault s [] nothing_held words false [] ≡ []
+    → AreRead (rows_after s.rules [] words)
+job_options s words rules none =
+    let of_job = subst (AllByRecursion IsFineRule) (sym rules) job_rules_fine in
+    let defaults = subst (AllByRecursion HasFineDefault) (sym rules) job_defaults_fine in
     record {
-      blocks = row_read (codes "blocks") _ all_fine (has_default (codes "blocks") rows s.rules (rw (rules) refl));
-      inlines = row_read (codes "inlines") _ all_fine (has_default (codes "inlines") rows s.rules (rw (rules) refl));
-      older = row_read (codes "older") _ all_fine (has_default (codes "older") rows s.rules (rw (rules) refl));
-      strike = row_read (codes "strike") _ all_fine (has_default (codes "strike") rows s.rules (rw (rules) refl));
+      blocks = option_read (codes "blocks") s words of_job defaults (rw (rules) refl) none;
+      inlines = option_read (codes "inlines") s words of_job defaults (rw (rules) refl) none;
+      flags = record {
+        older = option_read (codes "older") s words of_job defaults (rw (rules) refl) none;
+        strike = option_read (codes "strike") s words of_job defaults (rw (rules) refl) none;
+      };
+    }
+
+-- and for those of `examples`
+example_options : (s : Shape) (words : List Text) → s.rules ≡ example_rules → level_fault s [] nothing_held words false [] ≡ []
+    → FlagsAreRead (rows_after s.rules [] words)
+example_options s words rules none =
+    let of_job = subst (AllByRecursion IsFineRule) (sym rules) example_rules_fine in
+    let defaults = subst (AllByRecursion HasFineDefault) (sym rules) example_defaults_fine in
+    record {
+      older = option_read (codes "older") s words of_job defaults (rw (rules) refl) none;
+      strike = option_read (codes "strike") s words of_job defaults (rw (rules) refl) none;
     }
 
 -- ---- the subcommand
@@ -435,8 +466,16 @@ module _ (s : Shape) (has_help : s.disable_help_subcommand ≡ false) where
 abbrev pub cmk_built : App
 cmk_built = built cmk_app
 
-entered_job : (s : Shape) (words : List Text) → s.rules ≡ job_rules → IsSome (job_of s.name) → level_fault s [] nothing_held words false [] ≡ [] → IsJob (rows_at s words)
-entered_job s words rules named none = record { named = named; options = job_options s words rules none }
+entered_text : (s : Shape) (job : Job) (words : List Text) → s.rules ≡ job_rules → reads_a_text job ≡ true → job_of s.name ≡ Some job
+    → level_fault s [] nothing_held words false [] ≡ [] → IsJob (rows_at s words)
+entered_text s Render words rules text named none = record { job = Render; named = named; options = job_options s words rules none }
+entered_text s Tree words rules text named none = record { job = Tree; named = named; options = job_options s words rules none }
+entered_text s Rewrite words rules text named none = record { job = Rewrite; named = named; options = job_options s words rules none }
+entered_text s Examples words rules text named none = cc
+
+entered_examples : (s : Shape) (words : List Text) → s.rules ≡ example_rules → job_of s.name ≡ Some Examples
+    → level_fault s [] nothing_held words false [] ≡ [] → IsJob (rows_at s words)
+entered_examples s words rules named none = record { job = Examples; named = named; options = example_options s words rules none }
 
 names_help : (name : Text) → (bytes_eq (codes "help") name || false) ≡ true → bytes_eq name (codes "help") ≡ false → ⊥
 names_help name same other =
@@ -452,22 +491,25 @@ entered_is_job : (stop : Option (Text × List Text)) (rows : List Row) → enter
     → IsSomeAnd (entered cmk_built stop) IsJob
 entered_is_job None rows none is check = cc
 entered_is_job (Some p) rows none is check =
-    named (answers_to p.0 (codes "render", [])) (answers_to p.0 (codes "tree", [])) (answers_to p.0 (codes "help", [])) refl none check
+    named (answers_to p.0 (codes "render", [])) (answers_to p.0 (codes "tree", [])) (answers_to p.0 (codes "rewrite", [])) (answers_to p.0 (codes "examples", [])) (answers_to p.0 (codes "help", [])) refl none check
   where
     sub : ℕ → Shape
     sub n = slice_index_or cmk_built.subs n cmk_built.top
 
-    found : Bool → Bool → Bool → Option Shape
-    found is_render is_tree is_help = cond is_render (Some (sub 0)) (cond is_tree (Some (sub 1)) (cond is_help (Some (sub 2)) None))
+    found : Bool → Bool → Bool → Bool → Bool → Option Shape
+    found is_render is_tree is_rewrite is_examples is_help =
+        cond is_render (Some (sub 0)) (cond is_tree (Some (sub 1)) (cond is_rewrite (Some (sub 2)) (cond is_examples (Some (sub 3)) (cond is_help (Some (sub 4)) None))))
 
-    named : (is_render is_tree is_help : Bool) → answers_to p.0 (codes "help", []) ≡ is_help
-        → option_map_or (λ s. level_fault s [] nothing_held p.1 false []) (found is_render is_tree is_help) [] ≡ []
-        → check_fault cmk_built.top rows (is_some (option_map (λ s. rows_at s p.1) (found is_render is_tree is_help))) ≡ []
-        → IsSomeAnd (option_map (λ s. rows_at s p.1) (found is_render is_tree is_help)) IsJob
-    named true is_tree is_help same none check = entered_job (sub 0) p.1 refl refl none
-    named false true is_help same none check = entered_job (sub 1) p.1 refl refl none
-    named false false true same none check = absurd (names_help p.0 same is)
-    named false false false same none check = cc
+    named : (is_render is_tree is_rewrite is_examples is_help : Bool) → answers_to p.0 (codes "help", []) ≡ is_help
+        → option_map_or (λ s. level_fault s [] nothing_held p.1 false []) (found is_render is_tree is_rewrite is_examples is_help) [] ≡ []
+        → check_fault cmk_built.top rows (is_some (option_map (λ s. rows_at s p.1) (found is_render is_tree is_rewrite is_examples is_help))) ≡ []
+        → IsSomeAnd (option_map (λ s. rows_at s p.1) (found is_render is_tree is_rewrite is_examples is_help)) IsJob
+    named true is_tree is_rewrite is_examples is_help same none check = entered_text (sub 0) Render p.1 refl refl refl none
+    named false true is_rewrite is_examples is_help same none check = entered_text (sub 1) Tree p.1 refl refl refl none
+    named false false true is_examples is_help same none check = entered_text (sub 2) Rewrite p.1 refl refl refl none
+    named false false false true is_help same none check = entered_examples (sub 3) p.1 refl refl none
+    named false false false false true same none check = absurd (names_help p.0 same is)
+    named false false false false false same none check = cc
 
 -- words that call for no stop name a job, with values of its options that fit them
 pub is_job : (words : List Text) → stops_of words ≡ [] → IsSomeAnd (found_for words) IsJob

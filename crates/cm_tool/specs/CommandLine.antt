@@ -1,5 +1,5 @@
 -- What the words of a command line ask for. How clap reads them is said by its own words, at the command line of cmk.
-use Rattle.std.specs.Prelude.{◌≡◌, ◌≢◌, ◌⊎◌, ◌==◌, ◌^◌, ◌&&◌, ◌||◌, ⊤, ℕ, Bool, true, false, not, List, [], ◌∷◌, ◌++◌, Option, Some, Result, Ok, Err, IsSome, if◌then◌else◌, codes, flat_map, string_bytes, find, option_map, option_and_then, unwrap_or}
+use Rattle.std.specs.Prelude.{◌≡◌, ◌≢◌, ◌⊎◌, ◌==◌, ◌^◌, ◌&&◌, ◌||◌, ⊤, ℕ, Bool, true, false, not, List, [], ◌∷◌, ◌++◌, Option, Some, Result, Ok, Err, if◌then◌else◌, codes, flat_map, string_bytes, find, option_map, option_and_then, unwrap_or}
 use Rattle.std.specs.List.{list_all, list_any}
 use Rattle.std.specs.Option.{option_map_or}
 use Rattle.std.specs.Str.{bytes_eq}
@@ -13,7 +13,7 @@ use Rattle.clap.specs.declared.error.kind.ErrorKind.TheVariants.{DisplayHelp, Di
 use Rattle.cm_text.specs.Limits.{LimitsView, limits_for}
 use Rattle.cm_text.specs.Rules.{Rules}
 use Rattle.cm_tool.specs.declared.job.Job.{Job}
-use Rattle.cm_tool.specs.declared.job.Job.TheVariants.{Render, Tree}
+use Rattle.cm_tool.specs.declared.job.Job.TheVariants.{Render, Tree, Rewrite, Examples}
 use Rattle.cm_tool.specs.declared.job.Task.{Task}
 use Rattle.cm_tool.specs.declared.job.Stop.{Stop}
 use Rattle.cm_tool.specs.declared.job.Stop.TheVariants.{Help, Wrong, NoMemory}
@@ -21,6 +21,10 @@ use Rattle.cm_tool.specs.declared.job.Stop.TheVariants.{Help, Wrong, NoMemory}
 -- the argument FILE
 abbrev pub file_rule : Rule
 file_rule = record (new_rule (codes "file")) { value_names = 1 }
+
+-- the same where it can't be left out
+abbrev pub needed_file_rule : Rule
+needed_file_rule = record file_rule { required = true }
 
 -- the option --name N, a number from 1 to 500, and 100 where it is left out
 abbrev pub limit_rule : Text → Rule
@@ -51,20 +55,31 @@ older_rule = flag_rule (codes "older")
 abbrev pub strike_rule : Rule
 strike_rule = flag_rule (codes "strike")
 
--- the subcommand of this name
+-- the subcommand of this name, which reads a text
 abbrev pub job_app : Text → App
 job_app name = with_rule (with_rule (with_rule (with_rule (with_rule (new_app name) file_rule) blocks_rule) inlines_rule) older_rule) strike_rule
+
+-- the subcommand that reads a file of examples, under the standard limits
+abbrev pub examples_app : App
+examples_app = with_rule (with_rule (with_rule (new_app (codes "examples")) needed_file_rule) older_rule) strike_rule
 
 abbrev pub name_of : Job → Text
 name_of Render = codes "render"
 name_of Tree = codes "tree"
+name_of Rewrite = codes "rewrite"
+name_of Examples = codes "examples"
+
+-- the job is done on a text, and not on a file of examples
+abbrev pub reads_a_text : Job → Bool
+reads_a_text Examples = false
+reads_a_text _ = true
 
 -- the command line of cmk, which needs a subcommand
 abbrev pub cmk_top : App
 cmk_top = let a = new_app (codes "cmk") in record a { top = record a.top { subcommand_required = true } }
 
 abbrev pub cmk_app : App
-cmk_app = with_subcommand (with_subcommand cmk_top (job_app (name_of Render)).top) (job_app (name_of Tree)).top
+cmk_app = with_subcommand (with_subcommand (with_subcommand (with_subcommand cmk_top (job_app (name_of Render)).top) (job_app (name_of Tree)).top) (job_app (name_of Rewrite)).top) examples_app.top
 
 -- the name of a subcommand, and what is found for its arguments
 abbrev pub Found : Type 0
@@ -76,7 +91,7 @@ found_for words = subcommand_of cmk_app words
 
 -- the job of this name
 abbrev pub job_of : Text → Option Job
-job_of name = find (λ job. bytes_eq (name_of job) name) (Render ∷ Tree ∷ [])
+job_of name = find (λ job. bytes_eq (name_of job) name) (Render ∷ Tree ∷ Rewrite ∷ Examples ∷ [])
 
 abbrev pub job_in : Option Found → Option Job
 job_in found = option_and_then (λ f. job_of f.0) found
@@ -109,8 +124,13 @@ abbrev pub limits_at : List Row → Option LimitsView
 limits_at rows =
     option_and_then (λ blocks. option_and_then (limits_of (rules_in rows) blocks) (first_of (codes "inlines") rows)) (first_of (codes "blocks") rows)
 
+-- the limits of a job: examples are read under the standard ones
+abbrev pub limits_for_job : Job → List Row → Option LimitsView
+limits_for_job Examples rows = limits_with (rules_in rows) 100 100
+limits_for_job _ rows = limits_at rows
+
 abbrev pub limits_in : Option Found → Option LimitsView
-limits_in found = option_and_then (λ f. limits_at f.1) found
+limits_in found = option_and_then (λ f. option_and_then (λ job. limits_for_job job f.1) (job_of f.0)) found
 
 -- the task is the one that the words name
 pub record IsTaskOf (found : Option Found) (task : Task) : Type 0 where
@@ -139,7 +159,7 @@ words_of (Inlines number) = codes "--inlines" ∷ number ∷ []
 words_of Older = codes "--older" ∷ []
 words_of Strike = codes "--strike" ∷ []
 
--- The words that ask for a job with these options, in their order, on this file, behind the program's name. The file may be left out.
+-- The words that ask for a job on a text with these options, in their order, on this file, behind the program's name. The file may be left out.
 abbrev pub words_for : Job → List Choice → Option Text → List Text
 words_for job choices file = name_of job ∷ flat_map words_of choices ++ option_map_or (λ f. f ∷ []) file []
 
@@ -235,17 +255,27 @@ pub record IsRead (name : Text) (rows : List Row) : Type 0 where
   pub is_read : one_of name rows ≡ Some text
   pub is_fit : fits name text ≡ true
 
--- the options of a subcommand have values that fit them
-pub record AreRead (rows : List Row) : Type 0 where
-  pub blocks : IsRead (codes "blocks") rows
-  pub inlines : IsRead (codes "inlines") rows
+-- the flags of a subcommand have values that fit them
+pub record FlagsAreRead (rows : List Row) : Type 0 where
   pub older : IsRead (codes "older") rows
   pub strike : IsRead (codes "strike") rows
 
+-- the options of a subcommand that reads a text have values that fit them
+pub record AreRead (rows : List Row) : Type 0 where
+  pub blocks : IsRead (codes "blocks") rows
+  pub inlines : IsRead (codes "inlines") rows
+  pub flags : FlagsAreRead rows
+
+-- the options of a job's subcommand have values that fit them
+abbrev pub OptionsAreRead : Job → List Row → Type 0
+OptionsAreRead Examples rows = FlagsAreRead rows
+OptionsAreRead _ rows = AreRead rows
+
 -- a subcommand that is a job, with values of its options
 pub record IsJob (found : Found) : Type 0 where
-  pub named : IsSome (job_of found.0)
-  pub options : AreRead found.1
+  pub job : Job
+  pub named : job_of found.0 ≡ Some job
+  pub options : OptionsAreRead job found.1
 
 -- a wrong command line, unless memory ran out
 abbrev pub IsMistake : Result Task Stop → Type 0

@@ -11,7 +11,7 @@ use Rattle.cm_tool.specs.declared.fault.Fault.{Fault}
 use Rattle.cm_tool.specs.declared.fault.Fault.TheVariants.{BlocksTooDeep, InlinesTooDeep}
 use Rattle.cm_tool.specs.Fault.{told}
 use Rattle.cm_tool.specs.Leaves.{first_leaf_past}
-use Rattle.cm_tool.specs.Document.{tree_of}
+use Rattle.cm_scan.specs.Documents.{tree_of}
 
 -- the first of the lines that has more quotes and items round it than the limit, by the rules of the limits
 abbrev pub too_deep : LimitsView → List LineView → Option Fault

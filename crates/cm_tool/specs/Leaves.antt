@@ -1,39 +1,10 @@
--- The leaves of an outline with their inlines read, and how deep these nest.
+-- How deep the inlines of a document's leaves nest.
 use Rattle.std.specs.Prelude.{ℕ, nat_lt, List, [], ◌∷◌, ◌++◌, map, Option}
 use Rattle.std.specs.List.{concat, position_from}
 use Rattle.cm_tree.specs.Depth.{inlines_depth}
-use Rattle.cm_tree.specs.declared.tree.Inline.{Inline}
-use Rattle.cm_tree.specs.declared.tree.Inline.TheVariants.{Text}
 use Rattle.cm_tree.specs.declared.tree.Block.{Block, Block-F}
 use Rattle.cm_tree.specs.declared.tree.Block.TheOpen as block
-use Rattle.cm_tree.specs.declared.tree.Block.TheVariants.{Paragraph, Heading, Code, Html, Break, Definition, Quote, List as ListBlock}
 use Rattle.cm_tree.specs.declared.tree.Block.TheFolds.{fold-Block}
-use Rattle.cm_text.specs.Rules.{Rules}
-use Rattle.cm_scan.specs.Brackets.{Defined}
-use Rattle.cm_scan.specs.Inlines.{inlines_of}
-
--- the content of a paragraph or heading, which in an outline is one text, its source, or nothing
-abbrev pub content_read : Rules → Defined → List Inline → List Inline
-content_read rules defined (Text source ∷ []) = inlines_of rules defined source
-content_read rules defined content = content
-
--- one block, with each block inside read in its place
-abbrev pub read_step : Rules → Defined → Block-F Block → Block
-read_step rules defined (block.Paragraph content) = Paragraph (content_read rules defined content)
-read_step rules defined (block.Heading level content) = Heading level (content_read rules defined content)
-read_step rules defined (block.Code info text) = Code info text
-read_step rules defined (block.Html text) = Html text
-read_step rules defined block.Break = Break
-read_step rules defined (block.Definition label dest title) = Definition label dest title
-read_step rules defined (block.Quote blocks) = Quote blocks
-read_step rules defined (block.List kind tight items) = ListBlock kind tight items
-
-abbrev pub block_read : Rules → Defined → Block → Block
-block_read rules defined = fold-Block Block (read_step rules defined)
-
--- the blocks with the inlines of their leaves, at every depth, where these link reference definitions count
-abbrev pub with_inlines : Rules → Defined → List Block → List Block
-with_inlines rules defined blocks = map (block_read rules defined) blocks
 
 -- lists of lists, one after another
 abbrev pub concat_items : List (List (List ℕ)) → List ℕ

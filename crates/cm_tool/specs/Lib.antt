@@ -8,6 +8,12 @@ pub mod Owners
 pub mod Parsing
 pub mod Writing
 pub mod Examples
+pub mod ExampleFiles
+pub mod FileExamples
+pub mod Reporting
+pub mod Rewriting
 pub mod CommandLine
+pub mod WordExamples
 pub mod Running
+pub mod TextMarkup
 pub mod steps

@@ -6,7 +6,7 @@ use Rattle.cm_block.specs.declared.parser.BlockParser.{BlockParser}
 use Rattle.cm_block.specs.Parser.{StandsFor as HasTaken}
 use Rattle.cm_tree.specs.declared.tree.Doc.{Doc}
 use Rattle.cm_tool.specs.declared.fault.Fault.{Fault}
-use Rattle.cm_tool.specs.declared.fault.Fault.TheVariants.{NotUtf8, TooLong, BlocksTooDeep, InlinesTooDeep, NoMemory, ReadFailed, WriteFailed}
+use Rattle.cm_tool.specs.declared.fault.Fault.TheVariants.{NotUtf8, TooLong, BlocksTooDeep, InlinesTooDeep, NoMemory}
 use Rattle.cm_tool.specs.Document.{doc_of}
 use Rattle.cm_tool.specs.Faults.{fault_of}
 
@@ -37,8 +37,7 @@ TellsFault (TooLong at) told = told ≡ Some (TooLong at)
 TellsFault (BlocksTooDeep line) told = told ≡ Some (BlocksTooDeep line)
 TellsFault (InlinesTooDeep leaf) told = told ≡ Some (InlinesTooDeep leaf)
 TellsFault NoMemory told = ⊤
-TellsFault ReadFailed told = ⊥
-TellsFault (WriteFailed written) told = ⊥
+TellsFault _ told = ⊥
 
 abbrev pub Answers : Result (Unit {0}) Fault → Option Fault → Type 0
 Answers (Ok _) told = told ≡ None

@@ -5,9 +5,11 @@ use Rattle.cm_text.specs.Limits.{LimitsView}
 use Rattle.cm_text.specs.Writing.{SinkView, IsUnwritten, Wrote}
 use Rattle.cm_tool.specs.Writing.{Converts}
 use Rattle.cm_tool.specs.Writing.{Lists}
+use Rattle.cm_tool.specs.Reporting.{WritesReport}
+use Rattle.cm_tool.specs.Rewriting.{Rewrites}
 use Rattle.cm_tool.specs.declared.fault.Fault.{Fault}
 use Rattle.cm_tool.specs.declared.job.Job.{Job}
-use Rattle.cm_tool.specs.declared.job.Job.TheVariants.{Render, Tree}
+use Rattle.cm_tool.specs.declared.job.Job.TheVariants.{Render, Tree, Rewrite, Examples}
 use Rattle.cm_tool.specs.declared.job.Stop.{Stop}
 use Rattle.cm_tool.specs.declared.job.Stop.TheVariants.{Help, Wrong, NoMemory}
 
@@ -37,6 +39,8 @@ Reports (Err _) old new = OfferedLine old new
 abbrev pub Does : Job → Result ℕ Fault → LimitsView → List ℕ → SourceView → SourceView → SinkView → SinkView → Type 0
 Does Render answer limits bytes from left old new = Converts answer limits bytes from left old new
 Does Tree answer limits bytes from left old new = Lists answer limits bytes from left old new
+Does Rewrite answer limits bytes from left old new = Rewrites answer limits bytes from left old new
+Does Examples answer limits bytes from left old new = WritesReport answer limits bytes from left old new
 
 -- the job has this answer, and the status and the errors tell it
 pub record Answers (answer : Result ℕ Fault) (status : ℕ) (job : Job) (limits : LimitsView) (bytes : List ℕ) (from left : SourceView) (old new old-errors new-errors : SinkView) : Type 0 where

@@ -7,7 +7,8 @@ use Rattle.cm_html.specs.Html.{html_of}
 use Rattle.cm_html.specs.Listing.{listing_of}
 use Rattle.cm_tool.specs.declared.fault.Fault.{Fault}
 use Rattle.cm_tool.specs.declared.fault.Fault.TheVariants.{NoMemory, WriteFailed}
-use Rattle.cm_tool.specs.Document.{tree_of, owners_of_bytes}
+use Rattle.cm_tool.specs.Document.{owners_of_bytes}
+use Rattle.cm_scan.specs.Documents.{tree_of}
 use Rattle.cm_tool.specs.Reading.{SourceView, ReadWhole, Refuses}
 
 -- the HTML of a text's bytes, by these rules

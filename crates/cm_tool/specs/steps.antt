@@ -1,3 +1,5 @@
 pub mod FaultOrder
 pub mod Pushing
 pub mod Numbering
+pub mod Ends
+pub mod ExampleSteps

@@ -4,8 +4,8 @@ ghost use Rattle.std.specs.Io.KnownBytes.{Consumes};
 ghost use Rattle.cm_tool.specs.Writing.{Converts};
 
 use crate::fault::Fault;
-use crate::reading::read;
-use cm_html::write_html;
+use crate::pages::write_pages;
+use crate::reading::read_html;
 use cm_text::{Limits, Sink, Source};
 use std::alloc::Global;
 
@@ -29,6 +29,6 @@ pub fn convert<R: Source, W: Sink>(
         (record { taken = W.taken sink.old; failed = W.failed sink.old })
         (record { taken = W.taken sink.new; failed = W.failed sink.new }) }
 {
-    let doc = read(alloc, source, limits)?;
-    Ok(write_html(alloc, &doc, sink)?)
+    let html = read_html(alloc, source, limits)?;
+    Ok(write_pages(html.as_slice(), sink)?)
 }

@@ -3,7 +3,8 @@ ghost use Rattle.std.specs.Prelude.{◌≡◌};
 
 use cm_block::BlockFault;
 use cm_html::HtmlFault;
-use cm_text::TextFault;
+use cm_source::{SourceFault, Why};
+use cm_text::{NoMemory, TextFault};
 use std::alloc::AllocError;
 use thiserror::Error;
 
@@ -31,6 +32,15 @@ pub enum Fault {
     /// The writer failed, or took no byte of a nonempty piece, after it had taken so many bytes.
     #[error("F7 write failed after {written} bytes")]
     WriteFailed { written: usize },
+    /// The tree can't be spelled as plain source.
+    #[error("F8 cannot be spelled: {why}")]
+    Unspellable { why: Why },
+    /// An example isn't closed, whose opening line, counted from 1, is this.
+    #[error("F9 bad example file at line {line}")]
+    BadExampleFile { line: usize },
+    /// The example, counted from 1, is the first whose output differs from the HTML that it wants.
+    #[error("F10 example {number} differs")]
+    ExampleDiffers { number: usize },
 }
 
 impl From<TextFault> for Fault {
@@ -73,6 +83,17 @@ impl From<AllocError> for Fault {
     }
 }
 
+impl From<NoMemory> for Fault {
+    ghost use Rattle.std.specs.Prelude.{◌≡◌};
+    ghost use Rattle.cm_tool.specs.declared.fault.Fault.TheVariants.{NoMemory};
+
+    ghost from_gives = { λ _ e. e ≡ NoMemory };
+
+    fn from(_: NoMemory) -> Fault {
+        Fault::NoMemory
+    }
+}
+
 impl From<HtmlFault> for Fault {
     ghost use Rattle.std.specs.Prelude.{◌≡◌};
     ghost use Rattle.cm_tool.specs.Fault.{unwritten};
@@ -83,6 +104,20 @@ impl From<HtmlFault> for Fault {
         match fault {
             HtmlFault::NoMemory => Fault::NoMemory,
             HtmlFault::WriteFailed { written } => Fault::WriteFailed { written },
+        }
+    }
+}
+
+impl From<SourceFault> for Fault {
+    ghost use Rattle.std.specs.Prelude.{◌≡◌};
+    ghost use Rattle.cm_tool.specs.Fault.{unspelled};
+
+    ghost from_gives = { λ fault e. e ≡ unspelled fault };
+
+    fn from(fault: SourceFault) -> Fault {
+        match fault {
+            SourceFault::NoMemory => Fault::NoMemory,
+            SourceFault::Unspellable { why } => Fault::Unspellable { why },
         }
     }
 }

@@ -10,6 +10,10 @@ pub enum Job {
     Render,
     /// The tree of the text is listed, and the owner of each line.
     Tree,
+    /// The text is written as plain source of its tree.
+    Rewrite,
+    /// The text is a file of examples, of which the report is written.
+    Examples,
 }
 
 /// A job, and what it is done on.

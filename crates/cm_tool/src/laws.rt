@@ -1,8 +1,11 @@
 //! Laws of the definitions.
 ghost use Rattle.cm_tool.specs.Examples.{Examples};
 ghost use Rattle.cm_tool.specs.Faults.{SettledIsTold};
+ghost use Rattle.cm_tool.specs.FileExamples.{FileExamples};
 ghost use Rattle.cm_tool.specs.Owners.{OneOwnerALine, RunsInOrder};
 ghost use Rattle.cm_tool.specs.ReadingExamples.{ReadingExamples};
+ghost use Rattle.cm_tool.specs.TextMarkup.{HeadingLevels, TextIsNoMarkup};
+ghost use Rattle.cm_tool.specs.WordExamples.{WordExamples};
 ghost use Rattle.cm_tool.specs.steps.FaultOrder.{FaultsInOrder};
 
 /// Worked examples, by computation.
@@ -11,6 +14,10 @@ pub fn worked_examples()
     ensures reading { ReadingExamples }
     // From the bytes of a text to its HTML.
     ensures html { Examples }
+    // From a file of examples to their report.
+    ensures files { FileExamples }
+    // Of the words of `cmk examples`.
+    ensures words { WordExamples }
 {}
 
 /// A parser meets faults in an order that gives the fault of the input: first a line that has ended and
@@ -30,4 +37,11 @@ pub fn settled_is_told()
 pub fn owners_of_lines()
     ensures one_a_line { OneOwnerALine }
     ensures runs { RunsInOrder }
+{}
+
+/// Each heading of a document has a level from 1 to 6. What `convert` writes of a text whose tree has no raw
+/// HTML, but for that in the alternative text of images, is markup, and its tags are those of the tree.
+pub fn text_is_no_markup()
+    ensures levels { HeadingLevels }
+    ensures tags { TextIsNoMarkup }
 {}

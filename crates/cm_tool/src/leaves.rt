@@ -1,17 +1,22 @@
 //! The inlines of an outline's leaves.
-ghost use Rattle.std.specs.Prelude.{◌≡◌, ◌+◌, ◌≤◌, ◌<◌, [], ◌∷◌, map, option_map, IfOk, IfErr, OnOk, None};
+ghost use Rattle.std.specs.Prelude.{◌≡◌, ◌+◌, ◌≤◌, ◌<◌, [], ◌∷◌, ◌++◌, map, option_map, string_bytes, IfOk, IfErr, OnOk, None};
+ghost use Rattle.std.specs.List.{concat};
 ghost use Rattle.cm_tree.specs.Depth.{inlines_depth};
+ghost use Rattle.cm_html.specs.Html.{html_of, written, alone};
 ghost use Rattle.cm_scan.specs.Brackets.{defined_in};
 ghost use Rattle.cm_inline.specs.declared.fault.InlineFault.TheVariants as inline_faults;
 ghost use Rattle.cm_tool.specs.declared.fault.Fault.TheVariants as faults;
-ghost use Rattle.cm_tool.specs.Leaves.{content_read, block_read, with_inlines, depths_in, leaf_depths, first_leaf_past};
+ghost use Rattle.cm_tool.specs.Leaves.{depths_in, leaf_depths, first_leaf_past};
+ghost use Rattle.cm_scan.specs.Documents.{content_read, block_read, with_inlines};
 ghost use Rattle.cm_tool.specs.Parsing.{TellsFault};
 ghost use Rattle.cm_tool.specs.steps.Numbering.{Passes, TellsLeaf};
 
 use crate::fault::Fault;
+use crate::pages::{add_page, new_page, turn_page};
+use cm_html::push_block;
 use cm_inline::{InlineFault, inlines_by, is_one_text};
 use cm_text::Limits;
-use cm_tree::{Block, Definitions, Inline, Items, inline_depth};
+use cm_tree::{Block, Definitions, Inline, Items, Text, inline_depth};
 use std::alloc::Global;
 use std::mem;
 
@@ -155,4 +160,51 @@ pub(crate) fn read_leaves(
 {
     let mut next = 1;
     with_inlines(alloc, limits, definitions, &mut next, blocks)
+}
+
+/// Reads the inlines of the next leaves, those of a block, and adds its HTML.
+fn push_read(
+    alloc: Global,
+    limits: Limits,
+    definitions: &Definitions,
+    next: &mut usize,
+    html: &mut String,
+    mut block: Block,
+) -> Result<(), Fault>
+    ensures pushed { OnOk result (string_bytes html.new ≡ string_bytes html.old ++ alone (written (block_read limits.rules (defined_in definitions.now) block))) }
+    ensures passes { OnOk result (Passes limits.inlines next.old next.new (depths_in (block_read limits.rules (defined_in definitions.now) block))) }
+    ensures told { IfErr result (λ fault. TellsLeaf fault limits.inlines next.old
+        (depths_in (block_read limits.rules (defined_in definitions.now) block))) }
+{
+    read_block(alloc, limits, definitions, next, &mut block)?;
+    push_block(html, &block)?;
+    Ok(())
+}
+
+/// The HTML of the blocks with the inlines of their leaves, in pages. The inlines of one block are let go of before those of the next
+/// one are read.
+///
+/// # Errors
+///
+/// As `read_leaves`.
+pub(crate) fn leaves_html(
+    alloc: Global,
+    limits: Limits,
+    definitions: &Definitions,
+    blocks: Items<Block>,
+) -> Result<Items<Text>, Fault>
+    ensures html { IfOk result (λ pages. concat pages ≡ html_of (with_inlines limits.rules (defined_in definitions.now) blocks)) }
+    ensures within { IfOk result (λ _. first_leaf_past limits.inlines (with_inlines limits.rules (defined_in definitions.now) blocks) ≡ None) }
+    ensures told { IfErr result (λ fault. TellsFault fault (option_map faults.InlinesTooDeep
+        (first_leaf_past limits.inlines (with_inlines limits.rules (defined_in definitions.now) blocks)))) }
+{
+    let mut pages = Items::new(alloc);
+    let mut page = new_page(alloc)?;
+    let mut next = 1;
+    for block in blocks.into_vec() {
+        push_read(alloc, limits, definitions, &mut next, &mut page, block)?;
+        turn_page(alloc, &mut pages, &mut page)?;
+    }
+    add_page(&mut pages, page)?;
+    Ok(pages)
 }

@@ -4,19 +4,28 @@
 
 mod command_line;
 mod conversion;
+mod examining;
+mod example_files;
 mod fault;
 mod job;
 pub mod laws;
 mod leaves;
 mod listing;
+mod pages;
 mod parser;
 mod reading;
+mod reporting;
+mod rewriting;
 mod running;
+mod texts;
 
 pub use command_line::task;
 pub use conversion::convert;
+pub use examining::{Difference, Report, examples, examples_by};
 pub use fault::Fault;
 pub use job::{Job, Stop, Task};
 pub use parser::Parser;
 pub use reading::read;
+pub use rewriting::rewrite;
 pub use running::{run, tell};
+pub use texts::read_text;

@@ -1,5 +1,6 @@
 //! A document that comes in pieces.
-ghost use Rattle.std.specs.Prelude.{◌≡◌, ◌≢◌, ℕ, ◌+◌, ◌≤◌, List, [], ◌++◌, length, IfErr, OnOk, Some, None, Err, false};
+ghost use Rattle.std.specs.Prelude.{◌≡◌, ◌≢◌, ℕ, ◌+◌, ◌≤◌, List, [], ◌++◌, length, IfOk, IfErr, OnOk, Some, None, Err, false};
+ghost use Rattle.std.specs.List.{concat};
 ghost use Rattle.cm_text.specs.Answers.{answer_after};
 ghost use Rattle.cm_text.specs.Limits.{LimitsView};
 ghost use Rattle.cm_text.specs.Lines.{LineView};
@@ -7,15 +8,17 @@ ghost use Rattle.cm_text.specs.Feed.{StandsFor as FeedStandsFor, with_ready, cou
 ghost use Rattle.cm_scan.specs.Laws.{AreLines};
 ghost use Rattle.cm_block.specs.Parser.{StandsFor as HasTaken, TellsDepth};
 ghost use Rattle.cm_tool.specs.declared.fault.Fault as faults;
-ghost use Rattle.cm_tool.specs.Faults.{settled_fault_of};
-ghost use Rattle.cm_tool.specs.Parsing.{Goes, StandsFor, Answers, Finishes};
+ghost use Rattle.cm_tool.specs.Faults.{fault_of, settled_fault_of};
+ghost use Rattle.cm_tool.specs.Parsing.{Goes, StandsFor, Answers, Finishes, TellsFault};
+ghost use Rattle.cm_tool.specs.Writing.{converted};
+ghost use Rattle.cm_tool.specs.steps.Ends.{IsOutline, Makes};
 ghost use Rattle.cm_tool.specs.steps.Pushing.{Pushes, Counts};
 
 use crate::fault::Fault;
-use crate::leaves::read_leaves;
+use crate::leaves::{leaves_html, read_leaves};
 use cm_block::{BlockFault, BlockParser, Outline};
 use cm_text::{Limits, LineFeed, TextFault};
-use cm_tree::Doc;
+use cm_tree::{Doc, Items, Text};
 use std::alloc::Global;
 use std::marker::Model;
 
@@ -91,6 +94,23 @@ impl Parser {
         result
     }
 
+    /// The HTML of the document in pages, where the bytes so far are all.
+    pub(crate) fn finish_html(self) -> Result<Items<Text>, Fault>
+        ensures { (limits : LimitsView) (bytes : List ℕ) → StandsFor limits self bytes →
+            Makes (λ pages. concat pages ≡ converted limits.rules bytes) result limits bytes }
+    {
+        let Parser {
+            alloc,
+            feed,
+            blocks,
+            fault,
+        } = self;
+        match fault {
+            Some(fault) => Err(fault),
+            None => finish_html(alloc, feed, blocks),
+        }
+    }
+
     /// The document, where the bytes so far are all.
     pub fn finish(self) -> Result<Doc, Fault>
         ensures finishes { (limits : LimitsView) (bytes : List ℕ) → StandsFor limits self bytes →
@@ -140,22 +160,50 @@ fn push_part(feed: &mut LineFeed, blocks: &mut BlockParser, piece: &[u8]) -> Res
     Ok(())
 }
 
+/// The outline of the bytes.
+fn outline(mut feed: LineFeed, mut blocks: BlockParser) -> Result<Outline, Fault>
+    requires { feed.ended ≡ false }
+    ensures outline { IfOk result (λ outline. (limits : LimitsView) (bytes : List ℕ) → Goes limits feed blocks bytes →
+        IsOutline limits bytes outline) }
+    ensures told { IfErr result (λ fault. (limits : LimitsView) (bytes : List ℕ) → Goes limits feed blocks bytes →
+        TellsFault fault (fault_of limits bytes)) }
+{
+    feed.end()?;
+    hand_over(&mut feed, &mut blocks)?;
+    let outline = blocks.finish()?;
+    Ok(outline)
+}
+
 /// The document of the bytes.
-fn finish(alloc: Global, mut feed: LineFeed, mut blocks: BlockParser) -> Result<Doc, Fault>
+fn finish(alloc: Global, feed: LineFeed, blocks: BlockParser) -> Result<Doc, Fault>
     requires { feed.ended ≡ false }
     ensures { (limits : LimitsView) (bytes : List ℕ) → Goes limits feed blocks bytes →
         Finishes result limits bytes }
 {
-    feed.end()?;
-    hand_over(&mut feed, &mut blocks)?;
     let limits = blocks.limits();
     let Outline {
         blocks,
         owners,
         definitions,
-    } = blocks.finish()?;
+        ..
+    } = outline(feed, blocks)?;
     let blocks = read_leaves(alloc, limits, &definitions, blocks)?;
     Ok(Doc { blocks, owners })
+}
+
+/// The HTML of the bytes' document in pages.
+fn finish_html(alloc: Global, feed: LineFeed, blocks: BlockParser) -> Result<Items<Text>, Fault>
+    requires { feed.ended ≡ false }
+    ensures { (limits : LimitsView) (bytes : List ℕ) → Goes limits feed blocks bytes →
+        Makes (λ pages. concat pages ≡ converted limits.rules bytes) result limits bytes }
+{
+    let limits = blocks.limits();
+    let Outline {
+        blocks,
+        definitions,
+        ..
+    } = outline(feed, blocks)?;
+    leaves_html(alloc, limits, &definitions, blocks)
 }
 
 /// Hands the lines that are ready to the blocks.

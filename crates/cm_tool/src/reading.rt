@@ -1,15 +1,18 @@
 //! Reading a source to its end.
 ghost use Rattle.std.specs.Prelude.{◌≡◌, ℕ, ◌-◌, ◌^◌, ◌<◌, List, IfOk, length};
 ghost use Rattle.std.specs.Io.KnownBytes.{Consumes};
+ghost use Rattle.std.specs.List.{concat};
 ghost use Rattle.cm_tool.specs.Reading.{Reads};
+ghost use Rattle.cm_tool.specs.Writing.{converted};
+ghost use Rattle.cm_tool.specs.steps.Ends.{ReadsAs, TakesIn};
 
 use crate::fault::Fault;
 use crate::parser::{PART, Parser};
 use cm_text::{Limits, Source};
-use cm_tree::Doc;
+use cm_tree::{Doc, Items, Text};
 use std::alloc::{AllocError, Global};
 
-fn zeros(alloc: Global, count: usize) -> Result<Vec<u8>, AllocError>
+pub(crate) fn zeros(alloc: Global, count: usize) -> Result<Vec<u8>, AllocError>
     ensures { IfOk result (λ zeros. length zeros.items ≡ count) }
 {
     vec![in alloc; 0; count]
@@ -26,19 +29,38 @@ pub fn read<R: Source>(alloc: Global, source: &mut R, limits: Limits) -> Result<
         (record { remaining = R.remaining source.new; failed = R.failed source.new }) }
 {
     let mut buffer = zeros(alloc, PART)?;
-    read_to_end(alloc, source, limits, buffer.as_mut_slice())
+    let parser = take_in(alloc, source, limits, buffer.as_mut_slice())?;
+    parser.finish()
 }
 
-fn read_to_end<R: Source>(
+/// Reads a source to its end and answers the HTML of its document in pages.
+pub(crate) fn read_html<R: Source>(
+    alloc: Global,
+    source: &mut R,
+    limits: Limits,
+) -> Result<Items<Text>, Fault>
+    requires { R.failed source.old < 2 ^ 64 - 1 }
+    ensures { (bytes : List ℕ) × Consumes (R.remaining source.old) (R.remaining source.new) bytes
+        × ReadsAs (λ pages. concat pages ≡ converted limits.rules bytes) result limits bytes
+        (record { remaining = R.remaining source.old; failed = R.failed source.old })
+        (record { remaining = R.remaining source.new; failed = R.failed source.new }) }
+{
+    let mut buffer = zeros(alloc, PART)?;
+    let parser = take_in(alloc, source, limits, buffer.as_mut_slice())?;
+    parser.finish_html()
+}
+
+/// Gives a source to a parser to its end.
+fn take_in<R: Source>(
     alloc: Global,
     source: &mut R,
     limits: Limits,
     buffer: &mut [u8],
-) -> Result<Doc, Fault>
+) -> Result<Parser, Fault>
     requires failures { R.failed source.old < 2 ^ 64 - 1 }
     requires room { 0 < length buffer.old }
     ensures { (bytes : List ℕ) × Consumes (R.remaining source.old) (R.remaining source.new) bytes
-        × Reads result limits bytes
+        × TakesIn result limits bytes
         (record { remaining = R.remaining source.old; failed = R.failed source.old })
         (record { remaining = R.remaining source.new; failed = R.failed source.new }) }
 {
@@ -48,7 +70,7 @@ fn read_to_end<R: Source>(
             return Err(Fault::ReadFailed);
         };
         if n == 0 {
-            return parser.finish();
+            return Ok(parser);
         }
         parser.feed(&buffer[..n])?;
     }

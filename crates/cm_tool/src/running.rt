@@ -8,6 +8,8 @@ use crate::conversion::convert;
 use crate::fault::Fault;
 use crate::job::{Job, Stop, Task};
 use crate::listing::list;
+use crate::reporting::report;
+use crate::rewriting::rewrite;
 use cm_text::{Sink, Source, WriteFailed, write_all};
 use std::alloc::Global;
 use std::io::{Cursor, Write};
@@ -76,6 +78,8 @@ fn work<R: Source, W: Sink>(
     match task.job {
         Job::Render => convert(alloc, reader, writer, task.limits),
         Job::Tree => list(alloc, reader, writer, task.limits),
+        Job::Rewrite => rewrite(alloc, reader, writer, task.limits),
+        Job::Examples => report(alloc, reader, writer, task.limits),
     }
 }
 

@@ -12,7 +12,7 @@ use Rattle.cm_tool.specs.declared.fault.Fault.{Fault}
 use Rattle.cm_tool.specs.declared.fault.Fault.TheVariants.{BlocksTooDeep, InlinesTooDeep}
 use Rattle.cm_tool.specs.Fault.{told}
 use Rattle.cm_tool.specs.Leaves.{first_leaf_past}
-use Rattle.cm_tool.specs.Document.{tree_of}
+use Rattle.cm_scan.specs.Documents.{tree_of}
 use Rattle.cm_tool.specs.Faults.{fault_of, settled_fault_of}
 
 -- the first line too deep of those that have ended, and of all

@@ -1,4 +1,5 @@
 use Rattle.std.proofs.Common.{◌≡◌, ℕ, List, [], ◌∷◌, Option, Some, ap, codes, refl}
+use Rattle.clap.proofs.OnLiterals.{clap_on_literals}
 use Rattle.cm_text.specs.Rules.{profile}
 use Rattle.cm_text.specs.Lines.{text_of, plain_lines_of}
 use Rattle.cm_text.proofs.Computing.{label_folding}
@@ -7,7 +8,7 @@ use Rattle.cm_tree.specs.declared.tree.Inline.TheVariants.{Link, Text}
 use Rattle.cm_tree.proofs.Targets.{first_counts}
 use Rattle.cm_scan.specs.Brackets.{Defined}
 use Rattle.cm_scan.specs.Inlines.{inlines_of}
-use Rattle.cm_tool.specs.Document.{defined_by}
+use Rattle.cm_scan.specs.Documents.{defined_by}
 use Rattle.cm_tool.specs.Writing.{converted}
 use Rattle.std.specs.Fmt.{digits}
 use Rattle.std.specs.Str.{is_utf8, chars}
@@ -80,4 +81,36 @@ returns-clause-html c = record {
   list_in_a_quote = simp (fold_out-Block Block, fold_out-Block Written block_step, fold_out-Inline Spelled inline_step, quote, items, paragraph, text, soft);
   spaces_behind_a_tab = simp (fold_out-Block Block, fold_out-Block Written block_step, fold_out-Inline Spelled inline_step, paragraph, text, hard);
   code_and_escape = simp (fold_out-Block Block, fold_out-Block Written block_step, fold_out-Inline Spelled inline_step, paragraph, text, code_span);
+}
+
+pub returns-clause-files : goal.returns-clause-files
+unfolding block_structure inline_structure utf8_valid_len utf8_error_len is_utf8 chars encode class_word digits
+returns-clause-files c = record {
+  no_examples = refl;
+  agrees = simp (fold_out-Block Block, fold_out-Block (List ℕ) depths_step, fold_out-Inline ℕ depth_step, fold_out-Block Written block_step, fold_out-Inline Spelled inline_step, paragraph, text);
+  empty_source = refl;
+  differs = simp (fold_out-Block Block, fold_out-Block (List ℕ) depths_step, fold_out-Inline ℕ depth_step, fold_out-Block Written block_step, fold_out-Inline Spelled inline_step, paragraph, text);
+  by_the_older_rules = simp (fold_out-Block Block, fold_out-Block (List ℕ) depths_step, fold_out-Inline ℕ depth_step, fold_out-Block Written block_step, fold_out-Inline Spelled inline_step, paragraph, raw, text);
+  arrow_as_a_tab = refl;
+  opening_line_in_a_source = refl;
+  carriage_returns = refl;
+  more_behind_the_word = refl;
+  opening_line_alone = refl;
+  closed_before_the_middle = refl;
+  no_closing_line = refl;
+  all_agree = refl;
+  first_that_differs = refl;
+}
+
+pub returns-clause-words : goal.returns-clause-words
+unfolding clap_on_literals
+returns-clause-words c = record {
+  job = refl;
+  file = refl;
+  limits = refl;
+  older = refl;
+  strike = refl;
+  right = refl;
+  no_file = refl;
+  no_blocks = refl;
 }

@@ -3,7 +3,8 @@ use Rattle.std.specs.Prelude.{flat_map, map}
 use Rattle.std.proofs.lemmas.Result.{err_from_is_err_and}
 use Rattle.cm_tree.specs.declared.tree.Block.TheVariants.{Quote, List as ListBlock}
 use Rattle.cm_scan.specs.Brackets.{defined_in}
-use Rattle.cm_tool.specs.Leaves.{block_read, depths_in, leaf_depths, with_inlines}
+use Rattle.cm_tool.specs.Leaves.{depths_in, leaf_depths}
+use Rattle.cm_scan.specs.Documents.{block_read, with_inlines}
 use Rattle.cm_tool.specs.steps.Numbering.{Passes, TellsLeaf}
 use Rattle.cm_tool.proofs.LeafLemmas.{blocks_are, depths_read, item_depths_read, list_depths, list_read, next_passes, next_told, quote_is, read_back, read_next}
 use Rattle.cm_tool.proofs.leaves.+leaves.Goals as goal

@@ -1,7 +1,7 @@
 use Rattle.std.proofs.Common.{◌≡◌, take, map}
 use Rattle.std.specs.Prelude.{flat_map}
 use Rattle.cm_scan.specs.Brackets.{defined_in}
-use Rattle.cm_tool.specs.Leaves.{with_inlines}
+use Rattle.cm_scan.specs.Documents.{with_inlines}
 use Rattle.cm_tool.specs.steps.Numbering.{Passes}
 use Rattle.cm_tool.proofs.LeafLemmas.{depths_read, item_depths_read}
 use Rattle.cm_tool.proofs.leaves.+leaves.Given as goal

@@ -2,7 +2,7 @@ use Rattle.std.proofs.Common.{◌≡◌, rules}
 use Rattle.std.proofs.lemmas.Result.{err_from_is_err_and}
 use Rattle.cm_scan.specs.Brackets.{defined_in}
 use Rattle.cm_scan.specs.Inlines.{inlines_of}
-use Rattle.cm_tool.specs.Leaves.{content_read}
+use Rattle.cm_scan.specs.Documents.{content_read}
 use Rattle.cm_tool.proofs.LeafLemmas.{leaf_within, leaf_refused}
 use Rattle.cm_tool.proofs.leaves.read_content.Goals as goal
 

@@ -3,7 +3,8 @@ use Rattle.std.proofs.lemmas.Result.{IfOk-weaker, IfErr-weaker}
 use Rattle.std.specs.Prelude.{option_map}
 use Rattle.cm_scan.specs.Brackets.{defined_in}
 use Rattle.cm_tool.specs.declared.fault.Fault.TheVariants.{InlinesTooDeep}
-use Rattle.cm_tool.specs.Leaves.{first_past, leaf_depths, with_inlines}
+use Rattle.cm_tool.specs.Leaves.{first_past, leaf_depths}
+use Rattle.cm_scan.specs.Documents.{with_inlines}
 use Rattle.cm_tool.specs.Parsing.{TellsFault}
 use Rattle.cm_tool.proofs.leaves.read_leaves.Goals as goal
 

@@ -1,0 +1,43 @@
+-- What rewriting a text answers, and what it has written then.
+use Rattle.std.specs.Prelude.{◌≡◌, ℕ, List, Some, Result, Ok, Err, ⊤}
+use Rattle.cm_text.specs.Rules.{Rules}
+use Rattle.cm_text.specs.Limits.{LimitsView}
+use Rattle.cm_text.specs.Writing.{SinkView, IsUnwritten}
+use Rattle.cm_tree.specs.declared.tree.Block.{Block}
+use Rattle.cm_source.specs.Definitions.{without_definitions}
+use Rattle.cm_source.specs.Refusals.{refusal_of, IsSpellable}
+use Rattle.cm_source.specs.Spelling.{spelling_of}
+use Rattle.cm_tool.specs.declared.fault.Fault.{Fault}
+use Rattle.cm_tool.specs.declared.fault.Fault.TheVariants.{Unspellable, WriteFailed}
+use Rattle.cm_scan.specs.Documents.{tree_of}
+use Rattle.cm_tool.specs.Reading.{SourceView, ReadWhole}
+use Rattle.cm_tool.specs.Writing.{Writes}
+
+-- the tree of a text's bytes, by these rules, without its definitions
+abbrev pub kept_tree : Rules → List ℕ → List Block
+kept_tree rules bytes = without_definitions (tree_of rules bytes)
+
+-- its spelling
+abbrev pub rewritten : Rules → List ℕ → List ℕ
+rewritten rules bytes = spelling_of (kept_tree rules bytes)
+
+-- The tree can be spelled; its spelling reads back as that tree, and is rewritten to itself.
+abbrev pub IsLasting : Rules → List ℕ → Type 0
+IsLasting rules bytes =
+    IsSpellable rules (kept_tree rules bytes)
+    × (tree_of rules (rewritten rules bytes) ≡ kept_tree rules bytes)
+    × (rewritten rules (rewritten rules bytes) ≡ rewritten rules bytes)
+
+-- so it is where something goes out
+abbrev pub LastingIfWritten : Result ℕ Fault → Rules → List ℕ → Type 0
+LastingIfWritten (Ok n) rules bytes = IsLasting rules bytes
+LastingIfWritten (Err (WriteFailed written)) rules bytes = IsLasting rules bytes
+LastingIfWritten (Err fault) rules bytes = ⊤
+
+-- The spelling of the text's tree without its definitions went out, or a front of it up to a failed write; or the text was refused, or its
+-- tree was. Nothing goes out before the spelling is whole.
+abbrev pub Rewrites : Result ℕ Fault → LimitsView → List ℕ → SourceView → SourceView → SinkView → SinkView → Type 0
+Rewrites (Err (Unspellable why)) limits bytes from left old new =
+    ReadWhole limits bytes from left × (refusal_of limits.rules (kept_tree limits.rules bytes) ≡ Some why) × IsUnwritten old new
+Rewrites answer limits bytes from left old new =
+    Writes (λ old new text. IsUnwritten old new) rewritten answer limits bytes from left old new × LastingIfWritten answer limits.rules bytes

@@ -1,0 +1,17 @@
+-- What the HTML of a text's bytes can contain.
+use Rattle.std.specs.Prelude.{◌≡◌, ℕ, true, false, Some, List}
+use Rattle.cm_text.specs.Rules.{Rules}
+use Rattle.cm_tree.specs.Levels.{have_levels}
+use Rattle.cm_tree.specs.RawHtml.{blocks_have_raw}
+use Rattle.cm_html.specs.Markup.{tags_in}
+use Rattle.cm_html.specs.Tags.{tags_of}
+use Rattle.cm_scan.specs.Documents.{tree_of}
+use Rattle.cm_tool.specs.Writing.{converted}
+
+-- the headings in the tree of a text have levels from 1 to 6
+abbrev pub HeadingLevels : Type 0
+HeadingLevels = (rules : Rules) (bytes : List ℕ) → have_levels (tree_of rules bytes) ≡ true
+
+-- Where the tree has no raw HTML, the tags in the HTML are those of the tree.
+abbrev pub TextIsNoMarkup : Type 0
+TextIsNoMarkup = (rules : Rules) (bytes : List ℕ) → blocks_have_raw (tree_of rules bytes) ≡ false → tags_in (converted rules bytes) ≡ Some (tags_of (tree_of rules bytes))
