@@ -2,6 +2,7 @@
 //! them is described at the front of `text.calls`.
 
 mod answer;
+mod of_block;
 mod of_command_line;
 mod of_scan;
 mod of_text;
@@ -20,6 +21,7 @@ fn called(alloc: Global, asked: &[Word]) -> Result<Answer, Trouble> {
     let name = name.as_str();
     let is_known = of_text::answers(&mut answer, name, given)?
         || of_scan::answers(&mut answer, name, given)?
+        || of_block::answers(&mut answer, name, given)?
         || of_command_line::answers(&mut answer, name, given)?;
     if is_known {
         return Ok(answer);

@@ -4,8 +4,8 @@ use crate::cases::Case;
 use crate::cuts::{Counted, Cut, pieces};
 use crate::trouble::{Trouble, same, wrong};
 use crate::words::{Word, words};
-use cm_text::Room;
-use cm_tool::{run, task, tell};
+use cm_text::{Limits, Room, Rules};
+use cm_tool::{Job, Task, run, task, tell};
 use std::alloc::Global;
 
 /// More than any output.
@@ -72,6 +72,31 @@ pub(crate) fn agrees(alloc: Global, case: &Case) -> Result<(), Trouble> {
     is_written(alloc, case, ("output", "output_holds"), output.taken())?;
     is_written(alloc, case, ("errors", "errors_hold"), errors.taken())?;
     if case.number("status")?.unwrap_or(0) != usize::from(status) {
+        return Err(wrong(alloc, "the exit status is wrong"));
+    }
+    Ok(())
+}
+
+/// That all examples of a file, which are so many, agree by these rules, as the program runs them.
+pub(crate) fn examples_agree(
+    alloc: Global,
+    rules: Rules,
+    file: &str,
+    total: usize,
+) -> Result<(), Trouble> {
+    let mut source = Counted::new(pieces(alloc, file.as_bytes(), Cut::Nowhere)?, false);
+    let mut output = Room::new(alloc, AMPLE, AMPLE)?;
+    let mut errors = Room::new(alloc, AMPLE, AMPLE)?;
+    let task = Task {
+        job: Job::Examples,
+        file: None,
+        limits: Limits::standard().with_rules(rules),
+    };
+    let status = run(alloc, &task, &mut source, &mut output, &mut errors);
+    let wanted = format!(in alloc; "{total} of {total} agree\n")?;
+    same(alloc, "report", wanted.as_bytes(), output.taken())?;
+    same(alloc, "errors", b"", errors.taken())?;
+    if status != 0 {
         return Err(wrong(alloc, "the exit status is wrong"));
     }
     Ok(())

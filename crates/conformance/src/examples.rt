@@ -4,7 +4,7 @@
 
 use crate::texts::{Outcome, Text};
 use crate::trouble::{Trouble, wrong};
-use cm_text::Limits;
+use cm_text::{Limits, Rules};
 use std::alloc::{AllocError, Global};
 
 const FENCE: &str = "````````````````````````````````";
@@ -18,13 +18,13 @@ pub(crate) struct Example {
 }
 
 impl Example {
-    /// That the text comes to the HTML.
-    pub(crate) fn agrees(&self) -> Result<(), Trouble> {
+    /// That the text comes to the HTML by these rules.
+    pub(crate) fn agrees(&self, rules: Rules) -> Result<(), Trouble> {
         let html = Some(self.html.as_bytes());
         Text {
             alloc: self.alloc,
             input: self.text.as_bytes(),
-            limits: Limits::standard(),
+            limits: Limits::standard().with_rules(rules),
             fails: false,
             reads: None,
             depth: None,

@@ -4,7 +4,7 @@ use crate::cases::{Case, cases};
 use crate::examples::examples;
 use crate::trouble::Trouble;
 use crate::{calls, commands, texts, trees};
-use cm_text::NoMemory;
+use cm_text::{NoMemory, Rules};
 use std::alloc::Global;
 
 /// The cases so far, and what is to be told of those that don't come out.
@@ -47,12 +47,13 @@ impl Tally {
         }
     }
 
-    fn examples(&mut self, file: &str) -> Result<(), Trouble> {
+    /// Each example by itself, in every way that a text is tried, and all as `cmk examples` runs them.
+    fn examples(&mut self, rules: Rules, file: &str) -> Result<(), Trouble> {
         for example in &examples(self.alloc, file)? {
             let title = format!(in self.alloc; "example {}", self.total.saturating_add(1))?;
-            self.count(title.as_str(), example.agrees())?;
+            self.count(title.as_str(), example.agrees(rules))?;
         }
-        Ok(())
+        commands::examples_agree(self.alloc, rules, file, self.total)
     }
 
     fn cases(&mut self, table: &str) -> Result<(), Trouble> {
@@ -99,7 +100,8 @@ pub(crate) fn tally_of(alloc: Global, name: &str, table: &str) -> Result<Tally, 
     let read = match name.rsplit_once('.') {
         Some((_, "cases")) => tally.cases(table),
         Some((_, "calls")) => tally.calls(table),
-        _ => tally.examples(table),
+        Some(("older", _)) => tally.examples(Rules::older(), table),
+        _ => tally.examples(Rules::profile(), table),
     };
     match read {
         Ok(()) => Ok(tally),

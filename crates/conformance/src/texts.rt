@@ -75,6 +75,7 @@ impl Text<'_> {
         match (self.outcome, job) {
             (Outcome::Document { html, .. }, Job::Render) => html,
             (Outcome::Document { listing, .. }, Job::Tree) => Some(listing?.as_bytes()),
+            (Outcome::Document { .. }, Job::Rewrite | Job::Examples) => None,
             (Outcome::Fault { .. }, _) => Some(b""),
         }
     }

@@ -3,7 +3,7 @@ ghost use Rattle.std.specs.Prelude.{◌≡◌, [], ◌∷◌, IfOk};
 ghost use Rattle.cm_tree.specs.declared.tree.Inline.TheVariants as inline;
 ghost use Rattle.cm_tree.specs.declared.tree.Block.TheVariants as block;
 
-use cm_tree::{Block, Inline, Items, Text, block_depth};
+use cm_tree::{Block, Inline, Items, Text, block_depth, has_raw_html};
 use std::alloc::{AllocError, Global};
 use std::test::Fail;
 
@@ -48,5 +48,10 @@ fn a_title_in_a_quote(rt: HostRuntime) -> Result<(), Fail> {
     let blocks = Items::from(vec![in alloc; Block::Quote(quoted)]?);
     assert!(rt; has_title(&blocks));
     assert_eq!(rt; block_depth(&blocks), 1);
+    assert!(rt; !has_raw_html(&blocks));
+    let raw = Items::from(vec![in alloc; Inline::Html(Text::from_str(alloc, "<b>")?)]?);
+    let shown = Items::from(vec![in alloc; Inline::Emph(raw)]?);
+    let raw_blocks = Items::from(vec![in alloc; Block::Paragraph(shown)]?);
+    assert!(rt; has_raw_html(&raw_blocks));
     Ok(())
 }

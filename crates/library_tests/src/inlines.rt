@@ -6,6 +6,14 @@ use cm_tree::{Definitions, Inline, Text};
 use std::alloc::Global;
 use std::test::Fail;
 
+/// How many openers were looked at in a text that stands so many times, and how many inlines it comes to.
+fn looked_at(alloc: Global, text: &str, times: usize) -> Result<(u128, usize), Fail> {
+    let table = Definitions::new(alloc);
+    let text = text.repeat(alloc, times)?;
+    let (read, Steps(looks)) = inlines(alloc, &text, &table, 1).ok().ok_or("inlines")?;
+    Ok((looks, read.len()))
+}
+
 #[test]
 fn inlines_of_a_leaf(rt: HostRuntime) -> Result<(), Fail> {
     let alloc = rt.alloc();
@@ -25,5 +33,11 @@ fn inlines_of_a_leaf(rt: HostRuntime) -> Result<(), Fail> {
     assert!(rt; is_one_text("a b"));
     assert!(rt; !is_one_text("a\nb"));
     assert!(rt; !is_one_text(""));
+    let (looks, _) = looked_at(alloc, "*a*", 1)?;
+    assert!(rt; (1..=28).contains(&looks));
+    let (looks, count) = looked_at(alloc, "a_ b_", 1)?;
+    assert!(rt; looks <= 28 && count == 1);
+    let (looks, _) = looked_at(alloc, "*a_ ", 20_000)?;
+    assert!(rt; looks <= 560_000);
     Ok(())
 }

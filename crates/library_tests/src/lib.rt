@@ -18,6 +18,8 @@ mod faults;
 #[cfg(test)]
 mod inlines;
 #[cfg(test)]
+mod sources;
+#[cfg(test)]
 mod tables;
 #[cfg(test)]
 mod values;

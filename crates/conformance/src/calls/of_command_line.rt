@@ -22,6 +22,8 @@ pub(super) fn answers(answer: &mut Answer, name: &str, given: &[Word]) -> Result
             answer.word(match task.job {
                 Job::Render => "render",
                 Job::Tree => "tree",
+                Job::Rewrite => "rewrite",
+                Job::Examples => "examples",
             })?;
             match &task.file {
                 Some(file) => answer.text(file.as_str())?,
