@@ -1,0 +1,384 @@
+#!/usr/bin/env python3
+"""What is spelled reads back: tried with a built cmk.
+
+  tools/read_back.py PROGRAM [--trees N] [--seed N] [--strike] [--older]    of random trees
+  tools/read_back.py PROGRAM --examples FILE [--strike] [--older]           of the sources of a file of examples
+
+Each random tree that can be spelled is spelled by this program's own account of the plain form, apart from that of
+cm_source. Then `PROGRAM tree` has to list just that tree, and `PROGRAM rewrite` to write just that source. Each source
+of a file of examples is rewritten: where it can be, `PROGRAM tree` has to list what was written as it lists the source,
+but for its definitions, and rewriting it has to write the same. What differs is told, and last how many trees of each
+kind there were, or how many sources could be rewritten. The status is 1 if any differs.
+"""
+import argparse
+import random
+import subprocess
+import sys
+import unicodedata
+
+PUNCTUATION = "!\"#$%&'()*+,-./:;<=>?@[\\]^_`{|}~"
+CHARACTERS = PUNCTUATION * 2 + "abcxyz019" * 6 + " " * 30 + "\t\n\x01\x7f" + "\u00a0\u2003\u3000é日本“…€\u0301😀\ufffd"
+TAGS = ["<b>", "</b>", "<a href=\"x\">", "<br/>", "<i\tx = 'y' z>", "<!-- c -->", "<?p ?>", "<!X y>", "<![CDATA[a]]>", "<a b='\\'>"]
+HTML = ["<div>\n", "<div\n*a*\n", "<p>\n<b>x\n</p>\n", "<!-- a\n\n  b -->\n", "<pre>\n\n*x*\n</pre>\n", "<?a\n\n?>\n", "<!A\n>\n", "<![CDATA[\n\n]]>\n", "<b>\nx\n", "</b>\n", "<script>\n</script> x\n"]
+DESTINATIONS = ["", "/u", "a b", "<x>", "(", "\\*", "&amp;", "é", "a\nb", "\"", "`"]
+TITLES = ["", "", "t", "a \"b\"", "\\", "&copy;", "x\n\ny", "日", "`"]
+INFOS = ["", "", "a", "a b", "`", " x ", "~~~", "&lt;", "a\nb", "\\", "é"]
+CODES = ["a", "`", "``", " a ", " ", "  ", "a`b", "]: /u", "*a*", "<b>", "\\", " `a", "&amp;", "[", "`a", "é"]
+
+
+def is_whitespace(c):
+    return unicodedata.category(c) == "Zs" or c in "\t\n\f\r"
+
+
+def is_punctuation(c, older):
+    category = unicodedata.category(c)[0]
+    return category == "P" or (c in PUNCTUATION if older else category == "S")
+
+
+def is_plain(c, older):
+    return c is not None and not is_whitespace(c) and not (ord(c) < 32 or ord(c) == 127) and not is_punctuation(c, older)
+
+
+# ---- random trees: an inline or a block is a tuple, its kind first
+
+class Trees:
+    def __init__(self, source, rules):
+        self.random, self.rules = source, rules
+
+    def text(self):
+        return "".join(self.random.choice(CHARACTERS) for _ in range(self.random.choice([1, 1, 2, 3, 5, 9])))
+
+    def content(self, depth):
+        return [self.inline(depth) for _ in range(self.random.choice([1, 1, 2, 3, 4]))]
+
+    def inline(self, depth):
+        kinds = ["text"] * 8 + ["code", "code", "html", "soft", "hard"]
+        if depth:
+            kinds += ["emph", "emph", "strong", "strong", "link", "image"] + ["strike"] * (2 * self.rules.strike)
+        kind = self.random.choice(kinds)
+        if kind == "text":
+            return kind, self.text()
+        if kind == "code":
+            return kind, self.random.choice(CODES)
+        if kind == "html":
+            return kind, self.random.choice(TAGS)
+        if kind in ("soft", "hard"):
+            return (kind,)
+        inside = self.content(depth - 1) if self.random.random() < 0.9 else []
+        if kind in ("link", "image"):
+            return kind, self.random.choice(DESTINATIONS), self.random.choice(TITLES), inside
+        return kind, inside
+
+    def blocks(self, depth):
+        return [self.block(depth) for _ in range(self.random.choice([0, 1, 1, 2, 2, 3]))]
+
+    def block(self, depth):
+        kinds = ["paragraph"] * 5 + ["heading", "fenced", "raw", "break"] + ["quote", "list", "list", "list"] * bool(depth)
+        kind = self.random.choice(kinds)
+        if kind == "paragraph":
+            return kind, self.accepted(True)
+        if kind == "heading":
+            return kind, self.random.randint(1, 6), self.accepted(False) if self.random.random() < 0.9 else []
+        if kind == "fenced":
+            lines = [self.random.choice(["", "a", "```", "   ", "\tx", "~~~~", "`` `", "> a", "é"]) for _ in range(self.random.choice([0, 1, 2, 3]))]
+            return kind, self.random.choice(INFOS), "".join(line + "\n" for line in lines)
+        if kind == "raw":
+            return kind, self.random.choice(HTML)
+        if kind == "break":
+            return (kind,)
+        if kind == "quote":
+            return kind, self.blocks(depth - 1)
+        mark = self.random.choice("-+*.)")
+        start = self.random.choice([0, 1, 1, 2, 10, 999999999]) if mark in ".)" else None
+        return kind, mark, start, self.random.random() < 0.5, [self.blocks(depth - 1) for _ in range(self.random.choice([1, 1, 2, 3]))]
+
+    def accepted(self, paragraph):
+        while True:
+            content = self.content(3)
+            if content_is_fine(content, not paragraph, paragraph, False, self.rules):
+                return content
+
+
+# ---- which contents and blocks can be spelled
+
+def holds(kinds, content):
+    return any(i[0] in kinds or isinstance(i[-1], list) and holds(kinds, i[-1]) for i in content)
+
+
+def holds_emphasis(content):
+    return any(i[0] in ("emph", "strong", "strike") or i[0] in ("link", "image") and holds_emphasis(i[3]) for i in content)
+
+
+def content_is_fine(content, heading, opens, in_link, rules):
+    return all(
+        inline_is_fine(i, content[n - 1] if n else None, content[n + 1] if n + 1 < len(content) else None, heading, opens and n == 0, in_link, rules)
+        for n, i in enumerate(content)
+    )
+
+
+def inline_is_fine(i, before, after, heading, opens, in_link, rules):
+    kind = i[0]
+    behind = before[0] if before else None
+    if kind == "text":
+        return i[1] != "" and behind != "text"
+    if kind == "code":
+        return i[1] != "" and behind != "code" and not (in_link and "]:" in i[1])
+    if kind == "html":
+        return not opens and behind not in ("soft", "hard") and not (in_link and "]:" in i[1])
+    if kind in ("soft", "hard"):
+        return not heading and before is not None and after is not None and behind not in ("soft", "hard")
+    if kind in ("emph", "strong", "strike"):
+        return not (kind == "strike" and not rules.strike) and edges_are_fine(i[1], before, after, rules.older) and content_is_fine(i[1], heading, False, in_link, rules)
+    if kind == "link":
+        return not holds(("link",), i[3]) and content_is_fine(i[3], heading, False, in_link or opens, rules)
+    return content_is_fine(i[3], heading, False, in_link, rules)
+
+
+def edges_are_fine(content, before, after, older):
+    if not content or holds_emphasis(content) or before and before[0] in ("emph", "strong", "strike"):
+        return False
+    first = content[0][1][0] if content[0][0] == "text" and content[0][1] else None
+    last = content[-1][1][-1] if content[-1][0] == "text" and content[-1][1] else None
+    left = before[1][-1] if before and before[0] == "text" and before[1] else None
+    right = after[1][0] if after and after[0] == "text" and after[1] else None
+    if first and is_whitespace(first) or last and is_whitespace(last):
+        return False
+    return not (is_plain(left, older) and not is_plain(first, older)) and not (is_plain(right, older) and not is_plain(last, older))
+
+
+def blocks_are_fine(blocks):
+    return all(block_is_fine(b, blocks[n - 1] if n else None) for n, b in enumerate(blocks))
+
+
+def block_is_fine(b, before):
+    if b[0] == "quote":
+        return blocks_are_fine(b[1])
+    if b[0] != "list":
+        return True
+    _, mark, _, tight, items = b
+    if before and before[0] == "list" and before[1] == mark or any(item and item[0][0] == "list" for item in items):
+        return False
+    said = all(is_tight(item) for item in items) if tight else len(items) > 1 or any(len(item) > 1 for item in items)
+    return said and all(blocks_are_fine(item) for item in items)
+
+
+def is_tight(item):
+    if len(item) < 2:
+        return True
+    if len(item) > 2 or item[0][0] != "paragraph":
+        return False
+    follows = item[1]
+    return follows[0] in ("fenced", "quote") or follows[0] == "list" and bool(follows[4][0]) and follows[2] in (None, 1)
+
+
+# ---- the plain form
+
+def spelled_text(text, first, last):
+    def one(n, c):
+        if c == " " and (first and n == 0 or last and n == len(text) - 1) or c == "`" or ord(c) < 32 or ord(c) == 127:
+            return f"&#{ord(c)};"
+        return "\\" + c if c in PUNCTUATION else c
+    return "".join(one(n, c) for n, c in enumerate(text))
+
+
+def longest_run(text):
+    return max((len(run) for run in "".join(c if c == "`" else " " for c in text).split()), default=0)
+
+
+def spelled_code(text):
+    marks = "`" * (longest_run(text) + 1)
+    padded = "`" in (text[0], text[-1]) or text[0] == text[-1] == " " and text.strip(" ") != ""
+    return marks + " " * padded + text + " " * padded + marks
+
+
+def target(destination, title):
+    return "](<" + spelled_text(destination, False, False) + ">" + (' "' + spelled_text(title, False, False) + '"' if title else "") + ")"
+
+
+def spelled_content(content, first=True, last=True):
+    out = ""
+    for n, i in enumerate(content):
+        ends = content[n + 1][0] == "soft" if n + 1 < len(content) else last
+        begins = content[n - 1][0] in ("soft", "hard") if n else first
+        out += spelled_inline(i, begins, ends)
+    return out
+
+
+def spelled_inline(i, first, last):
+    kind = i[0]
+    if kind == "text":
+        return spelled_text(i[1], first, last)
+    if kind in ("code", "html"):
+        return spelled_code(i[1]) if kind == "code" else i[1]
+    if kind in ("soft", "hard"):
+        return "\n" if kind == "soft" else "\\\n"
+    marks = {"emph": "*", "strong": "**", "strike": "~~"}
+    if kind in marks:
+        return marks[kind] + spelled_content(i[1], False, False) + marks[kind]
+    return ("[" if kind == "link" else "![") + spelled_content(i[3], False, False) + target(i[1], i[2])
+
+
+def joined(apart, blocks):
+    out = []
+    for n, lines in enumerate(blocks):
+        out += ([""] if apart and n else []) + lines
+    return out
+
+
+def lines_of(b):
+    kind = b[0]
+    if kind == "paragraph":
+        return spelled_content(b[1]).split("\n")
+    if kind == "heading":
+        return ["#" * b[1] + (" " + spelled_content(b[2]) if b[2] else "")]
+    if kind == "fenced":
+        fence = "`" * max(3, longest_run(b[2]) + 1)
+        return [fence + spelled_text(b[1], True, True)] + b[2].split("\n")[:-1] + [fence]
+    if kind == "raw":
+        return b[1].split("\n")[:-1]
+    if kind == "break":
+        return ["___"]
+    if kind == "quote":
+        return [">" + (" " + line if line else "") for line in joined(True, map(lines_of, b[1])) or [""]]
+    _, mark, start, tight, items = b
+    marker = mark if start is None else f"{start}{mark}"
+    return joined(not tight, [item_lines(marker, joined(not tight, map(lines_of, item))) for item in items])
+
+
+def item_lines(marker, lines):
+    if not lines:
+        return [marker]
+    room = " " * (len(marker) + 1)
+    return [marker + (" " + lines[0] if lines[0] else "")] + [room + line if line else "" for line in lines[1:]]
+
+
+def spelled(blocks):
+    return "".join(line + "\n" for line in joined(True, map(lines_of, blocks)))
+
+
+# ---- the listing
+
+def quoted(text):
+    def one(c):
+        if c in "\\\"":
+            return "\\" + c
+        return "\\n" if c == "\n" else f"\\x{ord(c):02x}" if ord(c) < 32 or ord(c) == 127 else c
+    return ' "' + "".join(map(one, text)) + '"'
+
+
+def listed_inline(i, depth):
+    margin = "  " * depth
+    if i[0] in ("text", "code", "html"):
+        return margin + i[0] + quoted(i[1]) + "\n"
+    if i[0] in ("soft", "hard"):
+        return margin + i[0] + "\n"
+    words = quoted(i[1]) + quoted(i[2]) if i[0] in ("link", "image") else ""
+    return margin + i[0] + words + "\n" + "".join(listed_inline(j, depth + 1) for j in i[-1])
+
+
+def listed(b, depth=0):
+    margin = "  " * depth
+    kind = b[0]
+    if kind == "paragraph":
+        return margin + "paragraph\n" + "".join(listed_inline(i, depth + 1) for i in b[1])
+    if kind == "heading":
+        return f"{margin}heading {b[1]}\n" + "".join(listed_inline(i, depth + 1) for i in b[2])
+    if kind == "fenced":
+        return margin + "code" + quoted(b[1]) + quoted(b[2]) + "\n"
+    if kind == "raw":
+        return margin + "html" + quoted(b[1]) + "\n"
+    if kind == "break":
+        return margin + "break\n"
+    if kind == "quote":
+        return margin + "quote\n" + "".join(listed(c, depth + 1) for c in b[1])
+    _, mark, start, tight, items = b
+    head = f"bullet {mark}" if start is None else f"ordered {mark} {start}"
+    inside = "".join(margin + "  item\n" + "".join(listed(c, depth + 2) for c in item) for item in items)
+    return f"{margin}list {head} {'tight' if tight else 'loose'}\n" + inside
+
+
+# ---- the runs
+
+def ran(program, words, source):
+    it = subprocess.run([program, *words], input=source.encode(), capture_output=True)
+    return it.stdout.decode(), it.stderr.decode()
+
+
+def tree_listed(program, rules, source):
+    read, told = ran(program, ["tree", *rules], source)
+    kept = [line + "\n" for line in read.split("\n") if line and not line.startswith("owner ")]
+    return "".join(kept), told
+
+
+def try_trees(program, rules, asked):
+    trees = Trees(random.Random(asked.seed), asked)
+    kinds, done, wrong = {}, 0, 0
+    while done < asked.trees:
+        blocks = trees.blocks(4)
+        if not blocks or not blocks_are_fine(blocks):
+            continue
+        done += 1
+        source = spelled(blocks)
+        listing = "".join(map(listed, blocks))
+        for line in listing.splitlines():
+            kind = line.split()[0]
+            kinds[kind] = kinds.get(kind, 0) + 1
+        tree, told = tree_listed(program, rules, source)
+        again, why = ran(program, ["rewrite", *rules], source)
+        if tree != listing or again != source:
+            wrong += 1
+            print(f"--- {done}\n{source}--- wanted\n{listing}--- listed\n{tree}{told}--- rewritten\n{again}{why}")
+    print(", ".join(f"{n} {kind}" for kind, n in sorted(kinds.items())))
+    print(f"{done - wrong} of {done} trees read back")
+    return wrong
+
+
+def sources_of(file):
+    fence, sources, source = "`" * 32, [], None
+    for line in open(file, encoding="utf-8"):
+        if line.rstrip("\n") == fence + " example":
+            source = ""
+        elif line == ".\n" and source is not None:
+            sources.append(source.replace("→", "\t"))
+            source = None
+        elif source is not None:
+            source += line
+    return sources
+
+
+def without_definitions(listing):
+    return "".join(line for line in listing.splitlines(True) if not line.lstrip().startswith("definition "))
+
+
+def try_examples(program, rules, file):
+    sources, done, wrong = sources_of(file), 0, 0
+    for source in sources:
+        once, why = ran(program, ["rewrite", *rules], source)
+        if why:
+            continue
+        done += 1
+        wanted = without_definitions(tree_listed(program, rules, source)[0])
+        tree = tree_listed(program, rules, once)[0]
+        twice, why = ran(program, ["rewrite", *rules], once)
+        if tree != wanted or twice != once:
+            wrong += 1
+            print(f"--- {source}--- wanted\n{wanted}--- rewritten\n{once}--- listed\n{tree}--- rewritten again\n{twice}{why}")
+    print(f"{done} of {len(sources)} sources can be rewritten, and {done - wrong} of these read back")
+    return wrong
+
+
+def main():
+    words = argparse.ArgumentParser(description=__doc__, formatter_class=argparse.RawDescriptionHelpFormatter)
+    words.add_argument("program")
+    words.add_argument("--trees", type=int, default=20000)
+    words.add_argument("--seed", type=int, default=1)
+    words.add_argument("--examples")
+    words.add_argument("--strike", action="store_true")
+    words.add_argument("--older", action="store_true")
+    asked = words.parse_args()
+    rules = ["--strike"] * asked.strike + ["--older"] * asked.older
+    wrong = try_examples(asked.program, rules, asked.examples) if asked.examples else try_trees(asked.program, rules, asked)
+    sys.exit(1 if wrong else 0)
+
+
+main()
