@@ -414,7 +414,7 @@ abbrev told_by : ℕ → List ℕ → Bool → Option TextFault
 told_by limit window past = cond (is_some (utf8_error_len (left_of window))) (Some (NotUtf8 (utf8_valid_len window))) (cond past (Some (TooLong limit)) None)
 
 -- a text has no fault but its length
-sound_text : (limit : ℕ) (text : List ℕ) → IsUtf8 text → text_fault limit text ≡ cond (nat_lt limit (length text)) (Some (TooLong limit)) None
+pub sound_text : (limit : ℕ) (text : List ℕ) → IsUtf8 text → text_fault limit text ≡ cond (nat_lt limit (length text)) (Some (TooLong limit)) None
 sound_text limit text u =
     let front : is_some (utf8_error_len (after_valid limit text)) ≡ false = front_sound (take limit text) (drop limit text) (subst IsUtf8 (sym (take-append-drop limit text)) u) in
     let settled : settled_fault limit text ≡ cond (nat_lt limit (length text)) (Some (TooLong limit)) None = cond-false _ _ _ front in

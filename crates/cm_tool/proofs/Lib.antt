@@ -1,5 +1,6 @@
 pub mod AskedLemmas
 pub mod CommandLineLemmas
+pub mod DepthLemmas
 pub mod EndedLemmas
 pub mod ExampleLemmas
 pub mod LastingLemmas
@@ -18,3 +19,4 @@ pub mod RowLemmas
 pub mod SettledLemmas
 pub mod TextLemmas
 pub mod WalkedLemmas
+pub mod WithinLemmas

@@ -1,5 +1,5 @@
 -- Reading inlines changes no level of a heading.
-use Rattle.std.proofs.Common.{◌≡◌, ℕ, Bool, true, List, [], ◌∷◌, ◌&&◌, map, refl, sym, ◌∙◌, ap, ap₂, subst}
+use Rattle.std.proofs.Common.{◌≡◌, Bool, List, [], ◌∷◌, ◌&&◌, map, refl, sym, ◌∙◌, ap, ap₂, subst}
 use Rattle.cm_text.specs.Rules.{Rules}
 use Rattle.cm_text.specs.Lines.{plain_lines_of, text_of}
 use Rattle.cm_tree.specs.declared.tree.Block.{Block, Block-F, map-Block}

@@ -1,13 +1,12 @@
 -- The owners of a document's lines: reading inlines changes no leaf.
 use Rattle.std.proofs.Common.{◌≡◌, ℕ, List, map, refl, sym, ◌∙◌, ap, arith, Some}
-use Rattle.std.specs.Prelude.{Bool, not}
+use Rattle.std.specs.Prelude.{not}
 use Rattle.std.proofs.lemmas.List.{length-map}
 use Rattle.cm_text.specs.Rules.{Rules}
 use Rattle.cm_text.specs.Lines.{plain_line, plain_lines_of, text_of, lines_of}
 use Rattle.cm_tree.specs.declared.tree.Block.{Block}
 use Rattle.cm_tree.specs.declared.tree.Block.TheFolds.{fold-Block, fold_out-Block}
-use Rattle.cm_tree.specs.declared.tree.Block.TheVariants.{Quote, List as ListBlock, outs-Paragraph, outs-Heading, outs-Code, outs-Html, outs-Break, outs-Definition, outs-Quote, outs-List}
-use Rattle.cm_tree.specs.declared.tree.ListKind.{ListKind}
+use Rattle.cm_tree.specs.declared.tree.Block.TheVariants.{Quote, List as ListBlock, outs-Paragraph, outs-Heading, outs-Code, outs-Html, outs-Break, outs-Definition, outs-Quote}
 use Rattle.cm_scan.specs.Brackets.{Defined}
 use Rattle.cm_scan.specs.Parts.{LeafPart, paragraph, heading, code, html, thematic_break, definition, Parts, none, blank, leaf, quote, list, ItemParts, last_item, item, leaf_block, is_loose, tree_of, items_of, leaf_count, item_leaf_count}
 use Rattle.cm_scan.specs.Blocks.{parts_of, blocks_of}
@@ -18,6 +17,7 @@ use Rattle.cm_scan.specs.Documents.{read_step, block_read, with_inlines}
 use Rattle.cm_scan.specs.Documents.{defined_by}
 use Rattle.cm_tool.specs.Owners.{OneOwnerALine, RunsInOrder}
 use Rattle.cm_tool.proofs.EndedLemmas.{all_are_lines}
+use Rattle.cm_tool.proofs.LeafLemmas.{list_read}
 
 abbrev leaves : Block → ℕ
 leaves block = fold-Block ℕ leaves_step block
@@ -33,11 +33,8 @@ module _ (rules : Rules) (defined : Defined) where
   leaf-read thematic_break = simp (fold_out-Block Block (read_step rules defined), fold_out-Block ℕ leaves_step, outs-Break)
   leaf-read (definition label dest title) = simp (fold_out-Block Block (read_step rules defined), fold_out-Block ℕ leaves_step, outs-Definition)
 
-  quote-read : (blocks : List Block) → block_read rules defined (Quote blocks) ≡ Quote (with_inlines rules defined blocks)
+  pub quote-read : (blocks : List Block) → block_read rules defined (Quote blocks) ≡ Quote (with_inlines rules defined blocks)
   quote-read blocks = simp (fold_out-Block Block (read_step rules defined), outs-Quote)
-
-  list-read : (kind : ListKind) (tight : Bool) (items : List (List Block)) → block_read rules defined (ListBlock kind tight items) ≡ ListBlock kind tight (map (with_inlines rules defined) items)
-  list-read kind tight items = simp (fold_out-Block Block (read_step rules defined), outs-List)
 
   -- as many leaves as before
 
@@ -55,7 +52,7 @@ module _ (rules : Rules) (defined : Defined) where
     leaves-read (list kind items rest) =
         let tight = not (is_loose items) in
         let one : leaves (block_read rules defined (ListBlock kind tight (items_of items))) ≡ item_leaf_count items =
-        ap leaves (list-read kind tight (items_of items)) ∙ list-leaves kind tight (map (with_inlines rules defined) (items_of items)) ∙ items-read items in
+        ap leaves (list_read rules defined kind tight (items_of items)) ∙ list-leaves kind tight (map (with_inlines rules defined) (items_of items)) ∙ items-read items in
         omega (arith, one, leaves-read rest)
 
     items-read : (items : ItemParts) → total_of_all (map (map (fold-Block ℕ leaves_step)) (map (with_inlines rules defined) (items_of items))) ≡ item_leaf_count items

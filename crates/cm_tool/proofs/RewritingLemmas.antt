@@ -1,6 +1,6 @@
 -- Rewriting a text.
 use Rattle.std.proofs.Common.{◌≡◌, ◌∙◌, ℕ, List, ◌≤◌, length, take, sym, ap, ap₂, subst, inl}
-use Rattle.std.specs.Prelude.{Result, Ok, Err, String, string_bytes, IsUtf8}
+use Rattle.std.specs.Prelude.{Ok, Err, String, string_bytes, IsUtf8}
 use Rattle.std.proofs.lemmas.Str.{IsUtf8-string_bytes}
 use Rattle.std.specs.declared.alloc.Global.{Global}
 use Rattle.cm_text.specs.Limits.{LimitsView}
@@ -41,8 +41,8 @@ module _ (limits : LimitsView) (bytes : List ℕ) (from left : SourceView) (old 
     text_is : string_bytes text ≡ rewritten limits.rules bytes
     text_is = h.1 ∙ ap spelling_of kept_are
 
-    lasting : IsLasting limits.rules bytes
-    lasting = is_lasting limits.rules bytes (refusal_is ∙ h.0) (subst IsUtf8 text_is (IsUtf8-string_bytes text))
+    lasting : IsLasting limits bytes
+    lasting = is_lasting limits bytes read.sound (refusal_is ∙ h.0) (subst IsUtf8 text_is (IsUtf8-string_bytes text))
 
     -- it went out
     pub went_out : (written : List ℕ) (n : ℕ) → written ≡ string_bytes text → n ≡ length (string_bytes text) → Wrote old new written 0

@@ -113,7 +113,7 @@ same_cut limit bytes more (text.TooLong at) are e =
 same_cut limit bytes more text.NoMemory are e = absurd (never_memory limit bytes e)
 
 -- without a fault of the text, all bytes are within the limit and UTF-8
-sound_text : (limit : ℕ) (bytes : List ℕ) → text_fault limit bytes ≡ None → (settled_fault limit bytes ≡ None) × (length bytes ≤ valid_len limit bytes)
+pub sound_text : (limit : ℕ) (bytes : List ℕ) → text_fault limit bytes ≡ None → (settled_fault limit bytes ≡ None) × (length bytes ≤ valid_len limit bytes)
 sound_text limit bytes sound =
     let two = none_of_two (settled_fault limit bytes) _ _ sound in
     (two.0, ltb-false _ _ two.1)

@@ -16,4 +16,5 @@ pub mod CommandLine
 pub mod WordExamples
 pub mod Running
 pub mod TextMarkup
+pub mod Within
 pub mod steps

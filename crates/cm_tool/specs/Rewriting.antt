@@ -1,5 +1,5 @@
 -- What rewriting a text answers, and what it has written then.
-use Rattle.std.specs.Prelude.{◌≡◌, ℕ, List, Some, Result, Ok, Err, ⊤}
+use Rattle.std.specs.Prelude.{◌≡◌, ℕ, ◌≤◌, List, length, Some, None, Result, Ok, Err, ⊤}
 use Rattle.cm_text.specs.Rules.{Rules}
 use Rattle.cm_text.specs.Limits.{LimitsView}
 use Rattle.cm_text.specs.Writing.{SinkView, IsUnwritten}
@@ -10,6 +10,7 @@ use Rattle.cm_source.specs.Spelling.{spelling_of}
 use Rattle.cm_tool.specs.declared.fault.Fault.{Fault}
 use Rattle.cm_tool.specs.declared.fault.Fault.TheVariants.{Unspellable, WriteFailed}
 use Rattle.cm_scan.specs.Documents.{tree_of}
+use Rattle.cm_tool.specs.Faults.{fault_of}
 use Rattle.cm_tool.specs.Reading.{SourceView, ReadWhole}
 use Rattle.cm_tool.specs.Writing.{Writes}
 
@@ -21,18 +22,20 @@ kept_tree rules bytes = without_definitions (tree_of rules bytes)
 abbrev pub rewritten : Rules → List ℕ → List ℕ
 rewritten rules bytes = spelling_of (kept_tree rules bytes)
 
--- The tree can be spelled; its spelling reads back as that tree, and is rewritten to itself.
-abbrev pub IsLasting : Rules → List ℕ → Type 0
-IsLasting rules bytes =
-    IsSpellable rules (kept_tree rules bytes)
-    × (tree_of rules (rewritten rules bytes) ≡ kept_tree rules bytes)
-    × (rewritten rules (rewritten rules bytes) ≡ rewritten rules bytes)
+-- The tree can be spelled; its spelling reads back as that tree, and is rewritten to itself: it has no fault, unless it is longer than
+-- the limit.
+abbrev pub IsLasting : LimitsView → List ℕ → Type 0
+IsLasting limits bytes =
+    IsSpellable limits.rules (kept_tree limits.rules bytes)
+    × (tree_of limits.rules (rewritten limits.rules bytes) ≡ kept_tree limits.rules bytes)
+    × (rewritten limits.rules (rewritten limits.rules bytes) ≡ rewritten limits.rules bytes)
+    × (length (rewritten limits.rules bytes) ≤ limits.bytes → fault_of limits (rewritten limits.rules bytes) ≡ None)
 
 -- so it is where something goes out
-abbrev pub LastingIfWritten : Result ℕ Fault → Rules → List ℕ → Type 0
-LastingIfWritten (Ok n) rules bytes = IsLasting rules bytes
-LastingIfWritten (Err (WriteFailed written)) rules bytes = IsLasting rules bytes
-LastingIfWritten (Err fault) rules bytes = ⊤
+abbrev pub LastingIfWritten : Result ℕ Fault → LimitsView → List ℕ → Type 0
+LastingIfWritten (Ok n) limits bytes = IsLasting limits bytes
+LastingIfWritten (Err (WriteFailed written)) limits bytes = IsLasting limits bytes
+LastingIfWritten (Err fault) limits bytes = ⊤
 
 -- The spelling of the text's tree without its definitions went out, or a front of it up to a failed write; or the text was refused, or its
 -- tree was. Nothing goes out before the spelling is whole.
@@ -40,4 +43,4 @@ abbrev pub Rewrites : Result ℕ Fault → LimitsView → List ℕ → SourceVie
 Rewrites (Err (Unspellable why)) limits bytes from left old new =
     ReadWhole limits bytes from left × (refusal_of limits.rules (kept_tree limits.rules bytes) ≡ Some why) × IsUnwritten old new
 Rewrites answer limits bytes from left old new =
-    Writes (λ old new text. IsUnwritten old new) rewritten answer limits bytes from left old new × LastingIfWritten answer limits.rules bytes
+    Writes (λ old new text. IsUnwritten old new) rewritten answer limits bytes from left old new × LastingIfWritten answer limits bytes

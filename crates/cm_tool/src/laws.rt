@@ -5,6 +5,7 @@ ghost use Rattle.cm_tool.specs.FileExamples.{FileExamples};
 ghost use Rattle.cm_tool.specs.Owners.{OneOwnerALine, RunsInOrder};
 ghost use Rattle.cm_tool.specs.ReadingExamples.{ReadingExamples};
 ghost use Rattle.cm_tool.specs.TextMarkup.{HeadingLevels, TextIsNoMarkup};
+ghost use Rattle.cm_tool.specs.Within.{NoFaultJustWithin, SpelledWithoutFault};
 ghost use Rattle.cm_tool.specs.WordExamples.{WordExamples};
 ghost use Rattle.cm_tool.specs.steps.FaultOrder.{FaultsInOrder};
 
@@ -29,6 +30,13 @@ pub fn faults_in_order()
 /// A parser tells a fault just where every input that begins with the bytes so far has it.
 pub fn settled_is_told()
     ensures { SettledIsTold }
+{}
+
+/// A text has no fault just where it is UTF-8, no longer than the limit, and its tree nests no deeper than
+/// the limits. So has the source that is spelled for a tree, where it and the tree are within the limits.
+pub fn no_fault_within_limits()
+    ensures text { NoFaultJustWithin }
+    ensures spelled { SpelledWithoutFault }
 {}
 
 /// Each line of a text has one owner in its document, and the leaves of the document's tree are those that
