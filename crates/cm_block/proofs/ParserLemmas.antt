@@ -1,5 +1,5 @@
 -- A parser, line by line.
-use Rattle.std.proofs.Common.{◌≡◌, ℕ, zero, suc, ◌+◌, ◌-◌, ◌*◌, ◌<◌, ◌≤◌, Bool, true, false, ◌&&◌, List, [], ◌∷◌, ◌++◌, length, length-append, take, drop, refl, ◌∙◌, sym, ap, ap₂, subst, arith, le_refl, Option, Some, None}
+use Rattle.std.proofs.Common.{◌≡◌, ℕ, zero, suc, ◌+◌, ◌-◌, ◌*◌, ◌^◌, min, ◌<◌, ◌≤◌, Bool, true, false, ◌&&◌, List, [], ◌∷◌, ◌++◌, length, length-append, take, drop, refl, ◌∙◌, sym, ap, ap₂, subst, arith, le_refl, Option, Some, None}
 use Rattle.std.specs.Prelude.{nat_le, nat_lt, if◌then◌else◌}
 use Rattle.cm_text.specs.Rules.{Rules}
 use Rattle.cm_text.specs.Lines.{LineView}
@@ -28,7 +28,7 @@ use Rattle.cm_text.specs.Limits.{LimitsView}
 use Rattle.cm_block.specs.LeafViews.{leaf_of}
 use Rattle.cm_block.specs.Parser.{stack_of, StandsFor, TellsDepth}
 use Rattle.cm_block.specs.steps.ParserSteps.{Deep, TakenToLeaf}
-use Rattle.cm_block.specs.Tests.{Tested, count_in, count_of}
+use Rattle.cm_block.specs.Tests.{Tested, AllTested, count_in, count_of}
 use Rattle.cm_block.proofs.Matching.{length_frames}
 use Rattle.cm_block.proofs.ContainerLemmas.{count-nest, count-closing-leaf, count-close-frames, count_taken, count_begun}
 use Rattle.cm_block.proofs.TestLemmas.{tested_lines}
@@ -195,11 +195,12 @@ deep_after (BlocksTooDeep n) limits before now line o is owners h =
 
 -- the parser stands for one line more
 
-pub stands_next : (old new : parser.BlockParser) (lines : List LineView) (line l : LineView) → l ≡ line → is_line line.text ≡ true → StandsFor old lines
+pub stands_next : (old new : parser.BlockParser) (lines : List LineView) (line l : LineView) (tests : ℕ) → l ≡ line → is_line line.text ≡ true → StandsFor old lines
     → stack_of new ≡ push_line old.limits.rules (stack_of old) l → length new.stack.frames ≤ old.limits.blocks
-    → Tested (count_of (stack_of new) - count_of (stack_of old)) (old.limits.blocks + 5) old.tests new.tests → new.limits ≡ old.limits → new.fault ≡ old.fault
+    → old.limits.blocks ≤ 500 → Tested (count_of (stack_of new) - count_of (stack_of old)) (old.limits.blocks + 5) 0 tests
+    → new.tests ≡ min (old.tests + tests) (2 ^ 128 - 1) → new.limits ≡ old.limits → new.fault ≡ old.fault
     → StandsFor new (lines ++ line ∷ [])
-stands_next old new lines line l same one_line h is few tests limits fault = record {
+stands_next old new lines line l tests same one_line h is few within tested sum limits fault = record {
   going = fault ∙ h.going;
   are_lines = are-push lines line h.are_lines one_line;
   holds = subst (λ (k : LimitsView). stack_of new ≡ push_lines k.rules empty_stack (lines ++ line ∷ [])) (sym limits)
@@ -208,9 +209,9 @@ stands_next old new lines line l same one_line h is few tests limits fault = rec
       (within_next old.limits (stack_of old) lines line l same h.are_lines one_line h.holds h.within
       (omega (arith, few, depth)));
   few = omega (arith, few, blocks);
-  tests = subst (λ limit. Tested (count_of (stack_of new)) ((limit + 5) * length (lines ++ line ∷ [])) 0 new.tests) (sym blocks)
-      (tested_lines (count_of (stack_of old)) (count_of (stack_of new)) old.limits.blocks (length lines) (length (lines ++ line ∷ [])) old.tests new.tests
-      (length-append lines (line ∷ [])) h.tests tests);
+  tests = subst (λ limit. AllTested (count_of (stack_of new)) ((limit + 5) * length (lines ++ line ∷ [])) 0 new.tests) (sym blocks)
+      (tested_lines (count_of (stack_of old)) (count_of (stack_of new)) old.limits.blocks (length lines) (length (lines ++ line ∷ [])) old.tests tests new.tests
+      (length-append lines (line ∷ [])) within h.tests tested sum);
 }
   where
     blocks : new.limits.blocks ≡ old.limits.blocks

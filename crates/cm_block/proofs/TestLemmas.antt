@@ -1,12 +1,12 @@
 -- How often lines are read, one call after another.
-use Rattle.std.proofs.Common.{◌≡◌, ℕ, suc, ◌+◌, ◌-◌, ◌*◌, ◌^◌, ◌<◌, ◌≤◌, Bool, true, false, Result, Ok, Err, refl, ◌∙◌, List, [], ◌∷◌, ◌++◌, length, length-append, ap, arith}
+use Rattle.std.proofs.Common.{◌≡◌, ℕ, suc, ◌+◌, ◌-◌, ◌*◌, ◌^◌, ◌<◌, ◌≤◌, min, Bool, true, false, Result, Ok, Err, refl, ◌∙◌, List, [], ◌∷◌, ◌++◌, length, length-append, ap, arith}
 use Rattle.cm_block.specs.declared.stack.Frame as code
 use Rattle.cm_block.specs.FrameViews.{frames_of}
 use Rattle.cm_block.specs.Frames.{Frame}
 use Rattle.cm_block.proofs.Matching.{length_frames}
 use Rattle.std.specs.Prelude.{nat_lt}
 use Rattle.std.specs.Result.{OnOk}
-use Rattle.cm_block.specs.Tests.{Tested}
+use Rattle.cm_block.specs.Tests.{Tested, AllTested}
 
 pub tested_then : (a b c d x y z : ℕ) → Tested a b x y → Tested c d y z → Tested (a + c) (b + d) x z
 tested_then a b c d x y z first next = (
@@ -61,17 +61,20 @@ both_ok P Q (Ok x) p q = (p, q)
 both_ok P Q (Err e) p q = tt
 
 -- behind all lines so far, and one more
-pub tested_lines : (before now limit lines next x y : ℕ) → next ≡ lines + 1 → Tested before ((limit + 5) * lines) 0 x → Tested (now - before) (limit + 5) x y → Tested now ((limit + 5) * next) 0 y
-tested_lines before now limit lines next x y is so_far line =
+pub tested_lines : (before now limit lines next x n y : ℕ) → next ≡ lines + 1 → limit ≤ 500 → AllTested before ((limit + 5) * lines) 0 x
+    → Tested (now - before) (limit + 5) 0 n → y ≡ min (x + n) (2 ^ 128 - 1) → AllTested now ((limit + 5) * next) 0 y
+tested_lines before now limit lines next x n y is within so_far line sum =
     let all : (limit + 5) * next ≡ (limit + 5) * lines + (limit + 5) = ap (λ n. (limit + 5) * n) is ∙ distributed (limit + 5) lines in
-    tested_within (before + (now - before)) ((limit + 5) * lines + (limit + 5)) now ((limit + 5) * next) 0 y (omega arith) (omega (arith, all))
-    (tested_then before ((limit + 5) * lines) (now - before) (limit + 5) 0 x y so_far line)
+    let few : n < 2 ^ 64 - 1 = omega (arith, within, line.1) in (
+      λ below. let g = so_far.0 (omega (arith, below, sum)) in omega (arith, below, sum, g, line.0 few),
+      omega (arith, all, so_far.1, line.1, sum),
+    )
   where
     distributed : (a n : ℕ) → a * (n + 1) ≡ a * n + a
     distributed a n = grind arith
 
 -- the count of so few lines, within so few containers, is below the greatest
-pub tested_all : (count limit lines x : ℕ) → limit ≤ 500 → lines < 2 ^ 64 → Tested count ((limit + 5) * lines) 0 x → (count ≤ x) × (x ≤ (limit + 5) * lines)
+pub tested_all : (count limit lines x : ℕ) → limit ≤ 500 → lines < 2 ^ 64 → AllTested count ((limit + 5) * lines) 0 x → (count ≤ x) × (x ≤ (limit + 5) * lines)
 tested_all count limit lines x within few h =
     let most : (limit + 5) * lines ≤ 505 * lines = grind (arith, within) in
     let below : x < 2 ^ 128 - 1 = omega (arith, most, few, h.1) in

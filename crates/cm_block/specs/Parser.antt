@@ -14,7 +14,7 @@ use Rattle.cm_block.specs.Stack.{Stack, empty_stack, push_lines}
 use Rattle.cm_block.specs.Frames.{stack_with}
 use Rattle.cm_block.specs.FrameViews.{frames_of}
 use Rattle.cm_block.specs.LeafViews.{leaf_of}
-use Rattle.cm_block.specs.Tests.{Tested, container_count, count_of}
+use Rattle.cm_block.specs.Tests.{AllTested, container_count, count_of}
 
 -- what the parser holds
 abbrev pub stack_of : code.BlockParser → Stack
@@ -27,7 +27,7 @@ pub record StandsFor (parser : code.BlockParser) (lines : List LineView) : Type 
   pub holds : stack_of parser ≡ push_lines parser.limits.rules empty_stack lines
   pub within : first_too_deep parser.limits.rules parser.limits.blocks lines ≡ None
   pub few : length parser.stack.frames ≤ parser.limits.blocks
-  pub tests : Tested (count_of (stack_of parser)) ((parser.limits.blocks + 5) * length lines) 0 parser.tests
+  pub tests : AllTested (count_of (stack_of parser)) ((parser.limits.blocks + 5) * length lines) 0 parser.tests
 
 -- why the lines are refused; memory may be refused
 abbrev pub TellsDepth : BlockFault → LimitsView → List LineView → Type 0

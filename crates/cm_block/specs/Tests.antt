@@ -8,9 +8,17 @@ use Rattle.cm_block.specs.Machine.{Open, in_leaf, in_quote, in_item}
 use Rattle.cm_block.specs.Level.{Level, closed_blocks}
 use Rattle.cm_block.specs.Stack.{Stack}
 
--- Between the two counts lines were read at least and at most so many times. The greatest count of all stays.
+-- Between the two counts lines were read at least and at most so many times. The greatest count stays.
+abbrev pub Counted : (greatest least most before after : ℕ) → Type 0
+Counted greatest least most before after = (after < greatest → before + least ≤ after) × (after ≤ before + most)
+
+-- a line by itself
 abbrev pub Tested : (least most before after : ℕ) → Type 0
-Tested least most before after = (after < 2 ^ 128 - 1 → before + least ≤ after) × (after ≤ before + most)
+Tested = Counted (2 ^ 64 - 1)
+
+-- all lines
+abbrev pub AllTested : (least most before after : ℕ) → Type 0
+AllTested = Counted (2 ^ 128 - 1)
 
 -- items, each by how many quotes and items there are in each of its blocks
 abbrev pub item_count : List (List ℕ) → ℕ

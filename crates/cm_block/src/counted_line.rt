@@ -6,23 +6,23 @@ ghost use Rattle.cm_block.specs.Tests.{Tested};
 
 use cm_text::{Line, View};
 
-/// What is left of a line inside the containers in which it stays, and how often lines have been read so
-/// far. It is shown by a call that counts, and by no other; and it is let go by the call that gives the
+/// What is left of a line inside the containers in which it stays, and how often it has been read so far.
+/// It is shown by a call that counts, and by no other; and it is let go by the call that gives the
 /// count, and by no other.
 pub(crate) struct CountedLine<'a> {
     rest: View<'a>,
-    tests: u128,
+    tests: u64,
 }
 
 impl<'a> CountedLine<'a> {
-    /// A whole line, behind so many readings.
-    pub(crate) fn new(line: &'a Line, tests: u128) -> CountedLine<'a>
+    /// A whole line, which hasn't been read.
+    pub(crate) fn new(line: &'a Line) -> CountedLine<'a>
         ensures line { line_of result.rest ≡ view_of line.now }
-        ensures tests { result.tests ≡ tests }
+        ensures tests { result.tests ≡ 0 }
     {
         CountedLine {
             rest: line.view(),
-            tests,
+            tests: 0,
         }
     }
 
@@ -52,8 +52,8 @@ impl<'a> CountedLine<'a> {
         self.rest.lazy
     }
 
-    /// The end of the line: how often lines have been read.
-    pub(crate) fn into_tests(self) -> u128
+    /// The end of the line: how often it was read.
+    pub(crate) fn into_tests(self) -> u64
         ensures { result ≡ self.entry.tests }
     {
         let CountedLine { rest: _, tests } = self;

@@ -237,9 +237,12 @@ impl BlockParser {
         if let Some(fault) = self.fault {
             return Err(fault);
         }
-        let mut line = CountedLine::new(line, self.tests);
+        // The range of the limit, which bounds how often the line is read.
+        let _limit = self.limits.blocks();
+        let before = self.tests;
+        let mut line = CountedLine::new(line);
         let result = self.accept(&mut line);
-        self.tests = line.into_tests();
+        self.tests = before.saturating_add(u128::from(line.into_tests()));
         if let Err(fault) = result {
             self.fault = Some(fault);
         }

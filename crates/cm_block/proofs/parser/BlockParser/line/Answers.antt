@@ -1,4 +1,4 @@
-use Rattle.std.proofs.Common.{◌+◌, ◌-◌, ◌++◌, ◌∷◌, [], List, sym, subst}
+use Rattle.std.proofs.Common.{◌+◌, ◌-◌, ◌++◌, ◌∷◌, [], List, arith, rules, sym, subst}
 use Rattle.std.specs.Result.{OnOk}
 use Rattle.cm_text.specs.Lines.{LineView, view_of}
 use Rattle.cm_text.specs.Views.{line_of}
@@ -15,11 +15,13 @@ returns-in-Err-clause-told c = λ lines h.
 pub returns-in_default-result-clause-stands : goal.returns-in_default-result-clause-stands
 returns-in_default-result-clause-stands c =
     let s = c.args.self.now in
-    let new = record c.accept-result.new.self { tests = c.into_tests-self.result } in
+    let new = record c.accept-result.new.self { tests = c.saturating_add-self.result } in
     let done = c.in_default-result.ensures in
+    let count = count_of (stack_of c.accept-result.new.self) - count_of (stack_of s) in
     subst (λ r. OnOk r ((lines : List LineView) → StandsFor s lines → StandsFor new (lines ++ view_of c.args.line.now ∷ []))) (sym c.in_default-result.is)
-    (λ lines h. stands_next s new lines (view_of c.args.line.now) (line_of c.new-line.result.rest) c.new-line.ensures.line c.args.line.now.one_line h
+    (λ lines h. stands_next s new lines (view_of c.args.line.now) (line_of c.new-line.result.rest) c.accept-result.new.line.tests c.new-line.ensures.line c.args.line.now.one_line h
     done.pushed (done.few h.few)
-    (subst (λ n. Tested (count_of (stack_of c.accept-result.new.self) - count_of (stack_of s)) (s.limits.blocks + 5) s.tests n) (sym c.into_tests-self.ensures)
-    (subst (λ n. Tested (count_of (stack_of c.accept-result.new.self) - count_of (stack_of s)) (s.limits.blocks + 5) n c.accept-result.new.line.tests) c.new-line.ensures.tests (done.tests h.few)))
+    (omega (arith, c.blocks-limit.ensures.value, c.blocks-limit.ensures.bound))
+    (subst (λ n. Tested count (s.limits.blocks + 5) n c.accept-result.new.line.tests) c.new-line.ensures.tests (done.tests h.few))
+    (search rules)
     done.limits done.fault)
