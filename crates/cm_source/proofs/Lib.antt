@@ -5,6 +5,7 @@ pub mod BlockRefusals
 pub mod BytesRead
 pub mod CleanLines
 pub mod CodesRead
+pub mod Computing
 pub mod ContentEnds
 pub mod ContentFronts
 pub mod ContentLabels

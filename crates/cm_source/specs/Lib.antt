@@ -14,3 +14,4 @@ pub mod Utf8Blocks
 pub mod Utf8Inlines
 pub mod WorkedExamples
 pub mod ReadingBack
+pub mod ReadingBackExamples

@@ -1,26 +1,14 @@
 -- Worked examples: which trees can't be spelled, and why not.
-use Rattle.std.specs.Prelude.{◌≡◌, ℕ, true, false, List, [], ◌∷◌, ◌++◌, Some, None, codes}
-use Rattle.cm_text.specs.Rules.{Rules, profile}
-use Rattle.cm_tree.specs.declared.tree.Inline.{Inline}
+use Rattle.std.specs.Prelude.{◌≡◌, true, false, [], ◌∷◌, ◌++◌, Some, None, codes}
+use Rattle.cm_text.specs.Rules.{profile}
 use Rattle.cm_tree.specs.declared.tree.Inline.TheVariants.{Text, Code, Html, Soft, Hard, Emph, Strong, Strike, Link, Image}
-use Rattle.cm_tree.specs.declared.tree.Block.{Block}
 use Rattle.cm_tree.specs.declared.tree.Block.TheVariants as block
 use Rattle.cm_tree.specs.declared.tree.ListKind.TheVariants.{Dash, Plus, Dot}
+use Rattle.cm_scan.specs.InlineExamples.{struck}
 use Rattle.cm_source.specs.declared.why.Why.TheVariants as why
 use Rattle.cm_source.specs.InlineRefusals.{paragraph_refusal, heading_refusal}
 use Rattle.cm_source.specs.Refusals.{refusal_of}
-
-abbrev pub struck : Rules
-struck = record profile { strike = true }
-
-abbrev pub words : List ℕ → List Inline
-words text = Text text ∷ []
-
-abbrev pub a : List Inline
-a = words (codes "a")
-
-abbrev pub paragraph : List Block
-paragraph = block.Paragraph a ∷ []
+use Rattle.cm_source.specs.WorkedExamples.{words, a, paragraph_a}
 
 pub record InlineRefusalExamples : Type 0 where
   pub accepted : paragraph_refusal profile (Strong (words (codes "Note:")) ∷ Text (codes " see ") ∷ Soft ∷ Link (codes "/u") [] (Code (codes "b") ∷ []) ∷ Image [] [] [] ∷ Html (codes "<b>") ∷ []) ≡ None
@@ -53,23 +41,23 @@ pub record InlineRefusalExamples : Type 0 where
 
 pub record RefusalExamples : Type 0 where
   pub nothing : refusal_of profile [] ≡ None
-  pub accepted : refusal_of profile (block.Heading 6 [] ∷ block.Code (codes "c") [] ∷ block.Break ∷ block.Quote [] ∷ block.Html (codes "<div>\n</div>\n") ∷ paragraph) ≡ None
-  pub tight : refusal_of profile (block.List Dash true ((paragraph ++ block.Quote paragraph ∷ []) ∷ [] ∷ []) ∷ []) ≡ None
-  pub loose : refusal_of profile (block.List (Dot 3) false ((paragraph ++ paragraph) ∷ []) ∷ []) ≡ None
+  pub accepted : refusal_of profile (block.Heading 6 [] ∷ block.Code (codes "c") [] ∷ block.Break ∷ block.Quote [] ∷ block.Html (codes "<div>\n</div>\n") ∷ paragraph_a) ≡ None
+  pub tight : refusal_of profile (block.List Dash true ((paragraph_a ++ block.Quote paragraph_a ∷ []) ∷ [] ∷ []) ∷ []) ≡ None
+  pub loose : refusal_of profile (block.List (Dot 3) false ((paragraph_a ++ paragraph_a) ∷ []) ∷ []) ≡ None
   pub definition : refusal_of profile (block.Definition (codes "a") [] [] ∷ []) ≡ Some why.Definition
   pub nul : refusal_of profile (block.Code (0 ∷ []) [] ∷ []) ≡ Some why.Nul
   pub seventh_level : refusal_of profile (block.Heading 7 a ∷ []) ≡ Some why.Shape
   pub empty_paragraph : refusal_of profile (block.Paragraph [] ∷ []) ≡ Some why.Shape
   pub no_items : refusal_of profile (block.List Dash true [] ∷ []) ≡ Some why.Shape
-  pub ten_digits : refusal_of profile (block.List (Dot 1000000000) true (paragraph ∷ []) ∷ []) ≡ Some why.Shape
+  pub ten_digits : refusal_of profile (block.List (Dot 1000000000) true (paragraph_a ∷ []) ∷ []) ≡ Some why.Shape
   pub code_without_its_end : refusal_of profile (block.Code [] (codes "a") ∷ []) ≡ Some why.CodeText
   pub html_before_a_blank_line : refusal_of profile (block.Html (codes "<div>\n\na\n") ∷ []) ≡ Some why.HtmlBlock
   pub html_without_its_end : refusal_of profile (block.Html (codes "<!-- a\n") ∷ []) ≡ Some why.HtmlBlock
   pub html_of_a_text : refusal_of profile (block.Html (codes "a\n") ∷ []) ≡ Some why.HtmlBlock
   pub comment : refusal_of profile (block.Html (codes "<!-- a\n\n-->\n") ∷ []) ≡ None
-  pub two_lists : refusal_of profile (block.List Dash true (paragraph ∷ []) ∷ block.List Dash true (paragraph ∷ []) ∷ []) ≡ Some why.AdjacentLists
-  pub two_kinds : refusal_of profile (block.List Dash true (paragraph ∷ []) ∷ block.List Plus true (paragraph ∷ []) ∷ []) ≡ None
-  pub list_first : refusal_of profile (block.List Dash true ((block.List Plus true (paragraph ∷ []) ∷ []) ∷ []) ∷ []) ≡ Some why.ItemBeginsWithList
-  pub loose_item_of_one : refusal_of profile (block.List Dash false (paragraph ∷ []) ∷ []) ≡ Some why.Looseness
-  pub tight_item_of_two : refusal_of profile (block.List Dash true ((paragraph ++ paragraph) ∷ []) ∷ []) ≡ Some why.Looseness
-  pub list_from_2_behind_a_paragraph : refusal_of profile (block.List Dash true ((paragraph ++ block.List (Dot 2) true (paragraph ∷ []) ∷ []) ∷ []) ∷ []) ≡ Some why.Looseness
+  pub two_lists : refusal_of profile (block.List Dash true (paragraph_a ∷ []) ∷ block.List Dash true (paragraph_a ∷ []) ∷ []) ≡ Some why.AdjacentLists
+  pub two_kinds : refusal_of profile (block.List Dash true (paragraph_a ∷ []) ∷ block.List Plus true (paragraph_a ∷ []) ∷ []) ≡ None
+  pub list_first : refusal_of profile (block.List Dash true ((block.List Plus true (paragraph_a ∷ []) ∷ []) ∷ []) ∷ []) ≡ Some why.ItemBeginsWithList
+  pub loose_item_of_one : refusal_of profile (block.List Dash false (paragraph_a ∷ []) ∷ []) ≡ Some why.Looseness
+  pub tight_item_of_two : refusal_of profile (block.List Dash true ((paragraph_a ++ paragraph_a) ∷ []) ∷ []) ≡ Some why.Looseness
+  pub list_from_2_behind_a_paragraph : refusal_of profile (block.List Dash true ((paragraph_a ++ block.List (Dot 2) true (paragraph_a ∷ []) ∷ []) ∷ []) ∷ []) ≡ Some why.Looseness

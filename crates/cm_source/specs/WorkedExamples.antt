@@ -16,6 +16,13 @@ words text = inline.Text text ∷ []
 abbrev pub paragraph : List ℕ → List Block
 paragraph text = block.Paragraph (words text) ∷ []
 
+-- the word `a`
+abbrev pub a : List Inline
+a = words (codes "a")
+
+abbrev pub paragraph_a : List Block
+paragraph_a = paragraph (codes "a")
+
 pub record TextExamples : Type 0 where
   pub punctuation : spelled_text true true (codes "a*b") ≡ codes "a\\*b"
   pub inner_space : spelled_text true true (codes "one space") ≡ codes "one space"

@@ -1,4 +1,5 @@
 //! Laws of the definitions, each the contract of a function that does nothing.
+ghost use Rattle.cm_source.specs.ReadingBackExamples.{LeafBlockExamples, ContainerExamples, ContentExamples, RuleExamples, MisreadExamples};
 ghost use Rattle.cm_source.specs.RefusalExamples.{InlineRefusalExamples, RefusalExamples};
 ghost use Rattle.cm_source.specs.WorkedExamples.{TextExamples, InlineExamples, BlockExamples};
 
@@ -13,4 +14,13 @@ pub fn worked_examples()
 pub fn refusal_examples()
     ensures inlines { InlineRefusalExamples }
     ensures blocks { RefusalExamples }
+{}
+
+/// The same of whole trees that read back, and of some that wouldn't, by the definitions of reading.
+pub fn reading_back_examples()
+    ensures leaves { LeafBlockExamples }
+    ensures containers { ContainerExamples }
+    ensures contents { ContentExamples }
+    ensures rules { RuleExamples }
+    ensures misread { MisreadExamples }
 {}

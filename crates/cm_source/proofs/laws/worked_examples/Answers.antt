@@ -1,18 +1,10 @@
-use Rattle.std.proofs.Common.{ℕ, List, refl}
-use Rattle.std.specs.Fmt.{digits}
-use Rattle.cm_tree.specs.declared.tree.Inline.TheViews.{outs-Text as text, outs-Code as code, outs-Html as html, outs-Soft as soft, outs-Hard as hard, outs-Emph as emph, outs-Strong as strong, outs-Strike as strike, outs-Link as link, outs-Image as image}
-use Rattle.cm_tree.specs.declared.tree.Inline.TheFolds.{fold_out-Inline}
-use Rattle.cm_tree.specs.declared.tree.Block.TheVariants.{outs-Paragraph, outs-Heading, outs-Code, outs-Html, outs-Break, outs-Quote, outs-List}
-use Rattle.cm_tree.specs.declared.tree.Block.TheFolds.{fold_out-Block}
-use Rattle.cm_scan.specs.Autolinks.{ends_with}
-use Rattle.cm_source.specs.Texts.{spelled_byte, spelled_text, longest_run, spelled_code, spelled_target}
-use Rattle.cm_source.specs.Inlines.{Spelled, inline_step}
-use Rattle.cm_source.specs.Spelling.{parted_lines, ended_lines, block_step}
+use Rattle.std.proofs.Common.{refl}
 use Rattle.cm_source.specs.WorkedExamples.{TextExamples, InlineExamples, BlockExamples}
+use Rattle.cm_source.proofs.Computing.{string_spellings, spelling}
 use Rattle.cm_source.proofs.laws.worked_examples.Goals as goal
 
 texts : TextExamples
-unfolding digits ends_with spelled_byte spelled_text longest_run spelled_code spelled_target
+unfolding string_spellings
 texts = record {
   punctuation = refl;
   inner_space = refl;
@@ -31,28 +23,28 @@ texts = record {
 }
 
 inlines : InlineExamples
-unfolding digits ends_with spelled_byte spelled_text longest_run spelled_code spelled_target
+unfolding string_spellings
 inlines = record {
-  space_before_emphasis = simp (fold_out-Inline Spelled inline_step, emph, text);
-  link = simp (fold_out-Inline Spelled inline_step, link, text);
-  image = simp (fold_out-Inline Spelled inline_step, image, text);
-  space_before_a_soft_break = simp (fold_out-Inline Spelled inline_step, soft, text);
-  space_before_a_hard_break = simp (fold_out-Inline Spelled inline_step, hard, text);
-  marks = simp (fold_out-Inline Spelled inline_step, strong, strike, code, html);
+  space_before_emphasis = simp spelling;
+  link = simp spelling;
+  image = simp spelling;
+  space_before_a_soft_break = simp spelling;
+  space_before_a_hard_break = simp spelling;
+  marks = simp spelling;
 }
 
 blocks : BlockExamples
-unfolding digits ends_with spelled_byte spelled_text longest_run spelled_code spelled_target parted_lines ended_lines
+unfolding string_spellings
 blocks = record {
   nothing = refl;
-  paragraphs = simp (fold_out-Block (List (List ℕ)) block_step, outs-Paragraph, fold_out-Inline Spelled inline_step, text);
-  headings = simp (fold_out-Block (List (List ℕ)) block_step, outs-Heading, fold_out-Inline Spelled inline_step, text);
-  code_block = simp (fold_out-Block (List (List ℕ)) block_step, outs-Code);
-  html_and_break = simp (fold_out-Block (List (List ℕ)) block_step, outs-Html, outs-Break);
-  quotes = simp (fold_out-Block (List (List ℕ)) block_step, outs-Quote, outs-Paragraph, fold_out-Inline Spelled inline_step, text);
-  tight_list = simp (fold_out-Block (List (List ℕ)) block_step, outs-List, outs-Quote, outs-Paragraph, fold_out-Inline Spelled inline_step, text);
-  loose_list = simp (fold_out-Block (List (List ℕ)) block_step, outs-List, outs-Code, outs-Paragraph, fold_out-Inline Spelled inline_step, text);
-  list_in_a_quote = simp (fold_out-Block (List (List ℕ)) block_step, outs-Quote, outs-List, outs-Paragraph, fold_out-Inline Spelled inline_step, text);
+  paragraphs = simp spelling;
+  headings = simp spelling;
+  code_block = simp spelling;
+  html_and_break = simp spelling;
+  quotes = simp spelling;
+  tight_list = simp spelling;
+  loose_list = simp spelling;
+  list_in_a_quote = simp spelling;
 }
 
 pub returns-clause-texts : goal.returns-clause-texts
