@@ -15,7 +15,8 @@ use Rattle.cm_scan.specs.BlockLaws.{is_unindented}
 use Rattle.cm_source.specs.Inlines.{Spelled, spelled, join, is_line_end, between}
 use Rattle.cm_source.specs.Texts.{numbered, edge_byte, spelled_byte, spelled_bytes, spelled_title, spelled_text, longest_run, padding, spelled_code, spelled_target}
 use Rattle.cm_source.specs.InlineRefusals.{Face, Place, Judged, judged, further_in, first_face, refusal_of_all}
-use Rattle.cm_source.proofs.AcceptedLemmas.{or-none, Accepted, text-spelled, code-spelled, html-spelled, soft-spelled, hard-spelled, emph-spelled, strong-spelled, strike-spelled, link-spelled, image-spelled, text-accepted, html-accepted, soft-accepted, hard-accepted}
+use Rattle.cm_source.proofs.InlineKinds.{text-spelled, code-spelled, html-spelled, soft-spelled, hard-spelled, emph-spelled, strong-spelled, strike-spelled, link-spelled, image-spelled}
+use Rattle.cm_source.proofs.AcceptedLemmas.{or-none, Accepted, text-accepted, html-accepted, soft-accepted, hard-accepted}
 use Rattle.cm_source.proofs.InlineInduction.{Cases, by-cases}
 use Rattle.cm_source.proofs.LineFronts.{differs, differs', ends_number, line_of, Front, front-line}
 use Rattle.cm_source.proofs.ContentFronts.{text-front}

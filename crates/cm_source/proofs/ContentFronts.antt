@@ -16,8 +16,8 @@ use Rattle.cm_scan.specs.Autolinks.{ends_with}
 use Rattle.cm_source.specs.Inlines.{Spelled, spelled, join, is_line_end, between}
 use Rattle.cm_source.specs.Texts.{numbered, edge_byte, spelled_byte, spelled_text, longest_run, is_padded, padding, spelled_code, spelled_target}
 use Rattle.cm_source.specs.InlineRefusals.{Face, TextFace, Place, Judged, judged, further_in, inside_link, first_face, refusal_of_all, has_wrong_edge, is_text, is_break, is_emphasis, is_none, is_whitespace, is_plain, first_of, last_of, last_face, hold_emphasis}
-use Rattle.cm_source.proofs.RefusalLemmas.{emph-is, strong-is, strike-is, link-is, image-is}
-use Rattle.cm_source.proofs.AcceptedLemmas.{or-none, Accepted, text-judged, code-judged, html-judged, soft-judged, hard-judged, text-spelled, code-spelled, html-spelled, soft-spelled, hard-spelled, emph-spelled, strong-spelled, strike-spelled, link-spelled, image-spelled, text-accepted, code-accepted, html-accepted, BreakAccepted, soft-accepted, hard-accepted, EmphasisAccepted, emph-accepted, strong-accepted, strike-accepted, link-accepted, image-accepted}
+use Rattle.cm_source.proofs.InlineKinds.{text-judged, code-judged, html-judged, soft-judged, hard-judged, emph-judged, strong-judged, strike-judged, link-judged, image-judged, text-spelled, code-spelled, html-spelled, soft-spelled, hard-spelled, emph-spelled, strong-spelled, strike-spelled, link-spelled, image-spelled}
+use Rattle.cm_source.proofs.AcceptedLemmas.{or-none, Accepted, text-accepted, code-accepted, html-accepted, BreakAccepted, soft-accepted, hard-accepted, EmphasisAccepted, emph-accepted, strong-accepted, strike-accepted, link-accepted, image-accepted}
 use Rattle.cm_source.proofs.InlineInduction.{AllHold, Cases, by-cases, all-by-cases}
 use Rattle.cm_source.proofs.KeptBytes.{is_line_byte, one-line, padding-line, text-is-line, code-is-line, target-is-line}
 use Rattle.cm_source.proofs.LineFronts.{differs, differs', IsQuiet, IsInner, ends_number, ends-digit, ends-other, line_of, Front, quiet, number, one_star, two_stars, two_tildes, backticks, LinesBegin}
@@ -228,11 +228,11 @@ module _ (rules : Rules) where
     html = λ text. rw (html-spelled text, html-judged rules text) refl;
     soft = rw (soft-spelled, soft-judged rules) refl;
     hard = rw (hard-spelled, hard-judged rules) refl;
-    emph = λ is all. rw (emph-spelled is, emph-is rules is) refl;
-    strong = λ is all. rw (strong-spelled is, strong-is rules is) refl;
-    strike = λ is all. rw (strike-spelled is, strike-is rules is) refl;
-    link = λ dest title is all. rw (link-spelled dest title is, link-is rules dest title is) refl;
-    image = λ dest title is all. rw (image-spelled dest title is, image-is rules dest title is) refl;
+    emph = λ is all. rw (emph-spelled is, emph-judged rules is) refl;
+    strong = λ is all. rw (strong-spelled is, strong-judged rules is) refl;
+    strike = λ is all. rw (strike-spelled is, strike-judged rules is) refl;
+    link = λ dest title is all. rw (link-spelled dest title is, link-judged rules dest title is) refl;
+    image = λ dest title is all. rw (image-spelled dest title is, image-judged rules dest title is) refl;
   })
 
   -- a break isn't the last inline of a content
@@ -246,11 +246,11 @@ module _ (rules : Rules) where
     html = λ text place before e. ap (λ (j : Judged). is_break (Some j.face)) (html-judged rules text);
     soft = λ place before e. absurd (cc (soft-accepted rules place before None e).in_front);
     hard = λ place before e. absurd (cc (hard-accepted rules place before None e).in_front);
-    emph = λ is all place before e. ap (λ (j : Judged). is_break (Some j.face)) (emph-is rules is);
-    strong = λ is all place before e. ap (λ (j : Judged). is_break (Some j.face)) (strong-is rules is);
-    strike = λ is all place before e. ap (λ (j : Judged). is_break (Some j.face)) (strike-is rules is);
-    link = λ dest title is all place before e. ap (λ (j : Judged). is_break (Some j.face)) (link-is rules dest title is);
-    image = λ dest title is all place before e. ap (λ (j : Judged). is_break (Some j.face)) (image-is rules dest title is);
+    emph = λ is all place before e. ap (λ (j : Judged). is_break (Some j.face)) (emph-judged rules is);
+    strong = λ is all place before e. ap (λ (j : Judged). is_break (Some j.face)) (strong-judged rules is);
+    strike = λ is all place before e. ap (λ (j : Judged). is_break (Some j.face)) (strike-judged rules is);
+    link = λ dest title is all place before e. ap (λ (j : Judged). is_break (Some j.face)) (link-judged rules dest title is);
+    image = λ dest title is all place before e. ap (λ (j : Judged). is_break (Some j.face)) (image-judged rules dest title is);
   })
 
   -- behind a text stands no digit, no `.` and no `)`
@@ -316,9 +316,9 @@ module _ (rules : Rules) where
         inner-told (Html text) _ (html-spelled text) last (subst StartsInner (sym tag.1) (starts-with 60 tag.0 (record { no_star = refl; no_tilde = refl; no_space = refl; no_tab = refl; no_line_feed = refl })));
     soft = λ place after e flat space last. absurd (cc (soft-accepted rules place None after e).behind);
     hard = λ place after e flat space last. absurd (cc (hard-accepted rules place None after e).behind);
-    emph = λ is all place after e flat space last. absurd (cc (sym (ap (λ (j : Judged). j.has_emphasis) (emph-is rules is)) ∙ flat));
-    strong = λ is all place after e flat space last. absurd (cc (sym (ap (λ (j : Judged). j.has_emphasis) (strong-is rules is)) ∙ flat));
-    strike = λ is all place after e flat space last. absurd (cc (sym (ap (λ (j : Judged). j.has_emphasis) (strike-is rules is)) ∙ flat));
+    emph = λ is all place after e flat space last. absurd (cc (sym (ap (λ (j : Judged). j.has_emphasis) (emph-judged rules is)) ∙ flat));
+    strong = λ is all place after e flat space last. absurd (cc (sym (ap (λ (j : Judged). j.has_emphasis) (strong-judged rules is)) ∙ flat));
+    strike = λ is all place after e flat space last. absurd (cc (sym (ap (λ (j : Judged). j.has_emphasis) (strike-judged rules is)) ∙ flat));
     link = λ dest title is all place after e flat space last. inner-told (Link dest title is) _ (link-spelled dest title is) last
         (starts-with 91 _ (record { no_star = refl; no_tilde = refl; no_space = refl; no_tab = refl; no_line_feed = refl }));
     image = λ dest title is all place after e flat space last. inner-told (Image dest title is) _ (image-spelled dest title is) last

@@ -15,7 +15,8 @@ use Rattle.cm_scan.specs.Links.{Reading, behind, keep_if, escapes_next, closed_b
 use Rattle.cm_source.specs.Inlines.{Spelled, spelled, join, is_line_end, between}
 use Rattle.cm_source.specs.Texts.{numbered, edge_byte, spelled_text, longest_run, is_padded, padding, spelled_code, spelled_target, spelled_bytes, spelled_title}
 use Rattle.cm_source.specs.InlineRefusals.{Face, Place, Judged, judged, further_in, inside_link, first_face, refusal_of_all, ends_a_label}
-use Rattle.cm_source.proofs.AcceptedLemmas.{or-none, Accepted, text-spelled, code-spelled, html-spelled, soft-spelled, hard-spelled, emph-spelled, strong-spelled, strike-spelled, link-spelled, image-spelled, text-accepted, code-accepted, html-accepted, emph-accepted, strong-accepted, strike-accepted, link-accepted, image-accepted}
+use Rattle.cm_source.proofs.InlineKinds.{text-spelled, code-spelled, html-spelled, soft-spelled, hard-spelled, emph-spelled, strong-spelled, strike-spelled, link-spelled, image-spelled}
+use Rattle.cm_source.proofs.AcceptedLemmas.{or-none, Accepted, text-accepted, code-accepted, html-accepted, emph-accepted, strong-accepted, strike-accepted, link-accepted, image-accepted}
 use Rattle.cm_source.proofs.InlineInduction.{AllHold, Cases, by-cases, all-by-cases}
 use Rattle.cm_source.proofs.LineFronts.{differs, differs'}
 use Rattle.cm_source.proofs.SpelledBytes.{all-both, all-so, all-digits, ByteForm, by_number, escaped, itself, edge-form}

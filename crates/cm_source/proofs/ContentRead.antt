@@ -7,7 +7,7 @@ use Rattle.cm_tree.specs.declared.tree.Inline.{Inline}
 use Rattle.cm_tree.specs.declared.tree.Inline.TheVariants.{Text, Code, Html, Soft, Hard, Link, Image}
 use Rattle.cm_scan.specs.Words.{is_empty, begins_with, run_length, after_run, after_word}
 use Rattle.cm_scan.specs.Delimiters.{Run}
-use Rattle.cm_scan.specs.Pairing.{Item, Characters, Finished, Linked, Delimiters, Opener, emphasis_of}
+use Rattle.cm_scan.specs.Pairing.{Item, Characters, Finished, Linked, Delimiters, Opener, emphasis_of, emphasised}
 use Rattle.cm_scan.specs.Pieces.{one_by_one}
 use Rattle.cm_scan.specs.Atoms.{AtomRead, Plain, Whole, Delimiter, OpenBracket, read, or_byte, backslash_atom, break_atom, run_between, run_atom, tilde_atom, bang_atom, markup_atom, atom_at}
 use Rattle.cm_scan.specs.Brackets.{Defined, Bracketed, LinkEnd, link_end, OpenerFound, last_opener, is_linked, holds_link, made, bracket_is_text, brackets_are_text, source_up_to, end_at, closed_by_bracket, close_bracket}
@@ -19,14 +19,33 @@ use Rattle.cm_source.specs.Inlines.{is_line_end, join, spelled, spelled_inlines,
 use Rattle.cm_source.specs.InlineRefusals.{has_nul, is_text, first_face, hold_link, Judged, judged}
 use Rattle.cm_source.specs.InlineRefusals as refusals
 use Rattle.cm_source.specs.ContentBack.{Mark, Star, TwoStars, TwoTildes, character_of, count_of, written, is_known, IsBetween, Fits, FitsText, FitsCode, FitsHtml, FitsSoft, FitsHard, FitsEmphasis, FitsLink, FitsImage, FitsAll, FitsNone, FitsNext, ContentReadsBack}
-use Rattle.cm_source.proofs.SpellLemmas.{link-is, image-is}
 use Rattle.cm_source.proofs.BytesRead.{ReadsAs, left_with, atom_left, run_none, step_read, atom_step, reads_nothing, reads_then, reads_text}
 use Rattle.cm_source.proofs.CodesRead.{atom_code}
 use Rattle.cm_source.proofs.TagsRead.{some_tag, atom_tag}
 use Rattle.cm_source.proofs.TargetsRead.{end_read}
-use Rattle.cm_source.proofs.InlineKinds.{text_is, code_is, html_is, soft_is, hard_is, marked_is, Seen, text_seen, code_seen, html_seen, soft_seen, hard_seen, marked_seen, link_seen, image_seen}
+use Rattle.cm_source.proofs.InlineKinds.{text-judged, code-judged, html-judged, soft-judged, hard-judged, emph-judged, strong-judged, strike-judged, link-judged, image-judged, text-spelled, code-spelled, html-spelled, soft-spelled, hard-spelled, emph-spelled, strong-spelled, strike-spelled, link-spelled, image-spelled, its-spelling}
 use Rattle.cm_source.proofs.Shapes.{Shape, Nothing, Bytes, Marked, opening, closing, emphasis, emphasis_is}
 use Rattle.cm_source.proofs.Shapes as shape
+
+-- ---- how an inline is seen and spelled
+
+-- whether it is a text, and whether it is or holds a link
+record Seen (rules : Rules) (inline : Inline) (as_text as_link : Bool) : Type 0 where
+  text : is_text (Some (judged rules inline).face) ≡ as_text
+  link : (judged rules inline).has_link ≡ as_link
+
+seen-as : (rules : Rules) {inline : Inline} {j : Judged} → judged rules inline ≡ j → Seen rules inline (is_text (Some j.face)) j.has_link
+seen-as rules e = record { text = ap (λ (j : Judged). is_text (Some j.face)) e; link = ap (λ (j : Judged). j.has_link) e }
+
+marked_seen : (rules : Rules) (mark : Mark) (content : List Inline) → Seen rules (emphasised (character_of mark) (count_of mark) content) false (hold_link (map (judged rules) content))
+marked_seen rules Star content = seen-as rules (emph-judged rules content)
+marked_seen rules TwoStars content = seen-as rules (strong-judged rules content)
+marked_seen rules TwoTildes content = seen-as rules (strike-judged rules content)
+
+marked_is : (mark : Mark) (content : List Inline) (first last : Bool) → (spelled (emphasised (character_of mark) (count_of mark) content)).spelling first last ≡ written mark ++ spelled_inlines false false content ++ written mark
+marked_is Star content first last = its-spelling (emph-spelled content) first last
+marked_is TwoStars content first last = its-spelling (strong-spelled content) first last
+marked_is TwoTildes content first last = its-spelling (strike-spelled content) first last
 
 -- ---- items without brackets
 
@@ -262,7 +281,7 @@ module _ (rules : Rules) (defined : Defined) where
   read_text : (runs first last : Bool) (before text rest : List ℕ) → is_empty text ≡ false → has_nul text ≡ false → (last ≡ false → begins_with 10 (after_run 32 rest) ≡ false)
       → IsRead runs before (spelled_text first last text) rest (Text text)
   read_text runs first last before text rest some free line =
-      let seen = text_seen rules text in
+      let seen = seen-as rules (text-judged rules text) in
       record {
         items = one_by_one text;
         shaped = λ text_first inlines others e s.
@@ -312,7 +331,7 @@ module _ (rules : Rules) (defined : Defined) where
       → AreRead true (91 ∷ before) front (spelled_target dest title ++ rest) content
       → IsRead runs before (codes "[" ++ (front ++ spelled_target dest title)) rest (Link dest title content)
   read_link runs before front rest dest title content d t none inner =
-      linked_item runs before (codes "[" ++ (front ++ spelled_target dest title)) rest (Link dest title content) true (link_seen rules dest title content)
+      linked_item runs before (codes "[" ++ (front ++ spelled_target dest title)) rest (Link dest title content) true (seen-as rules (link-judged rules dest title content))
       (subst (λ c. ReadsAs rules defined before (codes "[" ++ (front ++ spelled_target dest title)) rest (Linked (Link dest title c) ∷ [])) (emphasis_is inner.shaped)
       (reads_brackets before front dest title rest inner.items false inner.brackets (inner.links ∙ none) d t inner.reads)) refl
 
@@ -334,17 +353,17 @@ module _ (rules : Rules) (defined : Defined) where
       linked = hold_link (map (judged rules) content)
 
       go : (t : Bool) → t ≡ linked → ReadsAs rules defined before whole rest ((if t then Linked image else Finished image) ∷ []) → IsRead runs before whole rest image
-      go true e reads = linked_item runs before whole rest image linked (image_seen rules dest title content) reads (sym e)
-      go false e reads = one_item runs before whole rest image linked (image_seen rules dest title content) reads (sym e)
+      go true e reads = linked_item runs before whole rest image linked (seen-as rules (image-judged rules dest title content)) reads (sym e)
+      go false e reads = one_item runs before whole rest image linked (seen-as rules (image-judged rules dest title content)) reads (sym e)
 
   read_html : (runs : Bool) (before text rest : List ℕ) → refusals.is_one_tag rules text ≡ true → IsRead runs before text rest (Html text)
   read_html runs before [] rest e = absurd (some_tag rules e)
-  read_html runs before (b ∷ bs) rest e = one_item runs before (b ∷ bs) rest (Html (b ∷ bs)) false (html_seen rules (b ∷ bs)) (reads_whole before b bs rest (Html (b ∷ bs)) (atom_tag rules before b bs rest e)) refl
+  read_html runs before (b ∷ bs) rest e = one_item runs before (b ∷ bs) rest (Html (b ∷ bs)) false (seen-as rules (html-judged rules (b ∷ bs))) (reads_whole before b bs rest (Html (b ∷ bs)) (atom_tag rules before b bs rest e)) refl
 
   read_code : (runs : Bool) (before text rest : List ℕ) → is_empty text ≡ false → refusals.has_line_ending text ≡ false → begins_with 96 rest ≡ false → IsRead runs before (spelled_code text) rest (Code text)
   unfolding spelled_code
   read_code runs before text rest some line ends =
-      one_item runs before (spelled_code text) rest (Code text) false (code_seen rules text) (reads_whole before 96 (drop 1 (spelled_code text)) rest (Code text) (atom_code rules before text rest some line ends)) refl
+      one_item runs before (spelled_code text) rest (Code text) false (seen-as rules (code-judged rules text)) (reads_whole before 96 (drop 1 (spelled_code text)) rest (Code text) (atom_code rules before text rest some line ends)) refl
 
   mutual
     unfolding NoBrackets holds_link
@@ -352,22 +371,22 @@ module _ (rules : Rules) (defined : Defined) where
     read_one : {emphasised first last : Bool} {before : List ℕ} {inline : Inline} {rest : List ℕ} → Fits rules emphasised first last before inline rest
         → IsRead emphasised before ((spelled inline).spelling first last) rest inline
     read_one {emphasised} {first} {last} {before} {inline} {rest} (FitsText {text = text} some free line) =
-        subst (λ t. IsRead emphasised before t rest (Text text)) (sym (text_is text first last)) (read_text emphasised first last before text rest some free line)
+        subst (λ t. IsRead emphasised before t rest (Text text)) (sym (its-spelling (text-spelled text) first last)) (read_text emphasised first last before text rest some free line)
     read_one {emphasised} {first} {last} {before} {inline} {rest} (FitsCode {text = text} some line ends) =
-        subst (λ t. IsRead emphasised before t rest (Code text)) (sym (code_is text first last)) (read_code emphasised before text rest some line ends)
+        subst (λ t. IsRead emphasised before t rest (Code text)) (sym (its-spelling (code-spelled text) first last)) (read_code emphasised before text rest some line ends)
     read_one {emphasised} {first} {last} {before} {inline} {rest} (FitsHtml {text = text} tag) =
-        subst (λ t. IsRead emphasised before t rest (Html text)) (sym (html_is text first last)) (read_html emphasised before text rest tag)
+        subst (λ t. IsRead emphasised before t rest (Html text)) (sym (its-spelling (html-spelled text) first last)) (read_html emphasised before text rest tag)
     read_one {emphasised} {first} {last} {before} {inline} {rest} FitsSoft =
-        subst (λ t. IsRead emphasised before t rest Soft) (sym (soft_is first last)) (one_item emphasised before (10 ∷ []) rest Soft false (soft_seen rules) (reads_whole before 10 [] rest Soft (atom_soft rules before rest)) refl)
+        subst (λ t. IsRead emphasised before t rest Soft) (sym (its-spelling soft-spelled first last)) (one_item emphasised before (10 ∷ []) rest Soft false (seen-as rules (soft-judged rules)) (reads_whole before 10 [] rest Soft (atom_soft rules before rest)) refl)
     read_one {emphasised} {first} {last} {before} {inline} {rest} FitsHard =
-        subst (λ t. IsRead emphasised before t rest Hard) (sym (hard_is first last)) (one_item emphasised before (92 ∷ 10 ∷ []) rest Hard false (hard_seen rules) (reads_whole before 92 (10 ∷ []) rest Hard (atom_hard rules before rest)) refl)
+        subst (λ t. IsRead emphasised before t rest Hard) (sym (its-spelling hard-spelled first last)) (one_item emphasised before (92 ∷ 10 ∷ []) rest Hard false (seen-as rules (hard-judged rules)) (reads_whole before 92 (10 ∷ []) rest Hard (atom_hard rules before rest)) refl)
     read_one {emphasised} {first} {last} {before} {inline} {rest} (FitsEmphasis {content = content} mark between fits) =
         subst (λ t. IsRead true before t rest (emphasis mark content)) (sym (marked_is mark content first last)) (read_marked mark before (spelled_inlines false false content) rest content between (read_all fits))
     read_one {emphasised} {first} {last} {before} {inline} {rest} (FitsLink {dest = dest} {title = title} {content = content} d t none fits) =
-        subst (λ s. IsRead emphasised before s rest (Link dest title content)) (sym (link-is dest title content first last ∙ append_assoc (codes "[") (spelled_inlines false false content) (spelled_target dest title)))
+        subst (λ s. IsRead emphasised before s rest (Link dest title content)) (sym (its-spelling (link-spelled dest title content) first last ∙ append_assoc (codes "[") (spelled_inlines false false content) (spelled_target dest title)))
         (read_link emphasised before (spelled_inlines false false content) rest dest title content d t none (read_all fits))
     read_one {emphasised} {first} {last} {before} {inline} {rest} (FitsImage {dest = dest} {title = title} {content = content} d t fits) =
-        subst (λ s. IsRead emphasised before s rest (Image dest title content)) (sym (image-is dest title content first last ∙ append_assoc (codes "![") (spelled_inlines false false content) (spelled_target dest title)))
+        subst (λ s. IsRead emphasised before s rest (Image dest title content)) (sym (its-spelling (image-spelled dest title content) first last ∙ append_assoc (codes "![") (spelled_inlines false false content) (spelled_target dest title)))
         (read_image emphasised before (spelled_inlines false false content) rest dest title content d t (read_all fits))
 
     read_all : {emphasised first last : Bool} {before : List ℕ} {inlines : List Inline} {rest : List ℕ} → FitsAll rules emphasised first last before inlines rest

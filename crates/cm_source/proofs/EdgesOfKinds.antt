@@ -21,11 +21,11 @@ use Rattle.cm_source.specs.Inlines as spelling
 use Rattle.cm_source.specs.InlineRefusals.{Face, TextFace, CodeFace, BreakFace, EmphasisFace, OtherFace, is_text, is_code, is_break, is_emphasis, is_none, is_one_tag, Place, Judged, emphasis, judged}
 use Rattle.cm_source.specs.InlineRefusals as refusals
 use Rattle.cm_source.specs.Utf8Inlines.{has_utf8}
-use Rattle.cm_source.proofs.RefusalLemmas.{emph-is, strong-is, strike-is, link-is, image-is}
+use Rattle.cm_source.proofs.InlineKinds.{text-judged, code-judged, html-judged, soft-judged, hard-judged, emph-judged, strong-judged, strike-judged, link-judged, image-judged, text-spelled, code-spelled, html-spelled, soft-spelled, hard-spelled, emph-spelled, strong-spelled, strike-spelled, link-spelled, image-spelled, text-strings}
 use Rattle.cm_source.proofs.InlineInduction.{Cases, by-cases}
-use Rattle.cm_source.proofs.AcceptedLemmas.{Accepted, text-judged, code-judged, html-judged, soft-judged, hard-judged, text-spelled, code-spelled, html-spelled, soft-spelled, hard-spelled, emph-spelled, strong-spelled, strike-spelled, link-spelled, image-spelled, text-accepted, code-accepted, html-accepted, soft-accepted, hard-accepted, emph-accepted, strong-accepted, strike-accepted}
+use Rattle.cm_source.proofs.AcceptedLemmas.{Accepted, text-accepted, code-accepted, html-accepted, soft-accepted, hard-accepted, emph-accepted, strong-accepted, strike-accepted}
 use Rattle.cm_source.proofs.Neighbours.{text-begins, text-ends}
-use Rattle.cm_source.proofs.SpelledUtf8.{text-strings, inline-utf8}
+use Rattle.cm_source.proofs.SpelledUtf8.{inline-utf8}
 use Rattle.cm_source.proofs.InlineEdges.{Shows, shows-punctuation, shows-feed, beside-shows, Ends, Facts, Bytes, by-bytes, text-hidden, tick-hidden, star-hidden, tilde-hidden}
 
 -- ---- a tag begins with `<` and ends with `>`
@@ -285,26 +285,26 @@ module _ (rules : Rules) where
         hard-ends (so-spelled Hard (spelling.inline_step inline.Hard) hard-spelled all));
     emph = λ content hold place before after e all.
         let a = emph-accepted rules place before after content e in
-        known-emphasis false (Emph content) content (codes "*") 42 [] [] before after (emph-is rules content) (emph-spelled content) all refl refl
+        known-emphasis false (Emph content) content (codes "*") 42 [] [] before after (emph-judged rules content) (emph-spelled content) all refl refl
         (emphasis-bytes rules before after 42 (omega arith) refl refl refl refl a.apart);
     strong = λ content hold place before after e all.
         let a = strong-accepted rules place before after content e in
-        known-emphasis false (Strong content) content (codes "**") 42 (42 ∷ []) (42 ∷ []) before after (strong-is rules content) (strong-spelled content) all refl refl
+        known-emphasis false (Strong content) content (codes "**") 42 (42 ∷ []) (42 ∷ []) before after (strong-judged rules content) (strong-spelled content) all refl refl
         (emphasis-bytes rules before after 42 (omega arith) refl refl refl refl a.apart);
     strike = λ content hold place before after e all.
         let a = strike-accepted rules place before after content e in
-        known-emphasis true (Strike content) content (codes "~~") 126 (126 ∷ []) (126 ∷ []) before after (strike-is rules content) (strike-spelled content) all refl refl
+        known-emphasis true (Strike content) content (codes "~~") 126 (126 ∷ []) (126 ∷ []) before after (strike-judged rules content) (strike-spelled content) all refl refl
         (emphasis-bytes rules before after 126 (omega arith) refl refl refl refl a.apart);
     link = λ dest title content hold place before after e all.
         let s = between (codes "[") (map spelled content) (spelled_target dest title) in
         as-said (judged rules (Link dest title content)) (refusals.inline_step rules (inline.Link dest title (map (judged rules) content))) (spelled (Link dest title content)) s before after
-        (link-is rules dest title content) (link-spelled dest title content)
+        (link-judged rules dest title content) (link-spelled dest title content)
         (by-bytes rules OtherFace s.spelling false before after 91 41 (other-bytes rules before after 91 41 (omega arith) (omega arith) refl refl refl refl refl refl refl)
         (link-ends dest title (map spelled content)) (so-spelled (Link dest title content) s (link-spelled dest title content) all));
     image = λ dest title content hold place before after e all.
         let s = between (codes "![") (map spelled content) (spelled_target dest title) in
         as-said (judged rules (Image dest title content)) (refusals.inline_step rules (inline.Image dest title (map (judged rules) content))) (spelled (Image dest title content)) s before after
-        (image-is rules dest title content) (image-spelled dest title content)
+        (image-judged rules dest title content) (image-spelled dest title content)
         (by-bytes rules OtherFace s.spelling false before after 33 41 (other-bytes rules before after 33 41 (omega arith) (omega arith) refl refl refl refl refl refl refl)
         (image-ends dest title (map spelled content)) (so-spelled (Image dest title content) s (image-spelled dest title content) all));
   }

@@ -18,11 +18,11 @@ use Rattle.cm_source.specs.InlineRefusals.{Face, is_text, is_code, is_break, is_
 use Rattle.cm_source.specs.ContentBack.{Mark, Star, TwoStars, TwoTildes, character_of, count_of, written, is_known, IsBetween, is_before_line_end, Fits, FitsText, FitsCode, FitsHtml, FitsSoft, FitsHard, FitsEmphasis, FitsLink, FitsImage, FitsAll, FitsNone, FitsNext}
 use Rattle.cm_source.specs.Utf8Inlines.{all_of, has_utf8}
 use Rattle.cm_source.specs.Fitting.{ParagraphsFit, HeadingsFit}
-use Rattle.cm_source.proofs.RefusalLemmas.{emph-is, strong-is, strike-is, link-is, image-is}
+use Rattle.cm_source.proofs.InlineKinds.{text-judged, code-judged, html-judged, soft-judged, hard-judged, emph-judged, strong-judged, strike-judged, link-judged, image-judged, emph-strings, strong-strings, strike-strings, link-strings, image-strings}
 use Rattle.cm_source.proofs.InlineInduction.{AllHold, Cases, by-cases, all-by-cases}
-use Rattle.cm_source.proofs.AcceptedLemmas.{or-none, Accepted, EmphasisAccepted, text-judged, code-judged, html-judged, soft-judged, hard-judged, text-accepted, code-accepted, html-accepted, emph-accepted, strong-accepted, strike-accepted, link-accepted, image-accepted}
+use Rattle.cm_source.proofs.AcceptedLemmas.{or-none, Accepted, EmphasisAccepted, text-accepted, code-accepted, html-accepted, emph-accepted, strong-accepted, strike-accepted, link-accepted, image-accepted}
 use Rattle.cm_source.proofs.Neighbours.{is_blank, ascii-utf8, first-ascii, last-ascii}
-use Rattle.cm_source.proofs.SpelledUtf8.{emph-strings, strong-strings, strike-strings, link-strings, image-strings, inline-utf8}
+use Rattle.cm_source.proofs.SpelledUtf8.{inline-utf8}
 use Rattle.cm_source.proofs.InlineEdges.{second-fails, Shows, shows-punctuation, further-utf8, no-line-end}
 use Rattle.cm_source.proofs.EdgesOfKinds.{known}
 
@@ -37,11 +37,11 @@ held-cases rules = record {
   html = λ text. subst IsHeld (sym (html-judged rules text)) refl;
   soft = subst IsHeld (sym (soft-judged rules)) refl;
   hard = subst IsHeld (sym (hard-judged rules)) refl;
-  emph = λ content hold. subst IsHeld (sym (emph-is rules content)) refl;
-  strong = λ content hold. subst IsHeld (sym (strong-is rules content)) refl;
-  strike = λ content hold. subst IsHeld (sym (strike-is rules content)) refl;
-  link = λ dest title content hold. subst IsHeld (sym (link-is rules dest title content)) refl;
-  image = λ dest title content hold. subst IsHeld (sym (image-is rules dest title content)) refl;
+  emph = λ content hold. subst IsHeld (sym (emph-judged rules content)) refl;
+  strong = λ content hold. subst IsHeld (sym (strong-judged rules content)) refl;
+  strike = λ content hold. subst IsHeld (sym (strike-judged rules content)) refl;
+  link = λ dest title content hold. subst IsHeld (sym (link-judged rules dest title content)) refl;
+  image = λ dest title content hold. subst IsHeld (sym (image-judged rules dest title content)) refl;
 }
 
 not-emphasis : (rules : Rules) (i : Inline) → (judged rules i).has_emphasis ≡ false → is_emphasis (Some (judged rules i).face) ≡ false
@@ -343,14 +343,14 @@ module _ (rules : Rules) where
     soft = λ place behind ahead emphasis first last before rest e all may b. FitsSoft;
     hard = λ place behind ahead emphasis first last before rest e all may b. FitsHard;
     emph = λ content hold place behind ahead emphasis first last before rest e all may b.
-        mark-fits Star false content hold (judged rules (Emph content)) (ap (λ (j : Judged). j.has_emphasis) (emph-is rules content)) (ap (λ (j : Judged). is_emphasis (Some j.face)) (emph-is rules content))
+        mark-fits Star false content hold (judged rules (Emph content)) (ap (λ (j : Judged). j.has_emphasis) (emph-judged rules content)) (ap (λ (j : Judged). is_emphasis (Some j.face)) (emph-judged rules content))
         place behind ahead emphasis first last before rest (emph-accepted rules place behind ahead content e) refl (sym (emph-strings content) ∙ all) may b;
     strong = λ content hold place behind ahead emphasis first last before rest e all may b.
-        mark-fits TwoStars false content hold (judged rules (Strong content)) (ap (λ (j : Judged). j.has_emphasis) (strong-is rules content)) (ap (λ (j : Judged). is_emphasis (Some j.face)) (strong-is rules content))
+        mark-fits TwoStars false content hold (judged rules (Strong content)) (ap (λ (j : Judged). j.has_emphasis) (strong-judged rules content)) (ap (λ (j : Judged). is_emphasis (Some j.face)) (strong-judged rules content))
         place behind ahead emphasis first last before rest (strong-accepted rules place behind ahead content e) refl (sym (strong-strings content) ∙ all) may b;
     strike = λ content hold place behind ahead emphasis first last before rest e all may b.
         let a = strike-accepted rules place behind ahead content e in
-        mark-fits TwoTildes true content hold (judged rules (Strike content)) (ap (λ (j : Judged). j.has_emphasis) (strike-is rules content)) (ap (λ (j : Judged). is_emphasis (Some j.face)) (strike-is rules content))
+        mark-fits TwoTildes true content hold (judged rules (Strike content)) (ap (λ (j : Judged). j.has_emphasis) (strike-judged rules content)) (ap (λ (j : Judged). is_emphasis (Some j.face)) (strike-judged rules content))
         place behind ahead emphasis first last before rest a (not-false rules.strike a.enabled) (sym (strike-strings content) ∙ all) may b;
     link = λ dest title content hold place behind ahead emphasis first last before rest e all may b.
         let a = link-accepted rules place behind ahead dest title content e in

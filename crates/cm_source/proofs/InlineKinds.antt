@@ -1,66 +1,116 @@
--- Inlines by their kinds: how each is spelled, and how others see it.
-use Rattle.std.proofs.Common.{◌≡◌, ℕ, Bool, true, false, List, ◌++◌, map, Some}
-use Rattle.std.specs.Prelude.{codes}
+-- Inlines by their kinds: how each is judged and spelled, and whether its strings are UTF-8.
+use Rattle.std.proofs.Common.{◌≡◌, ℕ, Bool, true, false, ◌&&◌, List, map, Some, codes, ap}
+use Rattle.std.specs.Str.{is_utf8}
 use Rattle.cm_text.specs.Rules.{Rules}
 use Rattle.cm_tree.specs.declared.tree.Inline.{Inline}
-use Rattle.cm_tree.specs.declared.tree.Inline.TheVariants.{Text, Code, Html, Soft, Hard, Link, Image}
+use Rattle.cm_tree.specs.declared.tree.Inline.TheOpen as inline
+use Rattle.cm_tree.specs.declared.tree.Inline.TheVariants.{Text, Code, Html, Soft, Hard, Emph, Strong, Strike, Link, Image}
 use Rattle.cm_tree.specs.declared.tree.Inline.TheViews.{outs-Text, outs-Code, outs-Html, outs-Soft, outs-Hard, outs-Emph, outs-Strong, outs-Strike, outs-Link, outs-Image}
 use Rattle.cm_tree.specs.declared.tree.Inline.TheFolds.{fold_out-Inline}
-use Rattle.cm_scan.specs.Pairing.{emphasised}
-use Rattle.cm_source.specs.Texts.{spelled_text, spelled_code}
-use Rattle.cm_source.specs.Inlines.{Spelled, inline_step, spelled, spelled_inlines}
-use Rattle.cm_source.specs.InlineRefusals.{is_text, hold_link, Judged, inline_step as judged_step, judged}
-use Rattle.cm_source.specs.ContentBack.{Mark, Star, TwoStars, TwoTildes, character_of, count_of, written}
-use Rattle.cm_source.proofs.SpellLemmas.{emph-is, strong-is, strike-is}
+use Rattle.cm_source.specs.Texts.{spelled_target}
+use Rattle.cm_source.specs.Inlines.{Spelled, spelled, between}
+use Rattle.cm_source.specs.Inlines as spelling
+use Rattle.cm_source.specs.InlineRefusals.{is_text, Judged, emphasis, judged}
+use Rattle.cm_source.specs.InlineRefusals as refusals
+use Rattle.cm_source.specs.Utf8Inlines.{all_of, utf8_step, has_utf8}
 
-pub text_is : (text : List ℕ) (first last : Bool) → (spelled (Text text)).spelling first last ≡ spelled_text first last text
-text_is text first last = simp (fold_out-Inline Spelled inline_step, outs-Text)
-
-pub code_is : (text : List ℕ) (first last : Bool) → (spelled (Code text)).spelling first last ≡ spelled_code text
-code_is text first last = simp (fold_out-Inline Spelled inline_step, outs-Code)
-
-pub html_is : (text : List ℕ) (first last : Bool) → (spelled (Html text)).spelling first last ≡ text
-html_is text first last = simp (fold_out-Inline Spelled inline_step, outs-Html)
-
-pub soft_is : (first last : Bool) → (spelled Soft).spelling first last ≡ codes "\n"
-soft_is first last = simp (fold_out-Inline Spelled inline_step, outs-Soft)
-
-pub hard_is : (first last : Bool) → (spelled Hard).spelling first last ≡ codes "\\\n"
-hard_is first last = simp (fold_out-Inline Spelled inline_step, outs-Hard)
-
-pub marked_is : (mark : Mark) (content : List Inline) (first last : Bool) → (spelled (emphasised (character_of mark) (count_of mark) content)).spelling first last ≡ written mark ++ spelled_inlines false false content ++ written mark
-marked_is Star content first last = emph-is content first last
-marked_is TwoStars content first last = strong-is content first last
-marked_is TwoTildes content first last = strike-is content first last
-
--- how others see them: whether an inline is a text, and whether it is or holds a link
-pub record Seen (rules : Rules) (inline : Inline) (as_text as_link : Bool) : Type 0 where
-  pub text : is_text (Some (judged rules inline).face) ≡ as_text
-  pub link : (judged rules inline).has_link ≡ as_link
+-- how each is judged
 
 module _ (rules : Rules) where
-  pub text_seen : (text : List ℕ) → Seen rules (Text text) true false
-  text_seen text = record { text = simp (fold_out-Inline Judged (judged_step rules), outs-Text); link = simp (fold_out-Inline Judged (judged_step rules), outs-Text) }
+  pub text-judged : (text : List ℕ) → judged rules (Text text) ≡ refusals.inline_step rules (inline.Text text)
+  text-judged text = simp (fold_out-Inline Judged (refusals.inline_step rules), outs-Text)
 
-  pub code_seen : (text : List ℕ) → Seen rules (Code text) false false
-  code_seen text = record { text = simp (fold_out-Inline Judged (judged_step rules), outs-Code); link = simp (fold_out-Inline Judged (judged_step rules), outs-Code) }
+  pub code-judged : (text : List ℕ) → judged rules (Code text) ≡ refusals.inline_step rules (inline.Code text)
+  code-judged text = simp (fold_out-Inline Judged (refusals.inline_step rules), outs-Code)
 
-  pub html_seen : (text : List ℕ) → Seen rules (Html text) false false
-  html_seen text = record { text = simp (fold_out-Inline Judged (judged_step rules), outs-Html); link = simp (fold_out-Inline Judged (judged_step rules), outs-Html) }
+  pub html-judged : (text : List ℕ) → judged rules (Html text) ≡ refusals.inline_step rules (inline.Html text)
+  html-judged text = simp (fold_out-Inline Judged (refusals.inline_step rules), outs-Html)
 
-  pub soft_seen : Seen rules Soft false false
-  soft_seen = record { text = simp (fold_out-Inline Judged (judged_step rules), outs-Soft); link = simp (fold_out-Inline Judged (judged_step rules), outs-Soft) }
+  pub soft-judged : judged rules Soft ≡ refusals.inline_step rules inline.Soft
+  soft-judged = simp (fold_out-Inline Judged (refusals.inline_step rules), outs-Soft)
 
-  pub hard_seen : Seen rules Hard false false
-  hard_seen = record { text = simp (fold_out-Inline Judged (judged_step rules), outs-Hard); link = simp (fold_out-Inline Judged (judged_step rules), outs-Hard) }
+  pub hard-judged : judged rules Hard ≡ refusals.inline_step rules inline.Hard
+  hard-judged = simp (fold_out-Inline Judged (refusals.inline_step rules), outs-Hard)
 
-  pub marked_seen : (mark : Mark) (content : List Inline) → Seen rules (emphasised (character_of mark) (count_of mark) content) false (hold_link (map (judged rules) content))
-  marked_seen Star content = record { text = simp (fold_out-Inline Judged (judged_step rules), outs-Emph); link = simp (fold_out-Inline Judged (judged_step rules), outs-Emph) }
-  marked_seen TwoStars content = record { text = simp (fold_out-Inline Judged (judged_step rules), outs-Strong); link = simp (fold_out-Inline Judged (judged_step rules), outs-Strong) }
-  marked_seen TwoTildes content = record { text = simp (fold_out-Inline Judged (judged_step rules), outs-Strike); link = simp (fold_out-Inline Judged (judged_step rules), outs-Strike) }
+  pub emph-judged : (content : List Inline) → judged rules (Emph content) ≡ emphasis rules false (map (judged rules) content)
+  emph-judged content = simp (fold_out-Inline Judged (refusals.inline_step rules), outs-Emph)
 
-  pub link_seen : (dest title : List ℕ) (content : List Inline) → Seen rules (Link dest title content) false true
-  link_seen dest title content = record { text = simp (fold_out-Inline Judged (judged_step rules), outs-Link); link = simp (fold_out-Inline Judged (judged_step rules), outs-Link) }
+  pub strong-judged : (content : List Inline) → judged rules (Strong content) ≡ emphasis rules false (map (judged rules) content)
+  strong-judged content = simp (fold_out-Inline Judged (refusals.inline_step rules), outs-Strong)
 
-  pub image_seen : (dest title : List ℕ) (content : List Inline) → Seen rules (Image dest title content) false (hold_link (map (judged rules) content))
-  image_seen dest title content = record { text = simp (fold_out-Inline Judged (judged_step rules), outs-Image); link = simp (fold_out-Inline Judged (judged_step rules), outs-Image) }
+  pub strike-judged : (content : List Inline) → judged rules (Strike content) ≡ emphasis rules true (map (judged rules) content)
+  strike-judged content = simp (fold_out-Inline Judged (refusals.inline_step rules), outs-Strike)
+
+  pub link-judged : (dest title : List ℕ) (content : List Inline) → judged rules (Link dest title content) ≡ refusals.inline_step rules (inline.Link dest title (map (judged rules) content))
+  link-judged dest title content = simp (fold_out-Inline Judged (refusals.inline_step rules), outs-Link)
+
+  pub image-judged : (dest title : List ℕ) (content : List Inline) → judged rules (Image dest title content) ≡ refusals.inline_step rules (inline.Image dest title (map (judged rules) content))
+  image-judged dest title content = simp (fold_out-Inline Judged (refusals.inline_step rules), outs-Image)
+
+-- how each is spelled
+
+pub text-spelled : (text : List ℕ) → spelled (Text text) ≡ spelling.inline_step (inline.Text text)
+text-spelled text = simp (fold_out-Inline Spelled spelling.inline_step, outs-Text)
+
+pub code-spelled : (text : List ℕ) → spelled (Code text) ≡ spelling.inline_step (inline.Code text)
+code-spelled text = simp (fold_out-Inline Spelled spelling.inline_step, outs-Code)
+
+pub html-spelled : (text : List ℕ) → spelled (Html text) ≡ spelling.inline_step (inline.Html text)
+html-spelled text = simp (fold_out-Inline Spelled spelling.inline_step, outs-Html)
+
+pub soft-spelled : spelled Soft ≡ spelling.inline_step inline.Soft
+soft-spelled = simp (fold_out-Inline Spelled spelling.inline_step, outs-Soft)
+
+pub hard-spelled : spelled Hard ≡ spelling.inline_step inline.Hard
+hard-spelled = simp (fold_out-Inline Spelled spelling.inline_step, outs-Hard)
+
+pub emph-spelled : (content : List Inline) → spelled (Emph content) ≡ between (codes "*") (map spelled content) (codes "*")
+emph-spelled content = simp (fold_out-Inline Spelled spelling.inline_step, outs-Emph)
+
+pub strong-spelled : (content : List Inline) → spelled (Strong content) ≡ between (codes "**") (map spelled content) (codes "**")
+strong-spelled content = simp (fold_out-Inline Spelled spelling.inline_step, outs-Strong)
+
+pub strike-spelled : (content : List Inline) → spelled (Strike content) ≡ between (codes "~~") (map spelled content) (codes "~~")
+strike-spelled content = simp (fold_out-Inline Spelled spelling.inline_step, outs-Strike)
+
+pub link-spelled : (dest title : List ℕ) (content : List Inline) → spelled (Link dest title content) ≡ between (codes "[") (map spelled content) (spelled_target dest title)
+link-spelled dest title content = simp (fold_out-Inline Spelled spelling.inline_step, outs-Link)
+
+pub image-spelled : (dest title : List ℕ) (content : List Inline) → spelled (Image dest title content) ≡ between (codes "![") (map spelled content) (spelled_target dest title)
+image-spelled dest title content = simp (fold_out-Inline Spelled spelling.inline_step, outs-Image)
+
+-- at the beginning and at the end of a line or not
+pub its-spelling : {s t : Spelled} → s ≡ t → (first last : Bool) → s.spelling first last ≡ t.spelling first last
+its-spelling e first last = ap (λ (spelled : Spelled). spelled.spelling first last) e
+
+-- the strings of each
+
+pub text-strings : (text : List ℕ) → has_utf8 (Text text) ≡ is_utf8 text
+text-strings text = simp (fold_out-Inline Bool utf8_step, outs-Text)
+
+pub code-strings : (text : List ℕ) → has_utf8 (Code text) ≡ is_utf8 text
+code-strings text = simp (fold_out-Inline Bool utf8_step, outs-Code)
+
+pub html-strings : (text : List ℕ) → has_utf8 (Html text) ≡ is_utf8 text
+html-strings text = simp (fold_out-Inline Bool utf8_step, outs-Html)
+
+pub soft-strings : has_utf8 Soft ≡ true
+soft-strings = simp (fold_out-Inline Bool utf8_step, outs-Soft)
+
+pub hard-strings : has_utf8 Hard ≡ true
+hard-strings = simp (fold_out-Inline Bool utf8_step, outs-Hard)
+
+pub emph-strings : (content : List Inline) → has_utf8 (Emph content) ≡ all_of (map has_utf8 content)
+emph-strings content = simp (fold_out-Inline Bool utf8_step, outs-Emph)
+
+pub strong-strings : (content : List Inline) → has_utf8 (Strong content) ≡ all_of (map has_utf8 content)
+strong-strings content = simp (fold_out-Inline Bool utf8_step, outs-Strong)
+
+pub strike-strings : (content : List Inline) → has_utf8 (Strike content) ≡ all_of (map has_utf8 content)
+strike-strings content = simp (fold_out-Inline Bool utf8_step, outs-Strike)
+
+pub link-strings : (dest title : List ℕ) (content : List Inline) → has_utf8 (Link dest title content) ≡ (is_utf8 dest && is_utf8 title && all_of (map has_utf8 content))
+link-strings dest title content = simp (fold_out-Inline Bool utf8_step, outs-Link)
+
+pub image-strings : (dest title : List ℕ) (content : List Inline) → has_utf8 (Image dest title content) ≡ (is_utf8 dest && is_utf8 title && all_of (map has_utf8 content))
+image-strings dest title content = simp (fold_out-Inline Bool utf8_step, outs-Image)

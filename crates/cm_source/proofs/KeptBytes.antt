@@ -9,7 +9,8 @@ use Rattle.cm_scan.specs.Words.{◌<|>◌}
 use Rattle.cm_source.specs.Inlines.{Spelled, spelled, join, is_line_end, between}
 use Rattle.cm_source.specs.Texts.{longest_run, is_padded, padding, spelled_code, spelled_text, spelled_target}
 use Rattle.cm_source.specs.InlineRefusals.{has_nul, has_line_ending, Face, Place, Judged, judged, further_in, inside_link, first_face, refusal_of_all}
-use Rattle.cm_source.proofs.AcceptedLemmas.{or-none, Accepted, text-spelled, code-spelled, html-spelled, soft-spelled, hard-spelled, emph-spelled, strong-spelled, strike-spelled, link-spelled, image-spelled, code-accepted, html-accepted, soft-accepted, hard-accepted, emph-accepted, strong-accepted, strike-accepted, link-accepted, image-accepted}
+use Rattle.cm_source.proofs.InlineKinds.{text-spelled, code-spelled, html-spelled, soft-spelled, hard-spelled, emph-spelled, strong-spelled, strike-spelled, link-spelled, image-spelled}
+use Rattle.cm_source.proofs.AcceptedLemmas.{or-none, Accepted, code-accepted, html-accepted, soft-accepted, hard-accepted, emph-accepted, strong-accepted, strike-accepted, link-accepted, image-accepted}
 use Rattle.cm_source.proofs.InlineInduction.{AllHold, Cases, all-by-cases}
 use Rattle.cm_source.proofs.SpelledBytes.{all-both, all-times, all-so, is_tame, text-tame, target-tame}
 

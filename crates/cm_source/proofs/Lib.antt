@@ -41,7 +41,6 @@ pub mod SourceLemmas
 pub mod SpellableBlocks
 pub mod SpelledBytes
 pub mod SpelledUtf8
-pub mod SpellLemmas
 pub mod TagLemmas
 pub mod TagsRead
 pub mod TargetsRead

@@ -34,23 +34,6 @@ pub no-reason : (reason : Option Why) → Ok tt ≡ ok_unless reason → reason 
 no-reason None e = refl
 no-reason (Some why) e = absurd (cc e)
 
--- inlines that hold others
-
-pub emph-is : (rules : Rules) (content : List Inline) → judged rules (Emph content) ≡ emphasis rules false (map (judged rules) content)
-emph-is rules content = simp (fold_out-Inline Judged (inline_step rules), outs-Emph)
-
-pub strong-is : (rules : Rules) (content : List Inline) → judged rules (Strong content) ≡ emphasis rules false (map (judged rules) content)
-strong-is rules content = simp (fold_out-Inline Judged (inline_step rules), outs-Strong)
-
-pub strike-is : (rules : Rules) (content : List Inline) → judged rules (Strike content) ≡ emphasis rules true (map (judged rules) content)
-strike-is rules content = simp (fold_out-Inline Judged (inline_step rules), outs-Strike)
-
-pub link-is : (rules : Rules) (dest title : List ℕ) (content : List Inline) → judged rules (Link dest title content) ≡ inline_step rules (inline.Link dest title (map (judged rules) content))
-link-is rules dest title content = simp (fold_out-Inline Judged (inline_step rules), outs-Link)
-
-pub image-is : (rules : Rules) (dest title : List ℕ) (content : List Inline) → judged rules (Image dest title content) ≡ inline_step rules (inline.Image dest title (map (judged rules) content))
-image-is rules dest title content = simp (fold_out-Inline Judged (inline_step rules), outs-Image)
-
 -- what a list comes to from an index on
 
 module _ {X R : Type 0} (f : List X → R) (xs : List X) where

@@ -23,27 +23,13 @@ use Rattle.cm_source.specs.Spelling as spelling
 use Rattle.cm_source.specs.Spelling.{gap, joined, quote_lines, marker, item_lines, list_lines, lines_of_block}
 use Rattle.cm_source.specs.BlocksBack.{source_step, sourced, ContentsGiveSources}
 use Rattle.cm_source.specs.steps.Outlines.{SpelledLeaf, Outline, is_none, no_blocks, leaf_then, quote_then, list_then, tree, items_tree, gap_before, block_lines, lines_of_items, first_inside, fits_tight, can_be_loose, begins_with_list, chain, chain_items, outline_step, in_front_of}
+use Rattle.cm_source.proofs.AcceptedLemmas.{none-holds, or-none}
 use Rattle.cm_source.proofs.OutlineFits.{LeafFits, FitAll, ItemsFit}
 use Rattle.cm_source.proofs.OutlineFaces.{leaf_face, faces_of, clashes, some-face, has-two, list-first, no-clash, leaf-apart, tight-item}
 use Rattle.cm_source.proofs.MarkersBack.{kind-fits}
 use Rattle.cm_source.proofs.LeavesBack.{break-fits, heading-fits, paragraph-fits}
 use Rattle.cm_source.proofs.FencesBack.{code-fits}
 use Rattle.cm_source.proofs.HtmlBack.{html-fits}
-
--- Reasons
-
-neither : (one other : Option Why) → (one <|> other) ≡ None → (one ≡ None) × (other ≡ None)
-neither None other h = (refl, h)
-neither (Some why) other h = absurd (cc h)
-
-abbrev NoneHold : List (Bool × Why) → Type 0
-NoneHold [] = ⊤
-NoneHold (reason ∷ reasons) = (reason.0 ≡ false) × NoneHold reasons
-
-none-holds : (reasons : List (Bool × Why)) → refused reasons ≡ None → NoneHold reasons
-none-holds [] h = tt
-none-holds ((true, why) ∷ reasons) h = absurd (cc h)
-none-holds ((false, why) ∷ reasons) h = (refl, none-holds reasons h)
 
 -- Lines
 
@@ -103,7 +89,7 @@ module _ (rules : Rules) where
   unfolding FitAll tree block_lines
   all-stand before none_spelled h = record { fits = tt; apart = refl; blocks = refl; lines = λ a. refl }
   all-stand before (one_spelled {f = f} {j = j} {s = s} {fs = fs} {js = js} one more) h =
-      let (first, others) = neither (j.refusal before) (refusal_of_all (Some j.face) js) h in
+      let (first, others) = or-none (j.refusal before) (refusal_of_all (Some j.face) js) h in
       let rest = all-stand (Some j.face) more others in
       let here = one.stands before (chain fs) first rest.fits rest.apart in
       record {
@@ -145,7 +131,7 @@ module _ (rules : Rules) where
       → ItemsStand kind tight (fs ∷ fss) (ss ∷ sss) (ls ∷ lss)
   unfolding ItemsFit items_tree lines_of_items
   items-stand kind tight {js = js} {ls = ls} one no_items h lists said =
-      let (first, others) = neither (refusal_of_all None js) None h in
+      let (first, others) = or-none (refusal_of_all None js) None h in
       let here = all-stand None one first in
       let inside = joined (not tight) ls in
       record {
@@ -154,7 +140,7 @@ module _ (rules : Rules) where
         lines = ap (item_lines (marker kind)) (here.lines (not tight)) ∙ sym (append-nil (item_lines (marker kind) inside));
       }
   items-stand kind tight {js = js} {ss = ss} {ls = ls} one (one_item {fs = gs} {js = ks} {ls = ms} {fss = fss} {jss = jss} {lss = lss} next more) h lists said =
-      let (first, others) = neither (refusal_of_all None js) (refusal_of_items (ks ∷ jss)) h in
+      let (first, others) = or-none (refusal_of_all None js) (refusal_of_items (ks ∷ jss)) h in
       let (list_not, no_lists) = or_parts (is_list (faces js)) (list_any is_list (map faces (ks ∷ jss))) lists in
       let (tight_one, tight_others) = parts-tight tight (is_tight_item (faces js)) (list_all is_tight_item (map faces (ks ∷ jss))) said in
       let here = all-stand None one first in
@@ -236,7 +222,7 @@ module _ (rules : Rules) where
 
   list-stands : (kind : ListKind) (tight : Bool) (jss : List (List Judged)) (before : Option Face) → (list_judged kind tight jss).refusal before ≡ None → ListStands kind tight jss before
   list-stands kind tight jss before h =
-      let (reasons, inside) = neither (refused (list_reasons kind tight (map faces jss) before)) (refusal_of_items jss) h in
+      let (reasons, inside) = or-none (refused (list_reasons kind tight (map faces jss) before)) (refusal_of_items jss) h in
       let none = none-holds (list_reasons kind tight (map faces jss) before) reasons in
       let (some, low) = or_parts (not (list_any (λ (item : List Face). true) (map faces jss))) (begins_too_high kind) none.0 in
       record {
@@ -298,13 +284,13 @@ module _ (rules : Rules) where
     layer (block.Paragraph content) =
         leaf-spelled (record { part = paragraph (spelled_content content); lines = spelling.parted_lines (spelled_content content) }) (Paragraph (raw_inlines (spelled_content content)))
         (refused ((not (list_any (λ i. true) content), Shape) ∷ []) <|> paragraph_refusal rules content) (λ h.
-        let (shape, inside) = neither (refused ((not (list_any (λ i. true) content), Shape) ∷ [])) (paragraph_refusal rules content) h in
+        let (shape, inside) = or-none (refused ((not (list_any (λ i. true) content), Shape) ∷ [])) (paragraph_refusal rules content) h in
         let none = none-holds ((not (list_any (λ i. true) content), Shape) ∷ []) shape in
         (paragraph-fits rules (spelled_content content) (gives.paragraphs content inside (not-false (list_any (λ i. true) content) none.0)), refl))
     layer (block.Heading level content) =
         leaf-spelled (record { part = heading level (spelled_content content); lines = spelling.heading_lines level content }) (Heading level (raw_inlines (spelled_content content)))
         (refused ((not (nat_le 1 level && nat_le level 6), Shape) ∷ []) <|> heading_refusal rules content) (λ h.
-        let (shape, inside) = neither (refused ((not (nat_le 1 level && nat_le level 6), Shape) ∷ [])) (heading_refusal rules content) h in
+        let (shape, inside) = or-none (refused ((not (nat_le 1 level && nat_le level 6), Shape) ∷ [])) (heading_refusal rules content) h in
         let none = none-holds ((not (nat_le 1 level && nat_le level 6), Shape) ∷ []) shape in
         let (low, high) = and_parts (nat_le 1 level) (nat_le level 6) (not-false (nat_le 1 level && nat_le level 6) none.0) in
         (heading-fits rules level content low high (gives.headings content inside), refl))

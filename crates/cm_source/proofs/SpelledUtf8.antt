@@ -10,42 +10,10 @@ use Rattle.cm_tree.specs.declared.tree.Inline.TheFolds.{fold_out-Inline}
 use Rattle.cm_source.specs.Texts.{spelled_bytes, is_padded, padding, spelled_code, spelled_title, spelled_target, longest_run}
 use Rattle.cm_source.specs.Inlines.{Spelled, join, between, spelled, is_line_end}
 use Rattle.cm_source.specs.Utf8Inlines.{all_of, utf8_step, has_utf8}
+use Rattle.cm_source.proofs.InlineKinds.{text-spelled, code-spelled, html-spelled, soft-spelled, hard-spelled, emph-spelled, strong-spelled, strike-spelled, link-spelled, image-spelled, text-strings, code-strings, html-strings, soft-strings, hard-strings, emph-strings, strong-strings, strike-strings, link-strings, image-strings}
 use Rattle.cm_source.proofs.TextLemmas.{inner-text}
 use Rattle.cm_source.proofs.InlineInduction.{AllHold, Cases, by-cases}
-use Rattle.cm_source.proofs.AcceptedLemmas.{text-spelled, code-spelled, html-spelled, soft-spelled, hard-spelled, emph-spelled, strong-spelled, strike-spelled, link-spelled, image-spelled}
 use Rattle.cm_source.proofs.Neighbours.{ascii-utf8, spelled-utf8}
-
--- the strings of each kind
-
-pub text-strings : (text : List ℕ) → has_utf8 (Text text) ≡ is_utf8 text
-text-strings text = simp (fold_out-Inline Bool utf8_step, outs-Text)
-
-pub code-strings : (text : List ℕ) → has_utf8 (Code text) ≡ is_utf8 text
-code-strings text = simp (fold_out-Inline Bool utf8_step, outs-Code)
-
-pub html-strings : (text : List ℕ) → has_utf8 (Html text) ≡ is_utf8 text
-html-strings text = simp (fold_out-Inline Bool utf8_step, outs-Html)
-
-pub soft-strings : has_utf8 Soft ≡ true
-soft-strings = simp (fold_out-Inline Bool utf8_step, outs-Soft)
-
-pub hard-strings : has_utf8 Hard ≡ true
-hard-strings = simp (fold_out-Inline Bool utf8_step, outs-Hard)
-
-pub emph-strings : (content : List Inline) → has_utf8 (Emph content) ≡ all_of (map has_utf8 content)
-emph-strings content = simp (fold_out-Inline Bool utf8_step, outs-Emph)
-
-pub strong-strings : (content : List Inline) → has_utf8 (Strong content) ≡ all_of (map has_utf8 content)
-strong-strings content = simp (fold_out-Inline Bool utf8_step, outs-Strong)
-
-pub strike-strings : (content : List Inline) → has_utf8 (Strike content) ≡ all_of (map has_utf8 content)
-strike-strings content = simp (fold_out-Inline Bool utf8_step, outs-Strike)
-
-pub link-strings : (dest title : List ℕ) (content : List Inline) → has_utf8 (Link dest title content) ≡ (is_utf8 dest && is_utf8 title && all_of (map has_utf8 content))
-link-strings dest title content = simp (fold_out-Inline Bool utf8_step, outs-Link)
-
-pub image-strings : (dest title : List ℕ) (content : List Inline) → has_utf8 (Image dest title content) ≡ (is_utf8 dest && is_utf8 title && all_of (map has_utf8 content))
-image-strings dest title content = simp (fold_out-Inline Bool utf8_step, outs-Image)
 
 -- the parts of a spelling
 

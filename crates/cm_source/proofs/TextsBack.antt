@@ -19,12 +19,12 @@ use Rattle.cm_source.specs.Inlines as spelling
 use Rattle.cm_source.specs.InlineRefusals.{Face, is_text, Place, Judged, first_face, further_in, inside_link, refusal_of_all, emphasis, judged}
 use Rattle.cm_source.specs.InlineRefusals as refusals
 use Rattle.cm_source.specs.Utf8Inlines.{all_of, has_utf8}
+use Rattle.cm_source.proofs.InlineKinds.{text-judged, code-judged, html-judged, soft-judged, hard-judged, emph-judged, strong-judged, strike-judged, link-judged, image-judged, text-spelled, code-spelled, html-spelled, soft-spelled, hard-spelled, emph-spelled, strong-spelled, strike-spelled, link-spelled, image-spelled, text-strings, code-strings, html-strings, soft-strings, hard-strings, emph-strings, strong-strings, strike-strings, link-strings, image-strings}
 use Rattle.cm_source.proofs.TextLemmas.{inner-text}
-use Rattle.cm_source.proofs.RefusalLemmas.{emph-is, strong-is, strike-is, link-is, image-is}
 use Rattle.cm_source.proofs.InlineInduction.{AllHold, Cases, by-cases, all-by-cases}
-use Rattle.cm_source.proofs.AcceptedLemmas.{or-none, Accepted, text-judged, code-judged, html-judged, soft-judged, hard-judged, text-spelled, code-spelled, html-spelled, soft-spelled, hard-spelled, emph-spelled, strong-spelled, strike-spelled, link-spelled, image-spelled, text-accepted, html-accepted, emph-accepted, strong-accepted, strike-accepted, link-accepted, image-accepted}
+use Rattle.cm_source.proofs.AcceptedLemmas.{or-none, Accepted, text-accepted, html-accepted, emph-accepted, strong-accepted, strike-accepted, link-accepted, image-accepted}
 use Rattle.cm_source.proofs.Neighbours.{ascii-utf8, edge-ascii, AllHigh, high-bytes, high-byte}
-use Rattle.cm_source.proofs.SpelledUtf8.{text-strings, code-strings, html-strings, soft-strings, hard-strings, emph-strings, strong-strings, strike-strings, link-strings, image-strings, ticks-utf8}
+use Rattle.cm_source.proofs.SpelledUtf8.{ticks-utf8}
 use Rattle.cm_source.proofs.InlineEdges.{second-fails, split-ascii, before-ascii, Ends}
 use Rattle.cm_source.proofs.EdgesOfKinds.{code-ends, html-ends, soft-ends, hard-ends, between-ends, link-ends, image-ends}
 
@@ -203,18 +203,18 @@ module _ (rules : Rules) where
         let k = refusals.inline_step rules inline.Hard in
         let t = spelling.inline_step inline.Hard in
         edged-so (judged rules Hard) k (spelled Hard) t before (hard-judged rules) hard-spelled (not-text k t before 92 10 refl (omega arith) (omega arith) hard-ends);
-    emph = λ content hold place before after e. edged-emphasis false (Emph content) content (codes "*") 42 [] [] before (emph-is rules content) (emph-spelled content) refl refl (omega arith);
-    strong = λ content hold place before after e. edged-emphasis false (Strong content) content (codes "**") 42 (42 ∷ []) (42 ∷ []) before (strong-is rules content) (strong-spelled content) refl refl (omega arith);
-    strike = λ content hold place before after e. edged-emphasis true (Strike content) content (codes "~~") 126 (126 ∷ []) (126 ∷ []) before (strike-is rules content) (strike-spelled content) refl refl (omega arith);
+    emph = λ content hold place before after e. edged-emphasis false (Emph content) content (codes "*") 42 [] [] before (emph-judged rules content) (emph-spelled content) refl refl (omega arith);
+    strong = λ content hold place before after e. edged-emphasis false (Strong content) content (codes "**") 42 (42 ∷ []) (42 ∷ []) before (strong-judged rules content) (strong-spelled content) refl refl (omega arith);
+    strike = λ content hold place before after e. edged-emphasis true (Strike content) content (codes "~~") 126 (126 ∷ []) (126 ∷ []) before (strike-judged rules content) (strike-spelled content) refl refl (omega arith);
     link = λ dest title content hold place before after e.
         let k = refusals.inline_step rules (inline.Link dest title (map (judged rules) content)) in
         let t = between (codes "[") (map spelled content) (spelled_target dest title) in
-        edged-so (judged rules (Link dest title content)) k (spelled (Link dest title content)) t before (link-is rules dest title content) (link-spelled dest title content)
+        edged-so (judged rules (Link dest title content)) k (spelled (Link dest title content)) t before (link-judged rules dest title content) (link-spelled dest title content)
         (not-text k t before 91 41 refl (omega arith) (omega arith) (link-ends dest title (map spelled content)));
     image = λ dest title content hold place before after e.
         let k = refusals.inline_step rules (inline.Image dest title (map (judged rules) content)) in
         let t = between (codes "![") (map spelled content) (spelled_target dest title) in
-        edged-so (judged rules (Image dest title content)) k (spelled (Image dest title content)) t before (image-is rules dest title content) (image-spelled dest title content)
+        edged-so (judged rules (Image dest title content)) k (spelled (Image dest title content)) t before (image-judged rules dest title content) (image-spelled dest title content)
         (not-text k t before 33 41 refl (omega arith) (omega arith) (image-ends dest title (map spelled content)));
   }
 

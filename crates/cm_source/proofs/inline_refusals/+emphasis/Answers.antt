@@ -1,16 +1,17 @@
 use Rattle.std.proofs.Common.{Bool, ◌||◌, ◌+◌, List, map, drop, sym, ap, ◌∙◌}
 use Rattle.cm_tree.specs.declared.tree.Inline.{Inline}
 use Rattle.cm_source.specs.InlineRefusals.{Judged, judged, hold_emphasis}
-use Rattle.cm_source.proofs.RefusalLemmas.{link-is, image-is, from-next, from-end}
+use Rattle.cm_source.proofs.InlineKinds.{link-judged, image-judged}
+use Rattle.cm_source.proofs.RefusalLemmas.{from-next, from-end}
 use Rattle.cm_source.proofs.inline_refusals.+emphasis.Goals as goal
 
 pub has_emphasis-returns-in-Link : goal.has_emphasis-returns-in-Link
 has_emphasis-returns-in-Link t c = λ rules.
-    c.hold_emphasis.ensures rules ∙ ap (λ l. hold_emphasis (map (judged rules) l)) c.as_slice.ensures ∙ sym (ap (λ (j : Judged). j.has_emphasis) (ap (judged rules) c.in-Link.is ∙ link-is rules c.in-Link.dest c.in-Link.title c.in-Link.content))
+    c.hold_emphasis.ensures rules ∙ ap (λ l. hold_emphasis (map (judged rules) l)) c.as_slice.ensures ∙ sym (ap (λ (j : Judged). j.has_emphasis) (ap (judged rules) c.in-Link.is ∙ link-judged rules c.in-Link.dest c.in-Link.title c.in-Link.content))
 
 pub has_emphasis-returns-in-Image : goal.has_emphasis-returns-in-Image
 has_emphasis-returns-in-Image t c = λ rules.
-    c.hold_emphasis-in-Image.ensures rules ∙ ap (λ l. hold_emphasis (map (judged rules) l)) c.as_slice-in-Image.ensures ∙ sym (ap (λ (j : Judged). j.has_emphasis) (ap (judged rules) c.in-Image.is ∙ image-is rules c.in-Image.dest c.in-Image.title c.in-Image.content))
+    c.hold_emphasis-in-Image.ensures rules ∙ ap (λ l. hold_emphasis (map (judged rules) l)) c.as_slice-in-Image.ensures ∙ sym (ap (λ (j : Judged). j.has_emphasis) (ap (judged rules) c.in-Image.is ∙ image-judged rules c.in-Image.dest c.in-Image.title c.in-Image.content))
 
 pub hold_emphasis-loop-inline-preserved : goal.hold_emphasis-loop-inline-preserved
 hold_emphasis-loop-inline-preserved t c = λ rules.

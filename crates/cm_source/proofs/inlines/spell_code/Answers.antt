@@ -1,9 +1,12 @@
-use Rattle.std.proofs.Common.{ℕ, List, ◌+◌, ◌++◌, replicate, ap, subst, sym, ◌∙◌}
-use Rattle.cm_source.specs.Texts.{longest_run}
+use Rattle.std.proofs.Common.{◌≡◌, ℕ, suc, List, ◌+◌, ◌++◌, replicate, ap, subst, sym, ◌∙◌, arith}
+use Rattle.cm_source.specs.Texts.{longest_run, padding, spelled_code}
 use Rattle.cm_source.specs.steps.Laid.{Lays}
 use Rattle.cm_source.proofs.LaidLemmas.{then-ok, lays-then}
-use Rattle.cm_source.proofs.SpellLemmas.{code-is}
 use Rattle.cm_source.proofs.inlines.spell_code.Goals as goal
+
+code-is : (text : List ℕ) → let marks : List ℕ = replicate (longest_run 0 text + 1) 96 in spelled_code text ≡ marks ++ padding text ++ text ++ padding text ++ marks
+unfolding spelled_code
+code-is text = let one : longest_run 0 text + 1 ≡ suc (longest_run 0 text) = omega arith in ap (λ n. replicate n 96 ++ padding text ++ text ++ padding text ++ replicate n 96) (sym one)
 
 pub returns : goal.returns
 returns c =
