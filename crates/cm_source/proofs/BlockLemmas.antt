@@ -7,12 +7,10 @@ use Rattle.std.proofs.lemmas.Bool.{eqb-true}
 use Rattle.cm_tree.specs.declared.tree.Inline.{Inline}
 use Rattle.cm_source.specs.Inlines.{spelled_content}
 use Rattle.cm_tree.specs.declared.tree.Block.{Block}
-use Rattle.cm_tree.specs.declared.tree.Block.TheVariants.{outs-List, List as ListBlock}
-use Rattle.cm_tree.specs.declared.tree.Block.TheFolds.{fold_out-Block}
 use Rattle.cm_tree.specs.declared.tree.ListKind.{ListKind}
 use Rattle.cm_tree.specs.declared.tree.ListKind.TheVariants.{Dash, Plus, Star, Dot, Paren}
 use Rattle.cm_source.specs.declared.source.Source.{Source}
-use Rattle.cm_source.specs.Spelling.{after_space, gap, joined, spaced, quoted, quote_lines, marker, indented, item_lines, block_step, lines_of_block}
+use Rattle.cm_source.specs.Spelling.{after_space, gap, joined, spaced, quoted, quote_lines, marker, indented, item_lines, lines_of_block}
 use Rattle.cm_source.specs.steps.Laid.{behind, further_lines, all_lines, next_begun, next_front, or_empty_line, IsBetween, Writes, Enters, Leaves}
 use Rattle.cm_source.proofs.LaidLemmas.{kept-front, all-alike}
 
@@ -159,9 +157,6 @@ item_lines_of kind tight items = map (λ blocks. item_lines (marker kind) (joine
 
 abbrev pub lines_of_items : ListKind → (tight : Bool) → List (List Block) → List (List ℕ)
 lines_of_items kind tight items = joined (not tight) (item_lines_of kind tight items)
-
-pub list-is : (kind : ListKind) (tight : Bool) (items : List (List Block)) → lines_of_block (ListBlock kind tight items) ≡ lines_of_items kind tight items
-list-is kind tight items = simp (fold_out-Block (List (List ℕ)) block_step, outs-List)
 
 -- lines in front of which nothing stands
 

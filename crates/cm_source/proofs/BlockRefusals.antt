@@ -16,9 +16,7 @@ use Rattle.cm_source.specs.Refusals.{is_list, has_two, can_follow, is_tight_item
 use Rattle.cm_source.specs.declared.refusals.Face.{Face}
 use Rattle.cm_source.specs.declared.refusals.Face.TheVariants.{Paragraph, Code, Quote, List as ListFace, Other}
 use Rattle.cm_source.specs.steps.BlockFaces.{shown, is_paragraph}
-
-pub list-is : (rules : Rules) (kind : ListKind) (tight : Bool) (items : List (List Block)) → judged rules (ListBlock kind tight items) ≡ block_step rules (block.List kind tight (map (map (judged rules)) items))
-list-is rules kind tight items = simp (fold_out-Block Judged (block_step rules), outs-List)
+use Rattle.cm_source.proofs.BlockKinds.{list-judged}
 
 pub filled-first : (rules : Rules) (item : List Block) (items : List (List Block)) (empty : Bool) → (IsTrue empty ↔ (item ≡ [])) → not empty ≡ is_filled (map (map (judged rules)) (item ∷ items))
 filled-first rules [] items true is = refl
@@ -71,4 +69,4 @@ tight-pair refusals.OtherFace next = refl
 
 pub list-refused : (rules : Rules) (list : Block) (kind : ListKind) (tight : Bool) (items : List (List Block)) (before : Option refusals.Face) → list ≡ ListBlock kind tight items
     → (judged rules list).refusal before ≡ refused (list_reasons kind tight (seen_items rules items) before) <|> refusal_of_items (map (map (judged rules)) items)
-list-refused rules list kind tight items before e = ap (λ (j : Judged). j.refusal before) (ap (judged rules) e ∙ list-is rules kind tight items)
+list-refused rules list kind tight items before e = ap (λ (j : Judged). j.refusal before) (ap (judged rules) e ∙ list-judged rules kind tight items)

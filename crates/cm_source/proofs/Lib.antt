@@ -1,5 +1,6 @@
 pub mod AcceptedLemmas
 pub mod BlockInduction
+pub mod BlockKinds
 pub mod BlockLemmas
 pub mod BlockRefusals
 pub mod BytesRead

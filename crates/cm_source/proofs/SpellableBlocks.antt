@@ -8,7 +8,7 @@ use Rattle.cm_tree.specs.declared.tree.Block.{Block, Block-F, map-Block}
 use Rattle.cm_tree.specs.declared.tree.Block.TheOpen as block
 use Rattle.cm_tree.specs.declared.tree.Block.TheVariants.{Paragraph, Heading, Code, Definition as DefinitionBlock, Quote, List as ListBlock}
 use Rattle.cm_tree.specs.declared.tree.Block.TheViews.{roll-Block}
-use Rattle.cm_tree.specs.declared.tree.Block.TheFolds.{fold-roll-Block, ind-Block}
+use Rattle.cm_tree.specs.declared.tree.Block.TheFolds.{fold-roll-Block}
 use Rattle.cm_tree.specs.declared.tree.ListKind.{ListKind}
 use Rattle.cm_scan.specs.Words.{◌<|>◌}
 use Rattle.cm_scan.specs.Parts.{paragraph, heading, code, html, thematic_break, definition, raw_inlines, leaf_block}
@@ -24,6 +24,7 @@ use Rattle.cm_source.specs.Spelling.{gap, joined, quote_lines, marker, item_line
 use Rattle.cm_source.specs.BlocksBack.{source_step, sourced, ContentsGiveSources}
 use Rattle.cm_source.specs.steps.Outlines.{SpelledLeaf, Outline, is_none, no_blocks, leaf_then, quote_then, list_then, tree, items_tree, gap_before, block_lines, lines_of_items, first_inside, fits_tight, can_be_loose, begins_with_list, chain, chain_items, outline_step, in_front_of}
 use Rattle.cm_source.proofs.AcceptedLemmas.{none-holds, or-none}
+use Rattle.cm_source.proofs.BlockInduction.{AllHold, ItemsHold, InsideHold, all-by-layers}
 use Rattle.cm_source.proofs.OutlineFits.{LeafFits, FitAll, ItemsFit}
 use Rattle.cm_source.proofs.OutlineFaces.{leaf_face, faces_of, clashes, some-face, has-two, list-first, no-clash, leaf-apart, tight-item}
 use Rattle.cm_source.proofs.MarkersBack.{kind-fits}
@@ -260,55 +261,52 @@ module _ (rules : Rules) where
   abbrev BlockSpelled : Block → Type 0
   BlockSpelled b = Spelled (in_front_of b) (judged rules b) (sourced b) (lines_of_block b)
 
-  abbrev Proved : Type 0
-  Proved = (b : Block) × BlockSpelled b
+  all-spelled : (bs : List Block) → AllHold BlockSpelled bs → AllSpelled (map in_front_of bs) (map (judged rules) bs) (map sourced bs) (map lines_of_block bs)
+  unfolding AllHold
+  all-spelled [] hold = none_spelled
+  all-spelled (b ∷ bs) hold = one_spelled hold.0 (all-spelled bs hold.1)
 
-  abbrev blocks_in : List Proved → List Block
-  blocks_in proved = map (λ e. e.0) proved
-
-  all-spelled : (es : List Proved) → AllSpelled (map in_front_of (blocks_in es)) (map (judged rules) (blocks_in es)) (map sourced (blocks_in es)) (map lines_of_block (blocks_in es))
-  all-spelled [] = none_spelled
-  all-spelled (e ∷ es) = one_spelled e.1 (all-spelled es)
-
-  items-spelled : (ess : List (List Proved))
-      → ItemsSpelled (map (map in_front_of) (map blocks_in ess)) (map (map (judged rules)) (map blocks_in ess)) (map (map sourced) (map blocks_in ess)) (map (map lines_of_block) (map blocks_in ess))
-  items-spelled [] = no_items
-  items-spelled (es ∷ ess) = one_item (all-spelled es) (items-spelled ess)
+  items-spelled : (items : List (List Block)) → ItemsHold BlockSpelled items
+      → ItemsSpelled (map (map in_front_of) items) (map (map (judged rules)) items) (map (map sourced) items) (map (map lines_of_block) items)
+  unfolding ItemsHold
+  items-spelled [] hold = no_items
+  items-spelled (item ∷ items) hold = one_item (all-spelled item hold.0) (items-spelled items hold.1)
 
   abbrev LayerSpelled : Block-F Block → Type 0
   LayerSpelled x = Spelled (outline_step (map-Block Block (Outline → Outline) in_front_of x)) (refusals.block_step rules (map-Block Block Judged (judged rules) x))
       (source_step (map-Block Block Block sourced x)) (spelling.block_step (map-Block Block (List (List ℕ)) lines_of_block x))
 
   module _ (gives : ContentsGiveSources rules) where
-    layer : (y : Block-F Proved) → LayerSpelled (map-Block Proved Block (λ e. e.0) y)
-    layer (block.Paragraph content) =
+    layer : (x : Block-F Block) → InsideHold BlockSpelled x → LayerSpelled x
+    unfolding InsideHold
+    layer (block.Paragraph content) inside =
         leaf-spelled (record { part = paragraph (spelled_content content); lines = spelling.parted_lines (spelled_content content) }) (Paragraph (raw_inlines (spelled_content content)))
         (refused ((not (list_any (λ i. true) content), Shape) ∷ []) <|> paragraph_refusal rules content) (λ h.
-        let (shape, inside) = or-none (refused ((not (list_any (λ i. true) content), Shape) ∷ [])) (paragraph_refusal rules content) h in
+        let (shape, accepted) = or-none (refused ((not (list_any (λ i. true) content), Shape) ∷ [])) (paragraph_refusal rules content) h in
         let none = none-holds ((not (list_any (λ i. true) content), Shape) ∷ []) shape in
-        (paragraph-fits rules (spelled_content content) (gives.paragraphs content inside (not-false (list_any (λ i. true) content) none.0)), refl))
-    layer (block.Heading level content) =
+        (paragraph-fits rules (spelled_content content) (gives.paragraphs content accepted (not-false (list_any (λ i. true) content) none.0)), refl))
+    layer (block.Heading level content) inside =
         leaf-spelled (record { part = heading level (spelled_content content); lines = spelling.heading_lines level content }) (Heading level (raw_inlines (spelled_content content)))
         (refused ((not (nat_le 1 level && nat_le level 6), Shape) ∷ []) <|> heading_refusal rules content) (λ h.
-        let (shape, inside) = or-none (refused ((not (nat_le 1 level && nat_le level 6), Shape) ∷ [])) (heading_refusal rules content) h in
+        let (shape, accepted) = or-none (refused ((not (nat_le 1 level && nat_le level 6), Shape) ∷ [])) (heading_refusal rules content) h in
         let none = none-holds ((not (nat_le 1 level && nat_le level 6), Shape) ∷ []) shape in
         let (low, high) = and_parts (nat_le 1 level) (nat_le level 6) (not-false (nat_le 1 level && nat_le level 6) none.0) in
-        (heading-fits rules level content low high (gives.headings content inside), refl))
-    layer (block.Code info text) =
+        (heading-fits rules level content low high (gives.headings content accepted), refl))
+    layer (block.Code info text) inside =
         leaf-spelled (record { part = code (spelled_text true true info) text; lines = spelling.code_lines info text }) (Code info text)
         (refused ((has_nul info || has_nul text, Nul) ∷ (not (is_code_text text), CodeText) ∷ [])) (λ h.
         let none = none-holds ((has_nul info || has_nul text, Nul) ∷ (not (is_code_text text), CodeText) ∷ []) h in
         let (info_nul, text_nul) = or_parts (has_nul info) (has_nul text) none.0 in
         (code-fits rules info text (gives.infos info info_nul) (not-false (is_code_text text) none.1.0) text_nul, ap (λ i. Code i text) (gives.infos_back info info_nul)))
-    layer (block.Html text) =
+    layer (block.Html text) inside =
         leaf-spelled (record { part = html text; lines = spelling.ended_lines text }) (leaf_block (html text))
         (refused ((has_nul text, Nul) ∷ (not (is_html_block rules text), HtmlBlock) ∷ [])) (λ h.
         let none = none-holds ((has_nul text, Nul) ∷ (not (is_html_block rules text), HtmlBlock) ∷ []) h in
         (html-fits rules text none.0 (not-false (is_html_block rules text) none.1.0), refl))
-    layer block.Break = leaf-spelled (record { part = thematic_break; lines = codes "___" ∷ [] }) (leaf_block thematic_break) None (λ h. (break-fits rules, refl))
-    layer (block.Definition label dest title) = leaf-spelled (record { part = definition label dest title; lines = [] }) (DefinitionBlock label dest title) (Some Definition) (λ h. absurd (cc h))
-    layer (block.Quote es) = quote-spelled (all-spelled es)
-    layer (block.List kind tight ess) = list-spelled kind tight (items-spelled ess)
+    layer block.Break inside = leaf-spelled (record { part = thematic_break; lines = codes "___" ∷ [] }) (leaf_block thematic_break) None (λ h. (break-fits rules, refl))
+    layer (block.Definition label dest title) inside = leaf-spelled (record { part = definition label dest title; lines = [] }) (DefinitionBlock label dest title) (Some Definition) (λ h. absurd (cc h))
+    layer (block.Quote blocks) inside = quote-spelled (all-spelled blocks inside)
+    layer (block.List kind tight items) inside = list-spelled kind tight (items-spelled items inside)
 
     rolled : (x : Block-F Block) → LayerSpelled x → BlockSpelled (roll-Block x)
     rolled x of_layer =
@@ -318,13 +316,6 @@ module _ (rules : Rules) where
         (subst (λ l. Spelled (outline_step (map-Block Block (Outline → Outline) in_front_of x)) (refusals.block_step rules (map-Block Block Judged (judged rules) x)) (source_step (map-Block Block Block sourced x)) l)
         (sym (fold-roll-Block (List (List ℕ)) spelling.block_step x)) of_layer)))
 
-    block-spelled : (b : Block) → BlockSpelled b
-    block-spelled = ind-Block BlockSpelled (λ x y is. subst (λ z. BlockSpelled (roll-Block z)) is (rolled (map-Block Proved Block (λ e. e.0) y) (layer y)))
-
-    blocks-spelled : (bs : List Block) → AllSpelled (map in_front_of bs) (map (judged rules) bs) (map sourced bs) (map lines_of_block bs)
-    blocks-spelled [] = none_spelled
-    blocks-spelled (b ∷ bs) = one_spelled (block-spelled b) (blocks-spelled bs)
-
     -- a tree that can be spelled
     pub tree-stands : (bs : List Block) → refusals.refusal_of rules bs ≡ None → AllStand None (map in_front_of bs) (map sourced bs) (map lines_of_block bs)
-    tree-stands bs h = all-stand None (blocks-spelled bs) h
+    tree-stands bs h = all-stand None (all-spelled bs (all-by-layers BlockSpelled (λ x inside. rolled x (layer x inside)) bs)) h

@@ -8,14 +8,11 @@ use Rattle.cm_text.proofs.Utf8Lemmas.{IsUtf8-cancel}
 use Rattle.cm_tree.specs.declared.tree.Inline.{Inline}
 use Rattle.cm_tree.specs.declared.tree.ListKind.{ListKind}
 use Rattle.cm_tree.specs.declared.tree.Block.{Block}
-use Rattle.cm_tree.specs.declared.tree.Block.TheOpen as block
-use Rattle.cm_tree.specs.declared.tree.Block.TheVariants.{Paragraph, Heading, Quote, List as ListBlock}
-use Rattle.cm_tree.specs.declared.tree.Block.TheViews.{outs-Paragraph, outs-Heading, outs-Code, outs-Html, outs-Break, outs-Definition, outs-Quote, outs-List}
+use Rattle.cm_tree.specs.declared.tree.Block.TheViews.{outs-Code, outs-Html, outs-Break, outs-Definition}
 use Rattle.cm_tree.specs.declared.tree.Block.TheFolds.{fold_out-Block}
 use Rattle.cm_source.specs.Inlines.{spelled_content}
 use Rattle.cm_source.specs.InlineRefusals.{refused, paragraph_refusal, heading_refusal}
 use Rattle.cm_source.specs.Refusals.{IsSpellable, Face, Judged, judged, refusal_of_all, refusal_of_items, list_reasons, faces}
-use Rattle.cm_source.specs.Refusals as refusals
 use Rattle.cm_source.specs.Spelling.{in_front, parted_lines, spaced, after_space, gap, joined, quoted, quote_lines, marker, indented, item_lines, list_lines, block_step, lines_of_block, lines_of_blocks, spelling_of}
 use Rattle.cm_source.specs.Utf8Inlines.{all_of, has_utf8}
 use Rattle.cm_source.specs.Utf8Blocks.{utf8_step, has_texts, HaveTexts}
@@ -24,6 +21,8 @@ use Rattle.cm_source.proofs.AcceptedLemmas.{or-none}
 use Rattle.cm_source.proofs.Neighbours.{ascii-utf8}
 use Rattle.cm_source.proofs.InlineEdges.{split-ascii}
 use Rattle.cm_source.proofs.TextsBack.{accepted-texts}
+use Rattle.cm_source.proofs.BlockRefusals.{seen_items}
+use Rattle.cm_source.proofs.BlockKinds.{paragraph-judged, heading-judged, quote-judged, list-judged, refused-as, paragraph-lines, heading-lines, quote-lines, list-lines, paragraph-texts, heading-texts, quote-texts, list-texts}
 use Rattle.cm_source.proofs.BlockInduction.{AllHold, ItemsHold, Cases, all-by-cases}
 
 -- ---- lines
@@ -158,41 +157,31 @@ module _ (rules : Rules) where
       (items-texts kind tight items hold.1 parts.1 u.1)
 
   -- behind the marks of a heading
-  heading-texts : (level : ℕ) (content : List Inline) → heading_refusal rules content ≡ None → IsUtf8 (replicate level 35 ++ after_space content) → all_of (map has_utf8 content) ≡ true
-  heading-texts level [] e u = refl
-  heading-texts level (i ∷ is) e u =
+  behind-marks : (level : ℕ) (content : List Inline) → heading_refusal rules content ≡ None → IsUtf8 (replicate level 35 ++ after_space content) → all_of (map has_utf8 content) ≡ true
+  behind-marks level [] e u = refl
+  behind-marks level (i ∷ is) e u =
       accepted-texts rules (record { heading = true; opens_paragraph = false; in_opening_link = false }) (i ∷ is) e (split-ascii (replicate level 35) 32 (spelled_content (i ∷ is)) (omega arith) u).1
 
   texts-cases : Cases HasTexts
   texts-cases = record {
     paragraph = λ content before e u.
-        let judged_is : judged rules (Paragraph content) ≡ refusals.block_step rules (block.Paragraph content) = simp (fold_out-Block Judged (refusals.block_step rules), outs-Paragraph) in
-        let lines_are : lines_of_block (Paragraph content) ≡ parted_lines (spelled_content content) = simp (fold_out-Block (List (List ℕ)) block_step, outs-Paragraph) in
-        let texts_are : has_texts (Paragraph content) ≡ all_of (map has_utf8 content) = simp (fold_out-Block Bool utf8_step, outs-Paragraph) in
-        let accepted = (or-none _ (paragraph_refusal rules content) (sym (ap (λ (j : Judged). j.refusal before) judged_is) ∙ e)).1 in
-        texts_are ∙ accepted-texts rules (record { heading = false; opens_paragraph = true; in_opening_link = false }) content accepted (parted-utf8 (spelled_content content) (subst AllUtf8 lines_are u));
+        let accepted = (or-none _ (paragraph_refusal rules content) (refused-as (paragraph-judged rules content) before e)).1 in
+        paragraph-texts content ∙ accepted-texts rules (record { heading = false; opens_paragraph = true; in_opening_link = false }) content accepted
+        (parted-utf8 (spelled_content content) (subst AllUtf8 (paragraph-lines content) u));
     heading = λ level content before e u.
-        let judged_is : judged rules (Heading level content) ≡ refusals.block_step rules (block.Heading level content) = simp (fold_out-Block Judged (refusals.block_step rules), outs-Heading) in
-        let lines_are : lines_of_block (Heading level content) ≡ parted_lines (replicate level 35 ++ after_space content) = simp (fold_out-Block (List (List ℕ)) block_step, outs-Heading) in
-        let texts_are : has_texts (Heading level content) ≡ all_of (map has_utf8 content) = simp (fold_out-Block Bool utf8_step, outs-Heading) in
-        let accepted = (or-none _ (heading_refusal rules content) (sym (ap (λ (j : Judged). j.refusal before) judged_is) ∙ e)).1 in
-        texts_are ∙ heading-texts level content accepted (parted-utf8 (replicate level 35 ++ after_space content) (subst AllUtf8 lines_are u));
+        let accepted = (or-none _ (heading_refusal rules content) (refused-as (heading-judged rules level content) before e)).1 in
+        heading-texts level content ∙ behind-marks level content accepted (parted-utf8 (replicate level 35 ++ after_space content) (subst AllUtf8 (heading-lines level content) u));
     code = λ info text before e u. simp (fold_out-Block Bool utf8_step, outs-Code);
     html = λ text before e u. simp (fold_out-Block Bool utf8_step, outs-Html);
     thematic_break = λ before e u. simp (fold_out-Block Bool utf8_step, outs-Break);
     definition = λ label dest title before e u. simp (fold_out-Block Bool utf8_step, outs-Definition);
     quote = λ blocks hold before e u.
-        let judged_is : judged rules (Quote blocks) ≡ refusals.block_step rules (block.Quote (map (judged rules) blocks)) = simp (fold_out-Block Judged (refusals.block_step rules), outs-Quote) in
-        let lines_are : lines_of_block (Quote blocks) ≡ quote_lines (joined true (map lines_of_block blocks)) = simp (fold_out-Block (List (List ℕ)) block_step, outs-Quote) in
-        let texts_are : has_texts (Quote blocks) ≡ all_of (map has_texts blocks) = simp (fold_out-Block Bool utf8_step, outs-Quote) in
         let lines = map lines_of_block blocks in
-        texts_are ∙ all-texts blocks hold None (sym (ap (λ (j : Judged). j.refusal before) judged_is) ∙ e) (joined-utf8 true lines (quote-utf8 (joined true lines) (subst AllUtf8 lines_are u)));
+        quote-texts blocks ∙ all-texts blocks hold None (refused-as (quote-judged rules blocks) before e) (joined-utf8 true lines (quote-utf8 (joined true lines) (subst AllUtf8 (quote-lines blocks) u)));
     list = λ kind tight items hold before e u.
-        let judged_is : judged rules (ListBlock kind tight items) ≡ refusals.block_step rules (block.List kind tight (map (map (judged rules)) items)) = simp (fold_out-Block Judged (refusals.block_step rules), outs-List) in
-        let lines_are : lines_of_block (ListBlock kind tight items) ≡ list_lines kind tight (map (map lines_of_block) items) = simp (fold_out-Block (List (List ℕ)) block_step, outs-List) in
-        let texts_are : has_texts (ListBlock kind tight items) ≡ all_of (map all_of (map (map has_texts) items)) = simp (fold_out-Block Bool utf8_step, outs-List) in
-        let accepted = (or-none (refused (list_reasons kind tight (map faces (map (map (judged rules)) items)) before)) (refusal_of_items (map (map (judged rules)) items)) (sym (ap (λ (j : Judged). j.refusal before) judged_is) ∙ e)).1 in
-        texts_are ∙ items-texts kind tight items hold accepted (joined-utf8 (not tight) (map (λ blocks. item_lines (marker kind) (joined (not tight) blocks)) (map (map lines_of_block) items)) (subst AllUtf8 lines_are u));
+        let accepted = (or-none (refused (list_reasons kind tight (seen_items rules items) before)) (refusal_of_items (map (map (judged rules)) items)) (refused-as (list-judged rules kind tight items) before e)).1 in
+        list-texts kind tight items ∙ items-texts kind tight items hold accepted
+        (joined-utf8 (not tight) (map (λ blocks. item_lines (marker kind) (joined (not tight) blocks)) (map (map lines_of_block) items)) (subst AllUtf8 (list-lines kind tight items) u));
   }
 
 pub spellings_have_texts : SpellingsHaveTexts

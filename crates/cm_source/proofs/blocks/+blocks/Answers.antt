@@ -4,7 +4,8 @@ use Rattle.std.specs.Prelude.{string_bytes}
 use Rattle.cm_source.specs.Spelling.{gap, marker, item_lines, lines_of_block, lines_of_blocks}
 use Rattle.cm_source.specs.steps.Laid.{Writes}
 use Rattle.cm_source.proofs.LaidLemmas.{then-ok, writes-then}
-use Rattle.cm_source.proofs.BlockLemmas.{gapped, gapped-on, item_lines_of, lines_of_items, list-is, quote-writes, item-writes}
+use Rattle.cm_source.proofs.BlockKinds.{list-lines}
+use Rattle.cm_source.proofs.BlockLemmas.{gapped, gapped-on, item_lines_of, lines_of_items, quote-writes, item-writes}
 use Rattle.cm_source.proofs.blocks.+blocks.Goals as goal
 
 pub spell_quote-returns : goal.spell_quote-returns
@@ -57,5 +58,5 @@ spell_block-returns-after-loop-item t c =
     let tight = c.in-List.tight in
     let items = c.as_slice-item-items.result.now in
     let nothing = ap (λ t. inv.0 ++ gapped c.loop-item.gap (not tight) (item_lines_of kind tight t)) (drop_all c.loop-item.item-index items c.loop-item-test.false) ∙ append-nil inv.0 in
-    let whole = ap lines_of_block c.in-List.is ∙ list-is kind tight c.in-List.items ∙ ap (lines_of_items kind tight) (sym c.as_slice-item-items.ensures) in
+    let whole = ap lines_of_block c.in-List.is ∙ list-lines kind tight c.in-List.items ∙ ap (lines_of_items kind tight) (sym c.as_slice-item-items.ensures) in
     subst (Writes c.args.source.now c.loop-item.source) (sym (whole ∙ inv.2 ∙ nothing)) inv.1
