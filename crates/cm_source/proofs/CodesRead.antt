@@ -12,6 +12,7 @@ use Rattle.cm_scan.specs.Atoms.{AtomRead, Plain, Whole, read, or_byte, backtick_
 use Rattle.cm_source.specs.Texts.{longest_run, is_padded, spelled_code}
 use Rattle.cm_source.specs.InlineRefusals.{has_line_ending}
 use Rattle.cm_source.proofs.BytesRead.{atom_left, reading, run_none}
+use Rattle.cm_source.proofs.TextLemmas.{run-within}
 
 -- ---- the run at the front
 
@@ -49,16 +50,6 @@ run_within (b ∷ bs) rest e = go (b == 96) e (λ h. run_within bs rest h)
         → elim t as (λ _. ℕ) [ true ↦ suc (run_length 96 (bs ++ rest)) | false ↦ 0 ] ≡ elim t as (λ _. ℕ) [ true ↦ suc (run_length 96 bs) | false ↦ 0 ]
     go true e further = ap suc (further e)
     go false e further = refl
-
-first_run : (before : ℕ) (text : List ℕ) → before + run_length 96 text ≤ longest_run before text
-unfolding run_length longest_run
-first_run before [] = omega arith
-first_run before (b ∷ bs) = go (b == 96) (first_run (suc before) bs)
-  where
-    go : (t : Bool) → suc before + run_length 96 bs ≤ longest_run (suc before) bs
-        → before + elim t as (λ _. ℕ) [ true ↦ suc (run_length 96 bs) | false ↦ 0 ] ≤ cond t (longest_run (suc before) bs) (max before (longest_run 0 bs))
-    go true h = omega (arith, h)
-    go false h = omega arith
 
 longer_before : (before : ℕ) (text : List ℕ) → longest_run before text ≤ longest_run (suc before) text
 unfolding longest_run
@@ -103,7 +94,7 @@ up_to_marks n rest r (b ∷ bs) in_run e l =
     goes_on true true f e = refl
     goes_on true false f e =
         let same : run_length 96 ((b ∷ bs) ++ marks) ≡ run_length 96 (b ∷ bs) = run_within (b ∷ bs) marks e in
-        shorter_run (run_length 96 ((b ∷ bs) ++ marks)) (suc n) (omega (arith, same, first_run 0 (b ∷ bs), l))
+        shorter_run (run_length 96 ((b ∷ bs) ++ marks)) (suc n) (omega (arith, same, run-within 0 (b ∷ bs), l))
 
 -- between two runs of more backticks than any run inside
 span_read : (n : ℕ) (text rest : List ℕ) → begins_with 96 rest ≡ false → begins_with 96 (text ++ (replicate (suc n) 96 ++ rest)) ≡ false → ends_in_run false text ≡ false → longest_run 0 text ≤ n

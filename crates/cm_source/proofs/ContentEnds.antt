@@ -4,7 +4,7 @@ use Rattle.std.specs.Prelude.{if◌then◌else◌}
 use Rattle.std.specs.List.{list_all}
 use Rattle.std.specs.Fmt.{decimal}
 use Rattle.std.specs.Char.{is_ascii_control}
-use Rattle.std.proofs.lemmas.Bool.{or_parts, and_from, and_parts, eqb-true, cond-true, cond-false}
+use Rattle.std.proofs.lemmas.Bool.{or_parts, and_from, and_parts, eqb-true, cond-true, cond-false, and_right, or_right}
 use Rattle.cm_text.specs.Rules.{Rules}
 use Rattle.cm_text.specs.Characters.{is_ascii_punct}
 use Rattle.cm_tree.specs.declared.tree.Inline.{Inline}
@@ -22,6 +22,7 @@ use Rattle.cm_source.proofs.LineFronts.{differs, differs', ends_number, line_of,
 use Rattle.cm_source.proofs.ContentFronts.{text-front}
 use Rattle.cm_source.proofs.SpelledBytes.{ByteForm, by_number, escaped, itself, byte-form}
 use Rattle.cm_source.proofs.TagLemmas.{tag-begins, tag-ends}
+use Rattle.cm_source.proofs.PlacesBack.{bare-front}
 
 -- the last byte is neither blank nor an unescaped `#`; the mark says that the first byte is escaped
 unfoldable pub ends_well : (is_escaped : Bool) → List ℕ → Bool
@@ -86,11 +87,7 @@ not-both b = go (b == 92) refl
   where
     go : (w : Bool) → (b == 92) ≡ w → (is_space_or_tab b && w) ≡ false
     go true p = ap (λ c. is_space_or_tab c && true) (eqb-true b 92 p)
-    go false p = and-false (is_space_or_tab b)
-      where
-        and-false : (v : Bool) → (v && false) ≡ false
-        and-false true = refl
-        and-false false = refl
+    go false p = and_right (is_space_or_tab b) false refl
 
 pub unclosed : (after_gap v : Bool) (text : List ℕ) → (after_gap && v) ≡ false → ends_well v text ≡ true → without_closing after_gap text ≡ text
 unfolding without_closing ends_well
@@ -140,14 +137,10 @@ last-well b = go (b == 32) refl
     go true p = behind (codes "&#" ++ decimal 32) (codes ";") (record { some = refl; well = refl })
     go false p = form-ends-well b (spelled_byte b) (byte-form b) p
 
-or-true : (v : Bool) → (v || true) ≡ true
-or-true true = refl
-or-true false = refl
-
 pub text-well : (first : Bool) (text : List ℕ) → is_empty text ≡ false → EndsWell (spelled_text first true text)
 unfolding spelled_text
 text-well first [] some = absurd (cc some)
-text-well first (b ∷ []) some = subst EndsWell (sym (append-nil (edge_byte (first || true) b)) ∙ refl) (subst (λ v. EndsWell (edge_byte v b)) (sym (or-true first)) (last-well b))
+text-well first (b ∷ []) some = subst EndsWell (sym (append-nil (edge_byte (first || true) b)) ∙ refl) (subst (λ v. EndsWell (edge_byte v b)) (sym (or_right first true refl)) (last-well b))
 text-well first (b ∷ c ∷ cs) some = behind (edge_byte (first || false) b) (spelled_text false true (c ∷ cs)) (text-well false (c ∷ cs) refl)
 
 ticks-well : (n : ℕ) → EndsWell (replicate (suc n) 96)
@@ -232,13 +225,9 @@ module _ (rules : Rules) where
     image = λ dest title is all place after e last. bare-told (Image dest title is) _ (image-spelled dest title is) last refl;
   })
 
-  bare-more : (text more : List ℕ) → is_unindented text ≡ true → is_unindented (text ++ more) ≡ true
-  bare-more [] more e = absurd (cc e)
-  bare-more (b ∷ bs) more e = e
-
   pub content-bare : (i : Inline) (is : List Inline) (place : Place) → refusal_of_all place None (map (judged rules) (i ∷ is)) ≡ None
       → (last : Bool) → is_unindented (join true last (map spelled (i ∷ is))) ≡ true
   content-bare i is place e last =
       let after = first_face (map (judged rules) is) in
-      bare-more ((spelled i).spelling true (is_line_end last (map spelled is))) (join (spelled i).begins_line last (map spelled is))
+      bare-front ((spelled i).spelling true (is_line_end last (map spelled is))) (join (spelled i).begins_line last (map spelled is))
       (begins-bare i place after (or-none ((judged rules i).refusal place None after) (refusal_of_all (further_in place) (Some (judged rules i).face) (map (judged rules) is)) e).0 (is_line_end last (map spelled is)))

@@ -5,7 +5,7 @@ use Rattle.std.specs.Str.{chars}
 use Rattle.std.specs.List.{list_all, list_any}
 use Rattle.std.specs.Char.{is_ascii_control}
 use Rattle.std.specs.Fmt.{decimal}
-use Rattle.std.proofs.lemmas.Bool.{or_parts, or_right, and_from, and_parts, eqb-true}
+use Rattle.std.proofs.lemmas.Bool.{or_parts, or_right, and_from, and_parts, eqb-true, not-true}
 use Rattle.cm_text.specs.Rules.{Rules}
 use Rattle.cm_text.specs.Characters.{is_ascii_punct, is_space}
 use Rattle.cm_text.proofs.Computing.{character_kinds}
@@ -139,11 +139,7 @@ unfolding is_line_byte
 line-byte b bs e =
     let parts = and_parts (is_line_byte b) (list_all is_line_byte bs) e in
     let some = and_parts (not (b == 0)) (not (b == 10) && not (b == 13)) parts.0 in
-    (go (b == 10) (and_parts (not (b == 10)) (not (b == 13)) some.1).0, parts.1)
-  where
-    go : (v : Bool) → not v ≡ true → v ≡ false
-    go false k = refl
-    go true k = absurd (cc k)
+    (not-true (b == 10) (and_parts (not (b == 10)) (not (b == 13)) some.1).0, parts.1)
 
 line-has : (inside rest : List ℕ) → list_all is_line_byte inside ≡ true → list_any (λ c. c == 96) (line_of (inside ++ 96 ∷ rest)) ≡ true
 unfolding line_of
@@ -287,9 +283,6 @@ module _ (rules : Rules) where
 
   abbrev inner-told : (i : Inline) (s : Spelled) → spelled i ≡ s → (last : Bool) → StartsInner (s.spelling false last) → StartsInner ((spelled i).spelling false last)
   inner-told i s e last starts = subst (λ (z : Spelled). StartsInner (z.spelling false last)) (sym e) starts
-
-  plain-inner : (b : ℕ) (rest : List ℕ) → IsInner b → StartsInner (b ∷ rest)
-  plain-inner b rest inner = starts-with b rest inner
 
   space-first : (bs : List ℕ) → is_whitespace (first_of (Some (judged rules (Text (32 ∷ bs))).face)) ≡ true
   unfolding chars character_kinds

@@ -4,7 +4,7 @@ use Rattle.std.specs.Prelude.{if◌then◌else◌}
 use Rattle.std.specs.List.{list_all}
 use Rattle.std.specs.Fmt.{decimal}
 use Rattle.std.specs.Char.{is_ascii_control}
-use Rattle.std.proofs.lemmas.Bool.{or_parts, or_from, and_from, and_parts}
+use Rattle.std.proofs.lemmas.Bool.{or_parts, or_from, and_from, and_parts, and_right, not-true}
 use Rattle.cm_text.specs.Rules.{Rules}
 use Rattle.cm_text.specs.Characters.{is_ascii_punct}
 use Rattle.cm_tree.specs.declared.tree.Inline.{Inline}
@@ -21,6 +21,7 @@ use Rattle.cm_source.proofs.InlineInduction.{AllHold, Cases, by-cases, all-by-ca
 use Rattle.cm_source.proofs.LineFronts.{differs, differs'}
 use Rattle.cm_source.proofs.SpelledBytes.{all-both, all-so, all-digits, ByteForm, by_number, escaped, itself, edge-form}
 use Rattle.cm_source.proofs.TagLemmas.{tag-begins, tag-ends}
+use Rattle.cm_source.proofs.TextLemmas.{escapes-none}
 
 -- ---- where a label ends
 
@@ -118,10 +119,6 @@ one-passes : (b : ℕ) (more : List ℕ) → (b == 91) ≡ false → (b == 92) �
 unfolding is_no_label
 one-passes b more e f g h = goes (escapes-none b more f)
   where
-    escapes-none : (b : ℕ) (more : List ℕ) → (b == 92) ≡ false → escapes_next b more ≡ false
-    escapes-none b [] f = refl
-    escapes-none b (c ∷ cs) f = ap (λ v. v && is_ascii_punct c) f
-
     goes : escapes_next b more ≡ false → is_no_label false (b ∷ more) ≡ true
     goes k = ap (λ v. if v then not (begins_with 58 more) else (if b == 91 then true else is_no_label (escapes_next b more) more)) g
         ∙ ap (λ v. if v then true else is_no_label (escapes_next b more) more) e ∙ ap (λ v. is_no_label v more) k ∙ h
@@ -133,11 +130,7 @@ all-pass (b ∷ bs) more e h =
     let parts = and_parts (passes_byte b) (list_all passes_byte bs) e in
     let first = and_parts (not (b == 91)) (not (b == 92) && not (b == 93)) parts.0 in
     let others = and_parts (not (b == 92)) (not (b == 93)) first.1 in
-    one-passes b (bs ++ more) (not-so (b == 91) first.0) (not-so (b == 92) others.0) (not-so (b == 93) others.1) (all-pass bs more parts.1 h)
-  where
-    not-so : (v : Bool) → not v ≡ true → v ≡ false
-    not-so false k = refl
-    not-so true k = absurd (cc k)
+    one-passes b (bs ++ more) (not-true (b == 91) first.0) (not-true (b == 92) others.0) (not-true (b == 93) others.1) (all-pass bs more parts.1 h)
 
 digit-passes : (b : ℕ) → is_digit b ≡ true → passes_byte b ≡ true
 unfolding passes_byte
@@ -227,14 +220,10 @@ code-passes text more e h = go (is_padded text)
         ap (is_no_label false) shape ∙ ticks-pass (suc n) (text ++ 96 ∷ (replicate n 96 ++ more))
         (words-pass text 96 (replicate n 96 ++ more) e refl (either-byte 96 (replicate n 96 ++ more) refl refl refl (ticks-pass n more h)) false)
 
-and-false : (v : Bool) → (v && false) ≡ false
-and-false true = refl
-and-false false = refl
-
 held-front : (front : List ℕ) (z : ℕ) → holds_word (codes "]:") (front ++ z ∷ []) ≡ false → holds_word (codes "]:") front ≡ false
 unfolding holds_word is_at_word
 held-front [] z e = refl
-held-front (b ∷ []) z e = or_from ((b == 93) && false) false (and-false (b == 93)) refl
+held-front (b ∷ []) z e = or_from ((b == 93) && false) false (and_right (b == 93) false refl) refl
 held-front (b ∷ c ∷ cs) z e =
     let parts = or_parts (is_at_word (codes "]:") (b ∷ c ∷ cs)) (holds_word (codes "]:") (c ∷ cs ++ z ∷ [])) e in
     or_from (is_at_word (codes "]:") (b ∷ c ∷ cs)) (holds_word (codes "]:") (c ∷ cs)) parts.0 (held-front (c ∷ cs) z parts.1)

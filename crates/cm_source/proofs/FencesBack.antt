@@ -26,20 +26,9 @@ use Rattle.cm_source.proofs.HtmlLemmas.{ended-whole}
 use Rattle.cm_source.proofs.OutlineLines.{at, Have, no_lines, a_line, have-split}
 use Rattle.cm_source.proofs.OutlineFits.{Inner, Interrupts, LeafFits}
 use Rattle.cm_source.proofs.LeavesBack.{clean-front, inside-line, one-line-append, one-line-replicate}
+use Rattle.cm_source.proofs.TextLemmas.{run-within, longest-at-least}
 
 -- runs of backticks
-
-run-within : (n : ℕ) (t : List ℕ) → n + run_length 96 t ≤ longest_run n t
-unfolding run_length longest_run
-run-within n [] = omega arith
-run-within n (b ∷ t) = go (b == 96) (run-within (suc n) t)
-  where
-    go : (v : Bool) → suc n + run_length 96 t ≤ longest_run (suc n) t → n + (elim v as (λ _. ℕ) [ true ↦ suc (run_length 96 t) | false ↦ 0 ]) ≤ (if v then longest_run (suc n) t else max n (longest_run 0 t))
-    go true h = omega (arith, h)
-    go false h = omega arith
-
-before-within : (n : ℕ) (t : List ℕ) → n ≤ longest_run n t
-before-within n t = let h : n + run_length 96 t ≤ longest_run n t = run-within n t in omega (arith, h)
 
 blank-no-tick : (b : ℕ) → is_space_or_tab b ≡ true → (b == 96) ≡ false
 blank-no-tick b h = grind (arith, h)
@@ -98,7 +87,7 @@ lines-within n (b ∷ bs) = go (b == 10) (b == 96) refl refl (lines-within 0 bs)
     go true false h k x y = first_within (let goal : n ≤ max n (longest_run 0 bs) = omega arith in goal) (all-more (let goal : longest_run 0 bs ≤ max n (longest_run 0 bs) = omega arith in goal) (as-all x))
     go false true h k x y =
         let tick : b ≡ 96 = grind (arith, k) in
-        subst (λ c. Within n (longest_run (suc n) bs) (in_front c (ended_lines bs))) (sym tick) (tick-front n (longest_run (suc n) bs) (ended_lines bs) (before-within (suc n) bs) y)
+        subst (λ c. Within n (longest_run (suc n) bs) (in_front c (ended_lines bs))) (sym tick) (tick-front n (longest_run (suc n) bs) (ended_lines bs) (longest-at-least (suc n) bs) y)
     go false false h k x y = other-front b n (longest_run 0 bs) (ended_lines bs) k x
 
 -- a fence of so many backticks

@@ -24,6 +24,7 @@ use Rattle.cm_source.proofs.FeedLemmas.{ended-last}
 use Rattle.cm_source.specs.Spelling.{in_front, ended_lines}
 use Rattle.cm_source.specs.Refusals.{is_code_text, last_line, first_line, is_html_ended, is_html_part, is_html_block}
 use Rattle.cm_source.specs.steps.HtmlLines.{ends_as_last, fits, is_none_left, all_fit, fit_from}
+use Rattle.cm_source.proofs.LineFronts.{no-html-start}
 
 -- the text of lines that line feeds end
 abbrev pub ended : List (List ℕ) → List ℕ
@@ -364,10 +365,6 @@ block-is rules kind f g text e lines is =
     ap (λ v. (v && is_html_part text (parts_of rules (plain_lines_of text))) && is_html_ended rules text) begins
     ∙ ap (λ v. v && is_html_ended rules text) part ∙ ap (λ v. is_none_left w.takes.left && v) ends ∙ sym w.fit
 
-no-angle : (rules : Rules) (b : ℕ) (bs : List ℕ) → (b == 60) ≡ false → html_start rules (b ∷ bs) ≡ None
-unfolding html_start
-no-angle rules b bs e = rw (e, html_start) refl
-
 pub starts-angle : (rules : Rules) (line : List ℕ) (kind : HtmlKind) → html_start rules line ≡ Some kind → (f : List ℕ) × (line ≡ 60 ∷ f)
 unfolding html_start
 starts-angle rules [] kind e = absurd (cc e)
@@ -375,7 +372,7 @@ starts-angle rules (b ∷ bs) kind e = go (b == 60) refl
   where
     go : (v : Bool) → (b == 60) ≡ v → (f : List ℕ) × (b ∷ bs ≡ 60 ∷ f)
     go true is = (bs, ap (λ x. x ∷ bs) (eqb-true b 60 is))
-    go false is = let none = no-angle rules b bs is in absurd (cc (none, e))
+    go false is = let none = no-html-start rules b bs is in absurd (cc (none, e))
 
 pub lines-from : (lines : List (List ℕ)) (f : List ℕ) → first_line lines ≡ 60 ∷ f → (g : List (List ℕ)) × (lines ≡ (60 ∷ f) ∷ g)
 lines-from [] f e = absurd (cc e)

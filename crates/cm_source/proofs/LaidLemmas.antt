@@ -9,6 +9,8 @@ use Rattle.cm_scan.specs.Words.{keep_byte, trim_end_by, trim_end_spaces}
 use Rattle.cm_source.specs.declared.source.Source.{Source}
 use Rattle.cm_source.specs.Spelling.{in_front, parted_lines}
 use Rattle.cm_source.specs.steps.Laid.{behind, further_lines, all_lines, next_front, next_begun, StandsAt, IsEnded, IsBetween, Place, IsInside, up_to, lay, Writes, Begins, Ends, Lays, Enters, Leaves}
+use Rattle.cm_source.proofs.LineFronts.{line_of, parted-lines}
+use Rattle.cm_source.proofs.LineFronts as parted
 
 -- texts behind which spaces are stripped by themselves
 
@@ -88,17 +90,6 @@ put-nothing : (lines : List (List ℕ)) → put_front [] lines ≡ lines
 put-nothing [] = refl
 put-nothing (line ∷ lines) = refl
 
--- parted lines are one or more
-is_some_lines : (text : List ℕ) → (line : List ℕ) × (lines : List (List ℕ)) × (parted_lines text ≡ line ∷ lines)
-unfolding parted_lines
-is_some_lines [] = ([], [], refl)
-is_some_lines (b ∷ bs) = go (b == 10) (is_some_lines bs)
-  where
-    go : (feed : Bool) → (line : List ℕ) × (lines : List (List ℕ)) × (parted_lines bs ≡ line ∷ lines)
-        → (line : List ℕ) × (lines : List (List ℕ)) × ((if feed then [] ∷ parted_lines bs else in_front b (parted_lines bs)) ≡ line ∷ lines)
-    go true (line, lines, e) = ([], parted_lines bs, refl)
-    go false (line, lines, e) = (b ∷ line, lines, ap (in_front b) e)
-
 -- where a content leads, once its last line is ended
 pub laid-lines : (front : List ℕ) (place : Place) (content : List ℕ) → up_to (lay front place content) ≡ place.done ++ all_lines place.first front (put_front place.last (parted_lines content))
 unfolding lay parted_lines
@@ -121,7 +112,9 @@ laid-lines front place (b ∷ bs) = go (b == 10) (laid-lines front (record { don
         ∙ append_assoc place.done (behind place.first place.last) (10 ∷ further_lines front (parted_lines bs))
         ∙ ap (λ t. place.done ++ (behind place.first t ++ 10 ∷ further_lines front (parted_lines bs))) (sym (append-nil place.last))
     go false after further =
-        let (line, lines, e) = is_some_lines bs in
+        let line = line_of bs in
+        let lines = parted.further_lines bs in
+        let e = parted-lines bs in
         further
         ∙ ap (λ t. place.done ++ all_lines place.first front (put_front (place.last ++ b ∷ []) t)) e
         ∙ ap (λ t. place.done ++ all_lines place.first front (t ∷ lines)) (append_assoc place.last (b ∷ []) line)
@@ -162,7 +155,7 @@ lays-break one two three ends begins place front is = begins false (up_to place)
 pub writes-content : (one two three four : Source) (content : List ℕ) → Begins one two → Lays two three content → Ends three four → Writes one four (parted_lines content)
 writes-content one two three four content begins lays ends begun done first front is =
     let start : Place = record { done = done; first = first; last = [] } in
-    let (line, lines, e) = is_some_lines content in
+    let e = parted-lines content in
     subst (λ t. IsBetween four (next_begun begun t) (done ++ all_lines first front t) (next_front first front t) front) (sym e)
     (subst (λ t. IsBetween four false t front front) (laid-lines front start content ∙ ap (λ t. done ++ all_lines first front (put_front [] t)) e)
     (ends (lay front start content) front (lays start front (begins begun done first front is))))

@@ -23,6 +23,7 @@ use Rattle.cm_source.specs.steps.Sources.{is_clean, is_one_line, IsTextLine, All
 use Rattle.cm_source.proofs.OutlineLines.{at, Have, no_lines, a_line, have-first}
 use Rattle.cm_source.proofs.PlacesBack.{at_end, before_empty}
 use Rattle.cm_source.proofs.OutlineFits.{Follows, apart_from, interrupted, LeafFits}
+use Rattle.cm_source.proofs.LineFronts.{line_of, further_lines, parted-lines}
 
 -- a byte that may stand in a line
 abbrev pub is_inside_line : ℕ → Bool
@@ -111,7 +112,7 @@ bare-not-empty [] h = absurd (false≢true h)
 bare-not-empty (b ∷ t) h = refl
 
 -- more lines behind a source that isn't empty
-with_lines : List ℕ → List (List ℕ) → List ℕ
+unfoldable pub with_lines : List ℕ → List (List ℕ) → List ℕ
 with_lines source [] = source
 with_lines source (t ∷ ts) = with_lines (source ++ 10 ∷ t) ts
 
@@ -125,23 +126,14 @@ unfolding with_lines
 join-in-front a source [] = refl
 join-in-front a source (t ∷ ts) = ap (λ s. with_lines s ts) (append_assoc a source (10 ∷ t)) ∙ join-in-front a (source ++ 10 ∷ t) ts
 
-abbrev join-all : List (List ℕ) → List ℕ
+abbrev pub join-all : List (List ℕ) → List ℕ
 join-all [] = []
 join-all (t ∷ ts) = with_lines t ts
 
-parted-some : (s : List ℕ) → (first : List ℕ) × (further : List (List ℕ)) × (parted_lines s ≡ first ∷ further)
-unfolding parted_lines
-parted-some [] = ([], [], refl)
-parted-some (b ∷ bs) = let (f, g, e) = parted-some bs in go (b == 10) f g e
-  where
-    go : (v : Bool) (f : List ℕ) (g : List (List ℕ)) → parted_lines bs ≡ f ∷ g → (first : List ℕ) × (further : List (List ℕ)) × ((if v then [] ∷ parted_lines bs else in_front b (parted_lines bs)) ≡ first ∷ further)
-    go true f g e = ([], parted_lines bs, refl)
-    go false f g e = (b ∷ f, g, ap (in_front b) e)
-
-parted-joined : (s : List ℕ) → join-all (parted_lines s) ≡ s
+pub parted-joined : (s : List ℕ) → join-all (parted_lines s) ≡ s
 unfolding parted_lines with_lines
 parted-joined [] = refl
-parted-joined (b ∷ bs) = let (f, g, e) = parted-some bs in let again : join-all (parted_lines bs) ≡ bs = parted-joined bs in go (b == 10) refl f g e again
+parted-joined (b ∷ bs) = let again : join-all (parted_lines bs) ≡ bs = parted-joined bs in go (b == 10) refl (line_of bs) (further_lines bs) (parted-lines bs) again
   where
     go : (v : Bool) → (b == 10) ≡ v → (f : List ℕ) (g : List (List ℕ)) → parted_lines bs ≡ f ∷ g → join-all (parted_lines bs) ≡ bs → join-all (if v then [] ∷ parted_lines bs else in_front b (parted_lines bs)) ≡ b ∷ bs
     go true h f g e again = ap (λ l. join-all ([] ∷ l)) e ∙ join-in-front (10 ∷ []) f g ∙ ap (λ l. 10 ∷ join-all l) (sym e) ∙ ap (λ l. 10 ∷ l) again ∙ ap (λ x. x ∷ bs) (sym (eqb-true b 10 h))

@@ -121,9 +121,9 @@ no-fence : (b : ℕ) (bs : List ℕ) → (b == 96) ≡ false → (b == 126) ≡ 
 unfolding opening_fence
 no-fence b bs e f = rw (no-fence-of 96 b bs e, no-fence-of 126 b bs f) refl
 
-no-html : (rules : Rules) (b : ℕ) (bs : List ℕ) → (b == 60) ≡ false → html_start rules (b ∷ bs) ≡ None
+pub no-html-start : (rules : Rules) (b : ℕ) (bs : List ℕ) → (b == 60) ≡ false → html_start rules (b ∷ bs) ≡ None
 unfolding html_start
-no-html rules b bs e = rw (e, html_start) refl
+no-html-start rules b bs e = rw (e, html_start) refl
 
 no-bullet : (b : ℕ) (bs : List ℕ) → (b == 45) ≡ false → (b == 43) ≡ false → (b == 42) ≡ false → bullet_marker (b ∷ bs) ≡ None
 unfolding bullet_marker
@@ -149,13 +149,13 @@ quiet-start rules b bs q =
       q.no_quote,
       no-heading b bs q.no_hash,
       no-fence b bs q.no_backtick q.no_tilde,
-      no-html rules b bs q.no_angle,
+      no-html-start rules b bs q.no_angle,
       no-break b bs q.no_dash q.no_underscore q.no_star q.no_space q.no_tab,
       no-bullet b bs q.no_dash q.no_plus q.no_star,
       no-number b bs q.no_digit,
     ) refl
 
-no-level : (b : ℕ) (bs : List ℕ) → (b == 61) ≡ false → (b == 45) ≡ false → underline (b ∷ bs) ≡ None
+pub no-level : (b : ℕ) (bs : List ℕ) → (b == 61) ≡ false → (b == 45) ≡ false → underline (b ∷ bs) ≡ None
 unfolding underline
 no-level b bs e f = rw (no-run 61 b bs e, no-run 45 b bs f) refl
 
@@ -237,7 +237,7 @@ number-start rules b bs q none =
       q.no_quote,
       no-heading b bs q.no_hash,
       no-fence b bs q.no_backtick q.no_tilde,
-      no-html rules b bs q.no_angle,
+      no-html-start rules b bs q.no_angle,
       no-break b bs q.no_dash q.no_underscore q.no_star q.no_space q.no_tab,
       no-bullet b bs q.no_dash q.no_plus q.no_star,
       none,
@@ -383,15 +383,16 @@ parted-lines (b ∷ bs) = go (b == 10) refl (parted-lines bs)
 is-further : (rules : Rules) (line : List ℕ) → IsText rules line → IsTextLine rules line
 is-further rules line t = record { bare = t.bare; starts = t.starts; no_underline = t.no_underline }
 
+pub first-front : (text : List ℕ) → LinesBegin true text → Front text
+unfolding LinesBegin
+first-front [] begin = absurd (cc begin)
+first-front (b ∷ bs) begin = begin.0 refl
+
 pub lines-are-text : (rules : Rules) (at_front : Bool) (text : List ℕ) → LinesBegin at_front text → AllTextLines rules (further_lines text)
 unfolding LinesBegin further_lines
 lines-are-text rules at_front [] begin = tt
 lines-are-text rules at_front (b ∷ bs) begin = go (b == 10) refl begin.1 (lines-are-text rules (b == 10) bs begin.1)
   where
     go : (v : Bool) → (b == 10) ≡ v → LinesBegin (b == 10) bs → AllTextLines rules (further_lines bs) → AllTextLines rules (if v then parted_lines bs else further_lines bs)
-    go true p here again = subst (AllTextLines rules) (sym (parted-lines bs)) (is-further rules (line_of bs) (front-line rules bs (first bs (subst (λ v. LinesBegin v bs) p here))), again)
-      where
-        first : (t : List ℕ) → LinesBegin true t → Front t
-        first [] e = absurd (cc e)
-        first (c ∷ cs) e = e.0 refl
+    go true p here again = subst (AllTextLines rules) (sym (parted-lines bs)) (is-further rules (line_of bs) (front-line rules bs (first-front bs (subst (λ v. LinesBegin v bs) p here))), again)
     go false p here again = again

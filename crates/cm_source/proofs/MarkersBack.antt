@@ -20,10 +20,7 @@ use Rattle.cm_source.specs.steps.Sources.{is_only, is_one_line}
 use Rattle.cm_source.proofs.NumbersBack.{digits-are, value-is, short-is}
 use Rattle.cm_source.proofs.PlacesBack.{MarkerReads}
 use Rattle.cm_source.proofs.OutlineFits.{KindFits}
-
-other-no_underline : (b : ℕ) (t : List ℕ) → (b == 61) ≡ false → (b == 45) ≡ false → underline (b ∷ t) ≡ None
-unfolding underline run_length after_run
-other-no_underline b t h k = grind (arith, h, k)
+use Rattle.cm_source.proofs.LineFronts.{no-level}
 
 digits-front : (ds : List ℕ) (p : ℕ) (rest : List ℕ) → list_all is_digit ds ≡ true → is_digit p ≡ false → front_of is_digit (ds ++ p ∷ rest) ≡ ds
 unfolding front_of
@@ -131,7 +128,7 @@ module _ (rules : Rules) where
     number-no_underline : (rest : List ℕ) → underline (ds ++ p ∷ rest) ≡ None
     number-no_underline rest =
         let (d, more, e, h) = some-digit in
-        ap (λ l. underline (l ++ p ∷ rest)) e ∙ other-no_underline d (more ++ p ∷ rest) (grind (arith, h)) (grind (arith, h))
+        ap (λ l. underline (l ++ p ∷ rest)) e ∙ no-level d (more ++ p ∷ rest) (grind (arith, h)) (grind (arith, h))
 
     number-reads : marker kind ≡ ds ++ p ∷ [] → MarkerReads rules kind
     unfolding number-marker
@@ -160,11 +157,11 @@ module _ (rules : Rules) where
     clean = refl;
   }
   kind-fits Plus h = record {
-    reads = record { read = record { kind = Plus; digits = 0 }; same = refl; width = refl; bare = refl; starts = λ t d s. plus-starts t; starts_alone = plus-alone; no_underline = λ t b. other-no_underline 43 (32 ∷ t) refl refl };
+    reads = record { read = record { kind = Plus; digits = 0 }; same = refl; width = refl; bare = refl; starts = λ t d s. plus-starts t; starts_alone = plus-alone; no_underline = λ t b. no-level 43 (32 ∷ t) refl refl };
     clean = refl;
   }
   kind-fits Star h = record {
-    reads = record { read = record { kind = Star; digits = 0 }; same = refl; width = refl; bare = refl; starts = λ t d s. star-starts t s; starts_alone = star-alone; no_underline = λ t b. other-no_underline 42 (32 ∷ t) refl refl };
+    reads = record { read = record { kind = Star; digits = 0 }; same = refl; width = refl; bare = refl; starts = λ t d s. star-starts t s; starts_alone = star-alone; no_underline = λ t b. no-level 42 (32 ∷ t) refl refl };
     clean = refl;
   }
   kind-fits (Dot n) h =

@@ -15,14 +15,9 @@ use Rattle.cm_source.proofs.ContentEnds.{trimmed-start, trimmed-end, unclosed, t
 use Rattle.cm_source.proofs.ContentFronts.{paragraph-lines}
 use Rattle.cm_source.proofs.ContentLabels.{defines-nothing, content-none}
 use Rattle.cm_source.proofs.KeptBytes.{is_kept, contents-keep, text-is-line, is_line_byte}
-use Rattle.cm_source.proofs.LineFronts.{Front, LinesBegin, line_of, further_lines, parted-lines, front-line, lines-are-text}
-use Rattle.cm_source.proofs.SpelledBytes.{is_tame, text-tame}
+use Rattle.cm_source.proofs.LineFronts.{Front, LinesBegin, line_of, further_lines, parted-lines, front-line, lines-are-text, first-front}
+use Rattle.cm_source.proofs.SpelledBytes.{is_tame, text-tame, none-tame}
 use Rattle.cm_source.proofs.UnescapeBack.{unescape_text}
-
-first-front : (text : List ℕ) → LinesBegin true text → Front text
-unfolding LinesBegin
-first-front [] begin = absurd (cc begin)
-first-front (b ∷ bs) begin = begin.0 refl
 
 abbrev pub of_paragraph : Place
 of_paragraph = record { heading = false; opens_paragraph = true; in_opening_link = false }
@@ -65,17 +60,7 @@ heading-source rules (i ∷ is) e =
 
 no-backtick : (text : List ℕ) → list_all is_tame text ≡ true → list_any (λ b. b == 96) text ≡ false
 unfolding is_tame
-no-backtick [] e = refl
-no-backtick (b ∷ bs) e =
-    let parts = and_parts (is_tame b) (list_all is_tame bs) e in
-    or_from (b == 96) (list_any (λ c. c == 96) bs) (last (b == 0) (b == 10) (b == 13) (b == 96) parts.0) (no-backtick bs parts.1)
-  where
-    last : (v w x y : Bool) → (not v && (not w && (not x && not y))) ≡ true → y ≡ false
-    last v w x false k = refl
-    last true w x true k = absurd (cc k)
-    last false true x true k = absurd (cc k)
-    last false false true true k = absurd (cc k)
-    last false false false true k = absurd (cc k)
+no-backtick text e = none-tame 96 refl text e
 
 info-source : (rules : Rules) (info : List ℕ) → IsInfoSource (spelled_text true true info)
 unfolding is_line_byte skip trim_end_by spelled_text

@@ -2,9 +2,9 @@
 use Rattle.std.proofs.Common.{◌≡◌, ℕ, zero, suc, ◌<◌, ◌==◌, ◌&&◌, ◌||◌, not, cond, Bool, true, false, List, [], ◌∷◌, ◌++◌, replicate, codes, refl, sym, ap, subst, ◌∙◌, arith}
 use Rattle.std.specs.Prelude.{if◌then◌else◌}
 use Rattle.std.specs.Fmt.{decimal, digits}
-use Rattle.std.specs.List.{list_all}
+use Rattle.std.specs.List.{list_all, list_any}
 use Rattle.std.specs.Char.{is_ascii_control}
-use Rattle.std.proofs.lemmas.Bool.{cond-true, cond-false, or_parts, and_from, and_parts, agree_below_at, eqb-true, ne_eqb}
+use Rattle.std.proofs.lemmas.Bool.{cond-true, cond-false, or_parts, and_from, and_parts, agree_below_at, eqb-true, ne_eqb, or_from}
 use Rattle.cm_text.specs.Characters.{is_ascii_punct}
 use Rattle.cm_scan.specs.Words.{is_digit, is_empty}
 use Rattle.cm_source.specs.Texts.{numbered, spelled_byte, spelled_bytes, edge_byte, spelled_text, spelled_title, spelled_target}
@@ -106,3 +106,23 @@ target-tame dest title =
     all-both is_tame (codes "](<" ++ spelled_bytes dest ++ codes ">" ++ spelled_title title) (codes ")")
     (all-both is_tame (codes "](<" ++ spelled_bytes dest ++ codes ">") (spelled_title title)
     (all-both is_tame (codes "](<" ++ spelled_bytes dest) (codes ">") (bytes-tame dest) refl) (title-tame title)) refl
+
+-- so none of the others stands in them
+pub none-tame : (c : ℕ) → is_tame c ≡ false → (text : List ℕ) → list_all is_tame text ≡ true → list_any (λ b. b == c) text ≡ false
+none-tame c other [] e = refl
+none-tame c other (b ∷ bs) e =
+    let parts = and_parts (is_tame b) (list_all is_tame bs) e in
+    or_from (b == c) (list_any (λ d. d == c) bs) (differs is_tame b c parts.0 other) (none-tame c other bs parts.1)
+
+no-feed : is_tame 10 ≡ false
+unfolding is_tame
+no-feed = refl
+
+pub text-without : (first last : Bool) (text : List ℕ) → list_any (λ b. b == 10) (spelled_text first last text) ≡ false
+text-without first last text = none-tame 10 no-feed (spelled_text first last text) (text-tame first last text)
+
+pub bytes-without : (text : List ℕ) → list_any (λ b. b == 10) (spelled_bytes text) ≡ false
+bytes-without text = none-tame 10 no-feed (spelled_bytes text) (bytes-tame text)
+
+pub target-without : (dest title : List ℕ) → list_any (λ b. b == 10) (spelled_target dest title) ≡ false
+target-without dest title = none-tame 10 no-feed (spelled_target dest title) (target-tame dest title)

@@ -15,6 +15,9 @@ use Rattle.cm_source.specs.InlineRefusals.{has_nul}
 use Rattle.cm_source.proofs.BytesRead.{reading}
 use Rattle.cm_source.proofs.Ways.{Way, ByNumber, Escaped, AsItIs, Ways, NoByte, OneByte, is_numbered, ways}
 use Rattle.cm_source.proofs.UnescapeBack.{unescape_bytes}
+use Rattle.cm_source.proofs.TextLemmas.{escapes-none}
+use Rattle.cm_source.proofs.FeedLemmas.{has_feed}
+use Rattle.cm_source.proofs.SpelledBytes.{bytes-without}
 
 -- bytes in front of what was read
 onto : List ℕ → Option Reading → Option Reading
@@ -47,10 +50,6 @@ is_passed b = not (is_stop b || b == 92)
 passed_is : (b : ℕ) → is_passed b ≡ true → (is_stop b ≡ false) × ((b == 92) ≡ false)
 passed_is b e = or_parts (is_stop b) (b == 92) (not-true (is_stop b || b == 92) e)
 
-escapes_none : (b : ℕ) (bs : List ℕ) → (b == 92) ≡ false → escapes_next b bs ≡ false
-escapes_none b [] e = refl
-escapes_none b (c ∷ cs) e = ap (λ t. t && is_ascii_punct c) e
-
 module _ (closes forbidden : ℕ → Bool) (others : PassesOthers closes forbidden) where
   by_tests : ℕ → (rest : List ℕ) → (closing barred escaped : Bool) → Option Reading
   by_tests b rest closing barred escaped = elim closing [ true ↦ Some (reading [] rest) | false ↦ elim barred [ true ↦ None | false ↦ behind b (closed_by closes forbidden escaped rest) ] ]
@@ -70,7 +69,7 @@ module _ (closes forbidden : ℕ → Bool) (others : PassesOthers closes forbidd
   bytes_passed (b ∷ bs) rest e =
       let both = and_parts (is_passed b) (list_all is_passed bs) e in
       let no = passed_is b both.0 in
-      byte_passed b (bs ++ rest) false no.0 (escapes_none b (bs ++ rest) no.1) ∙ ap (behind b) (bytes_passed bs rest both.1)
+      byte_passed b (bs ++ rest) false no.0 (escapes-none b (bs ++ rest) no.1) ∙ ap (behind b) (bytes_passed bs rest both.1)
 
   numbers_pass : agree_below (λ b. list_all is_passed (numbered b)) (λ b. true) 128 ≡ true
   unfolding digits
@@ -115,32 +114,6 @@ unfolding destination
 destination_read dest rest = closed_read (λ c. c == 62) (λ c. c == 60 || c == 10) no_stop 62 dest rest refl
 
 -- no line feed stands in spelled bytes
-abbrev has_feed : List ℕ → Bool
-has_feed text = list_any (λ b. b == 10) text
-
-feed_append : (xs ys : List ℕ) → has_feed xs ≡ false → has_feed ys ≡ false → has_feed (xs ++ ys) ≡ false
-feed_append [] ys h k = k
-feed_append (x ∷ xs) ys h k = let parts = or_parts (x == 10) (has_feed xs) h in ap (λ t. t || has_feed (xs ++ ys)) parts.0 ∙ feed_append xs ys parts.1 k
-
-numbers_feed : agree_below (λ b. has_feed (numbered b)) (λ b. false) 128 ≡ true
-unfolding digits
-numbers_feed = refl
-
-punct_feed : (b : ℕ) → is_ascii_punct b ≡ true → has_feed (92 ∷ b ∷ []) ≡ false
-punct_feed b e = grind (arith, nat_tests, e)
-
-plain_feed : (b : ℕ) → is_numbered b ≡ false → has_feed (b ∷ []) ≡ false
-plain_feed b e = grind (arith, nat_tests, e)
-
-way_feed : (b : ℕ) (front : List ℕ) → Way b front → has_feed front ≡ false
-way_feed b front (ByNumber low) = agree_below_at (λ b. has_feed (numbered b)) (λ b. false) 128 b numbers_feed low
-way_feed b front (Escaped punct) = punct_feed b punct
-way_feed b front (AsItIs printed plain) = plain_feed b printed
-
-pub ways_feed : (text front : List ℕ) → Ways text front → has_feed front ≡ false
-ways_feed text front NoByte = refl
-ways_feed text front (OneByte {b = b} {bs = bs} {first = first} {others = others} one more) = feed_append first others (way_feed b first one) (ways_feed bs others more)
-
 no_blank_line : (text : List ℕ) → has_feed text ≡ false → has_blank_line text ≡ false
 unfolding has_blank_line
 no_blank_line [] e = refl
@@ -152,7 +125,7 @@ title_read : (text rest : List ℕ) → title (34 ∷ (spelled_bytes text ++ 34 
 unfolding title title_in
 title_read text rest =
     ap (keep_if has_no_blank_line) (closed_read (λ c. c == 34) (λ c. false) no_quote 34 text rest refl)
-    ∙ ap (λ t. given (not t) (reading (spelled_bytes text) rest)) (no_blank_line (spelled_bytes text) (ways_feed text (spelled_bytes text) (ways text)))
+    ∙ ap (λ t. given (not t) (reading (spelled_bytes text) rest)) (no_blank_line (spelled_bytes text) (bytes-without text))
 
 -- ---- the end of a link
 

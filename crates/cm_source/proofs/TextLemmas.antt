@@ -5,8 +5,10 @@ use Rattle.std.proofs.lemmas.List.{drop_more, drop_all}
 use Rattle.std.specs.Prelude.{if◌then◌else◌}
 use Rattle.std.specs.Char.{is_ascii_control}
 use Rattle.std.specs.List.{position}
+use Rattle.cm_text.specs.Characters.{is_ascii_punct}
 use Rattle.cm_text.proofs.ReplacedLemmas.{Keeps, replaced-found, replaced-none}
-use Rattle.cm_scan.specs.Words.{is_empty}
+use Rattle.cm_scan.specs.Words.{is_empty, run_length}
+use Rattle.cm_scan.specs.Links.{escapes_next}
 use Rattle.cm_scan.specs.Autolinks.{ends_with}
 use Rattle.cm_source.specs.Texts.{numbered, spelled_byte, spelled_bytes, edge_byte, spelled_text, longest_run}
 use Rattle.cm_source.specs.steps.Bytes.{is_spelled}
@@ -32,6 +34,11 @@ by-number b e = grind (arith, e)
 pub behind-backslash : (b : ℕ) → is_spelled b ≡ true → (b == 96) ≡ false → is_ascii_control b ≡ false → spelled_byte b ≡ 92 ∷ b ∷ []
 unfolding spelled_byte
 behind-backslash b is other printed = grind (arith, is, other, printed)
+
+-- only a backslash escapes what follows
+pub escapes-none : (b : ℕ) (bs : List ℕ) → (b == 92) ≡ false → escapes_next b bs ≡ false
+escapes-none b [] e = refl
+escapes-none b (c ∷ cs) e = ap (λ t. t && is_ascii_punct c) e
 
 -- texts at the edges of lines
 
@@ -83,14 +90,18 @@ ends-at c zero (b ∷ d ∷ ds) e = absurd (omega (arith, e))
 ends-at c (suc n) (b ∷ d ∷ ds) e = ends-at c n (d ∷ ds) (omega (arith, e))
 
 -- the longest run, byte by byte
-pub longest-at-least : (before : ℕ) (text : List ℕ) → before ≤ longest_run before text
-unfolding longest_run
-longest-at-least before [] = omega arith
-longest-at-least before (b ∷ bs) = go (b == 96) (longest-at-least (suc before) bs)
+pub run-within : (before : ℕ) (text : List ℕ) → before + run_length 96 text ≤ longest_run before text
+unfolding run_length longest_run
+run-within before [] = omega arith
+run-within before (b ∷ bs) = go (b == 96) (run-within (suc before) bs)
   where
-    go : (tick : Bool) → suc before ≤ longest_run (suc before) bs → before ≤ (if tick then longest_run (suc before) bs else max before (longest_run 0 bs))
+    go : (tick : Bool) → suc before + run_length 96 bs ≤ longest_run (suc before) bs
+        → before + elim tick as (λ _. ℕ) [ true ↦ suc (run_length 96 bs) | false ↦ 0 ] ≤ (if tick then longest_run (suc before) bs else max before (longest_run 0 bs))
     go true more = omega (arith, more)
     go false more = omega arith
+
+pub longest-at-least : (before : ℕ) (text : List ℕ) → before ≤ longest_run before text
+longest-at-least before text = omega (arith, run-within before text)
 
 pub longest-step : (longest run b : ℕ) (bs : List ℕ) → run ≤ longest → let next = if b == 96 then run + 1 else 0 in max longest (longest_run run (b ∷ bs)) ≡ max (max longest next) (longest_run next bs)
 unfolding longest_run

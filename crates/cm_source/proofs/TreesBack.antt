@@ -24,6 +24,7 @@ use Rattle.cm_source.proofs.TextsBack.{accepted-texts}
 use Rattle.cm_source.proofs.BlockRefusals.{seen_items}
 use Rattle.cm_source.proofs.BlockKinds.{paragraph-judged, heading-judged, quote-judged, list-judged, refused-as, paragraph-lines, heading-lines, quote-lines, list-lines, paragraph-texts, heading-texts, quote-texts, list-texts}
 use Rattle.cm_source.proofs.BlockInduction.{AllHold, ItemsHold, Cases, all-by-cases}
+use Rattle.cm_source.proofs.LeavesBack.{with_lines, join-all, parted-joined}
 
 -- ---- lines
 
@@ -48,50 +49,17 @@ ended-utf8 (line ∷ lines) u =
     (parts.0, ended-utf8 lines parts.1)
 
 -- lines that line feeds part, put together again
-abbrev unparted : List (List ℕ) → List ℕ
-unparted [] = []
-unparted (line ∷ []) = line
-unparted (line ∷ next ∷ lines) = line ++ 10 ∷ unparted (next ∷ lines)
+behind-utf8 : (front : List ℕ) (lines : List (List ℕ)) → IsUtf8 front → AllUtf8 lines → IsUtf8 (with_lines front lines)
+unfolding with_lines
+behind-utf8 front [] f u = f
+behind-utf8 front (line ∷ lines) f u = behind-utf8 (front ++ 10 ∷ line) lines (IsUtf8-append front (10 ∷ line) f (IsUtf8-append (10 ∷ []) line (ascii-utf8 (10 ∷ []) refl) u.0)) u.1
 
-unparted-utf8 : (lines : List (List ℕ)) → AllUtf8 lines → IsUtf8 (unparted lines)
-unparted-utf8 [] u = IsUtf8-nil
-unparted-utf8 (line ∷ []) u = u.0
-unparted-utf8 (line ∷ next ∷ lines) u = IsUtf8-append line (10 ∷ unparted (next ∷ lines)) u.0 (IsUtf8-append (10 ∷ []) (unparted (next ∷ lines)) (ascii-utf8 (10 ∷ []) refl) (unparted-utf8 (next ∷ lines) u.1))
-
-unparted-front : (b : ℕ) (lines : List (List ℕ)) → unparted (in_front b lines) ≡ b ∷ unparted lines
-unparted-front b [] = refl
-unparted-front b (line ∷ []) = refl
-unparted-front b (line ∷ next ∷ lines) = refl
-
-abbrev is_some_line : List (List ℕ) → Bool
-is_some_line [] = false
-is_some_line (line ∷ lines) = true
-
-unparted-more : (lines : List (List ℕ)) → is_some_line lines ≡ true → unparted ([] ∷ lines) ≡ 10 ∷ unparted lines
-unparted-more [] e = absurd (cc e)
-unparted-more (line ∷ lines) e = refl
-
-parted-some : (text : List ℕ) → is_some_line (parted_lines text) ≡ true
-unfolding parted_lines
-parted-some [] = refl
-parted-some (b ∷ bs) = go (b == 10) (parted_lines bs)
-  where
-    go : (v : Bool) (lines : List (List ℕ)) → is_some_line (if v then [] ∷ lines else in_front b lines) ≡ true
-    go true lines = refl
-    go false [] = refl
-    go false (line ∷ lines) = refl
-
-unparted-parted : (text : List ℕ) → unparted (parted_lines text) ≡ text
-unfolding parted_lines
-unparted-parted [] = refl
-unparted-parted (b ∷ bs) = go (b == 10) refl (unparted-parted bs)
-  where
-    go : (v : Bool) → (b == 10) ≡ v → unparted (parted_lines bs) ≡ bs → unparted (if v then [] ∷ parted_lines bs else in_front b (parted_lines bs)) ≡ b ∷ bs
-    go true e again = unparted-more (parted_lines bs) (parted-some bs) ∙ ap (λ l. 10 ∷ l) again ∙ ap (λ n. n ∷ bs) (sym (eqb-true b 10 e))
-    go false e again = unparted-front b (parted_lines bs) ∙ ap (λ l. b ∷ l) again
+joined-back : (lines : List (List ℕ)) → AllUtf8 lines → IsUtf8 (join-all lines)
+joined-back [] u = IsUtf8-nil
+joined-back (line ∷ lines) u = behind-utf8 line lines u.0 u.1
 
 parted-utf8 : (text : List ℕ) → AllUtf8 (parted_lines text) → IsUtf8 text
-parted-utf8 text u = subst IsUtf8 (unparted-parted text) (unparted-utf8 (parted_lines text) u)
+parted-utf8 text u = subst IsUtf8 (parted-joined text) (joined-back (parted_lines text) u)
 
 -- ---- what stands in front of lines
 

@@ -5,7 +5,7 @@ use Rattle.std.specs.Char.{is_ascii_control, is_ascii_digit}
 use Rattle.std.specs.Fmt.{decimal, digits}
 use Rattle.std.specs.List.{list_all, prefix_len}
 use Rattle.std.specs.Str.Parse.{digits_value}
-use Rattle.std.proofs.lemmas.Bool.{and_parts, cond_both, cond-true, eqb-true, false≢true, agree_below, agree_below_at}
+use Rattle.std.proofs.lemmas.Bool.{and_parts, cond_both, cond-true, eqb-true, false≢true, agree_below, agree_below_at, not-true}
 use Rattle.std.proofs.lemmas.Bool.Decides.{nat_tests}
 use Rattle.cm_text.specs.Characters.{within, is_ascii_punct}
 use Rattle.cm_text.specs.References.{begins_with, before_semicolon, numbered as read_number, numbered_character, reference}
@@ -84,11 +84,7 @@ digits_read ds cs h =
 
 begins_front : (x : ℕ) (ds cs : List ℕ) → (59 == x) ≡ false → not (begins_with x ds) ≡ true → begins_with x (ds ++ 59 ∷ cs) ≡ false
 begins_front x [] cs e h = e
-begins_front x (d ∷ ds) cs e h = go (d == x) h
-  where
-    go : (t : Bool) → not t ≡ true → t ≡ false
-    go true h = sym h
-    go false h = refl
+begins_front x (d ∷ ds) cs e h = not-true (d == x) h
 
 either_way : (x y : Bool) → (x || y) ≡ true → y ≡ false → x ≡ true
 either_way true y e h = refl
