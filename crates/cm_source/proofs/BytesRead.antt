@@ -84,9 +84,9 @@ atom_number rules before b rest low some =
 
 -- ---- where a line ends
 
-no_line_here : (b : ℕ) (rest : List ℕ) → (b == 32) ≡ false → (b == 10) ≡ false → is_before_line_end (b ∷ rest) ≡ false
+pub no-line-here : (b : ℕ) (rest : List ℕ) → (b == 32) ≡ false → (b == 10) ≡ false → is_before_line_end (b ∷ rest) ≡ false
 unfolding after_run
-no_line_here b rest e f = ap (λ t. begins_with 10 (elim t as (λ _. List ℕ) [ true ↦ after_run 32 rest | false ↦ b ∷ rest ])) e ∙ f
+no-line-here b rest e f = ap (λ t. begins_with 10 (elim t as (λ _. List ℕ) [ true ↦ after_run 32 rest | false ↦ b ∷ rest ])) e ∙ f
 
 printed_no_feed : (b : ℕ) → is_numbered b ≡ false → (b == 10) ≡ false
 printed_no_feed b e = grind (arith, nat_tests, e)
@@ -95,8 +95,8 @@ printed_no_feed b e = grind (arith, nat_tests, e)
 way_no_line : (b : ℕ) (front rest : List ℕ) → Way b front → (b == 32) ≡ false → is_before_line_end (front ++ rest) ≡ false
 unfolding after_run
 way_no_line b front rest (ByNumber low) e = refl
-way_no_line b front rest (Escaped punct) e = refl
-way_no_line b front rest (AsItIs printed plain) e = no_line_here b rest e (printed_no_feed b printed)
+way_no_line b front rest (Escaped punct tick) e = refl
+way_no_line b front rest (AsItIs printed plain) e = no-line-here b rest e (printed_no_feed b printed)
 
 edge_no_line : (at_edge : Bool) (b : ℕ) (rest : List ℕ) → (at_edge ≡ false → is_before_line_end rest ≡ false) → is_before_line_end (edge_byte at_edge b ++ rest) ≡ false
 unfolding spelled_byte after_run
@@ -157,7 +157,7 @@ module _ (rules : Rules) (defined : Defined) where
 
   reads_way : (before : List ℕ) (b : ℕ) (front rest : List ℕ) → Way b front → (b == 0) ≡ false → ((b == 32) ≡ true → is_before_line_end rest ≡ false) → ReadsAs rules defined before front rest (one_by_one (b ∷ []))
   reads_way before b front rest (ByNumber low) some h = reads_number before b rest low some
-  reads_way before b front rest (Escaped punct) some h = reads_plain before 92 (b ∷ []) rest (b ∷ []) (atom_escape rules before b rest punct)
+  reads_way before b front rest (Escaped punct tick) some h = reads_plain before 92 (b ∷ []) rest (b ∷ []) (atom_escape rules before b rest punct)
   reads_way before b front rest (AsItIs printed plain) some h = go (b == 32) refl
     where
       go : (t : Bool) → (b == 32) ≡ t → ReadsAs rules defined before (b ∷ []) rest (one_by_one (b ∷ []))

@@ -20,9 +20,9 @@ use Rattle.cm_source.proofs.AcceptedLemmas.{or-none, Accepted, text-accepted, ht
 use Rattle.cm_source.proofs.InlineInduction.{Cases, by-cases}
 use Rattle.cm_source.proofs.LineFronts.{differs, differs', ends_number, line_of, Front, front-line}
 use Rattle.cm_source.proofs.ContentFronts.{text-front}
-use Rattle.cm_source.proofs.SpelledBytes.{ByteForm, by_number, escaped, itself, byte-form}
 use Rattle.cm_source.proofs.TagLemmas.{tag-begins, tag-ends}
 use Rattle.cm_source.proofs.PlacesBack.{bare-front}
+use Rattle.cm_source.proofs.Ways.{Way, ByNumber, Escaped, AsItIs, no-control, way, edge_way}
 
 -- the last byte is neither blank nor an unescaped `#`; the mark says that the first byte is escaped
 unfoldable pub ends_well : (is_escaped : Bool) → List ℕ → Bool
@@ -117,16 +117,16 @@ trimmed-start (b ∷ bs) e = go (is_space_or_tab b) e
 
 -- ---- kinds of inlines
 
-form-ends-well : (b : ℕ) (front : List ℕ) → ByteForm b front → (b == 32) ≡ false → EndsWell front
+way-ends-well : (b : ℕ) (front : List ℕ) → Way b front → (b == 32) ≡ false → EndsWell front
 unfolding ends_well
-form-ends-well b front (by_number c low) space = behind (codes "&#" ++ decimal c) (codes ";") (record { some = refl; well = refl })
-form-ends-well b front (escaped c punct tick) space = record { some = refl; well = ap (λ v. not v && true) (blank c punct) }
+way-ends-well b front (ByNumber low) space = behind (codes "&#" ++ decimal b) (codes ";") (record { some = refl; well = refl })
+way-ends-well b front (Escaped punct tick) space = record { some = refl; well = ap (λ v. not v && true) (blank b punct) }
   where
     blank : (c : ℕ) → is_ascii_punct c ≡ true → is_space_or_tab c ≡ false
     blank c punct = ap (λ v. v || c == 9) (differs is_ascii_punct c 32 punct refl) ∙ differs is_ascii_punct c 9 punct refl
-form-ends-well b front (itself c punct control) space = record {
+way-ends-well b front (AsItIs printed punct) space = record {
   some = refl;
-  well = ap (λ v. not (v || c == 9) && not (c == 35)) space ∙ ap (λ v. not v && not (c == 35)) (differs' is_ascii_control c 9 control refl) ∙ ap not (differs' is_ascii_punct c 35 punct refl);
+  well = ap (λ v. not (v || b == 9) && not (b == 35)) space ∙ ap (λ v. not v && not (b == 35)) (differs' is_ascii_control b 9 (no-control b printed) refl) ∙ ap not (differs' is_ascii_punct b 35 punct refl);
 }
 
 last-well : (b : ℕ) → EndsWell (edge_byte true b)
@@ -135,7 +135,7 @@ last-well b = go (b == 32) refl
   where
     go : (v : Bool) → (b == 32) ≡ v → EndsWell (if v then numbered 32 else spelled_byte b)
     go true p = behind (codes "&#" ++ decimal 32) (codes ";") (record { some = refl; well = refl })
-    go false p = form-ends-well b (spelled_byte b) (byte-form b) p
+    go false p = way-ends-well b (spelled_byte b) (way b) p
 
 pub text-well : (first : Bool) (text : List ℕ) → is_empty text ≡ false → EndsWell (spelled_text first true text)
 unfolding spelled_text

@@ -21,8 +21,9 @@ use Rattle.cm_source.proofs.AcceptedLemmas.{or-none, Accepted, text-accepted, co
 use Rattle.cm_source.proofs.InlineInduction.{AllHold, Cases, by-cases, all-by-cases}
 use Rattle.cm_source.proofs.KeptBytes.{is_line_byte, one-line, padding-line, text-is-line, code-is-line, target-is-line}
 use Rattle.cm_source.proofs.LineFronts.{differs, differs', IsQuiet, IsInner, ends_number, ends-digit, ends-other, line_of, Front, quiet, number, one_star, two_stars, two_tildes, backticks, LinesBegin}
-use Rattle.cm_source.proofs.SpelledBytes.{all-both, ByteForm, by_number, escaped, itself, byte-form, edge-form}
+use Rattle.cm_source.proofs.SpelledBytes.{all-both}
 use Rattle.cm_source.proofs.TagLemmas.{tag-begins}
+use Rattle.cm_source.proofs.Ways.{Way, ByNumber, Escaped, AsItIs, no-control, way, edge_way}
 
 -- ---- quiet and inner bytes
 
@@ -80,16 +81,16 @@ starts-with b rest inner = record { byte = b; rest = rest; is = refl; inner = in
 
 -- ---- texts
 
-form-ends : (b : ℕ) (front : List ℕ) → ByteForm b front → (rest : List ℕ) → ends_number rest ≡ true → ends_number (front ++ rest) ≡ true
+way-ends : (b : ℕ) (front : List ℕ) → Way b front → (rest : List ℕ) → ends_number rest ≡ true → ends_number (front ++ rest) ≡ true
 unfolding ends_number
-form-ends b front (by_number c low) rest e = refl
-form-ends b front (escaped c punct tick) rest e = refl
-form-ends b front (itself c punct control) rest e = go (is_digit c) refl
+way-ends b front (ByNumber low) rest e = refl
+way-ends b front (Escaped punct tick) rest e = refl
+way-ends b front (AsItIs printed punct) rest e = go (is_digit b) refl
   where
-    go : (v : Bool) → is_digit c ≡ v → ends_number (c ∷ rest) ≡ true
-    go true d = ends-digit c rest d ∙ e
-    go false d = ends-other c rest d
-        ∙ ap (λ v. not v && not (c == 41)) (differs' is_ascii_punct c 46 punct refl) ∙ ap not (differs' is_ascii_punct c 41 punct refl)
+    go : (v : Bool) → is_digit b ≡ v → ends_number (b ∷ rest) ≡ true
+    go true d = ends-digit b rest d ∙ e
+    go false d = ends-other b rest d
+        ∙ ap (λ v. not v && not (b == 41)) (differs' is_ascii_punct b 46 punct refl) ∙ ap not (differs' is_ascii_punct b 41 punct refl)
 
 text-ends : (last : Bool) (text more : List ℕ) → ends_number more ≡ true → ends_number (spelled_text false last text ++ more) ≡ true
 unfolding spelled_text
@@ -97,21 +98,21 @@ text-ends last [] more e = e
 text-ends last (b ∷ bs) more e =
     let at_edge = last && is_empty bs in
     ap ends_number (append_assoc (edge_byte at_edge b) (spelled_text false last bs) more)
-    ∙ form-ends b (edge_byte at_edge b) (edge-form at_edge b) (spelled_text false last bs ++ more) (text-ends last bs more e)
+    ∙ way-ends b (edge_byte at_edge b) (edge_way at_edge b) (spelled_text false last bs ++ more) (text-ends last bs more e)
 
-form-front : (b : ℕ) (front : List ℕ) → ByteForm b front → (b == 32) ≡ false → (rest : List ℕ) → ends_number rest ≡ true → Front (front ++ rest)
-form-front b front (by_number c low) space rest e = quiet 38 _ quiet-numbered
-form-front b front (escaped c punct tick) space rest e = quiet 92 _ quiet-escaped
-form-front b front (itself c punct control) space rest e = go (is_digit c) refl
+way-front : (b : ℕ) (front : List ℕ) → Way b front → (b == 32) ≡ false → (rest : List ℕ) → ends_number rest ≡ true → Front (front ++ rest)
+way-front b front (ByNumber low) space rest e = quiet 38 _ quiet-numbered
+way-front b front (Escaped punct tick) space rest e = quiet 92 _ quiet-escaped
+way-front b front (AsItIs printed punct) space rest e = go (is_digit b) refl
   where
-    go : (v : Bool) → is_digit c ≡ v → Front (c ∷ rest)
-    go true d = number c rest d (ends-digit c rest d ∙ e)
-    go false d = quiet c rest (quiet-itself c punct control space d)
+    go : (v : Bool) → is_digit b ≡ v → Front (b ∷ rest)
+    go true d = number b rest d (ends-digit b rest d ∙ e)
+    go false d = quiet b rest (quiet-itself b punct (no-control b printed) space d)
 
-form-filled : (b : ℕ) (front : List ℕ) → ByteForm b front → (rest : List ℕ) → is_empty (front ++ rest) ≡ false
-form-filled b front (by_number c low) rest = refl
-form-filled b front (escaped c punct tick) rest = refl
-form-filled b front (itself c punct control) rest = refl
+way-filled : (b : ℕ) (front : List ℕ) → Way b front → (rest : List ℕ) → is_empty (front ++ rest) ≡ false
+way-filled b front (ByNumber low) rest = refl
+way-filled b front (Escaped punct tick) rest = refl
+way-filled b front (AsItIs printed punct) rest = refl
 
 pub text-front : (last : Bool) (b : ℕ) (bs more : List ℕ) → ends_number more ≡ true → Front (spelled_text true last (b ∷ bs) ++ more)
 unfolding spelled_text
@@ -120,17 +121,17 @@ text-front last b bs more e = go (b == 32) refl
     go : (v : Bool) → (b == 32) ≡ v → Front ((if v then numbered 32 else spelled_byte b) ++ spelled_text false last bs ++ more)
     go true p = quiet 38 _ quiet-numbered
     go false p = subst Front (sym (append_assoc (spelled_byte b) (spelled_text false last bs) more))
-        (form-front b (spelled_byte b) (byte-form b) p (spelled_text false last bs ++ more) (text-ends last bs more e))
+        (way-front b (spelled_byte b) (way b) p (spelled_text false last bs ++ more) (text-ends last bs more e))
 
 -- inside of stars or tildes no text begins with a space
-form-inner : (b : ℕ) (front : List ℕ) → ByteForm b front → (b == 32) ≡ false → (rest : List ℕ) → StartsInner (front ++ rest)
-form-inner b front (by_number c low) space rest = starts-with 38 _ (record { no_star = refl; no_tilde = refl; no_space = refl; no_tab = refl; no_line_feed = refl })
-form-inner b front (escaped c punct tick) space rest = starts-with 92 _ (record { no_star = refl; no_tilde = refl; no_space = refl; no_tab = refl; no_line_feed = refl })
-form-inner b front (itself c punct control) space rest = starts-with c rest (inner-itself c punct control space)
+way-inner : (b : ℕ) (front : List ℕ) → Way b front → (b == 32) ≡ false → (rest : List ℕ) → StartsInner (front ++ rest)
+way-inner b front (ByNumber low) space rest = starts-with 38 _ (record { no_star = refl; no_tilde = refl; no_space = refl; no_tab = refl; no_line_feed = refl })
+way-inner b front (Escaped punct tick) space rest = starts-with 92 _ (record { no_star = refl; no_tilde = refl; no_space = refl; no_tab = refl; no_line_feed = refl })
+way-inner b front (AsItIs printed punct) space rest = starts-with b rest (inner-itself b punct (no-control b printed) space)
 
 text-inner : (last : Bool) (b : ℕ) (bs : List ℕ) → (b == 32) ≡ false → StartsInner (spelled_text false last (b ∷ bs))
 unfolding spelled_text
-text-inner last b bs space = form-inner b (edge_byte (last && is_empty bs) b) (edge-form (last && is_empty bs) b) space (spelled_text false last bs)
+text-inner last b bs space = way-inner b (edge_byte (last && is_empty bs) b) (edge_way (last && is_empty bs) b) space (spelled_text false last bs)
 
 -- ---- code spans
 
@@ -415,7 +416,7 @@ module _ (rules : Rules) where
   text-begins first last (b ∷ bs) more some ends begin = go first
     where
       filled : (at_edge : Bool) → is_empty (edge_byte at_edge b ++ spelled_text false last bs) ≡ false
-      filled at_edge = form-filled b (edge_byte at_edge b) (edge-form at_edge b) (spelled_text false last bs)
+      filled at_edge = way-filled b (edge_byte at_edge b) (edge_way at_edge b) (spelled_text false last bs)
 
       go : (first : Bool) → LinesBegin first (spelled_text first last (b ∷ bs) ++ more)
       go true = begin-with true (spelled_text true last (b ∷ bs)) more (filled true) (text-is-line true last (b ∷ bs)) (λ e. text-front last b bs more ends) begin

@@ -19,9 +19,10 @@ use Rattle.cm_source.proofs.InlineKinds.{text-spelled, code-spelled, html-spelle
 use Rattle.cm_source.proofs.AcceptedLemmas.{or-none, Accepted, text-accepted, code-accepted, html-accepted, emph-accepted, strong-accepted, strike-accepted, link-accepted, image-accepted}
 use Rattle.cm_source.proofs.InlineInduction.{AllHold, Cases, by-cases, all-by-cases}
 use Rattle.cm_source.proofs.LineFronts.{differs, differs'}
-use Rattle.cm_source.proofs.SpelledBytes.{all-both, all-so, all-digits, ByteForm, by_number, escaped, itself, edge-form}
+use Rattle.cm_source.proofs.SpelledBytes.{all-both, all-so, all-digits}
 use Rattle.cm_source.proofs.TagLemmas.{tag-begins, tag-ends}
 use Rattle.cm_source.proofs.TextLemmas.{escapes-none}
+use Rattle.cm_source.proofs.Ways.{Way, ByNumber, Escaped, AsItIs, no-control, way, edge_way}
 
 -- ---- where a label ends
 
@@ -137,13 +138,13 @@ unfolding passes_byte
 digit-passes b d = ap (λ v. not v && (not (b == 92) && not (b == 93))) (differs is_digit b 91 d refl)
     ∙ ap (λ v. not v && not (b == 93)) (differs is_digit b 92 d refl) ∙ ap not (differs is_digit b 93 d refl)
 
-form-passes : (b : ℕ) (front : List ℕ) → ByteForm b front → (more : List ℕ) → is_no_label false more ≡ true → is_no_label false (front ++ more) ≡ true
+way-passes : (b : ℕ) (front : List ℕ) → Way b front → (more : List ℕ) → is_no_label false more ≡ true → is_no_label false (front ++ more) ≡ true
 unfolding passes_byte is_no_label
-form-passes b front (by_number c low) more h =
-    all-pass (numbered c) more (all-both passes_byte (decimal c) (59 ∷ []) (all-so is_digit passes_byte digit-passes (decimal c) (all-digits c low)) refl) h
-form-passes b front (escaped c punct tick) more h = ap (λ v. is_no_label v (c ∷ more)) punct ∙ h
-form-passes b front (itself c punct control) more h =
-    one-passes c more (differs' is_ascii_punct c 91 punct refl) (differs' is_ascii_punct c 92 punct refl) (differs' is_ascii_punct c 93 punct refl) h
+way-passes b front (ByNumber low) more h =
+    all-pass (numbered b) more (all-both passes_byte (decimal b) (59 ∷ []) (all-so is_digit passes_byte digit-passes (decimal b) (all-digits b low)) refl) h
+way-passes b front (Escaped punct tick) more h = ap (λ v. is_no_label v (b ∷ more)) punct ∙ h
+way-passes b front (AsItIs printed punct) more h =
+    one-passes b more (differs' is_ascii_punct b 91 punct refl) (differs' is_ascii_punct b 92 punct refl) (differs' is_ascii_punct b 93 punct refl) h
 
 text-passes : (first last : Bool) (text more : List ℕ) → is_no_label false more ≡ true → is_no_label false (spelled_text first last text ++ more) ≡ true
 unfolding spelled_text
@@ -151,7 +152,7 @@ text-passes first last [] more h = h
 text-passes first last (b ∷ bs) more h =
     let at_edge = first || last && is_empty bs in
     ap (is_no_label false) (append_assoc (edge_byte at_edge b) (spelled_text false last bs) more)
-    ∙ form-passes b (edge_byte at_edge b) (edge-form at_edge b) (spelled_text false last bs ++ more) (text-passes false last bs more h)
+    ∙ way-passes b (edge_byte at_edge b) (edge_way at_edge b) (spelled_text false last bs ++ more) (text-passes false last bs more h)
 
 -- ---- code and raw HTML
 
@@ -302,16 +303,16 @@ module _ (rules : Rules) where
       → link_definition ((spelled i).spelling true last ++ more) ≡ None
   none-told i s e last more k = ap (λ (z : Spelled). link_definition (z.spelling true last ++ more)) e ∙ k
 
-  form-none : (b : ℕ) (front : List ℕ) → ByteForm b front → (more : List ℕ) → link_definition (front ++ more) ≡ None
-  form-none b front (by_number c low) more = other-none 38 _ refl
-  form-none b front (escaped c punct tick) more = other-none 92 (c ∷ more) refl
-  form-none b front (itself c punct control) more = other-none c more (differs' is_ascii_punct c 91 punct refl)
+  way-none : (b : ℕ) (front : List ℕ) → Way b front → (more : List ℕ) → link_definition (front ++ more) ≡ None
+  way-none b front (ByNumber low) more = other-none 38 _ refl
+  way-none b front (Escaped punct tick) more = other-none 92 (b ∷ more) refl
+  way-none b front (AsItIs printed punct) more = other-none b more (differs' is_ascii_punct b 91 punct refl)
 
   text-none : (last : Bool) (text more : List ℕ) → is_empty text ≡ false → link_definition (spelled_text true last text ++ more) ≡ None
   unfolding spelled_text
   text-none last [] more some = absurd (cc some)
   text-none last (b ∷ bs) more some =
-      ap link_definition (append_assoc (edge_byte true b) (spelled_text false last bs) more) ∙ form-none b (edge_byte true b) (edge-form true b) (spelled_text false last bs ++ more)
+      ap link_definition (append_assoc (edge_byte true b) (spelled_text false last bs) more) ∙ way-none b (edge_byte true b) (edge_way true b) (spelled_text false last bs ++ more)
 
   or-so : (v w : Bool) → w ≡ true → (v || w) ≡ true
   or-so true w e = refl

@@ -27,61 +27,7 @@ use Rattle.cm_source.proofs.AcceptedLemmas.{Accepted, text-accepted, code-accept
 use Rattle.cm_source.proofs.Neighbours.{text-begins, text-ends}
 use Rattle.cm_source.proofs.SpelledUtf8.{inline-utf8}
 use Rattle.cm_source.proofs.InlineEdges.{Shows, shows-punctuation, shows-feed, beside-shows, Ends, Facts, Bytes, by-bytes, text-hidden, tick-hidden, star-hidden, tilde-hidden}
-
--- ---- a tag begins with `<` and ends with `>`
-
-word-none : (word : List ℕ) (b : ℕ) (bs : List ℕ) → (b == 60) ≡ false → after_word (60 ∷ word) (b ∷ bs) ≡ None
-unfolding after_word
-word-none word b bs e = ap (λ v. elim v as (λ _. Option (List ℕ)) [ true ↦ after_word word bs | false ↦ None ]) e
-
-open-none : (b : ℕ) (bs : List ℕ) → (b == 60) ≡ false → open_tag (b ∷ bs) ≡ None
-unfolding open_tag
-open-none b bs e = rw (word-none [] b bs e, open_tag) refl
-
-closing-none : (b : ℕ) (bs : List ℕ) → (b == 60) ≡ false → closing_tag (b ∷ bs) ≡ None
-unfolding closing_tag
-closing-none b bs e = rw (word-none (codes "/") b bs e, closing_tag) refl
-
-comment-none : (older : Bool) (b : ℕ) (bs : List ℕ) → (b == 60) ≡ false → comment older (b ∷ bs) ≡ None
-unfolding comment
-comment-none older b bs e = rw (word-none (codes "!--") b bs e, comment) refl
-
-from-none : (word end : List ℕ) (b : ℕ) (bs : List ℕ) → (b == 60) ≡ false → from_to (60 ∷ word) end (b ∷ bs) ≡ None
-unfolding from_to
-from-none word end b bs e = rw (word-none word b bs e, from_to) refl
-
-declaration-none : (b : ℕ) (bs : List ℕ) → (b == 60) ≡ false → declaration (b ∷ bs) ≡ None
-unfolding declaration
-declaration-none b bs e = rw (word-none (codes "!") b bs e, declaration) refl
-
-html-none : (rules : Rules) (b : ℕ) (bs : List ℕ) → (b == 60) ≡ false → raw_html rules (b ∷ bs) ≡ None
-unfolding raw_html
-html-none rules b bs e =
-    rw (open-none b bs e, closing-none b bs e, comment-none rules.older b bs e, from-none (codes "?") (codes "?>") b bs e, declaration-none b bs e, from-none (codes "![CDATA[") (codes "]]>") b bs e) refl
-
-nothing-none : (rules : Rules) → raw_html rules [] ≡ None
-unfolding raw_html open_tag closing_tag comment from_to declaration after_word
-nothing-none rules = refl
-
-html-first : (rules : Rules) (text rest : List ℕ) → raw_html rules text ≡ Some rest → (ys : List ℕ) × (text ≡ 60 ∷ ys)
-html-first rules [] rest e = absurd (cc (sym (nothing-none rules) ∙ e))
-html-first rules (b ∷ bs) rest e = go (b == 60) refl
-  where
-    go : (v : Bool) → (b == 60) ≡ v → (ys : List ℕ) × (b ∷ bs ≡ 60 ∷ ys)
-    go true f = (bs, ap (λ c. c ∷ bs) (eqb-true b 60 f))
-    go false f = absurd (cc (sym (html-none rules b bs f) ∙ e))
-
-tag-read : (rules : Rules) (text : List ℕ) → is_one_tag rules text ≡ true → raw_html rules text ≡ Some []
-unfolding at_angle
-tag-read rules text h = go (autolink text) (raw_html rules text) refl h
-  where
-    go : (o : Option Autolink) (r : Option (List ℕ)) → raw_html rules text ≡ r
-        → elim (elim o as (λ _. Option Angled) [ Some link ↦ Some (Linked link) | None ↦ tagged text r ]) as (λ _. Bool) [ Some (Tagged tag) ↦ is_empty tag.rest | Some (Linked link) ↦ false | None ↦ false ] ≡ true
-        → raw_html rules text ≡ Some []
-    go (Some link) r e h = absurd (cc h)
-    go None None e h = absurd (cc h)
-    go None (Some []) e h = e
-    go None (Some (b ∷ bs)) e h = absurd (cc h)
+use Rattle.cm_source.proofs.TagLemmas.{tag-begins, tag-ends}
 
 -- ---- the first and the last byte of each kind
 
@@ -104,10 +50,7 @@ pub code-ends : (text : List ℕ) → Ends (λ first last. spelled_code text) 96
 code-ends text = record { front = λ first last. code-first text; back = λ first last. code-last text }
 
 pub html-ends : (rules : Rules) (text : List ℕ) → is_one_tag rules text ≡ true → Ends (λ first last. text) 60 62
-html-ends rules text one =
-    let read = tag-read rules text one in
-    let end = raw_html-ends rules text [] read in
-    record { front = λ first last. html-first rules text [] read; back = λ first last. (end.front, end.is) }
+html-ends rules text one = record { front = λ first last. tag-begins rules text one; back = λ first last. tag-ends rules text one }
 
 pub soft-ends : Ends (λ first last. codes "\n") 10 10
 soft-ends = record { front = λ first last. ([], refl); back = λ first last. ([], refl) }

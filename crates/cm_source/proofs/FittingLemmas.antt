@@ -23,8 +23,9 @@ use Rattle.cm_source.proofs.InlineInduction.{AllHold, Cases, by-cases, all-by-ca
 use Rattle.cm_source.proofs.AcceptedLemmas.{or-none, Accepted, EmphasisAccepted, text-accepted, code-accepted, html-accepted, emph-accepted, strong-accepted, strike-accepted, link-accepted, image-accepted}
 use Rattle.cm_source.proofs.Neighbours.{is_blank, ascii-utf8, first-ascii, last-ascii}
 use Rattle.cm_source.proofs.SpelledUtf8.{inline-utf8}
-use Rattle.cm_source.proofs.InlineEdges.{second-fails, Shows, shows-punctuation, further-utf8, no-line-end}
+use Rattle.cm_source.proofs.InlineEdges.{second-fails, Shows, shows-punctuation, further-utf8}
 use Rattle.cm_source.proofs.EdgesOfKinds.{known}
+use Rattle.cm_source.proofs.BytesRead.{no-line-here}
 
 -- emphasis has emphasis
 abbrev IsHeld : Judged → Type 0
@@ -256,7 +257,7 @@ module _ (rules : Rules) where
     utf8 = further-utf8 (x ∷ []) before (ascii-utf8 (x ∷ []) (ap (λ t. t && true) (lt-ltb x 128 h))) u;
     behind = subst (λ o. Shows rules None None (neighbour rules o)) (sym (last-ascii x before h u)) (shows-punctuation rules None x h p);
     ahead = subst (λ o. Shows rules None None (neighbour rules o)) (sym (first-ascii y rest k)) (shows-punctuation rules None y k q);
-    no_line_end = λ f. no-line-end y rest a b;
+    no_line_end = λ f. no-line-here y rest a b;
     no_tick = c;
     no_star = d;
     no_tilde = e;

@@ -16,6 +16,9 @@ use Rattle.cm_source.specs.Texts.{numbered, spelled_byte, edge_byte, spelled_tex
 use Rattle.cm_source.specs.InlineRefusals.{Face, is_text, is_code, is_break, is_emphasis, is_none, first_of, last_of, is_whitespace, is_plain}
 use Rattle.cm_source.specs.ContentBack.{is_before_line_end}
 use Rattle.cm_source.proofs.Neighbours.{ascii-utf8, Beside, is_blank, punctuation-seen, first-ascii, last-ascii}
+use Rattle.cm_source.proofs.Ways.{Way, ByNumber, Escaped, AsItIs, edge_way}
+use Rattle.cm_source.proofs.LineFronts.{differs'}
+use Rattle.cm_source.proofs.BytesRead.{no-line-here}
 
 -- ---- the first byte of a text
 
@@ -25,28 +28,17 @@ pub record IsHidden (m : ℕ) : Type 0 where
   pub no_ampersand : (38 == m) ≡ false
   pub no_backslash : (92 == m) ≡ false
 
-byte-hidden : (m b : ℕ) (rest : List ℕ) → IsHidden m → begins_with m (spelled_byte b ++ rest) ≡ false
-unfolding spelled_byte
-byte-hidden m b rest h = go (b == 96 || is_ascii_control b) (is_ascii_punct b) refl
-  where
-    go : (v p : Bool) → is_ascii_punct b ≡ p → begins_with m ((if v then numbered b else (if p then 92 ∷ b ∷ [] else b ∷ [])) ++ rest) ≡ false
-    go true p e = h.no_ampersand
-    go false true e = h.no_backslash
-    go false false e = ne_eqb b m (λ same. absurd (cc (ap is_ascii_punct same, e, h.punctuation)))
-
-edge-hidden : (at_edge : Bool) (m b : ℕ) (rest : List ℕ) → IsHidden m → begins_with m (edge_byte at_edge b ++ rest) ≡ false
-edge-hidden at_edge m b rest h = go (at_edge && b == 32)
-  where
-    go : (v : Bool) → begins_with m ((if v then numbered 32 else spelled_byte b) ++ rest) ≡ false
-    go true = h.no_ampersand
-    go false = byte-hidden m b rest h
+way-hidden : (m b : ℕ) (front rest : List ℕ) → Way b front → IsHidden m → begins_with m (front ++ rest) ≡ false
+way-hidden m b front rest (ByNumber low) h = h.no_ampersand
+way-hidden m b front rest (Escaped punct tick) h = h.no_backslash
+way-hidden m b front rest (AsItIs printed plain) h = differs' is_ascii_punct b m plain h.punctuation
 
 pub text-hidden : (m : ℕ) (first last : Bool) (text rest : List ℕ) → IsHidden m → is_empty text ≡ false → begins_with m (spelled_text first last text ++ rest) ≡ false
 unfolding spelled_text
 text-hidden m first last [] rest h some = absurd (cc some)
 text-hidden m first last (b ∷ bs) rest h some =
     ap (begins_with m) (append_assoc (edge_byte (first || last && is_empty bs) b) (spelled_text false last bs) rest)
-    ∙ edge-hidden (first || last && is_empty bs) m b (spelled_text false last bs ++ rest) h
+    ∙ way-hidden m b (edge_byte (first || last && is_empty bs) b) (spelled_text false last bs ++ rest) (edge_way (first || last && is_empty bs) b) h
 
 pub tick-hidden : IsHidden 96
 tick-hidden = record { punctuation = refl; no_ampersand = refl; no_backslash = refl }
@@ -56,11 +48,6 @@ star-hidden = record { punctuation = refl; no_ampersand = refl; no_backslash = r
 
 pub tilde-hidden : IsHidden 126
 tilde-hidden = record { punctuation = refl; no_ampersand = refl; no_backslash = refl }
-
--- no line ends behind the spaces before another byte
-pub no-line-end : (b : ℕ) (bs : List ℕ) → (b == 32) ≡ false → (b == 10) ≡ false → is_before_line_end (b ∷ bs) ≡ false
-unfolding after_run
-no-line-end b bs e f = ap (λ v. begins_with 10 (elim v as (λ _. List ℕ) [ true ↦ after_run 32 bs | false ↦ b ∷ bs ])) e ∙ f
 
 -- a test that isn't passed together with another one that is
 pub second-fails : (v w : Bool) → (v && w) ≡ false → v ≡ true → w ≡ false
@@ -127,7 +114,7 @@ ends-begin : (spelling : (first last : Bool) → List ℕ) (x y m : ℕ) → End
 ends-begin spelling x y m e h first last rest = let f = e.front first last in ap (λ l. begins_with m (l ++ rest)) f.1 ∙ h
 
 ends-line : (spelling : (first last : Bool) → List ℕ) (x y : ℕ) → Ends spelling x y → (x == 32) ≡ false → (x == 10) ≡ false → (first last : Bool) (rest : List ℕ) → is_before_line_end (spelling first last ++ rest) ≡ false
-ends-line spelling x y e h k first last rest = let f = e.front first last in ap (λ l. is_before_line_end (l ++ rest)) f.1 ∙ no-line-end x (f.0 ++ rest) h k
+ends-line spelling x y e h k first last rest = let f = e.front first last in ap (λ l. is_before_line_end (l ++ rest)) f.1 ∙ no-line-here x (f.0 ++ rest) h k
 
 module _ (rules : Rules) where
   -- What is known of an accepted inline between two faces, whatever stands before it and behind it.

@@ -17,6 +17,7 @@ use Rattle.cm_scan.specs.Delimiters.{Neighbour, whitespace, punctuation, other, 
 use Rattle.cm_scan.specs.Atoms.{first_character, last_character}
 use Rattle.cm_source.specs.Texts.{numbered, spelled_byte, edge_byte, spelled_text}
 use Rattle.cm_source.specs.InlineRefusals.{is_whitespace, is_plain}
+use Rattle.cm_source.proofs.Ways.{Way, ByNumber, Escaped, AsItIs, edge_way}
 
 -- a run sees whitespace
 abbrev pub is_blank : Neighbour → Bool
@@ -137,16 +138,13 @@ ascii-encodes (x ∷ xs) h =
     let ih = ascii-encodes xs p.1 in
     (ap (λ l. l ++ encodes xs) (encode_ascii x low) ∙ ap (λ l. x ∷ l) ih.0, ap (λ t. t && scalars xs) (low_scalar x (omega (arith, low))) ∙ ih.1)
 
-byte-ascii : (c : ℕ) → c < 128 → list_all is_ascii (spelled_byte c) ≡ true
-unfolding spelled_byte digits
-byte-ascii c h = agree_below_at (λ c. list_all is_ascii (spelled_byte c)) (λ c. true) 128 c refl h
+way-ascii : (c : ℕ) (front : List ℕ) → Way c front → c < 128 → list_all is_ascii front ≡ true
+way-ascii c front (ByNumber low) h = numbered-ascii c h
+way-ascii c front (Escaped punct tick) h = ap (λ v. v && true) (lt-ltb c 128 h)
+way-ascii c front (AsItIs printed plain) h = ap (λ v. v && true) (lt-ltb c 128 h)
 
 pub edge-ascii : (at_edge : Bool) (c : ℕ) → c < 128 → list_all is_ascii (edge_byte at_edge c) ≡ true
-edge-ascii at_edge c h = go (at_edge && c == 32)
-  where
-    go : (v : Bool) → list_all is_ascii (if v then numbered 32 else spelled_byte c) ≡ true
-    go true = numbered-ascii 32 (omega arith)
-    go false = byte-ascii c h
+edge-ascii at_edge c h = way-ascii c (edge_byte at_edge c) (edge_way at_edge c) h
 
 -- bytes of characters beyond ASCII
 abbrev pub AllHigh : List ℕ → Type 0

@@ -11,6 +11,7 @@ use Rattle.cm_source.specs.Texts.{numbered, spelled_byte, spelled_bytes, edge_by
 use Rattle.cm_source.specs.steps.Bytes.{is_spelled}
 use Rattle.cm_source.proofs.TextLemmas.{by-number, behind-backslash, spelled-ascii}
 use Rattle.cm_source.proofs.LineFronts.{differs, differs'}
+use Rattle.cm_source.proofs.Ways.{Way, ByNumber, Escaped, AsItIs, no-control, way, edge_way}
 
 -- ---- tests of all bytes
 
@@ -33,32 +34,6 @@ pub all-digits : (c : ℕ) → c < 128 → list_all is_digit (decimal c) ≡ tru
 unfolding digits
 all-digits c low = agree_below_at (λ n. list_all is_digit (decimal n)) (λ n. true) 128 c refl low
 
--- how a byte is spelled: by its number, behind a backslash, or as it is
-pub data ByteForm : (b : ℕ) → List ℕ → Type 0 where
-  by_number : (b : ℕ) → b < 128 → ByteForm b (numbered b)
-  escaped : (b : ℕ) → is_ascii_punct b ≡ true → (b == 96) ≡ false → ByteForm b (92 ∷ b ∷ [])
-  itself : (b : ℕ) → is_ascii_punct b ≡ false → is_ascii_control b ≡ false → ByteForm b (b ∷ [])
-
-pub byte-form : (b : ℕ) → ByteForm b (spelled_byte b)
-unfolding spelled_byte
-byte-form b = go (b == 96) (is_ascii_control b) (is_ascii_punct b) refl refl refl
-  where
-    go : (tick control punct : Bool) → (b == 96) ≡ tick → is_ascii_control b ≡ control → is_ascii_punct b ≡ punct
-        → ByteForm b (if tick || control then numbered b else (if punct then 92 ∷ b ∷ [] else b ∷ []))
-    go true control punct p q r = by_number b (subst (λ c. c < 128) (sym (eqb-true b 96 p)) (omega arith))
-    go false true punct p q r = by_number b (grind (arith, q))
-    go false false true p q r = escaped b r p
-    go false false false p q r = itself b r q
-
--- a byte at an edge of a line, or not
-pub edge-form : (at_edge : Bool) (b : ℕ) → ByteForm b (edge_byte at_edge b)
-edge-form at_edge b = go at_edge (b == 32) refl
-  where
-    go : (edge space : Bool) → (b == 32) ≡ space → ByteForm b (if edge && space then numbered 32 else spelled_byte b)
-    go true true e = subst (λ c. ByteForm c (numbered 32)) (sym (eqb-true b 32 e)) (by_number 32 (omega arith))
-    go true false e = byte-form b
-    go false space e = byte-form b
-
 -- ---- the bytes of spelled texts
 
 -- no U+0000, no line ending, no backtick
@@ -76,24 +51,24 @@ number-tame : (b : ℕ) → b < 128 → list_all is_tame (numbered b) ≡ true
 unfolding is_tame
 number-tame b low = all-both is_tame (decimal b) (59 ∷ []) (all-so is_digit is_tame digit-tame (decimal b) (all-digits b low)) refl
 
-form-tame : (b : ℕ) (front : List ℕ) → ByteForm b front → list_all is_tame front ≡ true
+way-tame : (b : ℕ) (front : List ℕ) → Way b front → list_all is_tame front ≡ true
 unfolding is_tame
-form-tame b front (by_number c low) = number-tame c low
-form-tame b front (escaped c punct tick) =
-    ap (λ v. v && true) (tame c (differs is_ascii_punct c 0 punct refl) (differs is_ascii_punct c 10 punct refl) (differs is_ascii_punct c 13 punct refl) tick)
-form-tame b front (itself c punct control) =
-    ap (λ v. v && true) (tame c (differs' is_ascii_control c 0 control refl) (differs' is_ascii_control c 10 control refl) (differs' is_ascii_control c 13 control refl) (differs' is_ascii_punct c 96 punct refl))
+way-tame b front (ByNumber low) = number-tame b low
+way-tame b front (Escaped punct tick) =
+    ap (λ v. v && true) (tame b (differs is_ascii_punct b 0 punct refl) (differs is_ascii_punct b 10 punct refl) (differs is_ascii_punct b 13 punct refl) tick)
+way-tame b front (AsItIs printed punct) =
+    ap (λ v. v && true) (tame b (differs' is_ascii_control b 0 (no-control b printed) refl) (differs' is_ascii_control b 10 (no-control b printed) refl) (differs' is_ascii_control b 13 (no-control b printed) refl) (differs' is_ascii_punct b 96 punct refl))
 
 pub text-tame : (first last : Bool) (text : List ℕ) → list_all is_tame (spelled_text first last text) ≡ true
 unfolding spelled_text
 text-tame first last [] = refl
 text-tame first last (b ∷ bs) =
     let at_edge = first || last && is_empty bs in
-    all-both is_tame (edge_byte at_edge b) (spelled_text false last bs) (form-tame b (edge_byte at_edge b) (edge-form at_edge b)) (text-tame false last bs)
+    all-both is_tame (edge_byte at_edge b) (spelled_text false last bs) (way-tame b (edge_byte at_edge b) (edge_way at_edge b)) (text-tame false last bs)
 
 pub bytes-tame : (text : List ℕ) → list_all is_tame (spelled_bytes text) ≡ true
 bytes-tame [] = refl
-bytes-tame (b ∷ bs) = all-both is_tame (spelled_byte b) (spelled_bytes bs) (form-tame b (spelled_byte b) (byte-form b)) (bytes-tame bs)
+bytes-tame (b ∷ bs) = all-both is_tame (spelled_byte b) (spelled_bytes bs) (way-tame b (spelled_byte b) (way b)) (bytes-tame bs)
 
 title-tame : (title : List ℕ) → list_all is_tame (spelled_title title) ≡ true
 unfolding is_tame

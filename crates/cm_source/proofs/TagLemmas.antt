@@ -1,5 +1,5 @@
 -- A text that is one tag is read whole, begins with `<` and ends with `>`.
-use Rattle.std.proofs.Common.{◌≡◌, ℕ, Bool, true, false, ◌==◌, List, [], ◌∷◌, ◌++◌, Option, Some, None, codes, refl, sym, ap, ◌∙◌}
+use Rattle.std.proofs.Common.{◌≡◌, ℕ, Bool, true, false, ◌==◌, List, [], ◌∷◌, ◌++◌, Option, Some, None, codes, refl, sym, ap, ◌∙◌, arith}
 use Rattle.std.proofs.lemmas.Bool.{eqb-true}
 use Rattle.cm_text.specs.Rules.{Rules}
 use Rattle.cm_scan.specs.Words.{is_empty, after_word, ◌<|>◌}
@@ -23,34 +23,10 @@ whole-read rules text e = go (autolink text) (raw_html rules text) e
     go None (Some []) e = refl
     go None (Some (b ∷ bs)) e = absurd (cc e)
 
-module _ (b : ℕ) (bs : List ℕ) (other : (b == 60) ≡ false) where
-  no-word : (word : List ℕ) → after_word (60 ∷ word) (b ∷ bs) ≡ None
-  unfolding after_word
-  no-word word = ap (λ v. elim v as (λ _. Option (List ℕ)) [ true ↦ after_word word bs | false ↦ None ]) other
-
-  no-open : open_tag (b ∷ bs) ≡ None
-  unfolding open_tag
-  no-open = rw (no-word [], open_tag) refl
-
-  no-closing : closing_tag (b ∷ bs) ≡ None
-  unfolding closing_tag
-  no-closing = rw (no-word (codes "/"), closing_tag) refl
-
-  no-comment : (older : Bool) → comment older (b ∷ bs) ≡ None
-  unfolding comment
-  no-comment older = rw (no-word (codes "!--"), comment) refl
-
-  no-between : (word end : List ℕ) → from_to (60 ∷ word) end (b ∷ bs) ≡ None
-  unfolding from_to
-  no-between word end = rw (no-word word, from_to) refl
-
-  no-declaration : declaration (b ∷ bs) ≡ None
-  unfolding declaration
-  no-declaration = rw (no-word (codes "!"), declaration) refl
-
-  no-tag : (rules : Rules) → raw_html rules (b ∷ bs) ≡ None
-  unfolding raw_html
-  no-tag rules = rw (no-open, no-closing, no-comment rules.older, no-between (codes "?") (codes "?>"), no-declaration, no-between (codes "![CDATA[") (codes "]]>")) refl
+-- nothing else begins with `<`
+no-tag : (rules : Rules) (b : ℕ) (bs : List ℕ) → (b == 60) ≡ false → raw_html rules (b ∷ bs) ≡ None
+unfolding raw_html open_tag closing_tag comment from_to declaration after_word
+no-tag rules b bs e = grind (arith, e)
 
 pub tag-begins : (rules : Rules) (text : List ℕ) → is_one_tag rules text ≡ true → (rest : List ℕ) × (text ≡ 60 ∷ rest)
 unfolding raw_html open_tag closing_tag comment from_to declaration after_word
@@ -59,7 +35,7 @@ tag-begins rules (b ∷ bs) e = go (b == 60) refl
   where
     go : (v : Bool) → (b == 60) ≡ v → (rest : List ℕ) × (b ∷ bs ≡ 60 ∷ rest)
     go true p = (bs, ap (λ c. c ∷ bs) (eqb-true b 60 p))
-    go false p = absurd (cc (sym (no-tag b bs p rules) ∙ whole-read rules (b ∷ bs) e))
+    go false p = absurd (cc (sym (no-tag rules b bs p) ∙ whole-read rules (b ∷ bs) e))
 
 pub tag-ends : (rules : Rules) (text : List ℕ) → is_one_tag rules text ≡ true → (front : List ℕ) × (text ≡ front ++ 62 ∷ [])
 tag-ends rules text e = let end = raw_html-ends rules text [] (whole-read rules text e) in (end.front, end.is)

@@ -1,5 +1,5 @@
 -- Raw HTML that is one tag is read as it is, whatever stands behind it.
-use Rattle.std.proofs.Common.{◌≡◌, ℕ, ◌-◌, Bool, true, false, ◌==◌, List, [], ◌∷◌, ◌++◌, length, take_all, Option, Some, None, refl, sym, ap, subst, ◌∙◌, arith}
+use Rattle.std.proofs.Common.{◌≡◌, ℕ, ◌-◌, Bool, true, false, ◌==◌, List, [], ◌∷◌, ◌++◌, get_or, length, take_all, Option, Some, None, refl, sym, ap, subst, ◌∙◌, arith}
 use Rattle.std.proofs.lemmas.Bool.{eqb-true, false≢true}
 use Rattle.cm_text.specs.Rules.{Rules}
 use Rattle.cm_tree.specs.declared.tree.Inline.TheVariants.{Html}
@@ -12,6 +12,7 @@ use Rattle.cm_scan.specs.Atoms.{AtomRead, Whole, read, link_of, or_byte, angle_a
 use Rattle.cm_scan.proofs.AngleLemmas.{whole_tag_goes_on}
 use Rattle.cm_source.specs.InlineRefusals.{is_one_tag}
 use Rattle.cm_source.proofs.BytesRead.{atom_left}
+use Rattle.cm_source.proofs.TagLemmas.{tag-begins}
 
 before_nothing : (text : List ℕ) → before [] text ≡ text
 unfolding before
@@ -36,29 +37,13 @@ one_tag_is rules text e = go (autolink text) (raw_html rules text) e
     go None (Some []) e = ap (λ t. Some (Tagged (record { text = t; rest = [] }))) (before_nothing text)
     go None (Some (b ∷ bs)) e = absurd (false≢true e)
 
--- nothing else begins with `<`
-no_tag : (rules : Rules) (b : ℕ) (bs : List ℕ) → (b == 60) ≡ false → at_angle rules (b ∷ bs) ≡ None
-unfolding at_angle autolink in_angles raw_html open_tag closing_tag comment from_to declaration after_word
-no_tag rules b bs e = grind (arith, e)
-
-no_tag_here : (rules : Rules) → is_one_tag rules [] ≡ false
-unfolding at_angle autolink in_angles raw_html open_tag closing_tag comment from_to declaration after_word
-no_tag_here rules = refl
-
 pub some_tag : (rules : Rules) → is_one_tag rules [] ≡ true → ⊥
-some_tag rules e = false≢true (sym (no_tag_here rules) ∙ e)
-
-tag_first : (rules : Rules) (b : ℕ) (bs : List ℕ) → is_one_tag rules (b ∷ bs) ≡ true → b ≡ 60
-tag_first rules b bs e = go (b == 60) refl
-  where
-    go : (t : Bool) → (b == 60) ≡ t → b ≡ 60
-    go true f = eqb-true b 60 f
-    go false f = absurd (false≢true (sym (ap (λ o. elim o as (λ _. Bool) [ Some (Tagged tag) ↦ is_empty tag.rest | Some (Linked link) ↦ false | None ↦ false ]) (no_tag rules b bs f)) ∙ e))
+some_tag rules e = absurd (cc (tag-begins rules [] e).1)
 
 pub atom_tag : (rules : Rules) (passed : List ℕ) (b : ℕ) (bs rest : List ℕ) → is_one_tag rules (b ∷ bs) ≡ true → atom_at rules passed b (bs ++ rest) ≡ atom_left (Whole (Html (b ∷ bs))) rest
 unfolding atom_at markup_atom angle_atom
 atom_tag rules passed b bs rest e =
-    let first : b ≡ 60 = tag_first rules b bs e in
+    let first : b ≡ 60 = ap (λ l. get_or l 0 0) (tag-begins rules (b ∷ bs) e).1 in
     subst (λ c. atom_at rules passed c (bs ++ rest) ≡ atom_left (Whole (Html (c ∷ bs))) rest) (sym first)
     (ap (λ o. or_byte 60 (bs ++ rest) (elim o as (λ _. Option AtomRead) [
       | Some (Linked link) ↦ read (Whole (link_of link)) link.rest

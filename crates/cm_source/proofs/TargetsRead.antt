@@ -81,7 +81,7 @@ module _ (closes forbidden : ℕ → Bool) (others : PassesOthers closes forbidd
   way_passed : (b : ℕ) (front rest : List ℕ) → Way b front → closed_by closes forbidden false (front ++ rest) ≡ onto front (closed_by closes forbidden false rest)
   unfolding closed_by onto
   way_passed b front rest (ByNumber low) = bytes_passed (numbered b) rest (agree_below_at (λ b. list_all is_passed (numbered b)) (λ b. true) 128 b numbers_pass low)
-  way_passed b front rest (Escaped punct) = byte_passed 92 (b ∷ rest) true refl punct
+  way_passed b front rest (Escaped punct tick) = byte_passed 92 (b ∷ rest) true refl punct
   way_passed b front rest (AsItIs printed plain) = bytes_passed (b ∷ []) rest (ap (λ t. t && true) (plain_passes b printed plain))
 
   ways_passed : (text front rest : List ℕ) → Ways text front → closed_by closes forbidden false (front ++ rest) ≡ onto front (closed_by closes forbidden false rest)

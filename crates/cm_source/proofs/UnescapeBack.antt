@@ -33,7 +33,7 @@ byte_unescaped b front rest some (ByNumber low) =
     unescape-special text (b ∷ []) (length (numbered b)) (special-reference text refl ∙ number_read b rest low some)
     ∙ ap (λ t. t ++ unescape (drop (length (numbered b)) text)) (ascii_alone b low)
     ∙ ap (λ t. b ∷ unescape t) (drop_front (numbered b) rest)
-byte_unescaped b front rest some (Escaped punct) =
+byte_unescaped b front rest some (Escaped punct tick) =
     unescape-special (92 ∷ b ∷ rest) (b ∷ []) 2 (sym (special-escape (92 ∷ b ∷ rest) (b ∷ []) 2 (sym (escape_here b rest punct))))
     ∙ ap (λ t. t ++ unescape rest) (ascii_alone b (punct_small b punct))
 byte_unescaped b front rest some (AsItIs printed plain) = unescape-other b rest (special-none b rest (no_backslash b plain) (no_ampersand b plain))

@@ -5,7 +5,7 @@ use Rattle.std.specs.Char.{is_ascii_control, is_ascii_digit}
 use Rattle.std.specs.Fmt.{decimal, digits}
 use Rattle.std.specs.List.{list_all, prefix_len}
 use Rattle.std.specs.Str.Parse.{digits_value}
-use Rattle.std.proofs.lemmas.Bool.{and_parts, cond_both, cond-true, eqb-true, false≢true, agree_below, agree_below_at, not-true}
+use Rattle.std.proofs.lemmas.Bool.{and_parts, cond_both, cond-true, eqb-true, false≢true, agree_below, agree_below_at, not-true, or_parts}
 use Rattle.std.proofs.lemmas.Bool.Decides.{nat_tests}
 use Rattle.cm_text.specs.Characters.{within, is_ascii_punct}
 use Rattle.cm_text.specs.References.{begins_with, before_semicolon, numbered as read_number, numbered_character, reference}
@@ -19,13 +19,17 @@ is_numbered b = b == 96 || is_ascii_control b
 
 pub data Way (b : ℕ) : List ℕ → Type 0 where
   ByNumber : b < 128 → Way b (numbered b)
-  Escaped : is_ascii_punct b ≡ true → Way b (92 ∷ b ∷ [])
+  Escaped : is_ascii_punct b ≡ true → (b == 96) ≡ false → Way b (92 ∷ b ∷ [])
   AsItIs : is_numbered b ≡ false → is_ascii_punct b ≡ false → Way b (b ∷ [])
 
 -- the bytes of a text, each in one of these ways
 pub data Ways : List ℕ → List ℕ → Type 0 where
   NoByte : Ways [] []
   OneByte : {b : ℕ} {bs first others : List ℕ} → Way b first → Ways bs others → Ways (b ∷ bs) (first ++ others)
+
+-- a byte that isn't is no control character
+pub no-control : (b : ℕ) → is_numbered b ≡ false → is_ascii_control b ≡ false
+no-control b e = (or_parts (b == 96) (is_ascii_control b) e).1
 
 numbered_small : (b : ℕ) → is_numbered b ≡ true → b < 128
 numbered_small b e = grind (arith, nat_tests, e)
@@ -34,7 +38,7 @@ pub way : (b : ℕ) → Way b (spelled_byte b)
 unfolding spelled_byte
 way b =
     cond_both (is_numbered b) (numbered b) (if is_ascii_punct b then 92 ∷ b ∷ [] else b ∷ []) (Way b) (λ e. ByNumber (numbered_small b e))
-    (λ e. cond_both (is_ascii_punct b) (92 ∷ b ∷ []) (b ∷ []) (Way b) (λ g. Escaped g) (λ g. AsItIs e g))
+    (λ e. cond_both (is_ascii_punct b) (92 ∷ b ∷ []) (b ∷ []) (Way b) (λ g. Escaped g (or_parts (b == 96) (is_ascii_control b) e).0) (λ g. AsItIs e g))
 
 pub edge_way : (at_edge : Bool) (b : ℕ) → Way b (edge_byte at_edge b)
 edge_way false b = way b
