@@ -13,8 +13,8 @@ use Rattle.cm_source.specs.Refusals as refusals
 use Rattle.cm_source.specs.Refusals.{Face, Judged, judged}
 use Rattle.cm_source.specs.Spelling as spelling
 use Rattle.cm_source.specs.Spelling.{parted_lines, heading_lines, quote_lines, list_lines, joined, lines_of_block}
-use Rattle.cm_source.specs.Utf8Inlines.{all_of, has_utf8}
-use Rattle.cm_source.specs.Utf8Blocks.{utf8_step, has_texts}
+use Rattle.cm_source.specs.steps.Utf8Inlines.{all_of, has_utf8}
+use Rattle.cm_source.specs.steps.Utf8Blocks.{utf8_step, has_texts}
 
 -- how each is judged
 

@@ -19,7 +19,7 @@ use Rattle.cm_scan.proofs.InlineLemmas.{reading_goes_on}
 use Rattle.cm_scan.proofs.PairingLemmas.{reverse-first}
 use Rattle.cm_source.specs.Texts.{numbered, spelled_byte, edge_byte, spelled_text}
 use Rattle.cm_source.specs.InlineRefusals.{has_nul}
-use Rattle.cm_source.specs.ContentBack.{is_before_line_end}
+use Rattle.cm_source.specs.steps.ContentBack.{is_before_line_end}
 use Rattle.cm_source.proofs.Ways.{Way, ByNumber, Escaped, AsItIs, is_numbered, way, drop_front, number_read}
 use Rattle.cm_source.proofs.UnescapeBack.{ascii_alone, escape_here}
 

@@ -18,7 +18,7 @@ use Rattle.cm_source.specs.Texts.{spelled_text, spelled_code, spelled_target}
 use Rattle.cm_source.specs.Inlines.{is_line_end, join, spelled, spelled_inlines, spelled_content}
 use Rattle.cm_source.specs.InlineRefusals.{has_nul, is_text, first_face, hold_link, Judged, judged}
 use Rattle.cm_source.specs.InlineRefusals as refusals
-use Rattle.cm_source.specs.ContentBack.{Mark, Star, TwoStars, TwoTildes, character_of, count_of, written, is_known, IsBetween, Fits, FitsText, FitsCode, FitsHtml, FitsSoft, FitsHard, FitsEmphasis, FitsLink, FitsImage, FitsAll, FitsNone, FitsNext, ContentReadsBack}
+use Rattle.cm_source.specs.steps.ContentBack.{Mark, Star, TwoStars, TwoTildes, character_of, count_of, written, is_known, IsBetween, Fits, FitsText, FitsCode, FitsHtml, FitsSoft, FitsHard, FitsEmphasis, FitsLink, FitsImage, FitsAll, FitsNone, FitsNext, ContentReadsBack}
 use Rattle.cm_source.proofs.BytesRead.{ReadsAs, left_with, atom_left, run_none, step_read, atom_step, reads_nothing, reads_then, reads_text}
 use Rattle.cm_source.proofs.CodesRead.{atom_code}
 use Rattle.cm_source.proofs.TagsRead.{some_tag, atom_tag}

@@ -17,15 +17,15 @@ use Rattle.cm_scan.specs.Inlines.{inlines_of}
 use Rattle.cm_scan.specs.Parts.{raw_inlines}
 use Rattle.cm_scan.specs.Words.{is_empty, ◌<|>◌}
 use Rattle.cm_source.specs.declared.why.Why.TheVariants as why
-use Rattle.cm_source.specs.BlocksBack.{source_step, sourced, all_sourced}
-use Rattle.cm_source.specs.ContentBack.{FitsAll}
+use Rattle.cm_source.specs.steps.BlocksBack.{source_step, sourced, all_sourced}
+use Rattle.cm_source.specs.steps.ContentBack.{FitsAll}
 use Rattle.cm_source.specs.Inlines.{spelled_content}
 use Rattle.cm_source.specs.InlineRefusals.{refused, paragraph_refusal, heading_refusal, Place}
 use Rattle.cm_source.specs.ReadingBack.{TreesReadBack}
 use Rattle.cm_source.specs.Refusals.{IsSpellable, Face, Judged, refusal_of_all, refusal_of_items, list_reasons, block_step, judged, faces}
 use Rattle.cm_source.specs.Spelling.{spelling_of}
-use Rattle.cm_source.specs.Utf8Inlines.{AreTexts, all_of}
-use Rattle.cm_source.specs.Utf8Blocks.{utf8_step, has_texts, HaveTexts}
+use Rattle.cm_source.specs.steps.Utf8Inlines.{AreTexts, all_of}
+use Rattle.cm_source.specs.steps.Utf8Blocks.{utf8_step, has_texts, HaveTexts}
 use Rattle.cm_source.proofs.AcceptedLemmas.{or-none}
 use Rattle.cm_source.proofs.BlockInduction.{AllHold, ItemsHold, Cases, all-by-cases}
 use Rattle.cm_source.proofs.BlockRefusals.{seen_items}

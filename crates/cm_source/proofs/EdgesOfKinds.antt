@@ -20,7 +20,7 @@ use Rattle.cm_source.specs.Inlines.{Spelled, join, between, inside_line, spelled
 use Rattle.cm_source.specs.Inlines as spelling
 use Rattle.cm_source.specs.InlineRefusals.{Face, TextFace, CodeFace, BreakFace, EmphasisFace, OtherFace, is_text, is_code, is_break, is_emphasis, is_none, is_one_tag, Place, Judged, emphasis, judged}
 use Rattle.cm_source.specs.InlineRefusals as refusals
-use Rattle.cm_source.specs.Utf8Inlines.{has_utf8}
+use Rattle.cm_source.specs.steps.Utf8Inlines.{has_utf8}
 use Rattle.cm_source.proofs.InlineKinds.{text-judged, code-judged, html-judged, soft-judged, hard-judged, emph-judged, strong-judged, strike-judged, link-judged, image-judged, text-spelled, code-spelled, html-spelled, soft-spelled, hard-spelled, emph-spelled, strong-spelled, strike-spelled, link-spelled, image-spelled, text-strings}
 use Rattle.cm_source.proofs.InlineInduction.{Cases, by-cases}
 use Rattle.cm_source.proofs.AcceptedLemmas.{Accepted, text-accepted, code-accepted, html-accepted, soft-accepted, hard-accepted, emph-accepted, strong-accepted, strike-accepted}

@@ -15,9 +15,9 @@ use Rattle.cm_scan.specs.Atoms.{first_character, last_character, run_between}
 use Rattle.cm_source.specs.Texts.{spelled_target}
 use Rattle.cm_source.specs.Inlines.{join, is_line_end, spelled, spelled_inlines}
 use Rattle.cm_source.specs.InlineRefusals.{Face, is_text, is_code, is_break, is_emphasis, is_none, first_of, last_of, is_whitespace, is_plain, first_face, last_face, hold_emphasis, Place, Judged, further_in, inside_link, refusal_of_all, judged}
-use Rattle.cm_source.specs.ContentBack.{Mark, Star, TwoStars, TwoTildes, character_of, count_of, written, is_known, IsBetween, is_before_line_end, Fits, FitsText, FitsCode, FitsHtml, FitsSoft, FitsHard, FitsEmphasis, FitsLink, FitsImage, FitsAll, FitsNone, FitsNext}
-use Rattle.cm_source.specs.Utf8Inlines.{all_of, has_utf8}
-use Rattle.cm_source.specs.Fitting.{ParagraphsFit, HeadingsFit}
+use Rattle.cm_source.specs.steps.ContentBack.{Mark, Star, TwoStars, TwoTildes, character_of, count_of, written, is_known, IsBetween, is_before_line_end, Fits, FitsText, FitsCode, FitsHtml, FitsSoft, FitsHard, FitsEmphasis, FitsLink, FitsImage, FitsAll, FitsNone, FitsNext}
+use Rattle.cm_source.specs.steps.Utf8Inlines.{all_of, has_utf8}
+use Rattle.cm_source.specs.steps.Fitting.{ParagraphsFit, HeadingsFit}
 use Rattle.cm_source.proofs.InlineKinds.{text-judged, code-judged, html-judged, soft-judged, hard-judged, emph-judged, strong-judged, strike-judged, link-judged, image-judged, emph-strings, strong-strings, strike-strings, link-strings, image-strings}
 use Rattle.cm_source.proofs.InlineInduction.{AllHold, Cases, by-cases, all-by-cases}
 use Rattle.cm_source.proofs.AcceptedLemmas.{or-none, Accepted, EmphasisAccepted, text-accepted, code-accepted, html-accepted, emph-accepted, strong-accepted, strike-accepted, link-accepted, image-accepted}

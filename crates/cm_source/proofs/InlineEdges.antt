@@ -14,7 +14,7 @@ use Rattle.cm_scan.specs.Delimiters.{Neighbour, whitespace, neighbour, is_other}
 use Rattle.cm_scan.specs.Atoms.{first_character, last_character}
 use Rattle.cm_source.specs.Texts.{numbered, spelled_byte, edge_byte, spelled_text}
 use Rattle.cm_source.specs.InlineRefusals.{Face, is_text, is_code, is_break, is_emphasis, is_none, first_of, last_of, is_whitespace, is_plain}
-use Rattle.cm_source.specs.ContentBack.{is_before_line_end}
+use Rattle.cm_source.specs.steps.ContentBack.{is_before_line_end}
 use Rattle.cm_source.proofs.Neighbours.{ascii-utf8, Beside, is_blank, punctuation-seen, first-ascii, last-ascii}
 use Rattle.cm_source.proofs.Ways.{Way, ByNumber, Escaped, AsItIs, edge_way}
 use Rattle.cm_source.proofs.LineFronts.{differs'}

@@ -12,7 +12,7 @@ use Rattle.cm_source.specs.Inlines.{Spelled, spelled, between}
 use Rattle.cm_source.specs.Inlines as spelling
 use Rattle.cm_source.specs.InlineRefusals.{is_text, Judged, emphasis, judged}
 use Rattle.cm_source.specs.InlineRefusals as refusals
-use Rattle.cm_source.specs.Utf8Inlines.{all_of, utf8_step, has_utf8}
+use Rattle.cm_source.specs.steps.Utf8Inlines.{all_of, utf8_step, has_utf8}
 
 -- how each is judged
 

@@ -13,7 +13,7 @@ use Rattle.cm_tree.specs.declared.tree.Block.{Block}
 use Rattle.cm_scan.specs.Blocks.{blocks_of}
 use Rattle.cm_source.specs.Refusals.{IsSpellable}
 use Rattle.cm_source.specs.Spelling.{lines_of_blocks}
-use Rattle.cm_source.specs.BlocksBack.{ContentsGiveSources, BlocksReadBack, SpellingIsText}
+use Rattle.cm_source.specs.steps.BlocksBack.{ContentsGiveSources, BlocksReadBack, SpellingIsText}
 use Rattle.cm_source.specs.steps.Sources.{is_one_line}
 use Rattle.cm_source.specs.steps.Outlines.{outline_of}
 use Rattle.cm_source.proofs.CleanLines.{blocks-clean}

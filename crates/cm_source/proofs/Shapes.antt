@@ -12,7 +12,7 @@ use Rattle.cm_scan.specs.Pieces.{one_by_one}
 use Rattle.cm_scan.proofs.PiecesLemmas.{settled-one_by_one}
 use Rattle.cm_scan.proofs.PairingLemmas.{reverse-first, nearest-found, leftmost-no_opener, leftmost-pairs, pair_all-once, pair_all-stop}
 use Rattle.cm_scan.proofs.OnePassLemmas.{leftmost-skips}
-use Rattle.cm_source.specs.ContentBack.{Mark, Star, TwoStars, TwoTildes, character_of, count_of}
+use Rattle.cm_source.specs.steps.ContentBack.{Mark, Star, TwoStars, TwoTildes, character_of, count_of}
 
 -- neither a delimiter run nor a bracket
 abbrev pub IsDone : Item → Type 0

@@ -6,7 +6,7 @@ use Rattle.cm_text.specs.Rules.{Rules}
 use Rattle.cm_tree.specs.declared.tree.Inline.{Inline}
 use Rattle.cm_scan.specs.LineForms.{without_closing}
 use Rattle.cm_scan.specs.Words.{skip, trim_end_by, trim, trim_end, trim_start}
-use Rattle.cm_source.specs.BlocksBack.{ContentsGiveSources}
+use Rattle.cm_source.specs.steps.BlocksBack.{ContentsGiveSources}
 use Rattle.cm_source.specs.Inlines.{spelled, join, spelled_content}
 use Rattle.cm_source.specs.InlineRefusals.{Place, has_nul, paragraph_refusal, heading_refusal}
 use Rattle.cm_source.specs.Texts.{spelled_text}

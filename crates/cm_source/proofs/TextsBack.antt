@@ -18,7 +18,7 @@ use Rattle.cm_source.specs.Inlines.{Spelled, join, is_line_end, between, spelled
 use Rattle.cm_source.specs.Inlines as spelling
 use Rattle.cm_source.specs.InlineRefusals.{Face, is_text, Place, Judged, first_face, further_in, inside_link, refusal_of_all, emphasis, judged}
 use Rattle.cm_source.specs.InlineRefusals as refusals
-use Rattle.cm_source.specs.Utf8Inlines.{all_of, has_utf8}
+use Rattle.cm_source.specs.steps.Utf8Inlines.{all_of, has_utf8}
 use Rattle.cm_source.proofs.InlineKinds.{text-judged, code-judged, html-judged, soft-judged, hard-judged, emph-judged, strong-judged, strike-judged, link-judged, image-judged, text-spelled, code-spelled, html-spelled, soft-spelled, hard-spelled, emph-spelled, strong-spelled, strike-spelled, link-spelled, image-spelled, text-strings, code-strings, html-strings, soft-strings, hard-strings, emph-strings, strong-strings, strike-strings, link-strings, image-strings}
 use Rattle.cm_source.proofs.TextLemmas.{inner-text}
 use Rattle.cm_source.proofs.InlineInduction.{AllHold, Cases, by-cases, all-by-cases}

@@ -14,9 +14,9 @@ use Rattle.cm_source.specs.Inlines.{spelled_content}
 use Rattle.cm_source.specs.InlineRefusals.{refused, paragraph_refusal, heading_refusal}
 use Rattle.cm_source.specs.Refusals.{IsSpellable, Face, Judged, judged, refusal_of_all, refusal_of_items, list_reasons, faces}
 use Rattle.cm_source.specs.Spelling.{in_front, parted_lines, spaced, after_space, gap, joined, quoted, quote_lines, marker, indented, item_lines, list_lines, block_step, lines_of_block, lines_of_blocks, spelling_of}
-use Rattle.cm_source.specs.Utf8Inlines.{all_of, has_utf8}
-use Rattle.cm_source.specs.Utf8Blocks.{utf8_step, has_texts, HaveTexts}
-use Rattle.cm_source.specs.Fitting.{SpellingsHaveTexts}
+use Rattle.cm_source.specs.steps.Utf8Inlines.{all_of, has_utf8}
+use Rattle.cm_source.specs.steps.Utf8Blocks.{utf8_step, has_texts, HaveTexts}
+use Rattle.cm_source.specs.steps.Fitting.{SpellingsHaveTexts}
 use Rattle.cm_source.proofs.AcceptedLemmas.{or-none}
 use Rattle.cm_source.proofs.Neighbours.{ascii-utf8}
 use Rattle.cm_source.proofs.InlineEdges.{split-ascii}

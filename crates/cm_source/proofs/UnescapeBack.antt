@@ -8,7 +8,7 @@ use Rattle.cm_text.specs.Unescaping.{escape, unescape_after, unescape}
 use Rattle.cm_text.proofs.UnescapingLemmas.{special-escape, special-reference, special-none, unescape-special, unescape-other}
 use Rattle.cm_source.specs.Texts.{numbered, spelled_bytes, spelled_text}
 use Rattle.cm_source.specs.InlineRefusals.{has_nul}
-use Rattle.cm_source.specs.ContentBack.{TextUnescapes, BytesUnescape}
+use Rattle.cm_source.specs.steps.ContentBack.{TextUnescapes, BytesUnescape}
 use Rattle.cm_source.proofs.Ways.{Way, ByNumber, Escaped, AsItIs, Ways, NoByte, OneByte, ways, text_ways, drop_front, number_read}
 
 pub punct_small : (b : ℕ) → is_ascii_punct b ≡ true → b < 128

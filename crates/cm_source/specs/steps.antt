@@ -1,7 +1,12 @@
 pub mod BlockFaces
+pub mod BlocksBack
 pub mod Bytes
+pub mod ContentBack
+pub mod Fitting
 pub mod HtmlLines
 pub mod InlineFaces
 pub mod Laid
 pub mod Outlines
 pub mod Sources
+pub mod Utf8Blocks
+pub mod Utf8Inlines

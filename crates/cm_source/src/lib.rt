@@ -2,10 +2,8 @@
 #![tactic(auto)]
 
 mod blocks;
-pub mod content_laws;
 mod definitions;
 mod fault;
-pub mod fitting_laws;
 mod html_alone;
 mod inline_refusals;
 mod inlines;
@@ -13,8 +11,8 @@ pub mod laws;
 pub mod reading_laws;
 mod refusals;
 mod source;
-pub mod source_laws;
 mod spelling;
+pub mod spelling_laws;
 mod texts;
 mod why;
 

@@ -6,9 +6,9 @@ use Rattle.cm_tree.specs.declared.tree.Block.{Block}
 use Rattle.cm_source.specs.InlineRefusals.{paragraph_refusal, heading_refusal}
 use Rattle.cm_source.specs.Refusals.{IsSpellable}
 use Rattle.cm_source.specs.Spelling.{spelling_of}
-use Rattle.cm_source.specs.ContentBack.{FitsAll}
-use Rattle.cm_source.specs.Utf8Inlines.{AreTexts}
-use Rattle.cm_source.specs.Utf8Blocks.{HaveTexts}
+use Rattle.cm_source.specs.steps.ContentBack.{FitsAll}
+use Rattle.cm_source.specs.steps.Utf8Inlines.{AreTexts}
+use Rattle.cm_source.specs.steps.Utf8Blocks.{HaveTexts}
 
 -- of paragraphs, and of headings
 abbrev pub ParagraphsFit : Type 0

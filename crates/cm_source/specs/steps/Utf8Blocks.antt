@@ -3,7 +3,7 @@ use Rattle.std.specs.Prelude.{◌≡◌, Bool, true, List, map}
 use Rattle.cm_tree.specs.declared.tree.Block.{Block, Block-F}
 use Rattle.cm_tree.specs.declared.tree.Block.TheOpen as block
 use Rattle.cm_tree.specs.declared.tree.Block.TheFolds.{fold-Block}
-use Rattle.cm_source.specs.Utf8Inlines.{all_of, has_utf8}
+use Rattle.cm_source.specs.steps.Utf8Inlines.{all_of, has_utf8}
 
 -- one block, with whether the contents of each block inside are such texts in its place
 abbrev pub utf8_step : Block-F Bool → Bool
