@@ -20,63 +20,39 @@ use Rattle.cm_source.proofs.InlineKinds.{text-judged, code-judged, html-judged, 
 use Rattle.cm_source.proofs.AcceptedLemmas.{or-none, Accepted, text-accepted, code-accepted, html-accepted, BreakAccepted, soft-accepted, hard-accepted, EmphasisAccepted, emph-accepted, strong-accepted, strike-accepted, link-accepted, image-accepted}
 use Rattle.cm_source.proofs.InlineInduction.{AllHold, Cases, by-cases, all-by-cases}
 use Rattle.cm_source.proofs.KeptBytes.{is_line_byte, one-line, padding-line, text-is-line, code-is-line, target-is-line}
-use Rattle.cm_source.proofs.LineFronts.{differs, differs', IsQuiet, IsInner, ends_number, ends-digit, ends-other, line_of, Front, quiet, number, one_star, two_stars, two_tildes, backticks, LinesBegin}
+use Rattle.cm_source.proofs.LineFronts.{differs, differs', starters, is_quiet, enders, is_inner, none-passes, ends_number, ends-digit, ends-other, line_of, Front, quiet, number, one_star, two_stars, two_tildes, backticks, LinesBegin}
 use Rattle.cm_source.proofs.SpelledBytes.{all-both}
 use Rattle.cm_source.proofs.TagLemmas.{tag-begins}
 use Rattle.cm_source.proofs.Ways.{Way, ByNumber, Escaped, AsItIs, no-control, way, edge_way}
 
 -- ---- quiet and inner bytes
 
-quiet-numbered : IsQuiet 38
-quiet-numbered = record { no_quote = refl; no_hash = refl; no_backtick = refl; no_tilde = refl; no_angle = refl; no_dash = refl; no_underscore = refl; no_star = refl; no_plus = refl; no_equals = refl; no_space = refl; no_tab = refl; no_digit = refl; no_line_feed = refl }
+-- neither ASCII punctuation nor a control character nor a space
+abbrev is_unmarked : ℕ → Bool
+is_unmarked b = not (is_ascii_punct b) && not (is_ascii_control b) && not (b == 32)
 
-quiet-escaped : IsQuiet 92
-quiet-escaped = record { no_quote = refl; no_hash = refl; no_backtick = refl; no_tilde = refl; no_angle = refl; no_dash = refl; no_underscore = refl; no_star = refl; no_plus = refl; no_equals = refl; no_space = refl; no_tab = refl; no_digit = refl; no_line_feed = refl }
+unmarked : (b : ℕ) → is_ascii_punct b ≡ false → is_ascii_control b ≡ false → (b == 32) ≡ false → is_unmarked b ≡ true
+unmarked b punct control space = rw (punct, control, space) refl
 
-quiet-bracket : IsQuiet 91
-quiet-bracket = record { no_quote = refl; no_hash = refl; no_backtick = refl; no_tilde = refl; no_angle = refl; no_dash = refl; no_underscore = refl; no_star = refl; no_plus = refl; no_equals = refl; no_space = refl; no_tab = refl; no_digit = refl; no_line_feed = refl }
+quiet-itself : (b : ℕ) → is_unmarked b ≡ true → is_quiet b ≡ true
+unfolding is_quiet
+quiet-itself b e = ap not (none-passes is_unmarked b starters e refl)
 
-quiet-mark : IsQuiet 33
-quiet-mark = record { no_quote = refl; no_hash = refl; no_backtick = refl; no_tilde = refl; no_angle = refl; no_dash = refl; no_underscore = refl; no_star = refl; no_plus = refl; no_equals = refl; no_space = refl; no_tab = refl; no_digit = refl; no_line_feed = refl }
-
-quiet-itself : (b : ℕ) → is_ascii_punct b ≡ false → is_ascii_control b ≡ false → (b == 32) ≡ false → is_digit b ≡ false → IsQuiet b
-quiet-itself b punct control space digit = record {
-  no_quote = differs' is_ascii_punct b 62 punct refl;
-  no_hash = differs' is_ascii_punct b 35 punct refl;
-  no_backtick = differs' is_ascii_punct b 96 punct refl;
-  no_tilde = differs' is_ascii_punct b 126 punct refl;
-  no_angle = differs' is_ascii_punct b 60 punct refl;
-  no_dash = differs' is_ascii_punct b 45 punct refl;
-  no_underscore = differs' is_ascii_punct b 95 punct refl;
-  no_star = differs' is_ascii_punct b 42 punct refl;
-  no_plus = differs' is_ascii_punct b 43 punct refl;
-  no_equals = differs' is_ascii_punct b 61 punct refl;
-  no_space = space;
-  no_tab = differs' is_ascii_control b 9 control refl;
-  no_digit = digit;
-  no_line_feed = differs' is_ascii_control b 10 control refl;
-}
-
-inner-itself : (b : ℕ) → is_ascii_punct b ≡ false → is_ascii_control b ≡ false → (b == 32) ≡ false → IsInner b
-inner-itself b punct control space = record {
-  no_star = differs' is_ascii_punct b 42 punct refl;
-  no_tilde = differs' is_ascii_punct b 126 punct refl;
-  no_space = space;
-  no_tab = differs' is_ascii_control b 9 control refl;
-  no_line_feed = differs' is_ascii_control b 10 control refl;
-}
+inner-itself : (b : ℕ) → is_unmarked b ≡ true → is_inner b ≡ true
+unfolding is_inner
+inner-itself b e = ap not (none-passes is_unmarked b enders e refl)
 
 -- a text that begins with an inner byte
 pub record StartsInner (text : List ℕ) : Type 0 where
   pub byte : ℕ
   pub rest : List ℕ
   pub is : text ≡ byte ∷ rest
-  pub inner : IsInner byte
+  pub inner : is_inner byte ≡ true
 
 inner-more : (text more : List ℕ) → StartsInner text → StartsInner (text ++ more)
 inner-more text more s = record { byte = s.byte; rest = s.rest ++ more; is = ap (λ t. t ++ more) s.is; inner = s.inner }
 
-starts-with : (b : ℕ) (rest : List ℕ) → IsInner b → StartsInner (b ∷ rest)
+starts-with : (b : ℕ) (rest : List ℕ) → is_inner b ≡ true → StartsInner (b ∷ rest)
 starts-with b rest inner = record { byte = b; rest = rest; is = refl; inner = inner }
 
 -- ---- texts
@@ -101,13 +77,14 @@ text-ends last (b ∷ bs) more e =
     ∙ way-ends b (edge_byte at_edge b) (edge_way at_edge b) (spelled_text false last bs ++ more) (text-ends last bs more e)
 
 way-front : (b : ℕ) (front : List ℕ) → Way b front → (b == 32) ≡ false → (rest : List ℕ) → ends_number rest ≡ true → Front (front ++ rest)
-way-front b front (ByNumber low) space rest e = quiet 38 _ quiet-numbered
-way-front b front (Escaped punct tick) space rest e = quiet 92 _ quiet-escaped
+unfolding is_quiet
+way-front b front (ByNumber low) space rest e = quiet 38 _ refl refl
+way-front b front (Escaped punct tick) space rest e = quiet 92 _ refl refl
 way-front b front (AsItIs printed punct) space rest e = go (is_digit b) refl
   where
     go : (v : Bool) → is_digit b ≡ v → Front (b ∷ rest)
     go true d = number b rest d (ends-digit b rest d ∙ e)
-    go false d = quiet b rest (quiet-itself b punct (no-control b printed) space d)
+    go false d = quiet b rest (quiet-itself b (unmarked b punct (no-control b printed) space)) d
 
 way-filled : (b : ℕ) (front : List ℕ) → Way b front → (rest : List ℕ) → is_empty (front ++ rest) ≡ false
 way-filled b front (ByNumber low) rest = refl
@@ -115,19 +92,20 @@ way-filled b front (Escaped punct tick) rest = refl
 way-filled b front (AsItIs printed punct) rest = refl
 
 pub text-front : (last : Bool) (b : ℕ) (bs more : List ℕ) → ends_number more ≡ true → Front (spelled_text true last (b ∷ bs) ++ more)
-unfolding spelled_text
+unfolding spelled_text is_quiet
 text-front last b bs more e = go (b == 32) refl
   where
     go : (v : Bool) → (b == 32) ≡ v → Front ((if v then numbered 32 else spelled_byte b) ++ spelled_text false last bs ++ more)
-    go true p = quiet 38 _ quiet-numbered
+    go true p = quiet 38 _ refl refl
     go false p = subst Front (sym (append_assoc (spelled_byte b) (spelled_text false last bs) more))
         (way-front b (spelled_byte b) (way b) p (spelled_text false last bs ++ more) (text-ends last bs more e))
 
 -- inside of stars or tildes no text begins with a space
 way-inner : (b : ℕ) (front : List ℕ) → Way b front → (b == 32) ≡ false → (rest : List ℕ) → StartsInner (front ++ rest)
-way-inner b front (ByNumber low) space rest = starts-with 38 _ (record { no_star = refl; no_tilde = refl; no_space = refl; no_tab = refl; no_line_feed = refl })
-way-inner b front (Escaped punct tick) space rest = starts-with 92 _ (record { no_star = refl; no_tilde = refl; no_space = refl; no_tab = refl; no_line_feed = refl })
-way-inner b front (AsItIs printed punct) space rest = starts-with b rest (inner-itself b punct (no-control b printed) space)
+unfolding is_inner
+way-inner b front (ByNumber low) space rest = starts-with 38 _ refl
+way-inner b front (Escaped punct tick) space rest = starts-with 92 _ refl
+way-inner b front (AsItIs printed punct) space rest = starts-with b rest (inner-itself b (unmarked b punct (no-control b printed) space))
 
 text-inner : (last : Bool) (b : ℕ) (bs : List ℕ) → (b == 32) ≡ false → StartsInner (spelled_text false last (b ∷ bs))
 unfolding spelled_text
@@ -300,23 +278,23 @@ module _ (rules : Rules) where
       go true p = absurd (cc (sym (ap (λ c. is_whitespace (first_of (Some (judged rules (Text (c ∷ bs))).face))) (eqb-true b 32 p) ∙ space-first bs) ∙ space))
 
   begins-inner : (i : Inline) → BeginsInner i
-  unfolding spelled_code
+  unfolding spelled_code is_inner
   begins-inner = by-cases BeginsInner (record {
     text = λ text place after e flat space last.
         inner-told (Text text) _ (text-spelled text) last (first-inner last text (text-accepted rules place None after text e).nonempty space);
-    code = λ text place after e flat space last. inner-told (Code text) _ (code-spelled text) last (starts-with 96 _ (record { no_star = refl; no_tilde = refl; no_space = refl; no_tab = refl; no_line_feed = refl }));
+    code = λ text place after e flat space last. inner-told (Code text) _ (code-spelled text) last (starts-with 96 _ refl);
     html = λ text place after e flat space last.
         let tag = tag-begins rules text (html-accepted rules place None after text e).one_tag in
-        inner-told (Html text) _ (html-spelled text) last (subst StartsInner (sym tag.1) (starts-with 60 tag.0 (record { no_star = refl; no_tilde = refl; no_space = refl; no_tab = refl; no_line_feed = refl })));
+        inner-told (Html text) _ (html-spelled text) last (subst StartsInner (sym tag.1) (starts-with 60 tag.0 refl));
     soft = λ place after e flat space last. absurd (cc (soft-accepted rules place None after e).behind);
     hard = λ place after e flat space last. absurd (cc (hard-accepted rules place None after e).behind);
     emph = λ is all place after e flat space last. absurd (cc (sym (ap (λ (j : Judged). j.has_emphasis) (emph-judged rules is)) ∙ flat));
     strong = λ is all place after e flat space last. absurd (cc (sym (ap (λ (j : Judged). j.has_emphasis) (strong-judged rules is)) ∙ flat));
     strike = λ is all place after e flat space last. absurd (cc (sym (ap (λ (j : Judged). j.has_emphasis) (strike-judged rules is)) ∙ flat));
     link = λ dest title is all place after e flat space last. inner-told (Link dest title is) _ (link-spelled dest title is) last
-        (starts-with 91 _ (record { no_star = refl; no_tilde = refl; no_space = refl; no_tab = refl; no_line_feed = refl }));
+        (starts-with 91 _ refl);
     image = λ dest title is all place after e flat space last. inner-told (Image dest title is) _ (image-spelled dest title is) last
-        (starts-with 33 _ (record { no_star = refl; no_tilde = refl; no_space = refl; no_tab = refl; no_line_feed = refl }));
+        (starts-with 33 _ refl);
   })
 
   -- the content of emphasis that isn't refused
@@ -424,7 +402,7 @@ module _ (rules : Rules) where
 
   stars-front : (first last : Bool) (strike : Bool) (is : List Inline) (place : Place) (before after : Option Face) → EmphasisAccepted rules strike (map (judged rules) is) place before after
       → AllHold Fronts is → (marks : List ℕ) → is_empty marks ≡ false → list_all is_line_byte marks ≡ true → (more : List ℕ) → ends_number (marks ++ more) ≡ true
-      → ((b : ℕ) (rest : List ℕ) → IsInner b → Front (marks ++ b ∷ rest)) → LinesBegin false more
+      → ((b : ℕ) (rest : List ℕ) → is_inner b ≡ true → Front (marks ++ b ∷ rest)) → LinesBegin false more
       → LinesBegin first ((between marks (map spelled is) marks).spelling first last ++ more)
   stars-front first last strike is place before after a all marks some line more ends front begin =
       let s = content-inner strike is place before after a in
@@ -432,7 +410,7 @@ module _ (rules : Rules) where
       (λ e. subst (λ t. Front (marks ++ (t ++ (marks ++ more)))) (sym s.is) (front s.byte (s.rest ++ (marks ++ more)) s.inner)) begin
 
   fronts : Cases Fronts
-  unfolding ends_number is_line_byte LinesBegin spelled_target spelled_code
+  unfolding ends_number is_line_byte LinesBegin spelled_target spelled_code is_quiet
   fronts = record {
     text = λ text place before after e first last front more ends begin. front-told (Text text) _ (text-spelled text) first last more begin
         (text-begins first last text more (text-accepted rules place before after text e).nonempty (ends (ap (λ (j : Judged). is_text (Some j.face)) (text-judged rules text))));
@@ -461,10 +439,10 @@ module _ (rules : Rules) where
         (stars-front first last true is place before after (strike-accepted rules place before after is e) all (codes "~~") refl refl more refl (λ b rest inner. two_tildes b rest inner));
     link = λ dest title is all place before after e first last front more ends begin. front-told (Link dest title is) _ (link-spelled dest title is) first last more begin
         (round-front first last (codes "[") (spelled_target dest title) is refl refl (target-is-line dest title) all (inside_link place) (link-accepted rules place before after dest title is e).inside more refl
-        (λ h. quiet 91 _ quiet-bracket));
+        (λ h. quiet 91 _ refl refl));
     image = λ dest title is all place before after e first last front more ends begin. front-told (Image dest title is) _ (image-spelled dest title is) first last more begin
         (round-front first last (codes "![") (spelled_target dest title) is refl refl (target-is-line dest title) all (further_in place) (image-accepted rules place before after dest title is e).inside more refl
-        (λ h. quiet 33 _ quiet-mark));
+        (λ h. quiet 33 _ refl refl));
   }
 
   -- the lines of a paragraph's content

@@ -20,7 +20,7 @@ use Rattle.cm_source.specs.declared.why.Why.TheVariants as why
 use Rattle.cm_source.specs.steps.BlocksBack.{source_step, sourced, all_sourced}
 use Rattle.cm_source.specs.steps.ContentBack.{FitsAll}
 use Rattle.cm_source.specs.Inlines.{spelled_content}
-use Rattle.cm_source.specs.InlineRefusals.{refused, paragraph_refusal, heading_refusal, Place}
+use Rattle.cm_source.specs.InlineRefusals.{refused, paragraph_refusal, heading_refusal, Place, of_paragraph, of_heading}
 use Rattle.cm_source.specs.ReadingBack.{TreesReadBack}
 use Rattle.cm_source.specs.Refusals.{IsSpellable, Face, Judged, refusal_of_all, refusal_of_items, list_reasons, block_step, judged, faces}
 use Rattle.cm_source.specs.Spelling.{spelling_of}
@@ -35,7 +35,7 @@ use Rattle.cm_source.proofs.ContentRead.{content_reads_back}
 use Rattle.cm_source.proofs.FittingLemmas.{paragraphs_fit, headings_fit}
 use Rattle.cm_source.proofs.TreesBack.{spellings_have_texts}
 use Rattle.cm_source.proofs.ReadingBack.{blocks_read_back, spelling_is_text}
-use Rattle.cm_source.proofs.SourceLemmas.{of_paragraph, of_heading, contents_give_sources}
+use Rattle.cm_source.proofs.SourceLemmas.{contents_give_sources}
 
 module _ (rules : Rules) (defined : Defined) where
   -- a source that isn't empty is read

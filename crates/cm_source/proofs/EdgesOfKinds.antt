@@ -92,11 +92,7 @@ module _ (rules : Rules) where
         no_tick = λ k first last rest. text-hidden 96 first last text rest tick-hidden some;
         no_star = λ k first last rest. text-hidden 42 first last text rest star-hidden some;
         no_tilde = λ k first last rest. text-hidden 126 first last text rest tilde-hidden some;
-        apart_text = and_left (is_text before) true apart;
-        apart_code = and_right (is_code before) false refl;
-        apart_emphasis = and_right (is_emphasis before) false refl;
-        not_first = λ e. refl;
-        not_last = λ e. refl;
+        apart = record { text = and_left (is_text before) true apart; code = and_right (is_code before) false refl; emphasis = and_right (is_emphasis before) false refl; first = λ e. refl; last = λ e. refl };
       }
 
   code-facts : (text : List ℕ) (before after : Option Face) → is_code before ≡ false → ((first last : Bool) → IsUtf8 (spelled_code text))
@@ -112,11 +108,7 @@ module _ (rules : Rules) where
         no_tick = λ e. absurd (cc e);
         no_star = λ e. refl;
         no_tilde = λ e. refl;
-        apart_text = and_right (is_text before) false refl;
-        apart_code = and_left (is_code before) true apart;
-        apart_emphasis = and_right (is_emphasis before) false refl;
-        not_first = λ e. refl;
-        not_last = λ e. refl;
+        apart = record { text = and_right (is_text before) false refl; code = and_left (is_code before) true apart; emphasis = and_right (is_emphasis before) false refl; first = λ e. refl; last = λ e. refl };
       })
       (code-ends text) u
 
@@ -133,11 +125,7 @@ module _ (rules : Rules) where
     no_tick = λ f. c;
     no_star = λ f. d;
     no_tilde = λ f. e;
-    apart_text = and_right (is_text before) false refl;
-    apart_code = and_right (is_code before) false refl;
-    apart_emphasis = and_right (is_emphasis before) false refl;
-    not_first = λ f. refl;
-    not_last = λ f. refl;
+    apart = record { text = and_right (is_text before) false refl; code = and_right (is_code before) false refl; emphasis = and_right (is_emphasis before) false refl; first = λ f. refl; last = λ f. refl };
   }
 
   emphasis-bytes : (before after : Option Face) (x : ℕ) → x < 128 → is_ascii_punct x ≡ true → (x == 32) ≡ false → (x == 10) ≡ false → (x == 96) ≡ false → is_emphasis before ≡ false
@@ -152,11 +140,7 @@ module _ (rules : Rules) where
     no_tick = λ f. c;
     no_star = λ f. absurd (cc f);
     no_tilde = λ f. absurd (cc f);
-    apart_text = and_right (is_text before) false refl;
-    apart_code = and_right (is_code before) false refl;
-    apart_emphasis = and_left (is_emphasis before) true apart;
-    not_first = λ f. refl;
-    not_last = λ f. refl;
+    apart = record { text = and_right (is_text before) false refl; code = and_right (is_code before) false refl; emphasis = and_left (is_emphasis before) true apart; first = λ f. refl; last = λ f. refl };
   }
 
   -- a break, which ends with a line feed
@@ -173,11 +157,7 @@ module _ (rules : Rules) where
     no_tick = λ f. c;
     no_star = λ f. d;
     no_tilde = λ f. e;
-    apart_text = and_right (is_text before) false refl;
-    apart_code = and_right (is_code before) false refl;
-    apart_emphasis = and_right (is_emphasis before) false refl;
-    not_first = λ f. absurd (cc (behind, f));
-    not_last = λ f. absurd (cc (ahead, f));
+    apart = record { text = and_right (is_text before) false refl; code = and_right (is_code before) false refl; emphasis = and_right (is_emphasis before) false refl; first = λ f. absurd (cc (behind, f)); last = λ f. absurd (cc (ahead, f)) };
   }
 
 so-spelled : (i : Inline) (s : Spelled) → spelled i ≡ s → has_utf8 i ≡ true → (first last : Bool) → IsUtf8 (s.spelling first last)

@@ -52,6 +52,15 @@ ended-first (b ∷ bs) rest none = go (b == 10) none (λ h. ended-first bs rest 
     go true none again = absurd (cc none)
     go false none again = ap (in_front b) (again none)
 
+-- a line that is cut off at a line feed, and what is behind that
+pub cut-first : (text line behind : List ℕ) (i : ℕ) → position (λ b. b == 10) text ≡ Some i → line ≡ take i text → behind ≡ drop (i + 1) text → ended_lines text ≡ line ∷ ended_lines behind
+cut-first text line behind i found before after =
+    let at = feed-at text i found in
+    ap ended_lines at.1 ∙ ended-first (take i text) (drop (i + 1) text) at.0 ∙ ap (λ l. l ∷ ended_lines (drop (i + 1) text)) (sym before) ∙ ap (λ t. line ∷ ended_lines t) (sym after)
+
+pub cut-ascii : (text : List ℕ) (i : ℕ) → position (λ b. b == 10) text ≡ Some i → get_or text i 0 < 128
+cut-ascii text i found = let byte = eqb-true (get_or text i 0) 10 (position-Some (λ b. b == 10) text i 0 found).1 in omega (arith, byte)
+
 pub ended-last : (b : ℕ) (bs : List ℕ) → has_feed (b ∷ bs) ≡ false → ended_lines (b ∷ bs) ≡ (b ∷ bs) ∷ []
 unfolding ended_lines
 ended-last b [] none = go (b == 10) none

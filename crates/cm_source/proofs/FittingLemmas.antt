@@ -14,7 +14,7 @@ use Rattle.cm_scan.specs.Pairing.{emphasised}
 use Rattle.cm_scan.specs.Atoms.{first_character, last_character, run_between}
 use Rattle.cm_source.specs.Texts.{spelled_target}
 use Rattle.cm_source.specs.Inlines.{join, is_line_end, spelled, spelled_inlines}
-use Rattle.cm_source.specs.InlineRefusals.{Face, is_text, is_code, is_break, is_emphasis, is_none, first_of, last_of, is_whitespace, is_plain, first_face, last_face, hold_emphasis, Place, Judged, further_in, inside_link, refusal_of_all, judged}
+use Rattle.cm_source.specs.InlineRefusals.{Face, is_text, is_code, is_break, is_emphasis, is_none, first_of, last_of, is_whitespace, is_plain, first_face, last_face, hold_emphasis, Place, Judged, further_in, inside_link, refusal_of_all, judged, of_paragraph, of_heading}
 use Rattle.cm_source.specs.steps.ContentBack.{Mark, Star, TwoStars, TwoTildes, character_of, count_of, written, is_known, IsBetween, is_before_line_end, Fits, FitsText, FitsCode, FitsHtml, FitsSoft, FitsHard, FitsEmphasis, FitsLink, FitsImage, FitsAll, FitsNone, FitsNext}
 use Rattle.cm_source.specs.steps.Utf8Inlines.{all_of, has_utf8}
 use Rattle.cm_source.specs.steps.Fitting.{ParagraphsFit, HeadingsFit}
@@ -94,12 +94,12 @@ module _ (rules : Rules) where
       let facts = known rules k place (Some face) (first_face (map (judged rules) ks)) parts.0 own in
       let same : (s ++ more) ++ rest ≡ s ++ (more ++ rest) = append_assoc s more rest in
       record {
-        texts = facts.apart_text;
+        texts = facts.apart.text;
         shows = subst (λ l. Shows rules (Some j.face) (first_of (Some j.face)) (neighbour rules (first_character l))) (sym same) (facts.begins begins (is_line_end last (map spelled ks)) (more ++ rest));
-        no_line_end = λ t ends. ap is_before_line_end same ∙ facts.no_line_end ends (second-fails (is_text (Some face)) (is_text (Some j.face)) facts.apart_text t) begins (is_line_end last (map spelled ks)) (more ++ rest);
-        no_tick = λ t. ap (begins_with 96) same ∙ facts.no_tick (second-fails (is_code (Some face)) (is_code (Some j.face)) facts.apart_code t) begins (is_line_end last (map spelled ks)) (more ++ rest);
-        no_star = λ m t. ap (begins_with 42) same ∙ facts.no_star (second-fails (is_emphasis (Some face)) (is_emphasis (Some j.face)) facts.apart_emphasis t) begins (is_line_end last (map spelled ks)) (more ++ rest);
-        no_tilde = λ m t. ap (begins_with 126) same ∙ facts.no_tilde (second-fails (is_emphasis (Some face)) (is_emphasis (Some j.face)) facts.apart_emphasis t) begins (is_line_end last (map spelled ks)) (more ++ rest);
+        no_line_end = λ t ends. ap is_before_line_end same ∙ facts.no_line_end ends (second-fails (is_text (Some face)) (is_text (Some j.face)) facts.apart.text t) begins (is_line_end last (map spelled ks)) (more ++ rest);
+        no_tick = λ t. ap (begins_with 96) same ∙ facts.no_tick (second-fails (is_code (Some face)) (is_code (Some j.face)) facts.apart.code t) begins (is_line_end last (map spelled ks)) (more ++ rest);
+        no_star = λ m t. ap (begins_with 42) same ∙ facts.no_star (second-fails (is_emphasis (Some face)) (is_emphasis (Some j.face)) facts.apart.emphasis t) begins (is_line_end last (map spelled ks)) (more ++ rest);
+        no_tilde = λ m t. ap (begins_with 126) same ∙ facts.no_tilde (second-fails (is_emphasis (Some face)) (is_emphasis (Some j.face)) facts.apart.emphasis t) begins (is_line_end last (map spelled ks)) (more ++ rest);
       }
 
   -- ---- one inline after another
@@ -182,7 +182,7 @@ module _ (rules : Rules) where
       let same : (s ++ more) ++ rest ≡ s ++ (more ++ rest) = append_assoc s more rest in
       record {
         shows = subst (λ l. Shows rules (Some j.face) (first_of (Some j.face)) (neighbour rules (first_character l))) (sym same) (facts.begins false ends (more ++ rest));
-        no_break = facts.not_first refl;
+        no_break = facts.apart.first refl;
         no_star = ap (begins_with 42) same ∙ facts.no_star plain false ends (more ++ rest);
         no_tilde = ap (begins_with 126) same ∙ facts.no_tilde plain false ends (more ++ rest);
       }
@@ -202,7 +202,7 @@ module _ (rules : Rules) where
       let facts = known rules i place face None parts.0 (and_parts (has_utf8 i) true all).0 in
       record {
         shows = subst (λ l. Shows rules (Some j.face) (last_of (Some j.face)) (neighbour rules (last_character (reverse l ++ before)))) (sym (append-nil s)) (facts.ends begins false before u);
-        no_break = facts.not_last refl;
+        no_break = facts.apart.last refl;
       }
   ended place face begins (i ∷ k ∷ ks) before some e all u =
       let j = judged rules i in
@@ -387,7 +387,7 @@ module _ (rules : Rules) where
   accepted-fits place content e all = content-fits content (all-by-cases FitsThere fits-cases content) place None true true true [] [] e all (λ m. absurd (cc m)) whole
 
 pub paragraphs_fit : ParagraphsFit
-paragraphs_fit rules content texts e = accepted-fits rules (record { heading = false; opens_paragraph = true; in_opening_link = false }) content e texts
+paragraphs_fit rules content texts e = accepted-fits rules of_paragraph content e texts
 
 pub headings_fit : HeadingsFit
-headings_fit rules content texts e = accepted-fits rules (record { heading = true; opens_paragraph = false; in_opening_link = false }) content e texts
+headings_fit rules content texts e = accepted-fits rules of_heading content e texts

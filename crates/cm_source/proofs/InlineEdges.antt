@@ -116,6 +116,14 @@ ends-begin spelling x y m e h first last rest = let f = e.front first last in ap
 ends-line : (spelling : (first last : Bool) → List ℕ) (x y : ℕ) → Ends spelling x y → (x == 32) ≡ false → (x == 10) ≡ false → (first last : Bool) (rest : List ℕ) → is_before_line_end (spelling first last ++ rest) ≡ false
 ends-line spelling x y e h k first last rest = let f = e.front first last in ap (λ l. is_before_line_end (l ++ rest)) f.1 ∙ no-line-here x (f.0 ++ rest) h k
 
+-- No text stands behind a text, no code span behind a code span, no emphasis behind emphasis; and no break comes first or last.
+pub record StandsApart (face : Face) (before after : Option Face) : Type 0 where
+  pub text : (is_text before && is_text (Some face)) ≡ false
+  pub code : (is_code before && is_code (Some face)) ≡ false
+  pub emphasis : (is_emphasis before && is_emphasis (Some face)) ≡ false
+  pub first : is_none before ≡ true → is_break (Some face) ≡ false
+  pub last : is_none after ≡ true → is_break (Some face) ≡ false
+
 module _ (rules : Rules) where
   -- What is known of an accepted inline between two faces, whatever stands before it and behind it.
   pub record Facts (face : Face) (spelling : (first last : Bool) → List ℕ) (ends_line : Bool) (before after : Option Face) : Type 0 where
@@ -126,11 +134,7 @@ module _ (rules : Rules) where
     pub no_tick : is_code (Some face) ≡ false → (first last : Bool) (rest : List ℕ) → begins_with 96 (spelling first last ++ rest) ≡ false
     pub no_star : is_emphasis (Some face) ≡ false → (first last : Bool) (rest : List ℕ) → begins_with 42 (spelling first last ++ rest) ≡ false
     pub no_tilde : is_emphasis (Some face) ≡ false → (first last : Bool) (rest : List ℕ) → begins_with 126 (spelling first last ++ rest) ≡ false
-    pub apart_text : (is_text before && is_text (Some face)) ≡ false
-    pub apart_code : (is_code before && is_code (Some face)) ≡ false
-    pub apart_emphasis : (is_emphasis before && is_emphasis (Some face)) ≡ false
-    pub not_first : is_none before ≡ true → is_break (Some face) ≡ false
-    pub not_last : is_none after ≡ true → is_break (Some face) ≡ false
+    pub apart : StandsApart face before after
 
   -- of each kind but a text, from its first and its last byte
   pub record Bytes (face : Face) (ends_line : Bool) (before after : Option Face) (x y : ℕ) : Type 0 where
@@ -143,11 +147,7 @@ module _ (rules : Rules) where
     pub no_tick : is_code (Some face) ≡ false → (x == 96) ≡ false
     pub no_star : is_emphasis (Some face) ≡ false → (x == 42) ≡ false
     pub no_tilde : is_emphasis (Some face) ≡ false → (x == 126) ≡ false
-    pub apart_text : (is_text before && is_text (Some face)) ≡ false
-    pub apart_code : (is_code before && is_code (Some face)) ≡ false
-    pub apart_emphasis : (is_emphasis before && is_emphasis (Some face)) ≡ false
-    pub not_first : is_none before ≡ true → is_break (Some face) ≡ false
-    pub not_last : is_none after ≡ true → is_break (Some face) ≡ false
+    pub apart : StandsApart face before after
 
   pub by-bytes : (face : Face) (spelling : (first last : Bool) → List ℕ) (ends_line : Bool) (before after : Option Face) (x y : ℕ) → Bytes face ends_line before after x y → Ends spelling x y
       → ((first last : Bool) → IsUtf8 (spelling first last))
@@ -159,9 +159,5 @@ module _ (rules : Rules) where
     no_tick = λ k first last rest. ends-begin spelling x y 96 e (b.no_tick k) first last rest;
     no_star = λ k first last rest. ends-begin spelling x y 42 e (b.no_star k) first last rest;
     no_tilde = λ k first last rest. ends-begin spelling x y 126 e (b.no_tilde k) first last rest;
-    apart_text = b.apart_text;
-    apart_code = b.apart_code;
-    apart_emphasis = b.apart_emphasis;
-    not_first = b.not_first;
-    not_last = b.not_last;
+    apart = b.apart;
   }

@@ -1,5 +1,5 @@
 -- What a line begins with that is nothing but text, whatever stands further on in it.
-use Rattle.std.proofs.Common.{◌≡◌, ℕ, zero, suc, ◌==◌, ◌&&◌, ◌||◌, not, cond, Bool, true, false, List, [], ◌∷◌, ◌++◌, replicate, Option, Some, None, refl, sym, ap, subst, ◌∙◌, arith}
+use Rattle.std.proofs.Common.{◌≡◌, ℕ, zero, suc, ◌==◌, ◌&&◌, ◌||◌, not, cond, Bool, true, false, List, [], ◌∷◌, ◌++◌, replicate, Option, Some, None, refl, sym, ap, subst, ◌∙◌, arith, codes}
 use Rattle.std.specs.Prelude.{⊤, if◌then◌else◌, nat_le, length}
 use Rattle.std.specs.List.{list_all, list_any}
 use Rattle.std.proofs.lemmas.Bool.{cond-true, cond-false, or_parts, or_from, eqb-true, ne_eqb}
@@ -20,30 +20,26 @@ differs test b c t f = ne_eqb b c (λ e. absurd (cc (t, f, ap test e)))
 pub differs' : (test : ℕ → Bool) (b c : ℕ) → test b ≡ false → test c ≡ true → (b == c) ≡ false
 differs' test b c f t = ne_eqb b c (λ e. absurd (cc (t, f, ap test e)))
 
--- a byte with which only text begins
-pub record IsQuiet (b : ℕ) : Type 0 where
-  pub no_quote : (b == 62) ≡ false
-  pub no_hash : (b == 35) ≡ false
-  pub no_backtick : (b == 96) ≡ false
-  pub no_tilde : (b == 126) ≡ false
-  pub no_angle : (b == 60) ≡ false
-  pub no_dash : (b == 45) ≡ false
-  pub no_underscore : (b == 95) ≡ false
-  pub no_star : (b == 42) ≡ false
-  pub no_plus : (b == 43) ≡ false
-  pub no_equals : (b == 61) ≡ false
-  pub no_space : (b == 32) ≡ false
-  pub no_tab : (b == 9) ≡ false
-  pub no_digit : is_digit b ≡ false
-  pub no_line_feed : (b == 10) ≡ false
+-- the bytes with which a block other than text, or an underline, may begin, but for digits; blanks, and the end of a line
+abbrev pub starters : List ℕ
+starters = codes ">#`~<-_*+= \t\n"
 
--- a byte behind stars or tildes at which neither a marker nor a run ends
-pub record IsInner (b : ℕ) : Type 0 where
-  pub no_star : (b == 42) ≡ false
-  pub no_tilde : (b == 126) ≡ false
-  pub no_space : (b == 32) ≡ false
-  pub no_tab : (b == 9) ≡ false
-  pub no_line_feed : (b == 10) ≡ false
+unfoldable pub is_quiet : ℕ → Bool
+is_quiet b = not (list_any (λ c. b == c) starters)
+
+-- the bytes at which, behind stars or tildes, a marker or a run may end
+abbrev pub enders : List ℕ
+enders = codes "*~ \t\n"
+
+unfoldable pub is_inner : ℕ → Bool
+is_inner b = not (list_any (λ c. b == c) enders)
+
+-- a byte isn't among those that don't pass its test
+pub none-passes : (test : ℕ → Bool) (b : ℕ) (cs : List ℕ) → test b ≡ true → list_any test cs ≡ false → list_any (λ c. b == c) cs ≡ false
+none-passes test b [] t f = refl
+none-passes test b (c ∷ cs) t f =
+    let parts = or_parts (test c) (list_any test cs) f in
+    or_from (b == c) (list_any (λ d. b == d) cs) (differs test b c t parts.0) (none-passes test b cs t parts.1)
 
 -- behind the digits at its front stands neither `.` nor `)`
 unfoldable pub ends_number : List ℕ → Bool
@@ -57,11 +53,11 @@ line_of (b ∷ bs) = if b == 10 then [] else b ∷ line_of bs
 
 -- how a line begins that is nothing but text
 pub data Front : List ℕ → Type 0 where
-  quiet : (b : ℕ) (bs : List ℕ) → IsQuiet b → Front (b ∷ bs)
+  quiet : (b : ℕ) (bs : List ℕ) → is_quiet b ≡ true → is_digit b ≡ false → Front (b ∷ bs)
   number : (b : ℕ) (bs : List ℕ) → is_digit b ≡ true → ends_number (b ∷ bs) ≡ true → Front (b ∷ bs)
-  one_star : (b : ℕ) (bs : List ℕ) → IsInner b → Front (42 ∷ b ∷ bs)
-  two_stars : (b : ℕ) (bs : List ℕ) → IsInner b → Front (42 ∷ 42 ∷ b ∷ bs)
-  two_tildes : (b : ℕ) (bs : List ℕ) → IsInner b → Front (126 ∷ 126 ∷ b ∷ bs)
+  one_star : (b : ℕ) (bs : List ℕ) → is_inner b ≡ true → Front (42 ∷ b ∷ bs)
+  two_stars : (b : ℕ) (bs : List ℕ) → is_inner b ≡ true → Front (42 ∷ 42 ∷ b ∷ bs)
+  two_tildes : (b : ℕ) (bs : List ℕ) → is_inner b ≡ true → Front (126 ∷ 126 ∷ b ∷ bs)
   backticks : (n b : ℕ) (bs : List ℕ) → (b == 96) ≡ false → (b == 10) ≡ false → list_any (λ c. c == 96) (line_of (b ∷ bs)) ≡ true
       → Front (replicate (suc n) 96 ++ b ∷ bs)
 
@@ -142,31 +138,43 @@ no-break : (b : ℕ) (bs : List ℕ) → (b == 45) ≡ false → (b == 95) ≡ f
 unfolding is_thematic_break
 no-break b bs e f g h k = rw (e, f, g, h, k) refl
 
-quiet-start : (rules : Rules) (b : ℕ) (bs : List ℕ) → IsQuiet b → start_of_content rules (b ∷ bs) ≡ TextLine
-unfolding start_of_content item_marker
-quiet-start rules b bs q =
+unmarked-start : (rules : Rules) (b : ℕ) (bs : List ℕ) → is_quiet b ≡ true → ordered_marker (b ∷ bs) ≡ None → start_of_content rules (b ∷ bs) ≡ TextLine
+unfolding start_of_content item_marker is_quiet
+unmarked-start rules b bs q none =
+    let no : (c : ℕ) → is_quiet c ≡ false → (b == c) ≡ false = λ c. differs is_quiet b c q in
     rw (
-      q.no_quote,
-      no-heading b bs q.no_hash,
-      no-fence b bs q.no_backtick q.no_tilde,
-      no-html-start rules b bs q.no_angle,
-      no-break b bs q.no_dash q.no_underscore q.no_star q.no_space q.no_tab,
-      no-bullet b bs q.no_dash q.no_plus q.no_star,
-      no-number b bs q.no_digit,
+      no 62 refl,
+      no-heading b bs (no 35 refl),
+      no-fence b bs (no 96 refl) (no 126 refl),
+      no-html-start rules b bs (no 60 refl),
+      no-break b bs (no 45 refl) (no 95 refl) (no 42 refl) (no 32 refl) (no 9 refl),
+      no-bullet b bs (no 45 refl) (no 43 refl) (no 42 refl),
+      none,
     ) refl
 
 pub no-level : (b : ℕ) (bs : List ℕ) → (b == 61) ≡ false → (b == 45) ≡ false → underline (b ∷ bs) ≡ None
 unfolding underline
 no-level b bs e f = rw (no-run 61 b bs e, no-run 45 b bs f) refl
 
-quiet-text : (rules : Rules) (b : ℕ) (bs : List ℕ) → IsQuiet b → IsText rules (b ∷ bs)
-quiet-text rules b bs q = record {
-  bare = rw (q.no_space, q.no_tab) refl;
-  starts = quiet-start rules b bs q;
-  no_underline = no-level b bs q.no_equals q.no_dash;
-  no_dashes = rw (q.no_dash, q.no_space, q.no_tab) refl;
-  no_stars = rw (q.no_star, q.no_space, q.no_tab) refl;
-}
+unmarked-text : (rules : Rules) (b : ℕ) (bs : List ℕ) → is_quiet b ≡ true → ordered_marker (b ∷ bs) ≡ None → IsText rules (b ∷ bs)
+unfolding is_quiet
+unmarked-text rules b bs q none =
+    let no : (c : ℕ) → is_quiet c ≡ false → (b == c) ≡ false = λ c. differs is_quiet b c q in
+    record {
+      bare = rw (no 32 refl, no 9 refl) refl;
+      starts = unmarked-start rules b bs q none;
+      no_underline = no-level b bs (no 61 refl) (no 45 refl);
+      no_dashes = rw (no 45 refl, no 32 refl, no 9 refl) refl;
+      no_stars = rw (no 42 refl, no 32 refl, no 9 refl) refl;
+    }
+
+quiet-line : (b : ℕ) → is_quiet b ≡ true → (b == 10) ≡ false
+unfolding is_quiet
+quiet-line b q = differs is_quiet b 10 q refl
+
+inner-line : (b : ℕ) → is_inner b ≡ true → (b == 10) ≡ false
+unfolding is_inner
+inner-line b q = differs is_inner b 10 q refl
 
 -- ---- a number
 
@@ -198,86 +206,37 @@ no-marker digits (b ∷ bs) e = go (is_digit b) refl (no-marker digits bs)
         ap (λ v. marker_behind digits (elim v as (λ _. List ℕ) [ true ↦ skip is_digit bs | false ↦ b ∷ bs ])) d ∙ no-delimiter digits b bs other.0 other.1
 
 -- a digit begins nothing but a marker
-record IsDigit (b : ℕ) : Type 0 where
-  no_quote : (b == 62) ≡ false
-  no_hash : (b == 35) ≡ false
-  no_backtick : (b == 96) ≡ false
-  no_tilde : (b == 126) ≡ false
-  no_angle : (b == 60) ≡ false
-  no_dash : (b == 45) ≡ false
-  no_underscore : (b == 95) ≡ false
-  no_star : (b == 42) ≡ false
-  no_plus : (b == 43) ≡ false
-  no_equals : (b == 61) ≡ false
-  no_space : (b == 32) ≡ false
-  no_tab : (b == 9) ≡ false
-  no_line_feed : (b == 10) ≡ false
-
-digit : (b : ℕ) → is_digit b ≡ true → IsDigit b
-digit b e = record {
-  no_quote = differs is_digit b 62 e refl;
-  no_hash = differs is_digit b 35 e refl;
-  no_backtick = differs is_digit b 96 e refl;
-  no_tilde = differs is_digit b 126 e refl;
-  no_angle = differs is_digit b 60 e refl;
-  no_dash = differs is_digit b 45 e refl;
-  no_underscore = differs is_digit b 95 e refl;
-  no_star = differs is_digit b 42 e refl;
-  no_plus = differs is_digit b 43 e refl;
-  no_equals = differs is_digit b 61 e refl;
-  no_space = differs is_digit b 32 e refl;
-  no_tab = differs is_digit b 9 e refl;
-  no_line_feed = differs is_digit b 10 e refl;
-}
-
-number-start : (rules : Rules) (b : ℕ) (bs : List ℕ) → IsDigit b → ordered_marker (b ∷ bs) ≡ None → start_of_content rules (b ∷ bs) ≡ TextLine
-unfolding start_of_content item_marker
-number-start rules b bs q none =
-    rw (
-      q.no_quote,
-      no-heading b bs q.no_hash,
-      no-fence b bs q.no_backtick q.no_tilde,
-      no-html-start rules b bs q.no_angle,
-      no-break b bs q.no_dash q.no_underscore q.no_star q.no_space q.no_tab,
-      no-bullet b bs q.no_dash q.no_plus q.no_star,
-      none,
-    ) refl
+digit-quiet : (b : ℕ) → is_digit b ≡ true → is_quiet b ≡ true
+unfolding is_quiet
+digit-quiet b d = ap not (none-passes is_digit b starters d refl)
 
 number-text : (rules : Rules) (b : ℕ) (bs : List ℕ) → is_digit b ≡ true → ends_number (b ∷ bs) ≡ true → IsText rules (b ∷ bs)
 unfolding ordered_marker
-number-text rules b bs d e =
-    let q = digit b d in
-    record {
-      bare = rw (q.no_space, q.no_tab) refl;
-      starts = number-start rules b bs q (no-marker (front_of is_digit (b ∷ bs)) (b ∷ bs) e);
-      no_underline = no-level b bs q.no_equals q.no_dash;
-      no_dashes = rw (q.no_dash, q.no_space, q.no_tab) refl;
-      no_stars = rw (q.no_star, q.no_space, q.no_tab) refl;
-    }
+number-text rules b bs d e = unmarked-text rules b bs (digit-quiet b d) (no-marker (front_of is_digit (b ∷ bs)) (b ∷ bs) e)
 
 -- ---- stars and tildes
 
-star-start : (rules : Rules) (b : ℕ) (bs : List ℕ) → IsInner b → start_of_content rules (42 ∷ b ∷ bs) ≡ TextLine
-unfolding start_of_content atx_heading opening_fence fence_of html_start is_thematic_break item_marker bullet_marker ordered_marker marker_behind run_length after_run skip front_of
-star-start rules b bs q = rw (q.no_star, q.no_space, q.no_tab) refl
+star-start : (rules : Rules) (b : ℕ) (bs : List ℕ) → is_inner b ≡ true → start_of_content rules (42 ∷ b ∷ bs) ≡ TextLine
+unfolding is_inner start_of_content atx_heading opening_fence fence_of html_start is_thematic_break item_marker bullet_marker ordered_marker marker_behind run_length after_run skip front_of
+star-start rules b bs q = rw (differs is_inner b 42 q refl, differs is_inner b 32 q refl, differs is_inner b 9 q refl) refl
 
-star-text : (rules : Rules) (b : ℕ) (bs : List ℕ) → IsInner b → IsText rules (42 ∷ b ∷ bs)
-unfolding underline run_length
-star-text rules b bs q = record { bare = refl; starts = star-start rules b bs q; no_underline = refl; no_dashes = refl; no_stars = rw (q.no_star, q.no_space, q.no_tab) refl }
+star-text : (rules : Rules) (b : ℕ) (bs : List ℕ) → is_inner b ≡ true → IsText rules (42 ∷ b ∷ bs)
+unfolding is_inner underline run_length
+star-text rules b bs q = record { bare = refl; starts = star-start rules b bs q; no_underline = refl; no_dashes = refl; no_stars = rw (differs is_inner b 42 q refl, differs is_inner b 32 q refl, differs is_inner b 9 q refl) refl }
 
-stars-start : (rules : Rules) (b : ℕ) (bs : List ℕ) → IsInner b → start_of_content rules (42 ∷ 42 ∷ b ∷ bs) ≡ TextLine
-unfolding start_of_content atx_heading opening_fence fence_of html_start is_thematic_break item_marker bullet_marker ordered_marker marker_behind run_length after_run skip front_of
-stars-start rules b bs q = rw (q.no_star, q.no_space, q.no_tab) refl
+stars-start : (rules : Rules) (b : ℕ) (bs : List ℕ) → is_inner b ≡ true → start_of_content rules (42 ∷ 42 ∷ b ∷ bs) ≡ TextLine
+unfolding is_inner start_of_content atx_heading opening_fence fence_of html_start is_thematic_break item_marker bullet_marker ordered_marker marker_behind run_length after_run skip front_of
+stars-start rules b bs q = rw (differs is_inner b 42 q refl, differs is_inner b 32 q refl, differs is_inner b 9 q refl) refl
 
-stars-text : (rules : Rules) (b : ℕ) (bs : List ℕ) → IsInner b → IsText rules (42 ∷ 42 ∷ b ∷ bs)
-unfolding underline run_length
-stars-text rules b bs q = record { bare = refl; starts = stars-start rules b bs q; no_underline = refl; no_dashes = refl; no_stars = rw (q.no_star, q.no_space, q.no_tab) refl }
+stars-text : (rules : Rules) (b : ℕ) (bs : List ℕ) → is_inner b ≡ true → IsText rules (42 ∷ 42 ∷ b ∷ bs)
+unfolding is_inner underline run_length
+stars-text rules b bs q = record { bare = refl; starts = stars-start rules b bs q; no_underline = refl; no_dashes = refl; no_stars = rw (differs is_inner b 42 q refl, differs is_inner b 32 q refl, differs is_inner b 9 q refl) refl }
 
-tildes-start : (rules : Rules) (b : ℕ) (bs : List ℕ) → IsInner b → start_of_content rules (126 ∷ 126 ∷ b ∷ bs) ≡ TextLine
-unfolding start_of_content atx_heading opening_fence fence_of html_start is_thematic_break item_marker bullet_marker ordered_marker marker_behind run_length after_run skip front_of
-tildes-start rules b bs q = rw q.no_tilde refl
+tildes-start : (rules : Rules) (b : ℕ) (bs : List ℕ) → is_inner b ≡ true → start_of_content rules (126 ∷ 126 ∷ b ∷ bs) ≡ TextLine
+unfolding is_inner start_of_content atx_heading opening_fence fence_of html_start is_thematic_break item_marker bullet_marker ordered_marker marker_behind run_length after_run skip front_of
+tildes-start rules b bs q = rw (differs is_inner b 126 q refl) refl
 
-tildes-text : (rules : Rules) (b : ℕ) (bs : List ℕ) → IsInner b → IsText rules (126 ∷ 126 ∷ b ∷ bs)
+tildes-text : (rules : Rules) (b : ℕ) (bs : List ℕ) → is_inner b ≡ true → IsText rules (126 ∷ 126 ∷ b ∷ bs)
 unfolding underline run_length
 tildes-text rules b bs q = record { bare = refl; starts = tildes-start rules b bs q; no_underline = refl; no_dashes = refl; no_stars = refl }
 
@@ -347,13 +306,13 @@ ticks-text rules n b bs e holds =
 
 pub front-line : (rules : Rules) (text : List ℕ) → Front text → IsText rules (line_of text)
 unfolding line_of holds_backtick
-front-line rules text (quiet b bs q) = subst (IsText rules) (sym (line-keeps b bs q.no_line_feed)) (quiet-text rules b (line_of bs) q)
+front-line rules text (quiet b bs q d) = subst (IsText rules) (sym (line-keeps b bs (quiet-line b q))) (unmarked-text rules b (line_of bs) q (no-number b (line_of bs) d))
 front-line rules text (number b bs d e) =
-    let kept = line-keeps b bs (digit b d).no_line_feed in
+    let kept = line-keeps b bs (quiet-line b (digit-quiet b d)) in
     subst (IsText rules) (sym kept) (number-text rules b (line_of bs) d (sym (ap ends_number kept) ∙ line-ends (b ∷ bs) e))
-front-line rules text (one_star b bs q) = subst (λ l. IsText rules (42 ∷ l)) (sym (line-keeps b bs q.no_line_feed)) (star-text rules b (line_of bs) q)
-front-line rules text (two_stars b bs q) = subst (λ l. IsText rules (42 ∷ 42 ∷ l)) (sym (line-keeps b bs q.no_line_feed)) (stars-text rules b (line_of bs) q)
-front-line rules text (two_tildes b bs q) = subst (λ l. IsText rules (126 ∷ 126 ∷ l)) (sym (line-keeps b bs q.no_line_feed)) (tildes-text rules b (line_of bs) q)
+front-line rules text (one_star b bs q) = subst (λ l. IsText rules (42 ∷ l)) (sym (line-keeps b bs (inner-line b q))) (star-text rules b (line_of bs) q)
+front-line rules text (two_stars b bs q) = subst (λ l. IsText rules (42 ∷ 42 ∷ l)) (sym (line-keeps b bs (inner-line b q))) (stars-text rules b (line_of bs) q)
+front-line rules text (two_tildes b bs q) = subst (λ l. IsText rules (126 ∷ 126 ∷ l)) (sym (line-keeps b bs (inner-line b q))) (tildes-text rules b (line_of bs) q)
 front-line rules text (backticks n b bs e no_end holds) =
     subst (IsText rules) (sym (line-run (suc n) (b ∷ bs) ∙ ap (λ l. replicate (suc n) 96 ++ l) (line-keeps b bs no_end)))
     (ticks-text rules n b (line_of bs) e (sym (ap holds_backtick (line-keeps b bs no_end)) ∙ holds))

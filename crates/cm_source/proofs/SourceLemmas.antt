@@ -8,7 +8,7 @@ use Rattle.cm_scan.specs.LineForms.{without_closing}
 use Rattle.cm_scan.specs.Words.{skip, trim_end_by, trim, trim_end, trim_start}
 use Rattle.cm_source.specs.steps.BlocksBack.{ContentsGiveSources}
 use Rattle.cm_source.specs.Inlines.{spelled, join, spelled_content}
-use Rattle.cm_source.specs.InlineRefusals.{Place, has_nul, paragraph_refusal, heading_refusal}
+use Rattle.cm_source.specs.InlineRefusals.{Place, has_nul, paragraph_refusal, heading_refusal, of_paragraph, of_heading}
 use Rattle.cm_source.specs.Texts.{spelled_text}
 use Rattle.cm_source.specs.steps.Sources.{is_clean, is_one_line, IsParagraphSource, IsHeadingSource, IsInfoSource}
 use Rattle.cm_source.proofs.ContentEnds.{trimmed-start, trimmed-end, unclosed, text-bare, text-well, content-bare, content-ends}
@@ -18,12 +18,6 @@ use Rattle.cm_source.proofs.KeptBytes.{is_kept, contents-keep, text-is-line, is_
 use Rattle.cm_source.proofs.LineFronts.{Front, LinesBegin, line_of, further_lines, parted-lines, front-line, lines-are-text, first-front}
 use Rattle.cm_source.proofs.SpelledBytes.{is_tame, text-tame, none-tame}
 use Rattle.cm_source.proofs.UnescapeBack.{unescape_text}
-
-abbrev pub of_paragraph : Place
-of_paragraph = record { heading = false; opens_paragraph = true; in_opening_link = false }
-
-abbrev pub of_heading : Place
-of_heading = record { heading = true; opens_paragraph = false; in_opening_link = false }
 
 paragraph-source : (rules : Rules) (content : List Inline) → paragraph_refusal rules content ≡ None → list_any (λ i. true) content ≡ true → IsParagraphSource rules (spelled_content content)
 unfolding is_kept

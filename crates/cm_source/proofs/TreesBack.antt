@@ -11,7 +11,7 @@ use Rattle.cm_tree.specs.declared.tree.Block.{Block}
 use Rattle.cm_tree.specs.declared.tree.Block.TheViews.{outs-Code, outs-Html, outs-Break, outs-Definition}
 use Rattle.cm_tree.specs.declared.tree.Block.TheFolds.{fold_out-Block}
 use Rattle.cm_source.specs.Inlines.{spelled_content}
-use Rattle.cm_source.specs.InlineRefusals.{refused, paragraph_refusal, heading_refusal}
+use Rattle.cm_source.specs.InlineRefusals.{refused, paragraph_refusal, heading_refusal, of_paragraph, of_heading}
 use Rattle.cm_source.specs.Refusals.{IsSpellable, Face, Judged, judged, refusal_of_all, refusal_of_items, list_reasons, faces}
 use Rattle.cm_source.specs.Spelling.{in_front, parted_lines, spaced, after_space, gap, joined, quoted, quote_lines, marker, indented, item_lines, list_lines, block_step, lines_of_block, lines_of_blocks, spelling_of}
 use Rattle.cm_source.specs.steps.Utf8Inlines.{all_of, has_utf8}
@@ -128,13 +128,13 @@ module _ (rules : Rules) where
   behind-marks : (level : ℕ) (content : List Inline) → heading_refusal rules content ≡ None → IsUtf8 (replicate level 35 ++ after_space content) → all_of (map has_utf8 content) ≡ true
   behind-marks level [] e u = refl
   behind-marks level (i ∷ is) e u =
-      accepted-texts rules (record { heading = true; opens_paragraph = false; in_opening_link = false }) (i ∷ is) e (split-ascii (replicate level 35) 32 (spelled_content (i ∷ is)) (omega arith) u).1
+      accepted-texts rules of_heading (i ∷ is) e (split-ascii (replicate level 35) 32 (spelled_content (i ∷ is)) (omega arith) u).1
 
   texts-cases : Cases HasTexts
   texts-cases = record {
     paragraph = λ content before e u.
         let accepted = (or-none _ (paragraph_refusal rules content) (refused-as (paragraph-judged rules content) before e)).1 in
-        paragraph-texts content ∙ accepted-texts rules (record { heading = false; opens_paragraph = true; in_opening_link = false }) content accepted
+        paragraph-texts content ∙ accepted-texts rules of_paragraph content accepted
         (parted-utf8 (spelled_content content) (subst AllUtf8 (paragraph-lines content) u));
     heading = λ level content before e u.
         let accepted = (or-none _ (heading_refusal rules content) (refused-as (heading-judged rules level content) before e)).1 in

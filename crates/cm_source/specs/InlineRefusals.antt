@@ -183,9 +183,16 @@ inline_step rules (inline.Image dest title content) = record {
 abbrev pub judged : Rules → Inline → Judged
 judged rules = fold-Inline Judged (inline_step rules)
 
+-- the content of a paragraph, and of a heading
+abbrev pub of_paragraph : Place
+of_paragraph = record { heading = false; opens_paragraph = true; in_opening_link = false }
+
+abbrev pub of_heading : Place
+of_heading = record { heading = true; opens_paragraph = false; in_opening_link = false }
+
 -- why the content of a paragraph, or of a heading, is refused
 abbrev pub paragraph_refusal : Rules → List Inline → Option Why
-paragraph_refusal rules content = refusal_of_all (record { heading = false; opens_paragraph = true; in_opening_link = false }) None (map (judged rules) content)
+paragraph_refusal rules content = refusal_of_all of_paragraph None (map (judged rules) content)
 
 abbrev pub heading_refusal : Rules → List Inline → Option Why
-heading_refusal rules content = refusal_of_all (record { heading = true; opens_paragraph = false; in_opening_link = false }) None (map (judged rules) content)
+heading_refusal rules content = refusal_of_all of_heading None (map (judged rules) content)

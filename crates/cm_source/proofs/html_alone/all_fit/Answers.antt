@@ -6,15 +6,14 @@ use Rattle.std.proofs.lemmas.List.Quantifiers.{position-Some}
 use Rattle.cm_scan.specs.HtmlKinds.{kind_of}
 use Rattle.cm_source.specs.Spelling.{ended_lines}
 use Rattle.cm_source.specs.steps.HtmlLines.{all_fit}
-use Rattle.cm_source.proofs.FeedLemmas.{feed-at, no-feed, ended-first, ended-nothing, ended-rest}
+use Rattle.cm_source.proofs.FeedLemmas.{feed-at, no-feed, ended-first, ended-nothing, ended-rest, cut-ascii, cut-first}
 use Rattle.cm_source.proofs.HtmlLemmas.{fit-first}
 use Rattle.cm_source.proofs.html_alone.all_fit.Goals as goal
 
 pub cut_at-requires-clause-ascii : goal.cut_at-requires-clause-ascii
 cut_at-requires-clause-ascii c =
     let found : position (λ b. b == 10) c.loop-at.rest.now ≡ Some c.in-Some.at = cc in
-    let byte = eqb-true (get_or c.loop-at.rest.now c.in-Some.at 0) 10 (position-Some (λ b. b == 10) c.loop-at.rest.now c.in-Some.at 0 found).1 in
-    omega (arith, byte)
+    cut-ascii c.loop-at.rest.now c.in-Some.at found
 
 pub returns-then-not-fits : goal.returns-then-not-fits
 returns-then-not-fits c =
@@ -22,9 +21,7 @@ returns-then-not-fits c =
     let rest = c.loop-at.rest.now in
     let line = c.cut_at.result.0.now in
     let behind = c.cut_at.result.1.now in
-    let at = feed-at rest c.in-Some.at found in
-    let is = ap ended_lines at.1 ∙ ended-first (take c.in-Some.at rest) (drop (c.in-Some.at + 1) rest) at.0 ∙ ap (λ l. l ∷ ended_lines (drop (c.in-Some.at + 1) rest)) (sym c.cut_at.ensures.before)
-    ∙ ap (λ b. line ∷ ended_lines b) (sym c.cut_at.ensures.after) in
+    let is = cut-first rest line behind c.in-Some.at found c.cut_at.ensures.before c.cut_at.ensures.after in
     sym (fit-first (kind_of c.args.kind) rest line behind c.fits.result c.is_empty.result is c.is_empty.ensures c.fits.ensures ∙ ap (λ v. v && all_fit (kind_of c.args.kind) (ended_lines behind)) c.if-not-fits.true)
     ∙ c.loop-at.invariant.1
 
@@ -34,9 +31,7 @@ loop-at-preserved c =
     let rest = c.loop-at.rest.now in
     let line = c.cut_at.result.0.now in
     let behind = c.cut_at.result.1.now in
-    let at = feed-at rest c.in-Some.at found in
-    let is = ap ended_lines at.1 ∙ ended-first (take c.in-Some.at rest) (drop (c.in-Some.at + 1) rest) at.0 ∙ ap (λ l. l ∷ ended_lines (drop (c.in-Some.at + 1) rest)) (sym c.cut_at.ensures.before)
-    ∙ ap (λ b. line ∷ ended_lines b) (sym c.cut_at.ensures.after) in (
+    let is = cut-first rest line behind c.in-Some.at found c.cut_at.ensures.before c.cut_at.ensures.after in (
       c.cut_at.ensures.after_utf8,
       sym (fit-first (kind_of c.args.kind) rest line behind c.fits.result c.is_empty.result is c.is_empty.ensures c.fits.ensures ∙ ap (λ v. v && all_fit (kind_of c.args.kind) (ended_lines behind)) c.if-not-fits.false)
           ∙ c.loop-at.invariant.1,

@@ -4,15 +4,14 @@ use Rattle.std.proofs.lemmas.Bool.{eqb-true}
 use Rattle.std.proofs.lemmas.List.Quantifiers.{position-Some}
 use Rattle.cm_source.specs.Spelling.{ended_lines}
 use Rattle.cm_source.specs.Refusals.{first_line}
-use Rattle.cm_source.proofs.FeedLemmas.{feed-at, no-feed, ended-first}
+use Rattle.cm_source.proofs.FeedLemmas.{feed-at, no-feed, ended-first, cut-ascii}
 use Rattle.cm_source.proofs.HtmlLemmas.{line-alone}
 use Rattle.cm_source.proofs.html_alone.first_line.Goals as goal
 
 pub cut_at-requires-clause-ascii : goal.cut_at-requires-clause-ascii
 cut_at-requires-clause-ascii c =
     let found : position (λ b. b == 10) c.args.text.now ≡ Some c.in-Some.at = cc in
-    let byte = eqb-true (get_or c.args.text.now c.in-Some.at 0) 10 (position-Some (λ b. b == 10) c.args.text.now c.in-Some.at 0 found).1 in
-    omega (arith, byte)
+    cut-ascii c.args.text.now c.in-Some.at found
 
 pub returns-in-Some : goal.returns-in-Some
 returns-in-Some c =

@@ -4,7 +4,7 @@ use Rattle.std.proofs.lemmas.Bool.{eqb-true}
 use Rattle.std.proofs.lemmas.List.Quantifiers.{position-Some}
 use Rattle.cm_source.specs.Spelling.{ended_lines}
 use Rattle.cm_source.specs.steps.Laid.{Writes}
-use Rattle.cm_source.proofs.FeedLemmas.{has_feed, feed-at, no-feed, ended-first, ended-nothing, ended-rest}
+use Rattle.cm_source.proofs.FeedLemmas.{has_feed, feed-at, no-feed, ended-first, ended-nothing, ended-rest, cut-ascii}
 use Rattle.cm_source.proofs.LaidLemmas.{then-ok, writes-then, writes-nothing}
 use Rattle.cm_source.proofs.source.Source.push_ended_lines.Goals as goal
 
@@ -14,8 +14,7 @@ loop-at-init c = (c.utf8.text, [], refl, writes-nothing c.args.self.now)
 pub cut_at-requires-clause-ascii : goal.cut_at-requires-clause-ascii
 cut_at-requires-clause-ascii c =
     let found : position (λ b. b == 10) c.loop-at.rest.now ≡ Some c.in-Some.at = cc in
-    let byte = eqb-true (get_or c.loop-at.rest.now c.in-Some.at 0) 10 (position-Some (λ b. b == 10) c.loop-at.rest.now c.in-Some.at 0 found).1 in
-    omega (arith, byte)
+    cut-ascii c.loop-at.rest.now c.in-Some.at found
 
 pub push_line-requires : goal.push_line-requires
 push_line-requires c =

@@ -3,7 +3,7 @@ use Rattle.std.specs.List.{position}
 use Rattle.std.proofs.lemmas.Bool.{eqb-true}
 use Rattle.std.proofs.lemmas.List.Quantifiers.{position-Some}
 use Rattle.cm_source.specs.steps.Laid.{Lays}
-use Rattle.cm_source.proofs.FeedLemmas.{has_feed, feed-at, no-feed}
+use Rattle.cm_source.proofs.FeedLemmas.{has_feed, feed-at, no-feed, cut-ascii}
 use Rattle.cm_source.proofs.LaidLemmas.{then-ok, lays-then, lays-nothing}
 use Rattle.cm_source.proofs.source.Source.push_lines.Goals as goal
 
@@ -13,8 +13,7 @@ loop-at-init c = (c.utf8.text, [], refl, lays-nothing c.args.self.now)
 pub cut_at-requires-clause-ascii : goal.cut_at-requires-clause-ascii
 cut_at-requires-clause-ascii c =
     let found : position (λ b. b == 10) c.loop-at.rest.now ≡ Some c.in-Some.at = cc in
-    let byte = eqb-true (get_or c.loop-at.rest.now c.in-Some.at 0) 10 (position-Some (λ b. b == 10) c.loop-at.rest.now c.in-Some.at 0 found).1 in
-    omega (arith, byte)
+    cut-ascii c.loop-at.rest.now c.in-Some.at found
 
 pub push-requires : goal.push-requires
 push-requires c =
