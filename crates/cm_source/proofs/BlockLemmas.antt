@@ -19,10 +19,6 @@ abbrev pub gapped : (now apart : Bool) → List (List (List ℕ)) → List (List
 gapped now apart [] = []
 gapped now apart (first ∷ others) = gap now ++ first ++ flat_map (λ lines. gap apart ++ lines) others
 
-pub joined-is : (apart : Bool) (all : List (List (List ℕ))) → joined apart all ≡ gapped false apart all
-joined-is apart [] = refl
-joined-is apart (first ∷ others) = refl
-
 pub gapped-on : (now apart : Bool) (first : List (List ℕ)) (others : List (List (List ℕ))) → gapped now apart (first ∷ others) ≡ (gap now ++ first) ++ gapped apart apart others
 gapped-on now apart first [] = refl
 gapped-on now apart first (next ∷ others) = refl

@@ -2,7 +2,7 @@
 use Rattle.std.proofs.Common.{◌≡◌, ℕ, suc, ◌==◌, ◌&&◌, ◌||◌, not, Bool, true, false, List, [], ◌∷◌, ◌++◌, length, drop, map, refl, sym, ap, subst, ◌∙◌, Option, Some, None, append_assoc, append-nil, length-append, arith, eq-eqb, if◌then◌else◌}
 use Rattle.std.proofs.Math.Bool.{and-true, and-false}
 use mathlib.Core.Bool.{beq}
-use Rattle.std.proofs.lemmas.Bool.{eqb-true, ne_eqb, and_parts, not-true}
+use Rattle.std.proofs.lemmas.Bool.{eqb-true, ne_eqb, and_parts, not-true, true_from_ne_false}
 use Rattle.std.proofs.lemmas.Grind.{flat_map-append}
 use Rattle.std.proofs.lemmas.List.Folds.{list_all-append, list_any-append}
 use Rattle.std.specs.Option.{is_some}
@@ -368,11 +368,8 @@ block-is rules kind f g text e lines is =
 pub starts-angle : (rules : Rules) (line : List ℕ) (kind : HtmlKind) → html_start rules line ≡ Some kind → (f : List ℕ) × (line ≡ 60 ∷ f)
 unfolding html_start
 starts-angle rules [] kind e = absurd (cc e)
-starts-angle rules (b ∷ bs) kind e = go (b == 60) refl
-  where
-    go : (v : Bool) → (b == 60) ≡ v → (f : List ℕ) × (b ∷ bs ≡ 60 ∷ f)
-    go true is = (bs, ap (λ x. x ∷ bs) (eqb-true b 60 is))
-    go false is = let none = no-html-start rules b bs is in absurd (cc (none, e))
+starts-angle rules (b ∷ bs) kind e =
+    (bs, ap (λ x. x ∷ bs) (eqb-true b 60 (true_from_ne_false (b == 60) (λ is. let none = no-html-start rules b bs is in absurd (cc (none, e))))))
 
 pub lines-from : (lines : List (List ℕ)) (f : List ℕ) → first_line lines ≡ 60 ∷ f → (g : List (List ℕ)) × (lines ≡ (60 ∷ f) ∷ g)
 lines-from [] f e = absurd (cc e)

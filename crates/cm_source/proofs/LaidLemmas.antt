@@ -12,11 +12,6 @@ use Rattle.cm_source.specs.steps.Laid.{behind, further_lines, all_lines, next_fr
 use Rattle.cm_source.proofs.LineFronts.{line_of, parted-lines}
 use Rattle.cm_source.proofs.LineFronts as parted
 
--- texts behind which spaces are stripped by themselves
-
-pub nothing-ended : IsEnded []
-nothing-ended text = refl
-
 -- what keeps something of its end keeps all before it
 pub kept-front : (front rest : List ℕ) (b : ℕ) (bs : List ℕ) → trim_end_spaces rest ≡ b ∷ bs → trim_end_spaces (front ++ rest) ≡ front ++ trim_end_spaces rest
 unfolding trim_end_by
@@ -190,13 +185,7 @@ parted-one (b ∷ bs) none = go (b == 10) none (λ h. parted-one bs h)
     go true none again = absurd (cc none)
     go false none again = ap (in_front b) (again none)
 
--- a line begun, or one that has begun
-pub begins-line : (old new : Source) → old.begun ≡ false → string_bytes new.text ≡ string_bytes old.text ++ string_bytes old.front → new.front ≡ old.front → new.begun ≡ true → new.line ≡ length (string_bytes new.text) → Begins old new
-begins-line old new none text same some line begun done first front is =
-    let stands = subst (λ b. StandsAt b old.line (string_bytes old.text) done first front) (sym is.begun_is ∙ none) is.stands in
-    let whole = text ∙ ap (λ t. t ++ string_bytes old.front) stands.0 ∙ ap (λ t. done ++ t) (is.front_is ∙ sym stands.1) in
-    record { text = whole ∙ sym (append-nil (done ++ first)); begun = some; line = line ∙ ap length whole; front_is = ap string_bytes same ∙ is.front_is; ended = is.ended }
-
+-- a line that has begun
 pub begun-already : (old : Source) → old.begun ≡ true → Begins old old
 begun-already old some begun done first front is =
     let stands = subst (λ b. StandsAt b old.line (string_bytes old.text) done first front) (sym is.begun_is ∙ some) is.stands in

@@ -1,6 +1,6 @@
 -- A text that is one tag is read whole, begins with `<` and ends with `>`.
 use Rattle.std.proofs.Common.{◌≡◌, ℕ, Bool, true, false, ◌==◌, List, [], ◌∷◌, ◌++◌, Option, Some, None, codes, refl, sym, ap, ◌∙◌, arith}
-use Rattle.std.proofs.lemmas.Bool.{eqb-true}
+use Rattle.std.proofs.lemmas.Bool.{eqb-true, true_from_ne_false}
 use Rattle.cm_text.specs.Rules.{Rules}
 use Rattle.cm_scan.specs.Words.{is_empty, after_word, ◌<|>◌}
 use Rattle.cm_scan.specs.Tags.{open_tag, closing_tag}
@@ -31,11 +31,8 @@ no-tag rules b bs e = grind (arith, e)
 pub tag-begins : (rules : Rules) (text : List ℕ) → is_one_tag rules text ≡ true → (rest : List ℕ) × (text ≡ 60 ∷ rest)
 unfolding raw_html open_tag closing_tag comment from_to declaration after_word
 tag-begins rules [] e = absurd (cc (whole-read rules [] e))
-tag-begins rules (b ∷ bs) e = go (b == 60) refl
-  where
-    go : (v : Bool) → (b == 60) ≡ v → (rest : List ℕ) × (b ∷ bs ≡ 60 ∷ rest)
-    go true p = (bs, ap (λ c. c ∷ bs) (eqb-true b 60 p))
-    go false p = absurd (cc (sym (no-tag rules b bs p) ∙ whole-read rules (b ∷ bs) e))
+tag-begins rules (b ∷ bs) e =
+    (bs, ap (λ c. c ∷ bs) (eqb-true b 60 (true_from_ne_false (b == 60) (λ is. absurd (cc (sym (no-tag rules b bs is) ∙ whole-read rules (b ∷ bs) e))))))
 
 pub tag-ends : (rules : Rules) (text : List ℕ) → is_one_tag rules text ≡ true → (front : List ℕ) × (text ≡ front ++ 62 ∷ [])
 tag-ends rules text e = let end = raw_html-ends rules text [] (whole-read rules text e) in (end.front, end.is)

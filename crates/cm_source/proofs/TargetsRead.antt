@@ -129,10 +129,6 @@ title_read text rest =
 
 -- ---- the end of a link
 
-closed_here : (dest title rest : List ℕ) → closed dest title (41 ∷ rest) ≡ Some (link_end (unescape dest, unescape title) rest)
-unfolding after_gap skip after_word
-closed_here dest title rest = refl
-
 after_destination_read : (dest text rest : List ℕ) → after_destination dest (spelled_title text ++ 41 ∷ rest) ≡ Some (link_end (unescape dest, unescape (spelled_bytes text)) rest)
 unfolding after_destination after_gap skip after_word
 after_destination_read dest [] rest = refl

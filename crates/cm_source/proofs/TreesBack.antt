@@ -155,7 +155,3 @@ module _ (rules : Rules) where
 pub spellings_have_texts : SpellingsHaveTexts
 spellings_have_texts rules blocks e u =
     all-texts rules blocks (all-by-cases (HasTexts rules) (texts-cases rules) blocks) None e (joined-utf8 true (map lines_of_block blocks) (ended-utf8 (lines_of_blocks true blocks) u))
-
--- so the contents of a tree are whose spelling a program has as a string
-pub written_has_texts : {Z : Type 0} (rules : Rules) (blocks : List Block) (text : String Z) → IsSpellable rules blocks → string_bytes text ≡ spelling_of blocks → HaveTexts blocks
-written_has_texts rules blocks text e is = spellings_have_texts rules blocks e (subst IsUtf8 is (IsUtf8-string_bytes text))
