@@ -372,21 +372,13 @@ module _ (rules : Rules) where
       subst (λ (z : Spelled). LinesBegin first (z.spelling first last ++ more)) (sym e) (goes (subst (λ (z : Spelled). LinesBegin z.begins_line more) e begin))
 
   -- no line begins with raw HTML, nor with a break
-  html-not-first : (text : List ℕ) (place : Place) (before : Option Face) → place.opens_paragraph ≡ false → is_break before ≡ false → (first : Bool) → FirstIs first place before → first ≡ false
-  html-not-first text place before opens broken false front = refl
-  html-not-first text place before opens broken true front = go (front refl)
+  not-first : (place : Place) (before : Option Face) → (place.opens_paragraph ≡ true → before ≡ None → ⊥) → is_break before ≡ false → (first : Bool) → FirstIs first place before → first ≡ false
+  not-first place before apart broken false front = refl
+  not-first place before apart broken true front = go (front refl)
     where
       go : ((place.opens_paragraph ≡ true) × (before ≡ None)) ⊎ (is_break before ≡ true) → true ≡ false
-      go (inl both) = absurd (cc (both.0, opens))
+      go (inl both) = absurd (apart both.0 both.1)
       go (inr is) = absurd (cc (is, broken))
-
-  break-not-first : (place : Place) (before after : Option Face) → BreakAccepted place before after → (first : Bool) → FirstIs first place before → first ≡ false
-  break-not-first place before after a false front = refl
-  break-not-first place before after a true front = go (front refl)
-    where
-      go : ((place.opens_paragraph ≡ true) × (before ≡ None)) ⊎ (is_break before ≡ true) → true ≡ false
-      go (inl both) = absurd (cc (ap is_none both.1, a.behind))
-      go (inr is) = absurd (cc (is, a.apart))
 
   text-begins : (first last : Bool) (text more : List ℕ) → is_empty text ≡ false → ends_number more ≡ true → LinesBegin false more → LinesBegin first (spelled_text first last text ++ more)
   unfolding spelled_text
@@ -421,14 +413,16 @@ module _ (rules : Rules) where
         (begin-with first (spelled_code text) more refl (code-is-line text line) (λ is. code-front text a.nonempty line more));
     html = λ text place before after e first last front more ends begin.
         let a = html-accepted rules place before after text e in
-        let inside = html-not-first text place before a.not_first a.no_break first front in
+        let inside = not-first place before (λ opens none. cc (opens, a.not_first)) a.no_break first front in
         front-told (Html text) _ (html-spelled text) first last more begin
         (λ rest. subst (λ v. LinesBegin v (text ++ more)) (sym inside) (lines-inside text more (one-line text a.no_nul a.one_line) rest));
     soft = λ place before after e first last front more ends begin.
-        let inside = break-not-first place before after (soft-accepted rules place before after e) first front in
+        let a = soft-accepted rules place before after e in
+        let inside = not-first place before (λ opens none. cc (ap is_none none, a.behind)) a.apart first front in
         front-told Soft _ soft-spelled first last more begin (λ rest. subst (λ v. LinesBegin v (10 ∷ more)) (sym inside) ((λ (h : false ≡ true). absurd (cc h)), rest));
     hard = λ place before after e first last front more ends begin.
-        let inside = break-not-first place before after (hard-accepted rules place before after e) first front in
+        let a = hard-accepted rules place before after e in
+        let inside = not-first place before (λ opens none. cc (ap is_none none, a.behind)) a.apart first front in
         front-told Hard _ hard-spelled first last more begin
         (λ rest. subst (λ v. LinesBegin v (92 ∷ 10 ∷ more)) (sym inside) ((λ (h : false ≡ true). absurd (cc h)), ((λ (h : false ≡ true). absurd (cc h)), rest)));
     emph = λ is all place before after e first last front more ends begin. front-told (Emph is) _ (emph-spelled is) first last more begin

@@ -36,6 +36,7 @@ use Rattle.cm_source.proofs.FittingLemmas.{paragraphs_fit, headings_fit}
 use Rattle.cm_source.proofs.TreesBack.{spellings_have_texts}
 use Rattle.cm_source.proofs.ReadingBack.{blocks_read_back, spelling_is_text}
 use Rattle.cm_source.proofs.SourceLemmas.{contents_give_sources}
+use Rattle.cm_source.proofs.Computing.{read_block}
 
 module _ (rules : Rules) (defined : Defined) where
   -- a source that isn't empty is read
@@ -56,9 +57,6 @@ module _ (rules : Rules) (defined : Defined) where
 
   sources : (b : Block) → sourced b ≡ source_step (map-Block Block Block sourced (out-Block b))
   sources b = fold_out-Block Block source_step b
-
-  read : (b : Block) → block_read rules defined b ≡ read_step rules defined (map-Block Block Block (block_read rules defined) (out-Block b))
-  read b = fold_out-Block Block (read_step rules defined) b
 
   -- a block that isn't refused is read from its source
   abbrev ReadsBack : Block → Type 0
@@ -86,19 +84,19 @@ module _ (rules : Rules) (defined : Defined) where
   cases = record {
     paragraph = λ content texts before e.
         let accepted = or-none (refused ((not (list_any (λ i. true) content), why.Shape) ∷ [])) (paragraph_refusal rules content) (refused-as (paragraph-judged rules content) before e) in
-        simp (sources, read, outs-Paragraph) (ap Paragraph (paragraph-read content (sym (paragraph-texts content) ∙ texts) accepted.1));
+        simp (sources, read_block, outs-Paragraph) (ap Paragraph (paragraph-read content (sym (paragraph-texts content) ∙ texts) accepted.1));
     heading = λ level content texts before e.
         let accepted = or-none (refused ((not (nat_le 1 level && nat_le level 6), why.Shape) ∷ [])) (heading_refusal rules content) (refused-as (heading-judged rules level content) before e) in
-        simp (sources, read, outs-Heading) (ap (Heading level) (heading-read content (sym (heading-texts level content) ∙ texts) accepted.1));
-    code = λ info text texts before e. simp (sources, read, outs-Code);
-    html = λ text texts before e. simp (sources, read, outs-Html);
-    thematic_break = λ texts before e. simp (sources, read, outs-Break);
-    definition = λ label dest title texts before e. simp (sources, read, outs-Definition);
+        simp (sources, read_block, outs-Heading) (ap (Heading level) (heading-read content (sym (heading-texts level content) ∙ texts) accepted.1));
+    code = λ info text texts before e. simp (sources, read_block, outs-Code);
+    html = λ text texts before e. simp (sources, read_block, outs-Html);
+    thematic_break = λ texts before e. simp (sources, read_block, outs-Break);
+    definition = λ label dest title texts before e. simp (sources, read_block, outs-Definition);
     quote = λ blocks hold texts before e.
-        simp (sources, read, outs-Quote) (ap Quote (all-back blocks hold (sym (quote-texts blocks) ∙ texts) None (refused-as (quote-judged rules blocks) before e)));
+        simp (sources, read_block, outs-Quote) (ap Quote (all-back blocks hold (sym (quote-texts blocks) ∙ texts) None (refused-as (quote-judged rules blocks) before e)));
     list = λ kind tight items hold texts before e.
         let accepted = or-none (refused (list_reasons kind tight (seen_items rules items) before)) (refusal_of_items (map (map (judged rules)) items)) (refused-as (list-judged rules kind tight items) before e) in
-        simp (sources, read, outs-List) (ap (ListBlock kind tight) (items-back items hold (sym (list-texts kind tight items) ∙ texts) accepted.1));
+        simp (sources, read_block, outs-List) (ap (ListBlock kind tight) (items-back items hold (sym (list-texts kind tight items) ∙ texts) accepted.1));
   }
 
 pub trees_read_back : TreesReadBack

@@ -25,7 +25,7 @@ use Rattle.cm_source.proofs.InlineKinds.{text-judged, code-judged, html-judged, 
 use Rattle.cm_source.proofs.InlineInduction.{Cases, by-cases}
 use Rattle.cm_source.proofs.AcceptedLemmas.{Accepted, text-accepted, code-accepted, html-accepted, soft-accepted, hard-accepted, emph-accepted, strong-accepted, strike-accepted}
 use Rattle.cm_source.proofs.Neighbours.{text-begins, text-ends}
-use Rattle.cm_source.proofs.SpelledUtf8.{inline-utf8}
+use Rattle.cm_source.proofs.SpelledUtf8.{inline-utf8, utf8-as}
 use Rattle.cm_source.proofs.InlineEdges.{Shows, shows-punctuation, shows-feed, beside-shows, Ends, Facts, Bytes, by-bytes, text-hidden, tick-hidden, star-hidden, tilde-hidden}
 use Rattle.cm_source.proofs.TagLemmas.{tag-begins, tag-ends}
 
@@ -161,7 +161,7 @@ module _ (rules : Rules) where
   }
 
 so-spelled : (i : Inline) (s : Spelled) → spelled i ≡ s → has_utf8 i ≡ true → (first last : Bool) → IsUtf8 (s.spelling first last)
-so-spelled i s e all first last = subst (λ (v : Spelled). IsUtf8 (v.spelling first last)) e (inline-utf8 i all first last)
+so-spelled i s e all first last = utf8-as e first last (inline-utf8 i all first last)
 
 module _ (rules : Rules) where
   abbrev IsKnown : Inline → Type 0

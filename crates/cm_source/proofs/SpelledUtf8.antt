@@ -73,37 +73,34 @@ between-utf8 : (start end : List ℕ) (content : List Inline) → IsUtf8 start �
 between-utf8 start end content u v hold all first last =
     IsUtf8-append (start ++ join false false (map spelled content)) end (IsUtf8-append start (join false false (map spelled content)) u (joined-utf8 content hold all false false)) v
 
+linked-utf8 : (mark dest title : List ℕ) (content : List Inline) → IsUtf8 mark → AllHold IsSpelledSo content → (is_utf8 dest && is_utf8 title && all_of (map has_utf8 content)) ≡ true → (first last : Bool)
+    → IsUtf8 ((between mark (map spelled content) (spelled_target dest title)).spelling first last)
+linked-utf8 mark dest title content u hold all first last =
+    let whole = and_parts (is_utf8 dest && is_utf8 title) (all_of (map has_utf8 content)) all in
+    let both = and_parts (is_utf8 dest) (is_utf8 title) whole.0 in
+    between-utf8 mark (spelled_target dest title) content u (target-utf8 dest title (IsUtf8-from_is_utf8 dest both.0) (IsUtf8-from_is_utf8 title both.1)) hold whole.1 first last
+
+-- what is told of one as it is spelled
+pub utf8-as : {s t : Spelled} → s ≡ t → (first last : Bool) → IsUtf8 (s.spelling first last) → IsUtf8 (t.spelling first last)
+utf8-as e first last u = subst (λ (spelled : Spelled). IsUtf8 (spelled.spelling first last)) e u
+
 spelled-cases : Cases IsSpelledSo
 spelled-cases = record {
-  text = λ text all first last.
-      subst (λ (s : Spelled). IsUtf8 (s.spelling first last)) (sym (text-spelled text)) (spelled-utf8 first last text (IsUtf8-from_is_utf8 text (sym (text-strings text) ∙ all)));
-  code = λ text all first last.
-      subst (λ (s : Spelled). IsUtf8 (s.spelling first last)) (sym (code-spelled text)) (code-utf8 text (IsUtf8-from_is_utf8 text (sym (code-strings text) ∙ all)));
-  html = λ text all first last.
-      subst (λ (s : Spelled). IsUtf8 (s.spelling first last)) (sym (html-spelled text)) (IsUtf8-from_is_utf8 text (sym (html-strings text) ∙ all));
-  soft = λ all first last. subst (λ (s : Spelled). IsUtf8 (s.spelling first last)) (sym soft-spelled) (ascii-utf8 (codes "\n") refl);
-  hard = λ all first last. subst (λ (s : Spelled). IsUtf8 (s.spelling first last)) (sym hard-spelled) (ascii-utf8 (codes "\\\n") refl);
-  emph = λ content hold all first last.
-      subst (λ (s : Spelled). IsUtf8 (s.spelling first last)) (sym (emph-spelled content))
+  text = λ text all first last. utf8-as (sym (text-spelled text)) first last (spelled-utf8 first last text (IsUtf8-from_is_utf8 text (sym (text-strings text) ∙ all)));
+  code = λ text all first last. utf8-as (sym (code-spelled text)) first last (code-utf8 text (IsUtf8-from_is_utf8 text (sym (code-strings text) ∙ all)));
+  html = λ text all first last. utf8-as (sym (html-spelled text)) first last (IsUtf8-from_is_utf8 text (sym (html-strings text) ∙ all));
+  soft = λ all first last. utf8-as (sym soft-spelled) first last (ascii-utf8 (codes "\n") refl);
+  hard = λ all first last. utf8-as (sym hard-spelled) first last (ascii-utf8 (codes "\\\n") refl);
+  emph = λ content hold all first last. utf8-as (sym (emph-spelled content)) first last
       (between-utf8 (codes "*") (codes "*") content (ascii-utf8 (codes "*") refl) (ascii-utf8 (codes "*") refl) hold (sym (emph-strings content) ∙ all) first last);
-  strong = λ content hold all first last.
-      subst (λ (s : Spelled). IsUtf8 (s.spelling first last)) (sym (strong-spelled content))
+  strong = λ content hold all first last. utf8-as (sym (strong-spelled content)) first last
       (between-utf8 (codes "**") (codes "**") content (ascii-utf8 (codes "**") refl) (ascii-utf8 (codes "**") refl) hold (sym (strong-strings content) ∙ all) first last);
-  strike = λ content hold all first last.
-      subst (λ (s : Spelled). IsUtf8 (s.spelling first last)) (sym (strike-spelled content))
+  strike = λ content hold all first last. utf8-as (sym (strike-spelled content)) first last
       (between-utf8 (codes "~~") (codes "~~") content (ascii-utf8 (codes "~~") refl) (ascii-utf8 (codes "~~") refl) hold (sym (strike-strings content) ∙ all) first last);
-  link = λ dest title content hold all first last.
-      let whole = and_parts (is_utf8 dest && is_utf8 title) (all_of (map has_utf8 content)) (sym (link-strings dest title content) ∙ all) in
-      let both = and_parts (is_utf8 dest) (is_utf8 title) whole.0 in
-      subst (λ (s : Spelled). IsUtf8 (s.spelling first last)) (sym (link-spelled dest title content))
-      (between-utf8 (codes "[") (spelled_target dest title) content (ascii-utf8 (codes "[") refl)
-      (target-utf8 dest title (IsUtf8-from_is_utf8 dest both.0) (IsUtf8-from_is_utf8 title both.1)) hold whole.1 first last);
-  image = λ dest title content hold all first last.
-      let whole = and_parts (is_utf8 dest && is_utf8 title) (all_of (map has_utf8 content)) (sym (image-strings dest title content) ∙ all) in
-      let both = and_parts (is_utf8 dest) (is_utf8 title) whole.0 in
-      subst (λ (s : Spelled). IsUtf8 (s.spelling first last)) (sym (image-spelled dest title content))
-      (between-utf8 (codes "![") (spelled_target dest title) content (ascii-utf8 (codes "![") refl)
-      (target-utf8 dest title (IsUtf8-from_is_utf8 dest both.0) (IsUtf8-from_is_utf8 title both.1)) hold whole.1 first last);
+  link = λ dest title content hold all first last. utf8-as (sym (link-spelled dest title content)) first last
+      (linked-utf8 (codes "[") dest title content (ascii-utf8 (codes "[") refl) hold (sym (link-strings dest title content) ∙ all) first last);
+  image = λ dest title content hold all first last. utf8-as (sym (image-spelled dest title content)) first last
+      (linked-utf8 (codes "![") dest title content (ascii-utf8 (codes "![") refl) hold (sym (image-strings dest title content) ∙ all) first last);
 }
 
 pub inline-utf8 : (i : Inline) → has_utf8 i ≡ true → (first last : Bool) → IsUtf8 ((spelled i).spelling first last)

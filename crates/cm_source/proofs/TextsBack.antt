@@ -14,7 +14,7 @@ use Rattle.cm_tree.specs.declared.tree.Inline.TheOpen as inline
 use Rattle.cm_tree.specs.declared.tree.Inline.TheVariants.{Text, Code, Html, Soft, Hard, Emph, Strong, Strike, Link, Image}
 use Rattle.cm_scan.specs.Words.{is_empty}
 use Rattle.cm_source.specs.Texts.{numbered, spelled_byte, edge_byte, spelled_bytes, spelled_text, is_padded, longest_run, spelled_code, spelled_title, spelled_target}
-use Rattle.cm_source.specs.Inlines.{Spelled, join, is_line_end, between, spelled, spelled_content}
+use Rattle.cm_source.specs.Inlines.{Spelled, join, is_line_end, between, spelled, spelled_inlines, spelled_content}
 use Rattle.cm_source.specs.Inlines as spelling
 use Rattle.cm_source.specs.InlineRefusals.{Face, is_text, Place, Judged, first_face, further_in, inside_link, refusal_of_all, emphasis, judged}
 use Rattle.cm_source.specs.InlineRefusals as refusals
@@ -24,7 +24,7 @@ use Rattle.cm_source.proofs.TextLemmas.{inner-text}
 use Rattle.cm_source.proofs.InlineInduction.{AllHold, Cases, by-cases, all-by-cases}
 use Rattle.cm_source.proofs.AcceptedLemmas.{or-none, Accepted, text-accepted, html-accepted, emph-accepted, strong-accepted, strike-accepted, link-accepted, image-accepted}
 use Rattle.cm_source.proofs.Neighbours.{ascii-utf8, edge-ascii, AllHigh, high-bytes, high-byte}
-use Rattle.cm_source.proofs.SpelledUtf8.{ticks-utf8}
+use Rattle.cm_source.proofs.SpelledUtf8.{ticks-utf8, utf8-as}
 use Rattle.cm_source.proofs.InlineEdges.{second-fails, split-ascii, before-ascii, Ends}
 use Rattle.cm_source.proofs.EdgesOfKinds.{code-ends, html-ends, soft-ends, hard-ends, between-ends, link-ends, image-ends}
 use Rattle.cm_source.proofs.Ways.{Way, ByNumber, Escaped, AsItIs, edge_way}
@@ -266,36 +266,39 @@ module _ (rules : Rules) where
       (hold.0 place face (first_face others) parts.0 first (is_line_end last (map spelled is)) both.0)
       (content-back is hold.1 (further_in place) (Some (judged rules i).face) (spelled i).begins_line last parts.1 both.1)
 
+  -- between brackets, whose content is such as its spelling is
+  linked-back : (mark dest title : List ℕ) (content : List Inline) → list_all is_ascii mark ≡ true → IsUtf8 (mark ++ spelled_inlines false false content ++ spelled_target dest title)
+      → (IsUtf8 (spelled_inlines false false content) → all_of (map has_utf8 content) ≡ true) → (is_utf8 dest && is_utf8 title && all_of (map has_utf8 content)) ≡ true
+  linked-back mark dest title content low u inside =
+      let inner = spelled_inlines false false content in
+      let parts = target-behind (mark ++ inner) dest title u in
+      let strings = target-back dest title parts.1 in
+      and_from (is_utf8 dest && is_utf8 title) (all_of (map has_utf8 content))
+      (and_from (is_utf8 dest) (is_utf8 title) (is_utf8-from_IsUtf8 dest strings.0) (is_utf8-from_IsUtf8 title strings.1))
+      (inside (IsUtf8-cancel mark inner (ascii-utf8 mark low) parts.0))
+
   texts-cases : Cases HasTexts
   texts-cases = record {
-    text = λ text place before after e first last u. text-strings text ∙ is_utf8-from_IsUtf8 text (text-back first last text (subst (λ (s : Spelled). IsUtf8 (s.spelling first last)) (text-spelled text) u));
-    code = λ text place before after e first last u. code-strings text ∙ is_utf8-from_IsUtf8 text (code-back text (subst (λ (s : Spelled). IsUtf8 (s.spelling first last)) (code-spelled text) u));
-    html = λ text place before after e first last u. html-strings text ∙ is_utf8-from_IsUtf8 text (subst (λ (s : Spelled). IsUtf8 (s.spelling first last)) (html-spelled text) u);
+    text = λ text place before after e first last u. text-strings text ∙ is_utf8-from_IsUtf8 text (text-back first last text (utf8-as (text-spelled text) first last u));
+    code = λ text place before after e first last u. code-strings text ∙ is_utf8-from_IsUtf8 text (code-back text (utf8-as (code-spelled text) first last u));
+    html = λ text place before after e first last u. html-strings text ∙ is_utf8-from_IsUtf8 text (utf8-as (html-spelled text) first last u);
     soft = λ place before after e first last u. soft-strings;
     hard = λ place before after e first last u. hard-strings;
     emph = λ content hold place before after e first last u.
         emph-strings content ∙ content-back content hold (further_in place) None false false (emph-accepted rules place before after content e).inside
-        (between-back (codes "*") (join false false (map spelled content)) 42 [] refl (omega arith) (subst (λ (s : Spelled). IsUtf8 (s.spelling first last)) (emph-spelled content) u));
+        (between-back (codes "*") (join false false (map spelled content)) 42 [] refl (omega arith) (utf8-as (emph-spelled content) first last u));
     strong = λ content hold place before after e first last u.
         strong-strings content ∙ content-back content hold (further_in place) None false false (strong-accepted rules place before after content e).inside
-        (between-back (codes "**") (join false false (map spelled content)) 42 (42 ∷ []) refl (omega arith) (subst (λ (s : Spelled). IsUtf8 (s.spelling first last)) (strong-spelled content) u));
+        (between-back (codes "**") (join false false (map spelled content)) 42 (42 ∷ []) refl (omega arith) (utf8-as (strong-spelled content) first last u));
     strike = λ content hold place before after e first last u.
         strike-strings content ∙ content-back content hold (further_in place) None false false (strike-accepted rules place before after content e).inside
-        (between-back (codes "~~") (join false false (map spelled content)) 126 (126 ∷ []) refl (omega arith) (subst (λ (s : Spelled). IsUtf8 (s.spelling first last)) (strike-spelled content) u));
+        (between-back (codes "~~") (join false false (map spelled content)) 126 (126 ∷ []) refl (omega arith) (utf8-as (strike-spelled content) first last u));
     link = λ dest title content hold place before after e first last u.
-        let inner = join false false (map spelled content) in
-        let parts = target-behind (codes "[" ++ inner) dest title (subst (λ (s : Spelled). IsUtf8 (s.spelling first last)) (link-spelled dest title content) u) in
-        let strings = target-back dest title parts.1 in
-        link-strings dest title content ∙ and_from (is_utf8 dest && is_utf8 title) (all_of (map has_utf8 content))
-        (and_from (is_utf8 dest) (is_utf8 title) (is_utf8-from_IsUtf8 dest strings.0) (is_utf8-from_IsUtf8 title strings.1))
-        (content-back content hold (inside_link place) None false false (link-accepted rules place before after dest title content e).inside (IsUtf8-cancel (codes "[") inner (ascii-utf8 (codes "[") refl) parts.0));
+        link-strings dest title content ∙ linked-back (codes "[") dest title content refl (utf8-as (link-spelled dest title content) first last u)
+        (content-back content hold (inside_link place) None false false (link-accepted rules place before after dest title content e).inside);
     image = λ dest title content hold place before after e first last u.
-        let inner = join false false (map spelled content) in
-        let parts = target-behind (codes "![" ++ inner) dest title (subst (λ (s : Spelled). IsUtf8 (s.spelling first last)) (image-spelled dest title content) u) in
-        let strings = target-back dest title parts.1 in
-        image-strings dest title content ∙ and_from (is_utf8 dest && is_utf8 title) (all_of (map has_utf8 content))
-        (and_from (is_utf8 dest) (is_utf8 title) (is_utf8-from_IsUtf8 dest strings.0) (is_utf8-from_IsUtf8 title strings.1))
-        (content-back content hold (further_in place) None false false (image-accepted rules place before after dest title content e).inside (IsUtf8-cancel (codes "![") inner (ascii-utf8 (codes "![") refl) parts.0));
+        image-strings dest title content ∙ linked-back (codes "![") dest title content refl (utf8-as (image-spelled dest title content) first last u)
+        (content-back content hold (further_in place) None false false (image-accepted rules place before after dest title content e).inside);
   }
 
   pub accepted-texts : (place : Place) (content : List Inline) → refusal_of_all place None (map (judged rules) content) ≡ None → IsUtf8 (spelled_content content) → all_of (map has_utf8 content) ≡ true
