@@ -257,24 +257,24 @@ module _ (rules : Rules) (defined : Defined) where
     links : holds_link items ≡ hold_link (map (judged rules) inlines)
     reads : ReadsAs rules defined before front rest items
 
-  -- an inline that is one item
-  one_item : (runs : Bool) (before front rest : List ℕ) (inline : Inline) (linked : Bool) → Seen rules inline false linked → ReadsAs rules defined before front rest (Finished inline ∷ []) → linked ≡ false → IsRead runs before front rest inline
-  unfolding NoBrackets holds_link
-  one_item runs before front rest inline linked seen reads none = record {
-    items = Finished inline ∷ [];
-    shaped = λ text_first inlines others e s. subst (λ t. Shape runs t (inline ∷ inlines) (Finished inline ∷ others)) (sym seen.text) (shape.Whole s);
-    brackets = (tt, tt);
-    links = sym (seen.link ∙ none);
-    reads = reads;
-  }
+  -- an inline that is one item, marked as a link or not
+  abbrev single : (linked : Bool) → Inline → Item
+  single linked inline = if linked then Linked inline else Finished inline
 
-  linked_item : (runs : Bool) (before front rest : List ℕ) (inline : Inline) (linked : Bool) → Seen rules inline false linked → ReadsAs rules defined before front rest (Linked inline ∷ []) → linked ≡ true → IsRead runs before front rest inline
+  one_item : (runs : Bool) (before front rest : List ℕ) (inline : Inline) (linked : Bool) → Seen rules inline false linked → ReadsAs rules defined before front rest (single linked inline ∷ []) → IsRead runs before front rest inline
   unfolding NoBrackets holds_link
-  linked_item runs before front rest inline linked seen reads is = record {
+  one_item runs before front rest inline true seen reads = record {
     items = Linked inline ∷ [];
     shaped = λ text_first inlines others e s. subst (λ t. Shape runs t (inline ∷ inlines) (Linked inline ∷ others)) (sym seen.text) (shape.Link s);
     brackets = (tt, tt);
-    links = sym (seen.link ∙ is);
+    links = sym seen.link;
+    reads = reads;
+  }
+  one_item runs before front rest inline false seen reads = record {
+    items = Finished inline ∷ [];
+    shaped = λ text_first inlines others e s. subst (λ t. Shape runs t (inline ∷ inlines) (Finished inline ∷ others)) (sym seen.text) (shape.Whole s);
+    brackets = (tt, tt);
+    links = sym seen.link;
     reads = reads;
   }
 
@@ -331,17 +331,18 @@ module _ (rules : Rules) (defined : Defined) where
       → AreRead true (91 ∷ before) front (spelled_target dest title ++ rest) content
       → IsRead runs before (codes "[" ++ (front ++ spelled_target dest title)) rest (Link dest title content)
   read_link runs before front rest dest title content d t none inner =
-      linked_item runs before (codes "[" ++ (front ++ spelled_target dest title)) rest (Link dest title content) true (seen-as rules (link-judged rules dest title content))
+      one_item runs before (codes "[" ++ (front ++ spelled_target dest title)) rest (Link dest title content) true (seen-as rules (link-judged rules dest title content))
       (subst (λ c. ReadsAs rules defined before (codes "[" ++ (front ++ spelled_target dest title)) rest (Linked (Link dest title c) ∷ [])) (emphasis_is inner.shaped)
-      (reads_brackets before front dest title rest inner.items false inner.brackets (inner.links ∙ none) d t inner.reads)) refl
+      (reads_brackets before front dest title rest inner.items false inner.brackets (inner.links ∙ none) d t inner.reads))
 
   read_image : (runs : Bool) (before front rest dest title : List ℕ) (content : List Inline) → has_nul dest ≡ false → has_nul title ≡ false
       → AreRead true (91 ∷ 33 ∷ before) front (spelled_target dest title ++ rest) content
       → IsRead runs before (codes "![" ++ (front ++ spelled_target dest title)) rest (Image dest title content)
   read_image runs before front rest dest title content d t inner =
-      go (holds_link inner.items) inner.links
-      (subst (λ c. ReadsAs rules defined before whole rest ((if holds_link inner.items then Linked (Image dest title c) else Finished (Image dest title c)) ∷ [])) (emphasis_is inner.shaped)
-      (reads_brackets before front dest title rest inner.items true inner.brackets refl d t inner.reads))
+      one_item runs before whole rest image (hold_link (map (judged rules) content)) (seen-as rules (image-judged rules dest title content))
+      (subst (λ linked. ReadsAs rules defined before whole rest (single linked image ∷ [])) inner.links
+      (subst (λ c. ReadsAs rules defined before whole rest (single (holds_link inner.items) (Image dest title c) ∷ [])) (emphasis_is inner.shaped)
+      (reads_brackets before front dest title rest inner.items true inner.brackets refl d t inner.reads)))
     where
       whole : List ℕ
       whole = codes "![" ++ (front ++ spelled_target dest title)
@@ -349,21 +350,14 @@ module _ (rules : Rules) (defined : Defined) where
       image : Inline
       image = Image dest title content
 
-      linked : Bool
-      linked = hold_link (map (judged rules) content)
-
-      go : (t : Bool) → t ≡ linked → ReadsAs rules defined before whole rest ((if t then Linked image else Finished image) ∷ []) → IsRead runs before whole rest image
-      go true e reads = linked_item runs before whole rest image linked (seen-as rules (image-judged rules dest title content)) reads (sym e)
-      go false e reads = one_item runs before whole rest image linked (seen-as rules (image-judged rules dest title content)) reads (sym e)
-
   read_html : (runs : Bool) (before text rest : List ℕ) → refusals.is_one_tag rules text ≡ true → IsRead runs before text rest (Html text)
   read_html runs before [] rest e = absurd (some_tag rules e)
-  read_html runs before (b ∷ bs) rest e = one_item runs before (b ∷ bs) rest (Html (b ∷ bs)) false (seen-as rules (html-judged rules (b ∷ bs))) (reads_whole before b bs rest (Html (b ∷ bs)) (atom_tag rules before b bs rest e)) refl
+  read_html runs before (b ∷ bs) rest e = one_item runs before (b ∷ bs) rest (Html (b ∷ bs)) false (seen-as rules (html-judged rules (b ∷ bs))) (reads_whole before b bs rest (Html (b ∷ bs)) (atom_tag rules before b bs rest e))
 
   read_code : (runs : Bool) (before text rest : List ℕ) → is_empty text ≡ false → refusals.has_line_ending text ≡ false → begins_with 96 rest ≡ false → IsRead runs before (spelled_code text) rest (Code text)
   unfolding spelled_code
   read_code runs before text rest some line ends =
-      one_item runs before (spelled_code text) rest (Code text) false (seen-as rules (code-judged rules text)) (reads_whole before 96 (drop 1 (spelled_code text)) rest (Code text) (atom_code rules before text rest some line ends)) refl
+      one_item runs before (spelled_code text) rest (Code text) false (seen-as rules (code-judged rules text)) (reads_whole before 96 (drop 1 (spelled_code text)) rest (Code text) (atom_code rules before text rest some line ends))
 
   mutual
     unfolding NoBrackets holds_link
@@ -377,9 +371,9 @@ module _ (rules : Rules) (defined : Defined) where
     read_one {emphasised} {first} {last} {before} {inline} {rest} (FitsHtml {text = text} tag) =
         subst (λ t. IsRead emphasised before t rest (Html text)) (sym (its-spelling (html-spelled text) first last)) (read_html emphasised before text rest tag)
     read_one {emphasised} {first} {last} {before} {inline} {rest} FitsSoft =
-        subst (λ t. IsRead emphasised before t rest Soft) (sym (its-spelling soft-spelled first last)) (one_item emphasised before (10 ∷ []) rest Soft false (seen-as rules (soft-judged rules)) (reads_whole before 10 [] rest Soft (atom_soft rules before rest)) refl)
+        subst (λ t. IsRead emphasised before t rest Soft) (sym (its-spelling soft-spelled first last)) (one_item emphasised before (10 ∷ []) rest Soft false (seen-as rules (soft-judged rules)) (reads_whole before 10 [] rest Soft (atom_soft rules before rest)))
     read_one {emphasised} {first} {last} {before} {inline} {rest} FitsHard =
-        subst (λ t. IsRead emphasised before t rest Hard) (sym (its-spelling hard-spelled first last)) (one_item emphasised before (92 ∷ 10 ∷ []) rest Hard false (seen-as rules (hard-judged rules)) (reads_whole before 92 (10 ∷ []) rest Hard (atom_hard rules before rest)) refl)
+        subst (λ t. IsRead emphasised before t rest Hard) (sym (its-spelling hard-spelled first last)) (one_item emphasised before (92 ∷ 10 ∷ []) rest Hard false (seen-as rules (hard-judged rules)) (reads_whole before 92 (10 ∷ []) rest Hard (atom_hard rules before rest)))
     read_one {emphasised} {first} {last} {before} {inline} {rest} (FitsEmphasis {content = content} mark between fits) =
         subst (λ t. IsRead true before t rest (emphasis mark content)) (sym (marked_is mark content first last)) (read_marked mark before (spelled_inlines false false content) rest content between (read_all fits))
     read_one {emphasised} {first} {last} {before} {inline} {rest} (FitsLink {dest = dest} {title = title} {content = content} d t none fits) =
