@@ -5,9 +5,7 @@ use Rattle.std.specs.List.{list_any}
 use Rattle.std.proofs.lemmas.Bool.{ne_eqb}
 use Rattle.cm_text.specs.Rules.{Rules}
 use Rattle.cm_tree.specs.declared.tree.Block.{Block}
-use Rattle.cm_tree.specs.declared.tree.Block.TheOpen as block
-use Rattle.cm_tree.specs.declared.tree.Block.TheVariants.{outs-List, List as ListBlock}
-use Rattle.cm_tree.specs.declared.tree.Block.TheFolds.{fold_out-Block}
+use Rattle.cm_tree.specs.declared.tree.Block.TheVariants.{List as ListBlock}
 use Rattle.cm_tree.specs.declared.tree.ListKind.{ListKind}
 use Rattle.cm_scan.specs.Words.{◌<|>◌}
 use Rattle.cm_source.specs.InlineRefusals.{refused}

@@ -1,28 +1,28 @@
 -- A spelled content ends with neither a space nor a tab, nor with a `#` that would close a heading; one of a heading begins so too.
-use Rattle.std.proofs.Common.{◌≡◌, ℕ, zero, suc, ◌==◌, ◌&&◌, ◌||◌, not, Bool, true, false, List, [], ◌∷◌, ◌++◌, replicate, map, Option, Some, None, codes, refl, sym, ap, subst, ◌∙◌, append_assoc, append-nil}
+use Rattle.std.proofs.Common.{◌≡◌, ℕ, zero, suc, ◌==◌, ◌&&◌, ◌||◌, not, Bool, true, false, List, [], ◌∷◌, ◌++◌, replicate, map, Option, Some, None, codes, refl, sym, ap, subst, ◌∙◌, append-nil}
 use Rattle.std.specs.Prelude.{if◌then◌else◌}
 use Rattle.std.specs.List.{list_all}
 use Rattle.std.specs.Fmt.{decimal}
 use Rattle.std.specs.Char.{is_ascii_control}
-use Rattle.std.proofs.lemmas.Bool.{or_parts, and_from, and_parts, eqb-true, cond-true, cond-false, and_right, or_right}
+use Rattle.std.proofs.lemmas.Bool.{and_parts, eqb-true, cond-false, and_right, or_right}
 use Rattle.cm_text.specs.Rules.{Rules}
 use Rattle.cm_text.specs.Characters.{is_ascii_punct}
 use Rattle.cm_tree.specs.declared.tree.Inline.{Inline}
-use Rattle.cm_tree.specs.declared.tree.Inline.TheVariants.{Text, Code, Html, Soft, Hard, Emph, Strong, Strike, Link, Image}
-use Rattle.cm_scan.specs.Words.{is_space_or_tab, is_empty, skip, keep_byte, trim_end_by, trim_end, trim_start, trim, ◌<|>◌}
+use Rattle.cm_tree.specs.declared.tree.Inline.TheVariants.{Text, Code, Html, Emph, Strong, Strike, Link, Image}
+use Rattle.cm_scan.specs.Words.{is_space_or_tab, is_empty, skip, keep_byte, trim_end_by, trim_end, trim_start}
 use Rattle.cm_scan.specs.LineForms.{without_closing}
 use Rattle.cm_scan.specs.BlockLaws.{is_unindented}
-use Rattle.cm_source.specs.Inlines.{Spelled, spelled, join, is_line_end, between}
+use Rattle.cm_source.specs.Inlines.{Spelled, spelled, join, is_line_end}
 use Rattle.cm_source.specs.Texts.{numbered, edge_byte, spelled_byte, spelled_bytes, spelled_title, spelled_text, longest_run, padding, spelled_code, spelled_target}
-use Rattle.cm_source.specs.InlineRefusals.{Face, Place, Judged, judged, further_in, first_face, refusal_of_all}
-use Rattle.cm_source.proofs.InlineKinds.{text-spelled, code-spelled, html-spelled, soft-spelled, hard-spelled, emph-spelled, strong-spelled, strike-spelled, link-spelled, image-spelled}
+use Rattle.cm_source.specs.InlineRefusals.{Face, Place, judged, further_in, first_face, refusal_of_all}
+use Rattle.cm_source.proofs.InlineKinds.{text-spelled, code-spelled, html-spelled, emph-spelled, strong-spelled, strike-spelled, link-spelled, image-spelled}
 use Rattle.cm_source.proofs.AcceptedLemmas.{or-none, Accepted, text-accepted, html-accepted, soft-accepted, hard-accepted}
-use Rattle.cm_source.proofs.InlineInduction.{Cases, by-cases}
+use Rattle.cm_source.proofs.InlineInduction.{by-cases}
 use Rattle.cm_source.proofs.LineFronts.{differs, differs', ends_number, line_of, Front, front-line}
 use Rattle.cm_source.proofs.ContentFronts.{text-front}
 use Rattle.cm_source.proofs.TagLemmas.{tag-begins, tag-ends}
 use Rattle.cm_source.proofs.PlacesBack.{bare-front}
-use Rattle.cm_source.proofs.Ways.{Way, ByNumber, Escaped, AsItIs, no-control, way, edge_way}
+use Rattle.cm_source.proofs.Ways.{Way, ByNumber, Escaped, AsItIs, no-control, way}
 
 -- the last byte is neither blank nor an unescaped `#`; the mark says that the first byte is escaped
 unfoldable pub ends_well : (is_escaped : Bool) → List ℕ → Bool

@@ -1,26 +1,25 @@
 -- Each line of a content that can be spelled begins with what is nothing but text.
-use Rattle.std.proofs.Common.{◌≡◌, ℕ, suc, ◌==◌, ◌&&◌, ◌||◌, ◌⊎◌, inl, inr, not, cond, Bool, true, false, List, [], ◌∷◌, ◌++◌, replicate, map, Option, Some, None, codes, refl, sym, ap, subst, ◌∙◌, append_assoc, append-nil}
-use Rattle.std.specs.Prelude.{if◌then◌else◌, reverse}
+use Rattle.std.proofs.Common.{◌≡◌, ℕ, suc, ◌==◌, ◌&&◌, ◌||◌, ◌⊎◌, inl, inr, not, Bool, true, false, List, [], ◌∷◌, ◌++◌, replicate, map, Option, Some, None, codes, refl, sym, ap, subst, ◌∙◌, append_assoc, append-nil}
+use Rattle.std.specs.Prelude.{if◌then◌else◌}
 use Rattle.std.specs.Str.{chars}
 use Rattle.std.specs.List.{list_all, list_any}
 use Rattle.std.specs.Char.{is_ascii_control}
-use Rattle.std.specs.Fmt.{decimal}
-use Rattle.std.proofs.lemmas.Bool.{or_parts, or_right, and_from, and_parts, eqb-true, not-true}
+use Rattle.std.proofs.lemmas.Bool.{or_parts, or_right, and_parts, eqb-true, not-true}
 use Rattle.cm_text.specs.Rules.{Rules}
-use Rattle.cm_text.specs.Characters.{is_ascii_punct, is_space}
+use Rattle.cm_text.specs.Characters.{is_ascii_punct}
 use Rattle.cm_text.proofs.Computing.{character_kinds}
 use Rattle.cm_tree.specs.declared.tree.Inline.{Inline}
 use Rattle.cm_tree.specs.declared.tree.Inline.TheVariants.{Text, Code, Html, Soft, Hard, Emph, Strong, Strike, Link, Image}
-use Rattle.cm_scan.specs.Words.{is_digit, is_empty, begins_with, is_space_or_tab, ◌<|>◌}
+use Rattle.cm_scan.specs.Words.{is_digit, is_empty, begins_with}
 use Rattle.cm_scan.specs.Autolinks.{ends_with}
 use Rattle.cm_source.specs.Inlines.{Spelled, spelled, join, is_line_end, between}
 use Rattle.cm_source.specs.Texts.{numbered, edge_byte, spelled_byte, spelled_text, longest_run, is_padded, padding, spelled_code, spelled_target}
-use Rattle.cm_source.specs.InlineRefusals.{Face, TextFace, Place, Judged, judged, further_in, inside_link, first_face, refusal_of_all, has_wrong_edge, is_text, is_break, is_emphasis, is_none, is_whitespace, is_plain, first_of, last_of, last_face, hold_emphasis}
+use Rattle.cm_source.specs.InlineRefusals.{Face, Place, Judged, judged, further_in, inside_link, first_face, refusal_of_all, has_wrong_edge, is_text, is_break, is_none, is_whitespace, is_plain, first_of, last_of, last_face, hold_emphasis}
 use Rattle.cm_source.proofs.InlineKinds.{text-judged, code-judged, html-judged, soft-judged, hard-judged, emph-judged, strong-judged, strike-judged, link-judged, image-judged, text-spelled, code-spelled, html-spelled, soft-spelled, hard-spelled, emph-spelled, strong-spelled, strike-spelled, link-spelled, image-spelled}
-use Rattle.cm_source.proofs.AcceptedLemmas.{or-none, Accepted, text-accepted, code-accepted, html-accepted, BreakAccepted, soft-accepted, hard-accepted, EmphasisAccepted, emph-accepted, strong-accepted, strike-accepted, link-accepted, image-accepted}
+use Rattle.cm_source.proofs.AcceptedLemmas.{or-none, Accepted, text-accepted, code-accepted, html-accepted, soft-accepted, hard-accepted, EmphasisAccepted, emph-accepted, strong-accepted, strike-accepted, link-accepted, image-accepted}
 use Rattle.cm_source.proofs.InlineInduction.{AllHold, Cases, by-cases, all-by-cases}
 use Rattle.cm_source.proofs.KeptBytes.{is_line_byte, one-line, padding-line, text-is-line, code-is-line, target-is-line}
-use Rattle.cm_source.proofs.LineFronts.{differs, differs', starters, is_quiet, enders, is_inner, none-passes, ends_number, ends-digit, ends-other, line_of, Front, quiet, number, one_star, two_stars, two_tildes, backticks, LinesBegin}
+use Rattle.cm_source.proofs.LineFronts.{differs', starters, is_quiet, enders, is_inner, none-passes, ends_number, ends-digit, ends-other, line_of, Front, quiet, number, one_star, two_stars, two_tildes, backticks, LinesBegin}
 use Rattle.cm_source.proofs.SpelledBytes.{all-both}
 use Rattle.cm_source.proofs.TagLemmas.{tag-begins}
 use Rattle.cm_source.proofs.Ways.{Way, ByNumber, Escaped, AsItIs, no-control, way, edge_way}

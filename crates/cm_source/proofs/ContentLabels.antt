@@ -1,10 +1,9 @@
 -- No definition stands at the front of a spelled content: a link there ends where no colon follows.
-use Rattle.std.proofs.Common.{◌≡◌, ℕ, zero, suc, ◌==◌, ◌&&◌, ◌||◌, not, Bool, true, false, List, [], ◌∷◌, ◌++◌, length, replicate, map, Option, Some, None, codes, refl, sym, ap, subst, ◌∙◌, append_assoc}
+use Rattle.std.proofs.Common.{◌≡◌, ℕ, zero, suc, ◌==◌, ◌&&◌, ◌||◌, not, Bool, true, false, List, [], ◌∷◌, ◌++◌, replicate, map, Option, Some, None, codes, refl, sym, ap, ◌∙◌, append_assoc}
 use Rattle.std.specs.Prelude.{if◌then◌else◌}
 use Rattle.std.specs.List.{list_all}
 use Rattle.std.specs.Fmt.{decimal}
-use Rattle.std.specs.Char.{is_ascii_control}
-use Rattle.std.proofs.lemmas.Bool.{or_parts, or_from, and_from, and_parts, and_right, not-true}
+use Rattle.std.proofs.lemmas.Bool.{or_parts, or_from, and_parts, and_right, not-true}
 use Rattle.cm_text.specs.Rules.{Rules}
 use Rattle.cm_text.specs.Characters.{is_ascii_punct}
 use Rattle.cm_tree.specs.declared.tree.Inline.{Inline}
@@ -13,16 +12,16 @@ use Rattle.cm_scan.specs.Words.{is_digit, is_empty, begins_with, after_word, is_
 use Rattle.cm_scan.specs.Tags.{after_gap}
 use Rattle.cm_scan.specs.Links.{Reading, behind, keep_if, escapes_next, closed_by, is_label, label, LinkDefinition, destination, titled, untitled, link_definition, definitions_within, definitions_of}
 use Rattle.cm_source.specs.Inlines.{Spelled, spelled, join, is_line_end, between}
-use Rattle.cm_source.specs.Texts.{numbered, edge_byte, spelled_text, longest_run, is_padded, padding, spelled_code, spelled_target, spelled_bytes, spelled_title}
-use Rattle.cm_source.specs.InlineRefusals.{Face, Place, Judged, judged, further_in, inside_link, first_face, refusal_of_all, ends_a_label}
+use Rattle.cm_source.specs.Texts.{numbered, edge_byte, spelled_text, longest_run, is_padded, spelled_code, spelled_target}
+use Rattle.cm_source.specs.InlineRefusals.{Face, Place, judged, further_in, inside_link, first_face, refusal_of_all, ends_a_label}
 use Rattle.cm_source.proofs.InlineKinds.{text-spelled, code-spelled, html-spelled, soft-spelled, hard-spelled, emph-spelled, strong-spelled, strike-spelled, link-spelled, image-spelled}
-use Rattle.cm_source.proofs.AcceptedLemmas.{or-none, Accepted, text-accepted, code-accepted, html-accepted, emph-accepted, strong-accepted, strike-accepted, link-accepted, image-accepted}
+use Rattle.cm_source.proofs.AcceptedLemmas.{or-none, Accepted, text-accepted, code-accepted, html-accepted, emph-accepted, strong-accepted, strike-accepted, link-accepted}
 use Rattle.cm_source.proofs.InlineInduction.{AllHold, Cases, by-cases, all-by-cases}
 use Rattle.cm_source.proofs.LineFronts.{differs, differs'}
 use Rattle.cm_source.proofs.SpelledBytes.{all-both, all-so, all-digits}
 use Rattle.cm_source.proofs.TagLemmas.{tag-begins, tag-ends}
 use Rattle.cm_source.proofs.TextLemmas.{escapes-none}
-use Rattle.cm_source.proofs.Ways.{Way, ByNumber, Escaped, AsItIs, no-control, way, edge_way}
+use Rattle.cm_source.proofs.Ways.{Way, ByNumber, Escaped, AsItIs, edge_way}
 
 -- ---- where a label ends
 

@@ -1,31 +1,31 @@
 -- The tree of a spelling is the tree that was spelled.
-use Rattle.std.proofs.Common.{◌≡◌, ℕ, not, ◌&&◌, Bool, true, false, nat_le, List, [], ◌∷◌, map, Option, Some, None, refl, sym, ap, subst, ◌∙◌}
+use Rattle.std.proofs.Common.{◌≡◌, ℕ, not, ◌&&◌, true, false, nat_le, List, [], ◌∷◌, map, Option, Some, None, refl, sym, ap, subst, ◌∙◌}
 use Rattle.std.specs.List.{list_any}
 use Rattle.std.proofs.lemmas.Bool.{and_parts}
 use Rattle.std.proofs.lemmas.Str.{IsUtf8-string_bytes}
 use Rattle.std.specs.Prelude.{IsUtf8, String, string_bytes}
 use Rattle.cm_text.specs.Rules.{Rules}
-use Rattle.cm_text.specs.Lines.{text_of, plain_lines_of}
+use Rattle.cm_text.specs.Lines.{plain_lines_of}
 use Rattle.cm_tree.specs.declared.tree.Inline.{Inline}
 use Rattle.cm_tree.specs.declared.tree.Block.{Block, map-Block, out-Block}
 use Rattle.cm_tree.specs.declared.tree.Block.TheVariants.{Paragraph, Heading, Quote, List as ListBlock}
 use Rattle.cm_tree.specs.declared.tree.Block.TheViews.{outs-Paragraph, outs-Heading, outs-Code, outs-Html, outs-Break, outs-Definition, outs-Quote, outs-List}
 use Rattle.cm_tree.specs.declared.tree.Block.TheFolds.{fold_out-Block}
 use Rattle.cm_scan.specs.Brackets.{Defined}
-use Rattle.cm_scan.specs.Documents.{content_read, read_step, block_read, with_inlines, defined_by, tree_of_lines, tree_of}
+use Rattle.cm_scan.specs.Documents.{content_read, block_read, with_inlines, defined_by, tree_of_lines, tree_of}
 use Rattle.cm_scan.specs.Inlines.{inlines_of}
 use Rattle.cm_scan.specs.Parts.{raw_inlines}
-use Rattle.cm_scan.specs.Words.{is_empty, ◌<|>◌}
+use Rattle.cm_scan.specs.Words.{is_empty}
 use Rattle.cm_source.specs.declared.why.Why.TheVariants as why
 use Rattle.cm_source.specs.steps.BlocksBack.{source_step, sourced, all_sourced}
 use Rattle.cm_source.specs.steps.ContentBack.{FitsAll}
 use Rattle.cm_source.specs.Inlines.{spelled_content}
-use Rattle.cm_source.specs.InlineRefusals.{refused, paragraph_refusal, heading_refusal, Place, of_paragraph, of_heading}
+use Rattle.cm_source.specs.InlineRefusals.{refused, paragraph_refusal, heading_refusal, of_paragraph, of_heading}
 use Rattle.cm_source.specs.ReadingBack.{TreesReadBack}
-use Rattle.cm_source.specs.Refusals.{IsSpellable, Face, Judged, refusal_of_all, refusal_of_items, list_reasons, block_step, judged, faces}
+use Rattle.cm_source.specs.Refusals.{IsSpellable, Face, refusal_of_all, refusal_of_items, list_reasons, judged}
 use Rattle.cm_source.specs.Spelling.{spelling_of}
 use Rattle.cm_source.specs.steps.Utf8Inlines.{AreTexts, all_of}
-use Rattle.cm_source.specs.steps.Utf8Blocks.{utf8_step, has_texts, HaveTexts}
+use Rattle.cm_source.specs.steps.Utf8Blocks.{has_texts}
 use Rattle.cm_source.proofs.AcceptedLemmas.{or-none}
 use Rattle.cm_source.proofs.BlockInduction.{AllHold, ItemsHold, Cases, all-by-cases}
 use Rattle.cm_source.proofs.BlockRefusals.{seen_items}

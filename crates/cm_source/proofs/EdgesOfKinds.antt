@@ -1,20 +1,15 @@
 -- What is known of each kind of accepted inline from outside.
 use Rattle.std.proofs.Common.{◌≡◌, ℕ, zero, suc, ◌<◌, ◌==◌, Bool, true, false, List, [], ◌∷◌, ◌++◌, map, reverse, replicate, codes, IsUtf8, Option, Some, None, refl, sym, ap, subst, ◌∙◌, arith, append_assoc}
-use Rattle.std.proofs.lemmas.Bool.{and_left, and_right, eqb-true}
+use Rattle.std.proofs.lemmas.Bool.{and_left, and_right}
 use Rattle.std.proofs.lemmas.Str.{IsUtf8-from_is_utf8}
 use Rattle.cm_text.specs.Rules.{Rules}
 use Rattle.cm_text.specs.Characters.{is_ascii_punct}
 use Rattle.cm_tree.specs.declared.tree.Inline.{Inline}
 use Rattle.cm_tree.specs.declared.tree.Inline.TheOpen as inline
 use Rattle.cm_tree.specs.declared.tree.Inline.TheVariants.{Text, Code, Html, Soft, Hard, Emph, Strong, Strike, Link, Image}
-use Rattle.cm_scan.specs.Words.{is_empty, after_word}
-use Rattle.cm_scan.specs.Tags.{open_tag, closing_tag}
-use Rattle.cm_scan.specs.RawHtml.{from_to, comment, declaration, raw_html}
-use Rattle.cm_scan.specs.Autolinks.{Autolink, autolink}
-use Rattle.cm_scan.specs.Angles.{Angled, Linked, Tagged, tagged, at_angle}
+use Rattle.cm_scan.specs.Words.{is_empty}
 use Rattle.cm_scan.specs.Delimiters.{neighbour}
 use Rattle.cm_scan.specs.Atoms.{first_character, last_character}
-use Rattle.cm_scan.proofs.EndLemmas.{raw_html-ends}
 use Rattle.cm_source.specs.Texts.{spelled_bytes, padding, longest_run, spelled_text, spelled_code, spelled_title, spelled_target}
 use Rattle.cm_source.specs.Inlines.{Spelled, join, between, inside_line, spelled}
 use Rattle.cm_source.specs.Inlines as spelling

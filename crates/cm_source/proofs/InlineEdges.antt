@@ -1,7 +1,6 @@
 -- What the inlines round an accepted inline see of it: the bytes and the characters with which its spelling begins and ends.
-use Rattle.std.proofs.Common.{◌≡◌, ℕ, ◌<◌, ◌+◌, ◌==◌, Bool, true, false, ◌&&◌, ◌||◌, List, [], ◌∷◌, ◌++◌, length, reverse, IsUtf8, if◌then◌else◌, Option, Some, None, get_or, refl, sym, ap, subst, ◌∙◌, arith, append_assoc, length-append}
-use Rattle.std.specs.Char.{is_ascii_control}
-use Rattle.std.proofs.lemmas.Bool.{ne_eqb, lt-ltb}
+use Rattle.std.proofs.Common.{◌≡◌, ℕ, ◌<◌, ◌+◌, ◌==◌, Bool, true, false, ◌&&◌, ◌||◌, List, [], ◌∷◌, ◌++◌, length, reverse, IsUtf8, Option, Some, None, get_or, refl, sym, ap, subst, ◌∙◌, arith, append_assoc, length-append}
+use Rattle.std.proofs.lemmas.Bool.{lt-ltb}
 use Rattle.std.proofs.lemmas.List.{reverse-append, reverse-reverse}
 use Rattle.std.proofs.lemmas.Str.{IsUtf8-append, IsUtf8-take, IsUtf8-drop, IsCharBoundary-before_ascii}
 use lib.Seq.{take_at, drop_at, get_or-append-add}
@@ -9,10 +8,10 @@ use Rattle.cm_text.proofs.Utf8Lemmas.{IsUtf8-cancel}
 use Rattle.cm_text.specs.Rules.{Rules}
 use Rattle.cm_text.specs.Characters.{is_ascii_punct, is_space}
 use Rattle.cm_text.proofs.CharacterLemmas.{is_space-ascii}
-use Rattle.cm_scan.specs.Words.{is_empty, begins_with, after_run}
+use Rattle.cm_scan.specs.Words.{is_empty, begins_with}
 use Rattle.cm_scan.specs.Delimiters.{Neighbour, whitespace, neighbour, is_other}
 use Rattle.cm_scan.specs.Atoms.{first_character, last_character}
-use Rattle.cm_source.specs.Texts.{numbered, spelled_byte, edge_byte, spelled_text}
+use Rattle.cm_source.specs.Texts.{edge_byte, spelled_text}
 use Rattle.cm_source.specs.InlineRefusals.{Face, is_text, is_code, is_break, is_emphasis, is_none, first_of, last_of, is_whitespace, is_plain}
 use Rattle.cm_source.specs.steps.ContentBack.{is_before_line_end}
 use Rattle.cm_source.proofs.Neighbours.{ascii-utf8, Beside, is_blank, punctuation-seen, first-ascii, last-ascii}

@@ -1,5 +1,5 @@
 -- Induction over inlines and the inlines of their contents.
-use Rattle.std.proofs.Common.{◌≡◌, ℕ, List, [], ◌∷◌, map, ap, refl, sym, subst, ◌∙◌}
+use Rattle.std.proofs.Common.{ℕ, List, [], ◌∷◌, map, subst}
 use Rattle.std.specs.Prelude.{⊤}
 use Rattle.cm_tree.specs.declared.tree.Inline.{Inline, Inline-F, map-Inline}
 use Rattle.cm_tree.specs.declared.tree.Inline.TheOpen as inline

@@ -1,5 +1,5 @@
 -- Inlines by their kinds: how each is judged and spelled, and whether its strings are UTF-8.
-use Rattle.std.proofs.Common.{◌≡◌, ℕ, Bool, true, false, ◌&&◌, List, map, Some, codes, ap}
+use Rattle.std.proofs.Common.{◌≡◌, ℕ, Bool, true, false, ◌&&◌, List, map, codes, ap}
 use Rattle.std.specs.Str.{is_utf8}
 use Rattle.cm_text.specs.Rules.{Rules}
 use Rattle.cm_tree.specs.declared.tree.Inline.{Inline}

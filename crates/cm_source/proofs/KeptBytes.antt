@@ -1,14 +1,13 @@
 -- No content that can be spelled has U+0000 or a carriage return in its spelling, nor one of a heading a line feed.
 use Rattle.std.proofs.Common.{◌≡◌, ℕ, suc, ◌==◌, ◌&&◌, ◌||◌, not, cond, Bool, true, false, List, [], ◌∷◌, ◌++◌, replicate, map, Option, Some, None, codes, refl, sym, ap, subst, ◌∙◌}
-use Rattle.std.specs.List.{list_all, list_any}
+use Rattle.std.specs.List.{list_all}
 use Rattle.std.proofs.lemmas.Bool.{or_parts, and_from, and_parts}
 use Rattle.cm_text.specs.Rules.{Rules}
 use Rattle.cm_tree.specs.declared.tree.Inline.{Inline}
 use Rattle.cm_tree.specs.declared.tree.Inline.TheVariants.{Text, Code, Html, Soft, Hard, Emph, Strong, Strike, Link, Image}
-use Rattle.cm_scan.specs.Words.{◌<|>◌}
 use Rattle.cm_source.specs.Inlines.{Spelled, spelled, join, is_line_end, between}
 use Rattle.cm_source.specs.Texts.{longest_run, is_padded, padding, spelled_code, spelled_text, spelled_target}
-use Rattle.cm_source.specs.InlineRefusals.{has_nul, has_line_ending, Face, Place, Judged, judged, further_in, inside_link, first_face, refusal_of_all}
+use Rattle.cm_source.specs.InlineRefusals.{has_nul, has_line_ending, Face, Place, judged, further_in, inside_link, first_face, refusal_of_all}
 use Rattle.cm_source.proofs.InlineKinds.{text-spelled, code-spelled, html-spelled, soft-spelled, hard-spelled, emph-spelled, strong-spelled, strike-spelled, link-spelled, image-spelled}
 use Rattle.cm_source.proofs.AcceptedLemmas.{or-none, Accepted, code-accepted, html-accepted, soft-accepted, hard-accepted, emph-accepted, strong-accepted, strike-accepted, link-accepted, image-accepted}
 use Rattle.cm_source.proofs.InlineInduction.{AllHold, Cases, all-by-cases}

@@ -1,12 +1,11 @@
 -- What a line begins with that is nothing but text, whatever stands further on in it.
-use Rattle.std.proofs.Common.{◌≡◌, ℕ, zero, suc, ◌==◌, ◌&&◌, ◌||◌, not, cond, Bool, true, false, List, [], ◌∷◌, ◌++◌, replicate, Option, Some, None, refl, sym, ap, subst, ◌∙◌, arith, codes}
-use Rattle.std.specs.Prelude.{⊤, if◌then◌else◌, nat_le, length}
-use Rattle.std.specs.List.{list_all, list_any}
+use Rattle.std.proofs.Common.{◌≡◌, ℕ, zero, suc, ◌==◌, ◌&&◌, ◌||◌, not, Bool, true, false, List, [], ◌∷◌, ◌++◌, replicate, Option, None, refl, sym, ap, subst, ◌∙◌, codes}
+use Rattle.std.specs.Prelude.{if◌then◌else◌, nat_le, length}
+use Rattle.std.specs.List.{list_any}
 use Rattle.std.proofs.lemmas.Bool.{cond-true, cond-false, or_parts, or_from, eqb-true, ne_eqb}
 use Rattle.cm_text.specs.Rules.{Rules}
-use Rattle.cm_tree.specs.declared.tree.ListKind.{ListKind}
-use Rattle.cm_scan.specs.Words.{is_space_or_tab, is_digit, is_blank_text, begins_with, skip, front_of, run_length, after_run, given, trim, trim_start, keep_byte, trim_end_by, trim_end, is_trimmed}
-use Rattle.cm_scan.specs.LineForms.{backticks_or, ItemMarker, is_thematic_break, atx_heading, underline, opening_fence, fence_of, Fence, item_marker, bullet_marker, ordered_marker, marker_behind, is_number, decimal_value, ordered_kind, marker_at_gap}
+use Rattle.cm_scan.specs.Words.{is_space_or_tab, is_digit, skip, front_of, run_length, after_run, given, trim, trim_start, keep_byte, trim_end_by, trim_end}
+use Rattle.cm_scan.specs.LineForms.{backticks_or, ItemMarker, is_thematic_break, atx_heading, underline, opening_fence, fence_of, item_marker, bullet_marker, ordered_marker, marker_behind, is_number, decimal_value, ordered_kind, marker_at_gap}
 use Rattle.cm_scan.specs.HtmlBlocks.{html_start}
 use Rattle.cm_scan.specs.Starts.{TextLine, start_of_content}
 use Rattle.cm_scan.specs.BlockLaws.{is_unindented}

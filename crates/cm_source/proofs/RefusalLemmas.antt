@@ -8,10 +8,6 @@ use Rattle.std.proofs.lemmas.Bool.{ne_eqb}
 use Rattle.std.proofs.lemmas.List.{drop_more, drop_all}
 use Rattle.cm_text.specs.Rules.{Rules}
 use Rattle.cm_tree.specs.declared.tree.Inline.{Inline}
-use Rattle.cm_tree.specs.declared.tree.Inline.TheOpen as inline
-use Rattle.cm_tree.specs.declared.tree.Inline.TheVariants.{Emph, Strong, Strike, Link, Image}
-use Rattle.cm_tree.specs.declared.tree.Inline.TheViews.{outs-Emph, outs-Strong, outs-Strike, outs-Link, outs-Image}
-use Rattle.cm_tree.specs.declared.tree.Inline.TheFolds.{fold_out-Inline}
 use Rattle.cm_scan.specs.Words.{is_empty, ◌<|>◌}
 use Rattle.cm_scan.specs.Links.{Reading}
 use Rattle.cm_scan.specs.RawHtml.{raw_html}
@@ -20,7 +16,7 @@ use Rattle.cm_scan.specs.Angles.{Angled, Linked, Tagged, before, tagged, at_angl
 use Rattle.cm_scan.specs.Scanned.{whole_of}
 use Rattle.cm_source.specs.declared.why.Why.{Why}
 use Rattle.cm_source.specs.Answers.{ok_unless}
-use Rattle.cm_source.specs.InlineRefusals.{refused, Face, is_none, first_of, last_of, is_whitespace, is_plain, Judged, first_face, last_face, has_wrong_edge, is_one_tag, emphasis, inline_step, judged}
+use Rattle.cm_source.specs.InlineRefusals.{refused, Face, is_none, first_of, last_of, is_whitespace, is_plain, Judged, first_face, last_face, has_wrong_edge, is_one_tag, judged}
 
 pub stops : (first second : Option Why) (why : Why) → Err why ≡ ok_unless first → Err why ≡ ok_unless (first <|> second)
 stops None second why e = absurd (cc e)

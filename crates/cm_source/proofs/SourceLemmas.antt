@@ -1,21 +1,20 @@
 -- The contents and info strings of trees that can be spelled have sources that read back in their blocks.
-use Rattle.std.proofs.Common.{◌≡◌, ℕ, ◌==◌, ◌&&◌, ◌||◌, not, Bool, true, false, List, [], ◌∷◌, map, None, refl, sym, ap, ◌∙◌}
+use Rattle.std.proofs.Common.{◌≡◌, ℕ, ◌==◌, true, false, List, [], ◌∷◌, None, refl, ap, ◌∙◌}
 use Rattle.std.specs.List.{list_all, list_any}
-use Rattle.std.proofs.lemmas.Bool.{and_parts, or_from}
 use Rattle.cm_text.specs.Rules.{Rules}
 use Rattle.cm_tree.specs.declared.tree.Inline.{Inline}
 use Rattle.cm_scan.specs.LineForms.{without_closing}
-use Rattle.cm_scan.specs.Words.{skip, trim_end_by, trim, trim_end, trim_start}
+use Rattle.cm_scan.specs.Words.{skip, trim_end_by, trim, trim_end}
 use Rattle.cm_source.specs.steps.BlocksBack.{ContentsGiveSources}
-use Rattle.cm_source.specs.Inlines.{spelled, join, spelled_content}
-use Rattle.cm_source.specs.InlineRefusals.{Place, has_nul, paragraph_refusal, heading_refusal, of_paragraph, of_heading}
+use Rattle.cm_source.specs.Inlines.{spelled_content}
+use Rattle.cm_source.specs.InlineRefusals.{paragraph_refusal, heading_refusal, of_paragraph, of_heading}
 use Rattle.cm_source.specs.Texts.{spelled_text}
-use Rattle.cm_source.specs.steps.Sources.{is_clean, is_one_line, IsParagraphSource, IsHeadingSource, IsInfoSource}
+use Rattle.cm_source.specs.steps.Sources.{IsParagraphSource, IsHeadingSource, IsInfoSource}
 use Rattle.cm_source.proofs.ContentEnds.{trimmed-start, trimmed-end, unclosed, text-bare, text-well, content-bare, content-ends}
 use Rattle.cm_source.proofs.ContentFronts.{paragraph-lines}
 use Rattle.cm_source.proofs.ContentLabels.{defines-nothing, content-none}
 use Rattle.cm_source.proofs.KeptBytes.{is_kept, contents-keep, text-is-line, is_line_byte}
-use Rattle.cm_source.proofs.LineFronts.{Front, LinesBegin, line_of, further_lines, parted-lines, front-line, lines-are-text, first-front}
+use Rattle.cm_source.proofs.LineFronts.{line_of, further_lines, parted-lines, front-line, lines-are-text, first-front}
 use Rattle.cm_source.proofs.SpelledBytes.{is_tame, text-tame, none-tame}
 use Rattle.cm_source.proofs.UnescapeBack.{unescape_text}
 

@@ -1,7 +1,7 @@
 -- The blocks of a tree that can be spelled stand as an outline which fits, with the same lines.
 use Rattle.std.proofs.Common.{◌≡◌, ℕ, ◌&&◌, ◌||◌, not, Bool, true, false, List, [], ◌∷◌, ◌++◌, map, codes, refl, sym, ◌∙◌, ap, subst, Option, Some, None, append_assoc, append-nil}
 use Rattle.std.proofs.lemmas.Bool.{false≢true, and_parts, or_parts, not-false}
-use Rattle.std.specs.Prelude.{⊤, nat_le, flat_map}
+use Rattle.std.specs.Prelude.{nat_le, flat_map}
 use Rattle.std.specs.List.{list_any, list_all}
 use Rattle.cm_text.specs.Rules.{Rules}
 use Rattle.cm_tree.specs.declared.tree.Block.{Block, Block-F, map-Block}

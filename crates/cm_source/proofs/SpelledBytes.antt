@@ -1,15 +1,12 @@
 -- Which bytes a spelled text has.
-use Rattle.std.proofs.Common.{◌≡◌, ℕ, zero, suc, ◌<◌, ◌==◌, ◌&&◌, ◌||◌, not, cond, Bool, true, false, List, [], ◌∷◌, ◌++◌, replicate, codes, refl, sym, ap, subst, ◌∙◌, arith}
-use Rattle.std.specs.Prelude.{if◌then◌else◌}
+use Rattle.std.proofs.Common.{◌≡◌, ℕ, zero, suc, ◌<◌, ◌==◌, ◌&&◌, ◌||◌, not, Bool, true, false, List, [], ◌∷◌, ◌++◌, replicate, codes, refl, ap}
 use Rattle.std.specs.Fmt.{decimal, digits}
 use Rattle.std.specs.List.{list_all, list_any}
 use Rattle.std.specs.Char.{is_ascii_control}
-use Rattle.std.proofs.lemmas.Bool.{cond-true, cond-false, or_parts, and_from, and_parts, agree_below_at, eqb-true, ne_eqb, or_from}
+use Rattle.std.proofs.lemmas.Bool.{and_from, and_parts, agree_below_at, or_from}
 use Rattle.cm_text.specs.Characters.{is_ascii_punct}
 use Rattle.cm_scan.specs.Words.{is_digit, is_empty}
 use Rattle.cm_source.specs.Texts.{numbered, spelled_byte, spelled_bytes, edge_byte, spelled_text, spelled_title, spelled_target}
-use Rattle.cm_source.specs.steps.Bytes.{is_spelled}
-use Rattle.cm_source.proofs.TextLemmas.{by-number, behind-backslash, spelled-ascii}
 use Rattle.cm_source.proofs.LineFronts.{differs, differs'}
 use Rattle.cm_source.proofs.Ways.{Way, ByNumber, Escaped, AsItIs, no-control, way, edge_way}
 

@@ -4,13 +4,10 @@ use Rattle.std.proofs.lemmas.Bool.{and_parts}
 use Rattle.std.proofs.lemmas.Str.{IsUtf8-append, IsUtf8-from_is_utf8, IsUtf8-nil}
 use Rattle.std.specs.Str.{is_utf8}
 use Rattle.cm_tree.specs.declared.tree.Inline.{Inline}
-use Rattle.cm_tree.specs.declared.tree.Inline.TheVariants.{Text, Code, Html, Soft, Hard, Emph, Strong, Strike, Link, Image}
-use Rattle.cm_tree.specs.declared.tree.Inline.TheViews.{outs-Text, outs-Code, outs-Html, outs-Soft, outs-Hard, outs-Emph, outs-Strong, outs-Strike, outs-Link, outs-Image}
-use Rattle.cm_tree.specs.declared.tree.Inline.TheFolds.{fold_out-Inline}
 use Rattle.cm_source.specs.Texts.{spelled_bytes, is_padded, padding, spelled_code, spelled_title, spelled_target, longest_run}
 use Rattle.cm_source.specs.Inlines.{Spelled, join, between, spelled, is_line_end}
-use Rattle.cm_source.specs.steps.Utf8Inlines.{all_of, utf8_step, has_utf8}
-use Rattle.cm_source.proofs.InlineKinds.{text-spelled, code-spelled, html-spelled, soft-spelled, hard-spelled, emph-spelled, strong-spelled, strike-spelled, link-spelled, image-spelled, text-strings, code-strings, html-strings, soft-strings, hard-strings, emph-strings, strong-strings, strike-strings, link-strings, image-strings}
+use Rattle.cm_source.specs.steps.Utf8Inlines.{all_of, has_utf8}
+use Rattle.cm_source.proofs.InlineKinds.{text-spelled, code-spelled, html-spelled, soft-spelled, hard-spelled, emph-spelled, strong-spelled, strike-spelled, link-spelled, image-spelled, text-strings, code-strings, html-strings, emph-strings, strong-strings, strike-strings, link-strings, image-strings}
 use Rattle.cm_source.proofs.TextLemmas.{inner-text}
 use Rattle.cm_source.proofs.InlineInduction.{AllHold, Cases, by-cases}
 use Rattle.cm_source.proofs.Neighbours.{ascii-utf8, spelled-utf8}

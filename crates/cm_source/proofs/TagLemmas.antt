@@ -1,8 +1,8 @@
 -- A text that is one tag is read whole, begins with `<` and ends with `>`.
-use Rattle.std.proofs.Common.{◌≡◌, ℕ, Bool, true, false, ◌==◌, List, [], ◌∷◌, ◌++◌, Option, Some, None, codes, refl, sym, ap, ◌∙◌, arith}
+use Rattle.std.proofs.Common.{◌≡◌, ℕ, Bool, true, false, ◌==◌, List, [], ◌∷◌, ◌++◌, Option, Some, None, refl, sym, ap, ◌∙◌, arith}
 use Rattle.std.proofs.lemmas.Bool.{eqb-true, true_from_ne_false}
 use Rattle.cm_text.specs.Rules.{Rules}
-use Rattle.cm_scan.specs.Words.{is_empty, after_word, ◌<|>◌}
+use Rattle.cm_scan.specs.Words.{is_empty, after_word}
 use Rattle.cm_scan.specs.Tags.{open_tag, closing_tag}
 use Rattle.cm_scan.specs.RawHtml.{from_to, comment, declaration, raw_html}
 use Rattle.cm_scan.specs.Autolinks.{Autolink, autolink}

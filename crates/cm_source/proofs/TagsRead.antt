@@ -1,12 +1,11 @@
 -- Raw HTML that is one tag is read as it is, whatever stands behind it.
-use Rattle.std.proofs.Common.{◌≡◌, ℕ, ◌-◌, Bool, true, false, ◌==◌, List, [], ◌∷◌, ◌++◌, get_or, length, take_all, Option, Some, None, refl, sym, ap, subst, ◌∙◌, arith}
-use Rattle.std.proofs.lemmas.Bool.{eqb-true, false≢true}
+use Rattle.std.proofs.Common.{◌≡◌, ℕ, ◌-◌, Bool, true, false, List, [], ◌∷◌, ◌++◌, get_or, length, take_all, Option, Some, None, sym, ap, subst, arith}
+use Rattle.std.proofs.lemmas.Bool.{false≢true}
 use Rattle.cm_text.specs.Rules.{Rules}
 use Rattle.cm_tree.specs.declared.tree.Inline.TheVariants.{Html}
-use Rattle.cm_scan.specs.Words.{is_empty, after_word}
-use Rattle.cm_scan.specs.Tags.{open_tag, closing_tag}
-use Rattle.cm_scan.specs.RawHtml.{from_to, comment, declaration, raw_html}
-use Rattle.cm_scan.specs.Autolinks.{Autolink, in_angles, autolink}
+use Rattle.cm_scan.specs.Words.{is_empty}
+use Rattle.cm_scan.specs.RawHtml.{raw_html}
+use Rattle.cm_scan.specs.Autolinks.{Autolink, autolink}
 use Rattle.cm_scan.specs.Angles.{Angled, Linked, Tagged, before, tagged, at_angle}
 use Rattle.cm_scan.specs.Atoms.{AtomRead, Whole, read, link_of, or_byte, angle_atom, markup_atom, atom_at}
 use Rattle.cm_scan.proofs.AngleLemmas.{whole_tag_goes_on}

@@ -1,7 +1,7 @@
 -- A spelled destination and title are read as they are, behind the `]` of a link or an image.
 use Rattle.std.proofs.Common.{◌≡◌, ℕ, Bool, true, false, not, ◌&&◌, ◌||◌, ◌==◌, List, [], ◌∷◌, ◌++◌, drop, Option, Some, None, refl, sym, ap, ◌∙◌, arith, append_assoc, append-nil}
 use Rattle.std.specs.Fmt.{digits}
-use Rattle.std.specs.List.{list_all, list_any}
+use Rattle.std.specs.List.{list_all}
 use Rattle.std.proofs.lemmas.Bool.{and_parts, or_parts, agree_below, agree_below_at, not-true}
 use Rattle.std.proofs.lemmas.Bool.Decides.{nat_tests}
 use Rattle.cm_text.specs.Characters.{is_ascii_punct}

@@ -1,19 +1,18 @@
 -- A spelling in UTF-8 is that of texts in UTF-8.
-use Rattle.std.proofs.Common.{◌≡◌, ℕ, zero, suc, ◌<◌, ◌≤◌, ◌+◌, ◌==◌, ◌||◌, ◌&&◌, Bool, true, false, List, [], ◌∷◌, ◌++◌, length, drop, map, replicate, codes, IsUtf8, Option, Some, None, get_or, if◌then◌else◌, refl, sym, ap, subst, ◌∙◌, arith, append_assoc, append-nil, length-append, inl, inr, ◌⊎◌}
-use Rattle.std.specs.Char.{is_ascii, is_ascii_control}
+use Rattle.std.proofs.Common.{◌≡◌, ℕ, zero, suc, ◌<◌, ◌≤◌, ◌+◌, ◌||◌, ◌&&◌, Bool, true, false, List, [], ◌∷◌, ◌++◌, length, drop, map, replicate, codes, IsUtf8, Option, Some, None, get_or, if◌then◌else◌, refl, sym, ap, subst, ◌∙◌, arith, append_assoc, append-nil, length-append, inl, inr, ◌⊎◌}
+use Rattle.std.specs.Char.{is_ascii}
 use Rattle.std.specs.List.{list_all}
 use Rattle.std.specs.Str.{is_utf8}
 use Rattle.std.proofs.lemmas.Bool.{and_parts, and_from, and_left, and_right, cases_lt, lt-ltb}
 use Rattle.std.proofs.lemmas.Str.{IsUtf8-append, IsUtf8-nil, IsUtf8-encode, is_utf8-from_IsUtf8, encode_ascii, length-encode, len_utf8_bounds}
 use lib.Utf8.{scalar, scalars, encode, encodes}
-use Rattle.cm_text.specs.Characters.{is_ascii_punct}
 use Rattle.cm_text.proofs.Utf8Lemmas.{IsUtf8-cancel}
 use Rattle.cm_text.specs.Rules.{Rules}
 use Rattle.cm_tree.specs.declared.tree.Inline.{Inline}
 use Rattle.cm_tree.specs.declared.tree.Inline.TheOpen as inline
 use Rattle.cm_tree.specs.declared.tree.Inline.TheVariants.{Text, Code, Html, Soft, Hard, Emph, Strong, Strike, Link, Image}
 use Rattle.cm_scan.specs.Words.{is_empty}
-use Rattle.cm_source.specs.Texts.{numbered, spelled_byte, edge_byte, spelled_bytes, spelled_text, is_padded, longest_run, spelled_code, spelled_title, spelled_target}
+use Rattle.cm_source.specs.Texts.{numbered, edge_byte, spelled_bytes, spelled_text, is_padded, longest_run, spelled_code, spelled_title, spelled_target}
 use Rattle.cm_source.specs.Inlines.{Spelled, join, is_line_end, between, spelled, spelled_inlines, spelled_content}
 use Rattle.cm_source.specs.Inlines as spelling
 use Rattle.cm_source.specs.InlineRefusals.{Face, is_text, Place, Judged, first_face, further_in, inside_link, refusal_of_all, emphasis, judged}

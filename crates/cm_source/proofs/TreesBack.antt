@@ -1,8 +1,8 @@
 -- A spelling in UTF-8 is that of a tree whose contents are texts in UTF-8.
-use Rattle.std.proofs.Common.{◌≡◌, ℕ, zero, suc, ◌+◌, ◌==◌, Bool, true, false, not, List, [], ◌∷◌, ◌++◌, length, map, flat_map, replicate, IsUtf8, Option, Some, None, if◌then◌else◌, refl, sym, ap, subst, ◌∙◌, arith, append_assoc}
-use Rattle.std.specs.Prelude.{⊤, String, string_bytes}
-use Rattle.std.proofs.lemmas.Bool.{and_from, eqb-true}
-use Rattle.std.proofs.lemmas.Str.{IsUtf8-append, IsUtf8-nil, IsUtf8-string_bytes}
+use Rattle.std.proofs.Common.{◌≡◌, ℕ, zero, suc, ◌+◌, Bool, true, not, List, [], ◌∷◌, ◌++◌, length, map, flat_map, replicate, IsUtf8, Option, Some, None, refl, subst, ◌∙◌, arith, append_assoc}
+use Rattle.std.specs.Prelude.{⊤}
+use Rattle.std.proofs.lemmas.Bool.{and_from}
+use Rattle.std.proofs.lemmas.Str.{IsUtf8-append, IsUtf8-nil}
 use Rattle.cm_text.specs.Rules.{Rules}
 use Rattle.cm_text.proofs.Utf8Lemmas.{IsUtf8-cancel}
 use Rattle.cm_tree.specs.declared.tree.Inline.{Inline}
@@ -12,10 +12,10 @@ use Rattle.cm_tree.specs.declared.tree.Block.TheViews.{outs-Code, outs-Html, out
 use Rattle.cm_tree.specs.declared.tree.Block.TheFolds.{fold_out-Block}
 use Rattle.cm_source.specs.Inlines.{spelled_content}
 use Rattle.cm_source.specs.InlineRefusals.{refused, paragraph_refusal, heading_refusal, of_paragraph, of_heading}
-use Rattle.cm_source.specs.Refusals.{IsSpellable, Face, Judged, judged, refusal_of_all, refusal_of_items, list_reasons, faces}
-use Rattle.cm_source.specs.Spelling.{in_front, parted_lines, spaced, after_space, gap, joined, quoted, quote_lines, marker, indented, item_lines, list_lines, block_step, lines_of_block, lines_of_blocks, spelling_of}
+use Rattle.cm_source.specs.Refusals.{Face, judged, refusal_of_all, refusal_of_items, list_reasons}
+use Rattle.cm_source.specs.Spelling.{parted_lines, spaced, after_space, gap, joined, quoted, quote_lines, marker, indented, item_lines, lines_of_block, lines_of_blocks}
 use Rattle.cm_source.specs.steps.Utf8Inlines.{all_of, has_utf8}
-use Rattle.cm_source.specs.steps.Utf8Blocks.{utf8_step, has_texts, HaveTexts}
+use Rattle.cm_source.specs.steps.Utf8Blocks.{utf8_step, has_texts}
 use Rattle.cm_source.specs.steps.Fitting.{SpellingsHaveTexts}
 use Rattle.cm_source.proofs.AcceptedLemmas.{or-none}
 use Rattle.cm_source.proofs.Neighbours.{ascii-utf8}

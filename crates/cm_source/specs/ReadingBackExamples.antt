@@ -14,7 +14,7 @@ use Rattle.cm_source.specs.Refusals.{IsSpellable, refusal_of}
 use Rattle.cm_source.specs.Spelling.{spelling_of}
 use Rattle.cm_source.specs.WorkedExamples.{words, a, paragraph, paragraph_a}
 
--- By these rules the tree can be spelled, this is its source, and the tree of this source is the tree.
+-- By these rules the tree can be spelled, this is its source (CommonMark 0.31.2), and the tree of this source is the tree.
 pub record ReadsBackBy (rules : Rules) (tree : List Block) (source : List ℕ) : Type 0 where
   pub spellable : IsSpellable rules tree
   pub spelled : spelling_of tree ≡ source
@@ -42,6 +42,7 @@ paragraph_b = paragraph (codes "b")
 abbrev pub says : List Inline → List Block
 says content = block.Paragraph content ∷ []
 
+-- chapter 4
 pub record LeafBlockExamples : Type 0 where
   pub nothing : ReadsBack [] []
   pub paragraph_alone : ReadsBack paragraph_a (codes "a\n")
@@ -60,6 +61,7 @@ pub record LeafBlockExamples : Type 0 where
   pub comment_over_a_blank_line : ReadsBack (block.Html (codes "<!-- a\n\n-->\n") ∷ []) (codes "<!-- a\n\n-->\n")
   pub each : ReadsBack (block.Heading 1 a ∷ block.Code [] (codes "b\n") ∷ block.Break ∷ block.Html (codes "<p>\n") ∷ paragraph_a) (codes "# a\n\n```\nb\n```\n\n___\n\n<p>\n\na\n")
 
+-- chapter 5
 pub record ContainerExamples : Type 0 where
   pub quote : ReadsBack (block.Quote paragraph_a ∷ []) (codes "> a\n")
   pub quote_without_blocks : ReadsBack (block.Quote [] ∷ []) (codes ">\n")
@@ -86,6 +88,7 @@ pub record ContainerExamples : Type 0 where
   pub html_in_an_item : ReadsBack (block.List Dash true ((block.Html (codes "<p>\na\n") ∷ []) ∷ []) ∷ []) (codes "- <p>\n  a\n")
   pub list_in_a_quote_in_a_list : ReadsBack (block.List Dash true ((block.Quote (block.List Star false ([] ∷ paragraph_a ∷ []) ∷ paragraph_b) ∷ []) ∷ []) ∷ []) (codes "- > *\n  >\n  > * a\n  >\n  > b\n")
 
+-- chapter 6
 pub record ContentExamples : Type 0 where
   pub reference : ReadsBack (paragraph (codes "&amp;")) (codes "\\&amp\\;\n")
   pub beyond_ascii : ReadsBack (paragraph (0xC3 ∷ 0xA4 ∷ [])) (0xC3 ∷ 0xA4 ∷ 10 ∷ [])
@@ -127,6 +130,7 @@ pub record RuleExamples : Type 0 where
   pub source : Misread (block.Html (codes "<source a\n") ∷ []) why.HtmlBlock (codes "<source a\n") (paragraph (codes "<source a"))
   pub older_source : ReadsBackBy older_rules (block.Html (codes "<source a\n") ∷ []) (codes "<source a\n")
 
+-- trees that no source gives, or that their spelling wouldn't give back
 pub record MisreadExamples : Type 0 where
   pub definition : Misread (block.Definition (codes "a") (codes "/u") [] ∷ []) why.Definition [] []
   pub nul : Misread (paragraph (0 ∷ [])) why.Nul (codes "&#0;\n") (paragraph (0xEF ∷ 0xBF ∷ 0xBD ∷ []))

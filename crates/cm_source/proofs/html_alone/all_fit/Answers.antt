@@ -1,12 +1,10 @@
-use Rattle.std.proofs.Common.{◌≡◌, ◌==◌, ◌&&◌, ◌∷◌, Some, None, take, drop, get_or, ◌+◌, ap, sym, ◌∙◌, arith}
+use Rattle.std.proofs.Common.{◌≡◌, ◌==◌, ◌&&◌, Some, None, ap, sym, ◌∙◌}
 use Rattle.std.specs.List.{position}
 use Rattle.std.proofs.Math.Bool.{and-true}
-use Rattle.std.proofs.lemmas.Bool.{eqb-true}
-use Rattle.std.proofs.lemmas.List.Quantifiers.{position-Some}
 use Rattle.cm_scan.specs.HtmlKinds.{kind_of}
 use Rattle.cm_source.specs.Spelling.{ended_lines}
 use Rattle.cm_source.specs.steps.HtmlLines.{all_fit}
-use Rattle.cm_source.proofs.FeedLemmas.{feed-at, no-feed, ended-first, ended-nothing, ended-rest, cut-ascii, cut-first}
+use Rattle.cm_source.proofs.FeedLemmas.{no-feed, ended-nothing, ended-rest, cut-ascii, cut-first}
 use Rattle.cm_source.proofs.HtmlLemmas.{fit-first}
 use Rattle.cm_source.proofs.html_alone.all_fit.Goals as goal
 

@@ -1,7 +1,5 @@
-use Rattle.std.proofs.Common.{◌≡◌, [], ◌∷◌, ◌++◌, Some, None, take, drop, get_or, ◌+◌, ◌==◌, refl, sym, ap, subst, ◌∙◌, append_assoc, append-nil, arith}
+use Rattle.std.proofs.Common.{◌≡◌, [], ◌∷◌, ◌++◌, Some, None, take, drop, ◌+◌, ◌==◌, refl, sym, ap, subst, ◌∙◌, append_assoc, append-nil}
 use Rattle.std.specs.List.{position}
-use Rattle.std.proofs.lemmas.Bool.{eqb-true}
-use Rattle.std.proofs.lemmas.List.Quantifiers.{position-Some}
 use Rattle.cm_source.specs.Spelling.{ended_lines}
 use Rattle.cm_source.specs.steps.Laid.{Writes}
 use Rattle.cm_source.proofs.FeedLemmas.{has_feed, feed-at, no-feed, ended-first, ended-nothing, ended-rest, cut-ascii}
