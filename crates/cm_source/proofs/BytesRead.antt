@@ -4,6 +4,7 @@ use Rattle.std.specs.Prelude.{if◌then◌else◌, nat_le}
 use Rattle.std.proofs.lemmas.Bool.{or_parts, cond_both, eqb-true, false≢true}
 use Rattle.std.proofs.lemmas.Bool.Decides.{nat_tests}
 use Rattle.std.proofs.lemmas.List.{reverse-append}
+use lib.Seq.{drop_at}
 use Rattle.cm_text.specs.Rules.{Rules}
 use Rattle.cm_text.specs.Characters.{is_ascii_punct}
 use Rattle.cm_text.specs.Unescaping.{escape}
@@ -20,7 +21,7 @@ use Rattle.cm_scan.proofs.PairingLemmas.{reverse-first}
 use Rattle.cm_source.specs.Texts.{numbered, spelled_byte, edge_byte, spelled_text}
 use Rattle.cm_source.specs.InlineRefusals.{has_nul}
 use Rattle.cm_source.specs.steps.ContentBack.{is_before_line_end}
-use Rattle.cm_source.proofs.Ways.{Way, ByNumber, Escaped, AsItIs, is_numbered, way, drop_front, number_read}
+use Rattle.cm_source.proofs.Ways.{Way, ByNumber, Escaped, AsItIs, is_numbered, way, number_read}
 use Rattle.cm_source.proofs.UnescapeBack.{ascii_alone, escape_here}
 
 -- Where a front stands behind these bytes and before the rest, reading goes on behind it with these items put to those so far.
@@ -77,7 +78,7 @@ unfolding atom_at markup_atom reference_atom
 atom_number rules before b rest low some =
     ap (λ o. or_byte 38 (drop 1 (numbered b) ++ rest) (by o)) (number_read b rest low some)
     ∙ ap (λ t. atom_left (Plain t) (drop (length (numbered b)) (numbered b ++ rest))) (ascii_alone b low)
-    ∙ ap (λ t. atom_left (Plain (b ∷ [])) t) (drop_front (numbered b) rest)
+    ∙ ap (λ t. atom_left (Plain (b ∷ [])) t) (drop_at (numbered b) rest (length (numbered b)) refl)
   where
     by : Option (List ℕ × ℕ) → Option AtomRead
     by o = elim o [ Some found ↦ read (Plain (encode_utf8_all found.0)) (drop found.1 (numbered b ++ rest)) | None ↦ None ]

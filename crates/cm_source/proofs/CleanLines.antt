@@ -9,13 +9,11 @@ use Rattle.cm_source.specs.Spelling.{spaced, quoted, quote_lines, indented, item
 use Rattle.cm_source.specs.steps.Sources.{is_one_line}
 use Rattle.cm_source.specs.steps.Outlines.{Outline, no_blocks, leaf_then, quote_then, list_then, OutlineItems, last_one, one_and, gap_before, block_lines, lines_of_items}
 use Rattle.cm_source.proofs.OutlineFits.{FitAll, ItemsFit}
-use Rattle.cm_source.proofs.LeavesBack.{one-line-append, one-line-replicate}
+use Rattle.cm_source.proofs.LeavesBack.{is_inside_line}
+use Rattle.cm_source.proofs.Tests.{all-both, all-times}
 
 abbrev are_clean : List (List ℕ) → Bool
 are_clean lines = list_all is_one_line lines
-
-both-clean : (ts us : List (List ℕ)) → are_clean ts ≡ true → are_clean us ≡ true → are_clean (ts ++ us) ≡ true
-both-clean ts us h k = list_all-append is_one_line ts us ∙ and_from (are_clean ts) (are_clean us) h k
 
 gap-clean : (v : Bool) → are_clean (gap v) ≡ true
 gap-clean true = refl
@@ -37,17 +35,17 @@ quote-clean (t ∷ ts) h = map-clean quoted spaced-clean (t ∷ ts) h
 
 indented-clean : (n : ℕ) (t : List ℕ) → is_one_line t ≡ true → is_one_line (indented n t) ≡ true
 indented-clean n [] h = refl
-indented-clean n (b ∷ t) h = one-line-append (replicate n 32) (b ∷ t) (one-line-replicate n 32 refl) h
+indented-clean n (b ∷ t) h = all-both is_inside_line (replicate n 32) (b ∷ t) (all-times is_inside_line n 32 refl) h
 
 item-clean : (mark : List ℕ) → is_one_line mark ≡ true → (ts : List (List ℕ)) → are_clean ts ≡ true → are_clean (item_lines mark ts) ≡ true
 item-clean mark m [] h = ap (λ v. v && true) m
 item-clean mark m (t ∷ ts) h =
     let (first, more) = and_parts (is_one_line t) (are_clean ts) h in
-    and_from (is_one_line (mark ++ spaced t)) (are_clean (map (indented (length mark + 1)) ts)) (one-line-append mark (spaced t) m (spaced-clean t first))
+    and_from (is_one_line (mark ++ spaced t)) (are_clean (map (indented (length mark + 1)) ts)) (all-both is_inside_line mark (spaced t) m (spaced-clean t first))
     (map-clean (indented (length mark + 1)) (indented-clean (length mark + 1)) ts more)
 
 with-gap : (ts : List (List ℕ)) (v : Bool) (us : List (List ℕ)) → are_clean ts ≡ true → are_clean us ≡ true → are_clean (ts ++ gap v ++ us) ≡ true
-with-gap ts v us h k = both-clean (ts ++ gap v) us (both-clean ts (gap v) h (gap-clean v)) k
+with-gap ts v us h k = all-both is_one_line (ts ++ gap v) us (all-both is_one_line ts (gap v) h (gap-clean v)) k
 
 module _ (rules : Rules) where
   mutual

@@ -18,11 +18,12 @@ use Rattle.cm_source.specs.InlineRefusals.{Face, Place, judged, further_in, firs
 use Rattle.cm_source.proofs.InlineKinds.{text-spelled, code-spelled, html-spelled, emph-spelled, strong-spelled, strike-spelled, link-spelled, image-spelled}
 use Rattle.cm_source.proofs.AcceptedLemmas.{or-none, Accepted, text-accepted, html-accepted, soft-accepted, hard-accepted}
 use Rattle.cm_source.proofs.InlineInduction.{by-cases}
-use Rattle.cm_source.proofs.LineFronts.{differs, differs', ends_number, line_of, Front, front-line}
+use Rattle.cm_source.proofs.LineFronts.{ends_number, line_of, Front, front-line}
 use Rattle.cm_source.proofs.ContentFronts.{text-front}
 use Rattle.cm_source.proofs.TagLemmas.{tag-begins, tag-ends}
 use Rattle.cm_source.proofs.PlacesBack.{bare-front}
 use Rattle.cm_source.proofs.Ways.{Way, ByNumber, Escaped, AsItIs, no-control, way}
+use Rattle.cm_source.proofs.Tests.{differs, differs'}
 
 -- the last byte is neither blank nor an unescaped `#`; the mark says that the first byte is escaped
 unfoldable pub ends_well : (is_escaped : Bool) → List ℕ → Bool

@@ -17,11 +17,11 @@ use Rattle.cm_source.specs.InlineRefusals.{Face, Place, judged, further_in, insi
 use Rattle.cm_source.proofs.InlineKinds.{text-spelled, code-spelled, html-spelled, soft-spelled, hard-spelled, emph-spelled, strong-spelled, strike-spelled, link-spelled, image-spelled}
 use Rattle.cm_source.proofs.AcceptedLemmas.{or-none, Accepted, text-accepted, code-accepted, html-accepted, emph-accepted, strong-accepted, strike-accepted, link-accepted}
 use Rattle.cm_source.proofs.InlineInduction.{AllHold, Cases, by-cases, all-by-cases}
-use Rattle.cm_source.proofs.LineFronts.{differs, differs'}
-use Rattle.cm_source.proofs.SpelledBytes.{all-both, all-so, all-digits}
+use Rattle.cm_source.proofs.SpelledBytes.{all-digits}
 use Rattle.cm_source.proofs.TagLemmas.{tag-begins, tag-ends}
 use Rattle.cm_source.proofs.TextLemmas.{escapes-none}
 use Rattle.cm_source.proofs.Ways.{Way, ByNumber, Escaped, AsItIs, edge_way}
+use Rattle.cm_source.proofs.Tests.{all-both, all-so, differs, differs'}
 
 -- ---- where a label ends
 

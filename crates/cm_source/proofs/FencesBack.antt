@@ -25,8 +25,9 @@ use Rattle.cm_source.specs.steps.Sources.{is_clean, is_one_line, IsInfoSource}
 use Rattle.cm_source.proofs.HtmlLemmas.{ended-whole}
 use Rattle.cm_source.proofs.OutlineLines.{at, Have, no_lines, a_line, have-split}
 use Rattle.cm_source.proofs.OutlineFits.{Inner, Interrupts, LeafFits}
-use Rattle.cm_source.proofs.LeavesBack.{clean-front, inside-line, one-line-append, one-line-replicate}
+use Rattle.cm_source.proofs.LeavesBack.{clean-front, inside-line, is_inside_line}
 use Rattle.cm_source.proofs.TextLemmas.{run-within, longest-at-least}
+use Rattle.cm_source.proofs.Tests.{all-both, all-times}
 
 -- runs of backticks
 
@@ -251,11 +252,10 @@ module _ (rules : Rules) where
 
     code-clean : has_nul text ≡ false → list_all is_one_line (code_lines word text) ≡ true
     code-clean none =
-        let fence = one-line-replicate k 96 refl in
+        let fence = all-times is_inside_line k 96 refl in
         let clear = not-true (list_any (λ b. b == 13) text) (and_parts (is_empty text || ends_with 10 text) (not (list_any (λ b. b == 13) text)) has_text).1 in
-        list_all-append is_one_line ((replicate k 96 ++ info) ∷ ended_lines text) (replicate k 96 ∷ [])
-        ∙ and_from (list_all is_one_line ((replicate k 96 ++ info) ∷ ended_lines text)) (list_all is_one_line (replicate k 96 ∷ []))
-        (and_from (is_one_line (replicate k 96 ++ info)) (list_all is_one_line (ended_lines text)) (one-line-append (replicate k 96) info fence h.clean) (ended-clean text (clean-of text none clear)))
+        all-both is_one_line ((replicate k 96 ++ info) ∷ ended_lines text) (replicate k 96 ∷ [])
+        (and_from (is_one_line (replicate k 96 ++ info)) (list_all is_one_line (ended_lines text)) (all-both is_inside_line (replicate k 96) info fence h.clean) (ended-clean text (clean-of text none clear)))
         (ap (λ v. v && true) fence)
 
     pub code-fits : has_nul text ≡ false → LeafFits rules (record { part = code (spelled_text true true word) text; lines = code_lines word text })

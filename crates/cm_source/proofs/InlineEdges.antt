@@ -16,8 +16,8 @@ use Rattle.cm_source.specs.InlineRefusals.{Face, is_text, is_code, is_break, is_
 use Rattle.cm_source.specs.steps.ContentBack.{is_before_line_end}
 use Rattle.cm_source.proofs.Neighbours.{ascii-utf8, Beside, is_blank, punctuation-seen, first-ascii, last-ascii}
 use Rattle.cm_source.proofs.Ways.{Way, ByNumber, Escaped, AsItIs, edge_way}
-use Rattle.cm_source.proofs.LineFronts.{differs'}
 use Rattle.cm_source.proofs.BytesRead.{no-line-here}
+use Rattle.cm_source.proofs.Tests.{differs'}
 
 -- ---- the first byte of a text
 

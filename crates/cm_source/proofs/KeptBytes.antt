@@ -11,7 +11,8 @@ use Rattle.cm_source.specs.InlineRefusals.{has_nul, has_line_ending, Face, Place
 use Rattle.cm_source.proofs.InlineKinds.{text-spelled, code-spelled, html-spelled, soft-spelled, hard-spelled, emph-spelled, strong-spelled, strike-spelled, link-spelled, image-spelled}
 use Rattle.cm_source.proofs.AcceptedLemmas.{or-none, Accepted, code-accepted, html-accepted, soft-accepted, hard-accepted, emph-accepted, strong-accepted, strike-accepted, link-accepted, image-accepted}
 use Rattle.cm_source.proofs.InlineInduction.{AllHold, Cases, all-by-cases}
-use Rattle.cm_source.proofs.SpelledBytes.{all-both, all-times, all-so, is_tame, text-tame, target-tame}
+use Rattle.cm_source.proofs.SpelledBytes.{is_tame, text-tame, target-tame}
+use Rattle.cm_source.proofs.Tests.{all-both, all-times, all-so}
 
 -- neither U+0000 nor a line ending
 unfoldable pub is_line_byte : ℕ → Bool

@@ -24,17 +24,11 @@ use Rattle.cm_source.proofs.OutlineLines.{at, Have, no_lines, a_line, have-first
 use Rattle.cm_source.proofs.PlacesBack.{at_end, before_empty}
 use Rattle.cm_source.proofs.OutlineFits.{Follows, apart_from, interrupted, LeafFits}
 use Rattle.cm_source.proofs.LineFronts.{line_of, further_lines, parted-lines}
+use Rattle.cm_source.proofs.Tests.{all-both, all-times}
 
 -- a byte that may stand in a line
 abbrev pub is_inside_line : ℕ → Bool
 is_inside_line b = not (b == 0) && (not (b == 10) && not (b == 13))
-
-pub one-line-append : (s t : List ℕ) → is_one_line s ≡ true → is_one_line t ≡ true → is_one_line (s ++ t) ≡ true
-one-line-append s t h k = list_all-append is_inside_line s t ∙ and_from (is_one_line s) (is_one_line t) h k
-
-pub one-line-replicate : (n b : ℕ) → is_inside_line b ≡ true → is_one_line (replicate n b) ≡ true
-one-line-replicate zero b h = refl
-one-line-replicate (suc n) b h = and_from (is_inside_line b) (is_one_line (replicate n b)) h (one-line-replicate n b h)
 
 -- the lines of a text
 
@@ -170,7 +164,7 @@ module _ (rules : Rules) where
     hash_line = replicate n 35 ++ after_space content
 
     line-clean : is_one_line hash_line ≡ true
-    line-clean = one-line-append (replicate n 35) (after_space content) (one-line-replicate n 35 refl) ((ends-hashes content).clean h.clean)
+    line-clean = all-both is_inside_line (replicate n 35) (after_space content) (all-times is_inside_line n 35 refl) ((ends-hashes content).clean h.clean)
 
     heading-back : (ls rest : List LineView) → Have ls (hash_line ∷ []) → parts_of rules (ls ++ rest) ≡ leaf (heading n (spelled_content content)) 1 (parts_of rules rest)
     heading-back ls rest (a_line {c = c} no_lines) =

@@ -45,6 +45,7 @@ pub mod SpelledUtf8
 pub mod TagLemmas
 pub mod TagsRead
 pub mod TargetsRead
+pub mod Tests
 pub mod TextLemmas
 pub mod TextsBack
 pub mod TreesBack

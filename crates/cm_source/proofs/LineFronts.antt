@@ -11,13 +11,7 @@ use Rattle.cm_scan.specs.Starts.{TextLine, start_of_content}
 use Rattle.cm_scan.specs.BlockLaws.{is_unindented}
 use Rattle.cm_source.specs.Spelling.{in_front, parted_lines}
 use Rattle.cm_source.specs.steps.Sources.{is_only, IsTextLine, AllTextLines}
-
--- bytes that a test tells apart
-pub differs : (test : ℕ → Bool) (b c : ℕ) → test b ≡ true → test c ≡ false → (b == c) ≡ false
-differs test b c t f = ne_eqb b c (λ e. absurd (cc (t, f, ap test e)))
-
-pub differs' : (test : ℕ → Bool) (b c : ℕ) → test b ≡ false → test c ≡ true → (b == c) ≡ false
-differs' test b c f t = ne_eqb b c (λ e. absurd (cc (t, f, ap test e)))
+use Rattle.cm_source.proofs.Tests.{differs, none-passes}
 
 -- the bytes with which a block other than text, or an underline, may begin, but for digits; blanks, and the end of a line
 abbrev pub starters : List ℕ
@@ -32,13 +26,6 @@ enders = codes "*~ \t\n"
 
 unfoldable pub is_inner : ℕ → Bool
 is_inner b = not (list_any (λ c. b == c) enders)
-
--- a byte isn't among those that don't pass its test
-pub none-passes : (test : ℕ → Bool) (b : ℕ) (cs : List ℕ) → test b ≡ true → list_any test cs ≡ false → list_any (λ c. b == c) cs ≡ false
-none-passes test b [] t f = refl
-none-passes test b (c ∷ cs) t f =
-    let parts = or_parts (test c) (list_any test cs) f in
-    or_from (b == c) (list_any (λ d. b == d) cs) (differs test b c t parts.0) (none-passes test b cs t parts.1)
 
 -- behind the digits at its front stands neither `.` nor `)`
 unfoldable pub ends_number : List ℕ → Bool

@@ -7,23 +7,8 @@ use Rattle.std.proofs.lemmas.Bool.{and_from, and_parts, agree_below_at, or_from}
 use Rattle.cm_text.specs.Characters.{is_ascii_punct}
 use Rattle.cm_scan.specs.Words.{is_digit, is_empty}
 use Rattle.cm_source.specs.Texts.{numbered, spelled_byte, spelled_bytes, edge_byte, spelled_text, spelled_title, spelled_target}
-use Rattle.cm_source.proofs.LineFronts.{differs, differs'}
 use Rattle.cm_source.proofs.Ways.{Way, ByNumber, Escaped, AsItIs, no-control, way, edge_way}
-
--- ---- tests of all bytes
-
-module _ (test : ℕ → Bool) where
-  pub all-both : (front rest : List ℕ) → list_all test front ≡ true → list_all test rest ≡ true → list_all test (front ++ rest) ≡ true
-  all-both [] rest f r = r
-  all-both (b ∷ bs) rest f r = let parts = and_parts (test b) (list_all test bs) f in and_from (test b) (list_all test (bs ++ rest)) parts.0 (all-both bs rest parts.1 r)
-
-  pub all-times : (n b : ℕ) → test b ≡ true → list_all test (replicate n b) ≡ true
-  all-times zero b t = refl
-  all-times (suc n) b t = and_from (test b) (list_all test (replicate n b)) t (all-times n b t)
-
-pub all-so : (test other : ℕ → Bool) → ((b : ℕ) → test b ≡ true → other b ≡ true) → (text : List ℕ) → list_all test text ≡ true → list_all other text ≡ true
-all-so test other so [] e = refl
-all-so test other so (b ∷ bs) e = let parts = and_parts (test b) (list_all test bs) e in and_from (other b) (list_all other bs) (so b parts.0) (all-so test other so bs parts.1)
+use Rattle.cm_source.proofs.Tests.{differs, differs', all-both, all-so}
 
 -- ---- one byte
 

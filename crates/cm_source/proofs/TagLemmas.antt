@@ -10,18 +10,24 @@ use Rattle.cm_scan.specs.Angles.{Angled, Linked, Tagged, tagged, at_angle}
 use Rattle.cm_scan.proofs.EndLemmas.{raw_html-ends}
 use Rattle.cm_source.specs.InlineRefusals.{is_one_tag}
 
-pub whole-read : (rules : Rules) (text : List ℕ) → is_one_tag rules text ≡ true → raw_html rules text ≡ Some []
+-- what is read of such a text: no autolink, and nothing behind the tag
+pub record IsWhole (rules : Rules) (text : List ℕ) : Type 0 where
+  pub no_link : autolink text ≡ None
+  pub tag : raw_html rules text ≡ Some []
+
+pub whole-read : (rules : Rules) (text : List ℕ) → is_one_tag rules text ≡ true → IsWhole rules text
 unfolding at_angle
-whole-read rules text e = go (autolink text) (raw_html rules text) e
+whole-read rules text e = go (autolink text) (raw_html rules text) refl refl e
   where
     one : Option Angled → Bool
     one found = elim found [ Some (Tagged tag) ↦ is_empty tag.rest | Some (Linked link) ↦ false | None ↦ false ]
 
-    go : (a : Option Autolink) (r : Option (List ℕ)) → one (elim a as (λ _. Option Angled) [ Some link ↦ Some (Linked link) | None ↦ tagged text r ]) ≡ true → r ≡ Some []
-    go (Some link) r e = absurd (cc e)
-    go None None e = absurd (cc e)
-    go None (Some []) e = refl
-    go None (Some (b ∷ bs)) e = absurd (cc e)
+    go : (a : Option Autolink) (r : Option (List ℕ)) → autolink text ≡ a → raw_html rules text ≡ r
+        → one (elim a as (λ _. Option Angled) [ Some link ↦ Some (Linked link) | None ↦ tagged text r ]) ≡ true → IsWhole rules text
+    go (Some link) r p q e = absurd (cc e)
+    go None None p q e = absurd (cc e)
+    go None (Some []) p q e = record { no_link = p; tag = q }
+    go None (Some (b ∷ bs)) p q e = absurd (cc e)
 
 -- nothing else begins with `<`
 no-tag : (rules : Rules) (b : ℕ) (bs : List ℕ) → (b == 60) ≡ false → raw_html rules (b ∷ bs) ≡ None
@@ -30,9 +36,9 @@ no-tag rules b bs e = grind (arith, e)
 
 pub tag-begins : (rules : Rules) (text : List ℕ) → is_one_tag rules text ≡ true → (rest : List ℕ) × (text ≡ 60 ∷ rest)
 unfolding raw_html open_tag closing_tag comment from_to declaration after_word
-tag-begins rules [] e = absurd (cc (whole-read rules [] e))
+tag-begins rules [] e = absurd (cc (whole-read rules [] e).tag)
 tag-begins rules (b ∷ bs) e =
-    (bs, ap (λ c. c ∷ bs) (eqb-true b 60 (true_from_ne_false (b == 60) (λ is. absurd (cc (sym (no-tag rules b bs is) ∙ whole-read rules (b ∷ bs) e))))))
+    (bs, ap (λ c. c ∷ bs) (eqb-true b 60 (true_from_ne_false (b == 60) (λ is. absurd (cc (sym (no-tag rules b bs is) ∙ (whole-read rules (b ∷ bs) e).tag))))))
 
 pub tag-ends : (rules : Rules) (text : List ℕ) → is_one_tag rules text ≡ true → (front : List ℕ) × (text ≡ front ++ 62 ∷ [])
-tag-ends rules text e = let end = raw_html-ends rules text [] (whole-read rules text e) in (end.front, end.is)
+tag-ends rules text e = let end = raw_html-ends rules text [] (whole-read rules text e).tag in (end.front, end.is)

@@ -1,5 +1,5 @@
 -- Raw HTML that is one tag is read as it is, whatever stands behind it.
-use Rattle.std.proofs.Common.{◌≡◌, ℕ, ◌-◌, Bool, true, false, List, [], ◌∷◌, ◌++◌, get_or, length, take_all, Option, Some, None, sym, ap, subst, arith}
+use Rattle.std.proofs.Common.{◌≡◌, ℕ, ◌-◌, Bool, true, false, List, [], ◌∷◌, ◌++◌, get_or, length, take_all, Option, Some, None, sym, ap, subst, arith, ◌∙◌}
 use Rattle.std.proofs.lemmas.Bool.{false≢true}
 use Rattle.cm_text.specs.Rules.{Rules}
 use Rattle.cm_tree.specs.declared.tree.Inline.TheVariants.{Html}
@@ -11,7 +11,7 @@ use Rattle.cm_scan.specs.Atoms.{AtomRead, Whole, read, link_of, or_byte, angle_a
 use Rattle.cm_scan.proofs.AngleLemmas.{whole_tag_goes_on}
 use Rattle.cm_source.specs.InlineRefusals.{is_one_tag}
 use Rattle.cm_source.proofs.BytesRead.{atom_left}
-use Rattle.cm_source.proofs.TagLemmas.{tag-begins}
+use Rattle.cm_source.proofs.TagLemmas.{tag-begins, whole-read}
 
 before_nothing : (text : List ℕ) → before [] text ≡ text
 unfolding before
@@ -22,19 +22,10 @@ whole text = Tagged (record { text = text; rest = [] })
 
 one_tag_is : (rules : Rules) (text : List ℕ) → is_one_tag rules text ≡ true → at_angle rules text ≡ Some (whole text)
 unfolding at_angle
-one_tag_is rules text e = go (autolink text) (raw_html rules text) e
-  where
-    by : Option Autolink → Option (List ℕ) → Option Angled
-    by o p = elim o [ Some link ↦ Some (Linked link) | None ↦ tagged text p ]
-
-    is_one : Option Angled → Bool
-    is_one o = elim o [ Some (Tagged tag) ↦ is_empty tag.rest | Some (Linked link) ↦ false | None ↦ false ]
-
-    go : (o : Option Autolink) (p : Option (List ℕ)) → is_one (by o p) ≡ true → by o p ≡ Some (whole text)
-    go (Some link) p e = absurd (false≢true e)
-    go None None e = absurd (false≢true e)
-    go None (Some []) e = ap (λ t. Some (Tagged (record { text = t; rest = [] }))) (before_nothing text)
-    go None (Some (b ∷ bs)) e = absurd (false≢true e)
+one_tag_is rules text e =
+    let read = whole-read rules text e in
+    ap (λ a. elim a as (λ _. Option Angled) [ Some link ↦ Some (Linked link) | None ↦ tagged text (raw_html rules text) ]) read.no_link
+    ∙ ap (tagged text) read.tag ∙ ap (λ t. Some (Tagged (record { text = t; rest = [] }))) (before_nothing text)
 
 pub some_tag : (rules : Rules) → is_one_tag rules [] ≡ true → ⊥
 some_tag rules e = absurd (cc (tag-begins rules [] e).1)

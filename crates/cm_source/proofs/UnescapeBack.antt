@@ -3,13 +3,14 @@ use Rattle.std.proofs.Common.{◌≡◌, ℕ, ◌<◌, true, false, ◌==◌, Li
 use Rattle.std.proofs.lemmas.Bool.{or_parts}
 use Rattle.std.proofs.lemmas.Bool.Decides.{nat_tests}
 use Rattle.std.proofs.lemmas.Str.{encode_ascii}
+use lib.Seq.{drop_at}
 use Rattle.cm_text.specs.Characters.{is_ascii_punct}
 use Rattle.cm_text.specs.Unescaping.{escape, unescape_after, unescape}
 use Rattle.cm_text.proofs.UnescapingLemmas.{special-escape, special-reference, special-none, unescape-special, unescape-other}
 use Rattle.cm_source.specs.Texts.{numbered, spelled_bytes, spelled_text}
 use Rattle.cm_source.specs.InlineRefusals.{has_nul}
 use Rattle.cm_source.specs.steps.ContentBack.{TextUnescapes, BytesUnescape}
-use Rattle.cm_source.proofs.Ways.{Way, ByNumber, Escaped, AsItIs, Ways, NoByte, OneByte, ways, text_ways, drop_front, number_read}
+use Rattle.cm_source.proofs.Ways.{Way, ByNumber, Escaped, AsItIs, Ways, NoByte, OneByte, ways, text_ways, number_read}
 
 pub punct_small : (b : ℕ) → is_ascii_punct b ≡ true → b < 128
 punct_small b e = grind (arith, nat_tests, e)
@@ -32,7 +33,7 @@ byte_unescaped b front rest some (ByNumber low) =
     let text : List ℕ = numbered b ++ rest in
     unescape-special text (b ∷ []) (length (numbered b)) (special-reference text refl ∙ number_read b rest low some)
     ∙ ap (λ t. t ++ unescape (drop (length (numbered b)) text)) (ascii_alone b low)
-    ∙ ap (λ t. b ∷ unescape t) (drop_front (numbered b) rest)
+    ∙ ap (λ t. b ∷ unescape t) (drop_at (numbered b) rest (length (numbered b)) refl)
 byte_unescaped b front rest some (Escaped punct tick) =
     unescape-special (92 ∷ b ∷ rest) (b ∷ []) 2 (sym (special-escape (92 ∷ b ∷ rest) (b ∷ []) 2 (sym (escape_here b rest punct))))
     ∙ ap (λ t. t ++ unescape rest) (ascii_alone b (punct_small b punct))

@@ -7,6 +7,7 @@ use Rattle.std.specs.List.{list_all, prefix_len}
 use Rattle.std.specs.Str.Parse.{digits_value}
 use Rattle.std.proofs.lemmas.Bool.{and_parts, cond_both, cond-true, eqb-true, false≢true, agree_below, agree_below_at, not-true, or_parts}
 use Rattle.std.proofs.lemmas.Bool.Decides.{nat_tests}
+use lib.Seq.{take_at, drop_at}
 use Rattle.cm_text.specs.Characters.{within, is_ascii_punct}
 use Rattle.cm_text.specs.References.{begins_with, before_semicolon, numbered as read_number, numbered_character, reference}
 use Rattle.cm_text.proofs.ReferenceLemmas.{reference-decimal}
@@ -56,14 +57,6 @@ text_ways first last (b ∷ bs) = OneByte (edge_way (first || last && is_empty b
 
 -- ---- a number is read back
 
-pub drop_front : (xs ys : List ℕ) → drop (length xs) (xs ++ ys) ≡ ys
-drop_front [] ys = refl
-drop_front (x ∷ xs) ys = drop_front xs ys
-
-take_front : (xs ys : List ℕ) → take (length xs) (xs ++ ys) ≡ xs
-take_front [] ys = refl
-take_front (x ∷ xs) ys = ap (λ t. x ∷ t) (take_front xs ys)
-
 -- the digits of a number below 128 are those of a decimal reference, which stands for it
 abbrev is_read_back : ℕ → Bool
 is_read_back b =
@@ -83,8 +76,8 @@ digits_passed (d ∷ ds) cs h =
 digits_read : (ds cs : List ℕ) → list_all is_ascii_digit ds ≡ true → before_semicolon is_ascii_digit (ds ++ 59 ∷ cs) ≡ Some ds
 digits_read ds cs h =
     ap (λ n. if begins_with 59 (drop n (ds ++ 59 ∷ cs)) then Some (take n (ds ++ 59 ∷ cs)) else None) (digits_passed ds cs h)
-    ∙ ap (λ t. if begins_with 59 t then Some (take (length ds) (ds ++ 59 ∷ cs)) else None) (drop_front ds (59 ∷ cs))
-    ∙ ap (λ t. Some t) (take_front ds (59 ∷ cs))
+    ∙ ap (λ t. if begins_with 59 t then Some (take (length ds) (ds ++ 59 ∷ cs)) else None) (drop_at ds (59 ∷ cs) (length ds) refl)
+    ∙ ap (λ t. Some t) (take_at ds (59 ∷ cs) (length ds) refl)
 
 begins_front : (x : ℕ) (ds cs : List ℕ) → (59 == x) ≡ false → not (begins_with x ds) ≡ true → begins_with x (ds ++ 59 ∷ cs) ≡ false
 begins_front x [] cs e h = e
