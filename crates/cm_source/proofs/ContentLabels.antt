@@ -3,7 +3,7 @@ use Rattle.std.proofs.Common.{◌≡◌, ℕ, zero, suc, ◌==◌, ◌&&◌, ◌
 use Rattle.std.specs.Prelude.{if◌then◌else◌}
 use Rattle.std.specs.List.{list_all}
 use Rattle.std.specs.Fmt.{decimal}
-use Rattle.std.proofs.lemmas.Bool.{or_parts, or_from, and_parts, and_right, not-true}
+use Rattle.std.proofs.lemmas.Bool.{or_parts, or_from, and_parts, and_right, not-true, or_right}
 use Rattle.cm_text.specs.Rules.{Rules}
 use Rattle.cm_text.specs.Characters.{is_ascii_punct}
 use Rattle.cm_tree.specs.declared.tree.Inline.{Inline}
@@ -313,10 +313,6 @@ module _ (rules : Rules) where
   text-none last (b ∷ bs) more some =
       ap link_definition (append_assoc (edge_byte true b) (spelled_text false last bs) more) ∙ way-none b (edge_byte true b) (edge_way true b) (spelled_text false last bs ++ more)
 
-  or-so : (v w : Bool) → w ≡ true → (v || w) ≡ true
-  or-so true w e = refl
-  or-so false w e = e
-
   link-none : (dest title : List ℕ) (is : List Inline) (place : Place) → place.opens_paragraph ≡ true → refusal_of_all (inside_link place) None (map (judged rules) is) ≡ None
       → (first last : Bool) (more : List ℕ) → link_definition ((between (codes "[") (map spelled is) (spelled_target dest title)).spelling first last ++ more) ≡ None
   unfolding spelled_target is_no_label
@@ -325,7 +321,7 @@ module _ (rules : Rules) where
       let target = spelled_target dest title in
       ap (λ t. link_definition (91 ∷ t)) (append_assoc content target more)
       ∙ bracket-none (content ++ (target ++ more))
-      (content-passes is (all-by-cases Passes passes is) (inside_link place) (or-so place.in_opening_link place.opens_paragraph opens) None e false false (target ++ more) refl)
+      (content-passes is (all-by-cases Passes passes is) (inside_link place) (or_right place.in_opening_link place.opens_paragraph opens) None e false false (target ++ more) refl)
 
   first-none : (i : Inline) → DefinesNothing i
   unfolding spelled_code

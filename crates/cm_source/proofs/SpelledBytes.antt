@@ -1,9 +1,9 @@
 -- Which bytes a spelled text has.
-use Rattle.std.proofs.Common.{◌≡◌, ℕ, zero, suc, ◌<◌, ◌==◌, ◌&&◌, ◌||◌, not, Bool, true, false, List, [], ◌∷◌, ◌++◌, replicate, codes, refl, ap}
+use Rattle.std.proofs.Common.{◌≡◌, ℕ, ◌<◌, ◌==◌, ◌&&◌, ◌||◌, not, Bool, true, false, List, [], ◌∷◌, ◌++◌, codes, refl, ap}
 use Rattle.std.specs.Fmt.{decimal, digits}
 use Rattle.std.specs.List.{list_all, list_any}
 use Rattle.std.specs.Char.{is_ascii_control}
-use Rattle.std.proofs.lemmas.Bool.{and_from, and_parts, agree_below_at, or_from}
+use Rattle.std.proofs.lemmas.Bool.{and_parts, agree_below_at, or_from}
 use Rattle.cm_text.specs.Characters.{is_ascii_punct}
 use Rattle.cm_scan.specs.Words.{is_digit, is_empty}
 use Rattle.cm_source.specs.Texts.{numbered, spelled_byte, spelled_bytes, edge_byte, spelled_text, spelled_title, spelled_target}

@@ -1,11 +1,8 @@
 -- Raw HTML that is one tag is read as it is, whatever stands behind it.
-use Rattle.std.proofs.Common.{◌≡◌, ℕ, ◌-◌, Bool, true, false, List, [], ◌∷◌, ◌++◌, get_or, length, take_all, Option, Some, None, sym, ap, subst, arith, ◌∙◌}
-use Rattle.std.proofs.lemmas.Bool.{false≢true}
+use Rattle.std.proofs.Common.{◌≡◌, ℕ, ◌-◌, true, List, [], ◌∷◌, ◌++◌, get_or, length, take_all, Option, Some, None, sym, ap, subst, arith, ◌∙◌}
 use Rattle.cm_text.specs.Rules.{Rules}
 use Rattle.cm_tree.specs.declared.tree.Inline.TheVariants.{Html}
-use Rattle.cm_scan.specs.Words.{is_empty}
 use Rattle.cm_scan.specs.RawHtml.{raw_html}
-use Rattle.cm_scan.specs.Autolinks.{Autolink, autolink}
 use Rattle.cm_scan.specs.Angles.{Angled, Linked, Tagged, before, tagged, at_angle}
 use Rattle.cm_scan.specs.Atoms.{AtomRead, Whole, read, link_of, or_byte, angle_atom, markup_atom, atom_at}
 use Rattle.cm_scan.proofs.AngleLemmas.{whole_tag_goes_on}
