@@ -21,3 +21,4 @@ pub mod PutLemmas
 pub mod LineOwnerLemmas
 pub mod LeafLemmas
 pub mod NextLineLemmas
+pub mod OwnerRunLemmas

@@ -11,6 +11,7 @@ pub mod WorkedExamples
 pub mod LevelViews
 pub mod FrameViews
 pub mod OwnedCode
+pub mod OwnerRuns
 pub mod LeafViews
 pub mod Parser
 pub mod steps

@@ -10,6 +10,7 @@ pub mod laws;
 mod leaf;
 mod level;
 mod line_owners;
+mod owner_runs;
 mod parser;
 mod places;
 mod runs;
@@ -17,4 +18,5 @@ mod stack;
 mod starts;
 
 pub use fault::BlockFault;
+pub use owner_runs::LineOwners;
 pub use parser::{BlockParser, Outline};

@@ -4,8 +4,9 @@ ghost use Rattle.std.specs.FinMap as map;
 ghost use Rattle.cm_block.specs.Stack.{own_lines, own_blanks, blank_owner};
 ghost use Rattle.cm_block.specs.steps.LeafSteps.{own_plain_leaf, own_definition};
 
+use crate::owner_runs::LineOwners;
 use cm_text::NoMemory;
-use cm_tree::{Definitions, Items, Owner};
+use cm_tree::{Definitions, Owner};
 use std::alloc::{AllocError, Global};
 use std::marker::Model;
 
@@ -13,7 +14,7 @@ use std::marker::Model;
 /// a line of its own.
 #[derive(Debug, Drop)]
 pub(crate) struct Owners {
-    lines: Items<Owner>,
+    lines: LineOwners,
     leaves: usize,
     definitions: Definitions,
 }
@@ -30,17 +31,6 @@ impl Model for Owners {
     ghost view = { λ o. record { owners = o.lines; leaves = o.leaves; table = o.definitions } };
 
     ghost invariant = { λ o. o.leaves ≤ length o.lines };
-}
-
-/// Puts an owner at the end so many times.
-fn push_times(lines: &mut Items<Owner>, owner: Owner, times: usize) -> Result<(), AllocError>
-    ensures pushed { OnOk result (lines.new ≡ lines.old ++ replicate times owner) }
-    ensures kept { length lines.old ≤ length lines.new }
-{
-    for _ in 0..times {
-        lines.push(owner)?;
-    }
-    Ok(())
 }
 
 /// The owner of a blank line, inside a quote or not.
@@ -60,7 +50,7 @@ impl Owners {
         ensures { result ≡ record { owners = []; leaves = 0; table = map.empty } }
     {
         Owners {
-            lines: Items::new(alloc),
+            lines: LineOwners::new(alloc),
             leaves: 0,
             definitions: Definitions::new(alloc),
         }
@@ -77,8 +67,7 @@ impl Owners {
     pub(crate) fn next_line(&self) -> usize
         ensures { result ≡ suc (length self.now.owners) }
     {
-        // How many lines fit in memory bounds their number.
-        self.lines.as_slice().len() + 1
+        self.lines.len() + 1
     }
 
     /// The lines of one more leaf, which is no definition.
@@ -86,10 +75,10 @@ impl Owners {
         requires { 1 ≤ lines }
         ensures { OnOk result (self.new ≡ own_plain_leaf self.old lines) }
     {
-        // How many lines fit in memory bounds the leaves.
-        let _lines = self.lines.as_slice();
+        // How many lines there are bounds the leaves.
+        let _lines = self.lines.len();
         let leaf = self.leaves + 1;
-        push_times(&mut self.lines, Owner::Leaf(leaf), lines)?;
+        self.lines.push_times(Owner::Leaf(leaf), lines)?;
         self.leaves = leaf;
         Ok(())
     }
@@ -110,7 +99,7 @@ impl Owners {
     }
 
     /// The owner of each line, and the table of the definitions.
-    pub(crate) fn into_parts(self) -> (Items<Owner>, Definitions)
+    pub(crate) fn into_parts(self) -> (LineOwners, Definitions)
         ensures owners { result.0 ≡ self.owners }
         ensures definitions { result.1 ≡ self.table }
     {
@@ -121,13 +110,13 @@ impl Owners {
     pub(crate) fn line(&mut self, owner: Owner) -> Result<(), AllocError>
         ensures { OnOk result (self.new ≡ own_lines self.old (owner ∷ [])) }
     {
-        self.lines.push(owner)
+        self.lines.push_times(owner, 1)
     }
 
     /// So many blank lines, inside a quote or not.
     pub(crate) fn blank_lines(&mut self, in_a_quote: bool, lines: usize) -> Result<(), AllocError>
         ensures { OnOk result (self.new ≡ own_blanks in_a_quote lines self.old) }
     {
-        push_times(&mut self.lines, blank_owner(in_a_quote), lines)
+        self.lines.push_times(blank_owner(in_a_quote), lines)
     }
 }

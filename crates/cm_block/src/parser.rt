@@ -25,10 +25,11 @@ use crate::fault::BlockFault;
 use crate::first_line::{FirstLine, begin_leaf};
 use crate::leaf::{LeafLine, OpenLeaf};
 use crate::line_owners::{Owners, blank_owner};
+use crate::owner_runs::LineOwners;
 use crate::stack::Stack;
 use crate::starts::Start;
 use cm_text::{Limits, Line, NoMemory};
-use cm_tree::{Block, Definitions, Items, Owner};
+use cm_tree::{Block, Definitions, Items};
 use std::alloc::Global;
 use std::mem;
 
@@ -37,7 +38,7 @@ use std::mem;
 #[derive(Debug, Drop)]
 pub struct Outline {
     pub blocks: Items<Block>,
-    pub owners: Items<Owner>,
+    pub owners: LineOwners,
     pub definitions: Definitions,
     /// How often a line was read, to see whether it stays in one open block or ends that, or what it begins, or
     /// to take its text over: at least once for each quote and item, and for each line at most five times more

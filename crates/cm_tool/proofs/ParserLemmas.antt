@@ -242,15 +242,15 @@ module _ (limits : LimitsView) where
       subst (TellsFault fault)
       (ap₂ (λ (l : LimitsView) tree. option_map InlinesTooDeep (first_leaf_past l.inlines tree)) same (tree_read now held outline bytes same was is) ∙ sym left) told
 
-  pub all_read : (now held : LimitsView) (outline : Outline) (read : List Block) (bytes : List ℕ) → now ≡ limits → held ≡ limits
+  pub all_read : (now held : LimitsView) (outline : Outline) (read : List Block) (owners : List Owner) (bytes : List ℕ) → now ≡ limits → held ≡ limits
       → OutlineOf outline held.rules (plain_lines_of (text_of bytes)) → fault_of limits bytes ≡ option_map InlinesTooDeep (leaf_deep limits bytes)
       → read ≡ with_inlines now.rules (defined_in outline.definitions) outline.blocks → first_leaf_past now.inlines read ≡ None
-      → (fault_of limits bytes ≡ None) × (doc_with read outline.owners ≡ doc_of limits.rules bytes)
-  all_read now held outline read bytes same was is left read_is within =
+      → owners ≡ outline.owners → (fault_of limits bytes ≡ None) × (doc_with read owners ≡ doc_of limits.rules bytes)
+  all_read now held outline read owners bytes same was is left read_is within owners_are =
       let tree = read_is ∙ tree_read now held outline bytes same was is in
       let none = sym (ap₂ (λ (l : LimitsView) t. first_leaf_past l.inlines t) same tree) ∙ within in
       let o = subst (λ (l : LimitsView). OutlineOf outline l.rules (plain_lines_of (text_of bytes))) was is in
-      (left ∙ ap (option_map InlinesTooDeep) none, ap₂ doc_with tree o.owners)
+      (left ∙ ap (option_map InlinesTooDeep) none, ap₂ doc_with tree (owners_are ∙ o.owners))
 
   -- The HTML of an outline with its leaves read is that of the text.
   pub html_made : {A : Type 0} (bytes_of : A → List ℕ) (now : LimitsView) (outline : Outline) (r : Result A Fault) (bytes : List ℕ) → now ≡ limits

@@ -188,6 +188,7 @@ fn finish(alloc: Global, feed: LineFeed, blocks: BlockParser) -> Result<Doc, Fau
         ..
     } = outline(feed, blocks)?;
     let blocks = read_leaves(alloc, limits, &definitions, blocks)?;
+    let owners = owners.into_items(alloc)?;
     Ok(Doc { blocks, owners })
 }
 

@@ -23,7 +23,8 @@ fn outline_of_lines(rt: HostRuntime) -> Result<(), Fail> {
     assert_eq!(rt; parser.limits(), Limits::standard());
     let outline = parser.finish().ok().ok_or("outline")?;
     assert_eq!(rt; outline.blocks.len(), 3);
-    assert_eq!(rt; outline.owners.as_slice().first(), Some(&Owner::Leaf(1)));
+    let owners = outline.owners.into_items(alloc)?;
+    assert_eq!(rt; owners.as_slice().first(), Some(&Owner::Leaf(1)));
     assert!(rt; outline.definitions.find("d")?.is_none());
     assert_eq!(rt; outline.definitions.find("G")?, Some(("/h", "")));
     Ok(())

@@ -14,5 +14,5 @@ returns-in_err-blocks-2 c =
 pub returns : goal.returns
 returns c = λ limits bytes g.
     let outline = c.in_ok-blocks.ensures.outline limits bytes g in
-    all_read limits c.limits-limits.result limits c.in_ok-blocks.field-0 c.in_ok-blocks-2.blocks bytes (c.limits-limits.ensures ∙ g.same_limits) refl
-    outline.same outline.left c.in_ok-blocks-2.ensures.read c.in_ok-blocks-2.ensures.within
+    all_read limits c.limits-limits.result limits c.in_ok-blocks.field-0 c.in_ok-blocks-2.blocks c.in_ok-owners.owners bytes (c.limits-limits.ensures ∙ g.same_limits) refl
+    outline.same outline.left c.in_ok-blocks-2.ensures.read c.in_ok-blocks-2.ensures.within c.in_ok-owners.ensures
