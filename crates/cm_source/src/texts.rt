@@ -8,8 +8,9 @@ ghost use Rattle.cm_source.specs.Refusals.{is_code_text};
 ghost use Rattle.cm_source.specs.steps.Bytes.{is_spelled};
 
 use cm_scan::is_next;
-use cm_text::{cut_at, is_ascii_punct};
+use cm_text::{ByteKind, cut_at, is_ascii_punct, next_of};
 use std::alloc::AllocError;
+use std::simd::prelude::*;
 
 /// Whether a byte isn't written as it is.
 fn is_spelled(b: u8) -> bool
@@ -18,11 +19,35 @@ fn is_spelled(b: u8) -> bool
     b.is_ascii_control() || is_ascii_punct(b as char)
 }
 
+/// The bytes that aren't written as they are.
+struct Spelled;
+
+impl ByteKind for Spelled {
+    ghost passes = { is_spelled };
+
+    #[inline(always)]
+    fn contains(b: u8) -> bool {
+        is_spelled(b)
+    }
+
+    #[inline(always)]
+    fn lanes(lanes: u8x16) -> u64 {
+        // Letters, digits, spaces and bytes past ASCII are written as they are.
+        let lower = lanes | u8x16::splat(0x20);
+        let no_letters = (lower - u8x16::splat(b'a')).simd_ge(u8x16::splat(26));
+        let no_digits = (lanes - u8x16::splat(b'0')).simd_ge(u8x16::splat(10));
+        let no_spaces = lanes.simd_ne(u8x16::splat(b' '));
+        let ascii = lanes.simd_lt(u8x16::splat(0x80));
+        (no_letters & no_digits & no_spaces & ascii).to_bitmask()
+    }
+}
+
 /// Where the first byte stands that isn't written as it is.
 fn find_spelled(bytes: &[u8]) -> Option<usize>
     ensures { result ≡ position is_spelled bytes.now }
 {
-    bytes.iter().position(|b| is_spelled(*b))
+    let at = next_of::<Spelled>(bytes, 0);
+    (at < bytes.len()).then_some(at)
 }
 
 /// Writes a character by its number.
