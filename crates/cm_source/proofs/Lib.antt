@@ -37,6 +37,7 @@ pub mod OutlineParts
 pub mod PlacesBack
 pub mod ReadingBack
 pub mod RefusalLemmas
+pub mod SearchLemmas
 pub mod Shapes
 pub mod SourceLemmas
 pub mod SpellableBlocks

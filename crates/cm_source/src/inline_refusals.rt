@@ -1,5 +1,5 @@
 //! Which inlines can't be spelled so that they read back, and why not.
-ghost use Rattle.std.specs.Prelude.{◌≡◌, [], ◌∷◌, None, not, ◌&&◌, ◌||◌, map};
+ghost use Rattle.std.specs.Prelude.{◌≡◌, ◌==◌, [], ◌∷◌, None, not, ◌&&◌, ◌||◌, map};
 ghost use Rattle.cm_text.specs.Rules as text_rules;
 ghost use Rattle.cm_scan.specs.Words.{is_empty, ◌<|>◌};
 ghost use Rattle.cm_source.specs.Answers.{ok_unless};
@@ -8,8 +8,9 @@ ghost use Rattle.cm_source.specs.steps.InlineFaces.{shown, seen, place_of};
 
 use crate::why::Why;
 use cm_scan::{autolink, first_character, holds_from, last_character, raw_html_by};
-use cm_text::{Rules, is_punct_by, is_space};
+use cm_text::{ByteKind, Rules, is_punct_by, is_space, next_of};
 use cm_tree::Inline;
+use std::simd::prelude::*;
 
 /// What the inlines beside an inline see of it.
 #[derive(Clone, Copy)]
@@ -67,11 +68,28 @@ pub(crate) fn refuse_if(holds: bool, why: Why) -> Result<(), Why>
     if holds { Err(why) } else { Ok(()) }
 }
 
+/// U+0000.
+struct Nul;
+
+impl ByteKind for Nul {
+    ghost passes = { λ b. b == 0 };
+
+    #[inline(always)]
+    fn contains(b: u8) -> bool {
+        b == 0
+    }
+
+    #[inline(always)]
+    fn lanes(lanes: u8x16) -> u64 {
+        lanes.simd_eq(u8x16::splat(0)).to_bitmask()
+    }
+}
+
 /// Whether a string has U+0000.
 pub(crate) fn has_nul(text: &str) -> bool
     ensures { result ≡ has_nul text.now }
 {
-    text.as_bytes().iter().any(|b| *b == 0)
+    next_of::<Nul>(text.as_bytes(), 0) < text.len()
 }
 
 /// Whether one of two strings has U+0000.
