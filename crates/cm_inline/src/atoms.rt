@@ -18,7 +18,7 @@ use crate::nodes::Node;
 use crate::runs::Marker;
 use cm_scan::{Autolink, after_run, autolink, code_span, is_next, raw_html_by, trim_end_spaces};
 use cm_text::{Rules, is_ascii_punct, next_markup, reference_at};
-use cm_tree::{Inline, Items, Text};
+use cm_tree::{BoxedText, Inline, Items, Text};
 use std::alloc::{AllocError, Global};
 
 /// The place where the text ends that goes on from a place: that of the next byte with which something else can
@@ -153,8 +153,8 @@ fn link_of(alloc: Global, link: Autolink<'_>) -> Result<Inline, AllocError>
     let mut content = Items::new(alloc);
     content.push(Inline::Text(Text::from_str(alloc, link.text)?))?;
     Ok(Inline::Link {
-        dest: Text::from(dest),
-        title: Text::new(alloc),
+        dest: BoxedText::new(alloc, Text::from(dest))?,
+        title: BoxedText::new(alloc, Text::new(alloc))?,
         content,
     })
 }

@@ -8,14 +8,14 @@ ghost use Rattle.cm_inline.specs.steps.Links.{ends_of, leads_to, target_by, behi
 
 use cm_scan::{after_gap, destination, is_blank_next, is_next, label, title};
 use cm_text::{NoMemory, unescape};
-use cm_tree::{Definitions, Text};
+use cm_tree::{BoxedText, Definitions, Text};
 use std::alloc::Global;
 
 /// Where a link or an image leads, its title, and the place where it ends.
 #[derive(Drop)]
 pub(crate) struct LinkEnd {
-    pub(crate) dest: Text,
-    pub(crate) title: Text,
+    pub(crate) dest: BoxedText,
+    pub(crate) title: BoxedText,
     pub(crate) end: usize,
 }
 
@@ -93,8 +93,8 @@ fn closed(
     if !is_next(source.as_bytes(), end, b')') {
         return Ok(None);
     }
-    let dest = Text::from(unescape(alloc, dest)?);
-    let title = Text::from(unescape(alloc, title)?);
+    let dest = BoxedText::new(alloc, Text::from(unescape(alloc, dest)?))?;
+    let title = BoxedText::new(alloc, Text::from(unescape(alloc, title)?))?;
     Ok(Some(LinkEnd {
         dest,
         title,
@@ -140,8 +140,8 @@ fn reference(
     let Some((dest, title)) = definitions.find(label)? else {
         return Ok(None);
     };
-    let dest = Text::from_str(alloc, dest)?;
-    let title = Text::from_str(alloc, title)?;
+    let dest = BoxedText::new(alloc, Text::from_str(alloc, dest)?)?;
+    let title = BoxedText::new(alloc, Text::from_str(alloc, title)?)?;
     Ok(Some(LinkEnd { dest, title, end }))
 }
 

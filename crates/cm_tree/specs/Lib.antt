@@ -1,4 +1,5 @@
 pub mod formers
+pub mod BoxedTexts
 pub mod Depth
 pub mod Definitions
 pub mod Levels

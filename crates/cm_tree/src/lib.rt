@@ -2,8 +2,9 @@
 //! The tree of a document, how deep it nests, and the table of its definitions.
 //!
 //! A tree is made of plain enums over [`Items`], a `Vec` that contracts see as a list, and [`Text`], a
-//! `String` that they see as its bytes. So two trees are equal exactly where they look alike, a clone is
-//! equal to its original, and a clause can write a tree out, as that of `title` here.
+//! `String` that they see as its bytes, as they see [`BoxedText`], a text on the heap, in links and
+//! images. So two trees are equal exactly where they look alike, a clone is equal to its original, and a
+//! clause can write a tree out, as that of `title` here.
 //!
 //! ```
 //! ghost use Rattle.std.specs.Prelude.{◌≡◌, [], ◌∷◌, IfOk};
@@ -49,6 +50,7 @@
 //! one over a node, by a `match` that hands its children on. (With a closure in their place, as in
 //! `blocks.iter().any(..)`, one would have to prove by hand that the walk ends.)
 
+mod boxed_text;
 mod clones;
 mod definitions;
 mod depth;
@@ -58,6 +60,7 @@ mod raw_html;
 mod text;
 mod tree;
 
+pub use boxed_text::BoxedText;
 pub use definitions::Definitions;
 pub use depth::{block_depth, inline_depth};
 pub use items::Items;

@@ -1,4 +1,5 @@
 //! The tree of a document (CommonMark 0.31.2).
+use crate::boxed_text::BoxedText;
 use crate::items::Items;
 use crate::text::Text;
 
@@ -26,18 +27,18 @@ pub enum Inline {
     /// A link or an autolink (6.3 Links, 6.5 Autolinks).
     Link {
         /// Where it leads to.
-        dest: Text,
+        dest: BoxedText,
         /// Its title, or nothing.
-        title: Text,
+        title: BoxedText,
         /// Its text.
         content: Items<Inline>,
     },
     /// An image (6.4 Images).
     Image {
         /// Where it lies.
-        dest: Text,
+        dest: BoxedText,
         /// Its title, or nothing.
-        title: Text,
+        title: BoxedText,
         /// Its description.
         content: Items<Inline>,
     },

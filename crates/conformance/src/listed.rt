@@ -2,7 +2,7 @@
 
 use crate::trouble::{Trouble, wrong};
 use crate::words::{Word, number, words};
-use cm_tree::{Block, Doc, Inline, Items, ListKind, Owner, Text};
+use cm_tree::{Block, BoxedText, Doc, Inline, Items, ListKind, Owner, Text};
 use std::alloc::Global;
 
 /// A node with children.
@@ -16,8 +16,8 @@ enum Node {
     Emph,
     Strong,
     Strike,
-    Link { dest: Text, title: Text },
-    Image { dest: Text, title: Text },
+    Link { dest: BoxedText, title: BoxedText },
+    Image { dest: BoxedText, title: BoxedText },
 }
 
 /// A node that is read, and its children so far. Children of another kind than the node has are lost, so
@@ -122,6 +122,10 @@ impl Reading {
         Ok(Text::from_str(self.alloc, text.as_str())?)
     }
 
+    fn boxed_text(&self, text: &String) -> Result<BoxedText, Trouble> {
+        Ok(BoxedText::new(self.alloc, self.text(text)?)?)
+    }
+
     /// `list bullet * tight`
     fn bullet_list(&mut self, bullet: &str, width: &str) -> Result<bool, Trouble> {
         let kind = match bullet {
@@ -198,11 +202,11 @@ impl Reading {
                 self.block(Block::Code { info, text })
             }
             ("link", [Word::Text(dest), Word::Text(title)]) => {
-                let (dest, title) = (self.text(dest)?, self.text(title)?);
+                let (dest, title) = (self.boxed_text(dest)?, self.boxed_text(title)?);
                 self.open(Node::Link { dest, title })
             }
             ("image", [Word::Text(dest), Word::Text(title)]) => {
-                let (dest, title) = (self.text(dest)?, self.text(title)?);
+                let (dest, title) = (self.boxed_text(dest)?, self.boxed_text(title)?);
                 self.open(Node::Image { dest, title })
             }
             ("definition", [Word::Text(label), Word::Text(dest), Word::Text(title)]) => {

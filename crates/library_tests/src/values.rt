@@ -1,6 +1,6 @@
 //! Lists and texts of the tree.
 
-use cm_tree::{Items, Text};
+use cm_tree::{BoxedText, Items, Text};
 use std::test::Fail;
 
 #[test]
@@ -38,6 +38,9 @@ fn texts(rt: HostRuntime) -> Result<(), Fail> {
     assert!(rt; text.ends_with('\u{E9}'));
     assert!(rt; text == Text::from_str(alloc, "\u{E9}")?);
     assert!(rt; text == Text::from(String::from_str(alloc, "\u{E9}")?));
+    let boxed = BoxedText::new(alloc, text.clone()?)?;
+    assert_eq!(rt; boxed.as_str(), "\u{E9}");
+    assert!(rt; boxed == boxed.clone()?);
     assert_eq!(rt; text.into_string().as_str(), "\u{E9}");
     Ok(())
 }
