@@ -20,8 +20,12 @@ fn push_reference(out: &mut String, b: u8) -> Result<(), AllocError>
     }
 }
 
-/// Writes a text, each run of bytes that stand for themselves as one slice.
-pub(crate) fn push_escaped(out: &mut String, text: &str) -> Result<(), AllocError>
+/// Adds a text: `&`, `<`, `>` and `"` as references, each run of bytes between them as one slice.
+///
+/// # Errors
+///
+/// `AllocError` where a request for memory was refused; a beginning may stand behind the string then.
+pub fn push_escaped(out: &mut String, text: &str) -> Result<(), AllocError>
     ensures { OnOk result (string_bytes out.new ≡ string_bytes out.old ++ escape text.now) }
 {
     let mut rest = text;

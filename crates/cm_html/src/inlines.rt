@@ -18,9 +18,13 @@ pub(crate) fn push_inlines(out: &mut String, inlines: &[Inline]) -> Result<(), A
     Ok(())
 }
 
-/// Writes an inline.
+/// Adds the HTML of an inline.
+///
+/// # Errors
+///
+/// `AllocError` where a request for memory was refused; a beginning of the HTML may stand behind the string then.
 #[cycle(inlines)]
-fn push_inline(out: &mut String, inline: &Inline) -> Result<(), AllocError>
+pub fn push_inline(out: &mut String, inline: &Inline) -> Result<(), AllocError>
     ensures { OnOk result (string_bytes out.new ≡ string_bytes out.old ++ (spelled inline.now).html) }
 {
     match inline {

@@ -8,6 +8,7 @@ pub mod BetweenLemmas
 pub mod ReserveLemmas
 pub mod OpenerLemmas
 pub mod NodeLemmas
+pub mod HtmlLemmas
 pub mod DepthLemmas
 pub mod PairLemmas
 pub mod AtomLemmas

@@ -6,7 +6,6 @@ use Rattle.std.proofs.lemmas.Bool.Decides.{nat_tests}
 use Rattle.std.proofs.lemmas.List.{reverse-append, reverse-reverse, drop_more, append-nil, drop_all, map-append}
 use Rattle.std.proofs.lemmas.List.Concat.{flat_map-append}
 use Rattle.cm_text.specs.Rules.{Rules}
-use Rattle.std.specs.Result.{IsErrAnd}
 use Rattle.cm_tree.specs.Definitions.{Targets}
 use Rattle.cm_tree.specs.declared.tree.Inline.{Inline}
 use Rattle.cm_tree.specs.Depth.{inlines_depth}
@@ -20,11 +19,10 @@ use Rattle.cm_scan.specs.Inlines as inlines
 use Rattle.cm_scan.proofs.InlineLemmas.{reading_goes_on, bracket_step, plain_front_is_text}
 use Rattle.cm_scan.proofs.PiecesLemmas.{texts_in_pieces}
 use Rattle.cm_scan.proofs.PiecesReading.{reading_in_pieces}
-use Rattle.cm_inline.specs.Reading.{Reads}
+use Rattle.cm_inline.specs.Reading.{Refused}
 use Rattle.cm_inline.specs.declared.fault.InlineFault.{InlineFault}
 use Rattle.cm_inline.specs.declared.fault.InlineFault.TheVariants.{InlinesTooDeep, NoMemory}
 use Rattle.cm_inline.specs.declared.nodes.Node.{Node}
-use Rattle.cm_inline.specs.declared.reading.Steps.{Steps}
 use Rattle.cm_inline.specs.declared.nodes.Node.TheVariants.{Piece}
 use Rattle.cm_inline.specs.steps.Brackets.{closed_at}
 use Rattle.cm_inline.specs.steps.Depths.{items_depth}
@@ -203,11 +201,10 @@ nests-ahead rules defined limit source items same deep =
     nests rules defined limit source whole refl (omega (arith, deep, depth))
 
 -- a fault of the reading
-pub fault-reads : (r : Result (List Inline × Steps) InlineFault) (told : InlineFault) (rules : Rules) (targets : Targets) (limit : ℕ) (source : List ℕ) → IsErrAnd r (λ e. e ≡ told) → (told ≡ InlinesTooDeep → nests_past rules (defined_in targets) limit source ≡ true)
-    → Reads r rules targets limit source
-fault-reads (Ok answer) told rules targets limit source is deep = absurd is
-fault-reads (Err InlinesTooDeep) told rules targets limit source is deep = deep (sym is)
-fault-reads (Err NoMemory) told rules targets limit source is deep = tt
+pub refused : (told : InlineFault) (rules : Rules) (targets : Targets) (limit : ℕ) (source : List ℕ) → (told ≡ InlinesTooDeep → nests_past rules (defined_in targets) limit source ≡ true)
+    → Refused told rules targets limit source
+refused InlinesTooDeep rules targets limit source deep = deep refl
+refused NoMemory rules targets limit source deep = tt
 
 pub within-limit : (rules : Rules) (defined : Defined) (limit : ℕ) (source : List ℕ) (items : List pairing.Item) → in_pieces items ≡ in_pieces (inlines.items_of rules defined source) → inlines_depth (emphasis_of items) ≤ limit
     → nests_past rules defined limit source ≡ false

@@ -8,6 +8,7 @@ mod delimiters;
 mod ends;
 mod fault;
 mod flanking;
+mod html;
 pub mod laws;
 mod links;
 mod nearest;
@@ -18,4 +19,4 @@ mod reading;
 mod runs;
 
 pub use fault::InlineFault;
-pub use reading::{Steps, inlines, inlines_by, is_one_text};
+pub use reading::{Steps, inlines, inlines_by, inlines_html_by, is_one_text};

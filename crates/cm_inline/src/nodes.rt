@@ -2,7 +2,7 @@
 ghost use Rattle.std.specs.Prelude.{◌≡◌, ◌++◌, ◌≤◌, [], ◌∷◌, length, string_bytes, encode_utf8_all, replicate, drop, false, IfOk, OnOk};
 ghost use Rattle.std.specs.List.{list_any};
 ghost use Rattle.cm_text.specs.References.{chars_of};
-ghost use Rattle.cm_scan.specs.Pairing.{settled, text_before};
+ghost use Rattle.cm_scan.specs.Pairing.{bracket_text, settled, text_before};
 ghost use Rattle.cm_inline.specs.declared.nodes.Node.TheVariants.{Finished};
 ghost use Rattle.cm_inline.specs.steps.Runs.{byte_of};
 ghost use Rattle.cm_inline.specs.steps.Nodes.{is_closer, is_text, node_depth, nodes_depth, text_in, text_in_front, behind_texts, text_between, inline_of, items_of, IsPart, AreParts};
@@ -118,13 +118,20 @@ fn push_chars(text: &mut String, chars: Chars) -> Result<(), AllocError>
 }
 
 /// Adds what is left of a delimiter run.
-fn push_run(text: &mut String, run: DelimiterRun) -> Result<(), AllocError>
+pub(crate) fn push_run(text: &mut String, run: DelimiterRun) -> Result<(), AllocError>
     ensures { OnOk result (string_bytes text.new ≡ string_bytes text.old ++ replicate run.left (byte_of run.marker)) }
 {
     for _ in 0..run.left {
         text.push_str(run.marker.text())?;
     }
     Ok(())
+}
+
+/// The text of an opener of which nothing is made.
+pub(crate) fn opener_text(image: bool) -> &'static str
+    ensures { result.now ≡ bracket_text image }
+{
+    if image { "![" } else { "[" }
 }
 
 /// Adds the text of a node, and tells whether it is text.
@@ -148,7 +155,7 @@ fn push_text_of(text: &mut String, source: &str, node: &Node) -> Result<bool, Al
             Ok(true)
         }
         Node::Opener { image, .. } => {
-            text.push_str(if *image { "![" } else { "[" })?;
+            text.push_str(opener_text(*image))?;
             Ok(true)
         }
     }

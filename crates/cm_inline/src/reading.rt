@@ -1,26 +1,27 @@
 //! The inlines of a leaf.
-ghost use Rattle.std.specs.Prelude.{◌≡◌, ◌<◌, ◌&&◌, not, ℕ, [], ◌∷◌, true, length, IfOk, IsTrue, Err};
+ghost use Rattle.std.specs.Prelude.{◌≡◌, ◌<◌, ◌&&◌, not, ℕ, [], ◌∷◌, true, length, IfOk, IfErr, IsTrue, Err};
 ghost use Rattle.std.specs.List.{list_any};
 ghost use Rattle.cm_text.specs.Rules.{Rules, profile};
 ghost use Rattle.cm_text.specs.Search.{is_marked};
 ghost use Rattle.cm_scan.specs.Words.{is_empty};
 ghost use Rattle.cm_tree.specs.declared.tree.Inline.TheVariants.{Text};
 ghost use Rattle.cm_scan.specs.Brackets.{Defined, defined_in};
-ghost use Rattle.cm_scan.specs.Pairing.{emphasis_of};
+ghost use Rattle.cm_scan.specs.Pairing.{emphasis_of, settled};
 ghost use Rattle.cm_scan.specs.Pieces.{in_pieces};
 ghost use Rattle.cm_scan.specs.Inlines as inlines;
 ghost use Rattle.cm_tree.specs.Depth.{inlines_depth};
 ghost use Rattle.cm_inline.specs.declared.fault.InlineFault.TheVariants.{InlinesTooDeep};
-ghost use Rattle.cm_inline.specs.Reading.{Reads};
+ghost use Rattle.cm_inline.specs.Reading.{Read, Reads, ReadsHtml, Refused};
 ghost use Rattle.cm_inline.specs.steps.Brackets.{IsReadTo};
-ghost use Rattle.cm_inline.specs.steps.Nodes.{items_of};
+ghost use Rattle.cm_inline.specs.steps.Nodes.{items_of, AreParts};
 ghost use Rattle.cm_inline.specs.steps.Reads.{Pays, ahead};
 
 use crate::atoms::{atom, text_end};
 use crate::brackets::Reader;
 use crate::fault::InlineFault;
-use crate::nodes::push_text;
-use crate::pairing::emphasis_of;
+use crate::html::push_nodes;
+use crate::nodes::{Node, depth_of_all, push_text, settle};
+use crate::pairing::pair_all;
 use cm_text::{Rules, next_markup};
 use cm_tree::{Definitions, Inline, Items};
 use std::alloc::Global;
@@ -94,6 +95,31 @@ pub fn is_one_text(source: &str) -> bool
     !source.is_empty() && next_markup(source.as_bytes(), 0) == source.len()
 }
 
+/// Room for the HTML of most sources: a quarter more than the source. More is made room for as it comes.
+fn room(source: &str) -> usize {
+    source.len().saturating_add(source.len() / 4)
+}
+
+/// The nodes of a source of which nothing more is made, and how many openers were looked at.
+fn nodes_of(
+    alloc: Global,
+    rules: Rules,
+    source: &str,
+    definitions: &Definitions,
+    limit: usize,
+) -> Result<(Vec<Node>, Steps), InlineFault>
+    ensures parts { IfOk result (λ read. AreParts source.now read.0.items) }
+    ensures read { IfOk result (λ read. Read rules (defined_in definitions.now) limit source.now (settled (items_of source.now read.0.items), read.1)) }
+    ensures refused { IfErr result (λ fault. Refused fault rules definitions.now limit source.now) }
+{
+    let mut reader = read_all(alloc, rules, source, definitions, limit)?;
+    let nodes = pair_all(alloc, source, limit, reader.nodes, &mut reader.openers)?;
+    if depth_of_all(&nodes) > limit {
+        return Err(InlineFault::InlinesTooDeep);
+    }
+    Ok((nodes, Steps(reader.openers.list.looks())))
+}
+
 /// The inlines of a leaf with this source, whose lines are parted by line feeds, in a document with these
 /// definitions, and how many openers were looked at (CommonMark 0.31.2, chapter 6).
 ///
@@ -122,10 +148,27 @@ pub fn inlines_by(
 ) -> Result<(Items<Inline>, Steps), InlineFault>
     ensures { Reads result rules definitions.now limit source.now }
 {
-    let mut reader = read_all(alloc, rules, source, definitions, limit)?;
-    let (content, depth) = emphasis_of(alloc, source, limit, reader.nodes, &mut reader.openers)?;
-    if depth > limit {
-        return Err(InlineFault::InlinesTooDeep);
-    }
-    Ok((content, Steps(reader.openers.list.looks())))
+    let (nodes, steps) = nodes_of(alloc, rules, source, definitions, limit)?;
+    Ok((settle(alloc, source, nodes)?, steps))
+}
+
+/// The HTML of these inlines. It takes less time and memory than they do, since a text that stands in no other inline is
+/// written from the source.
+///
+/// # Errors
+///
+/// As `inlines`.
+pub fn inlines_html_by(
+    alloc: Global,
+    rules: Rules,
+    source: &str,
+    definitions: &Definitions,
+    limit: usize,
+) -> Result<String, InlineFault>
+    ensures { ReadsHtml result rules definitions.now limit source.now }
+{
+    let (nodes, _) = nodes_of(alloc, rules, source, definitions, limit)?;
+    let mut html = String::with_capacity(alloc, room(source))?;
+    push_nodes(&mut html, source, &nodes)?;
+    Ok(html)
 }

@@ -18,16 +18,19 @@ abbrev pub content_read : Rules → Defined → List Inline → List Inline
 content_read rules defined (Text source ∷ []) = inlines_of rules defined source
 content_read rules defined content = content
 
--- one block, with each block inside read in its place
+-- one block whose content is changed, with each block inside in its place
+abbrev pub change_step : (List Inline → List Inline) → Block-F Block → Block
+change_step change (block.Paragraph content) = Paragraph (change content)
+change_step change (block.Heading level content) = Heading level (change content)
+change_step change (block.Code info text) = Code info text
+change_step change (block.Html text) = Html text
+change_step change block.Break = Break
+change_step change (block.Definition label dest title) = Definition label dest title
+change_step change (block.Quote blocks) = Quote blocks
+change_step change (block.List kind tight items) = ListBlock kind tight items
+
 abbrev pub read_step : Rules → Defined → Block-F Block → Block
-read_step rules defined (block.Paragraph content) = Paragraph (content_read rules defined content)
-read_step rules defined (block.Heading level content) = Heading level (content_read rules defined content)
-read_step rules defined (block.Code info text) = Code info text
-read_step rules defined (block.Html text) = Html text
-read_step rules defined block.Break = Break
-read_step rules defined (block.Definition label dest title) = Definition label dest title
-read_step rules defined (block.Quote blocks) = Quote blocks
-read_step rules defined (block.List kind tight items) = ListBlock kind tight items
+read_step rules defined = change_step (content_read rules defined)
 
 abbrev pub block_read : Rules → Defined → Block → Block
 block_read rules defined = fold-Block Block (read_step rules defined)

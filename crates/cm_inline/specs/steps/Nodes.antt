@@ -1,10 +1,12 @@
 -- The list of nodes into which a source is read.
-use Rattle.std.specs.Prelude.{◌≡◌, ℕ, ◌+◌, ◌≤◌, nat_lt, if◌then◌else◌, Bool, true, false, List, [], ◌∷◌, ◌++◌, length, drop, map, replicate, encode_utf8_all, Option, Some, None, ⊤}
+use Rattle.std.specs.Prelude.{◌≡◌, ℕ, ◌+◌, ◌≤◌, nat_lt, if◌then◌else◌, Bool, true, false, List, [], ◌∷◌, ◌++◌, length, drop, map, replicate, flat_map, encode_utf8_all, Option, Some, None, ⊤}
 use Rattle.std.specs.List.{slice_range}
 use Rattle.std.specs.Str.{IsCharBoundary}
 use Rattle.cm_text.specs.References.{chars_of}
 use Rattle.cm_tree.specs.declared.tree.Inline.{Inline}
 use Rattle.cm_tree.specs.Depth.{depth_of, greatest}
+use Rattle.cm_html.specs.Escape.{escape}
+use Rattle.cm_html.specs.Html.{spelled}
 use Rattle.cm_scan.specs.Pairing as items
 use Rattle.cm_inline.specs.declared.runs.DelimiterRun.{DelimiterRun}
 use Rattle.cm_inline.specs.declared.nodes.Node.{Node}
@@ -74,6 +76,17 @@ text_in source (Characters chars) = encode_utf8_all (chars_of chars)
 text_in source (Finished inline depth holds_link) = []
 text_in source (Run run) = replicate run.left (byte_of run.marker)
 text_in source (Opener image behind) = items.bracket_text image
+
+-- the HTML of a node
+abbrev pub node_html : List ℕ → Node → List ℕ
+node_html source (Piece from to) = escape (slice_range source from to)
+node_html source (Characters chars) = escape (encode_utf8_all (chars_of chars))
+node_html source (Finished inline depth holds_link) = (spelled inline).html
+node_html source (Run run) = replicate run.left (byte_of run.marker)
+node_html source (Opener image behind) = items.bracket_text image
+
+abbrev pub nodes_html : List ℕ → List Node → List ℕ
+nodes_html source nodes = flat_map (node_html source) nodes
 
 -- the text with which the nodes begin
 abbrev pub text_in_front : List ℕ → List Node → List ℕ

@@ -1,0 +1,66 @@
+-- The HTML of nodes of which nothing more is made.
+use Rattle.std.proofs.Common.{◌≡◌, ℕ, zero, suc, ◌+◌, true, false, List, [], ◌∷◌, ◌++◌, drop, refl, sym, ap, ◌∙◌, arith, append_assoc}
+use Rattle.std.specs.Prelude.{encode_utf8_all, replicate, flat_map}
+use Rattle.std.specs.List.{slice_range}
+use Rattle.std.proofs.lemmas.Grind.{flat_map-append}
+use Rattle.std.proofs.lemmas.List.{append-nil}
+use Rattle.cm_text.specs.References.{chars_of}
+use Rattle.cm_tree.specs.declared.tree.Inline.{Inline}
+use Rattle.cm_tree.specs.declared.tree.Inline.TheFolds.{fold_out-Inline}
+use Rattle.cm_tree.specs.declared.tree.Inline.TheVariants.{Text, outs-Text}
+use Rattle.cm_html.specs.Escape.{escape_byte, escape}
+use Rattle.cm_html.specs.Html.{Spelled, inline_step, inlines_html, spelled}
+use Rattle.cm_scan.specs.Pairing.{bracket_text, text_before, settled_after, settled}
+use Rattle.cm_inline.specs.declared.nodes.Node.{Node}
+use Rattle.cm_inline.specs.declared.nodes.Node.TheVariants.{Piece, Characters, Finished, Run, Opener}
+use Rattle.cm_inline.specs.declared.runs.Marker.{Marker}
+use Rattle.cm_inline.specs.declared.runs.Marker.TheVariants.{Star, Underscore, Tilde}
+use Rattle.cm_inline.specs.steps.Runs.{byte_of}
+use Rattle.cm_inline.specs.steps.Nodes.{items_of, node_html, nodes_html}
+
+-- the text of a run is its own HTML
+run-html : (marker : Marker) (n : ℕ) → escape (replicate n (byte_of marker)) ≡ replicate n (byte_of marker)
+run-html marker zero = refl
+run-html Star (suc n) = ap (λ t. 42 ∷ t) (run-html Star n)
+run-html Underscore (suc n) = ap (λ t. 95 ∷ t) (run-html Underscore n)
+run-html Tilde (suc n) = ap (λ t. 126 ∷ t) (run-html Tilde n)
+
+-- a text before inlines
+before-html : (text : List ℕ) (inlines : List Inline) → inlines_html (text_before text inlines) ≡ escape text ++ inlines_html inlines
+before-html [] inlines = refl
+before-html (b ∷ bs) inlines = ap (λ html. html ++ inlines_html inlines) text-html
+  where
+    text-html : (spelled (Text (b ∷ bs))).html ≡ escape (b ∷ bs)
+    text-html = simp (fold_out-Inline Spelled inline_step, outs-Text)
+
+-- a text that is longer by what comes next
+longer : (before text rest : List ℕ) → escape (before ++ text) ++ rest ≡ escape before ++ (escape text ++ rest)
+longer before text rest = ap (λ t. t ++ rest) (flat_map-append escape_byte before text) ∙ append_assoc (escape before) (escape text) rest
+
+settled-html-after : (source before : List ℕ) (nodes : List Node) → inlines_html (settled_after before (items_of source nodes)) ≡ escape before ++ nodes_html source nodes
+unfolding settled_after
+settled-html-after source before [] = before-html before []
+settled-html-after source before (Piece from to ∷ nodes) =
+    let text = slice_range source from to in
+    settled-html-after source (before ++ text) nodes ∙ longer before text (nodes_html source nodes)
+settled-html-after source before (Characters chars ∷ nodes) =
+    let text = encode_utf8_all (chars_of chars) in
+    settled-html-after source (before ++ text) nodes ∙ longer before text (nodes_html source nodes)
+settled-html-after source before (Run run ∷ nodes) =
+    let text = replicate run.left (byte_of run.marker) in
+    settled-html-after source (before ++ text) nodes ∙ longer before text (nodes_html source nodes)
+    ∙ ap (λ t. escape before ++ (t ++ nodes_html source nodes)) (run-html run.marker run.left)
+settled-html-after source before (Opener true behind ∷ nodes) =
+    settled-html-after source (before ++ bracket_text true) nodes ∙ longer before (bracket_text true) (nodes_html source nodes)
+settled-html-after source before (Opener false behind ∷ nodes) =
+    settled-html-after source (before ++ bracket_text false) nodes ∙ longer before (bracket_text false) (nodes_html source nodes)
+settled-html-after source before (Finished inline depth false ∷ nodes) =
+    before-html before (inline ∷ settled (items_of source nodes))
+    ∙ ap (λ t. escape before ++ ((spelled inline).html ++ t)) (settled-html-after source [] nodes)
+settled-html-after source before (Finished inline depth true ∷ nodes) =
+    before-html before (inline ∷ settled (items_of source nodes))
+    ∙ ap (λ t. escape before ++ ((spelled inline).html ++ t)) (settled-html-after source [] nodes)
+
+-- the HTML of the inlines that come of nodes is that of the nodes, one after another
+pub settled-html : (source : List ℕ) (nodes : List Node) → inlines_html (settled (items_of source nodes)) ≡ nodes_html source nodes
+settled-html source nodes = settled-html-after source [] nodes
