@@ -1,6 +1,6 @@
 -- The leaves of blocks, how deep their inlines nest, and how they are numbered.
 use Rattle.std.proofs.Common.{◌≡◌, ◌∙◌, ◌≤◌, ◌<◌, ◌+◌, ℕ, suc, List, [], ◌∷◌, ◌++◌, length, map, drop, take, get_or, true, false, refl, sym, ap, ap₂, subst, append_assoc, append-nil, arith, length-append, take_all, take-append-drop}
-use Rattle.std.specs.Prelude.{Bool, Option, None, Err, flat_map, option_map}
+use Rattle.std.specs.Prelude.{Bool, Option, None, flat_map, option_map}
 use Rattle.std.proofs.lemmas.Bool.{ltb-false, ltb-true}
 use Rattle.std.proofs.lemmas.Grind.{flat_map-append}
 use Rattle.std.proofs.lemmas.List.{map-append, nil_from_length, take_more, take_more_set}
@@ -10,7 +10,7 @@ use Rattle.cm_text.specs.Rules.{Rules}
 use Rattle.cm_tree.specs.Depth.{inlines_depth}
 use Rattle.cm_tree.specs.declared.tree.Inline.{Inline}
 use Rattle.cm_tree.specs.declared.tree.Block.{Block}
-use Rattle.cm_tree.specs.declared.tree.Block.TheFolds.{fold_out-Block}
+use Rattle.cm_tree.specs.declared.tree.Block.TheFolds.{fold-Block, fold_out-Block}
 use Rattle.cm_tree.specs.declared.tree.Block.TheVariants.{Quote, List as ListBlock, outs-Quote, outs-List}
 use Rattle.cm_tree.specs.declared.tree.ListKind.{ListKind}
 use Rattle.cm_tree.specs.Definitions.{Targets}
@@ -19,11 +19,11 @@ use Rattle.cm_scan.specs.Inlines.{inlines_of, depth_of_leaf, nests_past}
 use Rattle.cm_inline.specs.declared.fault.InlineFault.{InlineFault}
 use Rattle.cm_inline.specs.declared.fault.InlineFault.TheVariants as inline
 use Rattle.cm_html.specs.Html.{alone, html_of, written}
-use Rattle.cm_inline.specs.Reading.{Reads}
+use Rattle.cm_inline.specs.Reading.{Refused}
 use Rattle.cm_tool.specs.declared.fault.Fault.{Fault}
 use Rattle.cm_tool.specs.declared.fault.Fault.TheVariants.{InlinesTooDeep}
 use Rattle.cm_tool.specs.Leaves.{depths_in, depths_step, first_past, concat_items, leaf_depths}
-use Rattle.cm_scan.specs.Documents.{block_read, read_step, with_inlines}
+use Rattle.cm_scan.specs.Documents.{block_read, change_step, content_read, read_step, with_inlines}
 use Rattle.cm_tool.specs.Parsing.{TellsFault}
 use Rattle.cm_tool.specs.steps.Numbering.{Passes, TellsLeaf}
 
@@ -40,7 +40,7 @@ leaf_past : (rules : Rules) (defined : Defined) (limit : ℕ) (source : List ℕ
 unfolding depth_of_leaf
 leaf_past rules defined limit source past = ltb-true limit (inlines_depth (inlines_of rules defined source)) past
 
-pub leaf_refused : (rules : Rules) (targets : Targets) (limit : ℕ) (source : List ℕ) (fault : InlineFault) → Reads (Err fault) rules targets limit source
+pub leaf_refused : (rules : Rules) (targets : Targets) (limit : ℕ) (source : List ℕ) (fault : InlineFault) → Refused fault rules targets limit source
     → fault ≡ inline.InlinesTooDeep → limit < inlines_depth (inlines_of rules (defined_in targets) source)
 leaf_refused rules targets limit source inline.InlinesTooDeep past is = leaf_past rules (defined_in targets) limit source past
 leaf_refused rules targets limit source inline.NoMemory past is = cc
@@ -99,6 +99,13 @@ read_back read made now rest old len i is len_is same past so_far =
 
 -- ---- the leaves of blocks that have been read
 
+module _ (change : List Inline → List Inline) where
+  abbrev changed : Block → Block
+  changed = fold-Block Block (change_step change)
+
+  pub list_changed : (kind : ListKind) (tight : Bool) (items : List (List Block)) → changed (ListBlock kind tight items) ≡ ListBlock kind tight (map (map changed) items)
+  list_changed kind tight items = simp (fold_out-Block Block (change_step change), outs-List)
+
 module _ (rules : Rules) (defined : Defined) where
   -- of a block, and of blocks
   abbrev pub depths_read : Block → List ℕ
@@ -120,7 +127,7 @@ module _ (rules : Rules) (defined : Defined) where
 
   pub list_read : (kind : ListKind) (tight : Bool) (items : List (List Block))
       → block_read rules defined (ListBlock kind tight items) ≡ ListBlock kind tight (map (with_inlines rules defined) items)
-  list_read kind tight items = simp (fold_out-Block Block (read_step rules defined), outs-List)
+  list_read kind tight items = list_changed (content_read rules defined) kind tight items
 
   pub list_depths : (kind : ListKind) (tight : Bool) (items : List (List Block)) → flat_map item_depths_read items ≡ depths_read (ListBlock kind tight items)
   list_depths kind tight items = items_are items ∙ simp (fold_out-Block Block (read_step rules defined), fold_out-Block (List ℕ) depths_step, outs-List)

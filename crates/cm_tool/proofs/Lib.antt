@@ -5,6 +5,7 @@ pub mod EndedLemmas
 pub mod ExampleLemmas
 pub mod LastingLemmas
 pub mod LeafLemmas
+pub mod ContentLemmas
 pub mod LineLemmas
 pub mod MarkupLemmas
 pub mod OrderLemmas

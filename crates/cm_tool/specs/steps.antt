@@ -1,5 +1,6 @@
 pub mod FaultOrder
 pub mod Pushing
 pub mod Numbering
+pub mod Contents
 pub mod Ends
 pub mod ExampleSteps

@@ -1,6 +1,7 @@
 //! The inlines of an outline's leaves.
-ghost use Rattle.std.specs.Prelude.{◌≡◌, ◌+◌, ◌≤◌, ◌<◌, [], ◌∷◌, ◌++◌, map, option_map, string_bytes, IfOk, IfErr, OnOk, None};
+ghost use Rattle.std.specs.Prelude.{◌≡◌, ◌+◌, ◌≤◌, ◌<◌, [], ◌∷◌, ◌++◌, map, option_map, length, string_bytes, IfOk, IfErr, OnOk, None};
 ghost use Rattle.std.specs.List.{concat};
+ghost use Rattle.cm_tree.specs.declared.tree.Inline.TheVariants.{Html};
 ghost use Rattle.cm_tree.specs.Depth.{inlines_depth};
 ghost use Rattle.cm_html.specs.Html.{html_of, written, alone};
 ghost use Rattle.cm_scan.specs.Brackets.{defined_in};
@@ -9,26 +10,37 @@ ghost use Rattle.cm_tool.specs.declared.fault.Fault.TheVariants as faults;
 ghost use Rattle.cm_tool.specs.Leaves.{depths_in, leaf_depths, first_leaf_past};
 ghost use Rattle.cm_scan.specs.Documents.{content_read, block_read, with_inlines};
 ghost use Rattle.cm_tool.specs.Parsing.{TellsFault};
+ghost use Rattle.cm_tool.specs.steps.Contents.{content_made, block_made, blocks_made};
 ghost use Rattle.cm_tool.specs.steps.Numbering.{Passes, TellsLeaf};
 
 use crate::fault::Fault;
 use crate::pages::{add_page, new_page, turn_page};
 use cm_html::push_block;
-use cm_inline::{InlineFault, inlines_by, is_one_text};
+use cm_inline::{InlineFault, inlines_by, inlines_html_by, is_one_text};
 use cm_text::Limits;
 use cm_tree::{Block, Definitions, Inline, Items, Text, inline_depth};
 use std::alloc::Global;
 use std::mem;
 
-/// Puts the inlines of a paragraph or heading in the place of its source.
+/// What takes the place of a leaf's source.
+#[derive(Clone, Copy)]
+enum Form {
+    /// Its inlines.
+    Tree,
+    /// Their HTML, as one piece of raw HTML. The texts that stand in no other inline aren't made then.
+    Html,
+}
+
+/// Puts the inlines of a paragraph or heading, or their HTML, in the place of its source.
 fn read_content(
     alloc: Global,
     limits: Limits,
     definitions: &Definitions,
+    form: Form,
     content: &mut Items<Inline>,
 ) -> Result<(), InlineFault>
-    ensures read { OnOk result (content.new ≡ content_read limits.rules (defined_in definitions.now) content.old) }
-    ensures within { OnOk result (inlines_depth content.new ≤ limits.inlines) }
+    ensures read { OnOk result (content.new ≡ content_made form limits.rules (defined_in definitions.now) content.old) }
+    ensures within { OnOk result (inlines_depth (content_read limits.rules (defined_in definitions.now) content.old) ≤ limits.inlines) }
     ensures deep { IfErr result (λ fault. fault ≡ inline_faults.InlinesTooDeep →
         limits.inlines < inlines_depth (content_read limits.rules (defined_in definitions.now) content.old)) }
 {
@@ -43,9 +55,27 @@ fn read_content(
     if is_one_text(source.as_str()) {
         return Ok(());
     }
-    let (inlines, _) = inlines_by(alloc, rules, source.as_str(), definitions, limit)?;
-    *content = inlines;
+    match form {
+        Form::Tree => {
+            let (inlines, _) = inlines_by(alloc, rules, source.as_str(), definitions, limit)?;
+            *content = inlines;
+        }
+        Form::Html => {
+            let html = inlines_html_by(alloc, rules, source.as_str(), definitions, limit)?;
+            put_html(alloc, content, html);
+        }
+    }
     Ok(())
+}
+
+/// Puts one piece of raw HTML in the place of the one inline.
+fn put_html(alloc: Global, content: &mut Items<Inline>, html: String)
+    requires { length content.old ≡ 1 }
+    ensures { content.new ≡ Html (string_bytes html) ∷ [] }
+{
+    let mut inlines = mem::replace(content, Items::new(alloc)).into_vec();
+    inlines[0] = Inline::Html(Text::from(html));
+    *content = Items::from(inlines);
 }
 
 /// Counts one more leaf, and answers its number.
@@ -60,44 +90,48 @@ fn count_leaf(next: &mut usize) -> Result<usize, Fault>
     Ok(leaf)
 }
 
-/// Reads the inlines of the next leaf, a paragraph or heading.
+/// Reads the next leaf, a paragraph or heading.
 fn read_leaf(
     alloc: Global,
     limits: Limits,
     definitions: &Definitions,
+    form: Form,
     next: &mut usize,
     content: &mut Items<Inline>,
 ) -> Result<(), Fault>
-    ensures read { OnOk result (content.new ≡ content_read limits.rules (defined_in definitions.now) content.old) }
-    ensures passes { OnOk result (Passes limits.inlines next.old next.new (inlines_depth content.new ∷ [])) }
+    ensures read { OnOk result (content.new ≡ content_made form limits.rules (defined_in definitions.now) content.old) }
+    ensures passes { OnOk result (Passes limits.inlines next.old next.new
+        (inlines_depth (content_read limits.rules (defined_in definitions.now) content.old) ∷ [])) }
     ensures told { IfErr result (λ fault. TellsLeaf fault limits.inlines next.old
         (inlines_depth (content_read limits.rules (defined_in definitions.now) content.old) ∷ [])) }
 {
     let leaf = count_leaf(next)?;
-    match read_content(alloc, limits, definitions, content) {
+    match read_content(alloc, limits, definitions, form, content) {
         Ok(()) => Ok(()),
         Err(InlineFault::InlinesTooDeep) => Err(Fault::InlinesTooDeep { leaf }),
         Err(InlineFault::NoMemory) => Err(Fault::NoMemory),
     }
 }
 
-/// Reads the inlines of the next leaves, those of the blocks, at every depth.
+/// Reads the next leaves, those of the blocks, at every depth.
 #[cycle(leaves)]
 fn with_inlines(
     alloc: Global,
     limits: Limits,
     definitions: &Definitions,
+    form: Form,
     next: &mut usize,
     blocks: Items<Block>,
 ) -> Result<Items<Block>, Fault>
-    ensures read { IfOk result (λ read. read ≡ with_inlines limits.rules (defined_in definitions.now) blocks) }
-    ensures passes { IfOk result (λ read. Passes limits.inlines next.old next.new (leaf_depths read)) }
+    ensures read { IfOk result (λ read. read ≡ blocks_made form limits.rules (defined_in definitions.now) blocks) }
+    ensures passes { OnOk result (Passes limits.inlines next.old next.new
+        (leaf_depths (with_inlines limits.rules (defined_in definitions.now) blocks))) }
     ensures told { IfErr result (λ fault. TellsLeaf fault limits.inlines next.old
         (leaf_depths (with_inlines limits.rules (defined_in definitions.now) blocks))) }
 {
     let mut blocks = blocks.into_vec();
     for block in blocks.iter_mut() {
-        read_block(alloc, limits, definitions, next, block)?;
+        read_block(alloc, limits, definitions, form, next, block)?;
     }
     Ok(Items::from(blocks))
 }
@@ -107,20 +141,29 @@ fn read_block(
     alloc: Global,
     limits: Limits,
     definitions: &Definitions,
+    form: Form,
     next: &mut usize,
     block: &mut Block,
 ) -> Result<(), Fault>
-    ensures read { OnOk result (block.new ≡ block_read limits.rules (defined_in definitions.now) block.old) }
-    ensures passes { OnOk result (Passes limits.inlines next.old next.new (depths_in block.new)) }
+    ensures read { OnOk result (block.new ≡ block_made form limits.rules (defined_in definitions.now) block.old) }
+    ensures passes { OnOk result (Passes limits.inlines next.old next.new
+        (depths_in (block_read limits.rules (defined_in definitions.now) block.old))) }
     ensures told { IfErr result (λ fault. TellsLeaf fault limits.inlines next.old
         (depths_in (block_read limits.rules (defined_in definitions.now) block.old))) }
 {
     match block {
-        Block::Paragraph(content) => read_leaf(alloc, limits, definitions, next, content),
-        Block::Heading { content, .. } => read_leaf(alloc, limits, definitions, next, content),
+        Block::Paragraph(content) => read_leaf(alloc, limits, definitions, form, next, content),
+        Block::Heading { content, .. } => read_leaf(
+            alloc,
+            limits,
+            definitions,
+            form,
+            next,
+            content,
+        ),
         Block::Quote(blocks) => {
             let inside = mem::replace(blocks, Items::new(alloc));
-            *blocks = with_inlines(alloc, limits, definitions, next, inside)?;
+            *blocks = with_inlines(alloc, limits, definitions, form, next, inside)?;
             Ok(())
         }
         Block::List { kind, tight, items } => {
@@ -128,7 +171,7 @@ fn read_block(
             let mut read = mem::replace(items, Items::new(alloc)).into_vec();
             for item in read.iter_mut() {
                 let inside = mem::replace(item, Items::new(alloc));
-                *item = with_inlines(alloc, limits, definitions, next, inside)?;
+                *item = with_inlines(alloc, limits, definitions, form, next, inside)?;
             }
             let items = Items::from(read);
             *block = Block::List { kind, tight, items };
@@ -159,7 +202,7 @@ pub(crate) fn read_leaves(
         (first_leaf_past limits.inlines (with_inlines limits.rules (defined_in definitions.now) blocks)))) }
 {
     let mut next = 1;
-    with_inlines(alloc, limits, definitions, &mut next, blocks)
+    with_inlines(alloc, limits, definitions, Form::Tree, &mut next, blocks)
 }
 
 /// Reads the inlines of the next leaves, those of a block, and adds its HTML.
@@ -176,7 +219,7 @@ fn push_read(
     ensures told { IfErr result (λ fault. TellsLeaf fault limits.inlines next.old
         (depths_in (block_read limits.rules (defined_in definitions.now) block))) }
 {
-    read_block(alloc, limits, definitions, next, &mut block)?;
+    read_block(alloc, limits, definitions, Form::Html, next, &mut block)?;
     push_block(html, &block)?;
     Ok(())
 }

@@ -3,10 +3,11 @@ use Rattle.std.specs.Prelude.{flat_map, map}
 use Rattle.std.proofs.lemmas.Result.{err_from_is_err_and}
 use Rattle.cm_tree.specs.declared.tree.Block.TheVariants.{Quote, List as ListBlock}
 use Rattle.cm_scan.specs.Brackets.{defined_in}
-use Rattle.cm_tool.specs.Leaves.{depths_in, leaf_depths}
-use Rattle.cm_scan.specs.Documents.{block_read, with_inlines}
+use Rattle.cm_tool.specs.Leaves.{leaf_depths}
+use Rattle.cm_scan.specs.Documents.{with_inlines}
+use Rattle.cm_tool.specs.steps.Contents.{content_made, block_made, blocks_made}
 use Rattle.cm_tool.specs.steps.Numbering.{Passes, TellsLeaf}
-use Rattle.cm_tool.proofs.LeafLemmas.{blocks_are, depths_read, item_depths_read, list_depths, list_read, next_passes, next_told, quote_is, read_back, read_next}
+use Rattle.cm_tool.proofs.LeafLemmas.{blocks_are, depths_read, item_depths_read, list_changed, list_depths, next_passes, next_told, quote_is, read_back, read_next}
 use Rattle.cm_tool.proofs.leaves.+leaves.Goals as goal
 
 pub read_block-returns-in_err-blocks-in-Quote-clause-told : goal.read_block-returns-in_err-blocks-in-Quote-clause-told
@@ -42,26 +43,25 @@ with_inlines-loop-block-preserved t c =
     let at = c.loop-block.block-index in
     let blocks = c.deref_mut-block-items.result.now in
     let here = so_far.0.1 at c.block-item.result (omega arith) in
-    let read_is = c.in_ok-read_block.ensures.read ∙ ap (block_read limits.rules defined) here in
+    let made = block_made c.args.form limits.rules defined in
+    let read_is = c.in_ok-read_block.ensures.read ∙ ap made here in
     let within : at < length blocks = search (rules, arith) in (
       search rules,
-      read_next (block_read limits.rules defined) c.loop-block.block-items blocks at c.block-item.result c.read_block.new.block (search (rules, arith)) within so_far.1 read_is,
+      read_next made c.loop-block.block-items blocks at c.block-item.result c.read_block.new.block (search (rules, arith)) within so_far.1 read_is,
       next_passes (depths_read limits.rules defined) limits.inlines c.args.next.now c.loop-block.next c.read_block.new.next blocks at c.block-item.result within so_far.2
-          (subst (λ b. Passes limits.inlines c.loop-block.next c.read_block.new.next (depths_in b)) read_is c.in_ok-read_block.ensures.passes),
+          (subst (λ b. Passes limits.inlines c.loop-block.next c.read_block.new.next (depths_read limits.rules defined b)) here c.in_ok-read_block.ensures.passes),
     )
 
 pub with_inlines-returns-clause-passes : goal.with_inlines-returns-clause-passes
 with_inlines-returns-clause-passes t c =
     let limits = c.args.limits in
     let defined = defined_in c.args.definitions.now in
-    let so_far = c.loop-block.invariant in
     let at = c.loop-block.block-index in
     let old = c.deref_mut-block-items.result.now in
-    let len_is : c.into_vec-blocks.result.len ≡ length c.loop-block.block-items = search (rules, c.deref_mut-block-items.ensures.len) in
-    let read : c.from.result ≡ with_inlines limits.rules defined old =
-    read_back (block_read limits.rules defined) c.from.result c.loop-block.block-items _ old _ at c.from.ensures len_is c.loop-block.auto.block-items c.loop-block-test.false so_far.1 in
+    let same : old ≡ c.args.blocks = search rules in
     subst (Passes limits.inlines c.args.next.now c.loop-block.next)
-    (ap (flat_map (depths_read limits.rules defined)) (take_all at old c.loop-block-test.false) ∙ blocks_are limits.rules defined old ∙ ap leaf_depths (sym read)) so_far.2
+    (ap (flat_map (depths_read limits.rules defined)) (take_all at old c.loop-block-test.false) ∙ blocks_are limits.rules defined old
+    ∙ ap (λ bs. leaf_depths (with_inlines limits.rules defined bs)) same) c.loop-block.invariant.2
 
 pub read_block-loop-item-preserved : goal.read_block-loop-item-preserved
 read_block-loop-item-preserved t c =
@@ -71,12 +71,13 @@ read_block-loop-item-preserved t c =
     let at = c.loop-item.item-index in
     let items = c.deref_mut-item-items.result.now in
     let here : c.replace-inside-in-loop-item.result ≡ get_or items at c.item-item.result = c.replace-inside-in-loop-item.ensures.value ∙ so_far.0.1 at c.item-item.result (omega arith) in
-    let read_is = c.in_ok-item-in-List.ensures.read ∙ ap (with_inlines limits.rules defined) here in
+    let made = blocks_made c.args.form limits.rules defined in
+    let read_is = c.in_ok-item-in-List.ensures.read ∙ ap made here in
     let within : at < length items = search (rules, arith) in (
       search rules,
-      read_next (with_inlines limits.rules defined) c.loop-item.item-items items at c.item-item.result c.in_ok-item-in-List.field-0 (search (rules, arith)) within so_far.1 read_is,
+      read_next made c.loop-item.item-items items at c.item-item.result c.in_ok-item-in-List.field-0 (search (rules, arith)) within so_far.1 read_is,
       next_passes (item_depths_read limits.rules defined) limits.inlines c.args.next.now c.loop-item.next c.with_inlines-in-loop-item.new.next items at c.item-item.result within so_far.2
-          (subst (λ b. Passes limits.inlines c.loop-item.next c.with_inlines-in-loop-item.new.next (leaf_depths b)) read_is c.in_ok-item-in-List.ensures.passes),
+          (subst (λ b. Passes limits.inlines c.loop-item.next c.with_inlines-in-loop-item.new.next (item_depths_read limits.rules defined b)) here c.in_ok-item-in-List.ensures.passes),
     )
 
 pub read_block-returns-in_err-item-in-List-clause-told : goal.read_block-returns-in_err-item-in-List-clause-told
@@ -97,27 +98,25 @@ read_block-returns-in_err-item-in-List-clause-told t c =
 
 pub read_block-returns-after-loop-item-clause-read : goal.read_block-returns-after-loop-item-clause-read
 read_block-returns-after-loop-item-clause-read t c =
-    let limits = c.args.limits in
+    let rules_now = c.args.limits.rules in
     let defined = defined_in c.args.definitions.now in
+    let made = blocks_made c.args.form rules_now defined in
     let so_far = c.loop-item.invariant in
     let at = c.loop-item.item-index in
     let old = c.deref_mut-item-items.result.now in
     let len_is : c.into_vec-read.result.len ≡ length c.loop-item.item-items = search (rules, c.deref_mut-item-items.ensures.len) in
-    let read : c.from-items.result ≡ map (with_inlines limits.rules defined) old =
-    read_back (with_inlines limits.rules defined) c.from-items.result c.loop-item.item-items _ old _ at c.from-items.ensures len_is c.loop-item.auto.item-items c.loop-item-test.false so_far.1 in
+    let read : c.from-items.result ≡ map made old =
+    read_back made c.from-items.result c.loop-item.item-items _ old _ at c.from-items.ensures len_is c.loop-item.auto.item-items c.loop-item-test.false so_far.1 in
     let block_is : ListBlock c.in-List.kind c.in-List.tight old ≡ c.args.block.now = search rules in
-    rw (read, c.in-List.kind-is, c.in-List.tight-is) (sym (list_read limits.rules defined c.in-List.kind c.in-List.tight old) ∙ ap (block_read limits.rules defined) block_is)
+    rw (read, c.in-List.kind-is, c.in-List.tight-is)
+    (sym (list_changed (content_made c.args.form rules_now defined) c.in-List.kind c.in-List.tight old) ∙ ap (block_made c.args.form rules_now defined) block_is)
 
 pub read_block-returns-after-loop-item-clause-passes : goal.read_block-returns-after-loop-item-clause-passes
 read_block-returns-after-loop-item-clause-passes t c =
     let limits = c.args.limits in
     let defined = defined_in c.args.definitions.now in
-    let so_far = c.loop-item.invariant in
     let at = c.loop-item.item-index in
     let old = c.deref_mut-item-items.result.now in
-    let len_is : c.into_vec-read.result.len ≡ length c.loop-item.item-items = search (rules, c.deref_mut-item-items.ensures.len) in
-    let read : c.from-items.result ≡ map (with_inlines limits.rules defined) old =
-    read_back (with_inlines limits.rules defined) c.from-items.result c.loop-item.item-items _ old _ at c.from-items.ensures len_is c.loop-item.auto.item-items c.loop-item-test.false so_far.1 in
-    rw (read, c.in-List.kind-is, c.in-List.tight-is)
-    (subst (Passes limits.inlines c.args.next.now c.loop-item.next) (ap (flat_map (item_depths_read limits.rules defined)) (take_all at old c.loop-item-test.false)
-    ∙ list_depths limits.rules defined c.in-List.kind c.in-List.tight old ∙ ap depths_in (list_read limits.rules defined c.in-List.kind c.in-List.tight old)) so_far.2)
+    let block_is : ListBlock c.in-List.kind c.in-List.tight old ≡ c.args.block.now = search rules in
+    subst (Passes limits.inlines c.args.next.now c.loop-item.next) (ap (flat_map (item_depths_read limits.rules defined)) (take_all at old c.loop-item-test.false)
+    ∙ list_depths limits.rules defined c.in-List.kind c.in-List.tight old ∙ ap (depths_read limits.rules defined) block_is) c.loop-item.invariant.2
