@@ -7,15 +7,14 @@ use Rattle.std.proofs.lemmas.Bool.{ltb-false, cond-true, cond-false, lt-ltb, le-
 use Rattle.std.proofs.lemmas.Bool.Decides.{nat_tests}
 use Rattle.cm_text.specs.declared.fault.TextFault.TheVariants.{NotUtf8, TooLong, NoMemory}
 use Rattle.cm_text.specs.declared.fault.TextFault.{TextFault}
-use Rattle.std.specs.Prelude.{Option, Result, Ok, Err, option_to_list}
-use Rattle.cm_text.specs.declared.lines.Line.{Line}
+use Rattle.std.specs.Prelude.{Option, Result, Ok, Err}
 use Rattle.std.proofs.lemmas.List.{drop-append-le, length-take-le}
 use Rattle.std.proofs.Math.Seq.{drop-append-add, take-append-add}
-use Rattle.cm_text.specs.Lines.{LineView, view_of, plain_lines_of, last_line, plain_line, text_of}
+use Rattle.cm_text.specs.Lines.{LineView, plain_lines_of, last_line, plain_line, text_of}
 use Rattle.cm_text.specs.Cut.{Cut, cut_byte, end_line, IsFront, cut_more, nothing_cut, without}
 use Rattle.cm_text.specs.Faults.{left_of, valid_len, after_valid, settled_fault, text_fault}
 use Rattle.cm_text.specs.Feed.{Feed, Goes, StandsAs, StandsFor, Answers, HasFailed, LostMemory, cut_valid, cut_bytes, with_ready}
-use Rattle.cm_text.specs.steps.FeedSteps.{Steps, Refused, joined_of, next_cut, next_feed, next_fault}
+use Rattle.cm_text.specs.steps.FeedSteps.{Steps, Closes, HasClosed, Refused, joined_of, next_cut, next_feed, next_fault}
 use Rattle.cm_text.proofs.CutLemmas.{ended_stays, cut_text-append}
 use Rattle.cm_text.proofs.LinesLemmas.{lines_are_cut}
 use Rattle.cm_text.proofs.Utf8Lemmas.{error_len-nil, utf8_valid_len-cases, valid_front-IsUtf8, IsUtf8-cancel}
@@ -230,14 +229,13 @@ one_taken (Some NoMemory) ended old line rest bytes taken first g =
     let both = dropped (cut_bytes old.limit bytes).ended (rest ++ g.ready.0) line taken (ap (λ t. t ++ g.ready.0) (sym first) ∙ sym g.ready.1) in
     record { ready = (g.ready.0, sym both.0); in_order = both.1 }
 
-pub next_stands : (old : Feed) (r : Option Line) (items rest : List Line) (bytes : List ℕ) (taken : ℕ) → items ≡ option_to_list r ++ rest
-    → old.cut.ended ≡ map view_of items → StandsFor old bytes taken → StandsFor (with_ready (map view_of rest) old) bytes (cond (is_some r) (taken + 1) taken)
-next_stands old None items rest bytes taken is was stands =
-    let same : old.cut.ended ≡ map view_of rest = was ∙ ap (map view_of) is in
-    let P : List LineView → Type 0 = λ t. StandsFor (with_ready t old) bytes taken in
-    subst P same stands
-next_stands old (Some line) items rest bytes taken is was stands =
-    one_taken old.fault old.ended old (view_of line) (map view_of rest) bytes taken (was ∙ ap (map view_of) is) stands
+pub pass_stands : (old : Feed) (bytes : List ℕ) (taken : ℕ) → 0 < length old.cut.ended → StandsFor old bytes taken
+    → StandsFor (with_ready (drop 1 old.cut.ended) old) bytes (taken + 1)
+pass_stands old bytes taken some stands = go old.cut.ended refl some
+  where
+    go : (lines : List LineView) → old.cut.ended ≡ lines → 0 < length lines → StandsFor (with_ready (drop 1 lines) old) bytes (taken + 1)
+    go [] is some = absurd (omega arith)
+    go (line ∷ rest) is some = one_taken old.fault old.ended old line rest bytes taken is stands
 
 -- the text ends
 -- the longest well-formed front within the limit
@@ -301,23 +299,48 @@ pub end_lost : (feed : Feed) (bytes : List ℕ) (taken : ℕ) → Goes feed byte
     → IsFront feed.cut.ended (drop taken (cut_bytes feed.limit bytes).ended) × (taken ≤ length (cut_bytes feed.limit bytes).ended)
 end_lost feed bytes taken g = (([], sym (append-nil _ ∙ ap (λ (d : Cut). d.ended) g.cut)), g.in_order)
 
-nothing_pending : (pending : List ℕ) → length pending ≡ 0 → pending ≡ []
-nothing_pending [] h = refl
-nothing_pending (b ∷ bs) h = absurd (omega arith)
-
-pub end_stands : (old new : Feed) (bytes : List ℕ) (taken : ℕ) → old.fault ≡ None → old.ended ≡ false → StandsFor old bytes taken
-    → length old.pending ≡ 0 → new.limit ≡ old.limit → new.fault ≡ old.fault → new.ended ≡ true
-    → new.cut.ended ≡ old.cut.ended ++ map plain_line (last_line old.cut.partial) → StandsFor new bytes taken
-end_stands old new bytes taken sound going stands none limit fault ended ready =
+pub close_stands : (old new : Feed) (bytes : List ℕ) (taken : ℕ) → old.fault ≡ None → old.ended ≡ false → StandsFor old bytes taken
+    → HasClosed old new → StandsFor new bytes taken
+close_stands old new bytes taken sound going stands closed =
     let g = goes old bytes taken sound going stands in
-    let empty = nothing_pending old.pending none in
     let P : ℕ → Type 0 = λ l. text_fault l bytes ≡ None in
-    let last = end_ready old bytes taken g empty in
+    let last = end_ready old bytes taken g closed.pending in
     let whole : StandsAs None true new bytes taken =
-    record { sound = subst P (sym limit) (end_sound old bytes taken g empty); ready = ready ∙ last.0; in_order = last.1 } in
+    record { sound = subst P (sym closed.limit) (end_sound old bytes taken g closed.pending); ready = closed.ready ∙ last.0; in_order = last.1 } in
     let Q : Option TextFault → Type 0 = λ o. StandsAs o new.ended new bytes taken in
     let R : Bool → Type 0 = λ b. StandsAs None b new bytes taken in
-    subst Q (sym (fault ∙ sound)) (subst R (sym ended) whole)
+    subst Q (sym (closed.fault ∙ sound)) (subst R (sym closed.ended) whole)
+
+-- what the end answers
+pub close_answers : (r : Result (Unit {0}) TextFault) (old new : Feed) (bytes : List ℕ) (taken : ℕ) → Goes old bytes taken → Closes r old new
+    → Answers r (text_fault old.limit bytes)
+close_answers (Ok x) old new bytes taken g closed = end_sound old bytes taken g closed.pending
+close_answers (Err NoMemory) old new bytes taken g lost = tt
+close_answers (Err (NotUtf8 at)) old new bytes taken g short = end_cut_short old bytes taken g short.1 ∙ ap (λ n. Some (NotUtf8 n)) (sym short.2)
+close_answers (Err (TooLong at)) old new bytes taken g none = absurd none
+
+pub front_trans : (xs ys zs : List LineView) → IsFront xs ys → IsFront ys zs → IsFront xs zs
+front_trans xs ys zs h k = (h.0 ++ k.0, k.1 ∙ ap (λ t. t ++ k.0) h.1 ∙ append_assoc xs h.0 k.0)
+
+-- and where it leaves a feed with a fault
+pub close_fails : (fault : TextFault) (old new : Feed) (bytes : List ℕ) (taken : ℕ) → Goes old bytes taken → Closes (Err fault) old new
+    → StandsAs (Some fault) new.ended (failed fault new) bytes taken
+close_fails NoMemory old new bytes taken g lost =
+    let before = end_lost old bytes taken g in
+    let P : ℕ → Type 0 = λ limit. IsFront new.cut.ended (drop taken (cut_bytes limit bytes).ended) in
+    let Q : ℕ → Type 0 = λ limit. taken ≤ length (cut_bytes limit bytes).ended in
+    record {
+      ready = subst P (sym lost.0) (front_trans new.cut.ended old.cut.ended _ lost.1 before.0);
+      in_order = subst Q (sym lost.0) before.1;
+    }
+close_fails (NotUtf8 at) old new bytes taken g short =
+    subst (λ (f : Feed). HasFailed (NotUtf8 at) (failed (NotUtf8 at) f) bytes taken) (sym short.0)
+    (record {
+      told = end_cut_short old bytes taken g short.1 ∙ ap (λ n. Some (NotUtf8 n)) (sym short.2);
+      ready = ap (λ (d : Cut). d.ended) g.cut;
+      in_order = g.in_order;
+    })
+close_fails (TooLong at) old new bytes taken g none = absurd none
 
 -- a new feed
 valid_nil : utf8_valid_len [] ≡ 0

@@ -86,7 +86,7 @@ strip-fits n column (b ∷ bs) =
     omega (arith, front, whole, spaces, long))
     (λ some within. let rest = strip-fits (n - blank_width column b) (column + blank_width column b) bs in omega (arith, front, whole, rest))
 
-line-spaces : (n : ℕ) (bs : List ℕ) → is_line bs ≡ true → is_line (replicate n 32 ++ bs) ≡ true
+pub line-spaces : (n : ℕ) (bs : List ℕ) → is_line bs ≡ true → is_line (replicate n 32 ++ bs) ≡ true
 line-spaces zero bs h = h
 line-spaces (suc n) bs h = line-spaces n bs h
 

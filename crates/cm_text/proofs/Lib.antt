@@ -1,9 +1,12 @@
 pub mod PiecesLemmas
 pub mod ReplacedLemmas
 pub mod CutLemmas
+pub mod UnreadLemmas
+pub mod TextLemmas
 pub mod LinesLemmas
 pub mod Utf8Lemmas
 pub mod FeedLemmas
+pub mod ReadyLemmas
 pub mod SettledLemmas
 pub mod LabelLemmas
 pub mod Computing

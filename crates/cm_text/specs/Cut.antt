@@ -2,8 +2,8 @@
 use Rattle.std.specs.Prelude.{◌≡◌, ℕ, Bool, true, false, ◌==◌, if◌then◌else◌, List, [], ◌∷◌, ◌++◌, map, drop}
 use Rattle.std.specs.List.{fold}
 use Rattle.std.specs.String.{string_bytes}
-use Rattle.cm_text.specs.declared.cutter.Cutter.{Cutter}
-use Rattle.cm_text.specs.Lines.{LineView, plain_line, view_of, last_line, plain_lines_of, ended_lines_of}
+use Rattle.cm_text.specs.declared.unread.Unread.{Unread}
+use Rattle.cm_text.specs.Lines.{LineView, plain_line, last_line, plain_lines_of, ended_lines_of}
 
 -- the lines that have ended, the text of the line after them, and whether a carriage return came last
 pub record Cut : Type 0 where
@@ -11,8 +11,12 @@ pub record Cut : Type 0 where
   pub partial : List ℕ
   pub after_return : Bool
 
+-- the cut of a text of which the lines before have been taken
+abbrev pub begun : (after_return : Bool) → Cut
+begun after_return = record { ended = []; partial = []; after_return = after_return }
+
 abbrev pub nothing_cut : Cut
-nothing_cut = record { ended = []; partial = []; after_return = false }
+nothing_cut = begun false
 
 -- the line after those that have ended ends too
 abbrev pub end_line : Cut → Bool → Cut
@@ -32,10 +36,9 @@ cut_more cut text = fold cut_byte cut text
 abbrev pub without : ℕ → Cut → Cut
 without taken cut = record cut { ended = drop taken cut.ended }
 
--- what a cutter holds
-abbrev pub cut_of : Cutter → Cut
-cut_of cutter =
-    record { ended = map view_of cutter.ready.items; partial = string_bytes cutter.partial; after_return = cutter.after_return }
+-- what is unread
+abbrev pub cut_of : Unread → Cut
+cut_of unread = cut_more (begun unread.after_return) (drop unread.passed (string_bytes unread.text))
 
 -- all begins with front
 abbrev pub IsFront : List LineView → List LineView → Type 0

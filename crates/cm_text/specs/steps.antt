@@ -1,4 +1,4 @@
 pub mod FeedSteps
+pub mod FirstLine
 pub mod LabelSteps
 pub mod NameTable
-pub mod Runs

@@ -1,77 +1,103 @@
-//! Lines of a text that comes in pieces.
-ghost use Rattle.std.specs.Prelude.{◌≡◌, ◌≢◌, ℕ, ◌+◌, ◌≤◌, List, [], ◌∷◌, ◌++◌, length, OnOk, is_some, is_ok, IfSome, IfNone, if◌then◌else◌, None, false};
+//! The lines of a text that comes in pieces, as values of their own.
+ghost use Rattle.std.specs.Prelude.{◌≡◌, ◌≢◌, ℕ, ◌+◌, ◌<◌, ◌≤◌, List, [], ◌∷◌, ◌++◌, length, map, OnOk, is_some, is_ok, IfOk, IfSome, IfNone, if◌then◌else◌, None, false, OnErr};
 ghost use Rattle.cm_text.specs.Answers.{answer_after};
-ghost use Rattle.cm_text.specs.Lines.{view_of};
+ghost use Rattle.cm_text.specs.Lines.{LineView, view_of};
+ghost use Rattle.cm_text.specs.Views.{line_of};
 ghost use Rattle.cm_text.specs.Faults.{settled_fault, text_fault};
 ghost use Rattle.cm_text.specs.Feed.{StandsFor, Answers, with_ready, count};
-ghost use Rattle.cm_text.specs.steps.FeedSteps.{Steps};
+ghost use Rattle.cm_text.specs.steps.FeedSteps.{Steps, Closes, Moves, LetsGo};
 
-use crate::cutter::Cutter;
 use crate::fault::TextFault;
 use crate::limits::Limits;
+use crate::line_buffer::LineBuffer;
 use crate::lines::Line;
-use std::alloc::Global;
+use crate::view::View;
+use std::alloc::{AllocError, Global};
 use std::collections::VecDeque;
 use std::marker::Model;
 
-/// The lines of a text that comes in pieces.
+/// The lines of a text that comes in pieces, each a value of its own.
 ///
 /// Hand over the bytes by `push`, in whatever pieces they come, take the lines that have ended by
 /// `next_line` at any time, and tell by `end` that the text is whole. A line ends with a line feed,
-/// a carriage return, or both (CommonMark 0.31.2, 2.1); U+0000 becomes U+FFFD (2.3).
+/// a carriage return, or both (CommonMark 0.31.2, 2.1); U+0000 becomes U+FFFD (2.3). `LineBuffer` lends the
+/// lines in place of copying them.
 ///
 /// After a fault each further `push` and `end` answers that fault, and the lines that ended before
 /// its place can still be taken; after `TextFault::NoMemory`, a beginning of those that have ended.
 #[derive(Drop)]
 pub struct LineFeed {
+    alloc: Global,
     limits: Limits,
-    // How many bytes have been cut into lines, and those after them, of which no character is whole yet.
-    start: usize,
-    pending: Vec<u8>,
-    cutter: Cutter,
-    ended: bool,
+    // The lines that can be taken, and what has come behind them.
+    ready: VecDeque<Line>,
+    buffer: LineBuffer,
     fault: Option<TextFault>,
 }
 
 impl Model for LineFeed {
-    ghost use Rattle.std.specs.Prelude.{◌+◌, ◌*◌, ◌^◌, ◌≤◌, length, string_len};
-    ghost use Rattle.cm_text.specs.Feed.{Feed};
-    ghost use Rattle.cm_text.specs.Cut.{cut_of};
+    ghost use Rattle.std.specs.Prelude.{◌≡◌, ◌≤◌, map, []};
+    ghost use Rattle.cm_text.specs.Lines.{view_of};
+    ghost use Rattle.cm_text.specs.Feed.{Feed, count};
+    ghost use Rattle.cm_text.specs.steps.FeedSteps.{behind_ready};
 
     ghost Value = { Feed };
 
-    ghost view = { λ f. record { limit = f.limits.bytes; start = f.start; pending = f.pending.items; cut = cut_of f.cutter; ended = f.ended; fault = f.fault } };
+    ghost view = { λ f. behind_ready (map view_of f.ready.items) f.fault f.buffer };
 
-    ghost invariant = { λ f. (f.start + length f.pending.items ≤ f.limits.bytes) × (string_len f.cutter.partial ≤ 4 * f.start)
-        × (f.limits.bytes ≤ 2 ^ 30) };
+    ghost invariant = { λ f. (f.buffer.cut.ended ≡ []) × (count f.buffer ≤ f.buffer.limit) × (f.buffer.limit ≡ f.limits.bytes) };
+}
+
+/// A copy of a line.
+fn copied(alloc: Global, line: &View<'_>) -> Result<Line, AllocError>
+    requires { line.now.spaces ≡ 0 }
+    ensures { IfOk result (λ copy. view_of copy ≡ line_of line.now) }
+{
+    Ok(Line {
+        column: line.column,
+        text: String::from_str(alloc, line.rest)?,
+        lazy: line.lazy,
+    })
+}
+
+/// Copies the lines that have ended to those that are ready.
+fn move_lines(
+    alloc: Global,
+    buffer: &mut LineBuffer,
+    ready: &mut VecDeque<Line>,
+) -> Result<(), AllocError>
+    ensures moves { Moves (map view_of ready.old.items) buffer.old (map view_of ready.new.items) buffer.new }
+    ensures all { OnOk result (buffer.new.cut.ended ≡ []) }
+    ensures left { OnErr result (0 < length buffer.new.cut.ended) }
+{
+    while let Some(line) = buffer.first_line() {
+        ready.push_back(copied(alloc, &line)?)?;
+        buffer.pass_line();
+    }
+    Ok(())
+}
+
+/// The same. Where memory is refused, what hasn't been copied is let go.
+fn copy_lines(
+    alloc: Global,
+    limits: Limits,
+    buffer: &mut LineBuffer,
+    ready: &mut VecDeque<Line>,
+) -> Result<(), AllocError>
+    requires { buffer.old.limit ≡ limits.bytes }
+    ensures all { buffer.new.cut.ended ≡ [] }
+    ensures limit { buffer.new.limit ≡ limits.bytes }
+    ensures moves { OnOk result (Moves (map view_of ready.old.items) buffer.old (map view_of ready.new.items) buffer.new) }
+    ensures refused { OnErr result (LetsGo (map view_of ready.old.items) buffer.old (map view_of ready.new.items) buffer.new) }
+{
+    let moved = move_lines(alloc, buffer, ready);
+    if moved.is_err() {
+        *buffer = LineBuffer::new(alloc, limits);
+    }
+    moved
 }
 
 impl LineFeed {
-    /// Takes the bytes of a piece up to the limit.
-    fn accept(&mut self, piece: &[u8]) -> Result<(), TextFault>
-        ensures step { Steps result self.old piece.now self.new }
-        ensures count { OnOk result (count self.new ≡ count self.old + length piece.now) }
-        ensures within { count self.new ≤ self.new.limit }
-    {
-        let limit = self.limits.bytes();
-        let room = limit - (self.start + self.pending.len());
-        let within = &piece[..piece.len().min(room)];
-        let Ok((valid, broken)) = self.cutter.take_more(&mut self.pending, within) else {
-            // How far it came isn't known, and nothing more will be read.
-            self.pending.clear();
-            self.start = limit;
-            return Err(TextFault::NoMemory);
-        };
-        self.start += valid;
-        if broken {
-            return Err(TextFault::NotUtf8 { at: self.start });
-        }
-        if within.len() < piece.len() {
-            return Err(TextFault::TooLong { at: limit });
-        }
-        Ok(())
-    }
-
     /// A feed of nothing so far. It takes no memory.
     pub fn new(alloc: Global, limits: Limits) -> LineFeed
         ensures limit { result.limit ≡ limits.bytes }
@@ -79,21 +105,40 @@ impl LineFeed {
         ensures ended { result.ended ≡ false }
         ensures stands { StandsFor result [] 0 }
     {
-        // The range of the limit, which bounds what the feed counts.
-        let _limit = limits.bytes();
         LineFeed {
+            alloc,
             limits,
-            start: 0,
-            pending: Vec::new(alloc),
-            cutter: Cutter {
-                alloc,
-                ready: VecDeque::new(alloc),
-                partial: String::new(alloc),
-                after_return: false,
-            },
-            ended: false,
+            ready: VecDeque::new(alloc),
+            buffer: LineBuffer::new(alloc, limits),
             fault: None,
         }
+    }
+
+    /// Goes on with the next piece.
+    fn accept(&mut self, piece: &[u8]) -> Result<(), TextFault>
+        requires { self.old.ended ≡ false }
+        ensures step { Steps result self.old piece.now self.new }
+        ensures count { OnOk result (count self.new ≡ count self.old + length piece.now) }
+        ensures within { count self.new ≤ self.new.limit }
+    {
+        let accepted = self.buffer.accept(piece);
+        if let Err(_) = copy_lines(self.alloc, self.limits, &mut self.buffer, &mut self.ready) {
+            return Err(TextFault::NoMemory);
+        }
+        accepted
+    }
+
+    /// The end of the text.
+    fn close(&mut self) -> Result<(), TextFault>
+        requires { self.old.ended ≡ false }
+        ensures closes { Closes result self.old self.new }
+        ensures ended { self.new.ended ≡ is_ok result }
+    {
+        let closed = self.buffer.close();
+        if let Err(_) = copy_lines(self.alloc, self.limits, &mut self.buffer, &mut self.ready) {
+            return Err(TextFault::NoMemory);
+        }
+        closed
     }
 
     /// Goes on with the next piece of the text, which may be empty and may end anywhere, also within
@@ -135,14 +180,14 @@ impl LineFeed {
         ensures stands { (bytes : List ℕ) (taken : ℕ) → StandsFor self.old bytes taken →
             StandsFor self.new bytes (if is_some result then taken + 1 else taken) }
     {
-        self.cutter.ready.pop_front()
+        self.ready.pop_front()
     }
 
     /// Whether `end` has answered Ok.
     pub fn ended(&self) -> bool
         ensures { result ≡ self.now.ended }
     {
-        self.ended
+        self.buffer.ended()
     }
 
     /// Tells that the text ends here. Its last line is ready then, if it has no ending and isn't empty.
@@ -162,16 +207,10 @@ impl LineFeed {
         if let Some(fault) = self.fault {
             return Err(fault);
         }
-        if !self.pending.is_empty() {
-            let fault = TextFault::NotUtf8 { at: self.start };
+        let result = self.close();
+        if let Err(fault) = result {
             self.fault = Some(fault);
-            return Err(fault);
         }
-        if let Err(_) = self.cutter.end_text() {
-            self.fault = Some(TextFault::NoMemory);
-            return Err(TextFault::NoMemory);
-        }
-        self.ended = true;
-        Ok(())
+        result
     }
 }

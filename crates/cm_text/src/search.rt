@@ -2,9 +2,7 @@
 ghost use Rattle.std.specs.Prelude.{◌≡◌, ℕ, ◌+◌, ◌<◌, ◌≤◌, Bool, false, not, length, get_or, map};
 ghost use Rattle.std.specs.List.{prefix_len};
 ghost use Rattle.std.specs.Simd.Lanes.{chunk, mask_l};
-ghost use Rattle.memchr.specs.Find.{IsFirstByte};
 ghost use Rattle.cm_text.specs.Search.{next_place, is_marked};
-ghost use Rattle.cm_text.specs.steps.Runs.{is_special};
 
 use std::simd::prelude::*;
 
@@ -114,31 +112,4 @@ pub fn next_markup(bytes: &[u8], from: usize) -> usize
     ensures { result ≡ next_place is_marked bytes.now from }
 {
     next_of::<Marked>(bytes, from)
-}
-
-/// The bytes at which the text of a line is cut: those that end a line, and U+0000.
-struct Special;
-
-impl ByteKind for Special {
-    ghost passes = { is_special };
-
-    #[inline(always)]
-    fn contains(b: u8) -> bool {
-        b == b'\n' || b == b'\r' || b == b'\0'
-    }
-
-    #[inline(always)]
-    fn lanes(lanes: u8x16) -> u64 {
-        let endings = lanes.simd_eq(u8x16::splat(b'\n')) | lanes.simd_eq(u8x16::splat(b'\r'));
-        (endings | lanes.simd_eq(u8x16::splat(b'\0'))).to_bitmask()
-    }
-}
-
-/// Where the first byte stands that ends a line, or is U+0000.
-#[inline(always)]
-pub(crate) fn find_special(bytes: &[u8]) -> Option<usize>
-    ensures { IsFirstByte is_special bytes.now result }
-{
-    let at = next_of::<Special>(bytes, 0);
-    (at < bytes.len()).then_some(at)
 }

@@ -1,21 +1,20 @@
-//! Bytes that are cut into lines as far as they are UTF-8.
-ghost use Rattle.std.specs.Prelude.{◌≡◌, ◌+◌, ◌*◌, ◌^◌, ◌≤◌, ◌++◌, length, OnOk, OnErr, IfOk, is_some, string_len};
+//! Bytes that are taken as text as far as they are UTF-8.
+ghost use Rattle.std.specs.Prelude.{◌≡◌, ◌+◌, ◌*◌, ◌≤◌, ◌++◌, length, OnOk, OnErr, IfOk, is_some, string_len};
 ghost use Rattle.std.specs.Str.Lossy.{utf8_valid_len, utf8_error_len};
 ghost use Rattle.cm_text.specs.Cut.{cut_of, IsFront};
 ghost use Rattle.cm_text.specs.Faults.{left_of};
 ghost use Rattle.cm_text.specs.Feed.{cut_valid};
 
-use crate::cutter::Cutter;
+use crate::device::NoMemory;
+use crate::unread::Unread;
 use simdutf8::compat::from_utf8;
-use std::alloc::AllocError;
 
-impl Cutter {
-    /// Cuts the longest well-formed front off, and answers its length, and whether no character can
+impl Unread {
+    /// Goes on with the longest well-formed front, and answers its length, and whether no character can
     /// begin with the bytes after it, however they go on.
-    pub(crate) fn take_utf8(&mut self, bytes: &[u8]) -> Result<(usize, bool), AllocError>
-        requires { string_len self.old.partial + 4 * length bytes.now ≤ 2 ^ 61 }
-        ensures most { string_len self.new.partial ≤ string_len self.old.partial + 4 * length bytes.now }
-        ensures grown { IfOk result (λ r. string_len self.new.partial ≤ string_len self.old.partial + 4 * r.0) }
+    pub(crate) fn take_utf8(&mut self, bytes: &[u8]) -> Result<(usize, bool), NoMemory>
+        ensures most { string_len self.new.text ≤ string_len self.old.text + 3 * length bytes.now }
+        ensures grown { IfOk result (λ r. string_len self.new.text ≤ string_len self.old.text + 3 * r.0) }
         ensures len { IfOk result (λ r. r.0 ≡ utf8_valid_len bytes.now) }
         ensures within { IfOk result (λ r. r.0 ≤ length bytes.now) }
         ensures broken { IfOk result (λ r. r.1 ≡ is_some (utf8_error_len (left_of bytes.now))) }
@@ -44,11 +43,10 @@ impl Cutter {
         &mut self,
         pending: &mut Vec<u8>,
         piece: &[u8],
-    ) -> Result<(usize, bool), AllocError>
-        requires { string_len self.old.partial + 4 * (length pending.old.items + length piece.now) ≤ 2 ^ 61 }
-        ensures most { string_len self.new.partial
-            ≤ string_len self.old.partial + 4 * (length pending.old.items + length piece.now) }
-        ensures grown { IfOk result (λ r. string_len self.new.partial ≤ string_len self.old.partial + 4 * r.0) }
+    ) -> Result<(usize, bool), NoMemory>
+        ensures most { string_len self.new.text
+            ≤ string_len self.old.text + 3 * (length pending.old.items + length piece.now) }
+        ensures grown { IfOk result (λ r. string_len self.new.text ≤ string_len self.old.text + 3 * r.0) }
         ensures len { IfOk result (λ r. r.0 ≡ utf8_valid_len (pending.old.items ++ piece.now)) }
         ensures count { IfOk result (λ r. r.0 + length pending.new.items ≡ length pending.old.items + length piece.now) }
         ensures broken { IfOk result (λ r. r.1 ≡ is_some (utf8_error_len (left_of (pending.old.items ++ piece.now)))) }

@@ -1,7 +1,20 @@
-use Rattle.std.proofs.Common.{refl, arith}
-use Rattle.std.proofs.lemmas.Grind.{common_steps}
+use Rattle.std.proofs.Common.{map, ap, sym, ◌∙◌}
+use Rattle.cm_text.specs.Lines.{view_of}
+use Rattle.cm_text.specs.Feed.{Feed}
+use Rattle.cm_text.proofs.ReadyLemmas.{steps_moved, steps_refused}
 use Rattle.cm_text.proofs.feed.LineFeed.accept.Goals as goal
 
-pub returns-in_default-clause-step : goal.returns-in_default-clause-step
-returns-in_default-clause-step c =
-    rw (← c.self.view_is) record { limit = refl; ended = refl; fault = refl; ready = (c.in_default.ensures.err.0, grind (arith, common_steps, c.in_default.ensures.err.1)) }
+pub returns-clause-step : goal.returns-clause-step
+returns-clause-step c =
+    let f = c.self.inside in
+    let b = c.accept-accepted in
+    rw (← c.self.view_is) (steps_moved b.result (map view_of f.ready.items) (map view_of c.copy_lines.new.ready.items) f.fault f.buffer b.new.self c.copy_lines.new.buffer
+    c.args.piece.now b.ensures.step c.in_default.ensures.moves)
+
+pub returns-in-Err-clause-step : goal.returns-in-Err-clause-step
+returns-in-Err-clause-step c =
+    let f = c.self.inside in
+    let b = c.accept-accepted in
+    let going = ap (λ (g : Feed). g.ended) c.self.view_is ∙ c.requires in
+    rw (← c.self.view_is) (steps_refused b.result (map view_of f.ready.items) (map view_of c.copy_lines.new.ready.items) f.fault f.buffer b.new.self c.copy_lines.new.buffer
+    c.args.piece.now going b.ensures.step c.in-Err.ensures.refused c.in-Err.ensures.all (c.in-Err.ensures.limit ∙ sym c.self.invariant.2))

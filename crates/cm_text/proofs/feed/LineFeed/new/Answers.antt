@@ -1,6 +1,0 @@
-use Rattle.std.proofs.Common.{refl, rules}
-use Rattle.cm_text.proofs.FeedLemmas.{new_goes}
-use Rattle.cm_text.proofs.feed.LineFeed.new.Goals as goal
-
-pub returns-clause-stands : goal.returns-clause-stands
-returns-clause-stands c = new_goes _ refl c.new.ensures.items (search rules)
