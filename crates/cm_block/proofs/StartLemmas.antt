@@ -1,5 +1,5 @@
 -- What a line begins, by what each scanner answers.
-use Rattle.std.proofs.Common.{◌≡◌, ℕ, ◌<◌, ◌≤◌, Bool, true, false, List, [], ◌∷◌, ◌++◌, replicate, Option, refl, ◌∙◌, sym, ap, arith}
+use Rattle.std.proofs.Common.{◌≡◌, ℕ, ◌<◌, ◌≤◌, Bool, true, false, ◌==◌, ◌&&◌, None, List, [], ◌∷◌, ◌++◌, replicate, Option, refl, ◌∙◌, sym, ap, arith}
 use Rattle.cm_text.specs.Lines.{LineView}
 use Rattle.cm_text.specs.Indentation.{indent_from, indent_of, strip_columns, after_indent}
 use Rattle.cm_text.specs.Views.{line_of}
@@ -10,8 +10,10 @@ use Rattle.std.specs.Option.{is_some}
 use Rattle.cm_text.specs.Rules.{Rules}
 use Rattle.cm_scan.specs.Words.{begins_with, given, ◌<|>◌, skip, trim_start}
 use Rattle.cm_scan.specs.LineForms.{Heading, Fence, ItemMarker, is_thematic_break, atx_heading, opening_fence, item_marker}
-use Rattle.cm_scan.specs.HtmlBlocks.{HtmlKind, html_start}
-use Rattle.cm_scan.specs.Starts.{Start, IndentedCode, QuoteMarker, AtxHeading, OpeningFence, HtmlStart, BreakLine, ItemStart, TextLine, seen_as, or_text, start_of_content, start_of}
+use Rattle.cm_scan.specs.HtmlBlocks.{HtmlKind, html_start, is_at_letter}
+use Rattle.cm_scan.proofs.QuietStarts.{letter-starts, letter-underlines, letter-content}
+use Rattle.std.proofs.lemmas.Bool.{and_parts, eqb-true}
+use Rattle.cm_scan.specs.Starts.{Start, IndentedCode, QuoteMarker, AtxHeading, OpeningFence, HtmlStart, BreakLine, ItemStart, TextLine, seen_as, or_text, start_of_content, start_of, underline_of}
 
 -- the first of these that is there
 abbrev pub first : Bool → Option Heading → Option Fence → Option HtmlKind → Bool → Option ItemMarker → Start
@@ -80,3 +82,21 @@ module _ (rules : Rules) where
       → start_of_content rules view.rest.now ≡ start_of rules line
   starts_near line n view lazy all near left none =
       ap (start_of_content rules) (content_left line n view all left none) ∙ starts_content _ line lazy (omega (arith, all, near))
+
+-- a line that begins with a letter, without indentation
+
+at_letter : (view : View) → ((view.spaces == 0) && is_at_letter view.rest.now) ≡ true → is_at_letter (line_of view).text ≡ true
+at_letter view begins =
+    let parts = and_parts (view.spaces == 0) (is_at_letter view.rest.now) begins in
+    ap (λ n. is_at_letter (replicate n 32 ++ view.rest.now)) (eqb-true view.spaces 0 parts.0) ∙ parts.1
+
+pub letter_starts : (rules : Rules) (view : View) → view.lazy ≡ false → ((view.spaces == 0) && is_at_letter view.rest.now) ≡ true → start_of rules (line_of view) ≡ TextLine
+letter_starts rules view eager begins = letter-starts rules (line_of view) eager (at_letter view begins)
+
+pub letter_underlines : (view : View) → view.lazy ≡ false → ((view.spaces == 0) && is_at_letter view.rest.now) ≡ true → underline_of (line_of view) ≡ None
+letter_underlines view eager begins = letter-underlines (line_of view) eager (at_letter view begins)
+
+pub letter_content : (view : View) → ((view.spaces == 0) && is_at_letter view.rest.now) ≡ true → content_of (line_of view) ≡ view.rest.now
+letter_content view begins =
+    let parts = and_parts (view.spaces == 0) (is_at_letter view.rest.now) begins in
+    letter-content (line_of view).text (at_letter view begins) ∙ ap (λ n. replicate n 32 ++ view.rest.now) (eqb-true view.spaces 0 parts.0)

@@ -1,10 +1,8 @@
 //! A line that is read by counted calls alone.
 ghost use Rattle.std.specs.Prelude.{◌≡◌};
-ghost use Rattle.cm_text.specs.Lines.{view_of};
-ghost use Rattle.cm_text.specs.Views.{line_of};
 ghost use Rattle.cm_block.specs.Tests.{Tested};
 
-use cm_text::{Line, View};
+use cm_text::View;
 
 /// What is left of a line inside the containers in which it stays, and how often it has been read so far.
 /// It is shown by a call that counts, and by no other; and it is let go by the call that gives the
@@ -16,12 +14,12 @@ pub(crate) struct CountedLine<'a> {
 
 impl<'a> CountedLine<'a> {
     /// A whole line, which hasn't been read.
-    pub(crate) fn new(line: &'a Line) -> CountedLine<'a>
-        ensures line { line_of result.rest ≡ view_of line.now }
+    pub(crate) fn new(line: View<'a>) -> CountedLine<'a>
+        ensures line { result.rest ≡ line.entry }
         ensures tests { result.tests ≡ 0 }
     {
         CountedLine {
-            rest: line.view(),
+            rest: line,
             tests: 0,
         }
     }

@@ -28,7 +28,7 @@ use crate::line_owners::{Owners, blank_owner};
 use crate::owner_runs::LineOwners;
 use crate::stack::Stack;
 use crate::starts::Start;
-use cm_text::{Limits, Line, NoMemory};
+use cm_text::{Limits, Line, NoMemory, View};
 use cm_tree::{Block, Definitions, Items};
 use std::alloc::Global;
 use std::mem;
@@ -49,7 +49,7 @@ pub struct Outline {
 /// Reads the block structure of a document from its lines, by the rules of its limits (CommonMark 0.31.2,
 /// chapters 3 to 5).
 ///
-/// Hand over each line once, by `line`, and take the outline by `finish`. Each line is done with when the
+/// Hand over each line once, by `line` or `line_view`, and take the outline by `finish`. Each line is done with when the
 /// call returns: what is open is held, and no line is kept. After a fault each further call answers that
 /// fault.
 #[derive(Debug, Drop)]
@@ -235,13 +235,29 @@ impl BlockParser {
         ensures failed { self.old.fault ≢ None → self.new ≡ self.old }
         ensures limits { self.new.limits ≡ self.old.limits }
     {
+        self.line_view(&line.view())
+    }
+
+    /// Takes in one more line, which is seen without a copy and not kept.
+    ///
+    /// # Errors
+    ///
+    /// `BlocksTooDeep` in the call that brings the first line with more quotes and items round it than the
+    /// limit, `NoMemory` where a request for memory was refused; the same fault from then on.
+    pub fn line_view(&mut self, line: &View<'_>) -> Result<(), BlockFault>
+        ensures stands { OnOk result ((lines : List LineView) → StandsFor self.old lines → StandsFor self.new (lines ++ line_of line.now ∷ [])) }
+        ensures told { IfErr result (λ fault. (lines : List LineView) → StandsFor self.old lines → TellsDepth fault self.old.limits (lines ++ line_of line.now ∷ [])) }
+        ensures answer { result ≡ answer_after self.new.fault }
+        ensures failed { self.old.fault ≢ None → self.new ≡ self.old }
+        ensures limits { self.new.limits ≡ self.old.limits }
+    {
         if let Some(fault) = self.fault {
             return Err(fault);
         }
         // The range of the limit, which bounds how often the line is read.
         let _limit = self.limits.blocks();
         let before = self.tests;
-        let mut line = CountedLine::new(line);
+        let mut line = CountedLine::new(*line);
         let result = self.accept(&mut line);
         self.tests = before.saturating_add(u128::from(line.into_tests()));
         if let Err(fault) = result {

@@ -14,7 +14,7 @@ ghost use Rattle.cm_block.specs.steps.LeafSteps.{next_of, heading_level};
 
 use crate::counted_line::CountedLine;
 use crate::places::is_blank;
-use crate::starts::{Start, start_of};
+use crate::starts::{Start, begins_with_letter, start_of};
 use cm_scan::{HtmlKind, ItemMarker, definition, is_blank_text, trim_end, underline};
 use cm_text::{Rules, View};
 use cm_tree::ListKind;
@@ -38,6 +38,9 @@ pub(crate) fn line_feeds(text: &str) -> usize
 pub(crate) fn content<'a>(line: &View<'a>) -> &'a str
     ensures { result.now ≡ content_of (line_of line.now) }
 {
+    if begins_with_letter(line) {
+        return line.rest;
+    }
     line.strip(line.indent()).rest
 }
 
@@ -121,6 +124,9 @@ fn underline_of(line: &View<'_>) -> Option<u8>
     ensures { result ≡ underline_of (line_of line.now) }
 {
     if line.lazy {
+        return None;
+    }
+    if begins_with_letter(line) {
         return None;
     }
     if line.indent() > 3 {

@@ -1,6 +1,7 @@
 //! What a line begins.
-ghost use Rattle.std.specs.Prelude.{◌≡◌};
+ghost use Rattle.std.specs.Prelude.{◌≡◌, ◌==◌, ◌&&◌};
 ghost use Rattle.cm_text.specs.Views.{line_of};
+ghost use Rattle.cm_scan.specs.HtmlBlocks.{is_at_letter};
 ghost use Rattle.cm_scan.specs.Starts.{start_of_content, start_of};
 ghost use Rattle.cm_block.specs.steps.StartViews.{seen};
 
@@ -21,6 +22,17 @@ pub(crate) enum Start<'a> {
     Break,
     Item(ItemMarker),
     TextLine,
+}
+
+/// Whether a line begins with an ASCII letter, without indentation. It is text then, and all of it is its content.
+#[inline(always)]
+pub(crate) fn begins_with_letter(line: &View<'_>) -> bool
+    ensures { result ≡ ((line.now.spaces == 0) && is_at_letter line.now.rest.now) }
+{
+    match line.rest.as_bytes() {
+        [b, ..] => line.spaces == 0 && b.is_ascii_alphabetic(),
+        [] => false,
+    }
 }
 
 /// The first that fits by these rules, with up to 3 columns of indentation.
@@ -53,6 +65,9 @@ pub(crate) fn start_of<'a>(rules: Rules, line: &View<'a>) -> Start<'a>
     ensures { seen result ≡ start_of rules (line_of line.now) }
 {
     if line.lazy {
+        return Start::TextLine;
+    }
+    if begins_with_letter(line) {
         return Start::TextLine;
     }
     let indent = line.indent();

@@ -43,3 +43,5 @@ pub mod RunLemmas
 pub mod AngledLemmas
 pub mod NeededLemmas
 pub mod LevelLemmas
+pub mod Apart
+pub mod QuietStarts

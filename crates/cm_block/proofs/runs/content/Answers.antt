@@ -1,7 +1,10 @@
-use Rattle.std.proofs.Common.{arith}
+use Rattle.std.proofs.Common.{◌∙◌, sym, arith}
 use Rattle.cm_text.specs.Views.{line_of}
-use Rattle.cm_block.proofs.StartLemmas.{content_left}
+use Rattle.cm_block.proofs.StartLemmas.{content_left, letter_content}
 use Rattle.cm_block.proofs.runs.content.Goals as goal
+
+pub returns-then-begins_with_letter : goal.returns-then-begins_with_letter
+returns-then-begins_with_letter c = sym (letter_content c.args.line.now (sym c.begins_with_letter.ensures ∙ c.if-begins_with_letter.true))
 
 pub returns : goal.returns
 returns c =
