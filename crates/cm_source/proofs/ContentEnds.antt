@@ -23,7 +23,7 @@ use Rattle.cm_source.proofs.ContentFronts.{text-front}
 use Rattle.cm_source.proofs.TagLemmas.{tag-begins, tag-ends}
 use Rattle.cm_source.proofs.PlacesBack.{bare-front}
 use Rattle.cm_source.proofs.Ways.{Way, ByNumber, Escaped, AsItIs, no-control, way}
-use Rattle.cm_source.proofs.Tests.{differs, differs'}
+use Rattle.cm_scan.proofs.Apart.{differs, differs'}
 
 -- the last byte is neither blank nor an unescaped `#`; the mark says that the first byte is escaped
 unfoldable pub ends_well : (is_escaped : Bool) → List ℕ → Bool

@@ -19,10 +19,12 @@ use Rattle.cm_source.proofs.InlineKinds.{text-judged, code-judged, html-judged, 
 use Rattle.cm_source.proofs.AcceptedLemmas.{or-none, Accepted, text-accepted, code-accepted, html-accepted, soft-accepted, hard-accepted, EmphasisAccepted, emph-accepted, strong-accepted, strike-accepted, link-accepted, image-accepted}
 use Rattle.cm_source.proofs.InlineInduction.{AllHold, Cases, by-cases, all-by-cases}
 use Rattle.cm_source.proofs.KeptBytes.{is_line_byte, one-line, padding-line, text-is-line, code-is-line, target-is-line}
-use Rattle.cm_source.proofs.LineFronts.{starters, is_quiet, enders, is_inner, ends_number, ends-digit, ends-other, line_of, Front, quiet, number, one_star, two_stars, two_tildes, backticks, LinesBegin}
+use Rattle.cm_scan.proofs.QuietStarts.{starters, is_quiet}
+use Rattle.cm_source.proofs.LineFronts.{enders, is_inner, ends_number, ends-digit, ends-other, line_of, Front, quiet, number, one_star, two_stars, two_tildes, backticks, LinesBegin}
 use Rattle.cm_source.proofs.TagLemmas.{tag-begins}
 use Rattle.cm_source.proofs.Ways.{Way, ByNumber, Escaped, AsItIs, no-control, way, edge_way}
-use Rattle.cm_source.proofs.Tests.{all-both, differs', none-passes}
+use Rattle.cm_scan.proofs.Apart.{differs', none-passes}
+use Rattle.cm_source.proofs.Tests.{all-both}
 
 -- ---- quiet and inner bytes
 

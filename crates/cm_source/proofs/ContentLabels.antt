@@ -21,7 +21,8 @@ use Rattle.cm_source.proofs.SpelledBytes.{all-digits}
 use Rattle.cm_source.proofs.TagLemmas.{tag-begins, tag-ends}
 use Rattle.cm_source.proofs.TextLemmas.{escapes-none}
 use Rattle.cm_source.proofs.Ways.{Way, ByNumber, Escaped, AsItIs, edge_way}
-use Rattle.cm_source.proofs.Tests.{all-both, all-so, differs, differs'}
+use Rattle.cm_scan.proofs.Apart.{differs, differs'}
+use Rattle.cm_source.proofs.Tests.{all-both, all-so}
 
 -- ---- where a label ends
 

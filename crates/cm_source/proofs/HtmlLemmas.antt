@@ -24,7 +24,7 @@ use Rattle.cm_source.proofs.FeedLemmas.{ended-last}
 use Rattle.cm_source.specs.Spelling.{in_front, ended_lines}
 use Rattle.cm_source.specs.Refusals.{is_code_text, last_line, first_line, is_html_ended, is_html_part, is_html_block}
 use Rattle.cm_source.specs.steps.HtmlLines.{ends_as_last, fits, is_none_left, all_fit, fit_from}
-use Rattle.cm_source.proofs.LineFronts.{no-html-start}
+use Rattle.cm_scan.proofs.QuietStarts.{no-html-start}
 
 -- the text of lines that line feeds end
 abbrev pub ended : List (List ℕ) → List ℕ

@@ -17,7 +17,7 @@ use Rattle.cm_source.specs.steps.ContentBack.{is_before_line_end}
 use Rattle.cm_source.proofs.Neighbours.{ascii-utf8, Beside, is_blank, punctuation-seen, first-ascii, last-ascii}
 use Rattle.cm_source.proofs.Ways.{Way, ByNumber, Escaped, AsItIs, edge_way}
 use Rattle.cm_source.proofs.BytesRead.{no-line-here}
-use Rattle.cm_source.proofs.Tests.{differs'}
+use Rattle.cm_scan.proofs.Apart.{differs'}
 
 -- ---- the first byte of a text
 

@@ -11,14 +11,8 @@ use Rattle.cm_scan.specs.Starts.{TextLine, start_of_content}
 use Rattle.cm_scan.specs.BlockLaws.{is_unindented}
 use Rattle.cm_source.specs.Spelling.{in_front, parted_lines}
 use Rattle.cm_source.specs.steps.Sources.{is_only, IsTextLine, AllTextLines}
-use Rattle.cm_source.proofs.Tests.{differs, none-passes}
-
--- the bytes with which a block other than text, or an underline, may begin, but for digits; blanks, and the end of a line
-abbrev pub starters : List ℕ
-starters = codes ">#`~<-_*+= \t\n"
-
-unfoldable pub is_quiet : ℕ → Bool
-is_quiet b = not (list_any (λ c. b == c) starters)
+use Rattle.cm_scan.proofs.QuietStarts.{starters, is_quiet, no-run, no-fence-of, no-level, no-number, unmarked-start}
+use Rattle.cm_scan.proofs.Apart.{differs, none-passes}
 
 -- the bytes at which, behind stars or tildes, a marker or a run may end
 abbrev pub enders : List ℕ
@@ -84,63 +78,6 @@ line-ends (b ∷ bs) e = go (b == 10) (is_digit b) refl refl (line-ends bs)
     go true d p q again = ap ends_number (cond-true (b == 10) [] (b ∷ line_of bs) p)
     go false true p q again = ap ends_number (line-keeps b bs p) ∙ ends-digit b (line_of bs) q ∙ again (sym (ends-digit b bs q) ∙ e)
     go false false p q again = ap ends_number (line-keeps b bs p) ∙ ends-other b (line_of bs) q ∙ sym (ends-other b bs q) ∙ e
-
--- ---- a quiet byte
-
-no-run : (marker b : ℕ) (bs : List ℕ) → (b == marker) ≡ false → run_length marker (b ∷ bs) ≡ 0
-unfolding run_length
-no-run marker b bs e = ap (λ v. elim v as (λ _. ℕ) [ true ↦ suc (run_length marker bs) | false ↦ 0 ]) e
-
-no-heading : (b : ℕ) (bs : List ℕ) → (b == 35) ≡ false → atx_heading (b ∷ bs) ≡ None
-unfolding atx_heading
-no-heading b bs e = rw (no-run 35 b bs e) refl
-
-no-fence-of : (marker b : ℕ) (bs : List ℕ) → (b == marker) ≡ false → fence_of marker (b ∷ bs) ≡ None
-unfolding fence_of
-no-fence-of marker b bs e = rw (no-run marker b bs e) refl
-
-no-fence : (b : ℕ) (bs : List ℕ) → (b == 96) ≡ false → (b == 126) ≡ false → opening_fence (b ∷ bs) ≡ None
-unfolding opening_fence
-no-fence b bs e f = rw (no-fence-of 96 b bs e, no-fence-of 126 b bs f) refl
-
-pub no-html-start : (rules : Rules) (b : ℕ) (bs : List ℕ) → (b == 60) ≡ false → html_start rules (b ∷ bs) ≡ None
-unfolding html_start
-no-html-start rules b bs e = rw (e, html_start) refl
-
-no-bullet : (b : ℕ) (bs : List ℕ) → (b == 45) ≡ false → (b == 43) ≡ false → (b == 42) ≡ false → bullet_marker (b ∷ bs) ≡ None
-unfolding bullet_marker
-no-bullet b bs e f g = rw (e, f, g) refl
-
-no-digits : (text : List ℕ) → marker_behind [] text ≡ None
-unfolding marker_behind
-no-digits [] = refl
-no-digits (b ∷ bs) = refl
-
-no-number : (b : ℕ) (bs : List ℕ) → is_digit b ≡ false → ordered_marker (b ∷ bs) ≡ None
-unfolding ordered_marker front_of
-no-number b bs e = ap (λ v. marker_behind (elim v as (λ _. List ℕ) [ true ↦ b ∷ front_of is_digit bs | false ↦ [] ]) (skip is_digit (b ∷ bs))) e ∙ no-digits (skip is_digit (b ∷ bs))
-
-no-break : (b : ℕ) (bs : List ℕ) → (b == 45) ≡ false → (b == 95) ≡ false → (b == 42) ≡ false → (b == 32) ≡ false → (b == 9) ≡ false → is_thematic_break (b ∷ bs) ≡ false
-unfolding is_thematic_break
-no-break b bs e f g h k = rw (e, f, g, h, k) refl
-
-unmarked-start : (rules : Rules) (b : ℕ) (bs : List ℕ) → is_quiet b ≡ true → ordered_marker (b ∷ bs) ≡ None → start_of_content rules (b ∷ bs) ≡ TextLine
-unfolding start_of_content item_marker is_quiet
-unmarked-start rules b bs q none =
-    let no : (c : ℕ) → is_quiet c ≡ false → (b == c) ≡ false = λ c. differs is_quiet b c q in
-    rw (
-      no 62 refl,
-      no-heading b bs (no 35 refl),
-      no-fence b bs (no 96 refl) (no 126 refl),
-      no-html-start rules b bs (no 60 refl),
-      no-break b bs (no 45 refl) (no 95 refl) (no 42 refl) (no 32 refl) (no 9 refl),
-      no-bullet b bs (no 45 refl) (no 43 refl) (no 42 refl),
-      none,
-    ) refl
-
-pub no-level : (b : ℕ) (bs : List ℕ) → (b == 61) ≡ false → (b == 45) ≡ false → underline (b ∷ bs) ≡ None
-unfolding underline
-no-level b bs e f = rw (no-run 61 b bs e, no-run 45 b bs f) refl
 
 unmarked-text : (rules : Rules) (b : ℕ) (bs : List ℕ) → is_quiet b ≡ true → ordered_marker (b ∷ bs) ≡ None → IsText rules (b ∷ bs)
 unfolding is_quiet

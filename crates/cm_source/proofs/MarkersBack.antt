@@ -20,7 +20,7 @@ use Rattle.cm_source.specs.steps.Sources.{is_only, is_one_line}
 use Rattle.cm_source.proofs.NumbersBack.{digits-are, value-is, short-is}
 use Rattle.cm_source.proofs.PlacesBack.{MarkerReads}
 use Rattle.cm_source.proofs.OutlineFits.{KindFits}
-use Rattle.cm_source.proofs.LineFronts.{no-level}
+use Rattle.cm_scan.proofs.QuietStarts.{no-level}
 
 digits-front : (ds : List ℕ) (p : ℕ) (rest : List ℕ) → list_all is_digit ds ≡ true → is_digit p ≡ false → front_of is_digit (ds ++ p ∷ rest) ≡ ds
 unfolding front_of

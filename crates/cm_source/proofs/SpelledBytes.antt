@@ -8,7 +8,8 @@ use Rattle.cm_text.specs.Characters.{is_ascii_punct}
 use Rattle.cm_scan.specs.Words.{is_digit, is_empty}
 use Rattle.cm_source.specs.Texts.{numbered, spelled_byte, spelled_bytes, edge_byte, spelled_text, spelled_title, spelled_target}
 use Rattle.cm_source.proofs.Ways.{Way, ByNumber, Escaped, AsItIs, no-control, way, edge_way}
-use Rattle.cm_source.proofs.Tests.{differs, differs', all-both, all-so}
+use Rattle.cm_scan.proofs.Apart.{differs, differs'}
+use Rattle.cm_source.proofs.Tests.{all-both, all-so}
 
 -- ---- one byte
 
