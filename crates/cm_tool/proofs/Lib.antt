@@ -21,3 +21,4 @@ pub mod SettledLemmas
 pub mod TextLemmas
 pub mod WalkedLemmas
 pub mod WithinLemmas
+pub mod PassedLemmas

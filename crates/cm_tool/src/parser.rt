@@ -17,7 +17,7 @@ ghost use Rattle.cm_tool.specs.steps.Pushing.{Pushes, Counts};
 use crate::fault::Fault;
 use crate::leaves::{leaves_html, read_leaves};
 use cm_block::{BlockFault, BlockParser, Outline};
-use cm_text::{Limits, LineFeed, TextFault};
+use cm_text::{Limits, LineBuffer, TextFault};
 use cm_tree::{Doc, Items, Text};
 use std::alloc::Global;
 use std::marker::Model;
@@ -32,7 +32,7 @@ pub(crate) const PART: usize = 8192;
 #[derive(Drop)]
 pub struct Parser {
     alloc: Global,
-    feed: LineFeed,
+    feed: LineBuffer,
     blocks: BlockParser,
     fault: Option<Fault>,
 }
@@ -60,7 +60,7 @@ impl Parser {
     {
         Parser {
             alloc,
-            feed: LineFeed::new(alloc, limits),
+            feed: LineBuffer::new(alloc, limits),
             blocks: BlockParser::new(alloc, limits),
             fault: None,
         }
@@ -131,7 +131,7 @@ impl Parser {
 }
 
 /// Goes on with one more piece, part by part, as far as it goes.
-fn push(feed: &mut LineFeed, blocks: &mut BlockParser, piece: &[u8]) -> Result<(), Fault>
+fn push(feed: &mut LineBuffer, blocks: &mut BlockParser, piece: &[u8]) -> Result<(), Fault>
     requires { feed.old.ended ≡ false }
     ensures pushes { Pushes result piece.now feed.old blocks.old feed.new blocks.new }
     ensures counts { Counts result piece.now feed.old feed.new }
@@ -146,7 +146,7 @@ fn push(feed: &mut LineFeed, blocks: &mut BlockParser, piece: &[u8]) -> Result<(
 
 /// Goes on with one more part of a piece, as far as it goes. The lines that end before a fault of the text
 /// are taken in first, since one that is too deep goes before it.
-fn push_part(feed: &mut LineFeed, blocks: &mut BlockParser, piece: &[u8]) -> Result<(), Fault>
+fn push_part(feed: &mut LineBuffer, blocks: &mut BlockParser, piece: &[u8]) -> Result<(), Fault>
     requires { feed.old.ended ≡ false }
     ensures pushes { Pushes result piece.now feed.old blocks.old feed.new blocks.new }
     ensures counts { Counts result piece.now feed.old feed.new }
@@ -161,7 +161,7 @@ fn push_part(feed: &mut LineFeed, blocks: &mut BlockParser, piece: &[u8]) -> Res
 }
 
 /// The outline of the bytes.
-fn outline(mut feed: LineFeed, mut blocks: BlockParser) -> Result<Outline, Fault>
+fn outline(mut feed: LineBuffer, mut blocks: BlockParser) -> Result<Outline, Fault>
     requires { feed.ended ≡ false }
     ensures outline { IfOk result (λ outline. (limits : LimitsView) (bytes : List ℕ) → Goes limits feed blocks bytes →
         IsOutline limits bytes outline) }
@@ -175,7 +175,7 @@ fn outline(mut feed: LineFeed, mut blocks: BlockParser) -> Result<Outline, Fault
 }
 
 /// The document of the bytes.
-fn finish(alloc: Global, feed: LineFeed, blocks: BlockParser) -> Result<Doc, Fault>
+fn finish(alloc: Global, feed: LineBuffer, blocks: BlockParser) -> Result<Doc, Fault>
     requires { feed.ended ≡ false }
     ensures { (limits : LimitsView) (bytes : List ℕ) → Goes limits feed blocks bytes →
         Finishes result limits bytes }
@@ -193,7 +193,7 @@ fn finish(alloc: Global, feed: LineFeed, blocks: BlockParser) -> Result<Doc, Fau
 }
 
 /// The HTML of the bytes' document in pages.
-fn finish_html(alloc: Global, feed: LineFeed, blocks: BlockParser) -> Result<Items<Text>, Fault>
+fn finish_html(alloc: Global, feed: LineBuffer, blocks: BlockParser) -> Result<Items<Text>, Fault>
     requires { feed.ended ≡ false }
     ensures { (limits : LimitsView) (bytes : List ℕ) → Goes limits feed blocks bytes →
         Makes (λ pages. concat pages ≡ converted limits.rules bytes) result limits bytes }
@@ -207,8 +207,8 @@ fn finish_html(alloc: Global, feed: LineFeed, blocks: BlockParser) -> Result<Ite
     leaves_html(alloc, limits, &definitions, blocks)
 }
 
-/// Hands the lines that are ready to the blocks.
-fn hand_over(feed: &mut LineFeed, blocks: &mut BlockParser) -> Result<(), BlockFault>
+/// Lends the lines that have ended to the blocks, one after another.
+fn hand_over(feed: &mut LineBuffer, blocks: &mut BlockParser) -> Result<(), BlockFault>
     ensures ready { OnOk result (feed.new ≡ with_ready [] feed.old) }
     ensures ended { feed.new.ended ≡ feed.old.ended }
     ensures limit { feed.new.limit ≡ feed.old.limit }
@@ -221,8 +221,9 @@ fn hand_over(feed: &mut LineFeed, blocks: &mut BlockParser) -> Result<(), BlockF
         AreLines (lines ++ feed.old.cut.ended) →
         TellsDepth fault blocks.old.limits (lines ++ feed.old.cut.ended)) }
 {
-    while let Some(line) = feed.next_line() {
-        blocks.line(&line)?;
+    while let Some(line) = feed.first_line() {
+        blocks.line_view(&line)?;
+        feed.pass_line();
     }
     Ok(())
 }

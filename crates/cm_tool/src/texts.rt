@@ -1,15 +1,13 @@
 //! Reading a source to its end as a text.
-ghost use Rattle.std.specs.Prelude.{◌≡◌, ℕ, ◌-◌, ◌^◌, ◌<◌, List, IfOk, string_bytes, length};
+ghost use Rattle.std.specs.Prelude.{◌≡◌, ℕ, ◌-◌, ◌^◌, ◌<◌, List, length};
 ghost use Rattle.std.specs.Io.KnownBytes.{Consumes};
-ghost use Rattle.cm_text.specs.Lines.{text_of};
 ghost use Rattle.cm_tool.specs.Reading.{ReadsText};
 
 use crate::fault::Fault;
 use crate::parser::PART;
 use crate::reading::zeros;
-use cm_text::{Limits, LineFeed, Source, cut_at};
-use memchr::memchr;
-use std::alloc::{AllocError, Global};
+use cm_text::{Limits, LineBuffer, Source, text_of};
+use std::alloc::Global;
 
 /// Reads a source to its end and answers its text, in which U+FFFD stands for U+0000.
 ///
@@ -26,7 +24,7 @@ pub fn read_text<R: Source>(alloc: Global, source: &mut R, limits: Limits) -> Re
     text_to_end(alloc, source, limits, buffer.as_mut_slice())
 }
 
-/// The feed is asked for faults alone, and its lines aren't taken.
+/// The feed is asked for faults alone, and its lines aren't looked at.
 fn text_to_end<R: Source>(
     alloc: Global,
     source: &mut R,
@@ -40,7 +38,7 @@ fn text_to_end<R: Source>(
         (record { remaining = R.remaining source.old; failed = R.failed source.old })
         (record { remaining = R.remaining source.new; failed = R.failed source.new }) }
 {
-    let mut feed = LineFeed::new(alloc, limits);
+    let mut feed = LineBuffer::new(alloc, limits);
     let mut bytes = Vec::new(alloc);
     loop {
         let Ok(n) = source.read(buffer) else {
@@ -53,20 +51,4 @@ fn text_to_end<R: Source>(
         feed.push(&buffer[..n])?;
         bytes.extend_from_slice(&buffer[..n])?;
     }
-}
-
-/// The text of a string: U+FFFD stands for U+0000.
-fn text_of(alloc: Global, whole: &str) -> Result<String, AllocError>
-    ensures { IfOk result (λ text. string_bytes text ≡ text_of whole.now) }
-{
-    let mut text = String::with_capacity(alloc, whole.len())?;
-    let mut rest = whole;
-    while let Some(at) = memchr(0, rest.as_bytes()) {
-        let (before, behind) = cut_at(rest, at);
-        text.push_str(before)?;
-        text.push_str("\u{FFFD}")?;
-        rest = behind;
-    }
-    text.push_str(rest)?;
-    Ok(text)
 }
