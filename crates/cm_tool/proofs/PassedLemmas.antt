@@ -1,5 +1,5 @@
 -- Lines of a buffer that have been passed.
-use Rattle.std.proofs.Common.{◌≡◌, ◌∙◌, ℕ, ◌+◌, List, [], ◌∷◌, ◌++◌, ap, sym, subst, arith, drop, length, append_assoc, append-nil, length-append, refl}
+use Rattle.std.proofs.Common.{◌≡◌, ◌∙◌, ℕ, ◌+◌, List, [], ◌∷◌, ◌++◌, ap, sym, subst, arith, drop, length, append_assoc, length-append, refl}
 use Rattle.cm_text.specs.Lines.{LineView}
 use Rattle.cm_text.specs.Feed.{Feed, StandsFor, with_ready}
 

@@ -1,13 +1,10 @@
 -- Reading a source as a text.
-use Rattle.std.proofs.Common.{◌≡◌, ◌∙◌, ◌<◌, ◌≤◌, ℕ, zero, suc, ◌+◌, Bool, true, false, cond, List, [], ◌∷◌, ◌++◌, length, take, drop, IsUtf8, Some, None, refl, sym, ap, subst, arith, add-one, nat_lt, is_some, append_assoc, take_all, length-take}
+use Rattle.std.proofs.Common.{◌≡◌, ◌∙◌, ◌≤◌, ℕ, Bool, true, false, cond, List, length, take, IsUtf8, Some, None, refl, ap, subst, arith, nat_lt, is_some, take_all, length-take}
 use Rattle.std.specs.Prelude.{Option, Err, option_map}
-use Rattle.std.specs.Str.Lossy.{replacement_bytes}
-use Rattle.memchr.specs.Find.{is_byte, Passes, Nowhere}
 use Rattle.cm_text.specs.declared.fault.TextFault.{TextFault}
 use Rattle.cm_text.specs.declared.fault.TextFault.TheVariants as text
 use Rattle.cm_text.specs.Faults.{text_fault, valid_len, settled_fault}
 use Rattle.cm_text.specs.Feed.{Answers as FeedAnswers}
-use Rattle.cm_text.specs.Lines.{text_of, text_of_byte}
 use Rattle.std.proofs.lemmas.Bool.{ltb-false}
 use Rattle.std.proofs.lemmas.Str.{utf8_valid_len_le}
 use Rattle.cm_text.proofs.Utf8Lemmas.{valid_front-IsUtf8}
