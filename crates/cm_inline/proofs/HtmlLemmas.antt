@@ -1,9 +1,8 @@
 -- The HTML of nodes of which nothing more is made.
-use Rattle.std.proofs.Common.{◌≡◌, ℕ, zero, suc, ◌+◌, true, false, List, [], ◌∷◌, ◌++◌, drop, refl, sym, ap, ◌∙◌, arith, append_assoc}
-use Rattle.std.specs.Prelude.{encode_utf8_all, replicate, flat_map}
+use Rattle.std.proofs.Common.{◌≡◌, ℕ, zero, suc, true, false, List, [], ◌∷◌, ◌++◌, refl, ap, ◌∙◌, append_assoc}
+use Rattle.std.specs.Prelude.{encode_utf8_all, replicate}
 use Rattle.std.specs.List.{slice_range}
 use Rattle.std.proofs.lemmas.Grind.{flat_map-append}
-use Rattle.std.proofs.lemmas.List.{append-nil}
 use Rattle.cm_text.specs.References.{chars_of}
 use Rattle.cm_tree.specs.declared.tree.Inline.{Inline}
 use Rattle.cm_tree.specs.declared.tree.Inline.TheFolds.{fold_out-Inline}
@@ -16,7 +15,7 @@ use Rattle.cm_inline.specs.declared.nodes.Node.TheVariants.{Piece, Characters, F
 use Rattle.cm_inline.specs.declared.runs.Marker.{Marker}
 use Rattle.cm_inline.specs.declared.runs.Marker.TheVariants.{Star, Underscore, Tilde}
 use Rattle.cm_inline.specs.steps.Runs.{byte_of}
-use Rattle.cm_inline.specs.steps.Nodes.{items_of, node_html, nodes_html}
+use Rattle.cm_inline.specs.steps.Nodes.{items_of, nodes_html}
 
 -- the text of a run is its own HTML
 run-html : (marker : Marker) (n : ℕ) → escape (replicate n (byte_of marker)) ≡ replicate n (byte_of marker)

@@ -7,7 +7,6 @@ use Rattle.std.proofs.lemmas.List.{reverse-append, reverse-reverse, drop_more, a
 use Rattle.std.proofs.lemmas.List.Concat.{flat_map-append}
 use Rattle.cm_text.specs.Rules.{Rules}
 use Rattle.cm_tree.specs.Definitions.{Targets}
-use Rattle.cm_tree.specs.declared.tree.Inline.{Inline}
 use Rattle.cm_tree.specs.Depth.{inlines_depth}
 use Rattle.cm_scan.specs.Pairing as pairing
 use Rattle.cm_scan.specs.Pairing.{emphasis_of}

@@ -1,6 +1,6 @@
 -- Each heading that lines make has a level from 1 to 6.
 use Rattle.std.proofs.Common.{◌≡◌, ℕ, zero, suc, Bool, true, false, not, ◌&&◌, List, [], ◌∷◌, ◌++◌, map, refl, ap, ◌∙◌, Some, None, IfSome, arith}
-use Rattle.std.specs.Prelude.{⊤, Option, nat_le, ◌==◌}
+use Rattle.std.specs.Prelude.{⊤, Option, nat_le}
 use Rattle.cm_text.specs.Rules.{Rules}
 use Rattle.cm_text.specs.Lines.{LineView}
 use Rattle.cm_tree.specs.declared.tree.Block.{Block}
@@ -14,9 +14,9 @@ use Rattle.cm_scan.specs.Lines.{size, is_blank, content_of}
 use Rattle.cm_scan.specs.Links.{LinkDefinition, definitions_of}
 use Rattle.cm_scan.specs.LineForms.{Heading, without_closing, atx_heading, underline, is_underline_of, opening_fence, is_thematic_break, item_marker, Fence, ItemMarker}
 use Rattle.cm_scan.specs.HtmlBlocks.{HtmlKind, html_start}
-use Rattle.cm_scan.specs.Starts.{Start, IndentedCode, QuoteMarker, AtxHeading, OpeningFence, HtmlStart, BreakLine, ItemStart, TextLine, start_of, start_by, start_of_content, seen_as, or_text, underline_if, underline_of, interrupts_paragraph, behind_quote_marker, place_in_quote, content_column, first_content, place_in_item}
+use Rattle.cm_scan.specs.Starts.{Start, IndentedCode, QuoteMarker, AtxHeading, OpeningFence, HtmlStart, BreakLine, ItemStart, TextLine, start_of, start_by, start_of_content, seen_as, or_text, underline_if, underline_of, interrupts_paragraph, content_column, first_content, place_in_item}
 use Rattle.cm_scan.specs.Parts.{LeafPart, paragraph, heading, code, html, thematic_break, definition, Parts, none, blank, leaf, quote, list, ItemParts, last_item, item, leaf_block, is_loose, tree_of, items_of, next_items, put_before, put_item, put_leaves}
-use Rattle.cm_scan.specs.Blocks.{NextLine, GoesOn, Ends, Underlines, by_underline, by_interruption, next_line, Run, text_run, definition_leaves, content_leaf, leaves_of_run, quote_parts, item_parts, fence_parts, html_parts, code_parts, text_parts, parts_by_start, parts_by_cases, parts_within, parts_of, blocks_of, inside, add_text, rest_of}
+use Rattle.cm_scan.specs.Blocks.{NextLine, GoesOn, Ends, Underlines, by_underline, next_line, Run, text_run, definition_leaves, content_leaf, leaves_of_run, quote_parts, item_parts, fence_parts, html_parts, code_parts, text_parts, parts_by_start, parts_by_cases, parts_within, parts_of, blocks_of, inside, add_text, rest_of}
 use Rattle.cm_scan.specs.Laws.{HeadingLevels}
 
 -- ---- of the parts

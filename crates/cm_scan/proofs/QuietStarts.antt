@@ -1,10 +1,10 @@
 -- A first byte with which nothing but text begins.
-use Rattle.std.proofs.Common.{◌≡◌, ℕ, suc, ◌==◌, not, Bool, true, false, List, [], ◌∷◌, None, refl, sym, ap, ◌∙◌, codes, arith}
+use Rattle.std.proofs.Common.{◌≡◌, ℕ, suc, ◌==◌, not, Bool, true, false, List, [], ◌∷◌, None, refl, ap, ◌∙◌, codes, arith}
 use Rattle.std.specs.List.{list_any}
 use Rattle.std.proofs.lemmas.Bool.Decides.{nat_tests}
 use Rattle.cm_text.specs.Rules.{Rules}
 use Rattle.cm_text.specs.Lines.{LineView}
-use Rattle.cm_scan.specs.Words.{is_letter, is_digit, is_space_or_tab, trim_start, skip, front_of, run_length, given}
+use Rattle.cm_scan.specs.Words.{is_letter, is_digit, is_space_or_tab, trim_start, skip, front_of, run_length}
 use Rattle.cm_scan.specs.LineForms.{is_thematic_break, atx_heading, underline, opening_fence, fence_of, item_marker, bullet_marker, ordered_marker, marker_behind}
 use Rattle.cm_scan.specs.HtmlBlocks.{html_start, is_at_letter}
 use Rattle.cm_scan.specs.Starts.{TextLine, start_of_content, start_of, underline_of}
