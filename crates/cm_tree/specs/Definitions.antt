@@ -19,11 +19,15 @@ Targets = FinMap (slice_cmp nat_cmp) Target
 abbrev pub add_first : Targets → List ℕ → Target → Targets
 add_first targets folded target = if contains_key targets folded then targets else insert targets folded target
 
--- the entries, by the bytes of their keys
-abbrev pub by_bytes : List (String Global × Target) → List (List ℕ × Target)
-by_bytes entries = map (λ e. (string_bytes e.0, e.1)) entries
+-- a folded label behind a number, which no contract sees
+abbrev pub Key : Type 0
+Key = ℕ × String Global
 
-abbrev pub targets_of : List (String Global × Target) → Targets
+-- the entries, by the bytes of their labels
+abbrev pub by_bytes : List (Key × Target) → List (List ℕ × Target)
+by_bytes entries = map (λ e. (string_bytes e.0.1, e.1)) entries
+
+abbrev pub targets_of : List (Key × Target) → Targets
 targets_of entries = from_entries (by_bytes entries)
 
 -- a table to which these definitions, a label and a target each, have been added in order

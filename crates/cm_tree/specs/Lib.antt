@@ -5,3 +5,4 @@ pub mod Definitions
 pub mod Levels
 pub mod RawHtml
 pub mod WorkedExamples
+pub mod steps

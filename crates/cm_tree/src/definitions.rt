@@ -3,6 +3,7 @@ ghost use Rattle.std.specs.Prelude.{◌≡◌, OnOk, OnErr, IfOk, option_map, st
 ghost use Rattle.std.specs.FinMap as map;
 ghost use Rattle.cm_text.specs.Labels.{fold_label};
 ghost use Rattle.cm_tree.specs.Definitions.{add_first};
+ghost use Rattle.cm_tree.specs.steps.LabelNumbers.{IsNumbered, number_of};
 
 use crate::text::Text;
 use cm_text::{NoMemory, fold_label};
@@ -17,19 +18,23 @@ use std::marker::Model;
 #[derive(Debug, Drop)]
 pub struct Definitions {
     alloc: Global,
-    targets: BTreeMap<String, (Text, Text)>,
+    // in the order of the labels' numbers first, which stand in the tree's nodes
+    targets: BTreeMap<(u64, String), (Text, Text)>,
 }
 
 impl Model for Definitions {
     ghost use Rattle.std.specs.FinMap as map;
     ghost use Rattle.std.specs.Coded.{coded_ℕ, coded_list, coded×};
     ghost use Rattle.cm_tree.specs.Definitions.{Targets, targets_of};
+    ghost use Rattle.cm_tree.specs.steps.LabelNumbers.{AreNumbered};
 
     ghost Value = { Targets };
 
     ghost coded = { map.code (coded_list coded_ℕ) (coded× (coded_list coded_ℕ) (coded_list coded_ℕ)) };
 
     ghost view = { λ a. targets_of a.targets.entries };
+
+    ghost invariant = { λ a. AreNumbered a.targets.entries };
 }
 
 impl Definitions {
@@ -60,12 +65,13 @@ impl Definitions {
         ensures ok { OnOk result (self.new ≡ add_first self.old (string_bytes folded) (dest.now, title.now)) }
         ensures err { OnErr result (self.new ≡ self.old) }
     {
-        if self.targets.contains_key(folded.as_str()) {
+        let key = numbered(folded);
+        if self.targets.contains_key(&key) {
             return Ok(());
         }
         let dest = Text::from_str(self.alloc, dest)?;
         let title = Text::from_str(self.alloc, title)?;
-        self.targets.insert(folded, (dest, title))?;
+        self.targets.insert(key, (dest, title))?;
         Ok(())
     }
 
@@ -79,9 +85,32 @@ impl Definitions {
         ensures { IfOk result (λ found. option_map (λ t. (t.0.now, t.1.now)) found ≡ map.get self.now (fold_label label.now)) }
     {
         let folded = fold_label(self.alloc, label)?;
-        match self.targets.get(folded.as_str()) {
+        let wanted = numbered(folded);
+        match self.targets.get(&wanted) {
             Some(target) => Ok(Some((target.0.as_str(), target.1.as_str()))),
             None => Ok(None),
         }
     }
+}
+
+/// A folded label behind its number, as the table keeps it: labels are compared where their numbers
+/// are equal, and elsewhere the numbers alone.
+fn numbered(folded: String) -> (u64, String)
+    ensures label { string_bytes result.1 ≡ string_bytes folded }
+    ensures number { IsNumbered result }
+{
+    (number_of(folded.as_bytes()), folded)
+}
+
+#[tactic(auto, unfolding(crate::specs::steps::LabelNumbers::number_of))]
+fn number_of(label: &[u8]) -> u64
+    ensures { result ≡ number_of label.now }
+{
+    let mut number: u64 = 0;
+    for b in label {
+        number = number
+            .wrapping_add(u64::from(*b))
+            .wrapping_mul(0x517c_c1b7_2722_0a95);
+    }
+    number
 }

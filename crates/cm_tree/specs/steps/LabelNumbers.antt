@@ -1,0 +1,23 @@
+-- The number under which the table of definitions keeps a folded label.
+use Rattle.std.specs.Prelude.{◌≡◌, ℕ, ◌+◌, ◌*◌, ◌^◌, ◌%◌, List, [], ◌∷◌, string_bytes}
+use Rattle.cm_tree.specs.Definitions.{Key, Target}
+
+-- one byte more: added, and the sum times an odd number, in 64 bits
+abbrev pub number_step : ℕ → ℕ → ℕ
+number_step number b = (number + b) % 2 ^ 64 * 5871781006564002453 % 2 ^ 64
+
+abbrev pub number_from : ℕ → List ℕ → ℕ
+number_from number [] = number
+number_from number (b ∷ bs) = number_from (number_step number b) bs
+
+unfoldable pub number_of : List ℕ → ℕ
+number_of label = number_from 0 label
+
+-- the key has its own label's number
+abbrev pub IsNumbered : Key → Type 0
+IsNumbered key = key.0 ≡ number_of (string_bytes key.1)
+
+-- so have all entries
+abbrev pub AreNumbered : List (Key × Target) → Type 0
+AreNumbered [] = Unit {0}
+AreNumbered (e ∷ es) = IsNumbered e.0 × AreNumbered es
