@@ -10,7 +10,7 @@ use Rattle.cm_text.specs.Characters.{is_ascii_punct}
 use Rattle.cm_scan.specs.Words.{is_space_or_tab, skip, trim_start, begins_with}
 use Rattle.cm_scan.specs.Tags.{is_blank_byte}
 use Rattle.cm_scan.specs.Links.{Reading, behind, keep_if, escapes_next, closed_by, characters, has_blank_line}
-use Rattle.cm_scan.specs.steps.LinkSteps.{closed_at, begins_character, fits, is_barred, blank_follows, is_refused}
+use Rattle.cm_scan.specs.steps.LinkSteps.{closed_at, begins_character, fits, is_barred, blank_follows, is_plain, is_refused}
 
 -- whether the byte behind this one is escaped
 abbrev pub mark : Bool → ℕ → List ℕ → Bool
@@ -287,6 +287,57 @@ module _ (closes forbidden : ℕ → Bool) where
         let bs = drop (suc at) text in
         let parts = none-of (not escaped && forbidden b) (most == 0 && begins_character b) (not blank_lines && blank_follows b bs) k in
         rw (n, m, add-one) (part-step most blank_lines escaped text from at low high h parts.0 parts.1 parts.2)
+
+-- what is plain: neither end nor barred, a character of its own, no backslash and no line feed
+pub record IsPlain (open_byte close_byte b : ℕ) : Type 0 where
+  pub unbarred : (b == open_byte) ≡ false
+  pub no_end : (b == close_byte) ≡ false
+  pub begins : begins_character b ≡ true
+  pub escapes : (b == 92) ≡ false
+  pub feed : (b == 10) ≡ false
+
+pub plain_byte : (open_byte close_byte b : ℕ) → is_plain open_byte close_byte b ≡ true → IsPlain open_byte close_byte b
+plain_byte open_byte close_byte b h = record {
+  unbarred = grind (arith, nat_tests, h);
+  no_end = grind (arith, nat_tests, h);
+  begins = grind (arith, nat_tests, h);
+  escapes = grind (arith, nat_tests, h);
+  feed = grind (arith, nat_tests, h);
+}
+
+plain-barred : (open_byte : ℕ) (one_line : Bool) (b : ℕ) → (b == open_byte) ≡ false → (b == 10) ≡ false → is_barred open_byte one_line b ≡ false
+plain-barred open_byte true b h k = grind (arith, h, k)
+plain-barred open_byte false b h k = h
+
+neither : (escaped test : Bool) → test ≡ false → (not escaped && test) ≡ false
+neither true test h = refl
+neither false test h = h
+
+plain-mark : (escaped : Bool) (b : ℕ) (bs : List ℕ) → (b == 92) ≡ false → false ≡ mark escaped b bs
+plain-mark true b bs h = refl
+plain-mark false b [] h = refl
+plain-mark false b (c ∷ cs) h = grind (arith, h)
+
+plain-allowed : (most : ℕ) (blank_lines escaped barred : Bool) (b : ℕ) (bs : List ℕ) → 0 < most → barred ≡ false → (b == 10) ≡ false
+    → is_refused most blank_lines (not escaped && barred) b bs ≡ false
+plain-allowed most blank_lines escaped barred b bs l h k =
+    let some : (most == 0) ≡ false = grind (arith, nat_tests, l) in
+    let here : (not escaped && barred) ≡ false = neither escaped barred h in
+    grind (arith, some, here, k)
+
+-- a plain byte is passed over
+pub part-plain : (open_byte close_byte : ℕ) (one_line : Bool) → is_blank_byte open_byte ≡ false → is_blank_byte close_byte ≡ false
+    → (most : ℕ) (blank_lines escaped : Bool) (text : List ℕ) (from at : ℕ) → from ≤ at → at < length text
+    → 0 < most → is_plain open_byte close_byte (get_or text at 0) ≡ true
+    → ahead_from text from (at + 1) (part (λ c. c == close_byte) (is_barred open_byte one_line) (most - 1) blank_lines false (drop (at + 1) text))
+    ≡ ahead_from text from at (part (λ c. c == close_byte) (is_barred open_byte one_line) most blank_lines escaped (drop at text))
+part-plain open_byte close_byte one_line o c most blank_lines escaped text from at low high l h =
+    let plain = plain_byte open_byte close_byte (get_or text at 0) h in
+    let barred = plain-barred open_byte one_line (get_or text at 0) plain.unbarred plain.feed in
+    part-kept (λ c. c == close_byte) (is_barred open_byte one_line) (closes-no_blanks close_byte c) (barred-no_spaces open_byte one_line o)
+    most 1 blank_lines escaped false text from at low high
+    (neither escaped _ plain.no_end) (plain-allowed most blank_lines escaped _ (get_or text at 0) (drop (suc at) text) l barred plain.feed)
+    (ap (λ v. cond v 1 0) (sym plain.begins)) (plain-mark escaped (get_or text at 0) (drop (suc at) text) plain.escapes)
 
 -- an unescaped byte
 pub ended : (escaped closing : Bool) → (not escaped && closing) ≡ true → (escaped ≡ false) × (closing ≡ true)

@@ -7,7 +7,7 @@ ghost use Rattle.cm_scan.specs.Tags.{is_blank_byte};
 ghost use Rattle.cm_scan.specs.Words.{begins_with, ◌<|>◌};
 ghost use Rattle.cm_scan.specs.Links.{escapes_next, keep_if, closed_by, label, destination, title, bare_run, is_some, opened_by, titled, untitled, link_definition};
 ghost use Rattle.cm_scan.specs.Scanned.{reading_of, definition_with};
-ghost use Rattle.cm_scan.specs.steps.LinkSteps.{closed_at, ended_at, title_end, ends_bare, begins_character, is_barred, fits, blank_follows, is_refused};
+ghost use Rattle.cm_scan.specs.steps.LinkSteps.{closed_at, ended_at, title_end, ends_bare, begins_character, is_barred, fits, blank_follows, is_plain, is_refused};
 
 use crate::gaps::{after_blanks, after_gap, after_line, is_blank_byte, is_blank_next};
 use cm_text::is_ascii_punct;
@@ -208,6 +208,12 @@ fn closed(text: &[u8], from: usize, bounds: Bounds) -> Option<usize>
     let mut escaped = false;
     let mut at = from;
     while at < text.len() {
+        if left > 0 && is_plain(text[at], bounds) {
+            left -= 1;
+            escaped = false;
+            at += 1;
+            continue;
+        }
         if is_end(text[at], escaped, bounds) {
             return Some(at);
         }
@@ -282,6 +288,13 @@ fn opened_by(b: u8, opened: usize, escaped: bool) -> usize
         b')' if !escaped => opened.saturating_sub(1),
         _ => opened,
     }
+}
+
+/// Whether a byte is one that means nothing in a part, escaped or not.
+fn is_plain(b: u8, bounds: Bounds) -> bool
+    ensures { result ≡ is_plain bounds.open bounds.close b }
+{
+    b != bounds.close && b != bounds.open && b != b'\\' && b != b'\n' && b < 128
 }
 
 fn is_end(b: u8, escaped: bool, bounds: Bounds) -> bool

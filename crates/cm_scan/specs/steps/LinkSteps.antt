@@ -1,5 +1,5 @@
 -- The steps that the scanners of link reference definitions take.
-use Rattle.std.specs.Prelude.{ℕ, suc, Bool, true, false, not, ◌&&◌, ◌||◌, List, drop, Option, Some, None, if◌then◌else◌, option_map, ◌==◌, nat_le}
+use Rattle.std.specs.Prelude.{ℕ, suc, Bool, true, false, not, ◌&&◌, ◌||◌, List, drop, Option, Some, None, if◌then◌else◌, option_map, ◌==◌, nat_le, nat_lt}
 use Rattle.std.specs.List.{slice_range}
 use Rattle.cm_text.specs.Characters.{within}
 use Rattle.cm_scan.specs.Words.{is_control, begins_with, trim_start}
@@ -29,6 +29,10 @@ begins_character b = not (within 128 191 b)
 abbrev pub is_barred : ℕ → (one_line : Bool) → ℕ → Bool
 is_barred open_byte true b = b == open_byte || b == 10
 is_barred open_byte false b = b == open_byte
+
+-- an ASCII byte that neither ends a part between brackets, nor is barred from it, nor escapes anything, nor ends a line
+abbrev pub is_plain : (open_byte close_byte : ℕ) → ℕ → Bool
+is_plain open_byte close_byte b = not (b == close_byte) && not (b == open_byte) && not (b == 92) && not (b == 10) && nat_lt b 128
 
 -- at most so many characters, and no blank line save where those may stand
 abbrev pub fits : ℕ → (blank_lines : Bool) → Reading → Bool

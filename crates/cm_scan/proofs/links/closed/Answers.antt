@@ -1,6 +1,6 @@
 use Rattle.std.proofs.Common.{◌∙◌, ◌==◌, sym, ap, arith, get_or, cond}
 use Rattle.cm_scan.specs.steps.LinkSteps.{is_barred}
-use Rattle.cm_scan.proofs.ClosedLemmas.{part-none, part-end, part-stop, part-kept, closes-no_blanks, barred-no_spaces, bool_byte-is, ended}
+use Rattle.cm_scan.proofs.ClosedLemmas.{part-none, part-end, part-stop, part-kept, closes-no_blanks, barred-no_spaces, bool_byte-is, part-plain, ended}
 use Rattle.cm_scan.proofs.links.closed.Goals as goal
 
 pub returns-then-is_end-clause-read : goal.returns-then-is_end-clause-read
@@ -17,6 +17,15 @@ returns-then-is_refused-clause-read c =
     c.loop-at.left c.args.bounds.blank_lines c.loop-at.escaped c.args.text.now c.args.from c.loop-at.at c.loop-at-test.true
     (sym c.is_end.ensures ∙ c.if-is_end.false) (sym c.is_refused.ensures ∙ c.if-is_refused.true))
     ∙ c.loop-at.invariant.read
+
+pub loop-at-preserved-then-is_plain : goal.loop-at-preserved-then-is_plain
+loop-at-preserved-then-is_plain c = record {
+  read = part-plain c.args.bounds.open c.args.bounds.close c.args.bounds.one_line c.requires.no_blanks.0 c.requires.no_blanks.1
+      c.loop-at.left c.args.bounds.blank_lines c.loop-at.escaped c.args.text.now c.args.from c.loop-at.at
+      c.loop-at.invariant.within.0 c.loop-at-test.true c.if-left-gt0.true (sym c.is_plain.ensures ∙ c.if-is_plain.true)
+      ∙ c.loop-at.invariant.read;
+  within = (omega (arith, c.loop-at.invariant.within.0), omega (arith, c.loop-at-test.true));
+}
 
 pub loop-at-preserved : goal.loop-at-preserved
 loop-at-preserved c = record {
