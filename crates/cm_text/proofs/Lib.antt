@@ -21,3 +21,4 @@ pub mod StripLemmas
 pub mod ViewLemmas
 pub mod EndedLines
 pub mod FoldLemmas
+pub mod SimpleLabels

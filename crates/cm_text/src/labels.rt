@@ -1,7 +1,7 @@
 //! Labels as they are compared.
-ghost use Rattle.std.specs.Prelude.{◌≡◌, true, ◌++◌, string_bytes, encode_utf8, IfOk, OnOk};
+ghost use Rattle.std.specs.Prelude.{◌≡◌, ◌<◌, true, ◌++◌, length, drop, string_bytes, encode_utf8, IfOk, OnOk};
 ghost use Rattle.cm_text.specs.Labels.{case_fold, fold_label, is_gap, settle_gaps};
-ghost use Rattle.cm_text.specs.steps.LabelSteps.{is_settled, put_after};
+ghost use Rattle.cm_text.specs.steps.LabelSteps.{begins_visible, is_settled, is_simple, is_single_space, put_after};
 
 use crate::device::NoMemory;
 use caseless::default_case_fold_str;
@@ -20,6 +20,9 @@ use std::alloc::{AllocError, Global};
 pub fn fold_label(alloc: Global, label: &str) -> Result<String, NoMemory>
     ensures { IfOk result (λ folded. string_bytes folded ≡ fold_label label.now) }
 {
+    if is_simple(label.as_bytes()) {
+        return Ok(label.to_ascii_lowercase(alloc)?);
+    }
     let folded = case_fold(alloc, label)?;
     if is_settled(folded.as_bytes()) {
         return Ok(folded);
@@ -27,7 +30,39 @@ pub fn fold_label(alloc: Global, label: &str) -> Result<String, NoMemory>
     Ok(settle_gaps(alloc, &folded)?)
 }
 
-/// A text with its case folded in full. ASCII, which most labels are, is folded without the table.
+/// Whether a text that isn't empty is visible ASCII characters and single spaces between them, as most labels are.
+fn is_simple(text: &[u8]) -> bool
+    ensures { result ≡ is_simple text.now }
+{
+    if !begins_visible(text, 0) {
+        return false;
+    }
+    for at in 0..text.len() {
+        if !text[at].is_ascii_graphic() && !is_single_space(text, at) {
+            return false;
+        }
+    }
+    true
+}
+
+/// Whether a space stands there, and a visible ASCII character behind it. It is a call of its own, so that visible
+/// characters are passed over with as little as that takes.
+#[inline(never)]
+fn is_single_space(text: &[u8], at: usize) -> bool
+    requires { at < length text.now }
+    ensures { result ≡ is_single_space (drop at text.now) }
+{
+    text[at] == b' ' && begins_visible(text, at + 1)
+}
+
+/// Whether a visible ASCII character stands there.
+fn begins_visible(text: &[u8], at: usize) -> bool
+    ensures { result ≡ begins_visible (drop at text.now) }
+{
+    text.get(at).is_some_and(|b| b.is_ascii_graphic())
+}
+
+/// A text with its case folded in full. ASCII is folded without the table.
 #[tactic(auto, unfolding(crate::specs::Labels::case_fold))]
 fn case_fold(alloc: Global, text: &str) -> Result<String, AllocError>
     ensures { IfOk result (λ folded. string_bytes folded ≡ case_fold text.now) }
