@@ -1,8 +1,7 @@
 -- What a map has at a folded label.
-use Rattle.std.proofs.Common.{◌≡◌, ℕ, Bool, List, [], ◌∷◌, Option, Some, None, true, false, cond, ◌&&◌, is_some, string_bytes, string_cmp, refl, ap, sym, ◌∙◌}
+use Rattle.std.proofs.Common.{◌≡◌, ℕ, Bool, List, [], ◌∷◌, Option, Some, None, true, false, cond, ◌&&◌, is_some, IsSome, string_bytes, string_cmp, refl, ap, sym, subst, ◌∙◌}
 use Rattle.std.specs.BTreeMap.{is_at, insert_entry}
-use Rattle.std.specs.Map.{lookup}
-use Rattle.std.specs.Ordering.{nat_cmp, is_eq, eq_by_cmp, ordering_then, match_ordering}
+use Rattle.std.specs.Ordering.{nat_cmp, is_eq, eq_by_cmp, match_ordering}
 use Rattle.std.specs.Str.{bytes_eq}
 use Rattle.std.specs.Option.{option_or}
 use Rattle.std.specs.declared.cmp.Ordering.{Ordering}
@@ -13,14 +12,10 @@ use Rattle.std.specs.FinMap.{find, get, insert, contains_key, get-from_entries, 
 use Rattle.std.proofs.lemmas.Map.Text.{is_eq-slice_cmp}
 use Rattle.cm_text.specs.Labels.{fold_label}
 use Rattle.cm_tree.specs.Definitions.{Key, Target, Targets, add_first, by_bytes, targets_of, add_all, first_under, FirstCounts}
-use Rattle.cm_tree.specs.steps.LabelNumbers.{number_of, IsNumbered, AreNumbered}
+use Rattle.cm_tree.specs.steps.LabelNumbers.{number_of, IsNumbered, AreNumbered, key_cmp, found_under, with_entry}
 
 same_test : (label q : List ℕ) → bytes_eq label q ≡ eq_by_cmp (slice_cmp nat_cmp) q label
 same_test label q = sym (is_eq-slice_cmp label q) ∙ (eq_by_cmp_equiv nat_list_cmp_total).symm label q
-
--- keys as the tree has them: by their numbers, and then by their labels
-abbrev pub key_cmp : Key → Key → Ordering
-key_cmp x y = ordering_then (nat_cmp x.0 y.0) (string_cmp x.1 y.1)
 
 equal_of : (o : Ordering) → is_eq o ≡ true → o ≡ Equal
 equal_of Equal h = refl
@@ -45,7 +40,7 @@ same_keys x y m n =
     ∙ tied_then (nat_cmp x.0 y.0) (string_cmp x.1 y.1)
 
 find_label : (es : List (Key × Target)) (k : Key) → IsNumbered k → AreNumbered es
-    → find (slice_cmp nat_cmp) (string_bytes k.1) (by_bytes es) ≡ lookup (is_at (key_cmp k)) es
+    → find (slice_cmp nat_cmp) (string_bytes k.1) (by_bytes es) ≡ found_under es k
 find_label [] k n h = refl
 find_label (e ∷ es) k n h =
     ap (λ b. cond b (Some e.1) (find (slice_cmp nat_cmp) (string_bytes k.1) (by_bytes es))) (same_keys k e.0 n h.0)
@@ -53,16 +48,12 @@ find_label (e ∷ es) k n h =
 
 -- what a key reads, by the value that stands for the entries
 pub reads : (es : List (Key × Target)) (value : Targets) (k : Key) (label : List ℕ) → AreNumbered es → IsNumbered k
-    → targets_of es ≡ value → string_bytes k.1 ≡ label → lookup (is_at (key_cmp k)) es ≡ get value label
+    → targets_of es ≡ value → string_bytes k.1 ≡ label → found_under es k ≡ get value label
 reads es value k label h n e same =
     sym (get-from_entries nat_list_cmp_total (by_bytes es) (string_bytes k.1) ∙ find_label es k n h)
     ∙ ap (λ v. get v (string_bytes k.1)) e ∙ ap (get value) same
 
--- the entries with one more
-abbrev pub inserted : List (Key × Target) → Key → Target → List (Key × Target)
-inserted es k v = insert_entry key_cmp es k v
-
-pub stay_numbered : (es : List (Key × Target)) (k : Key) (v : Target) → AreNumbered es → IsNumbered k → AreNumbered (inserted es k v)
+pub stay_numbered : (es : List (Key × Target)) (k : Key) (v : Target) → AreNumbered es → IsNumbered k → AreNumbered (with_entry es k v)
 stay_numbered [] k v h n = (n, tt)
 stay_numbered (e ∷ es) k v h n = elim (key_cmp k e.0) as (λ o. AreNumbered (match_ordering o ((k, v) ∷ e ∷ es) ((e.0, v) ∷ es) (e ∷ insert_entry key_cmp es k v))) [
   | Less ↦ (n, h)
@@ -95,7 +86,7 @@ same_labels : (k e : Key) → IsNumbered k → IsNumbered e → key_cmp k e ≡ 
 same_labels k e n m h = same_bytes _ _ (same_keys k e n m ∙ ap is_eq h)
 
 find_inserted : (es : List (Key × Target)) (k : Key) (v : Target) (q : List ℕ) → AreNumbered es → IsNumbered k
-    → find (slice_cmp nat_cmp) q (by_bytes (inserted es k v))
+    → find (slice_cmp nat_cmp) q (by_bytes (with_entry es k v))
     ≡ cond (is_eq (slice_cmp nat_cmp q (string_bytes k.1))) (Some v) (find (slice_cmp nat_cmp) q (by_bytes es))
 find_inserted [] k v q h n = refl
 find_inserted (e ∷ es) k v q h n =
@@ -110,23 +101,46 @@ find_inserted (e ∷ es) k v q h n =
     ] refl
 
 one_set : (es : List (Key × Target)) (k : Key) (v : Target) → AreNumbered es → IsNumbered k
-    → targets_of (inserted es k v) ≡ insert (targets_of es) (string_bytes k.1) v
+    → targets_of (with_entry es k v) ≡ insert (targets_of es) (string_bytes k.1) v
 one_set es k v h n = same_map nat_list_cmp_total (slice_cmp-IsAntisymmetric nat_cmp-IsAntisymmetric) _ _ (λ q.
-    get-from_entries nat_list_cmp_total (by_bytes (inserted es k v)) q
+    get-from_entries nat_list_cmp_total (by_bytes (with_entry es k v)) q
     ∙ find_inserted es k v q h n
     ∙ sym (get-insert nat_list_cmp_total (targets_of es) (string_bytes k.1) v q
     ∙ ap (cond (eq_by_cmp (slice_cmp nat_cmp) q (string_bytes k.1)) (Some v)) (get-from_entries nat_list_cmp_total (by_bytes es) q)))
 
 -- a label that is there keeps what it has
-pub stays : (value : Targets) (label : List ℕ) (target : Target) → contains_key value label ≡ true → value ≡ add_first value label target
+stays : (value : Targets) (label : List ℕ) (target : Target) → contains_key value label ≡ true → value ≡ add_first value label target
 stays value label target h = sym (ap (λ b. cond b value (insert value label target)) h)
 
 -- a label that isn't there goes in
-pub goes_in : (es new : List (Key × Target)) (value : Targets) (k : Key) (label : List ℕ) (w target : Target) → AreNumbered es → IsNumbered k
+goes_in : (es new : List (Key × Target)) (value : Targets) (k : Key) (label : List ℕ) (w target : Target) → AreNumbered es → IsNumbered k
     → targets_of es ≡ value → string_bytes k.1 ≡ label → w ≡ target → contains_key value label ≡ false
-    → new ≡ inserted es k w → targets_of new ≡ add_first value label target
+    → new ≡ with_entry es k w → targets_of new ≡ add_first value label target
 goes_in es new value k label w target h n e same t none put =
     ap targets_of put ∙ one_set es k w h n ∙ (λ i. insert (e i) (same i) (t i)) ∙ sym (ap (λ b. cond b value (insert value label target)) none)
+
+-- what comes of entries when a target is put under a key, unless one stands there
+pub record IsPut (es new : List (Key × Target)) (k : Key) (w : Target) : Type 0 where
+  pub there : IsSome (found_under es k) → new ≡ es
+  pub absent : found_under es k ≡ None → new ≡ with_entry es k w
+
+pub put_numbered : (es new : List (Key × Target)) (k : Key) (w : Target) → AreNumbered es → IsNumbered k → IsPut es new k w → AreNumbered new
+put_numbered es new k w h n put = by_found (found_under es k) refl
+  where
+    by_found : (found : Option Target) → found_under es k ≡ found → AreNumbered new
+    by_found (Some v) e = subst AreNumbered (sym (put.there (subst IsSome (sym e) refl))) h
+    by_found None e = subst AreNumbered (sym (put.absent e)) (stay_numbered es k w h n)
+
+pub put_first : (es new : List (Key × Target)) (value : Targets) (k : Key) (label : List ℕ) (w target : Target) → AreNumbered es → IsNumbered k
+    → targets_of es ≡ value → string_bytes k.1 ≡ label → w ≡ target → IsPut es new k w → targets_of new ≡ add_first value label target
+put_first es new value k label w target h n e same t put = by_found (found_under es k) refl
+  where
+    read : get value label ≡ found_under es k
+    read = sym (reads es value k label h n e same)
+
+    by_found : (found : Option Target) → found_under es k ≡ found → targets_of new ≡ add_first value label target
+    by_found (Some v) f = ap targets_of (put.there (subst IsSome (sym f) refl)) ∙ e ∙ stays value label target (ap is_some (read ∙ f))
+    by_found None f = goes_in es new value k label w target h n e same t (ap is_some (read ∙ f)) (put.absent f)
 
 unchanged : (b : Bool) (r : Option Target) (v : Target) → (b ≡ true → is_some r ≡ true) → r ≡ option_or r (cond b (Some v) None)
 unchanged b (Some w) v h = refl

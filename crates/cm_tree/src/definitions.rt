@@ -1,14 +1,15 @@
 //! The table of link reference definitions.
-ghost use Rattle.std.specs.Prelude.{◌≡◌, OnOk, OnErr, IfOk, option_map, string_bytes};
+ghost use Rattle.std.specs.Prelude.{◌≡◌, IsSome, None, OnOk, OnErr, IfOk, option_map, string_bytes};
 ghost use Rattle.std.specs.FinMap as map;
 ghost use Rattle.cm_text.specs.Labels.{fold_label};
 ghost use Rattle.cm_tree.specs.Definitions.{add_first};
-ghost use Rattle.cm_tree.specs.steps.LabelNumbers.{IsNumbered, number_of};
+ghost use Rattle.cm_tree.specs.steps.LabelNumbers.{IsNumbered, number_of, found_under, with_entry};
 
 use crate::text::Text;
 use cm_text::{NoMemory, fold_label};
 use std::alloc::{AllocError, Global};
 use std::collections::BTreeMap;
+use std::collections::btree_map::Entry;
 use std::marker::Model;
 
 /// Link reference definitions by their labels, of which the first of matching labels counts
@@ -65,13 +66,9 @@ impl Definitions {
         ensures ok { OnOk result (self.new ≡ add_first self.old (string_bytes folded) (dest.now, title.now)) }
         ensures err { OnErr result (self.new ≡ self.old) }
     {
-        let key = numbered(folded);
-        if self.targets.contains_key(&key) {
-            return Ok(());
-        }
         let dest = Text::from_str(self.alloc, dest)?;
         let title = Text::from_str(self.alloc, title)?;
-        self.targets.insert(key, (dest, title))?;
+        put_first(&mut self.targets, numbered(folded), (dest, title))?;
         Ok(())
     }
 
@@ -91,6 +88,22 @@ impl Definitions {
             None => Ok(None),
         }
     }
+}
+
+/// Puts a destination and a title under a key, unless others stand there.
+fn put_first(
+    targets: &mut BTreeMap<(u64, String), (Text, Text)>,
+    key: (u64, String),
+    target: (Text, Text),
+) -> Result<(), AllocError>
+    ensures there { OnOk result (IsSome (found_under targets.old.entries key) → targets.new.entries ≡ targets.old.entries) }
+    ensures absent { OnOk result (found_under targets.old.entries key ≡ None → targets.new.entries ≡ with_entry targets.old.entries key target) }
+    ensures err { OnErr result (targets.new.entries ≡ targets.old.entries) }
+{
+    if let Entry::Vacant(place) = targets.entry(key)? {
+        place.insert(target);
+    }
+    Ok(())
 }
 
 /// A folded label behind its number, as the table keeps it: labels are compared where their numbers

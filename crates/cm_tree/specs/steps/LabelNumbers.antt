@@ -1,5 +1,10 @@
 -- The number under which the table of definitions keeps a folded label.
-use Rattle.std.specs.Prelude.{◌≡◌, ℕ, ◌+◌, ◌*◌, ◌^◌, ◌%◌, List, [], ◌∷◌, string_bytes}
+use Rattle.std.specs.Prelude.{◌≡◌, ℕ, ◌+◌, ◌*◌, ◌^◌, ◌%◌, List, [], ◌∷◌, Option, string_bytes}
+use Rattle.std.specs.declared.cmp.Ordering.{Ordering}
+use Rattle.std.specs.Ordering.{nat_cmp, ordering_then}
+use Rattle.std.specs.String.{string_cmp}
+use Rattle.std.specs.Map.{lookup}
+use Rattle.std.specs.BTreeMap.{is_at, insert_entry}
 use Rattle.cm_tree.specs.Definitions.{Key, Target}
 
 -- one byte more: added, and the sum times an odd number, in 64 bits
@@ -21,3 +26,15 @@ IsNumbered key = key.0 ≡ number_of (string_bytes key.1)
 abbrev pub AreNumbered : List (Key × Target) → Type 0
 AreNumbered [] = Unit {0}
 AreNumbered (e ∷ es) = IsNumbered e.0 × AreNumbered es
+
+-- keys as the tree has them: by their numbers, and then by their labels
+abbrev pub key_cmp : Key → Key → Ordering
+key_cmp x y = ordering_then (nat_cmp x.0 y.0) (string_cmp x.1 y.1)
+
+-- what stands under a key
+abbrev pub found_under : List (Key × Target) → Key → Option Target
+found_under entries key = lookup (is_at (key_cmp key)) entries
+
+-- the entries with one more
+abbrev pub with_entry : List (Key × Target) → Key → Target → List (Key × Target)
+with_entry entries key target = insert_entry key_cmp entries key target
