@@ -85,7 +85,12 @@ fn push_title(out: &mut String, title: &str) -> Result<(), AllocError>
     out.push_str("\"")
 }
 
-fn push_link_start(out: &mut String, dest: &str, title: &str) -> Result<(), AllocError>
+/// Adds the start tag of a link to this destination, with this title unless it is empty.
+///
+/// # Errors
+///
+/// `AllocError` where a request for memory was refused; a beginning of the tag may stand behind the string then.
+pub fn push_link_start(out: &mut String, dest: &str, title: &str) -> Result<(), AllocError>
     ensures { OnOk result (string_bytes out.new ≡ string_bytes out.old ++ link_start dest.now title.now) }
 {
     out.push_str("<a href=\"")?;

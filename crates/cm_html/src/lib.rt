@@ -14,6 +14,6 @@ mod search;
 pub use blocks::push_block;
 pub use escape::push_escaped;
 pub use fault::HtmlFault;
-pub use inlines::push_inline;
+pub use inlines::{push_inline, push_link_start};
 pub use listings::listing;
 pub use rendering::{html, write_html, write_listing};

@@ -8,7 +8,7 @@ use Rattle.cm_scan.specs.Pairing.{Item, bracket_text}
 use Rattle.cm_scan.specs.Brackets.{Defined, LinkEnd, Bracketed, OpenerFound, last_opener, source_up_to, end_at, holds_link, made, bracket_is_text, brackets_are_text, closed_by_bracket, close_bracket}
 use Rattle.cm_inline.specs.declared.brackets.Bracket.{Bracket}
 use Rattle.cm_inline.specs.declared.nodes.Node.{Node}
-use Rattle.cm_inline.specs.declared.nodes.Node.TheVariants.{Piece, Characters, Finished, Run, Opener}
+use Rattle.cm_inline.specs.declared.nodes.Node.TheVariants.{Piece, Characters, Whole, Finished, Run, Opener}
 use Rattle.cm_inline.specs.steps.Nodes.{item_of, items_of}
 use Rattle.cm_inline.specs.steps.Brackets.{bracket_in, brackets_from, LinksEnd, closed_at, end_for, outside_of, inside_of, link_made, left_as_text}
 
@@ -70,6 +70,7 @@ split-last n (Opener image end ∷ nodes) (o ∷ others) b e =
     }
 split-last n (Piece from to ∷ nodes) others b e = behind n (Piece from to) nodes others b refl (split-last (suc n) nodes others b e)
 split-last n (Characters chars ∷ nodes) others b e = behind n (Characters chars) nodes others b refl (split-last (suc n) nodes others b e)
+split-last n (Whole written ∷ nodes) others b e = behind n (Whole written) nodes others b refl (split-last (suc n) nodes others b e)
 split-last n (Finished inline depth holds ∷ nodes) others b e = behind n (Finished inline depth holds) nodes others b refl (split-last (suc n) nodes others b e)
 split-last n (Run run ∷ nodes) others b e = behind n (Run run) nodes others b refl (split-last (suc n) nodes others b e)
 
@@ -88,6 +89,7 @@ no-opener source n (x ∷ nodes) before after none =
         → last_opener (reverse (items_of source nodes) ++ item_of source x ∷ before) after ≡ last_opener before (item_of source x ∷ (items_of source nodes ++ after))
     go (Piece from to) e again = again (item_of source (Piece from to)) e
     go (Characters chars) e again = again (item_of source (Characters chars)) e
+    go (Whole written) e again = again (item_of source (Whole written)) e
     go (Finished inline depth false) e again = again (item_of source (Finished inline depth false)) e
     go (Finished inline depth true) e again = again (item_of source (Finished inline depth true)) e
     go (Run run) e again = again (item_of source (Run run)) e

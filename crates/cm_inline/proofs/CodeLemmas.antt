@@ -1,7 +1,8 @@
 -- The content of a code span: its line feeds as spaces, and its ends.
-use Rattle.std.proofs.Common.{◌≡◌, ℕ, zero, suc, ◌+◌, ◌-◌, ◌<◌, ◌≤◌, ◌==◌, ◌&&◌, ◌||◌, not, cond, Bool, true, false, List, [], ◌∷◌, ◌++◌, length, take, drop, get_or, refl, sym, ap, ◌∙◌, arith, add-one}
+use Rattle.std.proofs.Common.{◌≡◌, ℕ, zero, suc, ◌+◌, ◌-◌, ◌<◌, ◌≤◌, ◌==◌, ◌&&◌, ◌||◌, not, cond, Bool, true, false, List, [], ◌∷◌, ◌++◌, length, take, drop, get_or, refl, sym, ap, ◌∙◌, arith, add-one, length-drop}
 use Rattle.std.specs.List.{list_all, slice_range}
 use Rattle.std.proofs.lemmas.Bool.Decides.{nat_tests}
+use Rattle.std.proofs.lemmas.List.{take-take, drop-drop, length-take-le, get_or-take, get_or-drop}
 use Rattle.memchr.specs.Find.{is_byte, Passes, Nowhere}
 use Rattle.cm_scan.specs.Autolinks.{ends_with}
 use Rattle.cm_scan.specs.CodeSpans.{one_line, but_last, stripped}
@@ -116,3 +117,35 @@ line-feed bs i within feed plain = rw add-one (line-at bs i within feed plain)
 pub line-whole : (bs : List ℕ) → Nowhere (Passes (is_byte 10) bs) 0 (length bs) → bs ≡ one_line bs
 line-whole [] plain = refl
 line-whole (b ∷ bs) plain = ap (λ t. b ∷ t) (line-whole bs (later b bs (length bs) plain)) ∙ ap (λ c. c ∷ one_line bs) (sym (same-first b bs (length bs) plain))
+
+-- a part of a text without its ends
+inner : (n : ℕ) (bs : List ℕ) → take (n - 1 - 1) (drop 1 (take n bs)) ≡ take (n - 1 - 1) (drop 1 bs)
+inner zero bs = refl
+inner (suc n) [] = refl
+inner (suc n) (b ∷ bs) = let less : suc n - 1 - 1 ≤ n = omega arith in take-take (suc n - 1 - 1) n bs less
+
+-- its length and its ends
+pub part-length : (bs : List ℕ) (from to : ℕ) → from ≤ to → to ≤ length bs → length (slice_range bs from to) ≡ to - from
+part-length bs from to low high =
+    let fits : to - from ≤ length (drop from bs) = omega (arith, length-drop from bs, high, low) in
+    length-take-le (to - from) (drop from bs) fits
+
+pub part-first : (bs : List ℕ) (from to : ℕ) → 1 ≤ to - from → get_or (slice_range bs from to) 0 0 ≡ get_or bs from 0
+part-first bs from to some =
+    let less : 0 < to - from = omega (arith, some) in
+    let place : from + 0 ≡ from = omega arith in
+    get_or-take (to - from) (drop from bs) 0 0 less ∙ get_or-drop from bs 0 0 ∙ ap (λ n. get_or bs n 0) place
+
+pub part-last : (bs : List ℕ) (from to : ℕ) → from ≤ to → to ≤ length bs → 1 ≤ to - from → get_or (slice_range bs from to) (length (slice_range bs from to) - 1) 0 ≡ get_or bs (to - 1) 0
+part-last bs from to low high some =
+    let last : to - from - 1 < to - from = omega (arith, some) in
+    let place : from + (to - from - 1) ≡ to - 1 = omega (arith, some) in
+    ap (λ n. get_or (slice_range bs from to) (n - 1) 0) (part-length bs from to low high) ∙ get_or-take (to - from) (drop from bs) (to - from - 1) 0 last
+    ∙ get_or-drop from bs (to - from - 1) 0 ∙ ap (λ n. get_or bs n 0) place
+
+pub inner-is : (bs : List ℕ) (from to : ℕ) → from ≤ to → to ≤ length bs → slice_range (slice_range bs from to) 1 (length (slice_range bs from to) - 1) ≡ slice_range bs (from + 1) (to - 1)
+inner-is bs from to low high =
+    let size = part-length bs from to low high in
+    let width : to - from - 1 - 1 ≡ to - 1 - (from + 1) = omega arith in
+    ap (λ n. take (n - 1 - 1) (drop 1 (slice_range bs from to))) size ∙ inner (to - from) (drop from bs)
+    ∙ ap (λ n. take n (drop 1 (drop from bs))) width ∙ ap (take (to - 1 - (from + 1))) (drop-drop 1 from bs)

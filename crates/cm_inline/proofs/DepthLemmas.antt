@@ -1,8 +1,8 @@
 -- How deep the inlines that nodes come to nest.
-use Rattle.std.proofs.Common.{◌≡◌, ℕ, ◌+◌, true, false, List, [], ◌∷◌, refl, sym, ap, ◌∙◌, arith, max}
+use Rattle.std.proofs.Common.{◌≡◌, ℕ, ◌+◌, true, false, List, [], ◌∷◌, ◌++◌, codes, refl, sym, ap, ◌∙◌, arith, max}
 use Rattle.std.specs.Prelude.{if◌then◌else◌, ◌==◌, Bool}
 use Rattle.cm_tree.specs.declared.tree.Inline.{Inline}
-use Rattle.cm_tree.specs.declared.tree.Inline.TheVariants.{Text, Code, Html, Soft, Hard, Emph, Strong, Strike}
+use Rattle.cm_tree.specs.declared.tree.Inline.TheVariants.{Text, Code, Html, Soft, Hard, Emph, Strong, Strike, Link}
 use Rattle.cm_tree.specs.declared.tree.Inline.TheViews.{outs-Text, outs-Code, outs-Html, outs-Soft, outs-Hard, outs-Link, outs-Emph, outs-Strong, outs-Strike}
 use Rattle.cm_tree.specs.declared.tree.Inline.TheFolds.{fold_out-Inline}
 use Rattle.cm_tree.specs.Depth.{depth_step, depth_of, inlines_depth}
@@ -10,7 +10,12 @@ use Rattle.cm_scan.specs.Autolinks.{Autolink}
 use Rattle.cm_scan.specs.Atoms.{link_of}
 use Rattle.cm_scan.specs.Pairing.{text_before, settled_after, settled, emphasised}
 use Rattle.cm_inline.specs.declared.nodes.Node.{Node}
-use Rattle.cm_inline.specs.declared.nodes.Node.TheVariants.{Piece, Characters, Finished, Run, Opener}
+use Rattle.cm_inline.specs.declared.nodes.Node.TheVariants.{Piece, Characters, Whole, Finished, Run, Opener}
+use Rattle.cm_scan.specs.CodeSpans.{one_line}
+use Rattle.std.specs.List.{slice_range}
+use Rattle.cm_inline.specs.declared.written.Written.{Written}
+use Rattle.cm_inline.specs.declared.written.Written.TheVariants as written
+use Rattle.cm_inline.specs.steps.Written.{inline_in, written_depth}
 use Rattle.cm_inline.specs.steps.Nodes.{items_of, nodes_depth, AreParts}
 
 text-depth : (text : List ℕ) → depth_of (Text text) ≡ 0
@@ -32,6 +37,19 @@ pub link-depth : (link : Autolink) → depth_of (link_of link) ≡ 1
 link-depth link =
     let one : depth_of (link_of link) ≡ inlines_depth (Text link.text ∷ []) + 1 = simp (fold_out-Inline ℕ depth_step, outs-Link) in
     omega (arith, one, text-depth link.text)
+
+-- an inline that stands by itself in a source
+pub whole-depth : (source : List ℕ) (w : Written) → depth_of (inline_in source w) ≡ written_depth w
+whole-depth source (written.Code from to) = code-depth (one_line (slice_range source from to))
+whole-depth source (written.Html from to) = html-depth (slice_range source from to)
+whole-depth source (written.Autolink from to is_address) = autolink (if is_address then codes "mailto:" ++ slice_range source from to else slice_range source from to) (slice_range source from to)
+  where
+    autolink : (dest text : List ℕ) → depth_of (Link dest [] (Text text ∷ [])) ≡ 1
+    autolink dest text =
+        let one : depth_of (Link dest [] (Text text ∷ [])) ≡ inlines_depth (Text text ∷ []) + 1 = simp (fold_out-Inline ℕ depth_step, outs-Link) in
+        omega (arith, one, text-depth text)
+whole-depth source written.Soft = soft-depth
+whole-depth source written.Hard = hard-depth
 
 emph-depth : (content : List Inline) → depth_of (Emph content) ≡ inlines_depth content + 1
 emph-depth content = simp (fold_out-Inline ℕ depth_step, outs-Emph)
@@ -64,6 +82,9 @@ settled-after source text (Piece from to ∷ nodes) parts = settled-after source
 settled-after source text (Characters chars ∷ nodes) parts = settled-after source _ nodes parts.1 ∙ sym (none-deeper (nodes_depth nodes))
 settled-after source text (Run run ∷ nodes) parts = settled-after source _ nodes parts.1 ∙ sym (none-deeper (nodes_depth nodes))
 settled-after source text (Opener image behind ∷ nodes) parts = settled-after source _ nodes parts.1 ∙ sym (none-deeper (nodes_depth nodes))
+settled-after source text (Whole written ∷ nodes) parts =
+    text-first text (inline_in source written ∷ settled_after [] (items_of source nodes)) ∙ ap (λ n. max n (inlines_depth (settled_after [] (items_of source nodes)))) (whole-depth source written)
+    ∙ ap (λ n. max (written_depth written) n) (settled-after source [] nodes parts.1)
 settled-after source text (Finished inline depth false ∷ nodes) parts =
     text-first text (inline ∷ settled_after [] (items_of source nodes)) ∙ ap (λ n. max n (inlines_depth (settled_after [] (items_of source nodes)))) parts.0 ∙ ap (λ n. max depth n) (settled-after source [] nodes parts.1)
 settled-after source text (Finished inline depth true ∷ nodes) parts =

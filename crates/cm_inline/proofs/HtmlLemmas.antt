@@ -1,19 +1,24 @@
 -- The HTML of nodes of which nothing more is made.
-use Rattle.std.proofs.Common.{◌≡◌, ℕ, zero, suc, true, false, List, [], ◌∷◌, ◌++◌, refl, ap, ◌∙◌, append_assoc}
-use Rattle.std.specs.Prelude.{encode_utf8_all, replicate}
+use Rattle.std.proofs.Common.{◌≡◌, ℕ, zero, suc, true, false, List, [], ◌∷◌, ◌++◌, codes, refl, sym, ap, ◌∙◌, append_assoc}
+use Rattle.std.specs.Prelude.{encode_utf8_all, replicate, if◌then◌else◌}
 use Rattle.std.specs.List.{slice_range}
 use Rattle.std.proofs.lemmas.Grind.{flat_map-append}
+use Rattle.std.proofs.lemmas.List.{append-nil}
 use Rattle.cm_text.specs.References.{chars_of}
 use Rattle.cm_tree.specs.declared.tree.Inline.{Inline}
 use Rattle.cm_tree.specs.declared.tree.Inline.TheFolds.{fold_out-Inline}
-use Rattle.cm_tree.specs.declared.tree.Inline.TheVariants.{Text, outs-Text}
+use Rattle.cm_tree.specs.declared.tree.Inline.TheVariants.{Text, Link, outs-Text, outs-Code, outs-Html, outs-Link, outs-Soft, outs-Hard}
 use Rattle.cm_html.specs.Escape.{escape_byte, escape}
-use Rattle.cm_html.specs.Html.{Spelled, inline_step, inlines_html, spelled}
+use Rattle.cm_html.specs.Html.{Spelled, inline_step, inlines_html, spelled, link_html}
+use Rattle.cm_scan.specs.CodeSpans.{one_line}
 use Rattle.cm_scan.specs.Pairing.{bracket_text, text_before, settled_after, settled}
 use Rattle.cm_inline.specs.declared.nodes.Node.{Node}
-use Rattle.cm_inline.specs.declared.nodes.Node.TheVariants.{Piece, Characters, Finished, Run, Opener}
+use Rattle.cm_inline.specs.declared.nodes.Node.TheVariants.{Piece, Characters, Whole, Finished, Run, Opener}
 use Rattle.cm_inline.specs.declared.runs.Marker.{Marker}
 use Rattle.cm_inline.specs.declared.runs.Marker.TheVariants.{Star, Underscore, Tilde}
+use Rattle.cm_inline.specs.declared.written.Written.{Written}
+use Rattle.cm_inline.specs.declared.written.Written.TheVariants.{Code, Html, Autolink, Soft, Hard}
+use Rattle.cm_inline.specs.steps.Written.{inline_in, written_html}
 use Rattle.cm_inline.specs.steps.Runs.{byte_of}
 use Rattle.cm_inline.specs.steps.Nodes.{items_of, nodes_html}
 
@@ -36,6 +41,23 @@ before-html (b ∷ bs) inlines = ap (λ html. html ++ inlines_html inlines) text
 longer : (before text rest : List ℕ) → escape (before ++ text) ++ rest ≡ escape before ++ (escape text ++ rest)
 longer before text rest = ap (λ t. t ++ rest) (flat_map-append escape_byte before text) ∙ append_assoc (escape before) (escape text) rest
 
+-- an inline that stands by itself in the source
+written-is : (source : List ℕ) (written : Written) → (spelled (inline_in source written)).html ≡ written_html source written
+written-is source (Code from to) = simp (fold_out-Inline Spelled inline_step, outs-Code)
+written-is source (Html from to) = simp (fold_out-Inline Spelled inline_step, outs-Html)
+written-is source (Autolink from to is_address) = linked (if is_address then codes "mailto:" ++ slice_range source from to else slice_range source from to) (slice_range source from to)
+  where
+    text-html : (text : List ℕ) → (spelled (Text text)).html ≡ escape text
+    text-html text = simp (fold_out-Inline Spelled inline_step, outs-Text)
+
+    link-is : (dest text : List ℕ) → (spelled (Link dest [] (Text text ∷ []))).html ≡ link_html dest [] (inlines_html (Text text ∷ []))
+    link-is dest text = simp (fold_out-Inline Spelled inline_step, outs-Link)
+
+    linked : (dest text : List ℕ) → (spelled (Link dest [] (Text text ∷ []))).html ≡ link_html dest [] (escape text)
+    linked dest text = link-is dest text ∙ ap (link_html dest []) (append-nil (spelled (Text text)).html ∙ text-html text)
+written-is source Soft = simp (fold_out-Inline Spelled inline_step, outs-Soft)
+written-is source Hard = simp (fold_out-Inline Spelled inline_step, outs-Hard)
+
 settled-html-after : (source before : List ℕ) (nodes : List Node) → inlines_html (settled_after before (items_of source nodes)) ≡ escape before ++ nodes_html source nodes
 unfolding settled_after
 settled-html-after source before [] = before-html before []
@@ -53,6 +75,10 @@ settled-html-after source before (Opener true behind ∷ nodes) =
     settled-html-after source (before ++ bracket_text true) nodes ∙ longer before (bracket_text true) (nodes_html source nodes)
 settled-html-after source before (Opener false behind ∷ nodes) =
     settled-html-after source (before ++ bracket_text false) nodes ∙ longer before (bracket_text false) (nodes_html source nodes)
+settled-html-after source before (Whole written ∷ nodes) =
+    before-html before (inline_in source written ∷ settled (items_of source nodes))
+    ∙ ap (λ t. escape before ++ ((spelled (inline_in source written)).html ++ t)) (settled-html-after source [] nodes)
+    ∙ ap (λ t. escape before ++ (t ++ nodes_html source nodes)) (written-is source written)
 settled-html-after source before (Finished inline depth false ∷ nodes) =
     before-html before (inline ∷ settled (items_of source nodes))
     ∙ ap (λ t. escape before ++ ((spelled inline).html ++ t)) (settled-html-after source [] nodes)
@@ -63,3 +89,9 @@ settled-html-after source before (Finished inline depth true ∷ nodes) =
 -- the HTML of the inlines that come of nodes is that of the nodes, one after another
 pub settled-html : (source : List ℕ) (nodes : List Node) → inlines_html (settled (items_of source nodes)) ≡ nodes_html source nodes
 settled-html source nodes = settled-html-after source [] nodes
+
+-- a line, and the space for its line feed
+pub line-html : (html line rest whole : List ℕ) → line ++ 32 ∷ one_line rest ≡ whole → ((html ++ escape line) ++ 32 ∷ []) ++ escape (one_line rest) ≡ html ++ escape whole
+line-html html line rest whole e =
+    append_assoc (html ++ escape line) (32 ∷ []) (escape (one_line rest)) ∙ append_assoc html (escape line) (32 ∷ escape (one_line rest))
+    ∙ ap (λ t. html ++ t) (sym (flat_map-append escape_byte line (32 ∷ one_line rest)) ∙ ap escape e)

@@ -25,3 +25,4 @@ pub mod LinkLemmas
 pub mod PaysLemmas
 pub mod ReaderLemmas
 pub mod WholeLemmas
+pub mod WrittenLemmas

@@ -7,8 +7,9 @@ use Rattle.cm_text.specs.References.{chars_of}
 use Rattle.cm_tree.specs.declared.tree.Inline.{Inline}
 use Rattle.cm_scan.specs.Pairing.{bracket_text, text_before, settled_after, settled}
 use Rattle.cm_inline.specs.declared.nodes.Node.{Node}
-use Rattle.cm_inline.specs.declared.nodes.Node.TheVariants.{Piece, Characters, Finished, Run, Opener}
+use Rattle.cm_inline.specs.declared.nodes.Node.TheVariants.{Piece, Characters, Whole, Finished, Run, Opener}
 use Rattle.cm_inline.specs.steps.Runs.{byte_of}
+use Rattle.cm_inline.specs.steps.Written.{inline_in}
 use Rattle.cm_inline.specs.steps.Nodes.{items_of, is_text, text_in, text_in_front, behind_texts, inline_of, AreParts}
 
 settled-texts : (source before : List ℕ) (nodes : List Node) → settled_after before (items_of source nodes) ≡ text_before (before ++ text_in_front source nodes) (settled (items_of source (behind_texts nodes)))
@@ -26,6 +27,7 @@ settled-texts source before (Run run ∷ nodes) =
 settled-texts source before (Opener image behind ∷ nodes) =
     let text = bracket_text image in
     settled-texts source (before ++ text) nodes ∙ ap (λ t. text_before t (settled (items_of source (behind_texts nodes)))) (append_assoc before text (text_in_front source nodes))
+settled-texts source before (Whole written ∷ nodes) = ap (λ t. text_before t (inline_in source written ∷ settled (items_of source nodes))) (sym (append-nil before))
 settled-texts source before (Finished inline depth false ∷ nodes) = ap (λ t. text_before t (inline ∷ settled (items_of source nodes))) (sym (append-nil before))
 settled-texts source before (Finished inline depth true ∷ nodes) = ap (λ t. text_before t (inline ∷ settled (items_of source nodes))) (sym (append-nil before))
 
@@ -46,15 +48,16 @@ others [] = []
 others (n ∷ ns) = ns
 
 -- behind it stands an inline, or nothing
-pub inline-first : (source : List ℕ) (nodes : List Node) (node : Node) (rest : List Node) → behind_texts nodes ≡ node ∷ rest → inline_of node ++ settled (items_of source rest) ≡ settled (items_of source (behind_texts nodes))
+pub inline-first : (source : List ℕ) (nodes : List Node) (node : Node) (rest : List Node) → behind_texts nodes ≡ node ∷ rest → inline_of source node ++ settled (items_of source rest) ≡ settled (items_of source (behind_texts nodes))
 unfolding settled_after first others
 inline-first source [] node rest e = absurd (cc e)
 inline-first source (Piece from to ∷ nodes) node rest e = inline-first source nodes node rest e
 inline-first source (Characters chars ∷ nodes) node rest e = inline-first source nodes node rest e
 inline-first source (Run run ∷ nodes) node rest e = inline-first source nodes node rest e
 inline-first source (Opener image behind ∷ nodes) node rest e = inline-first source nodes node rest e
-inline-first source (Finished inline depth false ∷ nodes) node rest e = ap (λ t. inline_of (first node t) ++ settled (items_of source (others t))) (sym e)
-inline-first source (Finished inline depth true ∷ nodes) node rest e = ap (λ t. inline_of (first node t) ++ settled (items_of source (others t))) (sym e)
+inline-first source (Whole written ∷ nodes) node rest e = ap (λ t. inline_of source (first node t) ++ settled (items_of source (others t))) (sym e)
+inline-first source (Finished inline depth false ∷ nodes) node rest e = ap (λ t. inline_of source (first node t) ++ settled (items_of source (others t))) (sym e)
+inline-first source (Finished inline depth true ∷ nodes) node rest e = ap (λ t. inline_of source (first node t) ++ settled (items_of source (others t))) (sym e)
 
 pub parts-drop : (source : List ℕ) (n : ℕ) (nodes : List Node) → AreParts source nodes → AreParts source (drop n nodes)
 parts-drop source zero nodes parts = parts
@@ -79,9 +82,9 @@ settled-left source done nodes left whole e h =
     ∙ ap (λ t. done ++ (text_before (text_in_front source nodes) [] ++ settled (items_of source t))) e ∙ ap (λ t. done ++ t) (text-first source nodes) ∙ h
 
 pub settled-on : (source : List ℕ) (done : List Inline) (nodes : List Node) (node : Node) (rest : List Node) (whole : List Inline) → behind_texts nodes ≡ node ∷ rest → done ++ settled (items_of source nodes) ≡ whole
-    → ((done ++ text_before (text_in_front source nodes) []) ++ inline_of node) ++ settled (items_of source rest) ≡ whole
+    → ((done ++ text_before (text_in_front source nodes) []) ++ inline_of source node) ++ settled (items_of source rest) ≡ whole
 settled-on source done nodes node rest whole e h =
-    append_assoc (done ++ text_before (text_in_front source nodes) []) (inline_of node) (settled (items_of source rest))
+    append_assoc (done ++ text_before (text_in_front source nodes) []) (inline_of source node) (settled (items_of source rest))
     ∙ ap (λ t. (done ++ text_before (text_in_front source nodes) []) ++ t) (inline-first source nodes node rest e)
     ∙ settled-left source done nodes (behind_texts nodes) whole refl h
 

@@ -51,6 +51,7 @@ unfolding pair_leftmost
 none-pairs source [] before e = refl
 none-pairs source (node.TheVariants.Piece from to ∷ nodes) before e = none-pairs source nodes (item_of source (node.TheVariants.Piece from to) ∷ before) e
 none-pairs source (node.TheVariants.Characters chars ∷ nodes) before e = none-pairs source nodes (item_of source (node.TheVariants.Characters chars) ∷ before) e
+none-pairs source (node.TheVariants.Whole written ∷ nodes) before e = none-pairs source nodes (item_of source (node.TheVariants.Whole written) ∷ before) e
 none-pairs source (node.TheVariants.Finished inline depth false ∷ nodes) before e = none-pairs source nodes (item_of source (node.TheVariants.Finished inline depth false) ∷ before) e
 none-pairs source (node.TheVariants.Finished inline depth true ∷ nodes) before e = none-pairs source nodes (item_of source (node.TheVariants.Finished inline depth true) ∷ before) e
 none-pairs source (node.TheVariants.Run run ∷ nodes) before e =
@@ -311,6 +312,7 @@ same-openers : (source : List ℕ) (before : List Item) (x : Node) → ((r : Del
 unfolding openers_of
 same-openers source before (node.TheVariants.Piece from to) n = refl
 same-openers source before (node.TheVariants.Characters chars) n = refl
+same-openers source before (node.TheVariants.Whole w) n = refl
 same-openers source before (node.TheVariants.Finished i d false) n = refl
 same-openers source before (node.TheVariants.Finished i d true) n = refl
 same-openers source before (node.TheVariants.Opener b k) n = refl
@@ -319,6 +321,7 @@ same-openers source before (node.TheVariants.Run r) n = absurd (n r refl)
 pub passes-other : (source : List ℕ) (before : List Item) (x : Node) → ((r : DelimiterRun) → x ≢ node.TheVariants.Run r) → passed before (item_of source x) ≡ item_of source x ∷ before
 passes-other source before (node.TheVariants.Piece from to) n = refl
 passes-other source before (node.TheVariants.Characters chars) n = refl
+passes-other source before (node.TheVariants.Whole w) n = refl
 passes-other source before (node.TheVariants.Finished i d false) n = refl
 passes-other source before (node.TheVariants.Finished i d true) n = refl
 passes-other source before (node.TheVariants.Opener b k) n = refl

@@ -19,6 +19,7 @@ use Rattle.cm_inline.specs.declared.brackets.Bracket.{Bracket}
 use Rattle.cm_inline.specs.declared.ends.Ends.{Ends}
 use Rattle.cm_inline.specs.declared.links.LinkEnd.{LinkEnd}
 use Rattle.cm_inline.specs.declared.nodes.Node.{Node}
+use Rattle.cm_inline.specs.declared.nodes.Node.TheVariants as nodes
 use Rattle.cm_inline.specs.declared.nodes.Node.TheVariants.{Piece, Characters, Finished, Run, Opener}
 use Rattle.cm_inline.specs.steps.Nodes.{item_of, items_of, text_between, IsPart, IsOpener, AreParts}
 use Rattle.cm_inline.specs.Emphases.{emphases}
@@ -438,6 +439,7 @@ opener-ends (OpenBracket other) source image behind end low within e =
 bracket-before : (a : Atom) (source : List ℕ) (n : ℕ) (node : Node) (end : ℕ) → IsPart source node → end ≤ length source → item_for a (drop end source) ≡ Some (item_of source node) → AreBefore end (bracket_in n node)
 bracket-before a source n (Piece from to) end part within e = tt
 bracket-before a source n (Characters chars) end part within e = tt
+bracket-before a source n (nodes.Whole written) end part within e = tt
 bracket-before a source n (Finished inline depth holds) end part within e = tt
 bracket-before a source n (Run run) end part within e = tt
 bracket-before a source n (Opener image behind) end part within e = (opener-ends a source image behind end part.end.0 within e, tt)

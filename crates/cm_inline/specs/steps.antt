@@ -10,3 +10,4 @@ pub mod Reads
 pub mod Runs
 pub mod Searching
 pub mod Slots
+pub mod Written

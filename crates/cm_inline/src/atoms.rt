@@ -1,24 +1,23 @@
 //! The atoms of a leaf's source: what begins at a place (CommonMark 0.31.2, chapter 6).
-ghost use Rattle.std.specs.Prelude.{◌≡◌, ◌≢◌, ◌==◌, ◌+◌, ◌<◌, ◌≤◌, ◌&&◌, ◌||◌, not, ℕ, List, true, false, length, drop, slice_index, nat_le, if◌then◌else◌, IfOk, OnOk, IfSome, IsUtf8};
+ghost use Rattle.std.specs.Prelude.{◌≡◌, ◌≢◌, ◌==◌, ◌+◌, ◌<◌, ◌≤◌, ◌&&◌, ◌||◌, not, ℕ, true, false, length, drop, slice_index, nat_le, if◌then◌else◌, IfOk, OnOk, IfSome, IsUtf8};
 ghost use Rattle.std.specs.Str.{IsCharBoundary};
-ghost use Rattle.cm_tree.specs.declared.tree.Inline.TheVariants.{Soft, Hard};
+ghost use Rattle.cm_inline.specs.declared.written.Written.TheVariants.{Soft, Hard};
 ghost use Rattle.cm_scan.specs.RawHtml.{raw_html};
-ghost use Rattle.cm_scan.specs.Scanned.{reading_of, whole_of, autolink_with};
-ghost use Rattle.cm_scan.specs.Atoms.{link_of};
+ghost use Rattle.cm_scan.specs.Scanned.{reading_of, whole_of};
 ghost use Rattle.cm_text.specs.Rules.{Rules};
 ghost use Rattle.cm_inline.specs.steps.Missing.{Knows};
 ghost use Rattle.cm_inline.specs.declared.nodes.Node.TheVariants.{Piece, Opener};
 ghost use Rattle.cm_inline.specs.steps.Reads.{Stands, IsTextTo, IsAtom, is_break_byte};
 ghost use Rattle.cm_inline.specs.steps.Runs.{byte_of};
 
-use crate::code::content_of;
+use crate::code::content_between;
 use crate::ends::{Ends, form_at};
 use crate::flanking::run_between;
 use crate::nodes::Node;
 use crate::runs::Marker;
-use cm_scan::{Autolink, after_run, autolink, code_span, is_next, raw_html_by, trim_end_spaces};
+use crate::written::Written;
+use cm_scan::{after_run, autolink, code_span, is_next, raw_html_by, trim_end_spaces};
 use cm_text::{Rules, is_ascii_punct, next_markup, reference_at};
-use cm_tree::{BoxedText, Inline, Items, Text};
 use std::alloc::{AllocError, Global};
 
 /// The place where the text ends that goes on from a place: that of the next byte with which something else can
@@ -53,7 +52,7 @@ pub(crate) fn atom(
     let b = source.as_bytes()[at];
     match b {
         b'`' => backticks(alloc, source, at, ends),
-        b'<' => angle(alloc, rules, source, at, ends),
+        b'<' => Ok(angle(rules, source, at, ends)),
         b'\\' => Ok(backslash(source, at)),
         b'&' => Ok(ampersand(source, at)),
         b'\n' => Ok(line_break(source, at)),
@@ -101,8 +100,8 @@ fn backticks(
     }
     match code_span(source, at) {
         Some((inside, end)) => {
-            let code = Inline::Code(content_of(alloc, inside)?);
-            Ok((Node::flat(code), end))
+            let (from, to) = content_between(source, start, start + inside.len());
+            Ok((Node::Whole(Written::Code { from, to }), end))
         }
         None => {
             ends.look_for_backticks(alloc, source)?;
@@ -112,51 +111,24 @@ fn backticks(
 }
 
 /// An autolink, raw HTML, or `<` as text (6.5 Autolinks, 6.6 Raw HTML).
-fn angle(
-    alloc: Global,
-    rules: Rules,
-    source: &str,
-    at: usize,
-    ends: &mut Ends,
-) -> Result<(Node, usize), AllocError>
+fn angle(rules: Rules, source: &str, at: usize, ends: &mut Ends) -> (Node, usize)
     requires stands { Stands source.now at 60 }
     requires knows { Knows source.now ends.old }
-    ensures atom { IfOk result (λ read. IsAtom rules source.now at read.0 read.1) }
-    ensures knows { OnOk result (Knows source.now ends.new) }
+    ensures atom { IsAtom rules source.now at result.0 result.1 }
+    ensures knows { Knows source.now ends.new }
 {
     if let Some((link, end)) = autolink(source, at) {
-        let node = Node::Finished {
-            inline: link_of(alloc, link)?,
-            depth: 1,
-            holds_link: false,
+        let link = Written::Autolink {
+            from: at + 1,
+            to: end - 1,
+            is_address: link.is_address,
         };
-        return Ok((node, end));
+        return (Node::Whole(link), end);
     }
     match raw_html(rules, source, at, ends) {
-        Some((html, end)) => {
-            let html = Inline::Html(Text::from_str(alloc, html)?);
-            Ok((Node::flat(html), end))
-        }
-        None => Ok(text(at, at + 1)),
+        Some((_, end)) => (Node::Whole(Written::Html { from: at, to: end }), end),
+        None => text(at, at + 1),
     }
-}
-
-/// An autolink as a link.
-fn link_of(alloc: Global, link: Autolink<'_>) -> Result<Inline, AllocError>
-    ensures { IfOk result (λ made. (rest : List ℕ) → made ≡ link_of (autolink_with link.entry.is_address link.entry.text.now rest)) }
-{
-    let mut dest = String::new(alloc);
-    if link.is_address {
-        dest.push_str("mailto:")?;
-    }
-    dest.push_str(link.text)?;
-    let mut content = Items::new(alloc);
-    content.push(Inline::Text(Text::from_str(alloc, link.text)?))?;
-    Ok(Inline::Link {
-        dest: BoxedText::new(alloc, Text::from(dest))?,
-        title: BoxedText::new(alloc, Text::new(alloc))?,
-        content,
-    })
 }
 
 /// The raw HTML at a place. An end that is known to be missing isn't looked for.
@@ -192,7 +164,7 @@ fn backslash(source: &str, at: usize) -> (Node, usize)
     ensures { (rules : Rules) → IsAtom rules source.now at result.0 result.1 }
 {
     if is_next(source.as_bytes(), at + 1, b'\n') {
-        return (Node::flat(Inline::Hard), at + 2);
+        return (Node::Whole(Written::Hard), at + 2);
     }
     if at + 1 < source.len() && is_ascii_punct(source.as_bytes()[at + 1] as char) {
         return text(at + 1, at + 2);
@@ -220,17 +192,17 @@ fn line_break(source: &str, at: usize) -> (Node, usize)
     if !is_next(source.as_bytes(), feed, b'\n') {
         return text(at, at + 1);
     }
-    (Node::flat(break_behind(feed - at)), feed + 1)
+    (Node::Whole(break_behind(feed - at)), feed + 1)
 }
 
 /// The line break behind so many spaces.
-fn break_behind(spaces: usize) -> Inline
+fn break_behind(spaces: usize) -> Written
     ensures { result ≡ (if nat_le 2 spaces then Hard else Soft) }
 {
     if spaces >= 2 {
-        Inline::Hard
+        Written::Hard
     } else {
-        Inline::Soft
+        Written::Soft
     }
 }
 

@@ -1,7 +1,8 @@
 //! The content of a code span (CommonMark 0.31.2, 6.1 Code spans).
-ghost use Rattle.std.specs.Prelude.{◌≡◌, ◌==◌, ◌||◌, IfOk, IsUtf8};
-ghost use Rattle.std.specs.List.{list_all};
+ghost use Rattle.std.specs.Prelude.{◌≡◌, ◌==◌, ◌||◌, IfOk};
+ghost use Rattle.std.specs.List.{list_all, slice_range};
 ghost use Rattle.cm_scan.specs.CodeSpans.{one_line, stripped};
+ghost use Rattle.cm_inline.specs.steps.Written.{IsBetween};
 
 use cm_text::cut_at;
 use cm_tree::Text;
@@ -24,25 +25,26 @@ fn are_spaces(bytes: &[u8]) -> bool
     bytes.iter().all(|b| is_space(*b))
 }
 
-/// What stands between the backtick strings, without a space at each end, where there are both and something
-/// else stands between them.
-fn without_ends(inside: &str) -> &str
-    ensures stripped { one_line result.now ≡ stripped (one_line inside.now) }
-    ensures utf8 { IsUtf8 result.now }
+/// The places between which the content of a code span stands, by those of its backtick strings: without a space
+/// at each end, where there are both and something else stands between them.
+pub(crate) fn content_between(source: &str, from: usize, to: usize) -> (usize, usize)
+    requires { IsBetween source.now from to }
+    ensures stripped { one_line (slice_range source.now result.0 result.1) ≡ stripped (one_line (slice_range source.now from to)) }
+    ensures between { IsBetween source.now result.0 result.1 }
 {
-    let bytes = inside.as_bytes();
+    let bytes = &source.as_bytes()[from..to];
     let len = bytes.len();
     if len < 2 || !is_space(bytes[0]) || !is_space(bytes[len - 1]) {
-        return inside;
+        return (from, to);
     }
     if are_spaces(bytes) {
-        return inside;
+        return (from, to);
     }
-    &inside[1..len - 1]
+    (from + 1, to - 1)
 }
 
 /// A text with its line feeds as spaces.
-fn one_line(alloc: Global, text: &str) -> Result<Text, AllocError>
+pub(crate) fn one_line(alloc: Global, text: &str) -> Result<Text, AllocError>
     ensures { IfOk result (λ line. line ≡ one_line text.now) }
 {
     let mut line = String::with_capacity(alloc, text.len())?;
@@ -55,11 +57,4 @@ fn one_line(alloc: Global, text: &str) -> Result<Text, AllocError>
     }
     line.push_str(rest)?;
     Ok(Text::from(line))
-}
-
-/// The content of a code span, by what stands between its backtick strings.
-pub(crate) fn content_of(alloc: Global, inside: &str) -> Result<Text, AllocError>
-    ensures { IfOk result (λ content. content ≡ stripped (one_line inside.now)) }
-{
-    one_line(alloc, without_ends(inside))
 }

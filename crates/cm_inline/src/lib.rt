@@ -17,6 +17,7 @@ mod openers;
 mod pairing;
 mod reading;
 mod runs;
+mod written;
 
 pub use fault::InlineFault;
 pub use reading::{Steps, inlines, inlines_by, inlines_html_by, is_one_text};

@@ -3,11 +3,11 @@ ghost use Rattle.std.specs.Prelude.{◌≡◌, ◌++◌, ◌≤◌, [], ◌∷�
 ghost use Rattle.std.specs.List.{list_any};
 ghost use Rattle.cm_text.specs.References.{chars_of};
 ghost use Rattle.cm_scan.specs.Pairing.{bracket_text, settled, text_before};
-ghost use Rattle.cm_inline.specs.declared.nodes.Node.TheVariants.{Finished};
 ghost use Rattle.cm_inline.specs.steps.Runs.{byte_of};
 ghost use Rattle.cm_inline.specs.steps.Nodes.{is_closer, is_text, node_depth, nodes_depth, text_in, text_in_front, behind_texts, text_between, inline_of, items_of, IsPart, AreParts};
 
 use crate::runs::DelimiterRun;
+use crate::written::Written;
 use cm_text::Chars;
 use cm_tree::{Inline, Items, Text};
 use std::alloc::{AllocError, Global};
@@ -23,8 +23,10 @@ pub(crate) enum Node {
     },
     /// The characters for which a reference stands.
     Characters(Chars),
-    /// An inline that is finished, how deep it nests, and whether it is a link that a `]` made, or an image that
-    /// holds one.
+    /// An inline that stands by itself in the source.
+    Whole(Written),
+    /// An inline that was made of nodes, how deep it nests, and whether it is a link that a `]` made, or an image
+    /// that holds one.
     Finished {
         inline: Inline,
         depth: usize,
@@ -40,22 +42,12 @@ pub(crate) enum Node {
 }
 
 impl Node {
-    /// An inline in which nothing nests.
-    pub(crate) fn flat(inline: Inline) -> Node
-        ensures { result ≡ Finished inline 0 false }
-    {
-        Node::Finished {
-            inline,
-            depth: 0,
-            holds_link: false,
-        }
-    }
-
     /// How deep the inline that it is nests.
     pub(crate) fn depth(&self) -> usize
         ensures { result ≡ node_depth self.now }
     {
         match self {
+            Node::Whole(written) => written.depth(),
             Node::Finished { depth, .. } => *depth,
             _ => 0,
         }
@@ -97,6 +89,7 @@ fn room_for_text(nodes: &[Node]) -> usize {
         let more = match node {
             Node::Piece { from, to } => to.saturating_sub(*from),
             Node::Characters(_) => 8,
+            Node::Whole(_) => return room,
             Node::Finished { .. } => return room,
             Node::Run(run) => run.left,
             Node::Opener { .. } => 2,
@@ -149,6 +142,7 @@ fn push_text_of(text: &mut String, source: &str, node: &Node) -> Result<bool, Al
             push_chars(text, *chars)?;
             Ok(true)
         }
+        Node::Whole(_) => Ok(false),
         Node::Finished { .. } => Ok(false),
         Node::Run(run) => {
             push_run(text, *run)?;
@@ -214,10 +208,20 @@ pub(crate) fn push_text(nodes: &mut Vec<Node>, from: usize, to: usize) -> Result
 }
 
 /// Adds the inline that a node is, if it is one.
-fn push_finished(node: Node, content: &mut Vec<Inline>) -> Result<(), AllocError>
-    ensures { OnOk result (content.new.items ≡ content.old.items ++ inline_of node) }
+fn push_inline(
+    alloc: Global,
+    source: &str,
+    node: Node,
+    content: &mut Vec<Inline>,
+) -> Result<(), AllocError>
+    requires { IsPart source.now node }
+    ensures { OnOk result (content.new.items ≡ content.old.items ++ inline_of source.now node) }
 {
     match node {
+        Node::Whole(written) => {
+            let inline = written.inline(alloc, source)?;
+            Ok(content.push(inline)?)
+        }
         Node::Finished { inline, .. } => Ok(content.push(inline)?),
         _ => Ok(()),
     }
@@ -228,7 +232,7 @@ fn count_inlines(nodes: &[Node]) -> usize {
     let mut count: usize = 0;
     let mut in_text = false;
     for node in nodes {
-        let is_text = !matches!(node, Node::Finished { .. });
+        let is_text = !matches!(node, Node::Whole(_) | Node::Finished { .. });
         if !is_text || !in_text {
             count = count.saturating_add(1);
         }
@@ -252,7 +256,7 @@ pub(crate) fn settle(
         at += push_texts(alloc, source, &nodes[at..], &mut content)?;
         if at < nodes.len() {
             let node = mem::replace(&mut nodes[at], Node::Piece { from: 0, to: 0 });
-            push_finished(node, &mut content)?;
+            push_inline(alloc, source, node, &mut content)?;
             at += 1;
         }
     }

@@ -169,6 +169,6 @@ pub fn inlines_html_by(
 {
     let (nodes, _) = nodes_of(alloc, rules, source, definitions, limit)?;
     let mut html = String::with_capacity(alloc, room(source))?;
-    push_nodes(&mut html, source, &nodes)?;
+    push_nodes(alloc, &mut html, source, &nodes)?;
     Ok(html)
 }

@@ -10,7 +10,7 @@ use Rattle.cm_inline.specs.declared.brackets.Bracket.{Bracket}
 use Rattle.cm_inline.specs.declared.brackets.Reader.{Reader}
 use Rattle.cm_inline.specs.declared.ends.Ends.{Ends}
 use Rattle.cm_inline.specs.declared.nodes.Node.{Node}
-use Rattle.cm_inline.specs.declared.nodes.Node.TheVariants.{Piece, Characters, Finished, Run, Opener}
+use Rattle.cm_inline.specs.declared.nodes.Node.TheVariants.{Piece, Characters, Whole, Finished, Run, Opener}
 use Rattle.cm_inline.specs.steps.Missing.{Knows}
 use Rattle.cm_inline.specs.steps.Nodes.{items_of, AreParts}
 
@@ -18,6 +18,7 @@ use Rattle.cm_inline.specs.steps.Nodes.{items_of, AreParts}
 abbrev pub bracket_in : ℕ → Node → List Bracket
 bracket_in n (Piece from to) = []
 bracket_in n (Characters chars) = []
+bracket_in n (Whole written) = []
 bracket_in n (Finished inline depth holds_link) = []
 bracket_in n (Run run) = []
 bracket_in n (Opener image behind) = record { node = n; image = image; behind = behind } ∷ []

@@ -10,13 +10,15 @@ use Rattle.cm_html.specs.Html.{spelled}
 use Rattle.cm_scan.specs.Pairing as items
 use Rattle.cm_inline.specs.declared.runs.DelimiterRun.{DelimiterRun}
 use Rattle.cm_inline.specs.declared.nodes.Node.{Node}
-use Rattle.cm_inline.specs.declared.nodes.Node.TheVariants.{Piece, Characters, Finished, Run, Opener}
+use Rattle.cm_inline.specs.declared.nodes.Node.TheVariants.{Piece, Characters, Whole, Finished, Run, Opener}
 use Rattle.cm_inline.specs.steps.Runs.{byte_of, run_of}
+use Rattle.cm_inline.specs.steps.Written.{inline_in, written_depth, written_html, IsWithin}
 
 -- a node of a source as an item
 abbrev pub item_of : List ℕ → Node → items.Item
 item_of source (Piece from to) = items.Characters (slice_range source from to)
 item_of source (Characters chars) = items.Characters (encode_utf8_all (chars_of chars))
+item_of source (Whole written) = items.Finished (inline_in source written)
 item_of source (Finished inline depth false) = items.Finished inline
 item_of source (Finished inline depth true) = items.Linked inline
 item_of source (Run run) = items.Delimiters (run_of run)
@@ -35,17 +37,19 @@ rest_in None = []
 rest_in (Some run) = Run run ∷ []
 
 -- the inline that a node is, if it is one
-abbrev pub inline_of : Node → List Inline
-inline_of (Piece from to) = []
-inline_of (Characters chars) = []
-inline_of (Finished inline depth holds_link) = inline ∷ []
-inline_of (Run run) = []
-inline_of (Opener image behind) = []
+abbrev pub inline_of : List ℕ → Node → List Inline
+inline_of source (Piece from to) = []
+inline_of source (Characters chars) = []
+inline_of source (Whole written) = inline_in source written ∷ []
+inline_of source (Finished inline depth holds_link) = inline ∷ []
+inline_of source (Run run) = []
+inline_of source (Opener image behind) = []
 
 -- how deep the inline that a node is nests
 abbrev pub node_depth : Node → ℕ
 node_depth (Piece from to) = 0
 node_depth (Characters chars) = 0
+node_depth (Whole written) = written_depth written
 node_depth (Finished inline depth holds_link) = depth
 node_depth (Run run) = 0
 node_depth (Opener image behind) = 0
@@ -57,6 +61,7 @@ nodes_depth nodes = greatest (map node_depth nodes)
 abbrev pub is_closer : Node → Bool
 is_closer (Piece from to) = false
 is_closer (Characters chars) = false
+is_closer (Whole written) = false
 is_closer (Finished inline depth holds_link) = false
 is_closer (Run run) = run.closes
 is_closer (Opener image behind) = false
@@ -65,6 +70,7 @@ is_closer (Opener image behind) = false
 abbrev pub is_text : Node → Bool
 is_text (Piece from to) = true
 is_text (Characters chars) = true
+is_text (Whole written) = false
 is_text (Finished inline depth holds_link) = false
 is_text (Run run) = true
 is_text (Opener image behind) = true
@@ -73,6 +79,7 @@ is_text (Opener image behind) = true
 abbrev pub text_in : List ℕ → Node → List ℕ
 text_in source (Piece from to) = slice_range source from to
 text_in source (Characters chars) = encode_utf8_all (chars_of chars)
+text_in source (Whole written) = []
 text_in source (Finished inline depth holds_link) = []
 text_in source (Run run) = replicate run.left (byte_of run.marker)
 text_in source (Opener image behind) = items.bracket_text image
@@ -81,6 +88,7 @@ text_in source (Opener image behind) = items.bracket_text image
 abbrev pub node_html : List ℕ → Node → List ℕ
 node_html source (Piece from to) = escape (slice_range source from to)
 node_html source (Characters chars) = escape (encode_utf8_all (chars_of chars))
+node_html source (Whole written) = written_html source written
 node_html source (Finished inline depth holds_link) = (spelled inline).html
 node_html source (Run run) = replicate run.left (byte_of run.marker)
 node_html source (Opener image behind) = items.bracket_text image
@@ -110,6 +118,7 @@ pub record IsOpener (source : List ℕ) (image : Bool) (behind : ℕ) : Type 0 w
 abbrev pub IsPart : List ℕ → Node → Type 0
 IsPart source (Piece from to) = (from ≤ to) × IsCharBoundary source from × IsCharBoundary source to
 IsPart source (Characters chars) = ⊤
+IsPart source (Whole written) = IsWithin source written
 IsPart source (Finished inline depth holds_link) = depth_of inline ≡ depth
 IsPart source (Run run) = ⊤
 IsPart source (Opener image behind) = IsOpener source image behind

@@ -1,21 +1,41 @@
-use Rattle.std.proofs.Common.{◌+◌, refl, sym, subst, drop, false, ap, ◌∙◌}
-use Rattle.cm_tree.specs.declared.tree.Inline.TheVariants.{Html}
+use Rattle.std.proofs.Common.{◌+◌, ◌-◌, ◌≤◌, false, [], refl, sym, subst, drop, ◌∙◌, arith}
+use Rattle.cm_scan.specs.Atoms.{link_of}
 use Rattle.cm_scan.specs.Scanned.{autolink_with}
 use Rattle.cm_inline.specs.declared.nodes.Node.TheVariants.{Piece, Finished}
+use Rattle.cm_inline.specs.declared.written.Written.TheVariants.{Html, Autolink}
+use Rattle.cm_tree.specs.declared.tree.Inline.TheVariants as inlines
 use Rattle.cm_inline.specs.steps.Reads.{IsAtom}
 use Rattle.cm_inline.proofs.AtomLemmas.{told, link-is, html-is, angle-is-text}
+use Rattle.cm_inline.proofs.WrittenLemmas.{whole-is, link-placed, link-further, whole-placed, whole-text}
 use Rattle.cm_inline.proofs.atoms.angle.Goals as goal
 
 pub returns-in-Some-clause-atom : goal.returns-in-Some-clause-atom
 returns-in-Some-clause-atom c =
-    let link = autolink_with c.in-Some.link.is_address c.in-Some.link.text.now (drop c.in-Some.end c.args.source.now) in
-    subst (λ made. IsAtom c.args.rules c.args.source.now c.args.at (Finished made 1 false) c.in-Some.end) (sym (c.in_ok-link_of.ensures (drop c.in-Some.end c.args.source.now)))
-    (link-is c.args.rules c.args.source.now c.args.at link c.in-Some.end c.requires.stands c.in-Some.ensures.read refl c.in-Some.ensures.boundary)
+    let source = c.args.source.now in
+    let at = c.args.at in
+    let end = c.in-Some.end in
+    let link = autolink_with c.in-Some.link.is_address c.in-Some.link.text.now (drop end source) in
+    let placed = link-placed source at end link c.utf8.source c.requires.stands.within c.in-Some.ensures.boundary.0 c.in-Some.ensures.read refl in
+    whole-is c.args.rules source at (Autolink (at + 1) (end - 1) c.in-Some.link.is_address) 1 end placed.1
+    (subst (λ text. IsAtom c.args.rules source at (Finished (link_of (autolink_with c.in-Some.link.is_address text [])) 1 false) end) (sym placed.0)
+    (link-is c.args.rules source at link end c.requires.stands c.in-Some.ensures.read refl c.in-Some.ensures.boundary))
 
-pub returns-in_ok-from_str-in-Some-raw_html-clause-atom : goal.returns-in_ok-from_str-in-Some-raw_html-clause-atom
-returns-in_ok-from_str-in-Some-raw_html-clause-atom c =
-    subst (λ node. IsAtom c.args.rules c.args.source.now c.args.at node c.in-Some-raw_html.end) (sym (c.flat.ensures ∙ ap (λ made. Finished (Html made) 0 false) c.in_ok-from_str-in-Some-raw_html.ensures))
-    (html-is c.args.rules c.args.source.now c.args.at c.in-Some-raw_html.html.now c.in-Some-raw_html.end c.requires.stands c.in_default.ensures.read c.in-Some-raw_html.ensures.read c.in-Some-raw_html.ensures.boundary)
+pub overflow_sub-link : goal.overflow_sub-link
+overflow_sub-link c =
+    let source = c.args.source.now in
+    let link = autolink_with c.in-Some.link.is_address c.in-Some.link.text.now (drop c.in-Some.end source) in
+    omega (arith, link-further source c.args.at c.in-Some.end link c.requires.stands.within c.in-Some.ensures.boundary.0 c.in-Some.ensures.read refl)
+
+pub returns-in-Some-raw_html-clause-atom : goal.returns-in-Some-raw_html-clause-atom
+returns-in-Some-raw_html-clause-atom c =
+    let source = c.args.source.now in
+    let at = c.args.at in
+    let end = c.in-Some-raw_html.end in
+    let is = html-is c.args.rules source at _ end c.requires.stands c.in_default.ensures.read c.in-Some-raw_html.ensures.read c.in-Some-raw_html.ensures.boundary in
+    let low : at ≤ end = omega (arith, is.further) in
+    let text = whole-text (drop at source) _ (drop end source) _ c.in-Some-raw_html.ensures.read ∙ whole-placed source at end low is.within in
+    whole-is c.args.rules source at (Html at end) 0 end (low, c.requires.stands.boundary, is.boundary)
+    (subst (λ html. IsAtom c.args.rules source at (Finished (inlines.Html html) 0 false) end) text is)
 
 pub returns-in-None-clause-atom : goal.returns-in-None-clause-atom
 returns-in-None-clause-atom c =

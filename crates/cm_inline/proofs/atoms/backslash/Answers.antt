@@ -1,15 +1,16 @@
-use Rattle.std.proofs.Common.{◌≡◌, ℕ, ◌+◌, ◌<◌, true, get_or, refl, sym, ap, subst, ◌∙◌, arith}
+use Rattle.std.proofs.Common.{◌≡◌, ℕ, ◌+◌, ◌<◌, true, get_or, refl, sym, ap, ◌∙◌, arith}
 use Rattle.cm_text.specs.Characters.{is_ascii_punct}
 use Rattle.cm_inline.specs.declared.nodes.Node.TheVariants.{Piece}
-use Rattle.cm_inline.specs.steps.Reads.{IsAtom}
 use Rattle.cm_inline.proofs.AtomLemmas.{told, hard-is, escape-is, backslash-is-text}
+use Rattle.cm_inline.specs.declared.written.Written.TheVariants.{Hard}
+use Rattle.cm_inline.proofs.WrittenLemmas.{whole-is}
 use Rattle.cm_inline.proofs.LinkLemmas.{next-of}
 use Rattle.cm_inline.proofs.atoms.backslash.Goals as goal
 use Rattle.cm_inline.proofs.atoms.backslash.Goals.{else-at-source-via-then-at-source+else-is_ascii_punct, else-at-source-via-else-at-source}
 
 pub returns-then-is_next : goal.returns-then-is_next
 returns-then-is_next c = λ rules.
-    subst (λ node. IsAtom rules c.args.source.now c.args.at node (c.args.at + 2)) (sym c.flat.ensures)
+    whole-is rules c.args.source.now c.args.at Hard 0 (c.args.at + 2) tt
     (hard-is rules c.args.source.now c.args.at c.utf8.source c.requires (sym (next-of 10 c.args.source.now c.as_bytes.result.now (c.args.at + 1) c.is_next.result c.as_bytes.ensures.value c.is_next.ensures) ∙ c.if-is_next.true))
 
 pub returns-then-is_ascii_punct : goal.returns-then-is_ascii_punct

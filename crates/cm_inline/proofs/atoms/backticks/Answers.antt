@@ -1,5 +1,8 @@
 use Rattle.std.proofs.Common.{◌≡◌, ◌+◌, ◌-◌, None, sym, subst, drop, arith, false, ap, ◌∙◌}
-use Rattle.cm_tree.specs.declared.tree.Inline.TheVariants.{Code}
+use Rattle.cm_tree.specs.declared.tree.Inline.TheVariants as inlines
+use Rattle.cm_scan.specs.CodeSpans.{one_line, stripped}
+use Rattle.cm_inline.specs.declared.written.Written.TheVariants.{Code}
+use Rattle.cm_inline.proofs.WrittenLemmas.{whole-is, span-placed}
 use Rattle.cm_scan.specs.Words.{run_length}
 use Rattle.cm_scan.proofs.RunLemmas.{span-content}
 use Rattle.cm_inline.specs.declared.nodes.Node.TheVariants.{Piece, Finished}
@@ -19,10 +22,26 @@ returns-then-is_last_backticks-clause-atom c =
     λ rules. told rules source c.args.at c.text.result (Piece c.args.at start) start c.text.ensures
     (backticks-are rules source c.args.at start c.requires.stands (span-content (drop c.args.at source) None (sym none)) run.end run.behind (run.boundary (omega arith) c.requires.stands.boundary))
 
-pub returns-in_ok-content_of-in-Some-clause-atom : goal.returns-in_ok-content_of-in-Some-clause-atom
-returns-in_ok-content_of-in-Some-clause-atom c =
-    λ rules. subst (λ node. IsAtom rules c.args.source.now c.args.at node c.in-Some.end) (sym (c.flat.ensures ∙ ap (λ made. Finished (Code made) 0 false) c.in_ok-content_of-in-Some.ensures))
-    (code-span-is rules c.args.source.now c.args.at c.in-Some.inside.now c.in-Some.end c.requires.stands c.in-Some.ensures.content c.in-Some.ensures.boundary)
+pub content_between-from-requires : goal.content_between-from-requires
+content_between-from-requires c =
+    let source = c.args.source.now in
+    let run = c.after_run-start.ensures in
+    (span-placed source c.args.at c.after_run-start.result c.in-Some.inside.now (drop c.in-Some.end source) c.in-Some.ensures.read run.behind (run.boundary (omega arith) c.requires.stands.boundary)).between
+
+pub returns-in-Some-clause-atom : goal.returns-in-Some-clause-atom
+returns-in-Some-clause-atom c =
+    let source = c.args.source.now in
+    let at = c.args.at in
+    let end = c.in-Some.end in
+    let run = c.after_run-start.ensures in
+    let start = c.after_run-start.result in
+    let inside = c.in-Some.inside.now in
+    let placed = span-placed source at start inside (drop end source) c.in-Some.ensures.read run.behind (run.boundary (omega arith) c.requires.stands.boundary) in
+    let between = c.content_between-from.ensures in
+    let text = between.stripped ∙ ap (λ t. stripped (one_line t)) placed.is in
+    λ rules. whole-is rules source at (Code c.content_between-from.result.0 c.content_between-from.result.1) 0 end between.between
+    (subst (λ content. IsAtom rules source at (Finished (inlines.Code content) 0 false) end) (sym text)
+    (code-span-is rules source at inside end c.requires.stands c.in-Some.ensures.content c.in-Some.ensures.boundary))
 
 pub returns-in_ok-look_for_backticks-in-None-clause-atom : goal.returns-in_ok-look_for_backticks-in-None-clause-atom
 returns-in_ok-look_for_backticks-in-None-clause-atom c =

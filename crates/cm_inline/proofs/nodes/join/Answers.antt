@@ -2,7 +2,7 @@ use Rattle.std.proofs.Common.{◌≡◌, ◌+◌, [], ◌∷◌, ◌++◌, false
 use Rattle.std.specs.Prelude.{string_bytes}
 use Rattle.std.proofs.lemmas.List.{append-nil, drop_more, drop_all}
 use Rattle.cm_inline.specs.declared.nodes.Node.{Node}
-use Rattle.cm_inline.specs.declared.nodes.Node.TheVariants.{Piece, Characters, Finished, Run, Opener}
+use Rattle.cm_inline.specs.declared.nodes.Node.TheVariants.{Piece, Characters, Whole, Finished, Run, Opener}
 use Rattle.cm_inline.specs.steps.Nodes.{is_text, text_in, text_in_front, behind_texts, AreParts}
 use Rattle.cm_inline.proofs.NodeLemmas.{text-more, text-over}
 use Rattle.cm_inline.proofs.nodes.join.Goals as goal
@@ -33,6 +33,7 @@ returns-then-not-branch-clause-text c =
     no-text (Characters chars) e = absurd (cc e)
     no-text (Run run) e = absurd (cc e)
     no-text (Opener image behind) e = absurd (cc e)
+    no-text (Whole written) e = refl
     no-text (Finished inline depth holds_link) e = refl
 
 pub returns-then-not-branch-clause-rest : goal.returns-then-not-branch-clause-rest

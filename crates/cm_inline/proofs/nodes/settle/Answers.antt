@@ -17,6 +17,18 @@ push_texts-requires c =
     let same = take_rest c.deref-in-loop-at.result.now c.loop-at.at ∙ ap (drop c.loop-at.at) c.deref-in-loop-at.ensures.value in
     subst (AreParts c.args.source.now) (sym same) c.loop-at.invariant.parts
 
+pub push_inline-requires : goal.push_inline-requires
+push_inline-requires c =
+    let source = c.args.source.now in
+    let nodes = c.loop-at.nodes.items in
+    let at = c.loop-at.at in
+    let next = c.loop-at.at + c.in_ok-at.field-0 in
+    let node = c.replace-node.result in
+    let is : slice_index_or nodes next node ≡ node = subst (λ n. slice_index_or nodes next n ≡ n) (sym c.replace-node.ensures.value) (sym c.index_mut.ensures.value) in
+    let first = drop_more nodes next node (omega (arith, c.if-at-len.true, c.len-in-loop-at.ensures)) ∙ ap (λ n. n ∷ drop (next + 1) nodes) is in
+    let parts = subst (AreParts source) (drop-drop c.in_ok-at.field-0 at nodes) (parts-drop source c.in_ok-at.field-0 (drop at nodes) c.loop-at.invariant.parts) in
+    (subst (AreParts source) first parts).0
+
 pub loop-at-smaller-then-at-len : goal.loop-at-smaller-then-at-len
 loop-at-smaller-then-at-len c = omega (arith, c.loop-at-test.true, c.len.ensures, length-set c.loop-at.nodes.items (c.loop-at.at + c.in_ok-at.field-0) c.replace-node.new.dest)
 
@@ -33,8 +45,8 @@ loop-at-preserved-then-at-len c =
     let first = drop_more nodes next node (omega (arith, c.if-at-len.true, c.len-in-loop-at.ensures)) ∙ ap (λ n. n ∷ drop (next + 1) nodes) is in
     let behind = drop-set-lt (next + 1) nodes next c.replace-node.new.dest (omega arith) in
     record {
-      settled = ap (λ t. c.push_finished.new.content.items ++ settled (items_of source t)) behind
-          ∙ ap (λ done. done ++ settled (items_of source (drop (next + 1) nodes))) (c.in_ok-push_finished.ensures ∙ ap (λ done. done ++ inline_of node)
+      settled = ap (λ t. c.push_inline.new.content.items ++ settled (items_of source t)) behind
+          ∙ ap (λ done. done ++ settled (items_of source (drop (next + 1) nodes))) (c.in_ok-push_inline.ensures ∙ ap (λ done. done ++ inline_of source node)
           (c.in_ok-at.ensures.pushed ∙ ap (λ t. c.loop-at.content.items ++ text_before (text_in_front source t) []) same))
           ∙ settled-on source c.loop-at.content.items (drop at nodes) node (drop (next + 1) nodes) (settled (items_of source c.args.nodes.items)) (sym left ∙ first) c.loop-at.invariant.settled;
       parts = subst (AreParts source) (sym behind) (subst (AreParts source) (drop-drop (c.in_ok-at.field-0 + 1) at nodes ∙ ap (λ n. drop n nodes) (let n : at + (c.in_ok-at.field-0 + 1) ≡ next + 1 = omega arith in n))

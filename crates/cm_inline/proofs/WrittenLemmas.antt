@@ -1,0 +1,218 @@
+-- Where the text of an inline stands that stands by itself in a source.
+use Rattle.std.proofs.Common.{◌≡◌, ℕ, zero, suc, ◌+◌, ◌-◌, ◌<◌, ◌≤◌, ◌==◌, ◌&&◌, not, cond, Bool, true, false, List, [], ◌∷◌, ◌++◌, length, take, drop, get_or, Option, Some, None, codes, refl, sym, ap, subst, ◌∙◌, arith, length-append, length-drop, drop-drop}
+use Rattle.std.specs.Prelude.{IsUtf8}
+use Rattle.std.specs.List.{slice_range}
+use Rattle.std.specs.Str.{IsCharBoundary}
+use Rattle.std.proofs.lemmas.Bool.{eqb-true, and_parts}
+use Rattle.std.proofs.lemmas.List.{drop_more}
+use Rattle.std.proofs.lemmas.Option.{same_Some}
+use Rattle.std.proofs.lemmas.Str.{IsCharBoundary-before_ascii, IsCharBoundary-after_ascii}
+use Rattle.cm_text.specs.Rules.{Rules}
+use Rattle.cm_scan.specs.Words.{begins_with, run_length, after_run, after_word, front_of, skip}
+use Rattle.cm_scan.specs.Links.{Reading, behind}
+use Rattle.cm_scan.specs.Angles.{before}
+use Rattle.cm_scan.specs.Autolinks.{Autolink, is_inside, ended, in_angles, is_absolute, is_address, as_autolink, autolink}
+use Rattle.cm_scan.specs.Scanned.{whole_of}
+use Rattle.cm_scan.specs.CodeSpans.{up_to_run, as_written, spanned_as_written}
+use Rattle.cm_scan.proofs.ReadFurther.{none-some}
+use Rattle.cm_scan.proofs.ReadingLemmas.{begins-at}
+use Rattle.cm_inline.specs.declared.nodes.Node.TheVariants.{Whole, Finished}
+use Rattle.cm_inline.specs.declared.written.Written.{Written}
+use Rattle.cm_inline.specs.steps.Reads.{IsAtom}
+use Rattle.cm_inline.specs.steps.Written.{inline_in, IsBetween, IsWithin}
+
+-- an atom that is an inline, by where it is written
+pub whole-is : (rules : Rules) (source : List ℕ) (at : ℕ) (w : Written) (depth end : ℕ) → IsWithin source w → IsAtom rules source at (Finished (inline_in source w) depth false) end → IsAtom rules source at (Whole w) end
+whole-is rules source at w depth end within is = record {
+  rest = is.rest;
+  item = is.item;
+  part = within;
+  further = is.further;
+  within = is.within;
+  boundary = is.boundary;
+  fresh = is.fresh;
+}
+
+-- what stands before the next run is the front of the text, and a backtick is behind it
+
+-- a part as it was read, and what is left
+record Stood (text part : List ℕ) : Type 0 where
+  pub front : take (length part) text ≡ part
+  pub tick : begins_with 96 (drop (length part) text) ≡ true
+
+stood : (n : ℕ) (in_run : Bool) (text : List ℕ) (r : Reading) → up_to_run n in_run text ≡ Some r → Stood text r.text
+unfolding up_to_run
+stood n in_run [] r e = none-some e
+stood n in_run (b ∷ bs) r e = go (stood n (b == 96) bs) (b == 96 && not in_run && run_length 96 (b ∷ bs) == n) refl e
+  where
+    Further : Type 0
+    Further = (s : Reading) → up_to_run n (b == 96) bs ≡ Some s → Stood bs s.text
+
+    further : Further → (o : Option Reading) → up_to_run n (b == 96) bs ≡ o → behind b o ≡ Some r → Stood (b ∷ bs) r.text
+    further again None is h = none-some h
+    further again (Some s) is h =
+        let w = again s is in
+        let same : b ∷ s.text ≡ r.text = ap text_of h in
+        subst (Stood (b ∷ bs)) same (record { front = ap (λ t. b ∷ t) w.front; tick = w.tick })
+      where
+        text_of : Option Reading → List ℕ
+        text_of None = []
+        text_of (Some t) = t.text
+
+    go : Further → (v : Bool) → (b == 96 && not in_run && run_length 96 (b ∷ bs) == n) ≡ v
+        → (elim v as (λ _. Option Reading) [ true ↦ Some (record { text = []; rest = after_run 96 (b ∷ bs) }) | false ↦ behind b (up_to_run n (b == 96) bs) ]) ≡ Some r → Stood (b ∷ bs) r.text
+    go again true is h =
+        let same : [] ≡ r.text = ap text_of h in
+        subst (Stood (b ∷ bs)) same (record { front = refl; tick = (and_parts (b == 96) (not in_run) (and_parts (b == 96 && not in_run) (run_length 96 (b ∷ bs) == n) is).0).0 })
+      where
+        text_of : Option Reading → List ℕ
+        text_of None = []
+        text_of (Some t) = t.text
+    go again false is h = further again (up_to_run n (b == 96) bs) refl h
+
+span-stood : (n : ℕ) (text : List ℕ) (r : Reading) → Some r ≡ as_written n text → Stood text r.text
+span-stood zero text r e = none-some (sym e)
+span-stood (suc n) text r e = stood (suc n) false text r (sym e)
+
+-- the text of a code span stands behind its first backtick string
+pub record Placed (source : List ℕ) (from : ℕ) (part : List ℕ) : Type 0 where
+  pub is : slice_range source from (from + length part) ≡ part
+  pub between : IsBetween source from (from + length part)
+
+pub span-placed : (source : List ℕ) (at start : ℕ) (inside rest : List ℕ) → Some (record { text = inside; rest = rest }) ≡ spanned_as_written (drop at source)
+    → drop start source ≡ after_run 96 (drop at source) → IsCharBoundary source start → Placed source start inside
+unfolding spanned_as_written
+span-placed source at start inside rest e left boundary =
+    let w : Stood (drop start source) inside = subst (λ t. Stood t inside) (sym left) (span-stood (run_length 96 (drop at source)) (after_run 96 (drop at source)) (record { text = inside; rest = rest }) e) in
+    let size : start + length inside - start ≡ length inside = omega arith in
+    let tick : begins_with 96 (drop (start + length inside) source) ≡ true = ap (begins_with 96) (sym (drop-drop (length inside) start source)) ∙ w.tick in
+    let found = begins-at 96 source (start + length inside) tick in
+    record {
+      is = ap (λ n. take n (drop start source)) size ∙ w.front;
+      between = (omega arith, boundary, IsCharBoundary-before_ascii source (start + length inside) found.0 (omega (arith, found.2)));
+    }
+
+-- what stands between `<` and `>`
+
+front-skip : (test : ℕ → Bool) (bs : List ℕ) → front_of test bs ++ skip test bs ≡ bs
+unfolding front_of skip
+front-skip test [] = refl
+front-skip test (b ∷ bs) = go (front-skip test bs) (test b)
+  where
+    go : front_of test bs ++ skip test bs ≡ bs → (v : Bool) → (elim v as (λ _. List ℕ) [ true ↦ b ∷ front_of test bs | false ↦ [] ]) ++ (elim v as (λ _. List ℕ) [ true ↦ skip test bs | false ↦ b ∷ bs ]) ≡ b ∷ bs
+    go again true = ap (λ t. b ∷ t) again
+    go again false = refl
+
+one-word : (c : ℕ) (text rest : List ℕ) → after_word (c ∷ []) text ≡ Some rest → text ≡ c ∷ rest
+unfolding after_word
+one-word c [] rest e = none-some e
+one-word c (b ∷ bs) rest e = go (b == c) refl e
+  where
+    go : (v : Bool) → (b == c) ≡ v → (elim v as (λ _. Option (List ℕ)) [ true ↦ Some bs | false ↦ None ]) ≡ Some rest → b ∷ bs ≡ c ∷ rest
+    go true is h = ap (λ t. t ∷ bs) (eqb-true b c is) ∙ ap (λ t. c ∷ t) (same_Some bs rest h)
+    go false is h = none-some h
+
+angled : (text : List ℕ) (r : Reading) → in_angles text ≡ Some r → text ≡ 60 ∷ (r.text ++ 62 ∷ r.rest)
+unfolding in_angles
+angled text r e = go (after_word (codes "<") text) refl e
+  where
+    close : (inside : List ℕ) (o : Option (List ℕ)) → after_word (codes ">") (skip is_inside inside) ≡ o → ended (front_of is_inside inside) o ≡ Some r → inside ≡ r.text ++ 62 ∷ r.rest
+    close inside None is h = none-some h
+    close inside (Some rest) is h =
+        sym (front-skip is_inside inside) ∙ ap (λ t. front_of is_inside inside ++ t) (one-word 62 (skip is_inside inside) rest is)
+        ∙ ap (λ (s : Reading). s.text ++ 62 ∷ s.rest) (same_Some (record { text = front_of is_inside inside; rest = rest }) r h)
+
+    go : (o : Option (List ℕ)) → after_word (codes "<") text ≡ o
+        → (elim o as (λ _. Option Reading) [ Some inside ↦ ended (front_of is_inside inside) (after_word (codes ">") (skip is_inside inside)) | None ↦ None ]) ≡ Some r → text ≡ 60 ∷ (r.text ++ 62 ∷ r.rest)
+    go None is h = none-some h
+    go (Some inside) is h = one-word 60 text inside is ∙ ap (λ t. 60 ∷ t) (close inside (after_word (codes ">") (skip is_inside inside)) refl h)
+
+as-read : (r : Reading) (link : Autolink) → as_autolink r ≡ Some link → r.text ++ 62 ∷ r.rest ≡ link.text ++ 62 ∷ link.rest
+unfolding as_autolink
+as-read r link e = go (is_absolute r.text) (is_address r.text) e
+  where
+    go : (v w : Bool) → cond v (Some (record { destination = r.text; text = r.text; rest = r.rest })) (cond w (Some (record { destination = codes "mailto:" ++ r.text; text = r.text; rest = r.rest })) None) ≡ Some link
+        → r.text ++ 62 ∷ r.rest ≡ link.text ++ 62 ∷ link.rest
+    go true w h = ap (λ (l : Autolink). l.text ++ 62 ∷ l.rest) (same_Some (record { destination = r.text; text = r.text; rest = r.rest }) link h)
+    go false true h = ap (λ (l : Autolink). l.text ++ 62 ∷ l.rest) (same_Some (record { destination = codes "mailto:" ++ r.text; text = r.text; rest = r.rest }) link h)
+    go false false h = none-some h
+
+linked : (text : List ℕ) (link : Autolink) → Some link ≡ autolink text → text ≡ 60 ∷ (link.text ++ 62 ∷ link.rest)
+unfolding autolink
+linked text link e = go (in_angles text) refl (sym e)
+  where
+    go : (o : Option Reading) → in_angles text ≡ o → (elim o as (λ _. Option Autolink) [ Some r ↦ as_autolink r | None ↦ None ]) ≡ Some link → text ≡ 60 ∷ (link.text ++ 62 ∷ link.rest)
+    go None is h = none-some h
+    go (Some r) is h = angled text r is ∙ ap (λ t. 60 ∷ t) (as-read r link h)
+
+take-front : (part rest : List ℕ) → take (length part) (part ++ rest) ≡ part
+take-front [] rest = refl
+take-front (b ∷ bs) rest = ap (λ t. b ∷ t) (take-front bs rest)
+
+drop-front : (part rest : List ℕ) → drop (length part) (part ++ rest) ≡ rest
+drop-front [] rest = refl
+drop-front (b ∷ bs) rest = drop-front bs rest
+
+-- an autolink has two bytes or more
+pub link-further : (source : List ℕ) (at end : ℕ) (link : Autolink) → at < length source → end ≤ length source → Some link ≡ autolink (drop at source) → link.rest ≡ drop end source → end ≡ at + 1 + length link.text + 1
+link-further source at end link within high e left =
+    let behind-it : drop (at + 1) source ≡ link.text ++ 62 ∷ link.rest = ap (drop 1) (sym (drop_more source at 0 within) ∙ linked (drop at source) link e) in
+    omega (arith, within, high, ap length behind-it, length-drop (at + 1) source, length-append link.text (62 ∷ link.rest), ap length left, length-drop end source)
+
+pub link-placed : (source : List ℕ) (at end : ℕ) (link : Autolink) → IsUtf8 source → at < length source → end ≤ length source → Some link ≡ autolink (drop at source) → link.rest ≡ drop end source
+    → (slice_range source (at + 1) (end - 1) ≡ link.text) × IsBetween source (at + 1) (end - 1)
+link-placed source at end link utf8 within high e left = (is, (omega (arith, place), IsCharBoundary-after_ascii source at utf8 within (omega (arith, low)), last))
+  where
+    whole : drop at source ≡ 60 ∷ (link.text ++ 62 ∷ link.rest)
+    whole = linked (drop at source) link e
+
+    first : drop at source ≡ get_or source at 0 ∷ drop (at + 1) source
+    first = drop_more source at 0 within
+
+    low : get_or source at 0 ≡ 60
+    low = ap head (sym first ∙ whole)
+      where
+        head : List ℕ → ℕ
+        head [] = 0
+        head (b ∷ bs) = b
+
+    behind-it : drop (at + 1) source ≡ link.text ++ 62 ∷ link.rest
+    behind-it = ap (drop 1) (sym first ∙ whole)
+
+    place : end ≡ at + 1 + length link.text + 1
+    place = link-further source at end link within high e left
+
+    size : end - 1 - (at + 1) ≡ length link.text
+    size = omega (arith, place)
+
+    is : slice_range source (at + 1) (end - 1) ≡ link.text
+    is = ap (λ n. take n (drop (at + 1) source)) size ∙ ap (take (length link.text)) behind-it ∙ take-front link.text (62 ∷ link.rest)
+
+    tick : begins_with 62 (drop (end - 1) source) ≡ true
+    tick =
+        let same : end - 1 ≡ at + 1 + length link.text = omega (arith, place) in
+        ap (λ n. begins_with 62 (drop n source)) same ∙ ap (begins_with 62) (sym (drop-drop (length link.text) (at + 1) source) ∙ ap (drop (length link.text)) behind-it ∙ drop-front link.text (62 ∷ link.rest))
+
+    last : IsCharBoundary source (end - 1)
+    last = let found = begins-at 62 source (end - 1) tick in IsCharBoundary-before_ascii source (end - 1) found.0 (omega (arith, found.2))
+
+-- the whole of what was read
+pub whole-placed : (source : List ℕ) (at end : ℕ) → at ≤ end → end ≤ length source → before (drop end source) (drop at source) ≡ slice_range source at end
+unfolding before
+whole-placed source at end low high =
+    let size : length (drop at source) - length (drop end source) ≡ end - at = omega (arith, low, high, length-drop at source, length-drop end source) in
+    ap (λ n. take n (drop at source)) size
+
+pub whole-text : (text html rest : List ℕ) (o : Option (List ℕ)) → Some (record { text = html; rest = rest }) ≡ whole_of text o → html ≡ before rest text
+whole-text text html rest None e = none-some (sym e)
+whole-text text html rest (Some left) e =
+    let same : rest ≡ left = ap rest_of e in
+    ap text_of e ∙ ap (λ t. before t text) (sym same)
+  where
+    rest_of : Option Reading → List ℕ
+    rest_of None = []
+    rest_of (Some r) = r.rest
+
+    text_of : Option Reading → List ℕ
+    text_of None = []
+    text_of (Some r) = r.text

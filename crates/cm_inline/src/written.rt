@@ -1,0 +1,93 @@
+//! Inlines that stand by themselves in a leaf's source.
+ghost use Rattle.std.specs.Prelude.{◌≡◌, ◌++◌, [], ◌∷◌, string_bytes, codes, if◌then◌else◌, IfOk};
+ghost use Rattle.cm_tree.specs.declared.tree.Inline.TheVariants as inlines;
+ghost use Rattle.cm_inline.specs.steps.Written.{inline_in, written_depth, IsWithin};
+
+use crate::code::one_line;
+use cm_tree::{BoxedText, Inline, Items, Text};
+use std::alloc::{AllocError, Global};
+
+/// An inline in which nothing nests but text, by the places between which its text stands.
+#[derive(Clone, Copy, Debug)]
+pub(crate) enum Written {
+    /// A code span: what stands between its backtick strings, without the spaces that are stripped.
+    Code {
+        from: usize,
+        to: usize,
+    },
+    /// Raw HTML.
+    Html {
+        from: usize,
+        to: usize,
+    },
+    /// An autolink: what stands between `<` and `>`, and whether it is an e-mail address.
+    Autolink {
+        from: usize,
+        to: usize,
+        is_address: bool,
+    },
+    Soft,
+    Hard,
+}
+
+impl Written {
+    /// The inline.
+    pub(crate) fn inline(self, alloc: Global, source: &str) -> Result<Inline, AllocError>
+        requires { IsWithin source.now self }
+        ensures { IfOk result (λ inline. inline ≡ inline_in source.now self) }
+    {
+        match self {
+            Written::Code { from, to } => Ok(Inline::Code(one_line(alloc, &source[from..to])?)),
+            Written::Html { from, to } => {
+                Ok(Inline::Html(Text::from_str(alloc, &source[from..to])?))
+            }
+            Written::Autolink {
+                from,
+                to,
+                is_address,
+            } => link_to(alloc, is_address, &source[from..to]),
+            Written::Soft => Ok(Inline::Soft),
+            Written::Hard => Ok(Inline::Hard),
+        }
+    }
+
+    /// How deep it nests.
+    pub(crate) fn depth(self) -> usize
+        ensures { result ≡ written_depth self }
+    {
+        match self {
+            Written::Autolink { .. } => 1,
+            _ => 0,
+        }
+    }
+}
+
+/// The destination of an autolink.
+pub(crate) fn destination_of(
+    alloc: Global,
+    is_address: bool,
+    text: &str,
+) -> Result<String, AllocError>
+    ensures { IfOk result (λ dest. string_bytes dest ≡ (if is_address then codes "mailto:" ++ text.now else text.now)) }
+{
+    let mut dest = String::new(alloc);
+    if is_address {
+        dest.push_str("mailto:")?;
+    }
+    dest.push_str(text)?;
+    Ok(dest)
+}
+
+/// An autolink as a link (6.5 Autolinks).
+fn link_to(alloc: Global, is_address: bool, text: &str) -> Result<Inline, AllocError>
+    ensures { IfOk result (λ made. made ≡ inlines.Link (if is_address then codes "mailto:" ++ text.now else text.now) [] (inlines.Text text.now ∷ [])) }
+{
+    let dest = destination_of(alloc, is_address, text)?;
+    let mut content = Items::new(alloc);
+    content.push(Inline::Text(Text::from_str(alloc, text)?))?;
+    Ok(Inline::Link {
+        dest: BoxedText::new(alloc, Text::from(dest))?,
+        title: BoxedText::new(alloc, Text::new(alloc))?,
+        content,
+    })
+}
