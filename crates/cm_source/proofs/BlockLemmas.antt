@@ -165,8 +165,13 @@ further-nothing : (lines : List (List ℕ)) → further_lines [] lines ≡ flat_
 further-nothing [] = refl
 further-nothing (line ∷ lines) = ap (λ t. (t ++ 10 ∷ []) ++ further_lines [] lines) (behind-nothing line) ∙ ap (λ t. (line ++ 10 ∷ []) ++ t) (further-nothing lines)
 
+-- lines that are written behind others
+pub written-behind : (lines : List (List ℕ)) (old new : Source) (done : List ℕ) → IsBetween old false done [] [] → Writes old new lines
+    → IsBetween new false (done ++ flat_map (λ line. line ++ 10 ∷ []) lines) [] []
+written-behind [] old new done is writes = writes false done [] [] is
+written-behind (line ∷ lines) old new done is writes =
+    subst (λ t. IsBetween new false (done ++ t) [] []) (all-alike [] (line ∷ lines) ∙ further-nothing (line ∷ lines)) (writes false done [] [] is)
+
 -- a document's lines
 pub text-is : (lines : List (List ℕ)) (empty new : Source) → IsBetween empty false [] [] [] → Writes empty new lines → string_bytes new.text ≡ flat_map (λ line. line ++ 10 ∷ []) lines
-text-is [] empty new nothing writes = (writes false [] [] [] nothing).stands.0
-text-is (line ∷ lines) empty new nothing writes =
-    (writes false [] [] [] nothing).stands.0 ∙ all-alike [] (line ∷ lines) ∙ further-nothing (line ∷ lines)
+text-is lines empty new nothing writes = (written-behind lines empty new [] nothing writes).stands.0

@@ -41,6 +41,7 @@ pub mod SearchLemmas
 pub mod Shapes
 pub mod SourceLemmas
 pub mod SpellableBlocks
+pub mod SpellerLemmas
 pub mod SpelledBytes
 pub mod SpelledUtf8
 pub mod TagLemmas

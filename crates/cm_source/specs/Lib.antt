@@ -6,6 +6,7 @@ pub mod ReadingBack
 pub mod ReadingBackExamples
 pub mod RefusalExamples
 pub mod Refusals
+pub mod Speller
 pub mod Spelling
 pub mod steps
 pub mod Texts

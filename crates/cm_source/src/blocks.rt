@@ -62,7 +62,7 @@ fn spell_code_block(source: &mut Source, info: &str, text: &str) -> Result<(), A
 }
 
 /// Spells an empty line, or none.
-fn spell_gap(source: &mut Source, apart: bool) -> Result<(), AllocError>
+pub(crate) fn spell_gap(source: &mut Source, apart: bool) -> Result<(), AllocError>
     ensures { OnOk result (Writes source.old source.new (gap apart)) }
 {
     if apart {
@@ -92,7 +92,11 @@ pub(crate) fn spell_blocks(
 
 /// Spells a block.
 #[cycle(blocks)]
-fn spell_block(alloc: Global, source: &mut Source, block: &Block) -> Result<(), AllocError>
+pub(crate) fn spell_block(
+    alloc: Global,
+    source: &mut Source,
+    block: &Block,
+) -> Result<(), AllocError>
     ensures { OnOk result (Writes source.old source.new (lines_of_block block.now)) }
 {
     match block {

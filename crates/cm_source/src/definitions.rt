@@ -1,5 +1,5 @@
 //! Trees without their link reference definitions.
-ghost use Rattle.std.specs.Prelude.{◌≡◌};
+ghost use Rattle.std.specs.Prelude.{◌≡◌, [], ◌∷◌, IfSome, IfNone};
 ghost use Rattle.cm_source.specs.Definitions.{cleared, is_definition, kept, without_definitions};
 
 use cm_tree::{Block, Items};
@@ -31,6 +31,19 @@ pub fn without_definitions(alloc: Global, blocks: Items<Block>) -> Items<Block>
     }
     retain_others(&mut blocks);
     Items::from(blocks)
+}
+
+/// A block without the link reference definitions inside of it, at every depth, or nothing where it is one itself. It takes no
+/// memory.
+pub fn block_without_definitions(alloc: Global, mut block: Block) -> Option<Block>
+    ensures kept { IfSome result (λ kept. without_definitions (block ∷ []) ≡ kept ∷ []) }
+    ensures gone { IfNone result (without_definitions (block ∷ []) ≡ []) }
+{
+    clear(alloc, &mut block);
+    if is_definition(&block) {
+        return None;
+    }
+    Some(block)
 }
 
 /// Takes the definitions out of a block.

@@ -16,8 +16,8 @@ pub mod spelling_laws;
 mod texts;
 mod why;
 
-pub use definitions::without_definitions;
+pub use definitions::{block_without_definitions, without_definitions};
 pub use fault::SourceFault;
 pub use refusals::{spellable, spellable_by};
-pub use spelling::{spell, spell_by};
+pub use spelling::{Speller, spell, spell_by};
 pub use why::Why;

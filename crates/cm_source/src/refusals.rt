@@ -21,7 +21,7 @@ use cm_tree::{Block, Inline, Items, ListKind};
 
 /// What the blocks beside a block see of it.
 #[derive(Clone, Copy)]
-enum Face {
+pub(crate) enum Face {
     Paragraph,
     Code,
     Quote,
@@ -41,7 +41,7 @@ fn is_filled(items: &[Items<Block>]) -> bool
 }
 
 /// What the blocks beside a block see of it.
-fn face_of(block: &Block) -> Face
+pub(crate) fn face_of(block: &Block) -> Face
     ensures { (rules : text_rules.Rules) → shown result ≡ (judged rules block.now).face }
 {
     match block {
@@ -244,7 +244,7 @@ fn check_blocks(rules: Rules, blocks: &[Block]) -> Result<(), Why>
 
 /// Refuses a block behind this one.
 #[cycle(blocks)]
-fn check_block(rules: Rules, block: &Block, before: Option<Face>) -> Result<(), Why>
+pub(crate) fn check_block(rules: Rules, block: &Block, before: Option<Face>) -> Result<(), Why>
     ensures { result ≡ ok_unless ((judged rules block.now).refusal (seen before)) }
 {
     match block {

@@ -1,0 +1,28 @@
+-- What a speller stands for: the blocks that it has spelled.
+use Rattle.std.specs.Prelude.{◌≡◌, List, [], ◌∷◌, ◌++◌, map, Option, Some, None, false}
+use Rattle.cm_text.specs.Rules.{Rules}
+use Rattle.cm_tree.specs.declared.tree.Block.{Block}
+use Rattle.cm_source.specs.declared.spelling.Speller as code
+use Rattle.cm_source.specs.declared.fault.SourceFault.{SourceFault}
+use Rattle.cm_source.specs.declared.fault.SourceFault.TheVariants.{Unspellable, NoMemory}
+use Rattle.cm_source.specs.Refusals.{Face, Judged, judged, refusal_of, IsSpellable}
+use Rattle.cm_source.specs.Spelling.{spelling_of}
+use Rattle.cm_source.specs.steps.BlockFaces.{seen}
+use Rattle.cm_source.specs.steps.Laid.{IsBetween}
+
+-- what a block behind these sees of the last of them
+abbrev pub face_behind : (before : Option Face) → List Judged → Option Face
+face_behind before [] = before
+face_behind before (next ∷ others) = face_behind (Some next.face) others
+
+-- The speller goes by these rules. These blocks can be spelled, its text is their spelling, and it knows what is seen of the last of them.
+pub record StandsFor (rules : Rules) (speller : code.Speller) (blocks : List Block) : Type 0 where
+  pub same_rules : speller.rules ≡ rules
+  pub spellable : IsSpellable rules blocks
+  pub spelled : IsBetween speller.source false (spelling_of blocks) [] []
+  pub last : seen speller.before ≡ face_behind None (map (judged rules) blocks)
+
+-- Why a block isn't spelled behind these: they can't be spelled with it, whatever stands behind it; memory may be refused.
+abbrev pub Refuses : SourceFault → Rules → List Block → Block → Type 0
+Refuses (Unspellable why) rules blocks block = (others : List Block) → refusal_of rules (blocks ++ block ∷ others) ≡ Some why
+Refuses NoMemory rules blocks block = IsSpellable rules (blocks ++ block ∷ [])
