@@ -14,12 +14,9 @@ use std::simd::prelude::*;
 
 /// What the inlines beside an inline see of it.
 #[derive(Clone, Copy)]
-enum Face {
-    /// A text, by its first and its last character.
-    Text {
-        first: Option<char>,
-        last: Option<char>,
-    },
+enum Face<'a> {
+    /// A text.
+    Text(&'a str),
     Code,
     Break,
     /// Emphasis, strong emphasis or strikethrough.
@@ -127,14 +124,11 @@ fn is_plain(rules: Rules, c: Option<char>) -> bool
 }
 
 /// What the inlines beside an inline see of it.
-fn face_of(inline: &Inline) -> Face
+fn face_of(inline: &Inline) -> Face<'_>
     ensures { (rules : text_rules.Rules) → shown result ≡ (judged rules inline.now).face }
 {
     match inline {
-        Inline::Text(text) => Face::Text {
-            first: first_character(text.as_str()),
-            last: last_character(text.as_str()),
-        },
+        Inline::Text(text) => Face::Text(text.as_str()),
         Inline::Code(_) => Face::Code,
         Inline::Soft => Face::Break,
         Inline::Hard => Face::Break,
@@ -146,7 +140,7 @@ fn face_of(inline: &Inline) -> Face
 }
 
 /// The face of the first inline, if there is one.
-fn first_face(inlines: &[Inline]) -> Option<Face>
+fn first_face(inlines: &[Inline]) -> Option<Face<'_>>
     ensures { (rules : text_rules.Rules) → seen result ≡ first_face (map (judged rules) inlines.now) }
 {
     match inlines.first() {
@@ -156,7 +150,7 @@ fn first_face(inlines: &[Inline]) -> Option<Face>
 }
 
 /// The face of the last inline, if there is one.
-fn last_face(inlines: &[Inline]) -> Option<Face>
+fn last_face(inlines: &[Inline]) -> Option<Face<'_>>
     ensures { (rules : text_rules.Rules) → seen result ≡ last_face (map (judged rules) inlines.now) }
 {
     match inlines.last() {
@@ -166,28 +160,28 @@ fn last_face(inlines: &[Inline]) -> Option<Face>
 }
 
 /// The first character of what stands there, if it is a text.
-fn first_of(beside: Option<Face>) -> Option<char>
-    ensures { result ≡ first_of (seen beside) }
+fn first_of(beside: Option<Face<'_>>) -> Option<char>
+    ensures { result ≡ first_of (seen beside.entry) }
 {
     match beside {
-        Some(Face::Text { first, .. }) => first,
+        Some(Face::Text(text)) => first_character(text),
         _ => None,
     }
 }
 
 /// The last character of what stands there, if it is a text.
-fn last_of(beside: Option<Face>) -> Option<char>
-    ensures { result ≡ last_of (seen beside) }
+fn last_of(beside: Option<Face<'_>>) -> Option<char>
+    ensures { result ≡ last_of (seen beside.entry) }
 {
     match beside {
-        Some(Face::Text { last, .. }) => last,
+        Some(Face::Text(text)) => last_character(text),
         _ => None,
     }
 }
 
 /// Whether this is emphasis, strong emphasis or strikethrough.
-fn is_emphasis(beside: Option<Face>) -> bool
-    ensures { result ≡ is_emphasis (seen beside) }
+fn is_emphasis(beside: Option<Face<'_>>) -> bool
+    ensures { result ≡ is_emphasis (seen beside.entry) }
 {
     matches!(beside, Some(Face::Emphasis))
 }
@@ -256,11 +250,11 @@ fn is_wrong_edge(rules: Rules, outside: Option<char>, inside: Option<char>) -> b
 /// Whether emphasis between these has no content, or a wrong edge.
 fn has_wrong_edge(
     rules: Rules,
-    before: Option<Face>,
+    before: Option<Face<'_>>,
     content: &[Inline],
-    after: Option<Face>,
+    after: Option<Face<'_>>,
 ) -> bool
-    ensures { result ≡ has_wrong_edge rules (seen before) (map (judged rules) content.now) (seen after) }
+    ensures { result ≡ has_wrong_edge rules (seen before.entry) (map (judged rules) content.now) (seen after.entry) }
 {
     if content.is_empty() {
         return true;
@@ -277,10 +271,10 @@ fn has_wrong_edge(
 fn check_emphasis(
     rules: Rules,
     content: &[Inline],
-    before: Option<Face>,
-    after: Option<Face>,
+    before: Option<Face<'_>>,
+    after: Option<Face<'_>>,
 ) -> Result<(), Why>
-    ensures { result ≡ ok_unless (refused (emphasis_reasons rules (map (judged rules) content.now) (seen before) (seen after))) }
+    ensures { result ≡ ok_unless (refused (emphasis_reasons rules (map (judged rules) content.now) (seen before.entry) (seen after.entry))) }
 {
     refuse_if(hold_emphasis(content), Why::EmphasisNested)?;
     refuse_if(is_emphasis(before), Why::EmphasisTouching)?;
@@ -312,19 +306,19 @@ fn is_one_tag(rules: Rules, text: &str) -> bool
 }
 
 /// Refuses a text behind this.
-fn check_text(text: &str, before: Option<Face>) -> Result<(), Why>
-    ensures { result ≡ ok_unless (refused ((has_nul text.now, Why.Nul) ∷ (is_empty text.now || is_text (seen before), Why.Text) ∷ [])) }
+fn check_text(text: &str, before: Option<Face<'_>>) -> Result<(), Why>
+    ensures { result ≡ ok_unless (refused ((has_nul text.now, Why.Nul) ∷ (is_empty text.now || is_text (seen before.entry), Why.Text) ∷ [])) }
 {
     refuse_if(has_nul(text), Why::Nul)?;
     refuse_if(
-        text.is_empty() || matches!(before, Some(Face::Text { .. })),
+        text.is_empty() || matches!(before, Some(Face::Text(_))),
         Why::Text,
     )
 }
 
 /// Refuses a code span at a place, behind this.
-fn check_code(place: Place, text: &str, before: Option<Face>) -> Result<(), Why>
-    ensures { result ≡ ok_unless (refused (code_reasons (place_of place) text.now (seen before))) }
+fn check_code(place: Place, text: &str, before: Option<Face<'_>>) -> Result<(), Why>
+    ensures { result ≡ ok_unless (refused (code_reasons (place_of place) text.now (seen before.entry))) }
 {
     refuse_if(has_nul(text), Why::Nul)?;
     refuse_if(
@@ -337,8 +331,8 @@ fn check_code(place: Place, text: &str, before: Option<Face>) -> Result<(), Why>
 }
 
 /// Refuses raw HTML at a place, behind this.
-fn check_html(rules: Rules, place: Place, text: &str, before: Option<Face>) -> Result<(), Why>
-    ensures { result ≡ ok_unless (refused (html_reasons rules (place_of place) text.now (seen before))) }
+fn check_html(rules: Rules, place: Place, text: &str, before: Option<Face<'_>>) -> Result<(), Why>
+    ensures { result ≡ ok_unless (refused (html_reasons rules (place_of place) text.now (seen before.entry))) }
 {
     refuse_if(has_nul(text), Why::Nul)?;
     refuse_if(
@@ -352,8 +346,8 @@ fn check_html(rules: Rules, place: Place, text: &str, before: Option<Face>) -> R
 }
 
 /// Refuses a line break at a place, between these.
-fn check_break(place: Place, before: Option<Face>, after: Option<Face>) -> Result<(), Why>
-    ensures { result ≡ ok_unless (refused (break_reasons (place_of place) (seen before) (seen after))) }
+fn check_break(place: Place, before: Option<Face<'_>>, after: Option<Face<'_>>) -> Result<(), Why>
+    ensures { result ≡ ok_unless (refused (break_reasons (place_of place) (seen before.entry) (seen after.entry))) }
 {
     refuse_if(
         place.heading || before.is_none() || after.is_none() || matches!(before, Some(Face::Break)),
@@ -382,10 +376,10 @@ fn check_inline(
     rules: Rules,
     place: Place,
     inline: &Inline,
-    before: Option<Face>,
-    after: Option<Face>,
+    before: Option<Face<'_>>,
+    after: Option<Face<'_>>,
 ) -> Result<(), Why>
-    ensures { result ≡ ok_unless ((judged rules inline.now).refusal (place_of place) (seen before) (seen after)) }
+    ensures { result ≡ ok_unless ((judged rules inline.now).refusal (place_of place) (seen before.entry) (seen after.entry)) }
 {
     match inline {
         Inline::Text(text) => check_text(text.as_str(), before),
@@ -441,10 +435,10 @@ fn check_between(
     place: Place,
     strike: bool,
     content: &[Inline],
-    before: Option<Face>,
-    after: Option<Face>,
+    before: Option<Face<'_>>,
+    after: Option<Face<'_>>,
 ) -> Result<(), Why>
-    ensures { result ≡ ok_unless ((emphasis rules strike (map (judged rules) content.now)).refusal (place_of place) (seen before) (seen after)) }
+    ensures { result ≡ ok_unless ((emphasis rules strike (map (judged rules) content.now)).refusal (place_of place) (seen before.entry) (seen after.entry)) }
 {
     check_emphasis(rules, content, before, after)?;
     check_strike(rules, strike)?;

@@ -1,13 +1,14 @@
 -- How the code has what stands beside an inline, and where it stands.
-use Rattle.std.specs.Prelude.{Option, option_map}
+use Rattle.std.specs.Prelude.{Option, option_map, reverse}
+use Rattle.cm_scan.specs.Atoms.{first_character, last_character}
 use Rattle.cm_source.specs.InlineRefusals as refusals
 use Rattle.cm_source.specs.declared.inline_refusals.Face.{Face}
 use Rattle.cm_source.specs.declared.inline_refusals.Face.TheVariants.{Text, Code, Break, Emphasis, Other}
 use Rattle.cm_source.specs.declared.inline_refusals.Place.{Place}
 
--- the face of the definitions
+-- the face of the definitions, which has the first and the last character of a text
 abbrev pub shown : Face → refusals.Face
-shown (Text first last) = refusals.TextFace first last
+shown (Text text) = refusals.TextFace (first_character text.now) (last_character (reverse text.now))
 shown Code = refusals.CodeFace
 shown Break = refusals.BreakFace
 shown Emphasis = refusals.EmphasisFace
