@@ -1,6 +1,9 @@
 //! Trees that no source gives, spelled or refused.
 
-use cm_source::{SourceFault, Why, spell, spell_by, spellable, spellable_by, without_definitions};
+use cm_source::{
+    SourceFault, Speller, Why, block_without_definitions, spell, spell_by, spellable, spellable_by,
+    without_definitions,
+};
 use cm_text::Rules;
 use cm_tree::{Block, Inline, Items, Text};
 use std::alloc::Global;
@@ -93,5 +96,24 @@ fn spelled_trees(rt: HostRuntime) -> Result<(), Fail> {
         Block::Quote(one_block(alloc, paragraph(alloc, "a")?)?),
     )?;
     assert!(rt; without_definitions(alloc, quote) == kept);
+    Ok(())
+}
+
+#[test]
+fn spelled_blocks(rt: HostRuntime) -> Result<(), Fail> {
+    let alloc = rt.alloc();
+    let mut speller = Speller::new(alloc, Rules::profile());
+    assert_eq!(rt; speller.push(&paragraph(alloc, "a")?), Ok(()));
+    let why = Why::Shape;
+    assert_eq!(rt;
+        speller.push(&heading(alloc)),
+        Err(SourceFault::Unspellable { why })
+    );
+    let inside = one_block(alloc, definition(alloc)?)?;
+    if let Some(quote) = block_without_definitions(alloc, Block::Quote(inside)) {
+        assert_eq!(rt; speller.push(&quote), Ok(()));
+    }
+    assert!(rt; block_without_definitions(alloc, definition(alloc)?).is_none());
+    assert!(rt; speller.finish().as_str() == "a\n\n>\n");
     Ok(())
 }
