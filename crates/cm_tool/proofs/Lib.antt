@@ -18,6 +18,7 @@ pub mod ReportingLemmas
 pub mod RewritingLemmas
 pub mod RowLemmas
 pub mod SettledLemmas
+pub mod SourceLemmas
 pub mod TextLemmas
 pub mod WalkedLemmas
 pub mod WithinLemmas

@@ -6,6 +6,7 @@ use Rattle.std.specs.Option.{option_map, option_or}
 use Rattle.cm_text.specs.declared.fault.TextFault.{TextFault}
 use Rattle.cm_text.specs.declared.fault.TextFault.TheVariants as text
 use Rattle.cm_text.specs.Limits.{LimitsView}
+use Rattle.cm_text.specs.Rules.{Rules}
 use Rattle.cm_text.specs.Lines.{LineView, plain_line, last_line, plain_lines_of, text_of}
 use Rattle.cm_text.specs.Cut.{Cut, IsFront}
 use Rattle.cm_text.specs.Faults.{settled_fault, text_fault}
@@ -17,7 +18,6 @@ use Rattle.cm_scan.specs.Laws.{AreLines}
 use Rattle.cm_tree.specs.declared.tree.Block.{Block}
 use Rattle.cm_tree.specs.declared.tree.Owner.{Owner}
 use Rattle.cm_tree.specs.declared.tree.Doc.{Doc}
-use Rattle.cm_html.specs.Html.{html_of}
 use Rattle.cm_block.specs.declared.fault.BlockFault.{BlockFault}
 use Rattle.cm_block.specs.declared.fault.BlockFault.TheVariants as blocks
 use Rattle.cm_block.specs.declared.parser.BlockParser.{BlockParser}
@@ -33,7 +33,6 @@ use Rattle.cm_tool.specs.Document.{doc_of}
 use Rattle.cm_scan.specs.Documents.{tree_of}
 use Rattle.cm_tool.specs.Faults.{fault_of, settled_fault_of}
 use Rattle.cm_tool.specs.Parsing.{Goes, TellsFault}
-use Rattle.cm_tool.specs.Writing.{converted}
 use Rattle.cm_tool.specs.steps.Ends.{IsOutline, Makes}
 use Rattle.cm_tool.proofs.EndedLemmas.{all_are_lines, ended_are_lines, ended_stay}
 use Rattle.cm_tool.specs.steps.FaultOrder.{leaf_deep, of_four, of_two}
@@ -252,16 +251,17 @@ module _ (limits : LimitsView) where
       let o = subst (λ (l : LimitsView). OutlineOf outline l.rules (plain_lines_of (text_of bytes))) was is in
       (left ∙ ap (option_map InlinesTooDeep) none, ap₂ doc_with tree (owners_are ∙ o.owners))
 
-  -- The HTML of an outline with its leaves read is that of the text.
-  pub html_made : {A : Type 0} (bytes_of : A → List ℕ) (now : LimitsView) (outline : Outline) (r : Result A Fault) (bytes : List ℕ) → now ≡ limits
+  -- What is made of the tree that an outline's blocks are with their leaves read, is made of the tree of the text.
+  pub tree_made : {A : Type 0} (Made : Rules → List Block → A → Type 0) (now : LimitsView) (outline : Outline) (r : Result A Fault) (bytes : List ℕ) → now ≡ limits
       → IsOutline limits bytes outline
-      → IfOk r (λ html. bytes_of html ≡ html_of (with_inlines now.rules (defined_in outline.definitions) outline.blocks))
+      → IfOk r (Made now.rules (with_inlines now.rules (defined_in outline.definitions) outline.blocks))
       → IfOk r (λ _. first_leaf_past now.inlines (with_inlines now.rules (defined_in outline.definitions) outline.blocks) ≡ None)
       → IfErr r (λ fault. TellsFault fault (option_map InlinesTooDeep (first_leaf_past now.inlines (with_inlines now.rules (defined_in outline.definitions) outline.blocks))))
-      → Makes (λ html. bytes_of html ≡ converted limits.rules bytes) r limits bytes
-  html_made bytes_of now outline (Ok html) bytes same is made within told =
+      → Makes (Made limits.rules (tree_of limits.rules bytes)) r limits bytes
+  tree_made Made now outline (Ok made) bytes same is done within told =
+      let read = with_inlines now.rules (defined_in outline.definitions) outline.blocks in
       let tree = tree_read now limits outline bytes same refl is.same in
       let none = sym (ap₂ (λ (l : LimitsView) t. first_leaf_past l.inlines t) same tree) ∙ within in
-      (is.left ∙ ap (option_map InlinesTooDeep) none, made ∙ ap html_of tree)
-  html_made bytes_of now outline (Err fault) bytes same is made within told =
+      (is.left ∙ ap (option_map InlinesTooDeep) none, subst (λ t. Made limits.rules t made) tree (subst (λ (l : LimitsView). Made l.rules read made) same done))
+  tree_made Made now outline (Err fault) bytes same is done within told =
       leaf_told fault now limits outline bytes same refl is.same is.left told

@@ -4,3 +4,4 @@ pub mod Numbering
 pub mod Contents
 pub mod Ends
 pub mod ExampleSteps
+pub mod Sources

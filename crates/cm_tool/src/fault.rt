@@ -3,7 +3,7 @@ ghost use Rattle.std.specs.Prelude.{◌≡◌};
 
 use cm_block::BlockFault;
 use cm_html::HtmlFault;
-use cm_source::{SourceFault, Why};
+use cm_source::Why;
 use cm_text::{NoMemory, TextFault};
 use std::alloc::AllocError;
 use thiserror::Error;
@@ -108,16 +108,13 @@ impl From<HtmlFault> for Fault {
     }
 }
 
-impl From<SourceFault> for Fault {
+impl From<Why> for Fault {
     ghost use Rattle.std.specs.Prelude.{◌≡◌};
-    ghost use Rattle.cm_tool.specs.Fault.{unspelled};
+    ghost use Rattle.cm_tool.specs.declared.fault.Fault.TheVariants.{Unspellable};
 
-    ghost from_gives = { λ fault e. e ≡ unspelled fault };
+    ghost from_gives = { λ why e. e ≡ Unspellable why };
 
-    fn from(fault: SourceFault) -> Fault {
-        match fault {
-            SourceFault::NoMemory => Fault::NoMemory,
-            SourceFault::Unspellable { why } => Fault::Unspellable { why },
-        }
+    fn from(why: Why) -> Fault {
+        Fault::Unspellable { why }
     }
 }

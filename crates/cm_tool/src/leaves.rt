@@ -24,7 +24,7 @@ use std::mem;
 
 /// What takes the place of a leaf's source.
 #[derive(Clone, Copy)]
-enum Form {
+pub(crate) enum Form {
     /// Its inlines.
     Tree,
     /// Their HTML, as one piece of raw HTML. The texts that stand in no other inline aren't made then.
@@ -136,8 +136,9 @@ fn with_inlines(
     Ok(Items::from(blocks))
 }
 
+/// Reads the next leaves, those of a block.
 #[cycle(leaves)]
-fn read_block(
+pub(crate) fn read_block(
     alloc: Global,
     limits: Limits,
     definitions: &Definitions,

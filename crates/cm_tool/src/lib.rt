@@ -17,6 +17,7 @@ mod reading;
 mod reporting;
 mod rewriting;
 mod running;
+mod sources;
 mod texts;
 
 pub use command_line::task;

@@ -10,13 +10,17 @@ ghost use Rattle.cm_block.specs.Parser.{StandsFor as HasTaken, TellsDepth};
 ghost use Rattle.cm_tool.specs.declared.fault.Fault as faults;
 ghost use Rattle.cm_tool.specs.Faults.{fault_of, settled_fault_of};
 ghost use Rattle.cm_tool.specs.Parsing.{Goes, StandsFor, Answers, Finishes, TellsFault};
+ghost use Rattle.cm_tool.specs.Rewriting.{kept_tree};
 ghost use Rattle.cm_tool.specs.Writing.{converted};
 ghost use Rattle.cm_tool.specs.steps.Ends.{IsOutline, Makes};
 ghost use Rattle.cm_tool.specs.steps.Pushing.{Pushes, Counts};
+ghost use Rattle.cm_tool.specs.steps.Sources.{Spelled};
 
 use crate::fault::Fault;
 use crate::leaves::{leaves_html, read_leaves};
+use crate::sources::leaves_source;
 use cm_block::{BlockFault, BlockParser, Outline};
+use cm_source::Why;
 use cm_text::{Limits, LineBuffer, TextFault};
 use cm_tree::{Doc, Items, Text};
 use std::alloc::Global;
@@ -108,6 +112,23 @@ impl Parser {
         match fault {
             Some(fault) => Err(fault),
             None => finish_html(alloc, feed, blocks),
+        }
+    }
+
+    /// The plain source of the document without its definitions, where the bytes so far are all; or why it can't be spelled.
+    pub(crate) fn finish_source(self) -> Result<Result<String, Why>, Fault>
+        ensures { (limits : LimitsView) (bytes : List ℕ) → StandsFor limits self bytes →
+            Makes (Spelled limits.rules (kept_tree limits.rules bytes)) result limits bytes }
+    {
+        let Parser {
+            alloc,
+            feed,
+            blocks,
+            fault,
+        } = self;
+        match fault {
+            Some(fault) => Err(fault),
+            None => finish_source(alloc, feed, blocks),
         }
     }
 
@@ -205,6 +226,25 @@ fn finish_html(alloc: Global, feed: LineBuffer, blocks: BlockParser) -> Result<I
         ..
     } = outline(feed, blocks)?;
     leaves_html(alloc, limits, &definitions, blocks)
+}
+
+/// The plain source of the bytes' document without its definitions, or why it can't be spelled.
+fn finish_source(
+    alloc: Global,
+    feed: LineBuffer,
+    blocks: BlockParser,
+) -> Result<Result<String, Why>, Fault>
+    requires { feed.ended ≡ false }
+    ensures { (limits : LimitsView) (bytes : List ℕ) → Goes limits feed blocks bytes →
+        Makes (Spelled limits.rules (kept_tree limits.rules bytes)) result limits bytes }
+{
+    let limits = blocks.limits();
+    let Outline {
+        blocks,
+        definitions,
+        ..
+    } = outline(feed, blocks)?;
+    leaves_source(alloc, limits, &definitions, blocks)
 }
 
 /// Lends the lines that have ended to the blocks, one after another.

@@ -3,11 +3,14 @@ ghost use Rattle.std.specs.Prelude.{◌≡◌, ℕ, ◌-◌, ◌^◌, ◌<◌, L
 ghost use Rattle.std.specs.Io.KnownBytes.{Consumes};
 ghost use Rattle.std.specs.List.{concat};
 ghost use Rattle.cm_tool.specs.Reading.{Reads};
+ghost use Rattle.cm_tool.specs.Rewriting.{kept_tree};
 ghost use Rattle.cm_tool.specs.Writing.{converted};
 ghost use Rattle.cm_tool.specs.steps.Ends.{ReadsAs, TakesIn};
+ghost use Rattle.cm_tool.specs.steps.Sources.{Spelled};
 
 use crate::fault::Fault;
 use crate::parser::{PART, Parser};
+use cm_source::Why;
 use cm_text::{Limits, Source};
 use cm_tree::{Doc, Items, Text};
 use std::alloc::{AllocError, Global};
@@ -48,6 +51,23 @@ pub(crate) fn read_html<R: Source>(
     let mut buffer = zeros(alloc, PART)?;
     let parser = take_in(alloc, source, limits, buffer.as_mut_slice())?;
     parser.finish_html()
+}
+
+/// Reads a source to its end and answers the plain source of its document without its definitions, or why it can't be spelled.
+pub(crate) fn read_source<R: Source>(
+    alloc: Global,
+    source: &mut R,
+    limits: Limits,
+) -> Result<Result<String, Why>, Fault>
+    requires { R.failed source.old < 2 ^ 64 - 1 }
+    ensures { (bytes : List ℕ) × Consumes (R.remaining source.old) (R.remaining source.new) bytes
+        × ReadsAs (Spelled limits.rules (kept_tree limits.rules bytes)) result limits bytes
+        (record { remaining = R.remaining source.old; failed = R.failed source.old })
+        (record { remaining = R.remaining source.new; failed = R.failed source.new }) }
+{
+    let mut buffer = zeros(alloc, PART)?;
+    let parser = take_in(alloc, source, limits, buffer.as_mut_slice())?;
+    parser.finish_source()
 }
 
 /// Gives a source to a parser to its end.

@@ -4,8 +4,7 @@ ghost use Rattle.std.specs.Io.KnownBytes.{Consumes};
 ghost use Rattle.cm_tool.specs.Rewriting.{Rewrites};
 
 use crate::fault::Fault;
-use crate::reading::read;
-use cm_source::{spell_by, without_definitions};
+use crate::reading::read_source;
 use cm_text::{Limits, Sink, Source, WriteFailed, write_all};
 use std::alloc::Global;
 
@@ -30,9 +29,7 @@ pub fn rewrite<R: Source, W: Sink>(
         (record { taken = W.taken sink.old; failed = W.failed sink.old })
         (record { taken = W.taken sink.new; failed = W.failed sink.new }) }
 {
-    let doc = read(alloc, source, limits)?;
-    let blocks = without_definitions(alloc, doc.blocks);
-    let text = spell_by(alloc, limits.rules(), blocks.as_slice())?;
+    let text = read_source(alloc, source, limits)??;
     if let Err(WriteFailed { written }) = write_all(sink, text.as_bytes()) {
         return Err(Fault::WriteFailed { written });
     }
