@@ -1,6 +1,6 @@
 -- Blocks that are spelled one after another.
 use Rattle.std.proofs.Common.{◌≡◌, ◌∙◌, ℕ, List, [], ◌∷◌, ◌++◌, map, Option, Some, None, Ok, Err, true, false, refl, sym, ap, subst, append_assoc, append-nil}
-use Rattle.std.specs.Prelude.{flat_map, Bool}
+use Rattle.std.specs.Prelude.{flat_map}
 use Rattle.std.specs.Option.{is_some}
 use Rattle.std.proofs.lemmas.List.{map-append}
 use Rattle.std.proofs.lemmas.List.Concat.{flat_map-append}
@@ -10,7 +10,6 @@ use Rattle.cm_scan.specs.Words.{◌<|>◌}
 use Rattle.cm_source.specs.declared.why.Why.{Why}
 use Rattle.cm_source.specs.declared.fault.SourceFault.TheVariants.{Unspellable}
 use Rattle.cm_source.specs.declared.refusals.Face.{Face as SeenFace}
-use Rattle.cm_source.specs.declared.source.Source.{Source}
 use Rattle.cm_source.specs.declared.spelling.Speller as code
 use Rattle.cm_source.specs.Answers.{ok_unless}
 use Rattle.cm_source.specs.Refusals.{Face, Judged, judged, refusal_of_all, refusal_of, IsSpellable}

@@ -7,7 +7,7 @@ use Rattle.cm_text.specs.Limits.{LimitsView}
 use Rattle.cm_text.specs.Writing.{SinkView, Wrote}
 use Rattle.cm_tool.specs.declared.fault.Fault.TheVariants.{WriteFailed}
 use Rattle.cm_tool.specs.Reading.{SourceView, ReadWhole}
-use Rattle.cm_tool.specs.Rewriting.{Rewrites, IsLasting, kept_tree, rewritten}
+use Rattle.cm_tool.specs.Rewriting.{Rewrites, IsLasting, kept_tree}
 use Rattle.cm_tool.specs.steps.Sources.{Spelled}
 use Rattle.cm_tool.proofs.LastingLemmas.{is_lasting}
 

@@ -1,4 +1,4 @@
-use Rattle.std.proofs.Common.{◌++◌, Some, ap, subst}
+use Rattle.std.proofs.Common.{Some, ap, subst}
 use Rattle.std.specs.Option.{is_some}
 use Rattle.cm_source.specs.Spelling.{gap, lines_of_block}
 use Rattle.cm_source.specs.steps.Laid.{Writes}
