@@ -155,10 +155,6 @@ ahead front (Some r) = Some (record { text = front ++ r.text; rest = r.rest })
 abbrev pub ahead_from : List ℕ → ℕ → ℕ → Option Reading → Option Reading
 ahead_from text from at o = ahead (slice_range text from at) o
 
-ahead-none : (o : Option Reading) → ahead [] o ≡ o
-ahead-none None = refl
-ahead-none (Some r) = refl
-
 pub ahead-behind : (front : List ℕ) (b : ℕ) (o : Option Reading) → ahead front (behind b o) ≡ ahead (front ++ b ∷ []) o
 ahead-behind front b None = refl
 ahead-behind front b (Some r) = ap (λ t. Some (record { text = t; rest = r.rest })) (sym (append_assoc front (b ∷ []) r.text))
@@ -173,10 +169,6 @@ slice-more text from at low high =
     let short : at - from < length (drop from text) = simp length-drop (omega (arith, low, high)) in
     ap (λ n. take n (drop from text)) next ∙ take-suc (drop from text) (at - from) 0 short
     ∙ ap (λ b. slice_range text from at ++ b ∷ []) (get_or-drop from text (at - from) 0 ∙ ap (λ n. get_or text n 0) place)
-
--- nothing is passed over at first
-pub part-init : (text : List ℕ) (from : ℕ) (o : Option Reading) → ahead_from text from from o ≡ o
-part-init text from o = ap (λ t. ahead t o) (slice-none text from) ∙ ahead-none o
 
 -- the end of the text
 pub part-none : (closes forbidden : ℕ → Bool) (most : ℕ) (blank_lines escaped : Bool) (text : List ℕ) (from at : ℕ) → length text ≤ at

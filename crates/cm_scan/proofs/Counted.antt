@@ -301,10 +301,6 @@ firm-content (b ∷ bs) e =
     let h : is_blank_text bs ≡ false → Firm (trim_start bs) = firm-content bs in
     grind (arith, e, h)
 
-firm-more : (source cs : List ℕ) → Firm source → Firm (source ++ cs)
-firm-more [] cs h = absurd h
-firm-more (b ∷ bs) cs h = h
-
 pub firm-add_text : (source : List ℕ) (line : LineView) → Firm source → Firm (add_text source line)
 firm-add_text [] line h = absurd h
 firm-add_text (b ∷ bs) line h = h

@@ -31,10 +31,6 @@ trim-none bs i past = let none : drop i bs ≡ [] = drop_all i bs past in rw non
 pub blank-ascii : (b : ℕ) → is_space_or_tab b ≡ true → b < 128
 blank-ascii b h = grind (arith, nat_tests, h)
 
--- behind the spaces and tabs: a line feed, another byte, or nothing
-ending-feed : (bs : List ℕ) → after_line_ending (10 ∷ bs) ≡ trim_start bs
-ending-feed bs = refl
-
 ending-other : (b : ℕ) (bs : List ℕ) → b ≢ 10 → after_line_ending (b ∷ bs) ≡ b ∷ bs
 ending-other b bs h = grind (arith, nat_tests, h)
 

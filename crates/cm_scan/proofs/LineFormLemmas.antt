@@ -3,7 +3,6 @@ use Rattle.std.proofs.Common.{⊎_elim, ◌≡◌, ℕ, zero, suc, ◌-◌, ◌<
 use Rattle.std.specs.Prelude.{not}
 use Rattle.std.specs.List.{list_all, list_any, find}
 use Rattle.std.proofs.lemmas.Bool.{cases_eq, cases_Bool, false_from_ne_true}
-use Rattle.std.proofs.lemmas.List.{drop_all}
 use Rattle.cm_scan.specs.Words.{is_space_or_tab, run_length, after_run, trim, is_at_gap, is_blank_text, begins_with, given}
 use Rattle.cm_scan.specs.steps.LineSteps.{is_plain, is_break_marker}
 use Rattle.cm_scan.specs.LineForms.{is_break_of, is_thematic_break, without_closing, atx_heading, is_underline_of, underline, Fence, fence_of, opening_fence, is_closing_fence}
@@ -227,6 +226,3 @@ module _ (bs : List ℕ) where
 
 pub begins-at : (c : ℕ) (bs : List ℕ) (i : ℕ) → i < length bs → begins_with c (drop i bs) ≡ (get_or bs i 0 == c)
 begins-at c bs i within = rw (drop-cons bs i 0) refl
-
-pub begins-past : (c : ℕ) (bs : List ℕ) (i : ℕ) → length bs ≤ i → begins_with c (drop i bs) ≡ false
-begins-past c bs i past = rw (drop_all i bs past) refl

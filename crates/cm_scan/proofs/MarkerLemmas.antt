@@ -11,9 +11,6 @@ use Rattle.cm_scan.specs.steps.LineSteps.{with_digit}
 
 -- digits
 
-pub digit_ascii : (b : ℕ) → is_digit b ≡ true → b < 128
-digit_ascii b digit = grind arith
-
 front-digit : (b : ℕ) (bs : List ℕ) → is_digit b ≡ true → front_of is_digit (b ∷ bs) ≡ b ∷ front_of is_digit bs
 unfolding front_of
 front-digit b bs digit = grind (arith, digit)
@@ -88,11 +85,6 @@ or_none (Some m) = refl
 
 no_bullet : (b : ℕ) → is_digit b ≡ true → bullet_kind b ≡ None
 no_bullet b digit = grind (arith, digit)
-
-no_number : (rest : List ℕ) → marker_behind [] rest ≡ None
-unfolding marker_behind
-no_number [] = refl
-no_number (b ∷ bs) = refl
 
 pub marker-parts : (xs : List ℕ) → item_marker xs ≡ by_parts (front_of is_digit xs) (skip is_digit xs)
 unfolding item_marker bullet_marker ordered_marker marker_behind front_of skip

@@ -39,10 +39,6 @@ tag_end-extends text x rest e = go (after_word (codes "/>") text) refl e
     go (Some r) f e = ap (by (text ++ x)) (word-extends (codes "/>") text x r f) ∙ ap (λ t. Some (t ++ x)) (some-same e)
     go None f e = ap (by (text ++ x)) (no-slash text x rest e) ∙ word-extends (codes ">") text x rest e
 
-end-nothing : after_tag_end [] ≡ None
-unfolding after_tag_end after_word
-end-nothing = refl
-
 -- values
 
 pub quoted-extends : (quote : ℕ) (text x rest : List ℕ) → after_quoted quote text ≡ Some rest → after_quoted quote (text ++ x) ≡ Some (rest ++ x)
@@ -150,10 +146,6 @@ attribute-no-end (b ∷ bs) rest e x = go (b == 47) (b == 62) refl refl
     go true end g h = false-true (sym (ap begins_attribute (eqb-true b 47 g)) ∙ begins)
     go false true g h = false-true (sym (ap begins_attribute (eqb-true b 62 h)) ∙ begins)
     go false false g h = refl
-
-attribute-nothing : after_attribute [] ≡ None
-unfolding after_attribute
-attribute-nothing = refl
 
 -- what is read as attributes and the end of a tag is no gap alone
 attributes-go-on : (n : ℕ) (text rest : List ℕ) → after_attributes n text ≡ Some rest → is_empty (after_gap text) ≡ false

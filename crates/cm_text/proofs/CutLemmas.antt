@@ -113,23 +113,6 @@ first_ends n text first within =
 pub none_ends : (after_return : Bool) (n : ℕ) (text : List ℕ) → IsFirstLine n text → n ≡ length text → (cut_more (begun after_return) text).ended ≡ []
 none_ends after_return n text first all = line_keeps (begun after_return) text (ap is_line (sym (take_all n text (omega (arith, all)))) ∙ first.plain)
 
--- ---- behind a carriage return
-
--- its line feed may follow,
-pub feed_follows : (text : List ℕ) → cut_more (begun true) (10 ∷ text) ≡ cut_more (begun false) text
-feed_follows text = refl
-
--- or something else
-pub other_follows : (b : ℕ) (text : List ℕ) → (b == 10) ≡ false → cut_more (begun true) (b ∷ text) ≡ cut_more (begun false) (b ∷ text)
-other_follows b text other = ap (λ d. cut_more d text) (by_tests (b == 10) (b == 13) other)
-  where
-    by_tests : (feed return : Bool) → feed ≡ false
-        → cond feed (begun false) (cond return (end_line (begun true) true) (went_on (begun true) (b ∷ [])))
-        ≡ cond feed (end_line (begun false) false) (cond return (end_line (begun false) true) (went_on (begun false) (b ∷ [])))
-    by_tests true return h = cc
-    by_tests false true h = refl
-    by_tests false false h = refl
-
 -- ---- lines by their bytes
 
 -- what holds whatever the result is holds of an error

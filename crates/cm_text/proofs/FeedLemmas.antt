@@ -125,15 +125,6 @@ moved old piece bytes taken goes =
       in_order = subst (λ (d : Cut). taken ≤ length d.ended) (sym all_cut) (longer (cut_bytes old.limit bytes) text taken goes.in_order);
     }
 
--- lines that have ended are not cut again
-pub ended_front : (old : Feed) (piece bytes : List ℕ) (taken : ℕ) → Goes old bytes taken
-    → IsFront (cut_bytes old.limit bytes).ended (cut_bytes old.limit (bytes ++ piece)).ended
-ended_front old piece bytes taken g =
-    let joined = joined_of old piece in
-    let m = moved old piece bytes taken g in
-    let P : Cut → Type 0 = λ d. IsFront (cut_bytes old.limit bytes).ended d.ended in
-    subst P (sym m.whole) (valid_stays (cut_bytes old.limit bytes) joined)
-
 pub goes : (feed : Feed) (bytes : List ℕ) (taken : ℕ) → feed.fault ≡ None → feed.ended ≡ false → StandsFor feed bytes taken → Goes feed bytes taken
 goes feed bytes taken sound going stands =
     let P : Option TextFault → Type 0 = λ o. StandsAs o feed.ended feed bytes taken in

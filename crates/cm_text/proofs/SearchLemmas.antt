@@ -48,9 +48,6 @@ place-is p bs from i low within fails passes =
     (λ below. ap p (get_or-drop from bs (i - from) 0 ∙ ap (λ n. get_or bs n 0) last) ∙ passes (omega (arith, below, size, low))) in
     omega (arith, count, low, within)
 
-pub place-past : (p : ℕ → Bool) (bs : List ℕ) (from : ℕ) → length bs ≤ from → length bs ≡ next_place p bs from
-place-past p bs from past = omega (arith, past)
-
 -- the first byte that passes
 pub first-byte : (p : ℕ → Bool) (bs : List ℕ) (at : ℕ) (found : Option ℕ) → at ≡ next_place p bs 0 → found ≡ then_some (nat_lt at (length bs)) at → IsFirstByte p bs found
 first-byte p bs at found place e = subst (IsFirstByte p bs) (sym e) (go (nat_lt at (length bs)) refl)

@@ -155,9 +155,6 @@ run-whole text given same none =
     ∙ ap (λ t. t ++ unescape (drop (length text) text)) (take_all (length text) text (omega arith))
     ∙ ap (λ t. text ++ unescape t) (drop-length text) ∙ append-nil text
 
-pub special_ascii : (b : ℕ) → is_byte2 92 38 b ≡ true → b < 128
-special_ascii b h = grind (arith, nat_tests, h)
-
 -- a round of the loop: the run up to a special byte, and what is read there
 pub round : (whole rest range tail next made pushed final : List ℕ) (at len : ℕ) → unescape rest ≡ take at rest ++ unescape (drop at rest)
     → range ≡ take (at - 0) (drop 0 rest) → pushed ≡ made ++ range → tail ≡ drop at rest

@@ -7,7 +7,6 @@ use Rattle.std.proofs.lemmas.List.{get_or-drop}
 use Rattle.std.proofs.lemmas.List.Sums.{fails_before_first, passes_at_first}
 use Rattle.std.proofs.lemmas.Str.{IsCharBoundary-at_seam}
 use Rattle.std.proofs.Math.ListN.{get_or-append}
-use Rattle.std.proofs.lemmas.List.{take-append-le}
 use Rattle.cm_text.specs.LineText.{is_line, is_line_ending}
 use Rattle.cm_text.specs.Search.{next_place}
 use Rattle.cm_text.specs.steps.FirstLine.{IsFirstLine}
@@ -78,10 +77,3 @@ boundary_on xs ys i u at = go (cases_lt i (length xs))
     go (inr past) =
         let end : length xs ≡ i = omega (arith, past, at.0) in
         subst (IsCharBoundary (xs ++ ys)) end (IsCharBoundary-at_seam (xs ++ ys) xs ys refl u)
-
-pub first_on : (n : ℕ) (xs ys : List ℕ) → IsFirstLine n xs → n < length xs → IsFirstLine n (xs ++ ys)
-first_on n xs ys first within = record {
-  within = omega (arith, within, length-append xs ys);
-  plain = ap is_line (take-append-le n xs ys (omega arith)) ∙ first.plain;
-  ends = λ below. ap is_line_ending (get_or-append xs ys 0 n within) ∙ first.ends within;
-}

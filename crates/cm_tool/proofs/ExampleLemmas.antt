@@ -159,9 +159,6 @@ pub record SoFar (rules : Rules) (examples : List code.Example) (agree : ℕ) (d
   pub sound : first_fault rules (map example_of (drop at examples)) ≡ first_fault rules (map example_of examples)
   pub differed : map difference_of differ ++ differences_from rules (at + 1) (map example_of (drop at examples)) ≡ differences_from rules 1 (map example_of examples)
 
-pub none_so_far : (rules : Rules) (examples : List code.Example) → SoFar rules examples 0 [] 0
-none_so_far rules examples = record { bound = omega arith; agreed = omega arith; sound = refl; differed = refl }
-
 module _ (rules : Rules) (examples : List code.Example) (agree : ℕ) (differ : List Difference) (at : ℕ) (e : code.Example)
     (next : drop at examples ≡ e ∷ drop (at + 1) examples) (so_far : SoFar rules examples agree differ at) where
   abbrev behind : List Example

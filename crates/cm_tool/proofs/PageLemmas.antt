@@ -1,13 +1,13 @@
 -- Pages that are laid behind one another, and what has gone out of them.
-use Rattle.std.proofs.Common.{◌≡◌, ℕ, suc, ◌+◌, ◌<◌, ◌≤◌, List, [], ◌∷◌, ◌++◌, length, take, drop, get_or, refl, sym, ap, ap₂, subst, ◌∙◌, arith, append_assoc, append-nil, length-append, Some, None, inr}
-use Rattle.std.specs.Prelude.{Option, Err}
+use Rattle.std.proofs.Common.{◌≡◌, ℕ, suc, ◌+◌, ◌<◌, ◌≤◌, List, [], ◌∷◌, ◌++◌, length, take, drop, get_or, sym, ap, ap₂, subst, ◌∙◌, arith, append_assoc, append-nil, length-append, inr}
+use Rattle.std.specs.Prelude.{Err}
 use Rattle.std.specs.Io.KnownBytes.{Appends}
 use Rattle.std.specs.List.{concat}
-use Rattle.std.proofs.Math.Seq.{drop-cons, take-append-add, take-append_seam}
+use Rattle.std.proofs.Math.Seq.{drop-cons, take-append-add}
 use Rattle.std.proofs.lemmas.List.{take-append-le}
 use Rattle.std.proofs.lemmas.List.Folds.{concat-append}
 use Rattle.cm_text.specs.Limits.{LimitsView}
-use Rattle.cm_text.specs.Writing.{SinkView, Wrote, WroteBeginning}
+use Rattle.cm_text.specs.Writing.{SinkView, Wrote}
 use Rattle.cm_text.proofs.WriteLemmas.{appends-append}
 use Rattle.cm_html.specs.declared.fault.HtmlFault.{HtmlFault}
 use Rattle.cm_html.specs.declared.fault.HtmlFault.TheVariants as html
@@ -27,19 +27,12 @@ next_page pages at d page within here =
     let next : suc at ≡ at + 1 = omega arith in
     ap concat (drop-cons pages at d within ∙ ap₂ (λ first n. first ∷ drop n pages) here next)
 
-appends-nothing : (known : Option (List ℕ)) → Appends known known []
-appends-nothing None = tt
-appends-nothing (Some bytes) = sym (append-nil bytes)
-
 -- A front of the whole has gone out, with so many bytes, and no write failed.
 pub record Out (old now : SinkView) (whole left : List ℕ) (written : ℕ) : Type 0 where
   pub front : List ℕ
   pub parts : front ++ left ≡ whole
   pub counted : length front ≡ written
   pub wrote : Wrote old now front 0
-
-pub none_out : (old : SinkView) (whole : List ℕ) → Out old old whole whole 0
-none_out old whole = record { front = []; parts = refl; counted = refl; wrote = record { appends = appends-nothing old.taken; failed = omega arith } }
 
 module _ (old now later : SinkView) (whole behind page left : List ℕ) (written : ℕ) (split : behind ≡ page ++ left) where
   whole_is : (out : Out old now whole behind written) → out.front ++ (page ++ left) ≡ whole
@@ -69,18 +62,6 @@ module _ (old now later : SinkView) (whole behind page left : List ℕ) (written
         },
         omega (arith, all, within),
       )
-
--- all pages have gone out
-pub all_out : (old now : SinkView) (whole : List ℕ) (written : ℕ) → Out old now whole [] written → Wrote old now whole 0 × (written ≡ length whole)
-all_out old now whole written out =
-    let same : out.front ≡ whole = sym (append-nil out.front) ∙ out.parts in
-    (subst (λ t. Wrote old now t 0) same out.wrote, sym out.counted ∙ ap length same)
-
--- some have
-pub some_out : (old now : SinkView) (whole left : List ℕ) (written : ℕ) → Out old now whole left written → WroteBeginning old now whole
-some_out old now whole left written out =
-    let front : take (length out.front) whole ≡ out.front = ap (take (length out.front)) (sym out.parts) ∙ take-append_seam out.front left in
-    (length out.front, subst (λ t. Wrote old now t 0) (sym front) out.wrote)
 
 -- the HTML isn't written whole
 pub html_lost : (fault : HtmlFault) (limits : LimitsView) (bytes pages : List ℕ) (from left : SourceView) (old new : SinkView)

@@ -43,10 +43,6 @@ pub no_fault : (x : Unit {0}) (of : Option TextFault) → Ok x ≡ answer_after 
 no_fault x None is = refl
 no_fault x (Some fault) is = cc
 
-pub its_fault : (fault : TextFault) (of : Option TextFault) → Err fault ≡ answer_after of → of ≡ Some fault
-its_fault fault None is = cc
-its_fault fault (Some other) is = cc
-
 -- what is left of a list behind a front of it
 rest_of_front : (front all ready : List LineView) → IsFront front all → ready ≡ drop (length front) all → front ++ ready ≡ all
 rest_of_front front all ready is was =
