@@ -27,10 +27,14 @@ use Rattle.cm_scan.proofs.ReadingLemmas.{begins-at}
 use Rattle.cm_scan.proofs.LeftLemmas.{atom-left}
 use Rattle.cm_scan.proofs.RunLemmas.{not-same}
 use Rattle.cm_inline.proofs.BottomLemmas.{kind-small, kind-untilded}
-use Rattle.cm_inline.proofs.EmphasisLemmas.{code-holds, html-holds, hard-holds, soft-holds, autolink-holds}
+use Rattle.cm_inline.proofs.EmphasisLemmas.{emph-holds, code-holds, html-holds, hard-holds, soft-holds, autolink-holds}
 use Rattle.cm_inline.proofs.DepthLemmas.{code-depth, html-depth, hard-depth, soft-depth, link-depth}
-use Rattle.cm_inline.specs.declared.nodes.Node.{Node}
-use Rattle.cm_inline.specs.declared.nodes.Node.TheVariants.{Piece, Characters, Finished, Run, Opener}
+use Rattle.cm_inline.specs.steps.Nodes.{Node}
+use Rattle.cm_inline.specs.steps.Nodes.{Piece, Characters, Run, Opener}
+use Rattle.cm_inline.specs.declared.tokens.Token.{Token}
+use Rattle.cm_inline.specs.declared.tokens.Token.TheVariants as tokens
+use Rattle.cm_inline.specs.steps.Groups.{node_of, IsNoGroup}
+use Rattle.cm_inline.proofs.WrittenLemmas.{finished}
 use Rattle.cm_inline.specs.declared.runs.Marker.{Marker}
 use Rattle.cm_inline.specs.declared.runs.Marker.TheVariants.{Star, Underscore, Tilde}
 use Rattle.cm_inline.specs.declared.runs.DelimiterRun.{DelimiterRun}
@@ -69,9 +73,9 @@ module _ (rules : Rules) (source : List ℕ) (at : ℕ) where
         fresh = fresh;
       }
 
-  -- an answer that is this node and this end
-  pub told : (answer : Node × ℕ) (node : Node) (end : ℕ) → answer ≡ (node, end) → IsAtom rules source at node end → IsAtom rules source at answer.0 answer.1
-  told answer node end e is = subst (λ r. IsAtom rules source at r.0 r.1) (sym e) is
+  -- an answer that is this token and this end
+  pub told : (answer : Token × ℕ) (token : Token) (end : ℕ) → answer ≡ (token, end) → IsAtom rules source at (node_of [] token) end → IsAtom rules source at (node_of [] answer.0) answer.1
+  told answer token end e is = subst (λ (r : Token × ℕ). IsAtom rules source at (node_of [] r.0) r.1) (sym e) is
 
   -- a run
 
@@ -124,7 +128,7 @@ module _ (rules : Rules) (source : List ℕ) (at : ℕ) where
       ∙ ap (λ t. or_byte 96 (drop (at + 1) source) (span_or (drop at source) t)) (sym h)
 
   pub code-span-is : (inside : List ℕ) (end : ℕ) → Stands source at 96 → content_of (Some (record { text = inside; rest = drop end source })) ≡ code_span (drop at source) → IsCharBoundary source end
-      → IsAtom rules source at (Finished (inline.Code (stripped (one_line inside))) 0 false) end
+      → IsAtom rules source at (finished (inline.Code (stripped (one_line inside))) 0) end
   code-span-is inside end s h boundary =
       is-atom _ end (record { atom = Whole (inline.Code (stripped (one_line inside))); rest = drop end source }) s.within
       (tick-in (Some (record { text = stripped (one_line inside); rest = drop end source })) s h) refl refl (code-depth (stripped (one_line inside))) boundary (code-holds (stripped (one_line inside)))
@@ -151,7 +155,7 @@ module _ (rules : Rules) (source : List ℕ) (at : ℕ) where
       here rules source at 60 s ∙ ap (λ t. or_byte 60 (drop (at + 1) source) (angle_atom rules t)) (sym (front source at 60 s))
       ∙ ap (λ t. or_byte 60 (drop (at + 1) source) (angled_or (link_or t))) (sym h)
 
-  pub link-is : (link : Autolink) (end : ℕ) → Stands source at 60 → Some link ≡ autolink (drop at source) → link.rest ≡ drop end source → IsCharBoundary source end → IsAtom rules source at (Finished (link_of link) 1 false) end
+  pub link-is : (link : Autolink) (end : ℕ) → Stands source at 60 → Some link ≡ autolink (drop at source) → link.rest ≡ drop end source → IsCharBoundary source end → IsAtom rules source at (finished (link_of link) 1) end
   link-is link end s h rest boundary = is-atom _ end (record { atom = Whole (link_of link); rest = link.rest }) s.within (angle-in (Some link) s h) rest refl (link-depth link) boundary (autolink-holds link)
 
   html-in : (o : Option (List ℕ)) → Stands source at 60 → None ≡ autolink (drop at source) → raw_html rules (drop at source) ≡ o → atom_in rules source at ≡ or_byte 60 (drop (at + 1) source) (angled_or (tagged (drop at source) o))
@@ -176,7 +180,7 @@ module _ (rules : Rules) (source : List ℕ) (at : ℕ) where
   none-read text (Some left) h = none-some h
 
   pub html-is : (html : List ℕ) (end : ℕ) → Stands source at 60 → None ≡ autolink (drop at source) → Some (record { text = html; rest = drop end source }) ≡ whole_of (drop at source) (raw_html rules (drop at source))
-      → IsCharBoundary source end → IsAtom rules source at (Finished (inline.Html html) 0 false) end
+      → IsCharBoundary source end → IsAtom rules source at (finished (inline.Html html) 0) end
   html-is html end s h e boundary =
       let parts = whole-read (drop at source) html (drop end source) (raw_html rules (drop at source)) e in
       is-atom _ end (record { atom = Whole (inline.Html (before (drop end source) (drop at source))); rest = drop end source }) s.within (html-in (Some (drop end source)) s h parts.0) refl
@@ -192,7 +196,7 @@ module _ (rules : Rules) (source : List ℕ) (at : ℕ) where
   unfolding atom_at markup_atom
   slash-in rest s e = here rules source at 92 s ∙ ap (λ t. or_byte 92 t (backslash_atom (92 ∷ t))) e
 
-  pub hard-is : IsUtf8 source → Stands source at 92 → begins_with 10 (drop (at + 1) source) ≡ true → IsAtom rules source at (Finished inline.Hard 0 false) (at + 2)
+  pub hard-is : IsUtf8 source → Stands source at 92 → begins_with 10 (drop (at + 1) source) ≡ true → IsAtom rules source at (finished inline.Hard 0) (at + 2)
   unfolding backslash_atom after_word
   hard-is utf8 s next =
       let feed = next-stands 92 10 utf8 s (omega arith) next in
@@ -324,7 +328,7 @@ module _ (rules : Rules) (source : List ℕ) (at : ℕ) where
   no-feed-next (b ∷ bs) h = ap (λ f. elim f as (λ _. Option (List ℕ)) [ true ↦ Some bs | false ↦ None ]) h
 
   pub break-is : (b feed : ℕ) → IsUtf8 source → Stands source at b → is_break_byte b ≡ true → feed ≡ at + run_length 32 (drop at source) → drop feed source ≡ after_run 32 (drop at source)
-      → begins_with 10 (drop feed source) ≡ true → IsAtom rules source at (Finished (if nat_le 2 (feed - at) then inline.Hard else inline.Soft) 0 false) (feed + 1)
+      → begins_with 10 (drop feed source) ≡ true → IsAtom rules source at (finished (if nat_le 2 (feed - at) then inline.Hard else inline.Soft) 0) (feed + 1)
   break-is b feed utf8 s is run left next =
       let size : feed - at ≡ run_length 32 (drop at source) = omega (arith, run) in
       let found = begins-at 10 source feed next in
@@ -456,3 +460,13 @@ pub lone-byte : (b : ℕ) → (b ≡ 10 → ⊥) → (b ≡ 32 → ⊥) → (b �
     → is_markup b ≡ false
 lone-byte b feed space bang ampersand star angle left slash right underscore tick tilde =
     rw (not-same b 10 feed, not-same b 32 space, not-same b 33 bang, not-same b 38 ampersand, not-same b 42 star, not-same b 60 angle, not-same b 91 left, not-same b 92 slash, not-same b 93 right, not-same b 95 underscore, not-same b 96 tick, not-same b 126 tilde) refl
+
+-- a token that is an atom was read, since a group holds emphasis as long as nothing is made of the groups
+pub token-read : (rules : Rules) (source : List ℕ) (at : ℕ) (token : Token) (end : ℕ) → IsAtom rules source at (node_of [] token) end → IsNoGroup token
+token-read rules source at (tokens.Piece from to) end is = tt
+token-read rules source at (tokens.Characters chars) end is = tt
+token-read rules source at (tokens.Whole written) end is = tt
+token-read rules source at (tokens.Made number depth false) end is = absurd (omega (arith, is.fresh, emph-holds []))
+token-read rules source at (tokens.Made number depth true) end is = absurd (omega (arith, is.fresh, emph-holds []))
+token-read rules source at (tokens.Run run) end is = tt
+token-read rules source at (tokens.Opener image behind) end is = tt

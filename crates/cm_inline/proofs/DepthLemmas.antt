@@ -9,8 +9,8 @@ use Rattle.cm_tree.specs.Depth.{depth_step, depth_of, inlines_depth}
 use Rattle.cm_scan.specs.Autolinks.{Autolink}
 use Rattle.cm_scan.specs.Atoms.{link_of}
 use Rattle.cm_scan.specs.Pairing.{text_before, settled_after, settled, emphasised}
-use Rattle.cm_inline.specs.declared.nodes.Node.{Node}
-use Rattle.cm_inline.specs.declared.nodes.Node.TheVariants.{Piece, Characters, Whole, Finished, Run, Opener}
+use Rattle.cm_inline.specs.steps.Nodes.{Node}
+use Rattle.cm_inline.specs.steps.Nodes.{Piece, Characters, Whole, Finished, Run, Opener}
 use Rattle.cm_scan.specs.CodeSpans.{one_line}
 use Rattle.std.specs.List.{slice_range}
 use Rattle.cm_inline.specs.declared.written.Written.{Written}
@@ -86,9 +86,9 @@ settled-after source text (Whole written ∷ nodes) parts =
     text-first text (inline_in source written ∷ settled_after [] (items_of source nodes)) ∙ ap (λ n. max n (inlines_depth (settled_after [] (items_of source nodes)))) (whole-depth source written)
     ∙ ap (λ n. max (written_depth written) n) (settled-after source [] nodes parts.1)
 settled-after source text (Finished inline depth false ∷ nodes) parts =
-    text-first text (inline ∷ settled_after [] (items_of source nodes)) ∙ ap (λ n. max n (inlines_depth (settled_after [] (items_of source nodes)))) parts.0 ∙ ap (λ n. max depth n) (settled-after source [] nodes parts.1)
+    text-first text (inline source ∷ settled_after [] (items_of source nodes)) ∙ ap (λ n. max n (inlines_depth (settled_after [] (items_of source nodes)))) parts.0 ∙ ap (λ n. max depth n) (settled-after source [] nodes parts.1)
 settled-after source text (Finished inline depth true ∷ nodes) parts =
-    text-first text (inline ∷ settled_after [] (items_of source nodes)) ∙ ap (λ n. max n (inlines_depth (settled_after [] (items_of source nodes)))) parts.0 ∙ ap (λ n. max depth n) (settled-after source [] nodes parts.1)
+    text-first text (inline source ∷ settled_after [] (items_of source nodes)) ∙ ap (λ n. max n (inlines_depth (settled_after [] (items_of source nodes)))) parts.0 ∙ ap (λ n. max depth n) (settled-after source [] nodes parts.1)
 
 -- the inlines nest as deep as the nodes that they come of
 pub settled-depth : (source : List ℕ) (nodes : List Node) → AreParts source nodes → inlines_depth (settled (items_of source nodes)) ≡ nodes_depth nodes

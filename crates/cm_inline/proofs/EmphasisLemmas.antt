@@ -52,7 +52,7 @@ autolink-holds link = omega (arith, link-holds link.destination [] (Text link.te
 image-holds : (dest title : List ℕ) (content : List Inline) → emphases_of (Image dest title content) ≡ emphases content
 image-holds dest title content = simp (fold_out-Inline ℕ emphases_step, outs-Image)
 
-emph-holds : (content : List Inline) → emphases_of (Emph content) ≡ emphases content + 1
+pub emph-holds : (content : List Inline) → emphases_of (Emph content) ≡ emphases content + 1
 emph-holds content = simp (fold_out-Inline ℕ emphases_step, outs-Emph)
 
 strong-holds : (content : List Inline) → emphases_of (Strong content) ≡ emphases content + 1

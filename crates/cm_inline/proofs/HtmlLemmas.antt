@@ -7,20 +7,24 @@ use Rattle.std.proofs.lemmas.List.{append-nil}
 use Rattle.cm_text.specs.References.{chars_of}
 use Rattle.cm_tree.specs.declared.tree.Inline.{Inline}
 use Rattle.cm_tree.specs.declared.tree.Inline.TheFolds.{fold_out-Inline}
-use Rattle.cm_tree.specs.declared.tree.Inline.TheVariants.{Text, Link, outs-Text, outs-Code, outs-Html, outs-Link, outs-Soft, outs-Hard}
+use Rattle.cm_tree.specs.declared.tree.Inline.TheVariants.{Text, Emph, Strong, Strike, Link, outs-Text, outs-Code, outs-Html, outs-Link, outs-Soft, outs-Hard, outs-Emph, outs-Strong, outs-Strike}
 use Rattle.cm_html.specs.Escape.{escape_byte, escape}
-use Rattle.cm_html.specs.Html.{Spelled, inline_step, inlines_html, spelled, link_html}
+use Rattle.cm_html.specs.Html.{Spelled, inline_step, inlines_html, spelled, link_html, emph_html, strong_html, strike_html}
 use Rattle.cm_scan.specs.CodeSpans.{one_line}
 use Rattle.cm_scan.specs.Pairing.{bracket_text, text_before, settled_after, settled}
-use Rattle.cm_inline.specs.declared.nodes.Node.{Node}
-use Rattle.cm_inline.specs.declared.nodes.Node.TheVariants.{Piece, Characters, Whole, Finished, Run, Opener}
+use Rattle.cm_inline.specs.steps.Nodes.{Node}
+use Rattle.cm_inline.specs.steps.Nodes.{Piece, Characters, Whole, Finished, Run, Opener}
+use Rattle.cm_inline.specs.declared.nodes.Kind.{Kind}
+use Rattle.cm_inline.specs.declared.nodes.Kind.TheVariants as kinds
+use Rattle.cm_inline.specs.declared.tokens.Token.{Token}
+use Rattle.cm_inline.specs.steps.Groups.{Made, made_by, start_html, end_html, node_of, nodes_of}
 use Rattle.cm_inline.specs.declared.runs.Marker.{Marker}
 use Rattle.cm_inline.specs.declared.runs.Marker.TheVariants.{Star, Underscore, Tilde}
 use Rattle.cm_inline.specs.declared.written.Written.{Written}
 use Rattle.cm_inline.specs.declared.written.Written.TheVariants.{Code, Html, Autolink, Soft, Hard}
 use Rattle.cm_inline.specs.steps.Written.{inline_in, written_html}
 use Rattle.cm_inline.specs.steps.Runs.{byte_of}
-use Rattle.cm_inline.specs.steps.Nodes.{items_of, nodes_html}
+use Rattle.cm_inline.specs.steps.Nodes.{items_of, node_html, nodes_html}
 
 -- the text of a run is its own HTML
 run-html : (marker : Marker) (n : ℕ) → escape (replicate n (byte_of marker)) ≡ replicate n (byte_of marker)
@@ -80,15 +84,52 @@ settled-html-after source before (Whole written ∷ nodes) =
     ∙ ap (λ t. escape before ++ ((spelled (inline_in source written)).html ++ t)) (settled-html-after source [] nodes)
     ∙ ap (λ t. escape before ++ (t ++ nodes_html source nodes)) (written-is source written)
 settled-html-after source before (Finished inline depth false ∷ nodes) =
-    before-html before (inline ∷ settled (items_of source nodes))
-    ∙ ap (λ t. escape before ++ ((spelled inline).html ++ t)) (settled-html-after source [] nodes)
+    before-html before (inline source ∷ settled (items_of source nodes))
+    ∙ ap (λ t. escape before ++ ((spelled (inline source)).html ++ t)) (settled-html-after source [] nodes)
 settled-html-after source before (Finished inline depth true ∷ nodes) =
-    before-html before (inline ∷ settled (items_of source nodes))
-    ∙ ap (λ t. escape before ++ ((spelled inline).html ++ t)) (settled-html-after source [] nodes)
+    before-html before (inline source ∷ settled (items_of source nodes))
+    ∙ ap (λ t. escape before ++ ((spelled (inline source)).html ++ t)) (settled-html-after source [] nodes)
 
 -- the HTML of the inlines that come of nodes is that of the nodes, one after another
 pub settled-html : (source : List ℕ) (nodes : List Node) → inlines_html (settled (items_of source nodes)) ≡ nodes_html source nodes
 settled-html source nodes = settled-html-after source [] nodes
+
+-- what is made of nodes, and its HTML between the tags of its kind
+
+emph-html : (content : List Inline) → (spelled (Emph content)).html ≡ emph_html (inlines_html content)
+emph-html content = simp (fold_out-Inline Spelled inline_step, outs-Emph)
+
+strong-html : (content : List Inline) → (spelled (Strong content)).html ≡ strong_html (inlines_html content)
+strong-html content = simp (fold_out-Inline Spelled inline_step, outs-Strong)
+
+strike-html : (content : List Inline) → (spelled (Strike content)).html ≡ strike_html (inlines_html content)
+strike-html content = simp (fold_out-Inline Spelled inline_step, outs-Strike)
+
+linked-html : (dest title : List ℕ) (content : List Inline) → (spelled (Link dest title content)).html ≡ link_html dest title (inlines_html content)
+linked-html dest title content = simp (fold_out-Inline Spelled inline_step, outs-Link)
+
+made-html : (source : List ℕ) (kind : Kind) (nodes : List Node) → ((dest title : List ℕ) → kind ≡ kinds.Image dest title → ⊥)
+    → (spelled (made_by kind nodes source)).html ≡ (start_html kind ++ nodes_html source nodes) ++ end_html kind
+made-html source kinds.Emph nodes other = emph-html (settled (items_of source nodes)) ∙ ap emph_html (settled-html source nodes)
+made-html source kinds.Strong nodes other = strong-html (settled (items_of source nodes)) ∙ ap strong_html (settled-html source nodes)
+made-html source kinds.Strike nodes other = strike-html (settled (items_of source nodes)) ∙ ap strike_html (settled-html source nodes)
+made-html source (kinds.Link dest title) nodes other = linked-html dest title (settled (items_of source nodes)) ∙ ap (link_html dest title) (settled-html source nodes)
+made-html source (kinds.Image dest title) nodes other = absurd (other dest title refl)
+
+-- a group that was written: its start tag, its nodes, and its end tag
+pub group-html : (source old started noded : List ℕ) (kind : Kind) (nodes : List Node) (tag : List ℕ) → ((dest title : List ℕ) → kind ≡ kinds.Image dest title → ⊥)
+    → started ≡ old ++ start_html kind → noded ≡ started ++ nodes_html source nodes → tag ≡ end_html kind → noded ++ tag ≡ old ++ (spelled (made_by kind nodes source)).html
+group-html source old started noded kind nodes tag other start more end =
+    let html = nodes_html source nodes in
+    ap (λ t. noded ++ t) end ∙ ap (λ t. t ++ end_html kind) (more ∙ ap (λ t. t ++ html) start ∙ append_assoc old (start_html kind) html)
+    ∙ append_assoc old (start_html kind ++ html) (end_html kind) ∙ sym (ap (λ t. old ++ t) (made-html source kind nodes other))
+
+-- a token that was written, and those that follow
+pub token-html : (source done after : List ℕ) (made : List Made) (token : Token) (held rest : List Token) (whole : List ℕ) → held ≡ token ∷ rest → done ++ nodes_html source (nodes_of made held) ≡ whole
+    → after ≡ done ++ node_html source (node_of made token) → after ++ nodes_html source (nodes_of made rest) ≡ whole
+token-html source done after made token held rest whole step h more =
+    let html = nodes_html source (nodes_of made rest) in
+    ap (λ t. t ++ html) more ∙ append_assoc done (node_html source (node_of made token)) html ∙ sym (ap (λ t. done ++ nodes_html source (nodes_of made t)) step) ∙ h
 
 -- a line, and the space for its line feed
 pub line-html : (html line rest whole : List ℕ) → line ++ 32 ∷ one_line rest ≡ whole → ((html ++ escape line) ++ 32 ∷ []) ++ escape (one_line rest) ≡ html ++ escape whole

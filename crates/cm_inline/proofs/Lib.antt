@@ -17,6 +17,10 @@ pub mod TextLemmas
 pub mod BracketLemmas
 pub mod CodeLemmas
 pub mod EmphasisLemmas
+pub mod GroupLemmas
+pub mod PassingLemmas
+pub mod SettlingLemmas
+pub mod HeldLemmas
 pub mod EndsLemmas
 pub mod DeeperLemmas
 pub mod KeepsLemmas

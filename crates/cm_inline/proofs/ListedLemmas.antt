@@ -1,8 +1,8 @@
 -- The entries below a number.
-use Rattle.std.proofs.Common.{◌≡◌, ℕ, zero, suc, ◌<◌, ◌≤◌, Bool, true, false, cond, ◌||◌, ◌==◌, List, [], ◌∷◌, Some, None, refl, sym, ap, subst, ◌∙◌, arith}
+use Rattle.std.proofs.Common.{◌≡◌, ℕ, zero, suc, ◌<◌, ◌≤◌, Bool, true, false, cond, ◌||◌, ◌==◌, List, [], ◌∷◌, Some, refl, sym, ap, subst, ◌∙◌, arith}
 use Rattle.std.proofs.lemmas.Bool.{cond-true, cond-false, eqb-true, eqb-false, eq-eqb}
 use Rattle.std.proofs.lemmas.Option.{none-some, same_Some}
-use Rattle.cm_inline.specs.steps.Entries.{Entry, first_place, from_place, after_place, without_place, is_listed, Below, Falling}
+use Rattle.cm_inline.specs.steps.Entries.{Entry, first_place, from_place, after_place, without_place, is_listed, Below}
 use Rattle.cm_inline.specs.steps.Slots.{slot_at, entry_at, listed_below}
 use Rattle.cm_inline.specs.declared.delimiters.Slot.{Slot}
 
@@ -44,14 +44,6 @@ below-below slots (suc n) = go (is_at slots n) refl (below_more n (suc n) (liste
     go true e h = subst (Below (suc n)) (sym (below-in slots n e)) (omega arith, h)
     go false e h = subst (Below (suc n)) (sym (below-out slots n e)) h
 
-pub falling-below : (slots : List Slot) (n : ℕ) → Falling (listed_below slots n)
-falling-below slots zero = subst Falling (sym (below-zero slots)) tt
-falling-below slots (suc n) = go (is_at slots n) refl (falling-below slots n)
-  where
-    go : (b : Bool) → is_at slots n ≡ b → Falling (listed_below slots n) → Falling (listed_below slots (suc n))
-    go true e h = subst Falling (sym (below-in slots n e)) (below-below slots n, h)
-    go false e h = subst Falling (sym (below-out slots n e)) h
-
 -- the nearest entry below a number stands below it, is in the list, and none is between
 pub first-below : (slots : List Slot) (n m : ℕ) → first_place (listed_below slots n) ≡ Some m → m < n
 first-below slots n m e = go (listed_below slots n) (below-below slots n) e
@@ -80,19 +72,6 @@ first-above slots (suc n) j p h m e = go (is_at slots n) refl (first-above slots
         split : (b : Bool) → (j == n) ≡ b → j ≤ m
         split true s = true-false (is_at slots j) h (ap (is_at slots) (eqb-true j n s) ∙ k)
         split false s = let ne : j ≡ n → ⊥ = eqb-false j n s in ih (omega (arith, ne)) h m (sym (ap first_place (below-out slots n k)) ∙ e)
-
--- and there is one
-pub first-some : (slots : List Slot) (n j : ℕ) → j < n → is_at slots j ≡ true → first_place (listed_below slots n) ≡ None → ⊥
-first-some slots zero j p h e = omega arith
-first-some slots (suc n) j p h e = go (is_at slots n) refl (first-some slots n j)
-  where
-    go : (b : Bool) → is_at slots n ≡ b → (j < n → is_at slots j ≡ true → first_place (listed_below slots n) ≡ None → ⊥) → ⊥
-    go true k ih = none-some n (sym e ∙ ap first_place (below-in slots n k))
-    go false k ih = split (j == n) refl
-      where
-        split : (b : Bool) → (j == n) ≡ b → ⊥
-        split true s = true-false (is_at slots j) h (ap (is_at slots) (eqb-true j n s) ∙ k)
-        split false s = let ne : j ≡ n → ⊥ = eqb-false j n s in ih (omega (arith, ne)) h (sym (ap first_place (below-out slots n k)) ∙ e)
 
 -- what a number finds in the list
 pub place-in : (slots : List Slot) (n : ℕ) (k : ℕ) → k < n → is_at slots k ≡ true → from_place k (listed_below slots n) ≡ entry_at slots k ∷ listed_below slots k

@@ -1,13 +1,13 @@
 -- What comes of the nodes of a source.
-use Rattle.std.proofs.Common.{◌≡◌, ℕ, zero, suc, ◌+◌, ◌-◌, ◌<◌, true, false, List, [], ◌∷◌, ◌++◌, drop, refl, sym, ap, subst, ◌∙◌, arith, append_assoc, drop-drop}
+use Rattle.std.proofs.Common.{◌≡◌, ℕ, zero, suc, ◌+◌, ◌-◌, ◌<◌, true, false, List, [], ◌∷◌, ◌++◌, drop, refl, sym, ap, ◌∙◌, arith, append_assoc}
 use Rattle.std.specs.Prelude.{encode_utf8_all, replicate}
 use Rattle.std.specs.List.{slice_range}
 use Rattle.std.proofs.lemmas.List.{append-nil}
 use Rattle.cm_text.specs.References.{chars_of}
 use Rattle.cm_tree.specs.declared.tree.Inline.{Inline}
 use Rattle.cm_scan.specs.Pairing.{bracket_text, text_before, settled_after, settled}
-use Rattle.cm_inline.specs.declared.nodes.Node.{Node}
-use Rattle.cm_inline.specs.declared.nodes.Node.TheVariants.{Piece, Characters, Whole, Finished, Run, Opener}
+use Rattle.cm_inline.specs.steps.Nodes.{Node}
+use Rattle.cm_inline.specs.steps.Nodes.{Piece, Characters, Whole, Finished, Run, Opener}
 use Rattle.cm_inline.specs.steps.Runs.{byte_of}
 use Rattle.cm_inline.specs.steps.Written.{inline_in}
 use Rattle.cm_inline.specs.steps.Nodes.{items_of, is_text, text_in, text_in_front, behind_texts, inline_of, AreParts}
@@ -28,8 +28,8 @@ settled-texts source before (Opener image behind ∷ nodes) =
     let text = bracket_text image in
     settled-texts source (before ++ text) nodes ∙ ap (λ t. text_before t (settled (items_of source (behind_texts nodes)))) (append_assoc before text (text_in_front source nodes))
 settled-texts source before (Whole written ∷ nodes) = ap (λ t. text_before t (inline_in source written ∷ settled (items_of source nodes))) (sym (append-nil before))
-settled-texts source before (Finished inline depth false ∷ nodes) = ap (λ t. text_before t (inline ∷ settled (items_of source nodes))) (sym (append-nil before))
-settled-texts source before (Finished inline depth true ∷ nodes) = ap (λ t. text_before t (inline ∷ settled (items_of source nodes))) (sym (append-nil before))
+settled-texts source before (Finished inline depth false ∷ nodes) = ap (λ t. text_before t (inline source ∷ settled (items_of source nodes))) (sym (append-nil before))
+settled-texts source before (Finished inline depth true ∷ nodes) = ap (λ t. text_before t (inline source ∷ settled (items_of source nodes))) (sym (append-nil before))
 
 text-then : (text : List ℕ) (inlines : List Inline) → text_before text inlines ≡ text_before text [] ++ inlines
 text-then [] inlines = refl
@@ -74,6 +74,14 @@ pub text-over : (source : List ℕ) (node : Node) (nodes : List Node) → is_tex
 text-over source node nodes e =
     (ap (λ v. elim v as (λ _. List ℕ) [ true ↦ text_in source node ++ text_in_front source nodes | false ↦ [] ]) e, ap (λ v. elim v as (λ _. List Node) [ true ↦ behind_texts nodes | false ↦ node ∷ nodes ]) e)
 
+pub no-text : (source : List ℕ) (node : Node) → is_text node ≡ false → text_in source node ≡ []
+no-text source (Piece from to) e = absurd (cc e)
+no-text source (Characters chars) e = absurd (cc e)
+no-text source (Run run) e = absurd (cc e)
+no-text source (Opener image behind) e = absurd (cc e)
+no-text source (Whole written) e = refl
+no-text source (Finished inline depth holds_link) e = refl
+
 -- the inlines of what is left of the nodes, behind so many
 pub settled-left : (source : List ℕ) (done : List Inline) (nodes left : List Node) (whole : List Inline) → left ≡ behind_texts nodes → done ++ settled (items_of source nodes) ≡ whole
     → (done ++ text_before (text_in_front source nodes) []) ++ settled (items_of source left) ≡ whole
@@ -87,10 +95,6 @@ settled-on source done nodes node rest whole e h =
     append_assoc (done ++ text_before (text_in_front source nodes) []) (inline_of source node) (settled (items_of source rest))
     ∙ ap (λ t. (done ++ text_before (text_in_front source nodes) []) ++ t) (inline-first source nodes node rest e)
     ∙ settled-left source done nodes (behind_texts nodes) whole refl h
-
--- the nodes behind a text that is no longer than what is left
-pub left-behind : (nodes left : List Node) (at count : ℕ) → left ≡ drop at nodes → drop count left ≡ behind_texts left → drop (at + count) nodes ≡ behind_texts (drop at nodes)
-left-behind nodes left at count same rest = sym (drop-drop count at nodes) ∙ subst (λ t. drop count t ≡ behind_texts t) same rest
 
 -- one character of a run that is written, and the others
 pub run-next : (done : List ℕ) (b left counter : ℕ) → counter < left → (done ++ b ∷ []) ++ replicate (left - (counter + 1)) b ≡ done ++ replicate (left - counter) b

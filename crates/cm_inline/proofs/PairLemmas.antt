@@ -1,5 +1,5 @@
 -- A pair among the nodes of a source, and the pass over all of them.
-use Rattle.std.proofs.Common.{◌≡◌, ◌≢◌, ◌⊎◌, inl, inr, ℕ, zero, suc, ◌+◌, ◌-◌, ◌<◌, ◌≤◌, Bool, true, false, cond, nat_le, List, [], ◌∷◌, ◌++◌, length, reverse, take, drop, get_or, Option, Some, None, refl, sym, ap, subst, ◌∙◌, arith, append_assoc, append-nil, length-append}
+use Rattle.std.proofs.Common.{◌≡◌, ◌⊎◌, inl, inr, ℕ, zero, suc, ◌+◌, ◌-◌, ◌<◌, ◌≤◌, Bool, true, false, cond, nat_le, List, [], ◌∷◌, ◌++◌, length, reverse, take, drop, get_or, Option, Some, None, refl, sym, ap, subst, ◌∙◌, arith, append_assoc, append-nil, drop-drop, length-append, length-take}
 use Rattle.std.specs.Prelude.{IfSome}
 use Rattle.std.proofs.lemmas.List.{take-map, drop-map, map-append, length-map, length-reverse, reverse-append, reverse-reverse}
 use Rattle.std.specs.List.{list_any}
@@ -7,23 +7,30 @@ use Rattle.std.proofs.lemmas.Bool.{or_parts}
 use Rattle.std.proofs.lemmas.List.Sums.{sum_by-append, sum_by-cons}
 use Rattle.std.proofs.Math.Seq.{take-append_seam, drop-append-add}
 use Rattle.cm_tree.specs.declared.tree.Inline.{Inline}
+use Rattle.cm_tree.specs.Depth.{depth_of}
 use Rattle.cm_scan.specs.Delimiters.{Run}
 use Rattle.cm_scan.specs.Pairing.{Item, Finished, Delimiters, Opened, nearest_opener, pair_leftmost, pair_all, without, used, emphasised, settled}
 use Rattle.cm_scan.specs.OnePass.{up_to_pair, closer_left, closed_by, passed, pass_from}
 use Rattle.cm_scan.proofs.PairingLemmas.{nearest-splits, leftmost-no_closer, pair_all-stop}
 use Rattle.cm_scan.proofs.OnePassLemmas.{closed_by-none, closed_by-gone, closed_by-more}
-use Rattle.cm_inline.specs.declared.nodes.Node as node
-use Rattle.cm_inline.specs.declared.nodes.Node.{Node}
+use Rattle.cm_inline.specs.steps.Nodes as node
+use Rattle.cm_inline.specs.steps.Nodes.{Node}
 use Rattle.cm_inline.specs.declared.runs.DelimiterRun.{DelimiterRun}
 use Rattle.cm_inline.specs.declared.delimiters.Delimiter.{Delimiter}
 use Rattle.cm_inline.specs.steps.Entries.{Entry, Listed, above, is_listed, reserve, Below, Falling}
 use Rattle.cm_inline.specs.steps.Searching.{NoneBeneath, kind, openers_of, places_of, characters}
 use Rattle.cm_inline.specs.steps.Openers.{zeros, spent, cut, Ready, Closing, Open, Opens, Spends, Finishes}
-use Rattle.cm_inline.specs.steps.Runs.{run_of, entry_of, rest_of}
-use Rattle.cm_inline.specs.steps.Nodes.{item_of, items_of, is_closer, rest_in, IsPart, AreParts}
-use Rattle.cm_inline.specs.steps.Pairs.{Adds, AreOf, allowed, allowance, item_emphases, items_emphases}
+use Rattle.cm_inline.specs.steps.Runs.{byte_of, run_of, entry_of, rest_of}
+use Rattle.cm_inline.specs.steps.Nodes.{item_of, items_of, is_closer, nodes_depth, rest_in, IsPart, AreParts}
+use Rattle.cm_inline.specs.steps.Pairs.{Adds, AreOf, Stays, opened_at, allowed, allowance, item_emphases, items_emphases}
+use Rattle.cm_inline.specs.declared.nodes.Kind.{Kind}
+use Rattle.cm_inline.specs.declared.tokens.Token.{Token}
+use Rattle.cm_inline.specs.steps.Groups.{Held, groups_made, nodes_in, made_by, made_of, is_run, ArePlaced}
 use Rattle.cm_inline.proofs.BetweenLemmas.{between-closer}
 use Rattle.cm_inline.proofs.BottomLemmas.{kind-small}
+use Rattle.cm_inline.proofs.DepthLemmas.{emphasised-depth, settled-depth}
+use Rattle.cm_inline.proofs.GroupLemmas.{nodes-in, parts-placed, placed-drop}
+use Rattle.cm_inline.proofs.NodeLemmas.{parts-drop}
 use Rattle.cm_inline.proofs.EmphasisLemmas.{both-hold, reversed-hold, pair-holds}
 use Rattle.cm_inline.proofs.OpenerLemmas.{closing-there, listed-split}
 
@@ -49,15 +56,15 @@ pass-stays before closer (inr h) = go closer.closes refl
 none-pairs : (source : List ℕ) (nodes : List Node) (before : List Item) → list_any is_closer nodes ≡ false → pair_leftmost before (items_of source nodes) ≡ None
 unfolding pair_leftmost
 none-pairs source [] before e = refl
-none-pairs source (node.TheVariants.Piece from to ∷ nodes) before e = none-pairs source nodes (item_of source (node.TheVariants.Piece from to) ∷ before) e
-none-pairs source (node.TheVariants.Characters chars ∷ nodes) before e = none-pairs source nodes (item_of source (node.TheVariants.Characters chars) ∷ before) e
-none-pairs source (node.TheVariants.Whole written ∷ nodes) before e = none-pairs source nodes (item_of source (node.TheVariants.Whole written) ∷ before) e
-none-pairs source (node.TheVariants.Finished inline depth false ∷ nodes) before e = none-pairs source nodes (item_of source (node.TheVariants.Finished inline depth false) ∷ before) e
-none-pairs source (node.TheVariants.Finished inline depth true ∷ nodes) before e = none-pairs source nodes (item_of source (node.TheVariants.Finished inline depth true) ∷ before) e
-none-pairs source (node.TheVariants.Run run ∷ nodes) before e =
+none-pairs source (node.Piece from to ∷ nodes) before e = none-pairs source nodes (item_of source (node.Piece from to) ∷ before) e
+none-pairs source (node.Characters chars ∷ nodes) before e = none-pairs source nodes (item_of source (node.Characters chars) ∷ before) e
+none-pairs source (node.Whole written ∷ nodes) before e = none-pairs source nodes (item_of source (node.Whole written) ∷ before) e
+none-pairs source (node.Finished inline depth false ∷ nodes) before e = none-pairs source nodes (item_of source (node.Finished inline depth false) ∷ before) e
+none-pairs source (node.Finished inline depth true ∷ nodes) before e = none-pairs source nodes (item_of source (node.Finished inline depth true) ∷ before) e
+none-pairs source (node.Run run ∷ nodes) before e =
     let parts = or_parts run.closes (list_any is_closer nodes) e in
     leftmost-no_closer (run_of run) before (items_of source nodes) parts.0 ∙ none-pairs source nodes (Delimiters (run_of run) ∷ before) parts.1
-none-pairs source (node.TheVariants.Opener image behind ∷ nodes) before e = none-pairs source nodes (item_of source (node.TheVariants.Opener image behind) ∷ before) e
+none-pairs source (node.Opener image behind ∷ nodes) before e = none-pairs source nodes (item_of source (node.Opener image behind) ∷ before) e
 
 pub no-pairs : (source : List ℕ) (nodes : List Node) → list_any is_closer nodes ≡ false → pair_all (items_of source nodes) ≡ items_of source nodes
 no-pairs source nodes e = pair_all-stop (items_of source nodes) (none-pairs source nodes [] e)
@@ -131,10 +138,6 @@ reverse-without n r = go (nat_le r.left n)
     go true = refl
     go false = refl
 
--- what stands before an opener among the nodes, it, and what stands behind it
-abbrev pub opened_at : List ℕ → List Node → Delimiter → Opened
-opened_at source nodes opener = record { before = items_of source (take opener.item nodes); opener = run_of opener.run; inside = items_of source (drop (suc opener.item) nodes) }
-
 -- a pair of the closer and its opener
 pub record Paired (source : List ℕ) (nodes more : List Node) (l new : Listed) (bs bs2 : List ℕ) (place : ℕ) (closer : DelimiterRun) (opener : Delimiter) (left : ℕ) : Type 0 where
   pub closing : Closing (reverse (items_of source more)) new bs2 place (cut left (run_of closer))
@@ -206,6 +209,69 @@ pair-items source nodes opener closer rest made left e =
     ∙ ap (λ t. t ++ item_of source made ∷ []) (map-append (item_of source) (take opener.item nodes) (rest_in rest) ∙ ap (λ t. front ++ t) (rest-items source rest ∙ left))
     ∙ ap (λ i. (front ++ without (used (run_of opener.run) closer) (run_of opener.run)) ++ i ∷ []) e
 
+-- a pair behind a place among the nodes
+
+front-stays : (from place : ℕ) (whole more : List Node) → from ≤ place → place < length whole → take from (take place whole ++ more) ≡ take from whole
+front-stays zero place whole more h w = refl
+front-stays (suc from) zero whole more h w = absurd (omega (arith, h))
+front-stays (suc from) (suc place) [] more h w = absurd (omega (arith, w))
+front-stays (suc from) (suc place) (x ∷ whole) more h w = ap (λ t. x ∷ t) (front-stays from place whole more (omega (arith, h)) (omega (arith, w)))
+
+back-stays : (from i place : ℕ) (whole more : List Node) → from + i ≡ place → place < length whole → drop from (take place whole ++ more) ≡ take i (drop from whole) ++ more
+back-stays zero i place whole more e w = let q : place ≡ i = omega (arith, e) in ap (λ n. take n whole ++ more) q
+back-stays (suc from) i zero whole more e w = absurd (omega (arith, e))
+back-stays (suc from) i (suc place) [] more e w = absurd (omega (arith, w))
+back-stays (suc from) i (suc place) (x ∷ whole) more e w = back-stays from i place whole more (omega (arith, e)) (omega (arith, w))
+
+pub behind-both : (from i : ℕ) (whole : List Node) → drop (suc (from + i)) whole ≡ drop (suc i) (drop from whole)
+behind-both from i whole = let n : suc (from + i) ≡ from + suc i = omega arith in ap (λ m. drop m whole) n ∙ sym (drop-drop (suc i) from whole)
+
+-- the nodes that come of a pair
+abbrev pub pair_nodes : (place : ℕ) → List Node → Option DelimiterRun → Kind → (depth : ℕ) → List Node
+pair_nodes place whole rest kind depth = take place whole ++ (rest_in rest ++ node.Finished (made_by kind (drop (suc place) whole)) depth false ∷ [])
+
+pub pair-from : (source : List ℕ) (whole more : List Node) (from : ℕ) (opener : Delimiter) (closer : DelimiterRun) (rest : Option DelimiterRun) (kind : Kind) (depth count : ℕ) → from + opener.item < length whole
+    → rest_of rest ≡ without count (run_of opener.run) → count ≡ used (run_of opener.run) (run_of closer) → ((content : List Inline) → made_of kind content ≡ emphasised (byte_of closer.marker) count content)
+    → more ≡ pair_nodes (from + opener.item) whole rest kind depth → items_of source (drop from more) ≡ up_to_pair (opened_at source (drop from whole) opener) (run_of closer)
+pair-from source whole more from opener closer rest kind depth count within left is makes e =
+    let inside = drop (suc (from + opener.item)) whole in
+    let made : Node = node.Finished (made_by kind inside) depth false in
+    let nodes = drop from whole in
+    ap (λ t. items_of source (drop from t)) e
+    ∙ ap (items_of source) (back-stays from opener.item (from + opener.item) whole (rest_in rest ++ made ∷ []) refl within ∙ sym (append_assoc (take opener.item nodes) (rest_in rest) (made ∷ [])))
+    ∙ pair-items source nodes opener (run_of closer) rest made (left ∙ ap (λ n. without n (run_of opener.run)) is)
+    (ap Finished (makes (settled (items_of source inside)) ∙ ap (λ n. emphasised (byte_of closer.marker) n (settled (items_of source inside))) is
+    ∙ ap (λ t. emphasised (byte_of closer.marker) (used (run_of opener.run) (run_of closer)) (settled (items_of source t))) (behind-both from opener.item whole)))
+
+pub pair-front : (whole more : List Node) (from i : ℕ) (rest : Option DelimiterRun) (kind : Kind) (depth : ℕ) → from + i < length whole → more ≡ pair_nodes (from + i) whole rest kind depth → take from more ≡ take from whole
+pair-front whole more from i rest kind depth within e = ap (take from) e ∙ front-stays from (from + i) whole _ (omega arith) within
+
+pub pair-long : (whole more : List Node) (from i : ℕ) (rest : Option DelimiterRun) (kind : Kind) (depth : ℕ) → from + i < length whole → more ≡ pair_nodes (from + i) whole rest kind depth → from ≤ length more
+pair-long whole more from i rest kind depth within e =
+    let behind = rest_in rest ++ node.Finished (made_by kind (drop (suc (from + i)) whole)) depth false ∷ [] in
+    omega (arith, ap length e, length-append (take (from + i) whole) behind, length-take (from + i) whole, within)
+
+-- emphasis nests one deeper than what stands in it, and parts of a source stay such
+pub pair-parts : (source : List ℕ) (whole more : List Node) (place character count : ℕ) (rest : Option DelimiterRun) (kind : Kind) (depth : ℕ) → ((content : List Inline) → made_of kind content ≡ emphasised character count content)
+    → depth ≡ nodes_depth (drop (suc place) whole) → more ≡ pair_nodes place whole rest kind (depth + 1) → AreParts source whole → AreParts source more
+pair-parts source whole more place character count rest kind depth makes deep e parts =
+    let inside = drop (suc place) whole in
+    let content = settled (items_of source inside) in
+    let made : depth_of (made_of kind content) ≡ depth + 1 =
+    ap depth_of (makes content) ∙ emphasised-depth character count content ∙ ap (λ n. n + 1) (settled-depth source inside (parts-drop source (suc place) whole parts) ∙ sym deep) in
+    subst (AreParts source) (sym e) (parts-append source (take place whole) (rest_in rest ++ node.Finished (made_by kind inside) (depth + 1) false ∷ []) (parts-take source place whole parts)
+    (parts-append source (rest_in rest) (node.Finished (made_by kind inside) (depth + 1) false ∷ []) (rest-parts source rest) (made, tt)))
+
+placed-append : (source : List ℕ) (held more : List Token) → ArePlaced source held → ArePlaced source more → ArePlaced source (held ++ more)
+placed-append source [] more placed others = others
+placed-append source (token ∷ held) more placed others = (placed.0, placed-append source held more placed.1 others)
+
+-- what stood behind a node stands inside then
+pub placed-inside : (source : List ℕ) (old new : Held) (place : ℕ) → new.inside ≡ old.inside ++ drop (suc place) old.before → AreParts source (nodes_in old) → ArePlaced source old.inside → ArePlaced source new.inside
+placed-inside source old new place e parts inside =
+    let before = parts-placed source (groups_made old.inside old.groups) old.before (subst (AreParts source) (nodes-in old) parts) in
+    subst (ArePlaced source) (sym e) (placed-append source old.inside (drop (suc place) old.before) inside (placed-drop source (suc place) old.before before))
+
 -- the run is among the nodes
 pub last-item : (source : List ℕ) (nodes : List Node) (x : Node) → reverse (items_of source (nodes ++ x ∷ [])) ≡ item_of source x ∷ reverse (items_of source nodes)
 last-item source nodes x = ap reverse (map-append (item_of source) nodes (x ∷ [])) ∙ reverse-append (items_of source nodes) (item_of source x ∷ [])
@@ -225,7 +291,7 @@ pub cut-kind : (left : ℕ) (run : Run) → kind (cut left run) ≡ kind run
 unfolding kind
 cut-kind left run = refl
 
-pub add-end : (source : List ℕ) (old nodes more : List Node) (l mid new : Listed) (bs bs1 bs2 : List ℕ) (place item : ℕ) (closer run : DelimiterRun) → length nodes ≡ item → more ≡ nodes ++ node.TheVariants.Run closer ∷ []
+pub add-end : (source : List ℕ) (old nodes more : List Node) (l mid new : Listed) (bs bs1 bs2 : List ℕ) (place item : ℕ) (closer run : DelimiterRun) → length nodes ≡ item → more ≡ nodes ++ node.Run closer ∷ []
     → Closing (reverse (items_of source nodes)) mid bs1 place (run_of closer) → ((kinds : ℕ) → kind (run_of run) < kinds → spent kinds mid bs1 ≤ spent kinds l bs + (kinds + 1 + run.left))
     → l.looks + items_emphases (items_of source nodes) ≤ mid.looks + items_emphases (items_of source old) → Finishes mid bs1 new bs2 place (run_of closer) item
     → ((closer.closes ≡ false) ⊎ (nearest_opener (run_of closer) (reverse (items_of source nodes)) [] ≡ None))
@@ -233,12 +299,12 @@ pub add-end : (source : List ℕ) (old nodes more : List Node) (l mid new : List
 add-end source old nodes more l mid new bs bs1 bs2 place item closer run n e c s h f stop p = record {
   ready = subst (λ v. Ready v new bs2) (sym turned) r.0;
   paid = λ kinds known. omega (arith, r.1 kinds, s kinds known);
-  made = omega (arith, r.2, h, ap (λ t. items_emphases (items_of source t)) e, ap items_emphases (map-append (item_of source) nodes (node.TheVariants.Run closer ∷ [])), both-hold (items_of source nodes) (Delimiters (run_of closer) ∷ []));
+  made = omega (arith, r.2, h, ap (λ t. items_emphases (items_of source t)) e, ap items_emphases (map-append (item_of source) nodes (node.Run closer ∷ [])), both-hold (items_of source nodes) (Delimiters (run_of closer) ∷ []));
   passes = turned ∙ sym (pass-stays (reverse (items_of source nodes)) (run_of closer) stop) ∙ p;
 }
   where
     turned : reverse (items_of source more) ≡ Delimiters (run_of closer) ∷ reverse (items_of source nodes)
-    turned = ap (λ l. reverse (items_of source l)) e ∙ last-item source nodes (node.TheVariants.Run closer)
+    turned = ap (λ l. reverse (items_of source l)) e ∙ last-item source nodes (node.Run closer)
 
     r : Ready (Delimiters (run_of closer) ∷ reverse (items_of source nodes)) new bs2 × ((kinds : ℕ) → spent kinds new bs2 ≤ spent kinds mid bs1) × (new.looks ≡ mid.looks)
     r = f (reverse (items_of source nodes)) (length-reverse (items_of source nodes) ∙ length-map nodes (item_of source) ∙ n) c
@@ -308,45 +374,75 @@ of-thirteen (Delimiters run ∷ items) = (kind-small run, of-thirteen items)
 of-thirteen (Item.Opener image behind ∷ items) = (tt, of-thirteen items)
 
 -- other nodes pair with nothing, and open for nothing
-same-openers : (source : List ℕ) (before : List Item) (x : Node) → ((r : DelimiterRun) → x ≢ node.TheVariants.Run r) → openers_of (item_of source x ∷ before) ≡ openers_of before
+same-openers : (source : List ℕ) (before : List Item) (x : Node) → is_run x ≡ false → openers_of (item_of source x ∷ before) ≡ openers_of before
 unfolding openers_of
-same-openers source before (node.TheVariants.Piece from to) n = refl
-same-openers source before (node.TheVariants.Characters chars) n = refl
-same-openers source before (node.TheVariants.Whole w) n = refl
-same-openers source before (node.TheVariants.Finished i d false) n = refl
-same-openers source before (node.TheVariants.Finished i d true) n = refl
-same-openers source before (node.TheVariants.Opener b k) n = refl
-same-openers source before (node.TheVariants.Run r) n = absurd (n r refl)
+same-openers source before (node.Piece from to) e = refl
+same-openers source before (node.Characters chars) e = refl
+same-openers source before (node.Whole w) e = refl
+same-openers source before (node.Finished i d false) e = refl
+same-openers source before (node.Finished i d true) e = refl
+same-openers source before (node.Opener b k) e = refl
+same-openers source before (node.Run r) e = absurd (cc e)
 
-pub passes-other : (source : List ℕ) (before : List Item) (x : Node) → ((r : DelimiterRun) → x ≢ node.TheVariants.Run r) → passed before (item_of source x) ≡ item_of source x ∷ before
-passes-other source before (node.TheVariants.Piece from to) n = refl
-passes-other source before (node.TheVariants.Characters chars) n = refl
-passes-other source before (node.TheVariants.Whole w) n = refl
-passes-other source before (node.TheVariants.Finished i d false) n = refl
-passes-other source before (node.TheVariants.Finished i d true) n = refl
-passes-other source before (node.TheVariants.Opener b k) n = refl
-passes-other source before (node.TheVariants.Run r) n = absurd (n r refl)
+passes-other : (source : List ℕ) (before : List Item) (x : Node) → is_run x ≡ false → passed before (item_of source x) ≡ item_of source x ∷ before
+passes-other source before (node.Piece from to) e = refl
+passes-other source before (node.Characters chars) e = refl
+passes-other source before (node.Whole w) e = refl
+passes-other source before (node.Finished i d false) e = refl
+passes-other source before (node.Finished i d true) e = refl
+passes-other source before (node.Opener b k) e = refl
+passes-other source before (node.Run r) e = absurd (cc e)
 
-pub other-ready : (source : List ℕ) (nodes more : List Node) (x : Node) (l : Listed) (bs : List ℕ) → ((r : DelimiterRun) → x ≢ node.TheVariants.Run r) → more ≡ nodes ++ x ∷ [] → Ready (reverse (items_of source nodes)) l bs
-    → Ready (reverse (items_of source more)) l bs
-other-ready source nodes more x l bs n e r =
-    subst (λ v. Ready v l bs) (sym (ap (λ l. reverse (items_of source l)) e ∙ last-item source nodes x))
+other-ready : (source : List ℕ) (nodes : List Node) (x : Node) (l : Listed) (bs : List ℕ) → is_run x ≡ false → Ready (reverse (items_of source nodes)) l bs → Ready (reverse (items_of source (nodes ++ x ∷ []))) l bs
+other-ready source nodes x l bs n r =
+    subst (λ v. Ready v l bs) (sym (last-item source nodes x))
     (record { stands = r.stands ∙ sym (same-openers source (reverse (items_of source nodes)) x n); falling = r.falling; under = r.under; size = r.size; low = r.low; sound = r.sound })
 
--- What has been passed over comes to the nodes so far, whatever follows.
-abbrev pub Passes : List ℕ → (done made : List Node) → Type 0
-Passes source done made = (after : List Item) → pass_from [] (items_of source done ++ after) ≡ pass_from (reverse (items_of source made)) after
+pub others-ready : (source : List ℕ) (nodes others : List Node) (l : Listed) (bs : List ℕ) → list_any is_run others ≡ false → Ready (reverse (items_of source nodes)) l bs → Ready (reverse (items_of source (nodes ++ others))) l bs
+others-ready source nodes [] l bs e r = subst (λ t. Ready (reverse (items_of source t)) l bs) (sym (append-nil nodes)) r
+others-ready source nodes (x ∷ others) l bs e r =
+    let parts = or_parts (is_run x) (list_any is_run others) e in
+    subst (λ t. Ready (reverse (items_of source t)) l bs) (append_assoc nodes (x ∷ []) others) (others-ready source (nodes ++ x ∷ []) others l bs parts.1 (other-ready source nodes x l bs parts.0 r))
 
-pub passes-more : (source : List ℕ) (done made more : List Node) (x : Node) → Passes source done made → reverse (items_of source more) ≡ passed (reverse (items_of source made)) (item_of source x) → Passes source (done ++ x ∷ []) more
+pub others-pass : (source : List ℕ) (nodes others : List Node) (after : List Item) → list_any is_run others ≡ false
+    → pass_from (reverse (items_of source nodes)) (items_of source others ++ after) ≡ pass_from (reverse (items_of source (nodes ++ others))) after
 unfolding pass_from
-passes-more source done made more x p e after =
-    ap (pass_from []) (ap (λ l. l ++ after) (map-append (item_of source) done (x ∷ [])) ∙ append_assoc (items_of source done) (item_of source x ∷ []) after)
-    ∙ p (item_of source x ∷ after) ∙ ap (λ before. pass_from before after) (sym e)
+others-pass source nodes [] after e = ap (λ t. pass_from (reverse (items_of source t)) after) (sym (append-nil nodes))
+others-pass source nodes (x ∷ others) after e =
+    let parts = or_parts (is_run x) (list_any is_run others) e in
+    ap (λ before. pass_from before (items_of source others ++ after)) (passes-other source (reverse (items_of source nodes)) x parts.0 ∙ sym (last-item source nodes x))
+    ∙ others-pass source (nodes ++ x ∷ []) others after parts.1 ∙ ap (λ t. pass_from (reverse (items_of source t)) after) (append_assoc nodes (x ∷ []) others)
 
-pub part-behind : (source : List ℕ) (done : List Node) (x : Node) (rest : List Node) → AreParts source (done ++ x ∷ rest) → IsPart source x
-part-behind source [] x rest parts = parts.0
-part-behind source (d ∷ done) x rest parts = part-behind source done x rest parts.1
+-- the nodes before a number stay
 
--- one node more is taken
-pub whole-more : (nodes done rest more : List Node) (x : Node) → nodes ≡ done ++ rest → rest ≡ x ∷ more → nodes ≡ (done ++ x ∷ []) ++ more
-whole-more nodes done rest more x whole e = whole ∙ ap (λ t. done ++ t) e ∙ sym (append_assoc done (x ∷ []) more)
+pub stays-same : (from : ℕ) (old : Held) → from ≤ length (nodes_in old) → Stays from old old
+stays-same from old h = record { front = refl; long = h; parts = λ source parts. parts; placed = λ source parts placed. placed }
+
+pub stays-on : (from : ℕ) (old mid new : Held) → Stays from old mid → Stays from mid new → Stays from old new
+stays-on from old mid new s t = record {
+  front = t.front ∙ s.front;
+  long = t.long;
+  parts = λ source parts. t.parts source (s.parts source parts);
+  placed = λ source parts placed. t.placed source (s.parts source parts) (s.placed source parts placed);
+}
+
+pub take-front : (from : ℕ) (nodes more : List Node) → from ≤ length nodes → take from (nodes ++ more) ≡ take from nodes
+take-front zero nodes more h = refl
+take-front (suc from) [] more h = absurd (omega (arith, h))
+take-front (suc from) (x ∷ nodes) more h = ap (λ t. x ∷ t) (take-front from nodes more (omega (arith, h)))
+
+drop-front : (from : ℕ) (nodes more : List Node) → from ≤ length nodes → drop from (nodes ++ more) ≡ drop from nodes ++ more
+drop-front zero nodes more h = refl
+drop-front (suc from) [] more h = absurd (omega (arith, h))
+drop-front (suc from) (x ∷ nodes) more h = drop-front from nodes more (omega (arith, h))
+
+pub drop-more : (from : ℕ) (nodes more others : List Node) → from ≤ length nodes → more ≡ nodes ++ others → drop from more ≡ drop from nodes ++ others
+drop-more from nodes more others h e = ap (drop from) e ∙ drop-front from nodes others h
+
+pub stays-more : (from : ℕ) (old new : Held) (others : List Node) → from ≤ length (nodes_in old) → ((source : List ℕ) → AreParts source (nodes_in old) → AreParts source others) → nodes_in new ≡ nodes_in old ++ others → new.inside ≡ old.inside → Stays from old new
+stays-more from old new others h are e i = record {
+  front = ap (take from) e ∙ take-front from (nodes_in old) others h;
+  long = omega (arith, h, ap length e, length-append (nodes_in old) others);
+  parts = λ source parts. subst (AreParts source) (sym e) (parts-append source (nodes_in old) others parts (are source parts));
+  placed = λ source parts placed. subst (ArePlaced source) (sym i) placed;
+}

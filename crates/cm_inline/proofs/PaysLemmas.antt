@@ -15,8 +15,9 @@ use Rattle.cm_scan.specs.Pieces.{one_by_one}
 use Rattle.cm_scan.specs.Runs.{run_in, runs_after, runs_of, characters_of}
 use Rattle.cm_scan.proofs.RunsLemmas.{runs-go-on, runs-behind-text, runs-in-pieces, runs_are_few}
 use Rattle.cm_inline.specs.Reading.{looks_at_most}
-use Rattle.cm_inline.specs.declared.nodes.Node.{Node}
-use Rattle.cm_inline.specs.declared.nodes.Node.TheVariants.{Piece}
+use Rattle.cm_inline.specs.steps.Nodes.{Node}
+use Rattle.cm_inline.specs.steps.Nodes.{Piece}
+use Rattle.cm_inline.specs.steps.Nodes as nodes
 use Rattle.cm_inline.specs.steps.Brackets.{closed_at}
 use Rattle.cm_inline.specs.steps.Nodes.{item_of, items_of, text_between}
 use Rattle.cm_inline.specs.steps.Pairs.{IsOf, AreOf, Keeps, allowed, allowance, item_emphases}
@@ -174,6 +175,26 @@ pub pays-few : (rules : Rules) (defined : Defined) (source : List ℕ) (nodes : 
 pays-few rules defined source nodes at looks p small =
     let few = few-of rules.strike looks (allowance (kinds_by rules) (items_of source nodes)) (characters_ahead rules defined source nodes at) (characters_of (runs_of rules defined source)) (length source) p.paid (runs_are_few rules defined source).1 small in
     omega (arith, few, twice rules.strike (items_of source nodes))
+
+-- runs are of as many characters in each source
+
+allowed-in : (kinds : ℕ) (source other : List ℕ) (node : Node) → allowed kinds (item_of source node) ≡ allowed kinds (item_of other node)
+allowed-in kinds source other (Piece from to) = refl
+allowed-in kinds source other (nodes.Characters chars) = refl
+allowed-in kinds source other (nodes.Whole written) = refl
+allowed-in kinds source other (nodes.Finished inline depth false) = refl
+allowed-in kinds source other (nodes.Finished inline depth true) = refl
+allowed-in kinds source other (nodes.Run run) = refl
+allowed-in kinds source other (nodes.Opener image behind) = refl
+
+pub allowance-in : (kinds : ℕ) (source other : List ℕ) (held : List Node) → allowance kinds (items_of source held) ≡ allowance kinds (items_of other held)
+allowance-in kinds source other [] = refl
+allowance-in kinds source other (node ∷ held) =
+    omega (arith, sum_by-cons (allowed kinds) (item_of source node) (items_of source held), sum_by-cons (allowed kinds) (item_of other node) (items_of other held), allowed-in kinds source other node, allowance-in kinds source other held)
+
+pub pays-few-in : (rules : Rules) (defined : Defined) (source : List ℕ) (nodes : List Node) (at looks : ℕ) → Pays rules defined source nodes at looks → length source < 2 ^ 64
+    → (other : List ℕ) → looks + allowance 13 (items_of other nodes) < 2 ^ 127
+pays-few-in rules defined source nodes at looks p small = λ other. omega (arith, pays-few rules defined source nodes at looks p small, allowance-in 13 other source nodes)
 
 most-of : (strike : Bool) (looks paid ahead total : ℕ) → looks + paid + (if strike then 15 else 14) * ahead ≤ (if strike then 15 else 14) * total → looks + paid ≤ (if strike then 15 else 14) * total
 most-of true looks paid ahead total p = omega (arith, p)

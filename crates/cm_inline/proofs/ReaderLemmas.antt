@@ -1,6 +1,6 @@
 -- What brackets come to, kept with all that is known of the nodes.
 use Rattle.std.proofs.Common.{◌≡◌, ℕ, zero, suc, ◌+◌, ◌-◌, ◌<◌, ◌≤◌, Bool, true, false, not, ◌||◌, List, [], ◌∷◌, ◌++◌, length, take, drop, set, refl, sym, ap, subst, ◌∙◌, arith, append_assoc, length-append, length-drop, take-take}
-use Rattle.std.specs.Prelude.{Option, Some, nat_lt, if◌then◌else◌, IsUtf8, Result, Ok, Err, OnOk}
+use Rattle.std.specs.Prelude.{Option, Some, None, nat_lt, if◌then◌else◌, IsUtf8, Result, Ok, Err, OnOk}
 use Rattle.std.specs.List.{slice_range}
 use Rattle.std.specs.Str.{IsCharBoundary}
 use Rattle.std.proofs.lemmas.Bool.Decides.{nat_tests}
@@ -10,30 +10,36 @@ use Rattle.std.proofs.Math.Seq.{take-append_seam, set-append_seam}
 use Rattle.cm_tree.specs.declared.tree.Inline.{Inline}
 use Rattle.cm_tree.specs.declared.tree.Inline.TheVariants.{Link, Image}
 use Rattle.cm_tree.specs.Depth.{depth_of, inlines_depth}
-use Rattle.cm_scan.specs.Pairing.{Item, bracket_text, emphasis_of}
+use Rattle.cm_scan.specs.Pairing.{Item, bracket_text, settled, pair_all, emphasis_of}
 use Rattle.cm_text.specs.Rules.{Rules}
+use Rattle.std.proofs.lemmas.List.Sums.{sum_by-cons}
 use Rattle.std.proofs.lemmas.Option.{same_Some}
 use Rattle.cm_scan.specs.Atoms.{Atom, Plain, Whole, Delimiter, OpenBracket, CloseBracket}
 use Rattle.cm_scan.specs.Brackets.{Defined, is_linked, holds_link, made}
 use Rattle.cm_inline.specs.declared.brackets.Bracket.{Bracket}
 use Rattle.cm_inline.specs.declared.ends.Ends.{Ends}
 use Rattle.cm_inline.specs.declared.links.LinkEnd.{LinkEnd}
-use Rattle.cm_inline.specs.declared.nodes.Node.{Node}
-use Rattle.cm_inline.specs.declared.nodes.Node.TheVariants as nodes
-use Rattle.cm_inline.specs.declared.nodes.Node.TheVariants.{Piece, Characters, Finished, Run, Opener}
-use Rattle.cm_inline.specs.steps.Nodes.{item_of, items_of, text_between, IsPart, IsOpener, AreParts}
+use Rattle.cm_inline.specs.steps.Nodes.{Node}
+use Rattle.cm_inline.specs.steps.Nodes as nodes
+use Rattle.cm_inline.specs.steps.Nodes.{Piece, Characters, Finished, Run, Opener}
+use Rattle.cm_inline.specs.steps.Nodes.{item_of, items_of, nodes_depth, rest_in, text_between, IsPart, IsOpener, AreParts}
 use Rattle.cm_inline.specs.Emphases.{emphases}
-use Rattle.cm_inline.specs.steps.Pairs.{AreLooks, Keeps, allowance}
+use Rattle.cm_inline.specs.steps.Pairs.{AreLooks, Keeps, allowed, allowance, items_emphases}
 use Rattle.cm_inline.specs.steps.Links.{ends_of}
 use Rattle.cm_inline.specs.steps.Depths.{items_depth}
 use Rattle.cm_inline.specs.steps.Missing.{Knows}
 use Rattle.cm_inline.specs.steps.Reads.{Stands, atom_in, item_for, IsAtom}
+use Rattle.cm_inline.specs.declared.nodes.Kind.{Kind}
+use Rattle.cm_inline.specs.steps.Groups.{made_of, made_by}
 use Rattle.cm_inline.specs.steps.Brackets.{bracket_in, brackets_from, AreBefore, LinksEnd, IsRead, outside_of, inside_of, link_of, link_made, left_as_text, closed_at, end_for}
 use Rattle.cm_inline.proofs.BracketLemmas.{Split, split-last, brackets-append, outside-is, inside-is, link-behind, closes-opener, closed_or}
 use Rattle.cm_inline.proofs.KeepsLemmas.{keeps-link, keeps-text}
-use Rattle.cm_inline.proofs.PairLemmas.{parts-append, part-behind, allowance-both}
-use Rattle.cm_inline.proofs.DeeperLemmas.{both, link-depth, image-depth, made-depth}
+use Rattle.cm_inline.proofs.PairLemmas.{parts-append, allowance-both}
+use Rattle.cm_inline.proofs.DeeperLemmas.{both, settled-items, link-depth, image-depth, made-depth}
+use Rattle.cm_inline.proofs.EmphasisLemmas.{settled-holds}
 use Rattle.cm_inline.proofs.SliceLemmas.{one-slice}
+use Rattle.cm_inline.proofs.DepthLemmas.{settled-depth}
+use Rattle.cm_inline.proofs.NodeLemmas.{parts-drop}
 
 -- what follows of what holds where a call did its work
 pub then-ok : {T E P Q : Type 0} (r : Result T E) → (P → Q) → OnOk r P → OnOk r Q
@@ -156,7 +162,7 @@ before-append at (x ∷ xs) ys front back = (front.0, before-append at xs ys fro
 
 -- the opener that a bracket is
 pub opener-is : (source : List ℕ) (nodes : List Node) (others : List Bracket) (b : Bracket) → Split nodes 0 others b → AreParts source nodes → IsOpener source b.image b.behind
-opener-is source nodes others b w parts = part-behind source w.front (Opener b.image b.behind) w.inside (subst (AreParts source) w.whole parts)
+opener-is source nodes others b w parts = (parts-split source w.front (Opener b.image b.behind ∷ w.inside) (subst (AreParts source) w.whole parts)).1.0
 
 -- its text
 opener-text : (source : List ℕ) (image : Bool) (behind : ℕ) → IsOpener source image behind → slice_range source (behind - length (bracket_text image)) behind ≡ bracket_text image
@@ -286,53 +292,57 @@ nothing-read source nodes brackets ends utf8 no-nodes no-brackets knows = record
 
 -- the node that a link or an image is
 
-linked-is : (source : List ℕ) (inline : Inline) (depth : ℕ) (holds : Bool) → is_linked (item_of source (Finished inline depth holds)) ≡ holds
+linked-is : (source : List ℕ) (inline : List ℕ → Inline) (depth : ℕ) (holds : Bool) → is_linked (item_of source (Finished inline depth holds)) ≡ holds
 linked-is source inline depth true = refl
 linked-is source inline depth false = refl
 
-made-is : (source : List ℕ) (image : Bool) (dest title : List ℕ) (inside : List Item) (depth : ℕ) (holds : Bool) → holds ≡ (not image || holds_link inside)
-    → item_of source (Finished (link_of image dest title (emphasis_of inside)) depth holds) ≡ made image dest title inside
-made-is source false dest title inside depth holds e = ap (λ h. item_of source (Finished (Link dest title (emphasis_of inside)) depth h)) e
-made-is source true dest title inside depth holds e = ap (λ h. item_of source (Finished (Image dest title (emphasis_of inside)) depth h)) e ∙ go (holds_link inside)
-  where
-    go : (v : Bool) → item_of source (Finished (Image dest title (emphasis_of inside)) depth v) ≡ (if v then Item.Linked (Image dest title (emphasis_of inside)) else Item.Finished (Image dest title (emphasis_of inside)))
-    go true = refl
-    go false = refl
+finished-is : (source : List ℕ) (inline : List ℕ → Inline) (one : Inline) (depth : ℕ) (holds : Bool) → inline source ≡ one → item_of source (Finished inline depth holds) ≡ (if holds then Item.Linked one else Item.Finished one)
+finished-is source inline one depth true e = ap Item.Linked e
+finished-is source inline one depth false e = ap Item.Finished e
 
--- All that is known of a link or an image that was made: its inside and its depth, and the nodes behind it.
-pub record Made (source : List ℕ) (nodes more : List Node) (b : Bracket) (dest title : List ℕ) (content : List Inline) (depth : ℕ) (holds : Bool) (links_end : ℕ) : Type 0 where
-  pub nodes_are : more ≡ take b.node nodes ++ Finished (link_of b.image dest title content) (depth + 1) holds ∷ []
-  pub content_is : content ≡ emphasis_of (inside_of source nodes b)
-  pub depth_is : depth ≡ inlines_depth content
+made-is : (image : Bool) (dest title : List ℕ) (inside : List Item) (holds : Bool) → holds ≡ (not image || holds_link inside)
+    → (if holds then Item.Linked (link_of image dest title (emphasis_of inside)) else Item.Finished (link_of image dest title (emphasis_of inside))) ≡ made image dest title inside
+made-is false dest title inside holds e = ap (λ h. if h then Item.Linked (Link dest title (emphasis_of inside)) else Item.Finished (Link dest title (emphasis_of inside))) e
+made-is true dest title inside holds e = ap (λ h. if h then Item.Linked (Image dest title (emphasis_of inside)) else Item.Finished (Image dest title (emphasis_of inside))) e
+
+-- All that is known of a link or an image that was made: what it is in the source, how deep its content nests, and the nodes behind it.
+pub record IsLink (source : List ℕ) (nodes more : List Node) (b : Bracket) (dest title : List ℕ) (inline : List ℕ → Inline) (depth : ℕ) (holds : Bool) (links_end : ℕ) : Type 0 where
+  pub nodes_are : more ≡ take b.node nodes ++ Finished inline (depth + 1) holds ∷ []
+  pub inline_is : inline source ≡ link_of b.image dest title (emphasis_of (inside_of source nodes b))
+  pub depth_is : depth ≡ inlines_depth (emphasis_of (inside_of source nodes b))
   pub holds_is : holds ≡ (not b.image || nat_lt b.node links_end)
 
-module _ (source : List ℕ) (nodes more : List Node) (others : List Bracket) (b : Bracket) (dest title : List ℕ) (content : List Inline) (depth : ℕ) (holds : Bool) (at links_end : ℕ) (ends : Ends)
-    (r : IsRead source at nodes (others ++ b ∷ []) links_end ends) (m : Made source nodes more b dest title content depth holds links_end) where
+module _ (source : List ℕ) (nodes more : List Node) (others : List Bracket) (b : Bracket) (dest title : List ℕ) (inline : List ℕ → Inline) (depth : ℕ) (holds : Bool) (at links_end : ℕ) (ends : Ends)
+    (r : IsRead source at nodes (others ++ b ∷ []) links_end ends) (m : IsLink source nodes more b dest title inline depth holds links_end) where
   abbrev node : Node
-  node = Finished (link_of b.image dest title content) (depth + 1) holds
+  node = Finished inline (depth + 1) holds
 
   pub link-items : items_of source more ≡ link_made source nodes b dest title
   link-items =
       let w = split-last 0 nodes others b r.unclosed in
       let held : holds ≡ (not b.image || holds_link (inside_of source nodes b)) = m.holds_is ∙ ap (λ v. not b.image || v) (sym (link-behind source nodes others b links_end w r.links)) in
       ap (items_of source) m.nodes_are ∙ map-append (item_of source) (take b.node nodes) (node ∷ [])
-      ∙ ap (λ i. outside_of source nodes b ++ i ∷ []) (ap (λ t. item_of source (Finished (link_of b.image dest title t) (depth + 1) holds)) m.content_is ∙ made-is source b.image dest title (inside_of source nodes b) (depth + 1) holds held)
+      ∙ ap (λ i. outside_of source nodes b ++ i ∷ [])
+      (finished-is source inline (link_of b.image dest title (emphasis_of (inside_of source nodes b))) (depth + 1) holds m.inline_is ∙ made-is b.image dest title (inside_of source nodes b) holds held)
 
-  part : (image : Bool) → depth_of (link_of image dest title content) ≡ depth + 1
-  part true = image-depth dest title content ∙ ap (λ n. n + 1) (sym m.depth_is)
-  part false = link-depth dest title content ∙ ap (λ n. n + 1) (sym m.depth_is)
+  deep : (image : Bool) (content : List Inline) → depth_of (link_of image dest title content) ≡ inlines_depth content + 1
+  deep true content = image-depth dest title content
+  deep false content = link-depth dest title content
+
+  part : IsPart source node
+  part = ap depth_of m.inline_is ∙ deep b.image (emphasis_of (inside_of source nodes b)) ∙ ap (λ n. n + 1) (sym m.depth_is)
 
   pub read-linked : holds ≡ true → IsRead source at more others (length more) ends
   read-linked is =
       let size : length more ≡ length (take b.node nodes) + 1 = ap length m.nodes_are ∙ length-append (take b.node nodes) (node ∷ []) in
       subst (λ n. IsRead source at more others n ends) (sym size)
-      (link-read source nodes more others b node at links_end (length (take b.node nodes) + 1) ends r m.nodes_are (part b.image) refl
-      (links-linked source (take b.node nodes) node (linked-is source (link_of b.image dest title content) (depth + 1) holds ∙ is)))
+      (link-read source nodes more others b node at links_end (length (take b.node nodes) + 1) ends r m.nodes_are part refl
+      (links-linked source (take b.node nodes) node (linked-is source inline (depth + 1) holds ∙ is)))
 
   pub read-other : holds ≡ false → IsRead source at more others links_end ends
   read-other is =
-      link-read source nodes more others b node at links_end links_end ends r m.nodes_are (part b.image) refl
-      (links-more source (take b.node nodes) node links_end (linked-is source (link_of b.image dest title content) (depth + 1) holds ∙ is)
+      link-read source nodes more others b node at links_end links_end ends r m.nodes_are part refl
+      (links-more source (take b.node nodes) node links_end (linked-is source inline (depth + 1) holds ∙ is)
       (links-before source nodes others b links_end (split-last 0 nodes others b r.unclosed) r.links (right (not b.image) (nat_lt b.node links_end) (sym m.holds_is ∙ is))))
     where
       right : (v w : Bool) → v || w ≡ false → w ≡ false
@@ -353,11 +363,57 @@ items-split source nodes others b w =
     ∙ ap (λ t. items_of source t ++ Item.Opener b.image (drop b.behind source) ∷ items_of source w.inside) (sym (outside-is source nodes others b w))
     ∙ ap (λ t. outside_of source nodes b ++ Item.Opener b.image (drop b.behind source) ∷ items_of source t) (sym (inside-is source nodes others b w))
 
--- the looks for which the inside pays are among those of all nodes
-pub inside-pays : (kinds : ℕ) (source : List ℕ) (nodes : List Node) (others : List Bracket) (b : Bracket) → Split nodes 0 others b → allowance kinds (inside_of source nodes b) ≤ allowance kinds (items_of source nodes)
-inside-pays kinds source nodes others b w =
+-- the nodes from the number behind a bracket on are its inside
+inside-items : (source : List ℕ) (nodes : List Node) (b : Bracket) (first : ℕ) → first ≡ b.node + 1 → items_of source (drop first nodes) ≡ inside_of source nodes b
+inside-items source nodes b first place =
+    let one : first ≡ suc b.node = omega (arith, place) in
+    ap (λ n. items_of source (drop n nodes)) one
+
+-- what nodes pay for is the same in each source
+
+allowed-alike : (kinds : ℕ) (source other : List ℕ) (node : Node) → allowed kinds (item_of source node) ≡ allowed kinds (item_of other node)
+allowed-alike kinds source other (Piece from to) = refl
+allowed-alike kinds source other (Characters chars) = refl
+allowed-alike kinds source other (nodes.Whole written) = refl
+allowed-alike kinds source other (Finished inline depth true) = refl
+allowed-alike kinds source other (Finished inline depth false) = refl
+allowed-alike kinds source other (Run run) = refl
+allowed-alike kinds source other (Opener image behind) = refl
+
+alike : (kinds : ℕ) (source other : List ℕ) (nodes : List Node) → allowance kinds (items_of source nodes) ≡ allowance kinds (items_of other nodes)
+alike kinds source other [] = refl
+alike kinds source other (node ∷ nodes) = omega (
+  arith,
+  sum_by-cons (allowed kinds) (item_of source node) (items_of source nodes),
+  sum_by-cons (allowed kinds) (item_of other node) (items_of other nodes),
+  allowed-alike kinds source other node,
+  alike kinds source other nodes,
+)
+
+-- the looks for which the inside pays, in whatever source, are among those of all nodes
+pub inside-pays : (kinds : ℕ) (source other : List ℕ) (nodes : List Node) (others : List Bracket) (b : Bracket) (first : ℕ) → Split nodes 0 others b → first ≡ b.node + 1 → allowance kinds (items_of other (drop first nodes)) ≤ allowance kinds (items_of source nodes)
+inside-pays kinds source other nodes others b first w place =
     let opener = Item.Opener b.image (drop b.behind source) in
-    omega (arith, ap (allowance kinds) (items-split source nodes others b w), allowance-both kinds (outside_of source nodes b) (opener ∷ inside_of source nodes b), allowance-both kinds (opener ∷ []) (inside_of source nodes b))
+    omega (
+      arith,
+      alike kinds other source (drop first nodes),
+      ap (allowance kinds) (inside-items source nodes b first place),
+      ap (allowance kinds) (items-split source nodes others b w),
+      allowance-both kinds (outside_of source nodes b) (opener ∷ inside_of source nodes b),
+      allowance-both kinds (opener ∷ []) (inside_of source nodes b),
+    )
+
+-- what the looks at the inside come to, whose emphases are those of its content
+pub inside-looks : (source : List ℕ) (nodes : List Node) (b : Bracket) (first looks later : ℕ) → first ≡ b.node + 1
+    → AreLooks looks (items_of source (drop first nodes)) later (items_emphases (pair_all (items_of source (drop first nodes)))) → AreLooks looks (inside_of source nodes b) later (emphases (emphasis_of (inside_of source nodes b)))
+inside-looks source nodes b first looks later place looked =
+    let inside = inside_of source nodes b in
+    subst (AreLooks looks inside later) (sym (settled-holds (pair_all inside))) (subst (λ t. AreLooks looks t later (items_emphases (pair_all t))) (inside-items source nodes b first place) looked)
+
+-- a link or an image is too deep where what its brackets pair to is
+pub paired-deeper : (source : List ℕ) (nodes : List Node) (b : Bracket) (dest title : List ℕ) (limit first : ℕ) → first ≡ b.node + 1 → limit < items_depth (pair_all (items_of source (drop first nodes))) → limit < items_depth (link_made source nodes b dest title)
+paired-deeper source nodes b dest title limit first place deep =
+    link-deeper source nodes b dest title limit (omega (arith, deep, settled-items (pair_all (inside_of source nodes b)), ap (λ t. items_depth (pair_all t)) (inside-items source nodes b first place)))
 
 pub made-keeps : (source : List ℕ) (nodes more : List Node) (others : List Bracket) (b : Bracket) (dest title : List ℕ) (looks later : ℕ) → Split nodes 0 others b → items_of source more ≡ link_made source nodes b dest title
     → AreLooks looks (inside_of source nodes b) later (emphases (emphasis_of (inside_of source nodes b))) → Keeps looks (items_of source nodes) later (items_of source more)
@@ -467,22 +523,30 @@ pub none-there : {A : Type 0} (xs : List A) → length xs ≡ 0 → xs ≡ []
 none-there [] e = refl
 none-there (x ∷ xs) e = absurd (cc e)
 
--- the nodes behind a bracket, taken off, are its inside
-pub inside-items : (source : List ℕ) (nodes inside : List Node) (b : Bracket) → inside ≡ drop (b.node + 1) nodes → items_of source inside ≡ inside_of source nodes b
-inside-items source nodes inside b e =
-    let one : b.node + 1 ≡ suc b.node = omega arith in
-    ap (items_of source) (e ∙ ap (λ n. drop n nodes) one)
+-- the nodes behind a bracket, once they are paired
 
-pub makes : (source : List ℕ) (nodes left front inside more : List Node) (b : Bracket) (dest title : List ℕ) (inline : Inline) (content : List Inline) (depth : ℕ) (holds : Bool) (links_end : ℕ)
-    → left ≡ take (b.node + 1) nodes → inside ≡ drop (b.node + 1) nodes → front ≡ take b.node left → inline ≡ link_of b.image dest title content → more ≡ front ++ Finished inline (depth + 1) holds ∷ []
-    → content ≡ emphasis_of (items_of source inside) → depth ≡ inlines_depth (emphasis_of (items_of source inside)) → holds ≡ (not b.image || nat_lt b.node links_end) → Made source nodes more b dest title content depth holds links_end
-makes source nodes left front inside more b dest title inline content depth holds links_end left_is inside_is front_is inline_is more_is content_is depth_is holds_is = record {
-  nodes_are = more_is ∙ ap (λ t. t ++ Finished inline (depth + 1) holds ∷ []) (front_is ∙ ap (take b.node) left_is ∙ take-take b.node (b.node + 1) nodes (omega arith))
-      ∙ ap (λ t. take b.node nodes ++ Finished t (depth + 1) holds ∷ []) inline_is;
-  content_is = content_is ∙ ap emphasis_of (inside-items source nodes inside b inside_is);
-  depth_is = depth_is ∙ ap inlines_depth (sym content_is);
-  holds_is = holds_is;
-}
+paired-inside : (source : List ℕ) (nodes paired : List Node) (b : Bracket) (first : ℕ) → first ≡ b.node + 1 → items_of source (drop first paired) ≡ pair_all (items_of source (drop first nodes)) → items_of source (drop (suc b.node) paired) ≡ pair_all (inside_of source nodes b)
+paired-inside source nodes paired b first place pairs = sym (inside-items source paired b first place) ∙ pairs ∙ ap pair_all (inside-items source nodes b first place)
+
+pub paired-depth : (source : List ℕ) (nodes paired : List Node) (b : Bracket) (first : ℕ) → first ≡ b.node + 1 → AreParts source paired → items_of source (drop first paired) ≡ pair_all (items_of source (drop first nodes))
+    → nodes_depth (drop (suc b.node) paired) ≡ inlines_depth (emphasis_of (inside_of source nodes b))
+paired-depth source nodes paired b first place parts pairs =
+    sym (settled-depth source (drop (suc b.node) paired) (parts-drop source (suc b.node) paired parts)) ∙ ap (λ t. inlines_depth (settled t)) (paired-inside source nodes paired b first place pairs)
+
+-- what is made of a bracket and of those nodes
+pub makes : (source : List ℕ) (nodes paired more : List Node) (b : Bracket) (dest title : List ℕ) (kind : Kind) (first depth : ℕ) (holds : Bool) (links_end : ℕ) → first ≡ b.node + 1 → AreParts source paired → take first paired ≡ take first nodes
+    → items_of source (drop first paired) ≡ pair_all (items_of source (drop first nodes)) → depth ≡ nodes_depth (drop (suc b.node) paired) → ((content : List Inline) → made_of kind content ≡ link_of b.image dest title content)
+    → more ≡ take b.node paired ++ (rest_in None ++ Finished (made_by kind (drop (suc b.node) paired)) (depth + 1) holds ∷ []) → holds ≡ (not b.image || nat_lt b.node links_end)
+    → IsLink source nodes more b dest title (made_by kind (drop (suc b.node) paired)) depth holds links_end
+makes source nodes paired more b dest title kind first depth holds links_end place parts front pairs deep kind_is more_is holds_is =
+    let inner = drop (suc b.node) paired in
+    let low : b.node ≤ first = omega (arith, place) in
+    record {
+      nodes_are = more_is ∙ ap (λ t. t ++ Finished (made_by kind inner) (depth + 1) holds ∷ []) (sym (take-take b.node first paired low) ∙ ap (take b.node) front ∙ take-take b.node first nodes low);
+      inline_is = kind_is (settled (items_of source inner)) ∙ ap (λ t. link_of b.image dest title (settled t)) (paired-inside source nodes paired b first place pairs);
+      depth_is = deep ∙ paired-depth source nodes paired b first place parts pairs;
+      holds_is = holds_is;
+    }
 
 -- what a `]` closes, once it is known what follows it
 pub closes : (defined : Defined) (source : List ℕ) (nodes : List Node) (others : List Bracket) (b : Bracket) (links_end at : ℕ) (ends : Ends) (found : Option LinkEnd) → IsRead source at nodes (others ++ b ∷ []) links_end ends

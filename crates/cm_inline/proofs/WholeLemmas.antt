@@ -21,8 +21,8 @@ use Rattle.cm_scan.proofs.PiecesReading.{reading_in_pieces}
 use Rattle.cm_inline.specs.Reading.{Refused}
 use Rattle.cm_inline.specs.declared.fault.InlineFault.{InlineFault}
 use Rattle.cm_inline.specs.declared.fault.InlineFault.TheVariants.{InlinesTooDeep, NoMemory}
-use Rattle.cm_inline.specs.declared.nodes.Node.{Node}
-use Rattle.cm_inline.specs.declared.nodes.Node.TheVariants.{Piece}
+use Rattle.cm_inline.specs.steps.Nodes.{Node}
+use Rattle.cm_inline.specs.steps.Nodes.{Piece}
 use Rattle.cm_inline.specs.steps.Brackets.{closed_at}
 use Rattle.cm_inline.specs.steps.Depths.{items_depth}
 use Rattle.cm_inline.specs.steps.Nodes.{item_of, items_of, text_between}

@@ -1,6 +1,7 @@
 pub mod Brackets
 pub mod Depths
 pub mod Entries
+pub mod Groups
 pub mod Links
 pub mod Missing
 pub mod Nodes

@@ -1,20 +1,21 @@
 //! The atoms of a leaf's source: what begins at a place (CommonMark 0.31.2, chapter 6).
-ghost use Rattle.std.specs.Prelude.{◌≡◌, ◌≢◌, ◌==◌, ◌+◌, ◌<◌, ◌≤◌, ◌&&◌, ◌||◌, not, ℕ, true, false, length, drop, slice_index, nat_le, if◌then◌else◌, IfOk, OnOk, IfSome, IsUtf8};
+ghost use Rattle.std.specs.Prelude.{◌≡◌, ◌≢◌, ◌==◌, ◌+◌, ◌<◌, ◌≤◌, ◌&&◌, ◌||◌, not, ℕ, [], true, false, length, drop, slice_index, nat_le, if◌then◌else◌, IfOk, OnOk, IfSome, IsUtf8};
 ghost use Rattle.std.specs.Str.{IsCharBoundary};
 ghost use Rattle.cm_inline.specs.declared.written.Written.TheVariants.{Soft, Hard};
 ghost use Rattle.cm_scan.specs.RawHtml.{raw_html};
 ghost use Rattle.cm_scan.specs.Scanned.{reading_of, whole_of};
 ghost use Rattle.cm_text.specs.Rules.{Rules};
 ghost use Rattle.cm_inline.specs.steps.Missing.{Knows};
-ghost use Rattle.cm_inline.specs.declared.nodes.Node.TheVariants.{Piece, Opener};
+ghost use Rattle.cm_inline.specs.declared.tokens.Token.TheVariants.{Piece, Opener};
 ghost use Rattle.cm_inline.specs.steps.Reads.{Stands, IsTextTo, IsAtom, is_break_byte};
+ghost use Rattle.cm_inline.specs.steps.Groups.{node_of};
 ghost use Rattle.cm_inline.specs.steps.Runs.{byte_of};
 
 use crate::code::content_between;
 use crate::ends::{Ends, form_at};
 use crate::flanking::run_between;
-use crate::nodes::Node;
 use crate::runs::Marker;
+use crate::tokens::Token;
 use crate::written::Written;
 use cm_scan::{after_run, autolink, code_span, is_next, raw_html_by, trim_end_spaces};
 use cm_text::{Rules, is_ascii_punct, next_markup, reference_at};
@@ -40,13 +41,13 @@ pub(crate) fn atom(
     source: &str,
     at: usize,
     ends: &mut Ends,
-) -> Result<(Node, usize), AllocError>
+) -> Result<(Token, usize), AllocError>
     requires within { at < length source.now }
     requires boundary { IsCharBoundary source.now at }
     requires ascii { slice_index source.now at < 128 }
     requires other { slice_index source.now at ≢ 93 }
     requires knows { Knows source.now ends.old }
-    ensures atom { IfOk result (λ read. IsAtom rules source.now at read.0 read.1) }
+    ensures atom { IfOk result (λ read. IsAtom rules source.now at (node_of [] read.0) read.1) }
     ensures knows { OnOk result (Knows source.now ends.new) }
 {
     let b = source.as_bytes()[at];
@@ -68,18 +69,18 @@ pub(crate) fn atom(
 
 /// The text between two places.
 #[inline(always)]
-fn text(at: usize, end: usize) -> (Node, usize)
+fn text(at: usize, end: usize) -> (Token, usize)
     ensures { result ≡ (Piece at end, end) }
 {
-    (Node::Piece { from: at, to: end }, end)
+    (Token::Piece { from: at, to: end }, end)
 }
 
 /// `[` or `![`, which ends at a place.
 #[inline(always)]
-fn opener(image: bool, behind: usize) -> (Node, usize)
+fn opener(image: bool, behind: usize) -> (Token, usize)
     ensures { result ≡ (Opener image behind, behind) }
 {
-    (Node::Opener { image, behind }, behind)
+    (Token::Opener { image, behind }, behind)
 }
 
 /// A code span, or the whole backtick string as text (6.1 Code spans).
@@ -88,10 +89,10 @@ fn backticks(
     source: &str,
     at: usize,
     ends: &mut Ends,
-) -> Result<(Node, usize), AllocError>
+) -> Result<(Token, usize), AllocError>
     requires stands { Stands source.now at 96 }
     requires knows { Knows source.now ends.old }
-    ensures atom { IfOk result (λ read. (rules : Rules) → IsAtom rules source.now at read.0 read.1) }
+    ensures atom { IfOk result (λ read. (rules : Rules) → IsAtom rules source.now at (node_of [] read.0) read.1) }
     ensures knows { OnOk result (Knows source.now ends.new) }
 {
     let start = after_run(b'`', source, at);
@@ -101,7 +102,7 @@ fn backticks(
     match code_span(source, at) {
         Some((inside, end)) => {
             let (from, to) = content_between(source, start, start + inside.len());
-            Ok((Node::Whole(Written::Code { from, to }), end))
+            Ok((Token::Whole(Written::Code { from, to }), end))
         }
         None => {
             ends.look_for_backticks(alloc, source)?;
@@ -111,10 +112,10 @@ fn backticks(
 }
 
 /// An autolink, raw HTML, or `<` as text (6.5 Autolinks, 6.6 Raw HTML).
-fn angle(rules: Rules, source: &str, at: usize, ends: &mut Ends) -> (Node, usize)
+fn angle(rules: Rules, source: &str, at: usize, ends: &mut Ends) -> (Token, usize)
     requires stands { Stands source.now at 60 }
     requires knows { Knows source.now ends.old }
-    ensures atom { IsAtom rules source.now at result.0 result.1 }
+    ensures atom { IsAtom rules source.now at (node_of [] result.0) result.1 }
     ensures knows { Knows source.now ends.new }
 {
     if let Some((link, end)) = autolink(source, at) {
@@ -123,10 +124,10 @@ fn angle(rules: Rules, source: &str, at: usize, ends: &mut Ends) -> (Node, usize
             to: end - 1,
             is_address: link.is_address,
         };
-        return (Node::Whole(link), end);
+        return (Token::Whole(link), end);
     }
     match raw_html(rules, source, at, ends) {
-        Some((_, end)) => (Node::Whole(Written::Html { from: at, to: end }), end),
+        Some((_, end)) => (Token::Whole(Written::Html { from: at, to: end }), end),
         None => text(at, at + 1),
     }
 }
@@ -159,12 +160,12 @@ fn raw_html<'a>(
 }
 
 /// A hard line break, an escaped character, or a backslash as text (6.7 Hard line breaks, 2.4 Backslash escapes).
-fn backslash(source: &str, at: usize) -> (Node, usize)
+fn backslash(source: &str, at: usize) -> (Token, usize)
     requires { Stands source.now at 92 }
-    ensures { (rules : Rules) → IsAtom rules source.now at result.0 result.1 }
+    ensures { (rules : Rules) → IsAtom rules source.now at (node_of [] result.0) result.1 }
 {
     if is_next(source.as_bytes(), at + 1, b'\n') {
-        return (Node::Whole(Written::Hard), at + 2);
+        return (Token::Whole(Written::Hard), at + 2);
     }
     if at + 1 < source.len() && is_ascii_punct(source.as_bytes()[at + 1] as char) {
         return text(at + 1, at + 2);
@@ -173,26 +174,26 @@ fn backslash(source: &str, at: usize) -> (Node, usize)
 }
 
 /// A reference, or `&` as text (2.5 Entity and numeric character references).
-fn ampersand(source: &str, at: usize) -> (Node, usize)
+fn ampersand(source: &str, at: usize) -> (Token, usize)
     requires { Stands source.now at 38 }
-    ensures { (rules : Rules) → IsAtom rules source.now at result.0 result.1 }
+    ensures { (rules : Rules) → IsAtom rules source.now at (node_of [] result.0) result.1 }
 {
     match reference_at(source, at) {
-        Some((chars, end)) => (Node::Characters(chars), end),
+        Some((chars, end)) => (Token::Characters(chars), end),
         None => text(at, at + 1),
     }
 }
 
 /// A line feed with the spaces before it, or one space as text (6.7 Hard line breaks, 6.8 Soft line breaks).
-fn line_break(source: &str, at: usize) -> (Node, usize)
+fn line_break(source: &str, at: usize) -> (Token, usize)
     requires stands { (b : ℕ) × Stands source.now at b × (is_break_byte b ≡ true) }
-    ensures { (rules : Rules) → IsAtom rules source.now at result.0 result.1 }
+    ensures { (rules : Rules) → IsAtom rules source.now at (node_of [] result.0) result.1 }
 {
     let feed = after_run(b' ', source, at);
     if !is_next(source.as_bytes(), feed, b'\n') {
         return text(at, at + 1);
     }
-    (Node::Whole(break_behind(feed - at)), feed + 1)
+    (Token::Whole(break_behind(feed - at)), feed + 1)
 }
 
 /// The line break behind so many spaces.
@@ -207,9 +208,9 @@ fn break_behind(spaces: usize) -> Written
 }
 
 /// `![`, or `!` as text (6.4 Images).
-fn exclamation_mark(source: &str, at: usize) -> (Node, usize)
+fn exclamation_mark(source: &str, at: usize) -> (Token, usize)
     requires { Stands source.now at 33 }
-    ensures { (rules : Rules) → IsAtom rules source.now at result.0 result.1 }
+    ensures { (rules : Rules) → IsAtom rules source.now at (node_of [] result.0) result.1 }
 {
     if is_next(source.as_bytes(), at + 1, b'[') {
         return opener(true, at + 2);
@@ -225,13 +226,13 @@ fn is_run(rules: Rules, marker: Marker, count: usize) -> bool
 }
 
 /// A delimiter run, or its characters as text (6.2 Emphasis and strong emphasis).
-fn run(rules: Rules, source: &str, marker: Marker, at: usize) -> (Node, usize)
+fn run(rules: Rules, source: &str, marker: Marker, at: usize) -> (Token, usize)
     requires { Stands source.now at (byte_of marker) }
-    ensures { IsAtom rules source.now at result.0 result.1 }
+    ensures { IsAtom rules source.now at (node_of [] result.0) result.1 }
 {
     let end = after_run(marker.byte(), source, at);
     if !is_run(rules, marker, end - at) {
         return text(at, end);
     }
-    (Node::Run(run_between(rules, source, marker, at, end)), end)
+    (Token::Run(run_between(rules, source, marker, at, end)), end)
 }

@@ -1,9 +1,11 @@
 //! Links and images by their brackets (CommonMark 0.31.2, 6.3 Links, 6.4 Images).
-ghost use Rattle.std.specs.Prelude.{◌≡◌, ◌+◌, ◌<◌, ◌≤◌, ◌^◌, ◌++◌, [], ◌∷◌, drop, length, reverse, not, ◌||◌, nat_lt, IfOk, OnOk, IfSome, Err};
+ghost use Rattle.std.specs.Prelude.{◌≡◌, ◌+◌, ◌<◌, ◌≤◌, ◌^◌, ◌++◌, List, [], ◌∷◌, drop, length, reverse, not, ◌||◌, nat_lt, IfOk, OnOk, IfSome, Err};
 ghost use Rattle.std.specs.Str.{IsCharBoundary};
 ghost use Rattle.cm_scan.specs.Brackets.{defined_in};
 ghost use Rattle.cm_scan.specs.Pairing.{bracket_text};
 ghost use Rattle.cm_inline.specs.declared.fault.InlineFault.TheVariants.{InlinesTooDeep};
+ghost use Rattle.cm_tree.specs.declared.tree.Inline.{Inline};
+ghost use Rattle.cm_inline.specs.steps.Groups.{made_of, node_of, nodes_in, IsNoGroup};
 ghost use Rattle.cm_inline.specs.steps.Nodes.{items_of, IsOpener};
 ghost use Rattle.cm_inline.specs.steps.Depths.{items_depth};
 ghost use Rattle.cm_inline.specs.steps.Pairs.{Keeps, allowance};
@@ -14,11 +16,12 @@ ghost use Rattle.cm_inline.specs.steps.Brackets.{IsReadTo, IsReadWith, bracket_i
 use crate::ends::Ends;
 use crate::fault::InlineFault;
 use crate::links::{LinkEnd, link_end};
-use crate::nodes::{Node, push_node};
+use crate::nodes::{Kind, Nodes};
 use crate::openers::Openers;
-use crate::pairing::emphasis_of;
+use crate::pairing::pair_from;
+use crate::tokens::Token;
 use cm_text::NoMemory;
-use cm_tree::{Definitions, Inline, Items};
+use cm_tree::Definitions;
 use std::alloc::{AllocError, Global};
 
 /// A `[` or `![` that nothing was made of yet: the number of its node, and the place behind it.
@@ -29,14 +32,11 @@ pub(crate) struct Bracket {
     pub(crate) behind: usize,
 }
 
-/// Room for the nodes of a short leaf. More are made room for as they come.
-const ROOM: usize = 8;
-
 /// A leaf's source as far as it is read.
 #[derive(Drop)]
 pub(crate) struct Reader {
     /// What was read.
-    pub(crate) nodes: Vec<Node>,
+    pub(crate) nodes: Nodes,
     /// The brackets among the nodes that nothing was made of yet.
     pub(crate) brackets: Vec<Bracket>,
     /// How many nodes there are up to the last one that is a link or holds one. A `[` with such a node behind it
@@ -47,28 +47,39 @@ pub(crate) struct Reader {
 }
 
 impl Reader {
-    /// Nothing was read yet.
-    pub(crate) fn of(alloc: Global, source: &str) -> Result<Reader, AllocError>
-        ensures read { IfOk result (IsReadTo source.now 0) }
-        ensures nodes { IfOk result (λ reader. reader.nodes.items ≡ []) }
-        ensures looks { IfOk result (λ reader. reader.openers.list.looks ≡ 0) }
-    {
-        Ok(Reader {
-            nodes: Vec::with_capacity(alloc, ROOM)?,
+    /// Nothing was read yet. It takes no memory.
+    pub(crate) fn new(alloc: Global) -> Reader {
+        Reader {
+            nodes: Nodes::new(alloc),
             brackets: Vec::new(alloc),
             links_end: 0,
             openers: Openers::new(alloc),
-            ends: Ends::of(source),
-        })
+            ends: Ends::of(""),
+        }
     }
 
-    /// Adds a node that is no link.
-    pub(crate) fn add(&mut self, node: Node) -> Result<(), AllocError>
-        ensures nodes { OnOk result (self.new.nodes.items ≡ self.old.nodes.items ++ node ∷ []) }
-        ensures brackets { OnOk result (self.new.brackets.items ≡ self.old.brackets.items ++ bracket_in (length self.old.nodes.items) node) }
+    /// Lets go of what was read, and begins with another source in the same memory.
+    pub(crate) fn restart(&mut self, source: &str)
+        ensures read { IsReadTo source.now 0 self.new }
+        ensures nodes { nodes_in self.new.nodes ≡ [] }
+        ensures looks { self.new.openers.list.looks ≡ 0 }
+    {
+        self.nodes.clear();
+        self.brackets.clear();
+        self.links_end = 0;
+        self.openers.list.restart();
+        self.ends = Ends::of(source);
+    }
+
+    /// Adds a token that was read.
+    pub(crate) fn add(&mut self, token: Token) -> Result<(), AllocError>
+        requires { IsNoGroup token }
+        ensures nodes { OnOk result (nodes_in self.new.nodes ≡ nodes_in self.old.nodes ++ node_of [] token ∷ []) }
+        ensures brackets { OnOk result (self.new.brackets.items ≡ self.old.brackets.items ++ bracket_in (length (nodes_in self.old.nodes)) (node_of [] token)) }
+        ensures inside { self.new.nodes.inside ≡ self.old.nodes.inside }
         ensures same { (self.new.links_end ≡ self.old.links_end) × (self.new.openers ≡ self.old.openers) × (self.new.ends ≡ self.old.ends) }
     {
-        if let Node::Opener { image, behind } = node {
+        if let Token::Opener { image, behind } = token {
             let node = self.nodes.len();
             self.brackets.push(Bracket {
                 node,
@@ -76,8 +87,7 @@ impl Reader {
                 behind,
             })?;
         }
-        self.nodes.push(node)?;
-        Ok(())
+        self.nodes.push(token)
     }
 
     /// What a `]` at a place makes of the nodes, and where it ends.
@@ -91,21 +101,18 @@ impl Reader {
     ) -> Result<usize, InlineFault>
         requires stands { Stands source.now at 93 }
         requires read { IsReadTo source.now at self.old }
-        requires few { self.old.openers.list.looks + allowance 13 (items_of source.now self.old.nodes.items) < 2 ^ 127 }
+        requires few { self.old.openers.list.looks + allowance 13 (items_of source.now (nodes_in self.old.nodes)) < 2 ^ 127 }
         ensures read { IfOk result (λ end. IsReadTo source.now end self.new) }
         ensures further { IfOk result (λ end. at < end) }
-        ensures keeps { IfOk result (λ end. Keeps self.old.openers.list.looks (items_of source.now self.old.nodes.items) self.new.openers.list.looks (items_of source.now self.new.nodes.items)) }
-        ensures closed { IfOk result (λ end. closed_at (defined_in definitions.now) source.now self.old.nodes.items at ≡ record { items = reverse (items_of source.now self.new.nodes.items); rest = drop end source.now }) }
-        ensures deep { result ≡ Err InlinesTooDeep → limit < items_depth (closed_at (defined_in definitions.now) source.now self.old.nodes.items at).items }
+        ensures keeps { IfOk result (λ end. Keeps self.old.openers.list.looks (items_of source.now (nodes_in self.old.nodes)) self.new.openers.list.looks (items_of source.now (nodes_in self.new.nodes))) }
+        ensures closed { IfOk result (λ end. closed_at (defined_in definitions.now) source.now (nodes_in self.old.nodes) at ≡ record { items = reverse (items_of source.now (nodes_in self.new.nodes)); rest = drop end source.now }) }
+        ensures deep { result ≡ Err InlinesTooDeep → limit < items_depth (closed_at (defined_in definitions.now) source.now (nodes_in self.old.nodes) at).items }
     {
         let Some(bracket) = self.brackets.pop() else {
-            push_node(
-                &mut self.nodes,
-                Node::Piece {
-                    from: at,
-                    to: at + 1,
-                },
-            )?;
+            self.nodes.push(Token::Piece {
+                from: at,
+                to: at + 1,
+            })?;
             return Ok(at + 1);
         };
         match self.end_behind(alloc, source, definitions, bracket, at)? {
@@ -166,25 +173,25 @@ impl Reader {
         end: LinkEnd,
     ) -> Result<(), InlineFault>
         requires read { IsReadWith source.now end.end self.old bracket }
-        requires few { self.old.openers.list.looks + allowance 13 (items_of source.now self.old.nodes.items) < 2 ^ 127 }
+        requires few { self.old.openers.list.looks + allowance 13 (items_of source.now (nodes_in self.old.nodes)) < 2 ^ 127 }
         ensures read { OnOk result (IsReadTo source.now end.end self.new) }
-        ensures keeps { OnOk result (Keeps self.old.openers.list.looks (items_of source.now self.old.nodes.items) self.new.openers.list.looks (items_of source.now self.new.nodes.items)) }
-        ensures items { OnOk result (items_of source.now self.new.nodes.items ≡ link_made source.now self.old.nodes.items bracket end.dest end.title) }
-        ensures deep { result ≡ Err InlinesTooDeep → limit < items_depth (link_made source.now self.old.nodes.items bracket end.dest end.title) }
+        ensures keeps { OnOk result (Keeps self.old.openers.list.looks (items_of source.now (nodes_in self.old.nodes)) self.new.openers.list.looks (items_of source.now (nodes_in self.new.nodes))) }
+        ensures items { OnOk result (items_of source.now (nodes_in self.new.nodes) ≡ link_made source.now (nodes_in self.old.nodes) bracket end.dest end.title) }
+        ensures deep { result ≡ Err InlinesTooDeep → limit < items_depth (link_made source.now (nodes_in self.old.nodes) bracket end.dest end.title) }
     {
         let holds_link = self.holds_link(bracket);
-        let inside = self.nodes.split_off(bracket.node + 1)?;
-        self.nodes.truncate(bracket.node);
-        let (content, depth) = emphasis_of(alloc, source, limit, inside, &mut self.openers)?;
+        // Memory holds fewer nodes than a `usize` counts.
+        let Some(first) = bracket.node.checked_add(1) else {
+            return Err(InlineFault::NoMemory);
+        };
+        pair_from(limit, &mut self.nodes, &mut self.openers, first)?;
+        let depth = self.nodes.depth_behind(bracket.node);
         if depth >= limit {
             return Err(InlineFault::InlinesTooDeep);
         }
-        let made = Node::Finished {
-            inline: link_of(bracket.image, end, content),
-            depth: depth + 1,
-            holds_link,
-        };
-        push_node(&mut self.nodes, made)?;
+        let kind = link_of(bracket.image, end);
+        self.nodes
+            .wrap(bracket.node, None, kind, depth + 1, holds_link)?;
         if holds_link {
             self.links_end = self.nodes.len();
         }
@@ -197,19 +204,17 @@ impl Reader {
         requires read { IsReadWith source.now at self.old bracket }
         ensures read { OnOk result (IsReadTo source.now (at + 1) self.new) }
         ensures same { self.new.openers ≡ self.old.openers }
-        ensures items { OnOk result (items_of source.now self.new.nodes.items ≡ left_as_text source.now self.old.nodes.items bracket) }
+        ensures items { OnOk result (items_of source.now (nodes_in self.new.nodes) ≡ left_as_text source.now (nodes_in self.old.nodes) bracket) }
     {
-        self.nodes[bracket.node] = Node::Piece {
-            from: bracket.behind - width(bracket.image),
-            to: bracket.behind,
-        };
-        push_node(
-            &mut self.nodes,
-            Node::Piece {
-                from: at,
-                to: at + 1,
-            },
-        )
+        self.nodes.put_text(
+            bracket.node,
+            bracket.behind - width(bracket.image),
+            bracket.behind,
+        );
+        self.nodes.push(Token::Piece {
+            from: at,
+            to: at + 1,
+        })
     }
 }
 
@@ -220,21 +225,19 @@ fn width(image: bool) -> usize
     if image { 2 } else { 1 }
 }
 
-/// The link or the image of its content.
-fn link_of(image: bool, end: LinkEnd, content: Items<Inline>) -> Inline
-    ensures { result ≡ link_of image end.dest end.title content }
+/// A link or an image that leads there.
+fn link_of(image: bool, end: LinkEnd) -> Kind
+    ensures { (content : List Inline) → made_of result content ≡ link_of image end.dest end.title content }
 {
     if image {
-        Inline::Image {
+        Kind::Image {
             dest: end.dest,
             title: end.title,
-            content,
         }
     } else {
-        Inline::Link {
+        Kind::Link {
             dest: end.dest,
             title: end.title,
-            content,
         }
     }
 }

@@ -130,6 +130,14 @@ impl DelimiterList {
         self.last = None;
     }
 
+    /// Takes all entries out, and forgets how often a run was read.
+    pub(crate) fn restart(&mut self)
+        ensures { self.new.looks ≡ 0 }
+    {
+        self.clear();
+        self.looks = 0;
+    }
+
     /// How often a run was read.
     pub(crate) fn looks(&self) -> u128
         ensures { result ≡ self.now.looks }

@@ -1,14 +1,17 @@
-//! The HTML of nodes of which nothing more is made, without the inlines that stand in no other.
-ghost use Rattle.std.specs.Prelude.{◌≡◌, ◌++◌, string_bytes, encode_utf8_all, OnOk};
+//! The HTML of nodes of which nothing more is made, from the source.
+ghost use Rattle.std.specs.Prelude.{◌≡◌, ◌++◌, length, string_bytes, encode_utf8_all, OnOk};
 ghost use Rattle.cm_text.specs.References.{chars_of};
 ghost use Rattle.cm_html.specs.Escape.{escape};
-ghost use Rattle.cm_html.specs.Html.{code_span_html, inlines_html};
+ghost use Rattle.cm_html.specs.Html.{code_span_html, inlines_html, spelled};
 ghost use Rattle.cm_scan.specs.CodeSpans.{one_line};
 ghost use Rattle.cm_scan.specs.Pairing.{settled};
 ghost use Rattle.cm_inline.specs.steps.Written.{autolink_html, written_html, IsWithin};
-ghost use Rattle.cm_inline.specs.steps.Nodes.{items_of, node_html, IsPart, AreParts};
+ghost use Rattle.cm_inline.specs.steps.Nodes.{items_of, node_html, nodes_html, AreParts};
+ghost use Rattle.cm_inline.specs.steps.Groups.{end_html, group_made, groups_made, node_of, nodes_of, nodes_in, start_html, AreBelow, AreGroups, ArePlaced, IsBelow, IsGroup, IsPlaced};
 
-use crate::nodes::{Node, opener_text, push_run};
+use crate::nodes::{Group, Kind, Nodes};
+use crate::settling::group_inline;
+use crate::tokens::{Token, opener_text, push_run};
 use crate::written::{Written, destination_of};
 use cm_html::{push_escaped, push_inline, push_link_start};
 use cm_text::{Chars, cut_at};
@@ -92,20 +95,117 @@ fn push_written(
     }
 }
 
-/// Adds the HTML of a node.
-fn push_node(alloc: Global, html: &mut String, source: &str, node: &Node) -> Result<(), AllocError>
-    requires { IsPart source.now node.now }
-    ensures { OnOk result (string_bytes html.new ≡ string_bytes html.old ++ node_html source.now node.now) }
+/// Adds the HTML of a token.
+#[cycle(html)]
+fn push_token(
+    alloc: Global,
+    html: &mut String,
+    source: &str,
+    inside: &[Token],
+    groups: &[Group],
+    token: Token,
+) -> Result<(), AllocError>
+    requires placed { ArePlaced source.now inside.now }
+    requires groups { AreGroups inside.now 0 groups.now }
+    requires below { IsBelow (length groups.now) token }
+    requires token { IsPlaced source.now token }
+    ensures { OnOk result (string_bytes html.new ≡ string_bytes html.old ++ node_html source.now (node_of (groups_made inside.now groups.now) token)) }
 {
-    match node {
-        Node::Piece { from, to } => push_escaped(html, &source[*from..*to]),
-        Node::Characters(chars) => push_chars(html, *chars),
-        Node::Whole(written) => push_written(alloc, html, source, *written),
-        Node::Finished { inline, .. } => push_inline(html, inline),
+    match token {
+        Token::Piece { from, to } => push_escaped(html, &source[from..to]),
+        Token::Characters(chars) => push_chars(html, chars),
+        Token::Whole(written) => push_written(alloc, html, source, written),
+        Token::Made { number, .. } => push_group(
+            alloc,
+            html,
+            source,
+            inside,
+            &groups[..number],
+            &groups[number],
+        ),
         // Of the characters of runs and openers none is escaped.
-        Node::Run(run) => push_run(html, *run),
-        Node::Opener { image, .. } => html.push_str(opener_text(*image)),
+        Token::Run(run) => push_run(html, run),
+        Token::Opener { image, .. } => html.push_str(opener_text(image)),
     }
+}
+
+/// Adds the HTML of tokens, one after another.
+#[cycle(html)]
+fn push_tokens(
+    alloc: Global,
+    html: &mut String,
+    source: &str,
+    inside: &[Token],
+    groups: &[Group],
+    tokens: &[Token],
+) -> Result<(), AllocError>
+    requires placed { ArePlaced source.now inside.now }
+    requires groups { AreGroups inside.now 0 groups.now }
+    requires below { AreBelow (length groups.now) tokens.now }
+    requires tokens { ArePlaced source.now tokens.now }
+    ensures { OnOk result (string_bytes html.new ≡ string_bytes html.old ++ nodes_html source.now (nodes_of (groups_made inside.now groups.now) tokens.now)) }
+{
+    for token in tokens {
+        push_token(alloc, html, source, inside, groups, *token)?;
+    }
+    Ok(())
+}
+
+/// Adds the start tag of emphasis or a link.
+fn push_start(html: &mut String, kind: &Kind) -> Result<(), AllocError>
+    ensures { OnOk result (string_bytes html.new ≡ string_bytes html.old ++ start_html kind.now) }
+{
+    match kind {
+        Kind::Emph => html.push_str("<em>"),
+        Kind::Strong => html.push_str("<strong>"),
+        Kind::Strike => html.push_str("<del>"),
+        Kind::Link { dest, title } => push_link_start(html, dest.as_str(), title.as_str()),
+        Kind::Image { .. } => Ok(()),
+    }
+}
+
+/// The end tag of emphasis or a link.
+fn end_tag(kind: &Kind) -> &'static str
+    ensures { result.now ≡ end_html kind.now }
+{
+    match kind {
+        Kind::Emph => "</em>",
+        Kind::Strong => "</strong>",
+        Kind::Strike => "</del>",
+        Kind::Link { .. } => "</a>",
+        Kind::Image { .. } => "",
+    }
+}
+
+/// Adds the HTML of a group, which holds groups before it.
+#[cycle(html)]
+fn push_group(
+    alloc: Global,
+    html: &mut String,
+    source: &str,
+    inside: &[Token],
+    groups: &[Group],
+    group: &Group,
+) -> Result<(), AllocError>
+    requires placed { ArePlaced source.now inside.now }
+    requires groups { AreGroups inside.now 0 groups.now }
+    requires group { IsGroup inside.now (length groups.now) group.now }
+    ensures { OnOk result (string_bytes html.new ≡ string_bytes html.old ++ (spelled (group_made inside.now (groups_made inside.now groups.now) group.now source.now)).html) }
+{
+    if let Kind::Image { .. } = &group.kind {
+        let image = group_inline(alloc, source, inside, groups, group)?;
+        return push_inline(html, &image);
+    }
+    push_start(html, &group.kind)?;
+    push_tokens(
+        alloc,
+        html,
+        source,
+        inside,
+        groups,
+        &inside[group.from..group.to],
+    )?;
+    html.push_str(end_tag(&group.kind))
 }
 
 /// Adds the HTML of the inlines that come of nodes.
@@ -113,13 +213,18 @@ pub(crate) fn push_nodes(
     alloc: Global,
     html: &mut String,
     source: &str,
-    nodes: &[Node],
+    nodes: &Nodes,
 ) -> Result<(), AllocError>
-    requires { AreParts source.now nodes.now }
-    ensures { OnOk result (string_bytes html.new ≡ string_bytes html.old ++ inlines_html (settled (items_of source.now nodes.now))) }
+    requires parts { AreParts source.now (nodes_in nodes.now) }
+    requires placed { ArePlaced source.now nodes.now.inside }
+    ensures { OnOk result (string_bytes html.new ≡ string_bytes html.old ++ inlines_html (settled (items_of source.now (nodes_in nodes.now)))) }
 {
-    for node in nodes {
-        push_node(alloc, html, source, node)?;
-    }
-    Ok(())
+    push_tokens(
+        alloc,
+        html,
+        source,
+        nodes.inside(),
+        nodes.groups(),
+        nodes.tokens(),
+    )
 }

@@ -17,7 +17,9 @@ mod openers;
 mod pairing;
 mod reading;
 mod runs;
+mod settling;
+mod tokens;
 mod written;
 
 pub use fault::InlineFault;
-pub use reading::{Steps, inlines, inlines_by, inlines_html_by, is_one_text};
+pub use reading::{InlineReader, Steps, inlines, inlines_by, is_one_text};

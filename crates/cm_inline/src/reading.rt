@@ -1,5 +1,5 @@
 //! The inlines of a leaf.
-ghost use Rattle.std.specs.Prelude.{◌≡◌, ◌<◌, ◌&&◌, not, ℕ, [], ◌∷◌, true, length, IfOk, IfErr, IsTrue, Err};
+ghost use Rattle.std.specs.Prelude.{◌≡◌, ◌<◌, ◌&&◌, not, ℕ, [], ◌∷◌, ◌++◌, true, length, IfOk, OnOk, IfErr, IsTrue, Err};
 ghost use Rattle.std.specs.List.{list_any};
 ghost use Rattle.cm_text.specs.Rules.{Rules, profile};
 ghost use Rattle.cm_text.specs.Search.{is_marked};
@@ -13,23 +13,38 @@ ghost use Rattle.cm_tree.specs.Depth.{inlines_depth};
 ghost use Rattle.cm_inline.specs.declared.fault.InlineFault.TheVariants.{InlinesTooDeep};
 ghost use Rattle.cm_inline.specs.Reading.{Read, Reads, ReadsHtml, Refused};
 ghost use Rattle.cm_inline.specs.steps.Brackets.{IsReadTo};
-ghost use Rattle.cm_inline.specs.steps.Nodes.{items_of, AreParts};
+ghost use Rattle.cm_inline.specs.steps.Groups.{nodes_in, ArePlaced};
+ghost use Rattle.cm_inline.specs.steps.Nodes.{items_of, text_between, AreParts};
 ghost use Rattle.cm_inline.specs.steps.Reads.{Pays, ahead};
 
 use crate::atoms::{atom, text_end};
 use crate::brackets::Reader;
 use crate::fault::InlineFault;
 use crate::html::push_nodes;
-use crate::nodes::{Node, depth_of_all, push_text, settle};
-use crate::pairing::pair_all;
+use crate::nodes::Nodes;
+use crate::pairing::pair_from;
+use crate::settling::settle;
+use crate::tokens::Token;
 use cm_text::{Rules, next_markup};
 use cm_tree::{Definitions, Inline, Items};
-use std::alloc::Global;
+use std::alloc::{AllocError, Global};
 
 /// How many openers the pairing of delimiter runs has looked at: one or more for each emphasis, strong emphasis and
 /// strikethrough that it made, and at most 14 for each character of the runs, or 15 with strikethrough on.
 #[derive(Clone, Copy, Debug, PartialEq, Eq)]
 pub struct Steps(pub u128);
+
+/// Adds the source between two places as text, if there is any.
+#[inline(always)]
+fn push_text(nodes: &mut Nodes, from: usize, to: usize) -> Result<(), AllocError>
+    ensures nodes { OnOk result (nodes_in nodes.new ≡ nodes_in nodes.old ++ text_between from to) }
+    ensures inside { nodes.new.inside ≡ nodes.old.inside }
+{
+    if from < to {
+        nodes.push(Token::Piece { from, to })?;
+    }
+    Ok(())
+}
 
 /// Reads the text at a place and what follows it, and answers where that ends.
 fn read_on(
@@ -43,12 +58,12 @@ fn read_on(
 ) -> Result<usize, InlineFault>
     requires read { IsReadTo source.now at reader.old }
     requires within { at < length source.now }
-    requires pays { Pays rules (defined_in definitions.now) source.now reader.old.nodes.items at reader.old.openers.list.looks }
+    requires pays { Pays rules (defined_in definitions.now) source.now (nodes_in reader.old.nodes) at reader.old.openers.list.looks }
     ensures read { IfOk result (λ end. IsReadTo source.now end reader.new) }
     ensures further { IfOk result (λ end. at < end) }
-    ensures pays { IfOk result (λ end. Pays rules (defined_in definitions.now) source.now reader.new.nodes.items end reader.new.openers.list.looks) }
-    ensures ahead { IfOk result (λ end. ahead rules (defined_in definitions.now) source.now reader.new.nodes.items end ≡ ahead rules (defined_in definitions.now) source.now reader.old.nodes.items at) }
-    ensures deep { result ≡ Err InlinesTooDeep → limit < inlines_depth (emphasis_of (ahead rules (defined_in definitions.now) source.now reader.old.nodes.items at)) }
+    ensures pays { IfOk result (λ end. Pays rules (defined_in definitions.now) source.now (nodes_in reader.new.nodes) end reader.new.openers.list.looks) }
+    ensures ahead { IfOk result (λ end. ahead rules (defined_in definitions.now) source.now (nodes_in reader.new.nodes) end ≡ ahead rules (defined_in definitions.now) source.now (nodes_in reader.old.nodes) at) }
+    ensures deep { result ≡ Err InlinesTooDeep → limit < inlines_depth (emphasis_of (ahead rules (defined_in definitions.now) source.now (nodes_in reader.old.nodes) at)) }
 {
     let end = text_end(source, at);
     push_text(&mut reader.nodes, at, end)?;
@@ -58,8 +73,8 @@ fn read_on(
     if source.as_bytes()[end] == b']' {
         return reader.close(alloc, source, definitions, limit, end);
     }
-    let (node, behind) = atom(alloc, rules, source, end, &mut reader.ends)?;
-    reader.add(node)?;
+    let (token, behind) = atom(alloc, rules, source, end, &mut reader.ends)?;
+    reader.add(token)?;
     Ok(behind)
 }
 
@@ -70,18 +85,19 @@ fn read_all(
     source: &str,
     definitions: &Definitions,
     limit: usize,
-) -> Result<Reader, InlineFault>
-    ensures read { IfOk result (λ reader. IsReadTo source.now (length source.now) reader) }
-    ensures pays { IfOk result (λ reader. Pays rules (defined_in definitions.now) source.now reader.nodes.items (length source.now) reader.openers.list.looks) }
-    ensures items { IfOk result (λ reader. in_pieces (items_of source.now reader.nodes.items) ≡ in_pieces (inlines.items_of rules (defined_in definitions.now) source.now)) }
+    reader: &mut Reader,
+) -> Result<(), InlineFault>
+    ensures read { OnOk result (IsReadTo source.now (length source.now) reader.new) }
+    ensures pays { OnOk result (Pays rules (defined_in definitions.now) source.now (nodes_in reader.new.nodes) (length source.now) reader.new.openers.list.looks) }
+    ensures items { OnOk result (in_pieces (items_of source.now (nodes_in reader.new.nodes)) ≡ in_pieces (inlines.items_of rules (defined_in definitions.now) source.now)) }
     ensures deep { result ≡ Err InlinesTooDeep → inlines.nests_past rules (defined_in definitions.now) limit source.now ≡ true }
 {
-    let mut reader = Reader::of(alloc, source)?;
+    reader.restart(source);
     let mut at = 0;
     while at < source.len() {
-        at = read_on(alloc, rules, source, definitions, limit, &mut reader, at)?;
+        at = read_on(alloc, rules, source, definitions, limit, reader, at)?;
     }
-    Ok(reader)
+    Ok(())
 }
 
 /// Whether a source has none of the bytes with which anything but text may begin, and isn't empty: it is its one inline
@@ -100,33 +116,92 @@ fn room(source: &str) -> usize {
     source.len().saturating_add(source.len() / 4)
 }
 
-/// The nodes of a source of which nothing more is made, and how many openers were looked at.
-fn nodes_of(
+/// Reads the nodes of a source, of which nothing more is made then, and answers how many openers were looked at.
+fn read_nodes(
     alloc: Global,
     rules: Rules,
     source: &str,
     definitions: &Definitions,
     limit: usize,
-) -> Result<(Vec<Node>, Steps), InlineFault>
-    ensures parts { IfOk result (λ read. AreParts source.now read.0.items) }
-    ensures read { IfOk result (λ read. Read rules (defined_in definitions.now) limit source.now (settled (items_of source.now read.0.items), read.1)) }
+    reader: &mut Reader,
+) -> Result<Steps, InlineFault>
+    ensures parts { OnOk result (AreParts source.now (nodes_in reader.new.nodes)) }
+    ensures placed { OnOk result (ArePlaced source.now reader.new.nodes.inside) }
+    ensures read { IfOk result (λ steps. Read rules (defined_in definitions.now) limit source.now (settled (items_of source.now (nodes_in reader.new.nodes)), steps)) }
     ensures refused { IfErr result (λ fault. Refused fault rules definitions.now limit source.now) }
 {
-    let mut reader = read_all(alloc, rules, source, definitions, limit)?;
-    let nodes = pair_all(alloc, source, limit, reader.nodes, &mut reader.openers)?;
-    if depth_of_all(&nodes) > limit {
+    read_all(alloc, rules, source, definitions, limit, reader)?;
+    pair_from(limit, &mut reader.nodes, &mut reader.openers, 0)?;
+    if reader.nodes.depth_from(0) > limit {
         return Err(InlineFault::InlinesTooDeep);
     }
-    Ok((nodes, Steps(reader.openers.list.looks())))
+    Ok(Steps(reader.openers.list.looks()))
 }
 
-/// The inlines of a leaf with this source, whose lines are parted by line feeds, in a document with these
-/// definitions, and how many openers were looked at (CommonMark 0.31.2, chapter 6).
+/// Reads the inlines of leaves, one after another, in the same memory, and takes more of it where a leaf needs more.
+#[derive(Drop)]
+pub struct InlineReader {
+    alloc: Global,
+    reader: Reader,
+}
+
+impl InlineReader {
+    /// No leaf was read yet. It takes no memory.
+    pub fn new(alloc: Global) -> InlineReader {
+        InlineReader {
+            alloc,
+            reader: Reader::new(alloc),
+        }
+    }
+
+    /// The inlines of a leaf with this source, whose lines are parted by line feeds, in a document with these
+    /// definitions, by these rules, and how many openers were looked at (CommonMark 0.31.2, chapter 6).
+    ///
+    /// # Errors
+    ///
+    /// `InlinesTooDeep` where the inlines nest deeper than the limit, `NoMemory` where a request for memory was
+    /// refused. The next leaf is read all the same.
+    pub fn inlines(
+        &mut self,
+        rules: Rules,
+        source: &str,
+        definitions: &Definitions,
+        limit: usize,
+    ) -> Result<(Items<Inline>, Steps), InlineFault>
+        ensures { Reads result rules definitions.now limit source.now }
+    {
+        let alloc = self.alloc;
+        let steps = read_nodes(alloc, rules, source, definitions, limit, &mut self.reader)?;
+        Ok((settle(alloc, source, &self.reader.nodes)?, steps))
+    }
+
+    /// The HTML of these inlines. It takes less time and memory than they do, since a text is written from the source.
+    ///
+    /// # Errors
+    ///
+    /// As `inlines`.
+    pub fn html(
+        &mut self,
+        rules: Rules,
+        source: &str,
+        definitions: &Definitions,
+        limit: usize,
+    ) -> Result<String, InlineFault>
+        ensures { ReadsHtml result rules definitions.now limit source.now }
+    {
+        let alloc = self.alloc;
+        read_nodes(alloc, rules, source, definitions, limit, &mut self.reader)?;
+        let mut html = String::with_capacity(alloc, room(source))?;
+        push_nodes(alloc, &mut html, source, &self.reader.nodes)?;
+        Ok(html)
+    }
+}
+
+/// The inlines of one leaf by the rules of the standard.
 ///
 /// # Errors
 ///
-/// `InlinesTooDeep` where the inlines nest deeper than the limit, `NoMemory` where a request for memory was
-/// refused.
+/// As `InlineReader::inlines`.
 pub fn inlines(
     alloc: Global,
     source: &str,
@@ -148,27 +223,5 @@ pub fn inlines_by(
 ) -> Result<(Items<Inline>, Steps), InlineFault>
     ensures { Reads result rules definitions.now limit source.now }
 {
-    let (nodes, steps) = nodes_of(alloc, rules, source, definitions, limit)?;
-    Ok((settle(alloc, source, nodes)?, steps))
-}
-
-/// The HTML of these inlines. It takes less time and memory than they do, since a text that stands in no other inline is
-/// written from the source.
-///
-/// # Errors
-///
-/// As `inlines`.
-pub fn inlines_html_by(
-    alloc: Global,
-    rules: Rules,
-    source: &str,
-    definitions: &Definitions,
-    limit: usize,
-) -> Result<String, InlineFault>
-    ensures { ReadsHtml result rules definitions.now limit source.now }
-{
-    let (nodes, _) = nodes_of(alloc, rules, source, definitions, limit)?;
-    let mut html = String::with_capacity(alloc, room(source))?;
-    push_nodes(alloc, &mut html, source, &nodes)?;
-    Ok(html)
+    InlineReader::new(alloc).inlines(rules, source, definitions, limit)
 }

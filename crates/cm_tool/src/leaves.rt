@@ -16,7 +16,7 @@ ghost use Rattle.cm_tool.specs.steps.Numbering.{Passes, TellsLeaf};
 use crate::fault::Fault;
 use crate::pages::{add_page, new_page, turn_page};
 use cm_html::push_block;
-use cm_inline::{InlineFault, inlines_by, inlines_html_by, is_one_text};
+use cm_inline::{InlineFault, InlineReader, is_one_text};
 use cm_text::Limits;
 use cm_tree::{Block, Definitions, Inline, Items, Text, inline_depth};
 use std::alloc::Global;
@@ -37,6 +37,7 @@ fn read_content(
     limits: Limits,
     definitions: &Definitions,
     form: Form,
+    reader: &mut InlineReader,
     content: &mut Items<Inline>,
 ) -> Result<(), InlineFault>
     ensures read { OnOk result (content.new ≡ content_made form limits.rules (defined_in definitions.now) content.old) }
@@ -57,11 +58,11 @@ fn read_content(
     }
     match form {
         Form::Tree => {
-            let (inlines, _) = inlines_by(alloc, rules, source.as_str(), definitions, limit)?;
+            let (inlines, _) = reader.inlines(rules, source.as_str(), definitions, limit)?;
             *content = inlines;
         }
         Form::Html => {
-            let html = inlines_html_by(alloc, rules, source.as_str(), definitions, limit)?;
+            let html = reader.html(rules, source.as_str(), definitions, limit)?;
             put_html(alloc, content, html);
         }
     }
@@ -96,6 +97,7 @@ fn read_leaf(
     limits: Limits,
     definitions: &Definitions,
     form: Form,
+    reader: &mut InlineReader,
     next: &mut usize,
     content: &mut Items<Inline>,
 ) -> Result<(), Fault>
@@ -106,7 +108,7 @@ fn read_leaf(
         (inlines_depth (content_read limits.rules (defined_in definitions.now) content.old) ∷ [])) }
 {
     let leaf = count_leaf(next)?;
-    match read_content(alloc, limits, definitions, form, content) {
+    match read_content(alloc, limits, definitions, form, reader, content) {
         Ok(()) => Ok(()),
         Err(InlineFault::InlinesTooDeep) => Err(Fault::InlinesTooDeep { leaf }),
         Err(InlineFault::NoMemory) => Err(Fault::NoMemory),
@@ -120,6 +122,7 @@ fn with_inlines(
     limits: Limits,
     definitions: &Definitions,
     form: Form,
+    reader: &mut InlineReader,
     next: &mut usize,
     blocks: Items<Block>,
 ) -> Result<Items<Block>, Fault>
@@ -131,7 +134,7 @@ fn with_inlines(
 {
     let mut blocks = blocks.into_vec();
     for block in blocks.iter_mut() {
-        read_block(alloc, limits, definitions, form, next, block)?;
+        read_block(alloc, limits, definitions, form, reader, next, block)?;
     }
     Ok(Items::from(blocks))
 }
@@ -143,6 +146,7 @@ pub(crate) fn read_block(
     limits: Limits,
     definitions: &Definitions,
     form: Form,
+    reader: &mut InlineReader,
     next: &mut usize,
     block: &mut Block,
 ) -> Result<(), Fault>
@@ -153,18 +157,27 @@ pub(crate) fn read_block(
         (depths_in (block_read limits.rules (defined_in definitions.now) block.old))) }
 {
     match block {
-        Block::Paragraph(content) => read_leaf(alloc, limits, definitions, form, next, content),
+        Block::Paragraph(content) => read_leaf(
+            alloc,
+            limits,
+            definitions,
+            form,
+            reader,
+            next,
+            content,
+        ),
         Block::Heading { content, .. } => read_leaf(
             alloc,
             limits,
             definitions,
             form,
+            reader,
             next,
             content,
         ),
         Block::Quote(blocks) => {
             let inside = mem::replace(blocks, Items::new(alloc));
-            *blocks = with_inlines(alloc, limits, definitions, form, next, inside)?;
+            *blocks = with_inlines(alloc, limits, definitions, form, reader, next, inside)?;
             Ok(())
         }
         Block::List { kind, tight, items } => {
@@ -172,7 +185,7 @@ pub(crate) fn read_block(
             let mut read = mem::replace(items, Items::new(alloc)).into_vec();
             for item in read.iter_mut() {
                 let inside = mem::replace(item, Items::new(alloc));
-                *item = with_inlines(alloc, limits, definitions, form, next, inside)?;
+                *item = with_inlines(alloc, limits, definitions, form, reader, next, inside)?;
             }
             let items = Items::from(read);
             *block = Block::List { kind, tight, items };
@@ -203,7 +216,16 @@ pub(crate) fn read_leaves(
         (first_leaf_past limits.inlines (with_inlines limits.rules (defined_in definitions.now) blocks)))) }
 {
     let mut next = 1;
-    with_inlines(alloc, limits, definitions, Form::Tree, &mut next, blocks)
+    let mut reader = InlineReader::new(alloc);
+    with_inlines(
+        alloc,
+        limits,
+        definitions,
+        Form::Tree,
+        &mut reader,
+        &mut next,
+        blocks,
+    )
 }
 
 /// Reads the inlines of the next leaves, those of a block, and adds its HTML.
@@ -211,6 +233,7 @@ fn push_read(
     alloc: Global,
     limits: Limits,
     definitions: &Definitions,
+    reader: &mut InlineReader,
     next: &mut usize,
     html: &mut String,
     mut block: Block,
@@ -220,7 +243,15 @@ fn push_read(
     ensures told { IfErr result (λ fault. TellsLeaf fault limits.inlines next.old
         (depths_in (block_read limits.rules (defined_in definitions.now) block))) }
 {
-    read_block(alloc, limits, definitions, Form::Html, next, &mut block)?;
+    read_block(
+        alloc,
+        limits,
+        definitions,
+        Form::Html,
+        reader,
+        next,
+        &mut block,
+    )?;
     push_block(html, &block)?;
     Ok(())
 }
@@ -244,9 +275,18 @@ pub(crate) fn leaves_html(
 {
     let mut pages = Items::new(alloc);
     let mut page = new_page(alloc)?;
+    let mut reader = InlineReader::new(alloc);
     let mut next = 1;
     for block in blocks.into_vec() {
-        push_read(alloc, limits, definitions, &mut next, &mut page, block)?;
+        push_read(
+            alloc,
+            limits,
+            definitions,
+            &mut reader,
+            &mut next,
+            &mut page,
+            block,
+        )?;
         turn_page(alloc, &mut pages, &mut page)?;
     }
     add_page(&mut pages, page)?;

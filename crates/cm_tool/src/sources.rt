@@ -13,6 +13,7 @@ ghost use Rattle.cm_tool.specs.steps.Sources.{HasTaken, Spelled};
 
 use crate::fault::Fault;
 use crate::leaves::{Form, read_block};
+use cm_inline::InlineReader;
 use cm_source::{SourceFault, Speller, Why, block_without_definitions};
 use cm_text::{Limits, NoMemory, Rules};
 use cm_tree::{Block, Definitions, Items};
@@ -83,6 +84,7 @@ fn push_spelled(
     alloc: Global,
     limits: Limits,
     definitions: &Definitions,
+    reader: &mut InlineReader,
     next: &mut usize,
     source: &mut PlainSource,
     mut block: Block,
@@ -93,7 +95,15 @@ fn push_spelled(
     ensures told { IfErr result (λ fault. TellsLeaf fault limits.inlines next.old
         (depths_in (block_read limits.rules (defined_in definitions.now) block))) }
 {
-    read_block(alloc, limits, definitions, Form::Tree, next, &mut block)?;
+    read_block(
+        alloc,
+        limits,
+        definitions,
+        Form::Tree,
+        reader,
+        next,
+        &mut block,
+    )?;
     source.push_cleared(alloc, block)?;
     Ok(())
 }
@@ -117,9 +127,18 @@ pub(crate) fn leaves_source(
         (first_leaf_past limits.inlines (with_inlines limits.rules (defined_in definitions.now) blocks)))) }
 {
     let mut source = PlainSource::new(alloc, limits.rules());
+    let mut reader = InlineReader::new(alloc);
     let mut next = 1;
     for block in blocks.into_vec() {
-        push_spelled(alloc, limits, definitions, &mut next, &mut source, block)?;
+        push_spelled(
+            alloc,
+            limits,
+            definitions,
+            &mut reader,
+            &mut next,
+            &mut source,
+            block,
+        )?;
     }
     Ok(source.finish())
 }

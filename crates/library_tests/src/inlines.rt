@@ -1,6 +1,6 @@
 //! The inlines of a leaf, by a call.
 
-use cm_inline::{InlineFault, Steps, inlines, inlines_by, is_one_text};
+use cm_inline::{InlineFault, InlineReader, Steps, inlines, inlines_by, is_one_text};
 use cm_text::Rules;
 use cm_tree::{Definitions, Inline, Text};
 use std::alloc::Global;
@@ -33,6 +33,18 @@ fn inlines_of_a_leaf(rt: HostRuntime) -> Result<(), Fail> {
     assert!(rt; is_one_text("a b"));
     assert!(rt; !is_one_text("a\nb"));
     assert!(rt; !is_one_text(""));
+    let mut reader = InlineReader::new(alloc);
+    let html = reader
+        .html(Rules::profile(), "*a* [b", &table, 1)
+        .ok()
+        .ok_or("html")?;
+    assert_eq!(rt; html.as_str(), "<em>a</em> [b");
+    // Nothing of the leaf before is left.
+    let (read, _) = reader
+        .inlines(Rules::profile(), "b](c)", &table, 1)
+        .ok()
+        .ok_or("inlines")?;
+    assert_eq!(rt; read.get(0), Some(&Inline::Text(Text::from_str(alloc, "b](c)")?)));
     let (looks, _) = looked_at(alloc, "*a*", 1)?;
     assert!(rt; (1..=28).contains(&looks));
     let (looks, count) = looked_at(alloc, "a_ b_", 1)?;

@@ -9,8 +9,9 @@ use Rattle.cm_scan.specs.Brackets.{Defined, LinkEnd, Bracketed, holds_link, made
 use Rattle.cm_inline.specs.declared.brackets.Bracket.{Bracket}
 use Rattle.cm_inline.specs.declared.brackets.Reader.{Reader}
 use Rattle.cm_inline.specs.declared.ends.Ends.{Ends}
-use Rattle.cm_inline.specs.declared.nodes.Node.{Node}
-use Rattle.cm_inline.specs.declared.nodes.Node.TheVariants.{Piece, Characters, Whole, Finished, Run, Opener}
+use Rattle.cm_inline.specs.steps.Nodes.{Node}
+use Rattle.cm_inline.specs.steps.Nodes.{Piece, Characters, Whole, Finished, Run, Opener}
+use Rattle.cm_inline.specs.steps.Groups.{nodes_in, ArePlaced}
 use Rattle.cm_inline.specs.steps.Missing.{Knows}
 use Rattle.cm_inline.specs.steps.Nodes.{items_of, AreParts}
 
@@ -49,11 +50,11 @@ pub record IsRead (source : List ℕ) (at : ℕ) (nodes : List Node) (brackets :
   pub boundary : IsCharBoundary source at
 
 abbrev pub IsReadTo : List ℕ → ℕ → Reader → Type 0
-IsReadTo source at reader = IsRead source at reader.nodes.items reader.brackets.items reader.links_end reader.ends
+IsReadTo source at reader = IsRead source at (nodes_in reader.nodes) reader.brackets.items reader.links_end reader.ends × ArePlaced source reader.nodes.inside
 
 -- the same with one bracket more, which a `]` closes
 abbrev pub IsReadWith : List ℕ → ℕ → Reader → Bracket → Type 0
-IsReadWith source at reader bracket = IsRead source at reader.nodes.items (reader.brackets.items ++ bracket ∷ []) reader.links_end reader.ends
+IsReadWith source at reader bracket = IsRead source at (nodes_in reader.nodes) (reader.brackets.items ++ bracket ∷ []) reader.links_end reader.ends × ArePlaced source reader.nodes.inside
 
 -- what a `]` at a place makes of the nodes, and what it leaves of the source
 abbrev pub closed_at : Defined → List ℕ → List Node → ℕ → Bracketed

@@ -1,26 +1,37 @@
--- The list of nodes into which a source is read.
+-- The nodes into which a source is read, with what they come to.
 use Rattle.std.specs.Prelude.{◌≡◌, ℕ, ◌+◌, ◌≤◌, nat_lt, if◌then◌else◌, Bool, true, false, List, [], ◌∷◌, ◌++◌, length, drop, map, replicate, flat_map, encode_utf8_all, Option, Some, None, ⊤}
 use Rattle.std.specs.List.{slice_range}
 use Rattle.std.specs.Str.{IsCharBoundary}
 use Rattle.cm_text.specs.References.{chars_of}
+use Rattle.cm_text.specs.declared.references.Chars.{Chars}
 use Rattle.cm_tree.specs.declared.tree.Inline.{Inline}
 use Rattle.cm_tree.specs.Depth.{depth_of, greatest}
 use Rattle.cm_html.specs.Escape.{escape}
 use Rattle.cm_html.specs.Html.{spelled}
 use Rattle.cm_scan.specs.Pairing as items
 use Rattle.cm_inline.specs.declared.runs.DelimiterRun.{DelimiterRun}
-use Rattle.cm_inline.specs.declared.nodes.Node.{Node}
-use Rattle.cm_inline.specs.declared.nodes.Node.TheVariants.{Piece, Characters, Whole, Finished, Run, Opener}
+use Rattle.cm_inline.specs.declared.written.Written.{Written}
 use Rattle.cm_inline.specs.steps.Runs.{byte_of, run_of}
 use Rattle.cm_inline.specs.steps.Written.{inline_in, written_depth, written_html, IsWithin}
+
+-- The source between two places as text; the characters for which a reference stands; an inline that stands by itself in the source;
+-- an inline that was made of nodes, as it comes of a source, how deep it nests, and whether it is a link that a `]` made, or an image
+-- that holds one; what is left of a delimiter run; and `[` or `![`, and the place behind it.
+pub data Node : Type 0 where
+  Piece : (from to : ℕ) → Node
+  Characters : Chars → Node
+  Whole : Written → Node
+  Finished : (inline : List ℕ → Inline) → (depth : ℕ) → (holds_link : Bool) → Node
+  Run : DelimiterRun → Node
+  Opener : (image : Bool) → (behind : ℕ) → Node
 
 -- a node of a source as an item
 abbrev pub item_of : List ℕ → Node → items.Item
 item_of source (Piece from to) = items.Characters (slice_range source from to)
 item_of source (Characters chars) = items.Characters (encode_utf8_all (chars_of chars))
 item_of source (Whole written) = items.Finished (inline_in source written)
-item_of source (Finished inline depth false) = items.Finished inline
-item_of source (Finished inline depth true) = items.Linked inline
+item_of source (Finished inline depth false) = items.Finished (inline source)
+item_of source (Finished inline depth true) = items.Linked (inline source)
 item_of source (Run run) = items.Delimiters (run_of run)
 item_of source (Opener image behind) = items.Opener image (drop behind source)
 
@@ -41,7 +52,7 @@ abbrev pub inline_of : List ℕ → Node → List Inline
 inline_of source (Piece from to) = []
 inline_of source (Characters chars) = []
 inline_of source (Whole written) = inline_in source written ∷ []
-inline_of source (Finished inline depth holds_link) = inline ∷ []
+inline_of source (Finished inline depth holds_link) = inline source ∷ []
 inline_of source (Run run) = []
 inline_of source (Opener image behind) = []
 
@@ -89,7 +100,7 @@ abbrev pub node_html : List ℕ → Node → List ℕ
 node_html source (Piece from to) = escape (slice_range source from to)
 node_html source (Characters chars) = escape (encode_utf8_all (chars_of chars))
 node_html source (Whole written) = written_html source written
-node_html source (Finished inline depth holds_link) = (spelled inline).html
+node_html source (Finished inline depth holds_link) = (spelled (inline source)).html
 node_html source (Run run) = replicate run.left (byte_of run.marker)
 node_html source (Opener image behind) = items.bracket_text image
 
@@ -119,7 +130,7 @@ abbrev pub IsPart : List ℕ → Node → Type 0
 IsPart source (Piece from to) = (from ≤ to) × IsCharBoundary source from × IsCharBoundary source to
 IsPart source (Characters chars) = ⊤
 IsPart source (Whole written) = IsWithin source written
-IsPart source (Finished inline depth holds_link) = depth_of inline ≡ depth
+IsPart source (Finished inline depth holds_link) = depth_of (inline source) ≡ depth
 IsPart source (Run run) = ⊤
 IsPart source (Opener image behind) = IsOpener source image behind
 

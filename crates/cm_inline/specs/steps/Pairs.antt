@@ -1,12 +1,15 @@
 -- Pairs of delimiter runs among the nodes of a source, made in one pass, and the looks that they take.
-use Rattle.std.specs.Prelude.{◌≡◌, ℕ, ◌+◌, ◌<◌, ◌≤◌, List, [], ◌∷◌, map, reverse, sum_by, ⊤}
+use Rattle.std.specs.Prelude.{◌≡◌, ℕ, ◌+◌, ◌<◌, ◌≤◌, suc, List, [], ◌∷◌, length, take, drop, map, reverse, sum_by, ⊤}
 use Rattle.cm_scan.specs.Delimiters.{Run}
-use Rattle.cm_scan.specs.Pairing.{Item, Finished, Linked, Delimiters}
+use Rattle.cm_scan.specs.Pairing.{Item, Finished, Linked, Delimiters, Opened}
 use Rattle.cm_scan.specs.OnePass.{passed}
 use Rattle.cm_inline.specs.Emphases.{sum, emphases_of}
-use Rattle.cm_inline.specs.declared.nodes.Node.{Node}
+use Rattle.cm_inline.specs.steps.Nodes.{Node}
 use Rattle.cm_inline.specs.steps.Entries.{Listed}
-use Rattle.cm_inline.specs.steps.Nodes.{items_of}
+use Rattle.cm_inline.specs.declared.delimiters.Delimiter.{Delimiter}
+use Rattle.cm_inline.specs.steps.Groups.{Held, nodes_in, ArePlaced}
+use Rattle.cm_inline.specs.steps.Nodes.{items_of, AreParts}
+use Rattle.cm_inline.specs.steps.Runs.{run_of}
 use Rattle.cm_inline.specs.steps.Openers.{Ready, spent}
 use Rattle.cm_inline.specs.steps.Searching.{kind}
 
@@ -36,6 +39,17 @@ item_emphases _ = 0
 
 abbrev pub items_emphases : List Item → ℕ
 items_emphases items = sum (map item_emphases items)
+
+-- what stands before an opener among the nodes, it, and what stands behind it
+abbrev pub opened_at : List ℕ → List Node → Delimiter → Opened
+opened_at source nodes opener = record { before = items_of source (take opener.item nodes); opener = run_of opener.run; inside = items_of source (drop (suc opener.item) nodes) }
+
+-- The nodes before a number stay, and what are parts of a source stay such.
+pub record Stays (from : ℕ) (old new : Held) : Type 0 where
+  pub front : take from (nodes_in new) ≡ take from (nodes_in old)
+  pub long : from ≤ length (nodes_in new)
+  pub parts : (source : List ℕ) → AreParts source (nodes_in old) → AreParts source (nodes_in new)
+  pub placed : (source : List ℕ) → AreParts source (nodes_in old) → ArePlaced source old.inside → ArePlaced source new.inside
 
 -- A run is added behind nodes, and makes all its pairs first: the list stands for the openers among the nodes again, the run pays for
 -- the looks, and each emphasis that is made takes one.

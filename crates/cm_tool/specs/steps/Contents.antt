@@ -1,5 +1,5 @@
 -- What the content of a leaf, which is its source in an outline, becomes.
-use Rattle.std.specs.Prelude.{ℕ, ◌&&◌, not, if◌then◌else◌, List, [], ◌∷◌, map}
+use Rattle.std.specs.Prelude.{◌&&◌, not, if◌then◌else◌, List, [], ◌∷◌, map}
 use Rattle.std.specs.List.{list_any}
 use Rattle.cm_text.specs.Rules.{Rules}
 use Rattle.cm_text.specs.Search.{is_marked}

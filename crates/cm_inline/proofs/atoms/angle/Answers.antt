@@ -1,12 +1,12 @@
-use Rattle.std.proofs.Common.{◌+◌, ◌-◌, ◌≤◌, false, [], refl, sym, subst, drop, ◌∙◌, arith}
+use Rattle.std.proofs.Common.{◌+◌, ◌-◌, ◌≤◌, [], refl, sym, subst, drop, ◌∙◌, arith}
 use Rattle.cm_scan.specs.Atoms.{link_of}
 use Rattle.cm_scan.specs.Scanned.{autolink_with}
-use Rattle.cm_inline.specs.declared.nodes.Node.TheVariants.{Piece, Finished}
+use Rattle.cm_inline.specs.declared.tokens.Token.TheVariants.{Piece}
 use Rattle.cm_inline.specs.declared.written.Written.TheVariants.{Html, Autolink}
 use Rattle.cm_tree.specs.declared.tree.Inline.TheVariants as inlines
 use Rattle.cm_inline.specs.steps.Reads.{IsAtom}
 use Rattle.cm_inline.proofs.AtomLemmas.{told, link-is, html-is, angle-is-text}
-use Rattle.cm_inline.proofs.WrittenLemmas.{whole-is, link-placed, link-further, whole-placed, whole-text}
+use Rattle.cm_inline.proofs.WrittenLemmas.{finished, whole-is, link-placed, link-further, whole-placed, whole-text}
 use Rattle.cm_inline.proofs.atoms.angle.Goals as goal
 
 pub returns-in-Some-clause-atom : goal.returns-in-Some-clause-atom
@@ -17,7 +17,7 @@ returns-in-Some-clause-atom c =
     let link = autolink_with c.in-Some.link.is_address c.in-Some.link.text.now (drop end source) in
     let placed = link-placed source at end link c.utf8.source c.requires.stands.within c.in-Some.ensures.boundary.0 c.in-Some.ensures.read refl in
     whole-is c.args.rules source at (Autolink (at + 1) (end - 1) c.in-Some.link.is_address) 1 end placed.1
-    (subst (λ text. IsAtom c.args.rules source at (Finished (link_of (autolink_with c.in-Some.link.is_address text [])) 1 false) end) (sym placed.0)
+    (subst (λ text. IsAtom c.args.rules source at (finished (link_of (autolink_with c.in-Some.link.is_address text [])) 1) end) (sym placed.0)
     (link-is c.args.rules source at link end c.requires.stands c.in-Some.ensures.read refl c.in-Some.ensures.boundary))
 
 pub overflow_sub-link : goal.overflow_sub-link
@@ -35,7 +35,7 @@ returns-in-Some-raw_html-clause-atom c =
     let low : at ≤ end = omega (arith, is.further) in
     let text = whole-text (drop at source) _ (drop end source) _ c.in-Some-raw_html.ensures.read ∙ whole-placed source at end low is.within in
     whole-is c.args.rules source at (Html at end) 0 end (low, c.requires.stands.boundary, is.boundary)
-    (subst (λ html. IsAtom c.args.rules source at (Finished (inlines.Html html) 0 false) end) text is)
+    (subst (λ html. IsAtom c.args.rules source at (finished (inlines.Html html) 0) end) text is)
 
 pub returns-in-None-clause-atom : goal.returns-in-None-clause-atom
 returns-in-None-clause-atom c =

@@ -1,5 +1,5 @@
 use Rattle.std.proofs.Common.{false, ◌≡◌, ◌+◌, ◌<◌, get_or, sym, ap, ◌∙◌, arith}
-use Rattle.cm_inline.specs.declared.nodes.Node.TheVariants.{Piece, Opener}
+use Rattle.cm_inline.specs.declared.tokens.Token.TheVariants.{Piece, Opener}
 use Rattle.cm_inline.specs.steps.Reads.{Stands}
 use Rattle.cm_inline.proofs.AtomLemmas.{told, opener-is, lone-is, lone-byte}
 use Rattle.cm_inline.proofs.atoms.atom.Goals as goal

@@ -1,6 +1,6 @@
 use Rattle.std.proofs.Common.{◌≡◌, ℕ, ◌+◌, ◌<◌, true, get_or, refl, sym, ap, ◌∙◌, arith}
 use Rattle.cm_text.specs.Characters.{is_ascii_punct}
-use Rattle.cm_inline.specs.declared.nodes.Node.TheVariants.{Piece}
+use Rattle.cm_inline.specs.declared.tokens.Token.TheVariants.{Piece}
 use Rattle.cm_inline.proofs.AtomLemmas.{told, hard-is, escape-is, backslash-is-text}
 use Rattle.cm_inline.specs.declared.written.Written.TheVariants.{Hard}
 use Rattle.cm_inline.proofs.WrittenLemmas.{whole-is}

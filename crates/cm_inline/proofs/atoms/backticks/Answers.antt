@@ -1,11 +1,11 @@
-use Rattle.std.proofs.Common.{◌≡◌, ◌+◌, ◌-◌, None, sym, subst, drop, arith, false, ap, ◌∙◌}
+use Rattle.std.proofs.Common.{◌≡◌, ◌+◌, ◌-◌, None, sym, subst, drop, arith, ap, ◌∙◌}
 use Rattle.cm_tree.specs.declared.tree.Inline.TheVariants as inlines
 use Rattle.cm_scan.specs.CodeSpans.{one_line, stripped}
 use Rattle.cm_inline.specs.declared.written.Written.TheVariants.{Code}
-use Rattle.cm_inline.proofs.WrittenLemmas.{whole-is, span-placed}
+use Rattle.cm_inline.proofs.WrittenLemmas.{finished, whole-is, span-placed}
 use Rattle.cm_scan.specs.Words.{run_length}
 use Rattle.cm_scan.proofs.RunLemmas.{span-content}
-use Rattle.cm_inline.specs.declared.nodes.Node.TheVariants.{Piece, Finished}
+use Rattle.cm_inline.specs.declared.tokens.Token.TheVariants.{Piece}
 use Rattle.cm_inline.specs.steps.Reads.{IsAtom}
 use Rattle.cm_inline.proofs.AtomLemmas.{told, code-span-is, backticks-are}
 use Rattle.cm_inline.proofs.EndsLemmas.{no-code-span}
@@ -40,7 +40,7 @@ returns-in-Some-clause-atom c =
     let between = c.content_between-from.ensures in
     let text = between.stripped ∙ ap (λ t. stripped (one_line t)) placed.is in
     λ rules. whole-is rules source at (Code c.content_between-from.result.0 c.content_between-from.result.1) 0 end between.between
-    (subst (λ content. IsAtom rules source at (Finished (inlines.Code content) 0 false) end) (sym text)
+    (subst (λ content. IsAtom rules source at (finished (inlines.Code content) 0) end) (sym text)
     (code-span-is rules source at inside end c.requires.stands c.in-Some.ensures.content c.in-Some.ensures.boundary))
 
 pub returns-in_ok-look_for_backticks-in-None-clause-atom : goal.returns-in_ok-look_for_backticks-in-None-clause-atom

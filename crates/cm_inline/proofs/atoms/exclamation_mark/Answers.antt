@@ -1,5 +1,5 @@
 use Rattle.std.proofs.Common.{◌+◌, true, sym, ◌∙◌}
-use Rattle.cm_inline.specs.declared.nodes.Node.TheVariants.{Piece, Opener}
+use Rattle.cm_inline.specs.declared.tokens.Token.TheVariants.{Piece, Opener}
 use Rattle.cm_inline.proofs.AtomLemmas.{told, image-is, bang-is-text}
 use Rattle.cm_inline.proofs.LinkLemmas.{next-of}
 use Rattle.cm_inline.proofs.atoms.exclamation_mark.Goals as goal

@@ -1,44 +1,42 @@
-use Rattle.std.proofs.Common.{◌≡◌, List, suc, ◌+◌, [], ◌∷◌, ◌++◌, take, drop, sym, ap, subst, ◌∙◌, arith, take-take}
-use Rattle.cm_scan.specs.Pairing.{without, used, Finished, emphasised, settled}
-use Rattle.cm_inline.specs.declared.nodes.Node.{Node}
-use Rattle.cm_inline.specs.steps.Nodes.{items_of, rest_in, AreParts}
+use Rattle.std.proofs.Common.{◌≡◌, suc, ◌+◌, drop, ap, subst, ◌∙◌, arith}
+use Rattle.cm_scan.specs.Pairing.{without, used}
+use Rattle.cm_inline.specs.steps.Groups.{nodes_in}
+use Rattle.cm_inline.specs.steps.Nodes.{nodes_depth}
 use Rattle.cm_inline.specs.steps.Openers.{Spends}
 use Rattle.cm_inline.specs.steps.Runs.{run_of, entry_of, rest_of, byte_of}
-use Rattle.cm_inline.proofs.NodeLemmas.{parts-drop}
-use Rattle.cm_inline.proofs.PairLemmas.{parts-take, parts-append, rest-parts, pair-items}
+use Rattle.cm_inline.proofs.PairLemmas.{pair_nodes, pair-from, pair-front, pair-long, pair-parts, placed-inside, behind-both}
 use Rattle.cm_inline.proofs.pairing.make_pair.Goals as goal
 
-inside-is : (c : goal.In_ok-push_rest) → c.in_ok-inside.inside.items ≡ drop (suc c.args.opener.item) c.args.before.now.items
-inside-is c = c.in_ok-inside.ensures.tail ∙ ap (λ n. drop n c.args.before.now.items) (let n : c.args.opener.item + 1 ≡ suc c.args.opener.item = omega arith in n)
-
-pub wrap-requires : goal.wrap-requires
-wrap-requires c = subst (AreParts c.args.source.now) (sym c.in_ok-inside.ensures.tail) (parts-drop c.args.source.now (c.args.opener.item + 1) c.args.before.now.items c.requires.parts)
+pub returns-then-depth-limit-clause-deep : goal.returns-then-depth-limit-clause-deep
+returns-then-depth-limit-clause-deep c = λ _.
+    let nodes = nodes_in c.args.nodes.now in
+    omega (arith, c.if-depth-limit.true, c.depth_behind-depth.ensures, ap nodes_depth (ap (λ n. drop (suc n) nodes) c.in-Some.ensures.1 ∙ behind-both c.args.from c.args.opener.item nodes))
 
 -- the nodes at the end
-all-is : (c : goal.After-without) → c.push_node.new.nodes.items ≡ (take c.args.opener.item c.args.before.now.items ++ rest_in c.without-rest.result) ++ c.in_ok-made.made ∷ []
-all-is c =
-    c.in_ok-push_node.ensures
-    ∙ ap (λ (nodes : List Node). nodes ++ c.in_ok-made.made ∷ []) (c.in_ok-push_rest.ensures ∙ ap (λ (nodes : List Node). nodes ++ rest_in c.without-rest.result)
-    (c.truncate.ensures.items ∙ ap (take c.args.opener.item) c.in_ok-inside.ensures.items ∙ take-take c.args.opener.item (c.args.opener.item + 1) c.args.before.now.items (omega arith)))
+all-is : (c : goal.After-without) → nodes_in c.wrap.new.self ≡ pair_nodes (c.args.from + c.args.opener.item) (nodes_in c.args.nodes.now) c.without-left.result c.emphasised-kind.result (c.depth_behind-depth.result + 1)
+all-is c = c.in_ok-wrap.ensures.nodes ∙ ap (λ n. pair_nodes n (nodes_in c.args.nodes.now) c.without-left.result c.emphasised-kind.result (c.depth_behind-depth.result + 1)) c.in-Some.ensures.1
 
-left-is : (c : goal.After-without) → rest_of c.without-rest.result ≡ without (used (run_of c.args.opener.run) (run_of c.args.closer)) (run_of c.args.opener.run)
-left-is c = c.without-rest.ensures.rest ∙ ap (λ n. without n (run_of c.args.opener.run)) c.used-count.ensures.used
+left-is : (c : goal.After-without) → rest_of c.without-left.result ≡ without (used (run_of c.args.opener.run) (run_of c.args.closer)) (run_of c.args.opener.run)
+left-is c = c.without-left.ensures.rest ∙ ap (λ n. without n (run_of c.args.opener.run)) c.used-count.ensures.used
 
 pub returns-clause-made : goal.returns-clause-made
-returns-clause-made c =
-    let source = c.args.source.now in
-    let one : c.args.opener.item + 1 ≡ suc c.args.opener.item = omega arith in
-    ap (items_of source) (all-is c)
-    ∙ pair-items source c.args.before.now.items c.args.opener (run_of c.args.closer) c.without-rest.result c.in_ok-made.made (left-is c)
-    (c.in_ok-made.ensures.made ∙ ap (λ (nodes : List Node). Finished (emphasised (byte_of c.args.closer.marker) c.used-count.result (settled (items_of source nodes)))) (c.in_ok-inside.ensures.tail ∙ ap (λ n. drop n c.args.before.now.items) one)
-    ∙ ap (λ n. Finished (emphasised (byte_of c.args.closer.marker) n (settled (items_of source (drop (suc c.args.opener.item) c.args.before.now.items))))) c.used-count.ensures.used)
+returns-clause-made c = λ source.
+    pair-from source (nodes_in c.args.nodes.now) (nodes_in c.wrap.new.self) c.args.from c.args.opener c.args.closer c.without-left.result c.emphasised-kind.result (c.depth_behind-depth.result + 1) c.used-count.result c.requires.within
+    c.without-left.ensures.rest c.used-count.ensures.used c.emphasised-kind.ensures (all-is c)
 
-pub returns-clause-parts : goal.returns-clause-parts
-returns-clause-parts c =
-    let source = c.args.source.now in
-    let front = take c.args.opener.item c.args.before.now.items in
-    subst (AreParts source) (sym (all-is c)) (parts-append source (front ++ rest_in c.without-rest.result) (c.in_ok-made.made ∷ [])
-    (parts-append source front (rest_in c.without-rest.result) (parts-take source c.args.opener.item c.args.before.now.items c.requires.parts) (rest-parts source c.without-rest.result)) (c.in_ok-made.ensures.part, tt))
+pub returns-clause-stays : goal.returns-clause-stays
+returns-clause-stays c =
+    let nodes = nodes_in c.args.nodes.now in
+    let more = nodes_in c.wrap.new.self in
+    let place = c.args.from + c.args.opener.item in
+    let depth : c.depth_behind-depth.result ≡ nodes_depth (drop (suc place) nodes) = c.depth_behind-depth.ensures ∙ ap (λ n. nodes_depth (drop (suc n) nodes)) c.in-Some.ensures.1 in
+    record {
+      front = pair-front nodes more c.args.from c.args.opener.item c.without-left.result c.emphasised-kind.result (c.depth_behind-depth.result + 1) c.requires.within (all-is c);
+      long = pair-long nodes more c.args.from c.args.opener.item c.without-left.result c.emphasised-kind.result (c.depth_behind-depth.result + 1) c.requires.within (all-is c);
+      parts = λ source parts.
+          pair-parts source nodes more place (byte_of c.args.closer.marker) c.used-count.result c.without-left.result c.emphasised-kind.result c.depth_behind-depth.result c.emphasised-kind.ensures depth (all-is c) parts;
+      placed = λ source parts inside. placed-inside source c.args.nodes.now c.wrap.new.self c.in-Some.place c.in_ok-wrap.ensures.inside parts inside;
+    }
 
 pub returns-clause-spends : goal.returns-clause-spends
 returns-clause-spends c =

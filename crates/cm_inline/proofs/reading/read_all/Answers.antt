@@ -2,7 +2,8 @@ use Rattle.std.proofs.Common.{◌≡◌, length, sym, ap, subst, ◌∙◌, arit
 use Rattle.std.specs.Prelude.{Err}
 use Rattle.cm_scan.specs.Brackets.{defined_in}
 use Rattle.cm_inline.specs.declared.fault.InlineFault.TheVariants.{InlinesTooDeep}
-use Rattle.cm_inline.specs.steps.Brackets.{IsRead}
+use Rattle.cm_inline.specs.steps.Brackets.{IsReadTo}
+use Rattle.cm_inline.specs.steps.Groups.{nodes_in}
 use Rattle.cm_inline.specs.steps.Reads.{Pays, ahead}
 use Rattle.cm_inline.proofs.DeeperLemmas.{same-fault}
 use Rattle.cm_inline.proofs.PaysLemmas.{nothing-pays}
@@ -14,9 +15,9 @@ loop-at-init c =
     let source = c.args.source.now in
     let defined = defined_in c.args.definitions.now in
     record {
-      read = c.in_ok-reader.ensures.read;
-      pays = nothing-pays c.args.rules defined source c.in_ok-reader.reader.nodes.items c.in_ok-reader.reader.openers.list.looks c.in_ok-reader.ensures.nodes c.in_ok-reader.ensures.looks;
-      ahead = ap (λ t. ahead c.args.rules defined source t 0) c.in_ok-reader.ensures.nodes ∙ ahead-start c.args.rules defined source;
+      read = c.restart.ensures.read;
+      pays = nothing-pays c.args.rules defined source (nodes_in c.restart.new.self.nodes) c.restart.new.self.openers.list.looks c.restart.ensures.nodes c.restart.ensures.looks;
+      ahead = ap (λ t. ahead c.args.rules defined source t 0) c.restart.ensures.nodes ∙ ahead-start c.args.rules defined source;
     }
 
 pub loop-at-preserved : goal.loop-at-preserved
@@ -28,20 +29,19 @@ loop-at-preserved c = record {
 
 pub returns-in_err-at-clause-deep : goal.returns-in_err-at-clause-deep
 returns-in_err-at-clause-deep c = λ e.
-    let told = same-fault c.from_residual-in_err-at.result c.in_err-at.field-0.0 InlinesTooDeep c.from_residual-in_err-at.ensures.1 e in
-    nests-ahead c.args.rules (defined_in c.args.definitions.now) c.args.limit c.args.source.now (ahead c.args.rules (defined_in c.args.definitions.now) c.args.source.now c.loop-at.reader.nodes.items c.loop-at.at) c.loop-at.invariant.ahead (c.in_err-at.ensures.deep (ap Err told))
+    let told = same-fault c.from_residual.result c.in_err-at.field-0.0 InlinesTooDeep c.from_residual.ensures.1 e in
+    nests-ahead c.args.rules (defined_in c.args.definitions.now) c.args.limit c.args.source.now (ahead c.args.rules (defined_in c.args.definitions.now) c.args.source.now (nodes_in c.loop-at.reader.nodes) c.loop-at.at) c.loop-at.invariant.ahead (c.in_err-at.ensures.deep (ap Err told))
 
 pub returns-clause-read : goal.returns-clause-read
 returns-clause-read c =
-    let r = c.loop-at.reader in
-    let end : c.loop-at.at ≡ length c.args.source.now = omega (arith, c.loop-at-test.false, c.loop-at.invariant.read.within) in
-    subst (λ n. IsRead c.args.source.now n r.nodes.items r.brackets.items r.links_end r.ends) end c.loop-at.invariant.read
+    let end : c.loop-at.at ≡ length c.args.source.now = omega (arith, c.loop-at-test.false, c.loop-at.invariant.read.0.within) in
+    subst (λ n. IsReadTo c.args.source.now n c.loop-at.reader) end c.loop-at.invariant.read
 
 pub returns-clause-items : goal.returns-clause-items
 returns-clause-items c =
-    sym (ahead-end c.args.rules (defined_in c.args.definitions.now) c.args.source.now c.loop-at.reader.nodes.items c.loop-at.at (omega (arith, c.loop-at-test.false))) ∙ c.loop-at.invariant.ahead
+    sym (ahead-end c.args.rules (defined_in c.args.definitions.now) c.args.source.now (nodes_in c.loop-at.reader.nodes) c.loop-at.at (omega (arith, c.loop-at-test.false))) ∙ c.loop-at.invariant.ahead
 
 pub returns-clause-pays : goal.returns-clause-pays
 returns-clause-pays c =
-    let end : c.loop-at.at ≡ length c.args.source.now = omega (arith, c.loop-at-test.false, c.loop-at.invariant.read.within) in
-    subst (λ n. Pays c.args.rules (defined_in c.args.definitions.now) c.args.source.now c.loop-at.reader.nodes.items n c.loop-at.reader.openers.list.looks) end c.loop-at.invariant.pays
+    let end : c.loop-at.at ≡ length c.args.source.now = omega (arith, c.loop-at-test.false, c.loop-at.invariant.read.0.within) in
+    subst (λ n. Pays c.args.rules (defined_in c.args.definitions.now) c.args.source.now (nodes_in c.loop-at.reader.nodes) n c.loop-at.reader.openers.list.looks) end c.loop-at.invariant.pays

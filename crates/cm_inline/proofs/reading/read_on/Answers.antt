@@ -4,10 +4,12 @@ use Rattle.cm_scan.specs.Pairing.{emphasis_of}
 use Rattle.cm_tree.specs.Depth.{inlines_depth}
 use Rattle.cm_inline.specs.declared.openers.Openers.{Openers}
 use Rattle.cm_inline.specs.steps.Brackets.{IsRead, bracket_in}
+use Rattle.cm_inline.specs.steps.Groups.{node_of, nodes_in, ArePlaced}
 use Rattle.cm_inline.specs.steps.Reads.{Pays, ahead}
 use Rattle.cm_inline.specs.steps.Nodes.{items_of, text_between}
 use Rattle.cm_inline.specs.steps.Pairs.{allowance}
 use Rattle.cm_inline.proofs.PaysLemmas.{text-pays, atom-more-pays, closed-pays, pays-few}
+use Rattle.cm_inline.proofs.AtomLemmas.{token-read}
 use Rattle.cm_inline.proofs.ReaderLemmas.{text-more, atom-read, same-read}
 use Rattle.cm_inline.proofs.WholeLemmas.{ahead-text, ahead-atom, ahead-closed, closed-deeper}
 use Rattle.cm_inline.proofs.reading.read_on.Goals as goal
@@ -16,41 +18,48 @@ pub returns-then-end-source-clause-read : goal.returns-then-end-source-clause-re
 returns-then-end-source-clause-read c =
     let reader = c.args.reader.now in
     let text = c.text_end-end.ensures in
-    let r = text-more c.args.source.now reader.nodes.items reader.brackets.items c.args.at c.text_end-end.result reader.links_end reader.ends text.low text.boundary c.requires.read in
-    subst (λ t. IsRead c.args.source.now c.text_end-end.result t reader.brackets.items reader.links_end reader.ends) (sym c.in_ok-push_text.ensures) r
+    let r = text-more c.args.source.now (nodes_in reader.nodes) reader.brackets.items c.args.at c.text_end-end.result reader.links_end reader.ends text.low text.boundary c.requires.read.0 in (
+      subst (λ t. IsRead c.args.source.now c.text_end-end.result t reader.brackets.items reader.links_end reader.ends) (sym c.in_ok-push_text.ensures.nodes) r,
+      subst (ArePlaced c.args.source.now) (sym c.in_ok-push_text.ensures.inside) c.requires.read.1,
+    )
 
 pub returns-then-end-source-clause-ahead : goal.returns-then-end-source-clause-ahead
 returns-then-end-source-clause-ahead c =
     let defined = defined_in c.args.definitions.now in
     let end = c.text_end-end.result in
-    ap (λ t. ahead c.args.rules defined c.args.source.now t end) c.in_ok-push_text.ensures ∙ ahead-text c.args.rules defined c.args.source.now c.args.reader.now.nodes.items c.args.at end c.text_end-end.ensures
+    ap (λ t. ahead c.args.rules defined c.args.source.now t end) c.in_ok-push_text.ensures.nodes ∙ ahead-text c.args.rules defined c.args.source.now (nodes_in c.args.reader.now.nodes) c.args.at end c.text_end-end.ensures
 
 pub close-requires-clause-read : goal.close-requires-clause-read
 close-requires-clause-read c =
     let reader = c.args.reader.now in
     let text = c.text_end-end.ensures in
-    let r = text-more c.args.source.now reader.nodes.items reader.brackets.items c.args.at c.text_end-end.result reader.links_end reader.ends text.low text.boundary c.requires.read in
-    subst (λ t. IsRead c.args.source.now c.text_end-end.result t reader.brackets.items reader.links_end reader.ends) (sym c.in_ok-push_text.ensures) r
+    let r = text-more c.args.source.now (nodes_in reader.nodes) reader.brackets.items c.args.at c.text_end-end.result reader.links_end reader.ends text.low text.boundary c.requires.read.0 in (
+      subst (λ t. IsRead c.args.source.now c.text_end-end.result t reader.brackets.items reader.links_end reader.ends) (sym c.in_ok-push_text.ensures.nodes) r,
+      subst (ArePlaced c.args.source.now) (sym c.in_ok-push_text.ensures.inside) c.requires.read.1,
+    )
 
 pub returns-then-as_bytes-end-eq93-clause-ahead : goal.returns-then-as_bytes-end-eq93-clause-ahead
 returns-then-as_bytes-end-eq93-clause-ahead c =
     let defined = defined_in c.args.definitions.now in
     let source = c.args.source.now in
     let end = c.text_end-end.result in
-    let nodes = c.args.reader.now.nodes.items in
-    let text : ahead c.args.rules defined source c.push_text.new.nodes.items end ≡ ahead c.args.rules defined source nodes c.args.at =
-    ap (λ t. ahead c.args.rules defined source t end) c.in_ok-push_text.ensures ∙ ahead-text c.args.rules defined source nodes c.args.at end c.text_end-end.ensures in
-    ahead-closed c.close.result c.args.rules defined source c.push_text.new.nodes.items c.close.new.self.nodes.items end (ahead c.args.rules defined source nodes c.args.at) (record { within = omega (arith, c.text_end-end.ensures.boundary.0, c.if-end-source.false); boundary = c.text_end-end.ensures.boundary; byte = ap (λ t. get_or t end 0) (sym c.as_bytes.ensures.value) ∙ c.if-as_bytes-end-eq93.true }) text c.close.ensures.further c.close.ensures.closed
+    let nodes = nodes_in c.args.reader.now.nodes in
+    let text : ahead c.args.rules defined source (nodes_in c.push_text.new.nodes) end ≡ ahead c.args.rules defined source nodes c.args.at =
+    ap (λ t. ahead c.args.rules defined source t end) c.in_ok-push_text.ensures.nodes ∙ ahead-text c.args.rules defined source nodes c.args.at end c.text_end-end.ensures in
+    ahead-closed c.close.result c.args.rules defined source (nodes_in c.push_text.new.nodes) (nodes_in c.close.new.self.nodes) end (ahead c.args.rules defined source nodes c.args.at) (record { within = omega (arith, c.text_end-end.ensures.boundary.0, c.if-end-source.false); boundary = c.text_end-end.ensures.boundary; byte = ap (λ t. get_or t end 0) (sym c.as_bytes.ensures.value) ∙ c.if-as_bytes-end-eq93.true }) text c.close.ensures.further c.close.ensures.closed
 
 pub returns-then-as_bytes-end-eq93-clause-deep : goal.returns-then-as_bytes-end-eq93-clause-deep
 returns-then-as_bytes-end-eq93-clause-deep c = λ e.
     let defined = defined_in c.args.definitions.now in
     let source = c.args.source.now in
     let end = c.text_end-end.result in
-    let nodes = c.args.reader.now.nodes.items in
-    let text : ahead c.args.rules defined source c.push_text.new.nodes.items end ≡ ahead c.args.rules defined source nodes c.args.at =
-    ap (λ t. ahead c.args.rules defined source t end) c.in_ok-push_text.ensures ∙ ahead-text c.args.rules defined source nodes c.args.at end c.text_end-end.ensures in
-    subst (λ t. c.args.limit < inlines_depth (emphasis_of t)) text (closed-deeper c.args.rules defined source c.push_text.new.nodes.items end c.args.limit (record { within = omega (arith, c.text_end-end.ensures.boundary.0, c.if-end-source.false); boundary = c.text_end-end.ensures.boundary; byte = ap (λ t. get_or t end 0) (sym c.as_bytes.ensures.value) ∙ c.if-as_bytes-end-eq93.true }) (c.close.ensures.deep e))
+    let nodes = nodes_in c.args.reader.now.nodes in
+    let text : ahead c.args.rules defined source (nodes_in c.push_text.new.nodes) end ≡ ahead c.args.rules defined source nodes c.args.at =
+    ap (λ t. ahead c.args.rules defined source t end) c.in_ok-push_text.ensures.nodes ∙ ahead-text c.args.rules defined source nodes c.args.at end c.text_end-end.ensures in
+    subst (λ t. c.args.limit < inlines_depth (emphasis_of t)) text (closed-deeper c.args.rules defined source (nodes_in c.push_text.new.nodes) end c.args.limit (record { within = omega (arith, c.text_end-end.ensures.boundary.0, c.if-end-source.false); boundary = c.text_end-end.ensures.boundary; byte = ap (λ t. get_or t end 0) (sym c.as_bytes.ensures.value) ∙ c.if-as_bytes-end-eq93.true }) (c.close.ensures.deep e))
+
+pub add-requires : goal.add-requires
+add-requires c = token-read c.args.rules c.args.source.now c.text_end-end.result c.in_ok-token.token c.in_ok-token.behind c.in_ok-token.ensures.atom
 
 pub returns-clause-read : goal.returns-clause-read
 returns-clause-read c =
@@ -58,29 +67,31 @@ returns-clause-read c =
     let reader = c.args.reader.now in
     let text = c.text_end-end.ensures in
     let end = c.text_end-end.result in
-    let r = text-more source reader.nodes.items reader.brackets.items c.args.at end reader.links_end reader.ends text.low text.boundary c.requires.read in
-    let t = subst (λ t. IsRead source end t reader.brackets.items reader.links_end reader.ends) (sym c.in_ok-push_text.ensures) r in
-    let a = atom-read c.args.rules source c.push_text.new.nodes.items reader.brackets.items end c.in_ok-node.node c.in_ok-node.behind reader.links_end reader.ends c.atom.new.ends c.in_ok-node.ensures.atom c.in_ok-node.ensures.knows t in
-    let add = c.in_ok-add.ensures in
-    same-read source c.in_ok-node.behind (c.push_text.new.nodes.items ++ c.in_ok-node.node ∷ []) c.add.new.self.nodes.items (reader.brackets.items ++ bracket_in (length c.push_text.new.nodes.items) c.in_ok-node.node) c.add.new.self.brackets.items reader.links_end c.add.new.self.links_end
-    c.atom.new.ends c.add.new.self.ends add.nodes add.brackets add.same.0 add.same.2 a
+    let r = text-more source (nodes_in reader.nodes) reader.brackets.items c.args.at end reader.links_end reader.ends text.low text.boundary c.requires.read.0 in
+    let t = subst (λ t. IsRead source end t reader.brackets.items reader.links_end reader.ends) (sym c.in_ok-push_text.ensures.nodes) r in
+    let a = atom-read c.args.rules source (nodes_in c.push_text.new.nodes) reader.brackets.items end (node_of [] c.in_ok-token.token) c.in_ok-token.behind reader.links_end reader.ends c.atom.new.ends c.in_ok-token.ensures.atom c.in_ok-token.ensures.knows t in
+    let add = c.in_ok-add.ensures in (
+      same-read source c.in_ok-token.behind (nodes_in c.push_text.new.nodes ++ node_of [] c.in_ok-token.token ∷ []) (nodes_in c.add.new.self.nodes) (reader.brackets.items ++ bracket_in (length (nodes_in c.push_text.new.nodes)) (node_of [] c.in_ok-token.token)) c.add.new.self.brackets.items reader.links_end c.add.new.self.links_end
+          c.atom.new.ends c.add.new.self.ends add.nodes add.brackets add.same.0 add.same.2 a,
+      subst (ArePlaced source) (sym (add.inside ∙ c.in_ok-push_text.ensures.inside)) c.requires.read.1,
+    )
 
 pub returns-clause-ahead : goal.returns-clause-ahead
 returns-clause-ahead c =
     let defined = defined_in c.args.definitions.now in
     let source = c.args.source.now in
     let end = c.text_end-end.result in
-    let nodes = c.args.reader.now.nodes.items in
-    ap (λ t. ahead c.args.rules defined source t c.in_ok-node.behind) c.in_ok-add.ensures.nodes
-    ∙ ahead-atom c.args.rules defined source c.push_text.new.nodes.items end c.in_ok-node.node c.in_ok-node.behind (omega (arith, c.text_end-end.ensures.boundary.0, c.if-end-source.false)) c.in_ok-node.ensures.atom
-    ∙ ap (λ t. ahead c.args.rules defined source t end) c.in_ok-push_text.ensures ∙ ahead-text c.args.rules defined source nodes c.args.at end c.text_end-end.ensures
+    let nodes = nodes_in c.args.reader.now.nodes in
+    ap (λ t. ahead c.args.rules defined source t c.in_ok-token.behind) c.in_ok-add.ensures.nodes
+    ∙ ahead-atom c.args.rules defined source (nodes_in c.push_text.new.nodes) end (node_of [] c.in_ok-token.token) c.in_ok-token.behind (omega (arith, c.text_end-end.ensures.boundary.0, c.if-end-source.false)) c.in_ok-token.ensures.atom
+    ∙ ap (λ t. ahead c.args.rules defined source t end) c.in_ok-push_text.ensures.nodes ∙ ahead-text c.args.rules defined source nodes c.args.at end c.text_end-end.ensures
 
 -- the text more, as it was pushed
 pub returns-then-end-source-clause-pays : goal.returns-then-end-source-clause-pays
 returns-then-end-source-clause-pays c =
     let reader = c.args.reader.now in
-    subst (λ t. Pays c.args.rules (defined_in c.args.definitions.now) c.args.source.now t c.text_end-end.result reader.openers.list.looks) (sym c.in_ok-push_text.ensures)
-    (text-pays c.args.rules (defined_in c.args.definitions.now) c.args.source.now reader.nodes.items c.args.at c.text_end-end.result reader.openers.list.looks c.text_end-end.ensures c.requires.pays)
+    subst (λ t. Pays c.args.rules (defined_in c.args.definitions.now) c.args.source.now t c.text_end-end.result reader.openers.list.looks) (sym c.in_ok-push_text.ensures.nodes)
+    (text-pays c.args.rules (defined_in c.args.definitions.now) c.args.source.now (nodes_in reader.nodes) c.args.at c.text_end-end.result reader.openers.list.looks c.text_end-end.ensures c.requires.pays)
 
 pub close-requires-clause-few : goal.close-requires-clause-few
 close-requires-clause-few c =
@@ -88,9 +99,9 @@ close-requires-clause-few c =
     let rules = c.args.rules in
     let defined = defined_in c.args.definitions.now in
     let source = c.args.source.now in
-    let pays = text-pays rules defined source reader.nodes.items c.args.at c.text_end-end.result reader.openers.list.looks c.text_end-end.ensures c.requires.pays in
-    let few = pays-few rules defined source (reader.nodes.items ++ text_between c.args.at c.text_end-end.result) c.text_end-end.result reader.openers.list.looks pays (omega (arith, c.as_bytes.ensures.len)) in
-    omega (arith, few, ap (λ t. allowance 13 (items_of source t)) c.in_ok-push_text.ensures)
+    let pays = text-pays rules defined source (nodes_in reader.nodes) c.args.at c.text_end-end.result reader.openers.list.looks c.text_end-end.ensures c.requires.pays in
+    let few = pays-few rules defined source (nodes_in reader.nodes ++ text_between c.args.at c.text_end-end.result) c.text_end-end.result reader.openers.list.looks pays (omega (arith, c.as_bytes.ensures.len)) in
+    omega (arith, few, ap (λ t. allowance 13 (items_of source t)) c.in_ok-push_text.ensures.nodes)
 
 pub returns-then-as_bytes-end-eq93-clause-pays : goal.returns-then-as_bytes-end-eq93-clause-pays
 returns-then-as_bytes-end-eq93-clause-pays c =
@@ -99,10 +110,10 @@ returns-then-as_bytes-end-eq93-clause-pays c =
     let defined = defined_in c.args.definitions.now in
     let source = c.args.source.now in
     let end = c.text_end-end.result in
-    let pays = text-pays rules defined source reader.nodes.items c.args.at end reader.openers.list.looks c.text_end-end.ensures c.requires.pays in
-    closed-pays c.close.result rules defined source c.push_text.new.nodes.items c.close.new.self.nodes.items end reader.openers.list.looks c.close.new.self.openers.list.looks
+    let pays = text-pays rules defined source (nodes_in reader.nodes) c.args.at end reader.openers.list.looks c.text_end-end.ensures c.requires.pays in
+    closed-pays c.close.result rules defined source (nodes_in c.push_text.new.nodes) (nodes_in c.close.new.self.nodes) end reader.openers.list.looks c.close.new.self.openers.list.looks
     (record { within = omega (arith, c.text_end-end.ensures.boundary.0, c.if-end-source.false); boundary = c.text_end-end.ensures.boundary; byte = ap (λ t. get_or t end 0) (sym c.as_bytes.ensures.value) ∙ c.if-as_bytes-end-eq93.true })
-    (subst (λ t. Pays rules defined source t end reader.openers.list.looks) (sym c.in_ok-push_text.ensures) pays) c.close.ensures.further c.close.ensures.keeps c.close.ensures.closed
+    (subst (λ t. Pays rules defined source t end reader.openers.list.looks) (sym c.in_ok-push_text.ensures.nodes) pays) c.close.ensures.further c.close.ensures.keeps c.close.ensures.closed
 
 pub returns-clause-pays : goal.returns-clause-pays
 returns-clause-pays c =
@@ -111,8 +122,8 @@ returns-clause-pays c =
     let defined = defined_in c.args.definitions.now in
     let source = c.args.source.now in
     let end = c.text_end-end.result in
-    let pays = subst (λ t. Pays rules defined source t end reader.openers.list.looks) (sym c.in_ok-push_text.ensures)
-    (text-pays rules defined source reader.nodes.items c.args.at end reader.openers.list.looks c.text_end-end.ensures c.requires.pays) in
-    let more = atom-more-pays rules defined source c.push_text.new.nodes.items end c.in_ok-node.node c.in_ok-node.behind reader.openers.list.looks (omega (arith, c.text_end-end.ensures.boundary.0, c.if-end-source.false)) c.in_ok-node.ensures.atom pays in
-    subst (λ t. Pays rules defined source t c.in_ok-node.behind c.add.new.self.openers.list.looks) (sym c.in_ok-add.ensures.nodes)
-    (subst (Pays rules defined source (c.push_text.new.nodes.items ++ c.in_ok-node.node ∷ []) c.in_ok-node.behind) (sym (ap (λ (o : Openers). o.list.looks) c.in_ok-add.ensures.same.1)) more)
+    let pays = subst (λ t. Pays rules defined source t end reader.openers.list.looks) (sym c.in_ok-push_text.ensures.nodes)
+    (text-pays rules defined source (nodes_in reader.nodes) c.args.at end reader.openers.list.looks c.text_end-end.ensures c.requires.pays) in
+    let more = atom-more-pays rules defined source (nodes_in c.push_text.new.nodes) end (node_of [] c.in_ok-token.token) c.in_ok-token.behind reader.openers.list.looks (omega (arith, c.text_end-end.ensures.boundary.0, c.if-end-source.false)) c.in_ok-token.ensures.atom pays in
+    subst (λ t. Pays rules defined source t c.in_ok-token.behind c.add.new.self.openers.list.looks) (sym c.in_ok-add.ensures.nodes)
+    (subst (Pays rules defined source (nodes_in c.push_text.new.nodes ++ node_of [] c.in_ok-token.token ∷ []) c.in_ok-token.behind) (sym (ap (λ (o : Openers). o.list.looks) c.in_ok-add.ensures.same.1)) more)

@@ -1,7 +1,7 @@
 use Rattle.std.proofs.Common.{◌≡◌, ◌+◌, ◌-◌, ◌++◌, [], ◌∷◌, set, sym, ap, subst, ◌∙◌, arith}
 use Rattle.std.specs.Prelude.{OnOk}
-use Rattle.cm_inline.specs.declared.nodes.Node.TheVariants.{Piece}
-use Rattle.cm_inline.specs.steps.Nodes.{items_of}
+use Rattle.cm_inline.specs.steps.Nodes.{Piece, items_of}
+use Rattle.cm_inline.specs.steps.Groups.{nodes_in, ArePlaced}
 use Rattle.cm_inline.specs.steps.Brackets.{IsRead}
 use Rattle.cm_inline.proofs.BracketLemmas.{split-last, split-within}
 use Rattle.cm_inline.proofs.ReaderLemmas.{then-ok, with_text, text-read, text-items, opener-is}
@@ -9,32 +9,37 @@ use Rattle.cm_inline.proofs.brackets.Reader.leave_as_text.Goals as goal
 
 pub overflow_sub-bracket : goal.overflow_sub-bracket
 overflow_sub-bracket c =
-    let nodes = c.args.self.now.nodes.items in
+    let nodes = nodes_in c.args.self.now.nodes in
     let others = c.args.self.now.brackets.items in
     let b = c.args.bracket in
-    let opener = opener-is c.args.source.now nodes others b (split-last 0 nodes others b c.requires.read.unclosed) c.requires.read.parts in
+    let opener = opener-is c.args.source.now nodes others b (split-last 0 nodes others b c.requires.read.0.unclosed) c.requires.read.0.parts in
     omega (arith, opener.place, c.width.ensures)
 
-pub index_mut-requires : goal.index_mut-requires
-index_mut-requires c =
-    let nodes = c.args.self.now.nodes in
+pub put_text-requires : goal.put_text-requires
+put_text-requires c =
+    let nodes = nodes_in c.args.self.now.nodes in
     let others = c.args.self.now.brackets.items in
-    omega (arith, split-within nodes.items others c.args.bracket (split-last 0 nodes.items others c.args.bracket c.requires.read.unclosed), nodes.ok)
+    split-within nodes others c.args.bracket (split-last 0 nodes others c.args.bracket c.requires.read.0.unclosed)
 
-more-is : (c : goal.After-push_node) → OnOk c.push_node.result (c.push_node.new.nodes.items ≡ with_text c.args.self.now.nodes.items c.args.bracket c.args.at)
+more-is : (c : goal.After-push) → OnOk c.push.result (nodes_in c.push.new.self ≡ with_text (nodes_in c.args.self.now.nodes) c.args.bracket c.args.at)
 more-is c =
-    subst (λ n. OnOk c.push_node.result (c.push_node.new.nodes.items ≡ set c.args.self.now.nodes.items c.args.bracket.node (Piece (c.args.bracket.behind - n) c.args.bracket.behind) ++ Piece c.args.at (c.args.at + 1) ∷ [])) c.width.ensures c.push_node.ensures
+    let b = c.args.bracket in
+    then-ok c.push.result (λ is. is ∙ ap (λ t. t ++ Piece c.args.at (c.args.at + 1) ∷ [])
+    (c.put_text.ensures.nodes ∙ ap (λ n. set (nodes_in c.args.self.now.nodes) b.node (Piece (b.behind - n) b.behind)) c.width.ensures)) c.push.ensures.nodes
 
 pub returns-clause-read : goal.returns-clause-read
 returns-clause-read c =
     let r = c.requires.read in
     let now = c.args.self.now in
-    then-ok c.push_node.result (λ is. subst (λ t. IsRead c.args.source.now (c.args.at + 1) t now.brackets.items now.links_end now.ends) (sym is)
-    (text-read c.args.source.now now.nodes.items now.brackets.items c.args.bracket c.args.at now.links_end now.ends c.utf8.source c.requires.stands r)) (more-is c)
+    then-ok c.push.result (λ is. (
+      subst (λ t. IsRead c.args.source.now (c.args.at + 1) t now.brackets.items now.links_end now.ends) (sym is)
+          (text-read c.args.source.now (nodes_in now.nodes) now.brackets.items c.args.bracket c.args.at now.links_end now.ends c.utf8.source c.requires.stands r.0),
+      subst (ArePlaced c.args.source.now) (sym (c.push.ensures.inside ∙ c.put_text.ensures.inside)) r.1,
+    )) (more-is c)
 
 pub returns-clause-items : goal.returns-clause-items
 returns-clause-items c =
-    let nodes = c.args.self.now.nodes.items in
+    let nodes = nodes_in c.args.self.now.nodes in
     let others = c.args.self.now.brackets.items in
-    then-ok c.push_node.result (λ is. ap (items_of c.args.source.now) is
-    ∙ text-items c.args.source.now nodes others c.args.bracket (split-last 0 nodes others c.args.bracket c.requires.read.unclosed) c.args.at c.requires.read.parts c.requires.stands) (more-is c)
+    then-ok c.push.result (λ is. ap (items_of c.args.source.now) is
+    ∙ text-items c.args.source.now nodes others c.args.bracket (split-last 0 nodes others c.args.bracket c.requires.read.0.unclosed) c.args.at c.requires.read.0.parts c.requires.stands) (more-is c)

@@ -1,0 +1,144 @@
+-- The nodes of a leaf as they are held: tokens, and groups of them, which are emphasis, links and images.
+use Rattle.std.specs.Prelude.{◌≡◌, ℕ, ◌+◌, ◌<◌, ◌≤◌, Bool, true, false, List, [], ◌∷◌, ◌++◌, length, map, get_or, Option, None, codes, ⊤}
+use Rattle.std.specs.List.{slice_range, list_any}
+use Rattle.cm_tree.specs.declared.tree.Inline.{Inline}
+use Rattle.cm_tree.specs.declared.tree.Inline.TheVariants as inlines
+use Rattle.cm_html.specs.Html.{link_start}
+use Rattle.cm_scan.specs.Pairing.{settled}
+use Rattle.cm_inline.specs.declared.nodes.Kind.{Kind}
+use Rattle.cm_inline.specs.declared.nodes.Kind.TheVariants as kinds
+use Rattle.cm_inline.specs.declared.nodes.Group.{Group}
+use Rattle.cm_inline.specs.declared.runs.DelimiterRun.{DelimiterRun}
+use Rattle.cm_inline.specs.declared.tokens.Token.{Token}
+use Rattle.cm_inline.specs.declared.tokens.Token.TheVariants as tokens
+use Rattle.cm_inline.specs.steps.Written.{IsBetween, IsWithin}
+use Rattle.cm_inline.specs.steps.Nodes.{Node, Piece, Characters, Whole, Finished, Run, Opener, items_of, rest_in}
+
+-- an inline as it comes of a source
+abbrev pub Made : Type 0
+Made = List ℕ → Inline
+
+-- what a kind makes of its content
+abbrev pub made_of : Kind → List Inline → Inline
+made_of kinds.Emph content = inlines.Emph content
+made_of kinds.Strong content = inlines.Strong content
+made_of kinds.Strike content = inlines.Strike content
+made_of (kinds.Link dest title) content = inlines.Link dest title content
+made_of (kinds.Image dest title) content = inlines.Image dest title content
+
+-- and of nodes of which nothing more is made
+abbrev pub made_by : Kind → List Node → Made
+made_by kind nodes source = made_of kind (settled (items_of source nodes))
+
+-- the tags of what a kind makes, save images
+abbrev pub start_html : Kind → List ℕ
+start_html kinds.Emph = codes "<em>"
+start_html kinds.Strong = codes "<strong>"
+start_html kinds.Strike = codes "<del>"
+start_html (kinds.Link dest title) = link_start dest title
+start_html (kinds.Image dest title) = []
+
+abbrev pub end_html : Kind → List ℕ
+end_html kinds.Emph = codes "</em>"
+end_html kinds.Strong = codes "</strong>"
+end_html kinds.Strike = codes "</del>"
+end_html (kinds.Link dest title) = codes "</a>"
+end_html (kinds.Image dest title) = []
+
+-- what no token stands for that was read
+abbrev pub nothing_made : Made
+nothing_made source = inlines.Emph []
+
+-- a token as a node, where this was made of the groups
+abbrev pub node_of : List Made → Token → Node
+node_of made (tokens.Piece from to) = Piece from to
+node_of made (tokens.Characters chars) = Characters chars
+node_of made (tokens.Whole written) = Whole written
+node_of made (tokens.Made number depth holds_link) = Finished (get_or made number nothing_made) depth holds_link
+node_of made (tokens.Run run) = Run run
+node_of made (tokens.Opener image behind) = Opener image behind
+
+abbrev pub nodes_of : List Made → List Token → List Node
+nodes_of made held = map (node_of made) held
+
+-- what is made of a group, and of groups one after another, each of which may hold those before it
+abbrev pub group_made : (inside : List Token) → List Made → Group → Made
+group_made inside made group = made_by group.kind (nodes_of made (slice_range inside group.from group.to))
+
+unfoldable pub groups_after : (inside : List Token) → List Made → List Group → List Made
+groups_after inside made [] = made
+groups_after inside made (group ∷ groups) = groups_after inside (made ++ group_made inside made group ∷ []) groups
+
+abbrev pub groups_made : (inside : List Token) → List Group → List Made
+groups_made inside groups = groups_after inside [] groups
+
+-- The tokens up to those that wait to be paired; those; what stands in groups; and the groups.
+pub record Held : Type 0 where
+  pub before : List Token
+  pub rest : List Token
+  pub inside : List Token
+  pub groups : List Group
+
+-- the nodes, and those that wait
+unfoldable pub nodes_in : Held → List Node
+nodes_in held = nodes_of (groups_made held.inside held.groups) held.before
+
+unfoldable pub waiting_in : Held → List Node
+waiting_in held = nodes_of (groups_made held.inside held.groups) held.rest
+
+-- a token that was read, which is no group
+abbrev pub IsNoGroup : Token → Type 0
+IsNoGroup (tokens.Made number depth holds_link) = ⊥
+IsNoGroup _ = ⊤
+
+-- the groups that tokens are have numbers below this one
+abbrev pub IsBelow : ℕ → Token → Type 0
+IsBelow bound (tokens.Made number depth holds_link) = number < bound
+IsBelow bound _ = ⊤
+
+abbrev pub AreBelow : ℕ → List Token → Type 0
+AreBelow bound [] = ⊤
+AreBelow bound (token ∷ held) = IsBelow bound token × AreBelow bound held
+
+-- what stands in a group lies inside, and is of groups before it
+pub record IsGroup (inside : List Token) (number : ℕ) (group : Group) : Type 0 where
+  pub order : group.from ≤ group.to
+  pub within : group.to ≤ length inside
+  pub below : AreBelow number (slice_range inside group.from group.to)
+
+abbrev pub AreGroups : (inside : List Token) → ℕ → List Group → Type 0
+AreGroups inside number [] = ⊤
+AreGroups inside number (group ∷ groups) = IsGroup inside number group × AreGroups inside (number + 1) groups
+
+-- all numbers are those of groups
+pub record AreHeld (held : Held) : Type 0 where
+  pub groups : AreGroups held.inside 0 held.groups
+  pub before : AreBelow (length held.groups) held.before
+  pub rest : AreBelow (length held.groups) held.rest
+
+-- the places of a token part characters of the source
+abbrev pub IsPlaced : List ℕ → Token → Type 0
+IsPlaced source (tokens.Piece from to) = IsBetween source from to
+IsPlaced source (tokens.Whole written) = IsWithin source written
+IsPlaced source _ = ⊤
+
+abbrev pub ArePlaced : List ℕ → List Token → Type 0
+ArePlaced source [] = ⊤
+ArePlaced source (token ∷ held) = IsPlaced source token × ArePlaced source held
+
+-- the node is a delimiter run
+abbrev pub is_run : Node → Bool
+is_run (Piece from to) = false
+is_run (Characters chars) = false
+is_run (Whole written) = false
+is_run (Finished inline depth holds_link) = false
+is_run (Run run) = true
+is_run (Opener image behind) = false
+
+-- The nodes that wait are taken up to the next run: those before it are nodes now, and if there is none, no more wait.
+pub record Takes (old new : Held) (run : Option DelimiterRun) : Type 0 where
+  pub others : List Node
+  pub none : list_any is_run others ≡ false
+  pub nodes : nodes_in new ≡ nodes_in old ++ others
+  pub waiting : waiting_in old ≡ others ++ (rest_in run ++ waiting_in new)
+  pub ends : run ≡ None → waiting_in new ≡ []

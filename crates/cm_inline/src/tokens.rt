@@ -1,0 +1,191 @@
+//! The tokens into which a leaf's source is read.
+ghost use Rattle.std.specs.Prelude.{◌≡◌, ◌++◌, ◌≤◌, [], ◌∷◌, length, string_bytes, encode_utf8_all, replicate, drop, false, IfOk, OnOk};
+ghost use Rattle.std.specs.List.{list_any};
+ghost use Rattle.cm_text.specs.References.{chars_of};
+ghost use Rattle.cm_scan.specs.Pairing.{bracket_text, text_before};
+ghost use Rattle.cm_inline.specs.steps.Groups.{node_of, nodes_of, IsPlaced, ArePlaced};
+ghost use Rattle.cm_inline.specs.steps.Runs.{byte_of};
+ghost use Rattle.cm_inline.specs.steps.Nodes.{is_closer, is_text, node_depth, nodes_depth, text_in, text_in_front, behind_texts};
+
+use crate::runs::DelimiterRun;
+use crate::written::Written;
+use cm_text::Chars;
+use cm_tree::{Inline, Text};
+use std::alloc::{AllocError, Global};
+
+/// A token: what was read at a place of the source, or the number of a group.
+#[derive(Clone, Copy, Debug)]
+pub(crate) enum Token {
+    /// The source between two places, as text.
+    Piece {
+        from: usize,
+        to: usize,
+    },
+    /// The characters for which a reference stands.
+    Characters(Chars),
+    /// An inline that stands by itself in the source.
+    Whole(Written),
+    /// Emphasis, a link or an image by the number of its group, how deep it nests, and whether it is a link that a `]` made,
+    /// or an image that holds one.
+    Made {
+        number: usize,
+        depth: usize,
+        holds_link: bool,
+    },
+    /// What is left of a delimiter run.
+    Run(DelimiterRun),
+    /// `[` or `![`, and the place behind it.
+    Opener {
+        image: bool,
+        behind: usize,
+    },
+}
+
+impl Token {
+    /// How deep the inline that it is nests.
+    pub(crate) fn depth(&self) -> usize
+        ensures { result ≡ node_depth (node_of [] self.now) }
+    {
+        match self {
+            Token::Whole(written) => written.depth(),
+            Token::Made { depth, .. } => *depth,
+            _ => 0,
+        }
+    }
+
+    /// Whether it is a run that may close.
+    fn is_closer(&self) -> bool
+        ensures { result ≡ is_closer (node_of [] self.now) }
+    {
+        match self {
+            Token::Run(run) => run.closes,
+            _ => false,
+        }
+    }
+}
+
+/// How deep the inlines among the tokens nest.
+pub(crate) fn depth_of_all(tokens: &[Token]) -> usize
+    ensures { result ≡ nodes_depth (nodes_of [] tokens.now) }
+{
+    let mut deepest = 0;
+    for token in tokens {
+        deepest = deepest.max(token.depth());
+    }
+    deepest
+}
+
+/// Whether one of the tokens is a run that may close.
+pub(crate) fn has_closer(tokens: &[Token]) -> bool
+    ensures { result ≡ list_any is_closer (nodes_of [] tokens.now) }
+{
+    tokens.iter().any(|token| token.is_closer())
+}
+
+/// About how many bytes of text the tokens begin with, and never fewer.
+fn room_for_text(tokens: &[Token]) -> usize {
+    let mut room: usize = 0;
+    for token in tokens {
+        let more = match token {
+            Token::Piece { from, to } => to.saturating_sub(*from),
+            Token::Characters(_) => 8,
+            Token::Whole(_) => return room,
+            Token::Made { .. } => return room,
+            Token::Run(run) => run.left,
+            Token::Opener { .. } => 2,
+        };
+        room = room.saturating_add(more);
+    }
+    room
+}
+
+/// Adds the characters of a reference.
+fn push_chars(text: &mut String, chars: Chars) -> Result<(), AllocError>
+    ensures { OnOk result (string_bytes text.new ≡ string_bytes text.old ++ encode_utf8_all (chars_of chars)) }
+{
+    text.push(chars.first)?;
+    if let Some(second) = chars.second {
+        text.push(second)?;
+    }
+    Ok(())
+}
+
+/// Adds what is left of a delimiter run.
+pub(crate) fn push_run(text: &mut String, run: DelimiterRun) -> Result<(), AllocError>
+    ensures { OnOk result (string_bytes text.new ≡ string_bytes text.old ++ replicate run.left (byte_of run.marker)) }
+{
+    for _ in 0..run.left {
+        text.push_str(run.marker.text())?;
+    }
+    Ok(())
+}
+
+/// The text of an opener of which nothing is made.
+pub(crate) fn opener_text(image: bool) -> &'static str
+    ensures { result.now ≡ bracket_text image }
+{
+    if image { "![" } else { "[" }
+}
+
+/// Adds the text of a token, and tells whether it is text.
+fn push_text_of(text: &mut String, source: &str, token: Token) -> Result<bool, AllocError>
+    requires { IsPlaced source.now token }
+    ensures told { IfOk result (λ told. told ≡ is_text (node_of [] token)) }
+    ensures pushed { OnOk result (string_bytes text.new ≡ string_bytes text.old ++ text_in source.now (node_of [] token)) }
+{
+    match token {
+        Token::Piece { from, to } => {
+            text.push_str(&source[from..to])?;
+            Ok(true)
+        }
+        Token::Characters(chars) => {
+            push_chars(text, chars)?;
+            Ok(true)
+        }
+        Token::Whole(_) => Ok(false),
+        Token::Made { .. } => Ok(false),
+        Token::Run(run) => {
+            push_run(text, run)?;
+            Ok(true)
+        }
+        Token::Opener { image, .. } => {
+            text.push_str(opener_text(image))?;
+            Ok(true)
+        }
+    }
+}
+
+/// The text with which the tokens begin, in one piece, and how many of them it takes.
+fn join(alloc: Global, source: &str, tokens: &[Token]) -> Result<(Text, usize), AllocError>
+    requires { ArePlaced source.now tokens.now }
+    ensures text { IfOk result (λ joined. joined.0 ≡ text_in_front source.now (nodes_of [] tokens.now)) }
+    ensures rest { IfOk result (λ joined. nodes_of [] (drop joined.1 tokens.now) ≡ behind_texts (nodes_of [] tokens.now)) }
+    ensures within { IfOk result (λ joined. joined.1 ≤ length tokens.now) }
+{
+    let mut text = String::with_capacity(alloc, room_for_text(tokens))?;
+    for (at, token) in tokens.iter().enumerate() {
+        if !push_text_of(&mut text, source, *token)? {
+            return Ok((Text::from(text), at));
+        }
+    }
+    Ok((Text::from(text), tokens.len()))
+}
+
+/// Adds the text with which the tokens begin, if there is one, and answers how many of them it takes.
+pub(crate) fn push_texts(
+    alloc: Global,
+    source: &str,
+    tokens: &[Token],
+    content: &mut Vec<Inline>,
+) -> Result<usize, AllocError>
+    requires { ArePlaced source.now tokens.now }
+    ensures within { IfOk result (λ count. count ≤ length tokens.now) }
+    ensures rest { IfOk result (λ count. nodes_of [] (drop count tokens.now) ≡ behind_texts (nodes_of [] tokens.now)) }
+    ensures pushed { OnOk result (content.new.items ≡ content.old.items ++ text_before (text_in_front source.now (nodes_of [] tokens.now)) []) }
+{
+    let (text, count) = join(alloc, source, tokens)?;
+    if !text.is_empty() {
+        content.push(Inline::Text(text))?;
+    }
+    Ok(count)
+}
