@@ -493,12 +493,12 @@ opener-ends (OpenBracket other) source image behind end low within e =
     left _ = []
 
 bracket-before : (a : Atom) (source : List ℕ) (n : ℕ) (node : Node) (end : ℕ) → IsPart source node → end ≤ length source → item_for a (drop end source) ≡ Some (item_of source node) → AreBefore end (bracket_in n node)
-bracket-before a source n (Piece from to) end part within e = tt
-bracket-before a source n (Characters chars) end part within e = tt
-bracket-before a source n (nodes.Whole written) end part within e = tt
-bracket-before a source n (Finished inline depth holds) end part within e = tt
-bracket-before a source n (Run run) end part within e = tt
-bracket-before a source n (Opener image behind) end part within e = (opener-ends a source image behind end part.end.0 within e, tt)
+bracket-before a source n (Piece from to) end known within e = tt
+bracket-before a source n (Characters chars) end known within e = tt
+bracket-before a source n (nodes.Whole written) end known within e = tt
+bracket-before a source n (Finished inline depth holds) end known within e = tt
+bracket-before a source n (Run run) end known within e = tt
+bracket-before a source n (Opener image behind) end known within e = (opener-ends a source image behind end known.end.0 within e, tt)
 
 pub atom-read : (rules : Rules) (source : List ℕ) (nodes : List Node) (brackets : List Bracket) (at : ℕ) (node : Node) (end links_end : ℕ) (ends later : Ends) → IsAtom rules source at node end → Knows source later
     → IsRead source at nodes brackets links_end ends → IsRead source end (nodes ++ node ∷ []) (brackets ++ bracket_in (length nodes) node) links_end later
