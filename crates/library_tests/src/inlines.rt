@@ -44,7 +44,10 @@ fn inlines_of_a_leaf(rt: HostRuntime) -> Result<(), Fail> {
         .inlines(Rules::profile(), "b](c)", &table, 1)
         .ok()
         .ok_or("inlines")?;
-    assert_eq!(rt; read.get(0), Some(&Inline::Text(Text::from_str(alloc, "b](c)")?)));
+    assert_eq!(rt;
+        read.get(0),
+        Some(&Inline::Text(Text::from_str(alloc, "b](c)")?))
+    );
     let (looks, _) = looked_at(alloc, "*a*", 1)?;
     assert!(rt; (1..=28).contains(&looks));
     let (looks, count) = looked_at(alloc, "a_ b_", 1)?;
