@@ -29,8 +29,7 @@ use Rattle.cm_scan.proofs.RunLemmas.{not-same}
 use Rattle.cm_inline.proofs.BottomLemmas.{kind-small, kind-untilded}
 use Rattle.cm_inline.proofs.EmphasisLemmas.{emph-holds, code-holds, html-holds, hard-holds, soft-holds, autolink-holds}
 use Rattle.cm_inline.proofs.DepthLemmas.{code-depth, html-depth, hard-depth, soft-depth, link-depth}
-use Rattle.cm_inline.specs.steps.Nodes.{Node}
-use Rattle.cm_inline.specs.steps.Nodes.{Piece, Characters, Run, Opener}
+use Rattle.cm_inline.specs.steps.Nodes.{Node, Piece, Characters, Run, Opener, item_of, IsPart}
 use Rattle.cm_inline.specs.declared.tokens.Token.{Token}
 use Rattle.cm_inline.specs.declared.tokens.Token.TheVariants as tokens
 use Rattle.cm_inline.specs.steps.Groups.{node_of, IsNoGroup}
@@ -41,7 +40,6 @@ use Rattle.cm_inline.specs.declared.runs.DelimiterRun.{DelimiterRun}
 use Rattle.cm_inline.specs.steps.Runs.{byte_of, run_of}
 use Rattle.cm_inline.specs.Emphases.{emphases_of}
 use Rattle.cm_inline.specs.steps.Searching.{kind}
-use Rattle.cm_inline.specs.steps.Nodes.{item_of, IsPart}
 use Rattle.cm_inline.specs.steps.Reads.{Stands, atom_in, is_break_byte, item_for, kinds_by, IsNew, IsAtom}
 
 -- the source from the place on

@@ -19,8 +19,7 @@ use Rattle.cm_scan.specs.Inlines.{add_atom, item_step, items_after}
 use Rattle.cm_scan.proofs.PairingLemmas.{nearest-splits, together}
 use Rattle.cm_scan.proofs.OnePassLemmas.{pairs_in_one_pass, closed-none, closed-gone, closed-more, closed_by-gone, closed_by-more}
 use Rattle.cm_inline.specs.declared.fault.InlineFault.{InlineFault}
-use Rattle.cm_inline.specs.steps.Nodes.{Node}
-use Rattle.cm_inline.specs.steps.Nodes.{items_of, nodes_depth, AreParts}
+use Rattle.cm_inline.specs.steps.Nodes.{Node, items_of, nodes_depth, AreParts}
 use Rattle.cm_inline.specs.steps.Depths.{item_depth, items_depth}
 use Rattle.cm_inline.proofs.DepthLemmas.{emphasised-depth, text-first, none-deeper, settled-depth}
 use Rattle.cm_inline.proofs.PairLemmas.{pass-closer, pass-other}

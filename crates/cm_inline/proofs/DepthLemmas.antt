@@ -9,14 +9,12 @@ use Rattle.cm_tree.specs.Depth.{depth_step, depth_of, inlines_depth}
 use Rattle.cm_scan.specs.Autolinks.{Autolink}
 use Rattle.cm_scan.specs.Atoms.{link_of}
 use Rattle.cm_scan.specs.Pairing.{text_before, settled_after, settled, emphasised}
-use Rattle.cm_inline.specs.steps.Nodes.{Node}
-use Rattle.cm_inline.specs.steps.Nodes.{Piece, Characters, Whole, Finished, Run, Opener}
+use Rattle.cm_inline.specs.steps.Nodes.{Node, Piece, Characters, Whole, Finished, Run, Opener, items_of, nodes_depth, AreParts}
 use Rattle.cm_scan.specs.CodeSpans.{one_line}
 use Rattle.std.specs.List.{slice_range}
 use Rattle.cm_inline.specs.declared.written.Written.{Written}
 use Rattle.cm_inline.specs.declared.written.Written.TheVariants as written
 use Rattle.cm_inline.specs.steps.Written.{inline_in, written_depth}
-use Rattle.cm_inline.specs.steps.Nodes.{items_of, nodes_depth, AreParts}
 
 text-depth : (text : List ℕ) → depth_of (Text text) ≡ 0
 text-depth text = simp (fold_out-Inline ℕ depth_step, outs-Text)

@@ -12,8 +12,7 @@ use Rattle.cm_html.specs.Escape.{escape_byte, escape}
 use Rattle.cm_html.specs.Html.{Spelled, inline_step, inlines_html, spelled, link_html, emph_html, strong_html, strike_html}
 use Rattle.cm_scan.specs.CodeSpans.{one_line}
 use Rattle.cm_scan.specs.Pairing.{bracket_text, text_before, settled_after, settled}
-use Rattle.cm_inline.specs.steps.Nodes.{Node}
-use Rattle.cm_inline.specs.steps.Nodes.{Piece, Characters, Whole, Finished, Run, Opener}
+use Rattle.cm_inline.specs.steps.Nodes.{Node, Piece, Characters, Whole, Finished, Run, Opener, items_of, node_html, nodes_html}
 use Rattle.cm_inline.specs.declared.nodes.Kind.{Kind}
 use Rattle.cm_inline.specs.declared.nodes.Kind.TheVariants as kinds
 use Rattle.cm_inline.specs.declared.tokens.Token.{Token}
@@ -24,7 +23,6 @@ use Rattle.cm_inline.specs.declared.written.Written.{Written}
 use Rattle.cm_inline.specs.declared.written.Written.TheVariants.{Code, Html, Autolink, Soft, Hard}
 use Rattle.cm_inline.specs.steps.Written.{inline_in, written_html}
 use Rattle.cm_inline.specs.steps.Runs.{byte_of}
-use Rattle.cm_inline.specs.steps.Nodes.{items_of, node_html, nodes_html}
 
 -- the text of a run is its own HTML
 run-html : (marker : Marker) (n : ℕ) → escape (replicate n (byte_of marker)) ≡ replicate n (byte_of marker)

@@ -6,11 +6,9 @@ use Rattle.std.proofs.lemmas.List.{append-nil}
 use Rattle.cm_text.specs.References.{chars_of}
 use Rattle.cm_tree.specs.declared.tree.Inline.{Inline}
 use Rattle.cm_scan.specs.Pairing.{bracket_text, text_before, settled_after, settled}
-use Rattle.cm_inline.specs.steps.Nodes.{Node}
-use Rattle.cm_inline.specs.steps.Nodes.{Piece, Characters, Whole, Finished, Run, Opener}
+use Rattle.cm_inline.specs.steps.Nodes.{Node, Piece, Characters, Whole, Finished, Run, Opener, items_of, is_text, text_in, text_in_front, behind_texts, inline_of, AreParts}
 use Rattle.cm_inline.specs.steps.Runs.{byte_of}
 use Rattle.cm_inline.specs.steps.Written.{inline_in}
-use Rattle.cm_inline.specs.steps.Nodes.{items_of, is_text, text_in, text_in_front, behind_texts, inline_of, AreParts}
 
 settled-texts : (source before : List ℕ) (nodes : List Node) → settled_after before (items_of source nodes) ≡ text_before (before ++ text_in_front source nodes) (settled (items_of source (behind_texts nodes)))
 unfolding settled_after

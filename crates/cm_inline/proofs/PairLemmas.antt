@@ -1,7 +1,7 @@
 -- A pair among the nodes of a source, and the pass over all of them.
 use Rattle.std.proofs.Common.{◌≡◌, ◌⊎◌, inl, inr, ℕ, zero, suc, ◌+◌, ◌-◌, ◌<◌, ◌≤◌, Bool, true, false, cond, nat_le, List, [], ◌∷◌, ◌++◌, length, reverse, take, drop, get_or, Option, Some, None, refl, sym, ap, subst, ◌∙◌, arith, append_assoc, append-nil, drop-drop, length-append, length-take}
 use Rattle.std.specs.Prelude.{IfSome}
-use Rattle.std.proofs.lemmas.List.{take-map, drop-map, map-append, length-map, length-reverse, reverse-append, reverse-reverse}
+use Rattle.std.proofs.lemmas.List.{take-append-le, drop-append-le, take-take, drop-take, take-map, drop-map, map-append, length-map, length-reverse, reverse-append, reverse-reverse}
 use Rattle.std.specs.List.{list_any}
 use Rattle.std.proofs.lemmas.Bool.{or_parts}
 use Rattle.std.proofs.lemmas.List.Sums.{sum_by-append, sum_by-cons}
@@ -14,14 +14,13 @@ use Rattle.cm_scan.specs.OnePass.{up_to_pair, closer_left, closed_by, passed, pa
 use Rattle.cm_scan.proofs.PairingLemmas.{nearest-splits, leftmost-no_closer, pair_all-stop}
 use Rattle.cm_scan.proofs.OnePassLemmas.{closed_by-none, closed_by-gone, closed_by-more}
 use Rattle.cm_inline.specs.steps.Nodes as node
-use Rattle.cm_inline.specs.steps.Nodes.{Node}
+use Rattle.cm_inline.specs.steps.Nodes.{Node, item_of, items_of, is_closer, nodes_depth, rest_in, IsPart, AreParts}
 use Rattle.cm_inline.specs.declared.runs.DelimiterRun.{DelimiterRun}
 use Rattle.cm_inline.specs.declared.delimiters.Delimiter.{Delimiter}
 use Rattle.cm_inline.specs.steps.Entries.{Entry, Listed, above, is_listed, reserve, Below, Falling}
 use Rattle.cm_inline.specs.steps.Searching.{NoneBeneath, kind, openers_of, places_of, characters}
 use Rattle.cm_inline.specs.steps.Openers.{zeros, spent, cut, Ready, Closing, Open, Opens, Spends, Finishes}
 use Rattle.cm_inline.specs.steps.Runs.{byte_of, run_of, entry_of, rest_of}
-use Rattle.cm_inline.specs.steps.Nodes.{item_of, items_of, is_closer, nodes_depth, rest_in, IsPart, AreParts}
 use Rattle.cm_inline.specs.steps.Pairs.{Adds, AreOf, Stays, opened_at, allowed, allowance, item_emphases, items_emphases}
 use Rattle.cm_inline.specs.declared.nodes.Kind.{Kind}
 use Rattle.cm_inline.specs.declared.tokens.Token.{Token}
@@ -191,6 +190,10 @@ pub parts-append : (source : List ℕ) (nodes more : List Node) → AreParts sou
 parts-append source [] more parts others = others
 parts-append source (x ∷ nodes) more parts others = (parts.0, parts-append source nodes more parts.1 others)
 
+pub parts-split : (source : List ℕ) (nodes more : List Node) → AreParts source (nodes ++ more) → AreParts source nodes × AreParts source more
+parts-split source [] more parts = (tt, parts)
+parts-split source (x ∷ nodes) more parts = let others = parts-split source nodes more parts.1 in ((parts.0, others.0), others.1)
+
 pub rest-parts : (source : List ℕ) (rest : Option DelimiterRun) → AreParts source (rest_in rest)
 rest-parts source None = tt
 rest-parts source (Some run) = (tt, tt)
@@ -212,16 +215,10 @@ pair-items source nodes opener closer rest made left e =
 -- a pair behind a place among the nodes
 
 front-stays : (from place : ℕ) (whole more : List Node) → from ≤ place → place < length whole → take from (take place whole ++ more) ≡ take from whole
-front-stays zero place whole more h w = refl
-front-stays (suc from) zero whole more h w = absurd (omega (arith, h))
-front-stays (suc from) (suc place) [] more h w = absurd (omega (arith, w))
-front-stays (suc from) (suc place) (x ∷ whole) more h w = ap (λ t. x ∷ t) (front-stays from place whole more (omega (arith, h)) (omega (arith, w)))
+front-stays from place whole more h w = take-append-le from (take place whole) more (omega (arith, length-take place whole, h, w)) ∙ take-take from place whole h
 
-back-stays : (from i place : ℕ) (whole more : List Node) → from + i ≡ place → place < length whole → drop from (take place whole ++ more) ≡ take i (drop from whole) ++ more
-back-stays zero i place whole more e w = let q : place ≡ i = omega (arith, e) in ap (λ n. take n whole ++ more) q
-back-stays (suc from) i zero whole more e w = absurd (omega (arith, e))
-back-stays (suc from) i (suc place) [] more e w = absurd (omega (arith, w))
-back-stays (suc from) i (suc place) (x ∷ whole) more e w = back-stays from i place whole more (omega (arith, e)) (omega (arith, w))
+back-stays : (from i : ℕ) (whole more : List Node) → from + i < length whole → drop from (take (from + i) whole ++ more) ≡ take i (drop from whole) ++ more
+back-stays from i whole more w = drop-append-le from (take (from + i) whole) more (omega (arith, length-take (from + i) whole, w)) ∙ ap (λ t. t ++ more) (drop-take from i whole)
 
 pub behind-both : (from i : ℕ) (whole : List Node) → drop (suc (from + i)) whole ≡ drop (suc i) (drop from whole)
 behind-both from i whole = let n : suc (from + i) ≡ from + suc i = omega arith in ap (λ m. drop m whole) n ∙ sym (drop-drop (suc i) from whole)
@@ -238,7 +235,7 @@ pair-from source whole more from opener closer rest kind depth count within left
     let made : Node = node.Finished (made_by kind inside) depth false in
     let nodes = drop from whole in
     ap (λ t. items_of source (drop from t)) e
-    ∙ ap (items_of source) (back-stays from opener.item (from + opener.item) whole (rest_in rest ++ made ∷ []) refl within ∙ sym (append_assoc (take opener.item nodes) (rest_in rest) (made ∷ [])))
+    ∙ ap (items_of source) (back-stays from opener.item whole (rest_in rest ++ made ∷ []) within ∙ sym (append_assoc (take opener.item nodes) (rest_in rest) (made ∷ [])))
     ∙ pair-items source nodes opener (run_of closer) rest made (left ∙ ap (λ n. without n (run_of opener.run)) is)
     (ap Finished (makes (settled (items_of source inside)) ∙ ap (λ n. emphasised (byte_of closer.marker) n (settled (items_of source inside))) is
     ∙ ap (λ t. emphasised (byte_of closer.marker) (used (run_of opener.run) (run_of closer)) (settled (items_of source t))) (behind-both from opener.item whole)))
@@ -426,22 +423,12 @@ stays-on from old mid new s t = record {
   placed = λ source parts placed. t.placed source (s.parts source parts) (s.placed source parts placed);
 }
 
-pub take-front : (from : ℕ) (nodes more : List Node) → from ≤ length nodes → take from (nodes ++ more) ≡ take from nodes
-take-front zero nodes more h = refl
-take-front (suc from) [] more h = absurd (omega (arith, h))
-take-front (suc from) (x ∷ nodes) more h = ap (λ t. x ∷ t) (take-front from nodes more (omega (arith, h)))
-
-drop-front : (from : ℕ) (nodes more : List Node) → from ≤ length nodes → drop from (nodes ++ more) ≡ drop from nodes ++ more
-drop-front zero nodes more h = refl
-drop-front (suc from) [] more h = absurd (omega (arith, h))
-drop-front (suc from) (x ∷ nodes) more h = drop-front from nodes more (omega (arith, h))
-
 pub drop-more : (from : ℕ) (nodes more others : List Node) → from ≤ length nodes → more ≡ nodes ++ others → drop from more ≡ drop from nodes ++ others
-drop-more from nodes more others h e = ap (drop from) e ∙ drop-front from nodes others h
+drop-more from nodes more others h e = ap (drop from) e ∙ drop-append-le from nodes others h
 
 pub stays-more : (from : ℕ) (old new : Held) (others : List Node) → from ≤ length (nodes_in old) → ((source : List ℕ) → AreParts source (nodes_in old) → AreParts source others) → nodes_in new ≡ nodes_in old ++ others → new.inside ≡ old.inside → Stays from old new
 stays-more from old new others h are e i = record {
-  front = ap (take from) e ∙ take-front from (nodes_in old) others h;
+  front = ap (take from) e ∙ take-append-le from (nodes_in old) others h;
   long = omega (arith, h, ap length e, length-append (nodes_in old) others);
   parts = λ source parts. subst (AreParts source) (sym e) (parts-append source (nodes_in old) others parts (are source parts));
   placed = λ source parts placed. subst (ArePlaced source) (sym i) placed;

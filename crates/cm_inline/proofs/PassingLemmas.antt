@@ -1,6 +1,6 @@
 -- The pass over the nodes from a number on, in which all their pairs are made.
-use Rattle.std.proofs.Common.{◌≡◌, ◌≢◌, ℕ, zero, suc, ◌+◌, ◌<◌, ◌≤◌, List, [], ◌∷◌, ◌++◌, length, reverse, take, drop, Option, Some, None, refl, sym, ap, subst, ◌∙◌, arith, length-append}
-use Rattle.std.proofs.lemmas.List.{map-append, reverse-reverse}
+use Rattle.std.proofs.Common.{◌≡◌, ◌≢◌, ℕ, ◌+◌, ◌<◌, ◌≤◌, List, [], ◌∷◌, ◌++◌, length, reverse, take, drop, Option, Some, sym, ap, subst, ◌∙◌, arith, length-append, length-take}
+use Rattle.std.proofs.lemmas.List.{take-append-le, take-take, drop-take, map-append, reverse-reverse}
 use Rattle.std.proofs.lemmas.List.Sums.{sum_by-cons}
 use Rattle.cm_scan.specs.Pairing.{Delimiters, pair_all}
 use Rattle.cm_scan.specs.OnePass.{passed, pass_from}
@@ -15,8 +15,9 @@ use Rattle.cm_inline.specs.steps.Pairs.{Adds, AreLooks, AreOf, Stays, allowed, a
 use Rattle.cm_inline.specs.steps.Runs.{run_of}
 use Rattle.cm_inline.proofs.DeeperLemmas.{pass-deeper}
 use Rattle.cm_inline.proofs.EmphasisLemmas.{both-hold}
+use Rattle.cm_inline.proofs.HeldLemmas.{none-left}
 use Rattle.cm_inline.proofs.NodeLemmas.{parts-drop}
-use Rattle.cm_inline.proofs.PairLemmas.{ready-none, of-split, allowance-split, others-ready, others-pass, of-thirteen, parts-append, parts-take, drop-more, take-front}
+use Rattle.cm_inline.proofs.PairLemmas.{ready-none, of-split, allowance-split, others-ready, others-pass, of-thirteen, parts-append, parts-split, parts-take, drop-more}
 
 -- Nodes were passed over: they pay for the looks, and come with those that are left to what they would come to at first.
 pub record Passing (from : ℕ) (old now : Held) (left : List Node) (looks : ℕ) (list : Listed) (bottoms : List ℕ) : Type 0 where
@@ -34,26 +35,11 @@ pub record Passing (from : ℕ) (old now : Held) (left : List Node) (looks : ℕ
 
 -- all wait at first
 
-drop-take : (n : ℕ) (nodes : List Node) → drop n (take n nodes) ≡ []
-drop-take zero nodes = refl
-drop-take (suc n) [] = refl
-drop-take (suc n) (x ∷ nodes) = drop-take n nodes
-
-take-again : (n : ℕ) (nodes : List Node) → take n (take n nodes) ≡ take n nodes
-take-again zero nodes = refl
-take-again (suc n) [] = refl
-take-again (suc n) (x ∷ nodes) = ap (λ t. x ∷ t) (take-again n nodes)
-
-take-long : (n : ℕ) (nodes : List Node) → n ≤ length nodes → n ≤ length (take n nodes)
-take-long zero nodes h = omega arith
-take-long (suc n) [] h = absurd (omega (arith, h))
-take-long (suc n) (x ∷ nodes) h = let q = take-long n nodes (omega (arith, h)) in omega (arith, q)
-
 pub passing-none : (from : ℕ) (old now : Held) (looks : ℕ) (list : Listed) → from ≤ length (nodes_in old) → nodes_in now ≡ take from (nodes_in old) → waiting_in now ≡ drop from (nodes_in old) → now.inside ≡ old.inside → list.entries ≡ []
     → list.looks ≡ looks → Passing from old now (waiting_in now) looks list zeros
 passing-none from old now looks list h nodes waiting inside none same = record {
-  long = omega (arith, take-long from (nodes_in old) h, ap length nodes);
-  front = ap (take from) nodes ∙ take-again from (nodes_in old);
+  long = omega (arith, h, length-take from (nodes_in old), ap length nodes);
+  front = ap (take from) nodes ∙ take-take from from (nodes_in old) (omega arith);
   ready = λ source. subst (λ t. Ready (reverse (items_of source t)) list zeros) (sym gone) ready.0;
   are = λ source kinds are. subst (λ t. AreOf kinds (items_of source t)) (sym waiting) are;
   paid = λ source kinds are. omega (arith, ready.1 kinds, same, ap (λ t. allowance kinds (items_of source t)) waiting);
@@ -64,16 +50,12 @@ passing-none from old now looks list h nodes waiting inside none same = record {
 }
   where
     gone : drop from (nodes_in now) ≡ []
-    gone = ap (drop from) nodes ∙ drop-take from (nodes_in old)
+    gone = let same : from ≡ from + 0 = omega arith in ap (drop from) nodes ∙ ap (λ n. drop from (take n (nodes_in old))) same ∙ drop-take from 0 (nodes_in old)
 
     ready : Ready [] list zeros × ((kinds : ℕ) → spent kinds list zeros ≤ list.looks)
     ready = ready-none list none
 
 -- nodes up to a run are taken
-
-parts-split : (source : List ℕ) (nodes more : List Node) → AreParts source (nodes ++ more) → AreParts source nodes × AreParts source more
-parts-split source [] more parts = (tt, parts)
-parts-split source (x ∷ nodes) more parts = let others = parts-split source nodes more parts.1 in ((parts.0, others.0), others.1)
 
 emphases-split : (source : List ℕ) (nodes more : List Node) → items_emphases (items_of source (nodes ++ more)) ≡ items_emphases (items_of source nodes) + items_emphases (items_of source more)
 emphases-split source nodes more = ap items_emphases (map-append (item_of source) nodes more) ∙ both-hold (items_of source nodes) (items_of source more)
@@ -82,7 +64,7 @@ pub passing-takes : (from : ℕ) (old mid new : Held) (run : Option DelimiterRun
     → Passing from old new (rest_in run ++ waiting_in new) looks list bottoms
 passing-takes from old mid new run looks list bottoms p takes inside = record {
   long = omega (arith, p.long, ap length takes.nodes, length-append (nodes_in mid) takes.others);
-  front = ap (take from) takes.nodes ∙ take-front from (nodes_in mid) takes.others p.long ∙ p.front;
+  front = ap (take from) takes.nodes ∙ take-append-le from (nodes_in mid) takes.others p.long ∙ p.front;
   ready = λ source. subst (λ t. Ready (reverse (items_of source t)) list bottoms) (sym more) (others-ready source (drop from (nodes_in mid)) takes.others list bottoms takes.none (p.ready source));
   are = λ source kinds are. (of-split kinds (items_of source takes.others) (items_of source left) (subst (AreOf kinds) (split source) (p.are source kinds are))).1;
   paid = λ source kinds are. omega (arith, p.paid source kinds are, ap (λ t. allowance kinds (items_of source t)) takes.waiting, allowance-split kinds source takes.others left);
@@ -109,14 +91,10 @@ pub passing-run : (from : ℕ) (old mid new : Held) (found : Option DelimiterRun
 passing-run from old mid new found run looks list bottoms p takes inside is =
     subst (λ f. Passing from old new (rest_in f ++ waiting_in new) looks list bottoms) is (passing-takes from old mid new found looks list bottoms p takes inside)
 
-none-found : (found : Option DelimiterRun) → ((run : DelimiterRun) → found ≢ Some run) → found ≡ None
-none-found None h = refl
-none-found (Some run) h = absurd (h run refl)
-
 pub passing-end : (from : ℕ) (old mid new : Held) (found : Option DelimiterRun) (looks : ℕ) (list : Listed) (bottoms : List ℕ) → Passing from old mid (waiting_in mid) looks list bottoms → Takes mid new found → new.inside ≡ mid.inside
     → ((run : DelimiterRun) → found ≢ Some run) → Passing from old new [] looks list bottoms
 passing-end from old mid new found looks list bottoms p takes inside none =
-    let is = none-found found none in
+    let is = none-left found none in
     subst (λ w. Passing from old new w looks list bottoms) (takes.ends is) (subst (λ f. Passing from old new (rest_in f ++ waiting_in new) looks list bottoms) is (passing-takes from old mid new found looks list bottoms p takes inside))
 
 pub fewer-wait : (mid new : Held) (found : Option DelimiterRun) (run : DelimiterRun) → Takes mid new found → found ≡ Some run → length (waiting_in new) < length (waiting_in mid)

@@ -15,11 +15,9 @@ use Rattle.cm_scan.specs.Pieces.{one_by_one}
 use Rattle.cm_scan.specs.Runs.{run_in, runs_after, runs_of, characters_of}
 use Rattle.cm_scan.proofs.RunsLemmas.{runs-go-on, runs-behind-text, runs-in-pieces, runs_are_few}
 use Rattle.cm_inline.specs.Reading.{looks_at_most}
-use Rattle.cm_inline.specs.steps.Nodes.{Node}
-use Rattle.cm_inline.specs.steps.Nodes.{Piece}
+use Rattle.cm_inline.specs.steps.Nodes.{Node, Piece, item_of, items_of, text_between}
 use Rattle.cm_inline.specs.steps.Nodes as nodes
 use Rattle.cm_inline.specs.steps.Brackets.{closed_at}
-use Rattle.cm_inline.specs.steps.Nodes.{item_of, items_of, text_between}
 use Rattle.cm_inline.specs.steps.Pairs.{IsOf, AreOf, Keeps, allowed, allowance, item_emphases}
 use Rattle.cm_inline.specs.steps.Reads.{Stands, atom_in, item_for, kinds_by, IsNew, IsAtom, IsTextTo, characters_ahead, Pays}
 use Rattle.cm_inline.proofs.PairLemmas.{last-item, of-append, allowance-more, emphases-more}

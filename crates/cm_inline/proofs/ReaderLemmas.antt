@@ -19,10 +19,8 @@ use Rattle.cm_scan.specs.Brackets.{Defined, is_linked, holds_link, made}
 use Rattle.cm_inline.specs.declared.brackets.Bracket.{Bracket}
 use Rattle.cm_inline.specs.declared.ends.Ends.{Ends}
 use Rattle.cm_inline.specs.declared.links.LinkEnd.{LinkEnd}
-use Rattle.cm_inline.specs.steps.Nodes.{Node}
+use Rattle.cm_inline.specs.steps.Nodes.{Node, Piece, Characters, Finished, Run, Opener, item_of, items_of, nodes_depth, rest_in, text_between, IsPart, IsOpener, AreParts}
 use Rattle.cm_inline.specs.steps.Nodes as nodes
-use Rattle.cm_inline.specs.steps.Nodes.{Piece, Characters, Finished, Run, Opener}
-use Rattle.cm_inline.specs.steps.Nodes.{item_of, items_of, nodes_depth, rest_in, text_between, IsPart, IsOpener, AreParts}
 use Rattle.cm_inline.specs.Emphases.{emphases}
 use Rattle.cm_inline.specs.steps.Pairs.{AreLooks, Keeps, allowed, allowance, items_emphases}
 use Rattle.cm_inline.specs.steps.Links.{ends_of}
@@ -34,7 +32,7 @@ use Rattle.cm_inline.specs.steps.Groups.{made_of, made_by}
 use Rattle.cm_inline.specs.steps.Brackets.{bracket_in, brackets_from, AreBefore, LinksEnd, IsRead, outside_of, inside_of, link_of, link_made, left_as_text, closed_at, end_for}
 use Rattle.cm_inline.proofs.BracketLemmas.{Split, split-last, brackets-append, outside-is, inside-is, link-behind, closes-opener, closed_or}
 use Rattle.cm_inline.proofs.KeepsLemmas.{keeps-link, keeps-text}
-use Rattle.cm_inline.proofs.PairLemmas.{parts-append, allowance-both}
+use Rattle.cm_inline.proofs.PairLemmas.{parts-append, allowance-both, parts-split}
 use Rattle.cm_inline.proofs.DeeperLemmas.{both, settled-items, link-depth, image-depth, made-depth}
 use Rattle.cm_inline.proofs.EmphasisLemmas.{settled-holds}
 use Rattle.cm_inline.proofs.SliceLemmas.{one-slice}
@@ -143,10 +141,6 @@ links-cut source front rest end none links = λ n.
     ∙ sym (holds-drop source n front rest) ∙ links n
 
 -- parts and brackets of a front
-
-pub parts-split : (source : List ℕ) (xs ys : List Node) → AreParts source (xs ++ ys) → AreParts source xs × AreParts source ys
-parts-split source [] ys parts = (tt, parts)
-parts-split source (x ∷ xs) ys parts = let rest = parts-split source xs ys parts.1 in ((parts.0, rest.0), rest.1)
 
 pub before-later : (at end : ℕ) (brackets : List Bracket) → at ≤ end → AreBefore at brackets → AreBefore end brackets
 before-later at end [] low before = tt

@@ -21,11 +21,9 @@ use Rattle.cm_scan.proofs.PiecesReading.{reading_in_pieces}
 use Rattle.cm_inline.specs.Reading.{Refused}
 use Rattle.cm_inline.specs.declared.fault.InlineFault.{InlineFault}
 use Rattle.cm_inline.specs.declared.fault.InlineFault.TheVariants.{InlinesTooDeep, NoMemory}
-use Rattle.cm_inline.specs.steps.Nodes.{Node}
-use Rattle.cm_inline.specs.steps.Nodes.{Piece}
+use Rattle.cm_inline.specs.steps.Nodes.{Node, Piece, item_of, items_of, text_between}
 use Rattle.cm_inline.specs.steps.Brackets.{closed_at}
 use Rattle.cm_inline.specs.steps.Depths.{items_depth}
-use Rattle.cm_inline.specs.steps.Nodes.{item_of, items_of, text_between}
 use Rattle.cm_inline.specs.steps.Reads.{Stands, atom_in, item_for, IsAtom, IsTextTo, ahead}
 use Rattle.cm_inline.proofs.DeeperLemmas.{emphasis-deeper, reverse-depth, after-deeper}
 use Rattle.cm_inline.proofs.PairLemmas.{last-item}

@@ -7,6 +7,7 @@ use Rattle.std.proofs.lemmas.Bool.{eqb-true, and_parts}
 use Rattle.std.proofs.lemmas.List.{drop_more}
 use Rattle.std.proofs.lemmas.Option.{same_Some}
 use Rattle.std.proofs.lemmas.Str.{IsCharBoundary-before_ascii, IsCharBoundary-after_ascii}
+use Rattle.std.proofs.Math.Seq.{take-append_seam, drop-append_seam}
 use Rattle.cm_text.specs.Rules.{Rules}
 use Rattle.cm_scan.specs.Words.{begins_with, run_length, after_run, after_word, front_of, skip}
 use Rattle.cm_scan.specs.Links.{Reading, behind}
@@ -150,14 +151,6 @@ linked text link e = go (in_angles text) refl (sym e)
     go None is h = none-some h
     go (Some r) is h = angled text r is ∙ ap (λ t. 60 ∷ t) (as-read r link h)
 
-take-front : (part rest : List ℕ) → take (length part) (part ++ rest) ≡ part
-take-front [] rest = refl
-take-front (b ∷ bs) rest = ap (λ t. b ∷ t) (take-front bs rest)
-
-drop-front : (part rest : List ℕ) → drop (length part) (part ++ rest) ≡ rest
-drop-front [] rest = refl
-drop-front (b ∷ bs) rest = drop-front bs rest
-
 -- an autolink has two bytes or more
 pub link-further : (source : List ℕ) (at end : ℕ) (link : Autolink) → at < length source → end ≤ length source → Some link ≡ autolink (drop at source) → link.rest ≡ drop end source → end ≡ at + 1 + length link.text + 1
 link-further source at end link within high e left =
@@ -191,12 +184,12 @@ link-placed source at end link utf8 within high e left = (is, (omega (arith, pla
     size = omega (arith, place)
 
     is : slice_range source (at + 1) (end - 1) ≡ link.text
-    is = ap (λ n. take n (drop (at + 1) source)) size ∙ ap (take (length link.text)) behind-it ∙ take-front link.text (62 ∷ link.rest)
+    is = ap (λ n. take n (drop (at + 1) source)) size ∙ ap (take (length link.text)) behind-it ∙ take-append_seam link.text (62 ∷ link.rest)
 
     tick : begins_with 62 (drop (end - 1) source) ≡ true
     tick =
         let same : end - 1 ≡ at + 1 + length link.text = omega (arith, place) in
-        ap (λ n. begins_with 62 (drop n source)) same ∙ ap (begins_with 62) (sym (drop-drop (length link.text) (at + 1) source) ∙ ap (drop (length link.text)) behind-it ∙ drop-front link.text (62 ∷ link.rest))
+        ap (λ n. begins_with 62 (drop n source)) same ∙ ap (begins_with 62) (sym (drop-drop (length link.text) (at + 1) source) ∙ ap (drop (length link.text)) behind-it ∙ drop-append_seam link.text (62 ∷ link.rest))
 
     last : IsCharBoundary source (end - 1)
     last = let found = begins-at 62 source (end - 1) tick in IsCharBoundary-before_ascii source (end - 1) found.0 (omega (arith, found.2))

@@ -27,7 +27,7 @@ use std::mem;
 pub(crate) enum Form {
     /// Its inlines.
     Tree,
-    /// Their HTML, as one piece of raw HTML. The texts that stand in no other inline aren't made then.
+    /// Their HTML, as one piece of raw HTML, which is written from the source.
     Html,
 }
 

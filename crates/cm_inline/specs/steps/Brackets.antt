@@ -9,11 +9,9 @@ use Rattle.cm_scan.specs.Brackets.{Defined, LinkEnd, Bracketed, holds_link, made
 use Rattle.cm_inline.specs.declared.brackets.Bracket.{Bracket}
 use Rattle.cm_inline.specs.declared.brackets.Reader.{Reader}
 use Rattle.cm_inline.specs.declared.ends.Ends.{Ends}
-use Rattle.cm_inline.specs.steps.Nodes.{Node}
-use Rattle.cm_inline.specs.steps.Nodes.{Piece, Characters, Whole, Finished, Run, Opener}
+use Rattle.cm_inline.specs.steps.Nodes.{Node, Piece, Characters, Whole, Finished, Run, Opener, items_of, AreParts}
 use Rattle.cm_inline.specs.steps.Groups.{nodes_in, ArePlaced}
 use Rattle.cm_inline.specs.steps.Missing.{Knows}
-use Rattle.cm_inline.specs.steps.Nodes.{items_of, AreParts}
 
 -- the bracket that a node is, which has this number
 abbrev pub bracket_in : ℕ → Node → List Bracket

@@ -4,11 +4,10 @@ use Rattle.cm_scan.specs.Delimiters.{Run}
 use Rattle.cm_scan.specs.Pairing.{Item, Finished, Linked, Delimiters, Opened}
 use Rattle.cm_scan.specs.OnePass.{passed}
 use Rattle.cm_inline.specs.Emphases.{sum, emphases_of}
-use Rattle.cm_inline.specs.steps.Nodes.{Node}
+use Rattle.cm_inline.specs.steps.Nodes.{Node, items_of, AreParts}
 use Rattle.cm_inline.specs.steps.Entries.{Listed}
 use Rattle.cm_inline.specs.declared.delimiters.Delimiter.{Delimiter}
 use Rattle.cm_inline.specs.steps.Groups.{Held, nodes_in, ArePlaced}
-use Rattle.cm_inline.specs.steps.Nodes.{items_of, AreParts}
 use Rattle.cm_inline.specs.steps.Runs.{run_of}
 use Rattle.cm_inline.specs.steps.Openers.{Ready, spent}
 use Rattle.cm_inline.specs.steps.Searching.{kind}

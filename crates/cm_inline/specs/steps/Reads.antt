@@ -10,8 +10,7 @@ use Rattle.cm_scan.specs.Brackets.{Defined}
 use Rattle.cm_scan.specs.Inlines.{items_after}
 use Rattle.cm_scan.specs.InlineLaws.{is_plain_byte, keeps_spaces}
 use Rattle.cm_scan.specs.Runs.{runs_after, runs_of, characters_of}
-use Rattle.cm_inline.specs.steps.Nodes.{Node}
-use Rattle.cm_inline.specs.steps.Nodes.{item_of, items_of, IsPart}
+use Rattle.cm_inline.specs.steps.Nodes.{Node, item_of, items_of, IsPart}
 use Rattle.cm_inline.specs.Emphases.{emphases_of}
 use Rattle.cm_inline.specs.Reading.{looks_at_most}
 use Rattle.cm_inline.specs.steps.Searching.{kind}
