@@ -1,3 +1,5 @@
+pub mod RowLemmas
+pub mod LevelViewLemmas
 pub mod BeginCases
 pub mod ContainerLemmas
 pub mod TestLemmas

@@ -9,10 +9,12 @@ use Rattle.cm_scan.specs.Starts.{Start, IndentedCode, QuoteMarker, AtxHeading, O
 use Rattle.std.specs.Prelude.{nat_le}
 use Rattle.std.specs.List.{slice_index_or}
 use Rattle.cm_block.specs.declared.stack.Frame as code
-use Rattle.cm_block.specs.FrameViews.{frame_of, frames_of}
+use Rattle.cm_tree.specs.RawBlocks.{Raw}
+use Rattle.cm_block.specs.FrameViews.{frame_in, frames_in}
 use Rattle.cm_block.specs.Level.{Level}
 use Rattle.cm_block.proofs.Lazy.{starts_text, place-quote, place-item}
-use Rattle.cm_block.specs.Frames.{Container, a_quote, an_item, Frame, is_last}
+use Rattle.std.proofs.lemmas.List.{length_push}
+use Rattle.cm_block.specs.Frames.{Container, a_quote, an_item, Frame, Row, is_last}
 use Rattle.cm_block.specs.steps.FrameSteps.{inward, matching, quoted_in, quoted_by, close_container, close_frames}
 
 -- behind so many containers
@@ -25,34 +27,34 @@ unfolding close_frames
 close_last [] f level = refl
 close_last (g ∷ fs) f level = ap (close_container g.container g.level) (close_last fs f level)
 
-pub length_frames : (frames : List code.Frame) → length (frames_of frames) ≡ length frames
-length_frames [] = refl
-length_frames (f ∷ fs) = ap suc (length_frames fs)
+pub length_frames : (raw : Raw) (frames : List code.Frame) → length (frames_in raw frames) ≡ length frames
+length_frames raw [] = refl
+length_frames raw (f ∷ fs) = ap suc (length_frames raw fs)
 
 -- the containers from a place on
 
-pub frames_at : (frames : List code.Frame) (i : ℕ) (f : code.Frame) → i < length frames → f ≡ slice_index_or frames i f
-    → drop i (frames_of frames) ≡ frame_of f ∷ drop (suc i) (frames_of frames)
-frames_at [] i f less is = absurd (omega arith)
-frames_at (g ∷ gs) zero f less is = ap (λ h. frame_of h ∷ frames_of gs) (sym is)
-frames_at (g ∷ gs) (suc i) f less is = frames_at gs i f (omega arith) is
+pub frames_at : (raw : Raw) (frames : List code.Frame) (i : ℕ) (f : code.Frame) → i < length frames → f ≡ slice_index_or frames i f
+    → drop i (frames_in raw frames) ≡ frame_in raw f ∷ drop (suc i) (frames_in raw frames)
+frames_at raw [] i f less is = absurd (omega arith)
+frames_at raw (g ∷ gs) zero f less is = ap (λ h. frame_in raw h ∷ frames_in raw gs) (sym is)
+frames_at raw (g ∷ gs) (suc i) f less is = frames_at raw gs i f (omega arith) is
 
-pub frames_end : (frames : List code.Frame) (i : ℕ) → length frames ≤ i → drop i (frames_of frames) ≡ []
-frames_end [] i past = drop-nothing i
+pub frames_end : (raw : Raw) (frames : List code.Frame) (i : ℕ) → length frames ≤ i → drop i (frames_in raw frames) ≡ []
+frames_end raw [] i past = drop-nothing i
   where
-    drop-nothing : (i : ℕ) → drop i (frames_of []) ≡ []
+    drop-nothing : (i : ℕ) → drop i (frames_in raw []) ≡ []
     drop-nothing zero = refl
     drop-nothing (suc i) = refl
-frames_end (g ∷ gs) zero past = absurd (omega arith)
-frames_end (g ∷ gs) (suc i) past = frames_end gs i (omega arith)
+frames_end raw (g ∷ gs) zero past = absurd (omega arith)
+frames_end raw (g ∷ gs) (suc i) past = frames_end raw gs i (omega arith)
 
-pub last_at : (frames : List code.Frame) (i : ℕ) → i < length frames → (i == length frames - 1) ≡ is_last (drop (suc i) (frames_of frames))
-last_at [] i less = absurd (omega arith)
-last_at (f ∷ []) zero less = refl
-last_at (f ∷ []) (suc i) less = absurd (omega arith)
-last_at (f ∷ g ∷ fs) zero less = grind arith
-last_at (f ∷ g ∷ fs) (suc i) less =
-    let h : (i == length (g ∷ fs) - 1) ≡ is_last (drop (suc i) (frames_of (g ∷ fs))) = last_at (g ∷ fs) i (omega arith) in
+pub last_at : (raw : Raw) (frames : List code.Frame) (i : ℕ) → i < length frames → (i == length frames - 1) ≡ is_last (drop (suc i) (frames_in raw frames))
+last_at raw [] i less = absurd (omega arith)
+last_at raw (f ∷ []) zero less = refl
+last_at raw (f ∷ []) (suc i) less = absurd (omega arith)
+last_at raw (f ∷ g ∷ fs) zero less = grind arith
+last_at raw (f ∷ g ∷ fs) (suc i) less =
+    let h : (i == length (g ∷ fs) - 1) ≡ is_last (drop (suc i) (frames_in raw (g ∷ fs))) = last_at raw (g ∷ fs) i (omega arith) in
     same ∙ h
   where
     same : (suc i == length (f ∷ g ∷ fs) - 1) ≡ (i == length (g ∷ fs) - 1)
@@ -173,10 +175,10 @@ module _ (rules : Rules) (bare open_text : Bool) (line : LineView) (lazy : line.
       by_place : Option LineView → ℕ × LineView
       by_place o = elim o [ Some inner ↦ let inside = matching rules bare open_text fs inner in (suc inside.0, inside.1) | None ↦ (0, line) ]
 
-rest-length : (frames : List code.Frame) (i : ℕ) → i < length frames → suc i + length (drop (suc i) (frames_of frames)) ≡ length frames
-rest-length [] i less = absurd (omega arith)
-rest-length (f ∷ fs) zero less = omega (arith, length_frames fs)
-rest-length (f ∷ fs) (suc i) less = let h : suc i + length (drop (suc i) (frames_of fs)) ≡ length fs = rest-length fs i (omega arith) in omega (arith, h)
+rest-length : (raw : Raw) (frames : List code.Frame) (i : ℕ) → i < length frames → suc i + length (drop (suc i) (frames_in raw frames)) ≡ length frames
+rest-length raw [] i less = absurd (omega arith)
+rest-length raw (f ∷ fs) zero less = omega (arith, length_frames raw fs)
+rest-length raw (f ∷ fs) (suc i) less = let h : suc i + length (drop (suc i) (frames_in raw fs)) ≡ length fs = rest-length raw fs i (omega arith) in omega (arith, h)
 
 -- goes into all of the others
 pub match_lazy : (rules : Rules) (bare open_text : Bool) (c : Container) (is_bare : Bool) (line inner : LineView) (rest : List Frame)
@@ -185,9 +187,9 @@ match_lazy rules bare open_text c is_bare line inner rest stays lazy =
     let facts = from-container rules open_text line inner c is_bare stays lazy in
     goes-into-all rules bare open_text inner lazy facts.1 facts.0 rest
 
-pub behind_all : (frames : List code.Frame) (i : ℕ) (m : ℕ × LineView) (line : LineView) → i < length frames → m ≡ (length (drop (suc i) (frames_of frames)), line)
+pub behind_all : (raw : Raw) (frames : List code.Frame) (i : ℕ) (m : ℕ × LineView) (line : LineView) → i < length frames → m ≡ (length (drop (suc i) (frames_in raw frames)), line)
     → (length frames, line) ≡ behind (suc i) m
-behind_all frames i m line less is = ap (λ n. (n, line)) (sym (rest-length frames i less)) ∙ ap (behind (suc i)) (sym is)
+behind_all raw frames i m line less is = ap (λ n. (n, line)) (sym (rest-length raw frames i less)) ∙ ap (behind (suc i)) (sym is)
 
 -- quotes
 
@@ -210,9 +212,9 @@ quoted_end from at = ap (quoted_by false) (sym at)
 
 -- the last container
 
-pub frames_last : (frames : List code.Frame) (f : code.Frame) → frames_of (frames ++ f ∷ []) ≡ frames_of frames ++ frame_of f ∷ []
-frames_last [] f = refl
-frames_last (g ∷ gs) f = ap (λ t. frame_of g ∷ t) (frames_last gs f)
+pub frames_last : (raw : Raw) (frames : List code.Frame) (f : code.Frame) → frames_in raw (frames ++ f ∷ []) ≡ frames_in raw frames ++ frame_in raw f ∷ []
+frames_last raw [] f = refl
+frames_last raw (g ∷ gs) f = ap (λ t. frame_in raw g ∷ t) (frames_last raw gs f)
 
 pub drop_last : (n : ℕ) (fs : List Frame) (f : Frame) → n ≤ length fs → drop n (fs ++ f ∷ []) ≡ drop n fs ++ f ∷ []
 drop_last zero fs f within = refl
@@ -228,3 +230,37 @@ pub closed_last : (n : ℕ) (fs : List Frame) (f : Frame) (level next : Level) �
     → close_frames (drop n fs) next ≡ close_frames (drop n (fs ++ f ∷ [])) level
 closed_last n fs f level next within is =
     ap (close_frames (drop n fs)) is ∙ sym (close_last (drop n fs) f level) ∙ ap (λ gs. close_frames gs level) (sym (drop_last n fs f within))
+
+ends_in : (fs : List Frame) → 0 < length fs → (outer : List Frame) × ((last : Frame) × (fs ≡ outer ++ last ∷ []))
+ends_in [] some = absurd (omega arith)
+ends_in (f ∷ []) some = ([], (f, refl))
+ends_in (f ∷ g ∷ fs) some = let rest = ends_in (g ∷ fs) (omega arith) in (f ∷ rest.0, (rest.1.0, ap (λ t. f ∷ t) rest.1.1))
+
+-- one more container is closed, so that one fewer is open, and closing the rest comes to the same
+pub one_closed : (depth : ℕ) (before after : Row) → depth < length before.frames
+    → ((outer : List Frame) (last : Frame) → before.frames ≡ outer ++ last ∷ [] → (after.frames ≡ outer) × (after.level ≡ close_container last.container last.level before.level))
+    → (length before.frames ≡ length after.frames + 1)
+    × ((take depth after.frames ≡ take depth before.frames) × (close_frames (drop depth after.frames) after.level ≡ close_frames (drop depth before.frames) before.level))
+one_closed depth before after many closes =
+    let ends = ends_in before.frames (omega (arith, many)) in
+    let outer = ends.0 in
+    let last = ends.1.0 in
+    let all = ends.1.1 in
+    let closed = closes outer last all in
+    let size : length before.frames ≡ length outer + 1 = ap length all ∙ length_push outer last in
+    let within : depth ≤ length outer = omega (arith, many, size) in (
+      omega (arith, size, ap length closed.0),
+      (
+        ap (take depth) closed.0 ∙ sym (take_last depth outer last within) ∙ ap (take depth) (sym all),
+        ap (λ fs. close_frames (drop depth fs) after.level) closed.0
+            ∙ closed_last depth outer last before.level after.level within closed.1
+            ∙ ap (λ fs. close_frames (drop depth fs) before.level) (sym all),
+      ),
+    )
+
+pub nothing_left : (fs : List Frame) (depth : ℕ) (level : Level) → length fs ≤ depth → level ≡ close_frames (drop depth fs) level
+unfolding close_frames
+nothing_left [] zero level few = refl
+nothing_left [] (suc depth) level few = refl
+nothing_left (f ∷ fs) zero level few = absurd (omega arith)
+nothing_left (f ∷ fs) (suc depth) level few = nothing_left fs depth level (omega arith)

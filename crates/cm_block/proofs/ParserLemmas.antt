@@ -8,17 +8,13 @@ use Rattle.std.specs.FinMap as map
 use Rattle.cm_scan.specs.Lines.{size}
 use Rattle.cm_scan.specs.Parts.{LeafPart, depths_of}
 use Rattle.cm_scan.specs.Blocks.{parts_within, parts_of, blocks_of, owners_of, reference_table, first_too_deep}
-use Rattle.cm_block.specs.declared.stack.Stack as code
-use Rattle.cm_block.specs.declared.stack.Frame as code_frame
-use Rattle.cm_block.specs.LevelViews.{level_of}
-use Rattle.cm_block.specs.FrameViews.{frames_of}
 use Rattle.cm_scan.specs.Laws.{AreLines}
 use Rattle.cm_block.specs.OpenLeaf.{OpenLeaf, no_leaf, is_open_text, closed_leaves, blank_lines_behind, LeafLine, stays_open, is_last, line_of_leaf}
 use Rattle.cm_block.specs.Machine.{in_leaf}
 use Rattle.cm_block.specs.Level.{Level, empty_level, closed_blocks, push_blank}
 use Rattle.cm_block.specs.Stack.{Owned, Stack, empty_stack, close_leaves, push_blanks, close_open, own_leaves, own_blanks, own_open, close_stack, push_leaf_line, push_line, push_lines}
 use Rattle.cm_block.specs.Depths.{nesting}
-use Rattle.cm_block.specs.Frames.{Frame, is_last as is_last_frame, within, stack_with, nest}
+use Rattle.cm_block.specs.Frames.{Frame, Row, is_last as is_last_frame, within, stack_with, nest}
 use Rattle.cm_block.specs.steps.FrameSteps.{inward, matching, quoted_by, close_frames}
 use Rattle.cm_block.specs.declared.fault.BlockFault.{BlockFault}
 use Rattle.cm_block.specs.declared.fault.BlockFault.TheVariants.{BlocksTooDeep, NoMemory}
@@ -29,7 +25,6 @@ use Rattle.cm_block.specs.LeafViews.{leaf_of}
 use Rattle.cm_block.specs.Parser.{stack_of, StandsFor, TellsDepth}
 use Rattle.cm_block.specs.steps.ParserSteps.{Deep, TakenToLeaf}
 use Rattle.cm_block.specs.Tests.{Tested, AllTested, count_in, count_of}
-use Rattle.cm_block.proofs.Matching.{length_frames}
 use Rattle.cm_block.proofs.ContainerLemmas.{count-nest, count-closing-leaf, count-close-frames, count_taken, count_begun}
 use Rattle.cm_block.proofs.TestLemmas.{tested_lines}
 use Rattle.cm_block.proofs.Frames.{closes, owns, pushed, pushed_after, pushed_to_leaf, pushed-left, pushed-all, pushes}
@@ -72,23 +67,23 @@ module _ (x : OpenLeaf) (xs : List (LeafPart × ℕ)) (n : ℕ) (leaves : xs ≡
 
 -- a line of a leaf in the innermost container
 
-pub stack_stays : (bare : Bool) (fs : List Frame) (v w : Level) (y : OpenLeaf) (s : Owned) → bare ≡ false → w ≡ v
-    → stack_with bare fs w y s ≡ within fs (push_leaf_line s v (stays_open y))
-stack_stays bare fs v w y s plain level = ap₂ (λ b u. stack_with b fs u y s) plain level ∙ nest-within fs v y s
+pub stack_stays : (bare : Bool) (fs gs : List Frame) (v w : Level) (y : OpenLeaf) (s : Owned) → bare ≡ false → gs ≡ fs → w ≡ v
+    → stack_with bare gs w y s ≡ within fs (push_leaf_line s v (stays_open y))
+stack_stays bare fs gs v w y s plain frames level = ap₂ (λ b u. stack_with b gs u y s) plain level ∙ ap (λ hs. stack_with false hs v y s) frames ∙ nest-within fs v y s
 
-pub stack_ends : (bare : Bool) (fs : List Frame) (v u : Level) (y : OpenLeaf) (s t : Owned) (leaves : List (LeafPart × ℕ)) → bare ≡ false → y ≡ no_leaf
-    → u ≡ close_leaves v leaves → t ≡ own_leaves s leaves → stack_with bare fs u y t ≡ within fs (push_leaf_line s v (is_last leaves))
-stack_ends bare fs v u y s t leaves plain none level owners =
-    ap₂ (λ b z. stack_with b fs u z t) plain none ∙ ap₂ (λ w o. stack_with false fs w no_leaf o) level owners
+pub stack_ends : (bare : Bool) (fs gs : List Frame) (v u : Level) (y : OpenLeaf) (s t : Owned) (leaves : List (LeafPart × ℕ)) → bare ≡ false → gs ≡ fs → y ≡ no_leaf
+    → u ≡ close_leaves v leaves → t ≡ own_leaves s leaves → stack_with bare gs u y t ≡ within fs (push_leaf_line s v (is_last leaves))
+stack_ends bare fs gs v u y s t leaves plain frames none level owners =
+    ap₂ (λ b z. stack_with b gs u z t) plain none ∙ ap (λ hs. stack_with false hs u no_leaf t) frames ∙ ap₂ (λ w o. stack_with false fs w no_leaf o) level owners
     ∙ nest-within fs (close_leaves v leaves) no_leaf (own_leaves s leaves)
 
 -- a new parser
 
-pub new_holds : (rules : Rules) (s : code.Stack) (o : Owned) → s.frames ≡ [] → s.bare ≡ false → level_of s.level ≡ empty_level → o ≡ record { owners = []; leaves = 0; table = map.empty }
-    → stack_with s.bare (frames_of s.frames) (level_of s.level) no_leaf o ≡ push_lines rules empty_stack []
+pub new_holds : (rules : Rules) (s : Row) (o : Owned) → s.frames ≡ [] → s.bare ≡ false → s.level ≡ empty_level → o ≡ record { owners = []; leaves = 0; table = map.empty }
+    → stack_with s.bare s.frames s.level no_leaf o ≡ push_lines rules empty_stack []
 unfolding push_lines nest
 new_holds rules s o frames bare level owners =
-    ap₂ (λ b (fs : List code_frame.Frame). stack_with b (frames_of fs) (level_of s.level) no_leaf o) bare frames
+    ap₂ (λ b (fs : List Frame). stack_with b fs s.level no_leaf o) bare frames
     ∙ ap₂ (λ v w. stack_with false [] v no_leaf w) level owners
 
 pub new_within : (rules : Rules) (limit : ℕ) → first_too_deep rules limit [] ≡ None
@@ -220,19 +215,18 @@ stands_next old new lines line l tests same one_line h is few within tested sum 
     depth : nesting (push_line old.limits.rules (stack_of old) l).now ≡ length new.stack.frames
     depth =
         ap (λ (t : Stack). nesting t.now) (sym is)
-        ∙ nest-nesting new.stack.bare (frames_of new.stack.frames) (level_of new.stack.level) (leaf_of new.leaf)
-        ∙ length_frames new.stack.frames
+        ∙ nest-nesting new.stack.bare new.stack.frames new.stack.level (leaf_of new.leaf)
 
 -- a line that the parser accepts: one of the open leaf, or else what it begins
 
 module _ (old before now : parser.BlockParser) (line : LineView) (m : ℕ × LineView) (frames : before.stack.frames ≡ old.stack.frames) (level : before.stack.level ≡ old.stack.level)
     (leaf : before.leaf ≡ old.leaf) (owners : before.owners ≡ old.owners) (limits : before.limits ≡ old.limits)
-    (found : m ≡ matching old.limits.rules old.stack.bare (is_open_text (leaf_of old.leaf)) (frames_of old.stack.frames) line) where
+    (found : m ≡ matching old.limits.rules old.stack.bare (is_open_text (leaf_of old.leaf)) old.stack.frames line) where
   fs : List Frame
-  fs = frames_of old.stack.frames
+  fs = old.stack.frames
 
   v : Level
-  v = level_of old.stack.level
+  v = old.stack.level
 
   x : OpenLeaf
   x = leaf_of old.leaf
@@ -243,98 +237,96 @@ module _ (old before now : parser.BlockParser) (line : LineView) (m : ℕ × Lin
 
   no-more : m.0 ≤ length fs
   unfolding fs
-  no-more = subst (λ (k : ℕ × LineView). k.0 ≤ length (frames_of old.stack.frames)) (sym found) (matched_few old.limits.rules old.stack.bare (is_open_text (leaf_of old.leaf)) (frames_of old.stack.frames) line)
+  no-more = subst (λ (k : ℕ × LineView). k.0 ≤ length old.stack.frames) (sym found) (matched_few old.limits.rules old.stack.bare (is_open_text (leaf_of old.leaf)) old.stack.frames line)
 
   at-all : length before.stack.frames ≤ m.0 → m.0 ≡ length fs
   unfolding fs
-  at-all many = omega (arith, many, no-more, length_frames old.stack.frames, ap length frames)
+  at-all many = omega (arith, many, no-more, ap length frames)
 
   pub accept_taken : (taken : Bool) → taken ≡ true → TakenToLeaf taken m.0 before m.1 now → stack_of now ≡ push_line old.limits.rules (stack_of old) line
   unfolding fs v x
   accept_taken true e h =
       h.1.1.1
-      ∙ ap₂ (λ (gs : List code_frame.Frame) (w : Level). within (frames_of gs) (push_leaf_line before.owners w h.1.0)) frames (ap level_of level)
-      ∙ ap (λ o. within (frames_of old.stack.frames) (push_leaf_line o (level_of old.stack.level) h.1.0)) owners
-      ∙ sym (pushed_to _ old.stack.bare (frames_of old.stack.frames) (level_of old.stack.level) (leaf_of old.leaf) old.owners line m found h.1.0 (at-all h.0)
+      ∙ ap₂ (λ (gs : List Frame) (w : Level). within gs (push_leaf_line before.owners w h.1.0)) frames level
+      ∙ ap (λ o. within old.stack.frames (push_leaf_line o old.stack.level h.1.0)) owners
+      ∙ sym (pushed_to _ old.stack.bare old.stack.frames old.stack.level (leaf_of old.leaf) old.owners line m found h.1.0 (at-all h.0)
       (ap₂ (λ (k : LimitsView) y. line_of_leaf k.rules y m.1) (sym limits) (sym same-leaf) ∙ h.1.1.0))
   accept_taken false e h = absurd (cc e)
 
   pub accept_left : (taken : Bool) → taken ≡ false → TakenToLeaf taken m.0 before m.1 now
-      → (push_line old.limits.rules (stack_of old) line ≡ after old.limits.rules (frames_of old.stack.frames) (level_of old.stack.level) (leaf_of old.leaf) old.owners m)
+      → (push_line old.limits.rules (stack_of old) line ≡ after old.limits.rules old.stack.frames old.stack.level (leaf_of old.leaf) old.owners m)
       × ((leaf_of now.leaf ≡ leaf_of old.leaf) × ((now.stack.frames ≡ old.stack.frames) × ((now.stack.level ≡ old.stack.level) × (now.owners ≡ old.owners))))
   unfolding fs v x
   accept_left true e h = absurd (cc e)
   accept_left false e h = (
     by-depth (nat_le (length before.stack.frames) m.0) refl,
-    (h.1.0 ∙ same-leaf, (ap (λ (s : code.Stack). s.frames) h.1.1.0 ∙ frames, (ap (λ (s : code.Stack). s.level) h.1.1.0 ∙ level, h.1.1.1 ∙ owners))),
+    (h.1.0 ∙ same-leaf, (ap (λ (s : Row). s.frames) h.1.1.0 ∙ frames, (ap (λ (s : Row). s.level) h.1.1.0 ∙ level, h.1.1.1 ∙ owners))),
   )
     where
       by-depth : (b : Bool) → nat_le (length before.stack.frames) m.0 ≡ b
-          → push_line old.limits.rules (stack_of old) line ≡ after old.limits.rules (frames_of old.stack.frames) (level_of old.stack.level) (leaf_of old.leaf) old.owners m
+          → push_line old.limits.rules (stack_of old) line ≡ after old.limits.rules old.stack.frames old.stack.level (leaf_of old.leaf) old.owners m
       by-depth true le =
           let many : length before.stack.frames ≤ m.0 = grind (arith, le) in
-          pushed_no_leaf _ old.stack.bare (frames_of old.stack.frames) (level_of old.stack.level) (leaf_of old.leaf) old.owners line m found (at-all many)
+          pushed_no_leaf _ old.stack.bare old.stack.frames old.stack.level (leaf_of old.leaf) old.owners line m found (at-all many)
           (ap₂ (λ (k : LimitsView) y. line_of_leaf k.rules y m.1) (sym limits) (sym same-leaf) ∙ h.0 many)
       by-depth false le =
           let fewer : m.0 < length before.stack.frames = grind (arith, le) in
-          pushed_left _ old.stack.bare (frames_of old.stack.frames) (level_of old.stack.level) (leaf_of old.leaf) old.owners line m found
-          (λ all. absurd (omega (arith, fewer, all, length_frames old.stack.frames, ap length frames)))
+          pushed_left _ old.stack.bare old.stack.frames old.stack.level (leaf_of old.leaf) old.owners line m found
+          (λ all. absurd (omega (arith, fewer, all, ap length frames)))
 
 -- what was closed, from what it was closed of
-pub begun_after : (old mid closed : parser.BlockParser) (st : code.Stack) (m : ℕ × LineView)
+pub begun_after : (old mid closed : parser.BlockParser) (st : Row) (m : ℕ × LineView)
     → (leaf_of mid.leaf ≡ leaf_of old.leaf) × ((mid.stack.frames ≡ old.stack.frames) × ((mid.stack.level ≡ old.stack.level) × (mid.owners ≡ old.owners)))
-    → level_of closed.stack.level ≡ close_open (level_of mid.stack.level) (in_leaf (leaf_of mid.leaf))
-    → closed.owners ≡ own_open (quoted_by false (frames_of mid.stack.frames)) mid.owners (in_leaf (leaf_of mid.leaf))
+    → closed.stack.level ≡ close_open mid.stack.level (in_leaf (leaf_of mid.leaf))
+    → closed.owners ≡ own_open (quoted_by false mid.stack.frames) mid.owners (in_leaf (leaf_of mid.leaf))
     → closed.stack.frames ≡ mid.stack.frames
-    → frames_of st.frames ≡ take m.0 (frames_of closed.stack.frames)
-    → level_of st.level ≡ close_frames (drop m.0 (frames_of closed.stack.frames)) (level_of closed.stack.level)
-    → begun_in old.limits.rules (frames_of st.frames) (level_of st.level) m.1 closed.owners ≡ after old.limits.rules (frames_of old.stack.frames) (level_of old.stack.level) (leaf_of old.leaf) old.owners m
+    → st.frames ≡ take m.0 closed.stack.frames
+    → st.level ≡ close_frames (drop m.0 closed.stack.frames) closed.stack.level
+    → begun_in old.limits.rules st.frames st.level m.1 closed.owners ≡ after old.limits.rules old.stack.frames old.stack.level (leaf_of old.leaf) old.owners m
 begun_after old mid closed st m same level owners frames first rest =
-    ap₂ (λ f w. begun_in old.limits.rules f w m.1 closed.owners) (first ∙ ap (λ g. take m.0 (frames_of g)) all)
-    (rest ∙ ap₂ (λ g w. close_frames (drop m.0 (frames_of g)) w) all (level ∙ ap₂ (λ w y. close_open (level_of w) (in_leaf y)) same.1.1.0 same.0))
-    ∙ ap (begun_in old.limits.rules (take m.0 (frames_of old.stack.frames)) (close_frames (drop m.0 (frames_of old.stack.frames)) (close_open (level_of old.stack.level) (in_leaf (leaf_of old.leaf)))) m.1)
-    (owners ∙ ap₂ (λ g o. own_open (quoted_by false (frames_of g)) o (in_leaf (leaf_of mid.leaf))) same.1.0 same.1.1.1 ∙ ap (λ y. own_open (quoted_by false (frames_of old.stack.frames)) old.owners (in_leaf y)) same.0)
+    ap₂ (λ f w. begun_in old.limits.rules f w m.1 closed.owners) (first ∙ ap (λ g. take m.0 g) all)
+    (rest ∙ ap₂ (λ g w. close_frames (drop m.0 g) w) all (level ∙ ap₂ (λ w y. close_open w (in_leaf y)) same.1.1.0 same.0))
+    ∙ ap (begun_in old.limits.rules (take m.0 old.stack.frames) (close_frames (drop m.0 old.stack.frames) (close_open old.stack.level (in_leaf (leaf_of old.leaf)))) m.1)
+    (owners ∙ ap₂ (λ g o. own_open (quoted_by false g) o (in_leaf (leaf_of mid.leaf))) same.1.0 same.1.1.1 ∙ ap (λ y. own_open (quoted_by false old.stack.frames) old.owners (in_leaf y)) same.0)
   where
     all : closed.stack.frames ≡ old.stack.frames
     all = frames ∙ same.1.0
 
 pub owners_after : (old mid closed : parser.BlockParser)
     → (leaf_of mid.leaf ≡ leaf_of old.leaf) × ((mid.stack.frames ≡ old.stack.frames) × ((mid.stack.level ≡ old.stack.level) × (mid.owners ≡ old.owners)))
-    → closed.owners ≡ own_open (quoted_by false (frames_of mid.stack.frames)) mid.owners (in_leaf (leaf_of mid.leaf))
+    → closed.owners ≡ own_open (quoted_by false mid.stack.frames) mid.owners (in_leaf (leaf_of mid.leaf))
     → (close_stack (stack_of old)).owners ≡ closed.owners.owners
 unfolding close_stack
 owners_after old mid closed same owners =
     ap (λ (t : Owned). t.owners)
-    (owns old.stack.bare false (frames_of old.stack.frames) old.owners (level_of old.stack.level) (leaf_of old.leaf)
-    ∙ sym (owners ∙ ap₂ (λ g o. own_open (quoted_by false (frames_of g)) o (in_leaf (leaf_of mid.leaf))) same.1.0 same.1.1.1
-    ∙ ap (λ y. own_open (quoted_by false (frames_of old.stack.frames)) old.owners (in_leaf y)) same.0))
+    (owns old.stack.bare false old.stack.frames old.owners old.stack.level (leaf_of old.leaf)
+    ∙ sym (owners ∙ ap₂ (λ g o. own_open (quoted_by false g) o (in_leaf (leaf_of mid.leaf))) same.1.0 same.1.1.1
+    ∙ ap (λ y. own_open (quoted_by false old.stack.frames) old.owners (in_leaf y)) same.0))
 
 -- how many more quotes and items there are behind the line
 
 pub taken_count : (old before now : parser.BlockParser) (depth : ℕ) (line : LineView) (taken : Bool) → before.stack.frames ≡ old.stack.frames → before.stack.level ≡ old.stack.level
     → taken ≡ true → TakenToLeaf taken depth before line now → count_of (stack_of now) - count_of (stack_of old) ≤ 0
 taken_count old before now depth line true frames level e h =
-    count_taken old.stack.bare (frames_of old.stack.frames) (level_of old.stack.level) (leaf_of old.leaf) old.owners before.owners h.1.0 (stack_of now)
-    (h.1.1.1 ∙ ap₂ (λ (gs : List code_frame.Frame) w. within (frames_of gs) (push_leaf_line before.owners (level_of w) h.1.0)) frames level)
+    count_taken old.stack.bare old.stack.frames old.stack.level (leaf_of old.leaf) old.owners before.owners h.1.0 (stack_of now)
+    (h.1.1.1 ∙ ap₂ (λ (gs : List Frame) w. within gs (push_leaf_line before.owners w h.1.0)) frames level)
 taken_count old before now depth line false frames level e h = absurd (cc e)
 
-pub begun_count : (old mid closed now : parser.BlockParser) (st : code.Stack) (rules : Rules) (line : LineView) (depth : ℕ)
+pub begun_count : (old mid closed now : parser.BlockParser) (st : Row) (rules : Rules) (line : LineView) (depth : ℕ)
     → (leaf_of mid.leaf ≡ leaf_of old.leaf) × ((mid.stack.frames ≡ old.stack.frames) × ((mid.stack.level ≡ old.stack.level) × (mid.owners ≡ old.owners)))
-    → level_of closed.stack.level ≡ close_open (level_of mid.stack.level) (in_leaf (leaf_of mid.leaf))
+    → closed.stack.level ≡ close_open mid.stack.level (in_leaf (leaf_of mid.leaf))
     → closed.stack.frames ≡ mid.stack.frames
-    → frames_of st.frames ≡ take depth (frames_of closed.stack.frames)
-    → level_of st.level ≡ close_frames (drop depth (frames_of closed.stack.frames)) (level_of closed.stack.level)
-    → stack_of now ≡ begun_in rules (frames_of st.frames) (level_of st.level) line closed.owners
+    → st.frames ≡ take depth closed.stack.frames
+    → st.level ≡ close_frames (drop depth closed.stack.frames) closed.stack.level
+    → stack_of now ≡ begun_in rules st.frames st.level line closed.owners
     → count_of (stack_of now) - count_of (stack_of old) ≤ length now.stack.frames - length st.frames
 begun_count old mid closed now st rules line depth same level frames first rest is =
     omega (
       arith,
-      count_begun rules old.stack.bare (frames_of old.stack.frames) (frames_of st.frames) (level_of old.stack.level) (level_of st.level) (leaf_of old.leaf) old.owners closed.owners line depth (stack_of now)
-          (first ∙ ap (λ g. take depth (frames_of g)) all)
-          (rest ∙ ap₂ (λ g w. close_frames (drop depth (frames_of g)) w) all (level ∙ ap₂ (λ w y. close_open (level_of w) (in_leaf y)) same.1.1.0 same.0)) is,
-      nest-nesting now.stack.bare (frames_of now.stack.frames) (level_of now.stack.level) (leaf_of now.leaf),
-      length_frames now.stack.frames,
-      length_frames st.frames,
+      count_begun rules old.stack.bare old.stack.frames st.frames old.stack.level st.level (leaf_of old.leaf) old.owners closed.owners line depth (stack_of now)
+          (first ∙ ap (λ g. take depth g) all)
+          (rest ∙ ap₂ (λ g w. close_frames (drop depth g) w) all (level ∙ ap₂ (λ w y. close_open w (in_leaf y)) same.1.1.0 same.0)) is,
+      nest-nesting now.stack.bare now.stack.frames now.stack.level (leaf_of now.leaf),
     )
   where
     all : closed.stack.frames ≡ old.stack.frames

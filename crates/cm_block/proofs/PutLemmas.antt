@@ -1,11 +1,12 @@
 -- Closed leaves, put in place one after the other.
-use Rattle.std.proofs.Common.{◌≡◌, ℕ, zero, suc, ◌+◌, ◌-◌, ◌<◌, ◌≤◌, List, [], ◌∷◌, ◌++◌, length, take, drop, Option, Some, None, refl, sym, ap, ap₂, ◌∙◌, arith}
+use Rattle.std.proofs.Common.{◌≡◌, ℕ, suc, ◌+◌, ◌-◌, ◌<◌, ◌≤◌, List, [], ◌∷◌, ◌++◌, length, take, drop, Option, Some, None, refl, sym, ap, ap₂, ◌∙◌, arith}
 use Rattle.std.specs.List.{slice_range}
 use Rattle.std.proofs.lemmas.List.{drop_all, take-append-drop, length-drop}
 use Rattle.cm_tree.specs.declared.tree.Block.TheVariants.{Paragraph, Heading}
 use Rattle.cm_scan.specs.Words.{trim_end}
 use Rattle.cm_scan.specs.Links.{link_definition, Definitions, definitions_of}
-use Rattle.cm_scan.specs.Parts.{LeafPart, raw_inlines, leaf_block, definition}
+use Rattle.cm_scan.specs.Parts.{LeafPart, leaf_block, definition}
+use Rattle.cm_tree.specs.RawBlocks.{raw_inlines}
 use Rattle.cm_scan.specs.Blocks.{line_feeds, line_count, definition_leaves, content_leaf, leaves_of_run}
 use Rattle.cm_block.specs.Level.{Level, block_closes}
 use Rattle.cm_block.specs.OpenLeaf.{run_leaves}
@@ -155,21 +156,7 @@ pub nothing_owns : (before : Owned) (text : List ℕ) → None ≡ link_definiti
 unfolding own_leaves definition_leaves
 nothing_owns before text e = ap (λ (r : Definitions). own_leaves before (definition_leaves text r.taken)) (definitions_none text (sym e))
 
--- a text that was not cut
-
-drop-same : (n : ℕ) (text : List ℕ) → length text ≤ length (drop n text) → drop n text ≡ text
-drop-same zero text h = refl
-drop-same (suc n) [] h = refl
-drop-same (suc n) (b ∷ bs) h = absurd (omega (arith, h, length-drop n bs))
-
-pub still_whole : (text rest left : List ℕ) (end : ℕ) → left ≡ drop end rest → length rest ≤ length text → (length text ≤ length rest → rest ≡ text) → length text ≤ length left → left ≡ text
-still_whole text rest left end e within whole long =
-    let size : length left ≡ length (drop end rest) = ap length e in
-    let cut : length (drop end rest) ≡ length rest - end = length-drop end rest in
-    e ∙ drop-same end rest (omega (arith, size, cut, within, long)) ∙ whole (omega (arith, size, cut, long))
-
-pub no_longer : (text rest left : List ℕ) (end : ℕ) → left ≡ drop end rest → length rest ≤ length text → length left ≤ length text
-no_longer text rest left end e within = omega (arith, ap length e, length-drop end rest, within)
+-- it takes a line
 
 pub some_definition : (text label dest title : List ℕ) (end : ℕ) → Some (read_at label dest title text end) ≡ link_definition text → 1 ≤ length text
 some_definition text label dest title end e = more_lines text (fewer_lines text (read_at label dest title text end) (sym e))

@@ -1,12 +1,9 @@
 -- Runs of text: their line feeds, and the definitions at their front, one after the other.
 use Rattle.std.proofs.Common.{◌≡◌, ℕ, zero, suc, ◌+◌, ◌<◌, ◌≤◌, ◌-◌, Bool, true, false, List, [], ◌∷◌, length, take, drop, Option, Some, None, IfSome, ◌⊎◌, inl, inr, refl, sym, ap, ◌∙◌, subst, arith, drop-cons, add-one}
 use Rattle.std.specs.Prelude.{◌==◌}
-use Rattle.std.proofs.lemmas.List.{drop_all, length-take}
-use Rattle.std.proofs.lemmas.Str.{IsCharBoundary-from_take}
-use Rattle.std.specs.Str.{IsUtf8, IsCharBoundary}
+use Rattle.std.proofs.lemmas.List.{drop_all}
 use Rattle.std.proofs.lemmas.Bool.Decides.{nat_tests}
 use Rattle.memchr.specs.Find.{is_byte, places, places_from}
-use Rattle.cm_scan.specs.Words.{keep_byte, trim_end_by, trim_end}
 use Rattle.cm_scan.specs.Links.{LinkDefinition, label, link_definition, Definitions, definitions_within, definitions_of}
 use Rattle.cm_scan.specs.Blocks.{line_feeds, line_count}
 use Rattle.cm_scan.specs.Scanned.{definition_with}
@@ -38,27 +35,6 @@ feeds-within : (text : List ℕ) → line_feeds text ≤ length text
 unfolding line_feeds
 feeds-within [] = omega arith
 feeds-within (b ∷ bs) = let h : line_feeds bs ≤ length bs = feeds-within bs in grind (arith, h)
-
--- the front of a text without its trailing spaces and tabs
-
-trimmed-front : (b : ℕ) (bs t : List ℕ) → take (length t) bs ≡ t → take (length (keep_byte true b t)) (b ∷ bs) ≡ keep_byte true b t
-trimmed-front b bs [] h = grind arith
-trimmed-front b bs (c ∷ cs) h = ap (λ x. b ∷ x) h
-
-pub trimmed_take : (text : List ℕ) → take (length (trim_end text)) text ≡ trim_end text
-unfolding trim_end_by
-trimmed_take [] = refl
-trimmed_take (b ∷ bs) = trimmed-front b bs (trim_end bs) (trimmed_take bs)
-
--- and where it ends a character does
-pub cut_at : (text trimmed : List ℕ) → trimmed ≡ trim_end text → IsUtf8 text → IsUtf8 trimmed → IsCharBoundary text (length trimmed)
-cut_at text trimmed e u v =
-    let front : take (length trimmed) text ≡ trimmed = ap (λ t. take (length t) text) e ∙ trimmed_take text ∙ sym e in
-    let within : length trimmed ≤ length text = omega (arith, ap length front, length-take (length trimmed) text) in
-    IsCharBoundary-from_take text (length trimmed) u within (subst IsUtf8 (sym front) v)
-
-pub cut_text : (text trimmed : List ℕ) → trimmed ≡ trim_end text → take (length trimmed) text ≡ trim_end text
-cut_text text trimmed e = ap (λ t. take (length t) text) e ∙ trimmed_take text
 
 -- Definitions are read one after the other: how far they may be counted doesn't matter, where it is far enough.
 

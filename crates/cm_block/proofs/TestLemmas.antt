@@ -1,9 +1,6 @@
 -- How often lines are read, one call after another.
 use Rattle.std.proofs.Common.{◌≡◌, ℕ, suc, ◌+◌, ◌-◌, ◌*◌, ◌^◌, ◌<◌, ◌≤◌, min, Bool, true, false, Result, Ok, Err, refl, ◌∙◌, List, [], ◌∷◌, ◌++◌, length, length-append, ap, arith}
-use Rattle.cm_block.specs.declared.stack.Frame as code
-use Rattle.cm_block.specs.FrameViews.{frames_of}
 use Rattle.cm_block.specs.Frames.{Frame}
-use Rattle.cm_block.proofs.Matching.{length_frames}
 use Rattle.std.specs.Prelude.{nat_lt}
 use Rattle.std.specs.Result.{OnOk}
 use Rattle.cm_block.specs.Tests.{Tested, AllTested}
@@ -20,8 +17,8 @@ tested_within a b c d x y fewer more h = (λ below. let g = h.0 below in omega (
 
 -- containers that are opened one by one, each by one reading
 
-pub one_more_frame : (old new : List code.Frame) (f : Frame) → frames_of new ≡ frames_of old ++ f ∷ [] → length new ≡ suc (length old)
-one_more_frame old new f is = omega (arith, length_frames new, length_frames old, ap length is, length-append (frames_of old) (f ∷ []))
+pub one_more_frame : (old new : List Frame) (f : Frame) → new ≡ old ++ f ∷ [] → length new ≡ suc (length old)
+one_more_frame old new f is = omega (arith, ap length is, length-append old (f ∷ []))
 
 pub tested_one_deeper : (start depth next x y z : ℕ) → start ≤ depth → next ≡ suc depth → Tested (depth - start) (depth - start) x y → Tested 1 1 y z → Tested (next - start) (next - start) x z
 tested_one_deeper start depth next x y z deeper is before one =

@@ -16,6 +16,12 @@ pub record Frame : Type 0 where
   pub level : Level
   pub container : Container
 
+-- the open containers from the outside in, whether the innermost is an item with only its marker so far, and the level in that
+pub record Row : Type 0 where
+  pub frames : List Frame
+  pub bare : Bool
+  pub level : Level
+
 -- a container that is open in this way inside
 abbrev pub opened : Container → (bare : Bool) → Level → Open Level → Open Level
 opened a_quote bare inside now = in_quote inside now

@@ -9,16 +9,14 @@ use Rattle.cm_block.specs.declared.parser.BlockParser as code
 use Rattle.cm_block.specs.declared.parser.Outline.{Outline}
 use Rattle.cm_block.specs.declared.fault.BlockFault.{BlockFault}
 use Rattle.cm_block.specs.declared.fault.BlockFault.TheVariants.{BlocksTooDeep, NoMemory}
-use Rattle.cm_block.specs.LevelViews.{level_of}
 use Rattle.cm_block.specs.Stack.{Stack, empty_stack, push_lines}
 use Rattle.cm_block.specs.Frames.{stack_with}
-use Rattle.cm_block.specs.FrameViews.{frames_of}
 use Rattle.cm_block.specs.LeafViews.{leaf_of}
 use Rattle.cm_block.specs.Tests.{AllTested, container_count, count_of}
 
 -- what the parser holds
 abbrev pub stack_of : code.BlockParser → Stack
-stack_of parser = stack_with parser.stack.bare (frames_of parser.stack.frames) (level_of parser.stack.level) (leaf_of parser.leaf) parser.owners
+stack_of parser = stack_with parser.stack.bare parser.stack.frames parser.stack.level (leaf_of parser.leaf) parser.owners
 
 -- The parser has been given these lines, none of which is too deep by its limits and their rules, and can be given more.
 pub record StandsFor (parser : code.BlockParser) (lines : List LineView) : Type 0 where

@@ -37,7 +37,7 @@ impl Stack {
         ensures deeper { OnOk result (length self.old.frames ≤ length self.new.frames) }
         ensures tests { OnOk result (Tested (length self.new.frames - length self.old.frames) (suc (length self.new.frames - length self.old.frames)) line.old.tests line.new.tests) }
     {
-        while self.frames.len() <= limit {
+        while self.depth() <= limit {
             let view = line.read();
             if is_blank(&view) {
                 return Ok(Innermost::Blank);
@@ -53,7 +53,7 @@ impl Stack {
             };
             let (column, inner) = item_content(&view, &marker);
             self.open_item(alloc, marker.kind, column)?;
-            self.bare = is_blank(&inner);
+            self.set_bare(is_blank(&inner));
             line.enter(inner);
         }
         Ok(Innermost::TooDeep)

@@ -1,5 +1,5 @@
 //! The first line of a leaf block.
-ghost use Rattle.std.specs.Prelude.{◌≡◌, IfOk, IfSome, IfNone, true};
+ghost use Rattle.std.specs.Prelude.{◌≡◌, [], string_bytes, IfOk, IfSome, IfNone, true};
 ghost use Rattle.cm_text.specs.Lines.{LineView};
 ghost use Rattle.cm_block.specs.declared.starts.Start.TheVariants.{Atx, Fence};
 ghost use Rattle.cm_text.specs.Views.{line_of};
@@ -17,6 +17,7 @@ use crate::starts::Start;
 use cm_scan::{AtxHeading, HtmlKind, OpeningFence};
 use cm_text::View;
 use std::alloc::{AllocError, Global};
+use std::mem;
 
 /// What the first line of a leaf block makes.
 #[derive(Debug, Drop)]
@@ -27,11 +28,20 @@ pub(crate) enum FirstLine {
     Whole(ClosedLeaf),
 }
 
+/// A text with nothing in it yet, in the room that is spare.
+fn take_room(alloc: Global, spare: &mut String) -> String
+    ensures { string_bytes result ≡ [] }
+{
+    let mut text = mem::replace(spare, String::new(alloc));
+    text.clear();
+    text
+}
+
 /// Indented code: the line loses 4 columns (4.4 Indented code blocks).
-fn begin_code(alloc: Global, line: &View<'_>) -> Result<FirstLine, AllocError>
+fn begin_code(alloc: Global, spare: &mut String, line: &View<'_>) -> Result<FirstLine, AllocError>
     ensures { IfOk result (λ first. begins_leaf (first_of first) ≡ begin_of_start starts.IndentedCode (line_of line.now)) }
 {
-    let mut text = String::new(alloc);
+    let mut text = take_room(alloc, spare);
     push_line(&mut text, &line.strip(4))?;
     Ok(FirstLine::Opens(OpenLeaf::Code {
         text,
@@ -52,6 +62,7 @@ fn begin_heading(alloc: Global, heading: AtxHeading<'_>) -> Result<FirstLine, Al
 /// A fence: each further line loses as many columns as this one has (4.5 Fenced code blocks).
 fn begin_fence(
     alloc: Global,
+    spare: &mut String,
     fence: OpeningFence<'_>,
     line: &View<'_>,
 ) -> Result<FirstLine, AllocError>
@@ -61,15 +72,20 @@ fn begin_fence(
         kind: fence.kind,
         info: String::from_str(alloc, fence.info)?,
         columns: line.indent(),
-        text: String::new(alloc),
+        text: take_room(alloc, spare),
     }))
 }
 
 /// HTML, which its first line may end (4.6 HTML blocks).
-fn begin_html(alloc: Global, kind: HtmlKind, line: &View<'_>) -> Result<FirstLine, AllocError>
+fn begin_html(
+    alloc: Global,
+    spare: &mut String,
+    kind: HtmlKind,
+    line: &View<'_>,
+) -> Result<FirstLine, AllocError>
     ensures { IfOk result (λ first. begins_leaf (first_of first) ≡ begin_of_start (starts.HtmlStart (kind_of kind)) (line_of line.now)) }
 {
-    let mut text = String::new(alloc);
+    let mut text = take_room(alloc, spare);
     push_line(&mut text, line)?;
     if ends_html(kind, line) {
         return Ok(FirstLine::Whole(ClosedLeaf::Html { text }));
@@ -77,9 +93,20 @@ fn begin_html(alloc: Global, kind: HtmlKind, line: &View<'_>) -> Result<FirstLin
     Ok(FirstLine::Opens(OpenLeaf::Html { kind, text }))
 }
 
-/// The first line of a leaf block, by what it begins. A quote's or an item's marker begins none.
+/// A run of text, whose source begins so.
+fn begin_run(alloc: Global, spare: &mut String, text: &str) -> Result<String, AllocError>
+    ensures { IfOk result (λ source. string_bytes source ≡ text.now) }
+{
+    let mut source = take_room(alloc, spare);
+    source.push_str(text)?;
+    Ok(source)
+}
+
+/// The first line of a leaf block, by what it begins. A quote's or an item's marker begins none. What is open takes
+/// the room that is spare.
 pub(crate) fn begin_leaf(
     alloc: Global,
+    spare: &mut String,
     start: &Start<'_>,
     line: &View<'_>,
 ) -> Result<Option<FirstLine>, AllocError>
@@ -87,13 +114,13 @@ pub(crate) fn begin_leaf(
     ensures container { IfOk result (λ first. IfNone first (begins_container (seen start.now) ≡ true)) }
 {
     match start {
-        Start::IndentedCode => Ok(Some(begin_code(alloc, line)?)),
+        Start::IndentedCode => Ok(Some(begin_code(alloc, spare, line)?)),
         Start::Atx(heading) => Ok(Some(begin_heading(alloc, *heading)?)),
-        Start::Fence(fence) => Ok(Some(begin_fence(alloc, *fence, line)?)),
-        Start::Html(kind) => Ok(Some(begin_html(alloc, *kind, line)?)),
+        Start::Fence(fence) => Ok(Some(begin_fence(alloc, spare, *fence, line)?)),
+        Start::Html(kind) => Ok(Some(begin_html(alloc, spare, *kind, line)?)),
         Start::Break => Ok(Some(FirstLine::Whole(ClosedLeaf::Break))),
         Start::TextLine => {
-            let source = String::from_str(alloc, content(line))?;
+            let source = begin_run(alloc, spare, content(line))?;
             Ok(Some(FirstLine::Opens(OpenLeaf::Run { source })))
         }
         Start::QuoteMarker | Start::Item(_) => Ok(None),

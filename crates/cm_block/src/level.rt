@@ -1,11 +1,12 @@
 //! One level of the stack: what stands closed in the document, in a quote or in an item.
-ghost use Rattle.std.specs.Prelude.{◌≡◌, OnOk, IfOk, Some, None, Option};
-ghost use Rattle.cm_block.specs.Level.{empty_level, closed_blocks, push_blank, separated_next, block_opens, list_opens, item_opens, block_closes, item_closes};
-ghost use Rattle.cm_block.specs.LevelViews.{level_of};
+ghost use Rattle.std.specs.Prelude.{◌≡◌, OnOk, IfOk};
+ghost use Rattle.cm_tree.specs.RawBlocks.{Raw, Grows, block_in, blocks_in, item_in, IsPlaced, ArePlaced, IsItem};
+ghost use Rattle.cm_block.specs.Level.{empty_level, closed_blocks, push_blank, block_opens, list_opens, item_opens, block_closes, item_closes};
+ghost use Rattle.cm_block.specs.LevelViews.{level_in, IsLevelPlaced};
 ghost use Rattle.cm_block.specs.steps.LevelSteps.{item_with, without_list, has_list_of, goes_on};
 
 use cm_scan::is_same_kind;
-use cm_tree::{Block, Items, ListKind};
+use cm_tree::{ListKind, RawBlock, RawBlocks, RawItem};
 use std::alloc::{AllocError, Global};
 
 /// A list with its closed items and its mark of looseness. A further item of it may be open.
@@ -13,14 +14,14 @@ use std::alloc::{AllocError, Global};
 pub(crate) struct OpenList {
     pub(crate) kind: ListKind,
     pub(crate) loose: bool,
-    pub(crate) items: Items<Items<Block>>,
+    pub(crate) items: Vec<RawItem>,
 }
 
 /// The closed blocks, the list behind them, whether there is a block, whether the last line is blank as
 /// seen at this level, and whether a blank line stands right before the second or a later block.
 #[derive(Debug, Drop)]
 pub(crate) struct Level {
-    pub(crate) blocks: Items<Block>,
+    pub(crate) blocks: Vec<RawBlock>,
     pub(crate) open_list: Option<OpenList>,
     pub(crate) has_block: bool,
     pub(crate) ends_blank: bool,
@@ -28,12 +29,14 @@ pub(crate) struct Level {
 }
 
 impl Level {
-    /// A level in which nothing stands yet. It takes no memory.
-    pub(crate) fn new(alloc: Global) -> Level
-        ensures { level_of result ≡ empty_level }
+    /// A level in which nothing stands yet, in the room of other blocks.
+    pub(crate) fn new(mut room: Vec<RawBlock>) -> Level
+        ensures level { (raw : Raw) → level_in raw result ≡ empty_level }
+        ensures placed { (raw : Raw) → IsLevelPlaced raw result }
     {
+        room.clear();
         Level {
-            blocks: Items::new(alloc),
+            blocks: room,
             open_list: None,
             has_block: false,
             ends_blank: false,
@@ -43,38 +46,43 @@ impl Level {
 
     /// A blank line.
     pub(crate) fn push_blank(&mut self)
-        ensures { level_of self.new ≡ push_blank (level_of self.old) }
+        ensures level { (raw : Raw) → level_in raw self.new ≡ push_blank (level_in raw self.old) }
+        ensures placed { (raw : Raw) → IsLevelPlaced raw self.old → IsLevelPlaced raw self.new }
     {
         self.ends_blank = true;
     }
 
     /// Puts the list at the end of the blocks, if there is one.
-    fn close_list(&mut self) -> Result<(), AllocError>
-        ensures { OnOk result (level_of self.new ≡ without_list (level_of self.old)) }
+    fn close_list(&mut self, raw: &mut RawBlocks) -> Result<(), AllocError>
+        requires { IsLevelPlaced raw.old self.old }
+        ensures level { OnOk result (level_in raw.new self.new ≡ without_list (level_in raw.old self.old)) }
+        ensures placed { IsLevelPlaced raw.new self.new }
+        ensures grows { Grows raw.old raw.new }
     {
         if let Some(list) = self.open_list.take() {
-            self.blocks.push(Block::List {
-                kind: list.kind,
-                tight: !list.loose,
-                items: list.items,
-            })?;
+            let block = raw.list(list.kind, !list.loose, &list.items)?;
+            self.blocks.push(block)?;
         }
         Ok(())
     }
 
     /// Opens a block that is no item.
-    pub(crate) fn open_block(&mut self) -> Result<(), AllocError>
-        ensures { OnOk result (level_of self.new ≡ block_opens (level_of self.old)) }
+    pub(crate) fn open_block(&mut self, raw: &mut RawBlocks) -> Result<(), AllocError>
+        requires { IsLevelPlaced raw.old self.old }
+        ensures level { OnOk result (level_in raw.new self.new ≡ block_opens (level_in raw.old self.old)) }
+        ensures placed { IsLevelPlaced raw.new self.new }
+        ensures grows { Grows raw.old raw.new }
     {
-        self.close_list()?;
+        self.close_list(raw)?;
         self.separated = self.separated || self.has_block && self.ends_blank;
         self.ends_blank = false;
         Ok(())
     }
 
     /// Puts a block that was opened at the end.
-    pub(crate) fn close_block(&mut self, block: Block) -> Result<(), AllocError>
-        ensures { OnOk result (level_of self.new ≡ block_closes (level_of self.old) block) }
+    pub(crate) fn close_block(&mut self, block: RawBlock) -> Result<(), AllocError>
+        ensures level { OnOk result ((raw : Raw) → level_in raw self.new ≡ block_closes (level_in raw self.old) (block_in raw block)) }
+        ensures placed { (raw : Raw) → IsLevelPlaced raw self.old → IsPlaced raw block → IsLevelPlaced raw self.new }
     {
         self.blocks.push(block)?;
         self.has_block = true;
@@ -84,7 +92,7 @@ impl Level {
 
     /// Whether an item of this kind goes on with the list.
     fn has_list_of(&self, kind: ListKind) -> bool
-        ensures { result ≡ has_list_of (level_of self.now) kind }
+        ensures { (raw : Raw) → result ≡ has_list_of (level_in raw self.now) kind }
     {
         match &self.open_list {
             Some(list) => is_same_kind(list.kind, kind),
@@ -94,7 +102,8 @@ impl Level {
 
     /// Goes on with the list, which a blank line right before makes loose.
     fn go_on(&mut self)
-        ensures { level_of self.new ≡ goes_on (level_of self.old) }
+        ensures level { (raw : Raw) → level_in raw self.new ≡ goes_on (level_in raw self.old) }
+        ensures placed { (raw : Raw) → IsLevelPlaced raw self.old → IsLevelPlaced raw self.new }
     {
         if let Some(list) = &mut self.open_list {
             list.loose = list.loose || self.ends_blank;
@@ -104,42 +113,59 @@ impl Level {
     }
 
     /// Opens a list without items yet.
-    fn open_list(&mut self, alloc: Global, kind: ListKind) -> Result<(), AllocError>
-        ensures { OnOk result (level_of self.new ≡ list_opens (level_of self.old) kind) }
+    fn open_list(
+        &mut self,
+        alloc: Global,
+        raw: &mut RawBlocks,
+        kind: ListKind,
+    ) -> Result<(), AllocError>
+        requires { IsLevelPlaced raw.old self.old }
+        ensures level { OnOk result (level_in raw.new self.new ≡ list_opens (level_in raw.old self.old) kind) }
+        ensures placed { IsLevelPlaced raw.new self.new }
+        ensures grows { Grows raw.old raw.new }
     {
-        self.open_block()?;
+        self.open_block(raw)?;
         self.open_list = Some(OpenList {
             kind,
             loose: false,
-            items: Items::new(alloc),
+            items: Vec::new(alloc),
         });
         self.has_block = true;
         Ok(())
     }
 
     /// Opens an item, which goes on with the list or begins one.
-    pub(crate) fn open_item(&mut self, alloc: Global, kind: ListKind) -> Result<(), AllocError>
-        ensures { OnOk result (level_of self.new ≡ item_opens (level_of self.old) kind) }
+    pub(crate) fn open_item(
+        &mut self,
+        alloc: Global,
+        raw: &mut RawBlocks,
+        kind: ListKind,
+    ) -> Result<(), AllocError>
+        requires { IsLevelPlaced raw.old self.old }
+        ensures level { OnOk result (level_in raw.new self.new ≡ item_opens (level_in raw.old self.old) kind) }
+        ensures placed { IsLevelPlaced raw.new self.new }
+        ensures grows { Grows raw.old raw.new }
     {
         if self.has_list_of(kind) {
             self.go_on();
             return Ok(());
         }
-        self.open_list(alloc, kind)
+        self.open_list(alloc, raw, kind)
     }
 
     /// Puts an item that was opened at the end of its list: its blocks, whether it ends in a blank line, and
     /// whether a blank line stands right before its second or a later block, which makes the list loose.
     pub(crate) fn close_item(
         &mut self,
-        blocks: Items<Block>,
+        item: RawItem,
         ends_blank: bool,
         separated: bool,
     ) -> Result<(), AllocError>
-        ensures { OnOk result (level_of self.new ≡ item_closes (level_of self.old) (item_with blocks ends_blank separated)) }
+        ensures level { OnOk result ((raw : Raw) → level_in raw self.new ≡ item_closes (level_in raw self.old) (item_with (item_in raw item) ends_blank separated)) }
+        ensures placed { (raw : Raw) → IsLevelPlaced raw self.old → IsItem raw item → IsLevelPlaced raw self.new }
     {
         if let Some(list) = &mut self.open_list {
-            list.items.push(blocks)?;
+            list.items.push(item)?;
             list.loose = list.loose || separated;
         }
         self.has_block = true;
@@ -148,10 +174,13 @@ impl Level {
     }
 
     /// The blocks.
-    pub(crate) fn into_blocks(mut self) -> Result<Items<Block>, AllocError>
-        ensures { IfOk result (λ blocks. blocks ≡ closed_blocks (level_of self)) }
+    pub(crate) fn into_blocks(mut self, raw: &mut RawBlocks) -> Result<Vec<RawBlock>, AllocError>
+        requires { IsLevelPlaced raw.old self }
+        ensures blocks { IfOk result (λ blocks. blocks_in raw.new blocks.items ≡ closed_blocks (level_in raw.old self)) }
+        ensures placed { IfOk result (λ blocks. ArePlaced raw.new blocks.items) }
+        ensures grows { Grows raw.old raw.new }
     {
-        self.close_list()?;
+        self.close_list(raw)?;
         Ok(self.blocks)
     }
 }

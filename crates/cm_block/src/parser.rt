@@ -7,10 +7,8 @@ ghost use Rattle.cm_block.specs.declared.fault.BlockFault as faults;
 ghost use Rattle.cm_block.specs.declared.fault.BlockFault.TheVariants as block_faults;
 ghost use Rattle.cm_block.specs.OpenLeaf.{no_leaf};
 ghost use Rattle.cm_block.specs.Machine.{in_leaf};
-ghost use Rattle.cm_block.specs.LevelViews.{level_of};
 ghost use Rattle.cm_block.specs.Stack.{close_open, own_open, push_line};
 ghost use Rattle.cm_block.specs.steps.FrameSteps.{quoted_by};
-ghost use Rattle.cm_block.specs.FrameViews.{frames_of};
 ghost use Rattle.cm_block.specs.LeafViews.{leaf_of};
 ghost use Rattle.cm_block.specs.steps.StartViews.{seen};
 ghost use Rattle.cm_block.specs.steps.FirstLines.{begins_container};
@@ -29,7 +27,7 @@ use crate::owner_runs::LineOwners;
 use crate::stack::Stack;
 use crate::starts::Start;
 use cm_text::{Limits, Line, NoMemory, View};
-use cm_tree::{Block, Definitions, Items};
+use cm_tree::{Definitions, RawTree};
 use std::alloc::Global;
 use std::mem;
 
@@ -37,7 +35,7 @@ use std::mem;
 /// text, the owner of each line, and its link reference definitions; and how often its lines were read.
 #[derive(Debug, Drop)]
 pub struct Outline {
-    pub blocks: Items<Block>,
+    pub blocks: RawTree,
     pub owners: LineOwners,
     pub definitions: Definitions,
     /// How often a line was read, to see whether it stays in one open block or ends that, or what it begins, or
@@ -58,6 +56,8 @@ pub struct BlockParser {
     limits: Limits,
     stack: Stack,
     leaf: OpenLeaf,
+    // Room for the text of the next leaf.
+    spare: String,
     owners: Owners,
     tests: u128,
     fault: Option<BlockFault>,
@@ -82,6 +82,7 @@ impl BlockParser {
             limits,
             stack: Stack::new(alloc),
             leaf: OpenLeaf::Nothing,
+            spare: String::new(alloc),
             owners: Owners::new(alloc),
             tests: 0,
             fault: None,
@@ -90,8 +91,8 @@ impl BlockParser {
 
     /// Closes the open leaf.
     fn close_leaf(&mut self) -> Result<(), NoMemory>
-        ensures level { OnOk result (level_of self.new.stack.level ≡ close_open (level_of self.old.stack.level) (in_leaf (leaf_of self.old.leaf))) }
-        ensures owners { OnOk result (self.new.owners ≡ own_open (quoted_by false (frames_of self.old.stack.frames)) self.old.owners (in_leaf (leaf_of self.old.leaf))) }
+        ensures level { OnOk result (self.new.stack.level ≡ close_open self.old.stack.level (in_leaf (leaf_of self.old.leaf))) }
+        ensures owners { OnOk result (self.new.owners ≡ own_open (quoted_by false self.old.stack.frames) self.old.owners (in_leaf (leaf_of self.old.leaf))) }
         ensures leaf { leaf_of self.new.leaf ≡ no_leaf }
         ensures frames { self.new.stack.frames ≡ self.old.stack.frames }
         ensures bare { self.new.stack.bare ≡ self.old.stack.bare }
@@ -100,9 +101,14 @@ impl BlockParser {
         ensures fault { self.new.fault ≡ self.old.fault }
     {
         let (leaf, blank_lines) = mem::replace(&mut self.leaf, OpenLeaf::Nothing).close();
-        leaf.put(self.alloc, &mut self.stack.level, &mut self.owners)?;
+        leaf.put(
+            self.alloc,
+            &mut self.spare,
+            &mut self.stack,
+            &mut self.owners,
+        )?;
         if blank_lines > 0 {
-            self.stack.level.push_blank();
+            self.stack.push_blank();
             self.owners
                 .blank_lines(self.stack.is_quoted(), blank_lines)?;
         }
@@ -117,9 +123,9 @@ impl BlockParser {
         ensures limits { self.new.limits ≡ self.old.limits }
         ensures fault { self.new.fault ≡ self.old.fault }
     {
-        let marked = self.stack.bare || self.stack.is_quoted();
-        if !self.stack.bare {
-            self.stack.level.push_blank();
+        let marked = self.stack.is_bare() || self.stack.is_quoted();
+        if !self.stack.is_bare() {
+            self.stack.push_blank();
         }
         self.owners.line(blank_owner(marked))?;
         Ok(())
@@ -136,11 +142,16 @@ impl BlockParser {
         ensures limits { self.new.limits ≡ self.old.limits }
         ensures fault { self.new.fault ≡ self.old.fault }
     {
-        self.stack.level.open_block()?;
-        match begin_leaf(self.alloc, start, &line.read())? {
+        self.stack.open_block()?;
+        match begin_leaf(self.alloc, &mut self.spare, start, &line.read())? {
             Some(FirstLine::Opens(leaf)) => self.leaf = leaf,
             Some(FirstLine::Whole(leaf)) => {
-                leaf.put(self.alloc, &mut self.stack.level, &mut self.owners)?;
+                leaf.put(
+                    self.alloc,
+                    &mut self.spare,
+                    &mut self.stack,
+                    &mut self.owners,
+                )?;
             }
             None => {}
         }
@@ -187,13 +198,18 @@ impl BlockParser {
         ensures limits { self.new.limits ≡ self.old.limits }
         ensures fault { self.new.fault ≡ self.old.fault }
     {
-        if depth < self.stack.frames.len() {
+        if depth < self.stack.depth() {
             return Ok(false);
         }
         match self.leaf.take_line(self.limits.rules(), line)? {
             LeafLine::Stays => {}
             LeafLine::Last(leaf) => {
-                leaf.put(self.alloc, &mut self.stack.level, &mut self.owners)?;
+                leaf.put(
+                    self.alloc,
+                    &mut self.spare,
+                    &mut self.stack,
+                    &mut self.owners,
+                )?;
             }
             LeafLine::Leaves => return Ok(false),
         }
@@ -213,7 +229,7 @@ impl BlockParser {
         let depth = self
             .stack
             .matching(self.limits.rules(), line, self.leaf.is_run());
-        self.stack.bare = false;
+        self.stack.set_bare(false);
         if self.take_to_leaf(depth, line)? {
             return Ok(());
         }
@@ -290,10 +306,9 @@ impl BlockParser {
             tests,
             ..
         } = self;
-        let Stack { level, .. } = stack;
         let (owners, definitions) = owners.into_parts();
         Ok(Outline {
-            blocks: level.into_blocks()?,
+            blocks: stack.into_tree()?,
             owners,
             definitions,
             tests,
@@ -304,9 +319,8 @@ impl BlockParser {
 #[cfg(test)]
 mod tests {
     use super::*;
-    use crate::level::Level;
-    use crate::stack::{Container, Frame};
     use cm_text::LineFeed;
+    use cm_tree::RawBlock;
     use std::test::Fail;
 
     fn line(alloc: Global, text: &str) -> Result<Line, Fail> {
@@ -314,21 +328,6 @@ mod tests {
         feed.push(text.as_bytes()).ok().ok_or("push")?;
         feed.end().ok().ok_or("end")?;
         Ok(feed.next_line().ok_or("line")?)
-    }
-
-    /// How many blocks stand closed in a level that holds nothing else, but for its marks.
-    fn closed(level: &Level) -> Option<usize> {
-        let Level {
-            blocks,
-            open_list,
-            has_block: _,
-            ends_blank: _,
-            separated: _,
-        } = level;
-        match open_list {
-            Some(_) => None,
-            None => Some(blocks.len()),
-        }
     }
 
     #[test]
@@ -342,30 +341,28 @@ mod tests {
         let BlockParser {
             alloc: _,
             limits: _,
-            stack,
+            mut stack,
             leaf,
+            spare: _,
             owners,
             tests,
             fault,
         } = parser;
-        let Stack {
-            frames,
-            bare,
-            level,
-        } = stack;
+        assert_eq!(rt; stack.depth(), 1);
+        assert!(rt; stack.is_quoted());
+        assert!(rt; !stack.is_bare());
+        // Two blocks stand closed in the document, and none in the quote.
+        stack.close_to(0).ok().ok_or("close")?;
+        let (blocks, _inside) = stack.into_tree().ok().ok_or("tree")?.into_parts();
         let [
-            Frame {
-                level: document,
-                container,
-            },
-        ] = frames.as_slice()
+            RawBlock::Paragraph { .. },
+            RawBlock::Break,
+            RawBlock::Quote { from, to },
+        ] = blocks.as_slice()
         else {
-            return Err("one container".into());
+            return Err("three blocks".into());
         };
-        assert!(rt; matches!(container, Container::Quote));
-        assert_eq!(rt; closed(document), Some(2));
-        assert_eq!(rt; closed(&level), Some(0));
-        assert!(rt; !bare);
+        assert_eq!(rt; from, to);
         assert!(rt; matches!(&leaf, OpenLeaf::Run { source } if source.as_str() == "b"));
         assert_eq!(rt; owners.len(), 2);
         // What `a` begins and its text; whether `***` is blank, an underline or ends the run, what it begins and

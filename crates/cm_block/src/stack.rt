@@ -1,20 +1,23 @@
 //! The open quotes and items.
-ghost use Rattle.std.specs.Prelude.{◌≡◌, ◌<◌, ◌≤◌, ◌∷◌, ◌++◌, ◌+◌, ◌&&◌, [], true, false, suc, length, take, drop, option_map, OnOk};
+ghost use Rattle.std.specs.Prelude.{◌≡◌, ◌<◌, ◌≤◌, ◌∷◌, ◌++◌, ◌+◌, ◌&&◌, [], true, false, suc, List, length, take, drop, OnOk, IfOk};
 ghost use Rattle.cm_text.specs.Views.{line_of};
 ghost use Rattle.cm_scan.specs.Words.{given};
 ghost use Rattle.cm_block.specs.Tests.{Tested};
-ghost use Rattle.cm_block.specs.Level.{empty_level, block_opens, item_opens};
-ghost use Rattle.cm_block.specs.LevelViews.{level_of};
-ghost use Rattle.cm_block.specs.Frames.{a_quote, an_item, is_last};
+ghost use Rattle.cm_block.specs.Level.{empty_level, block_opens, block_closes, closed_blocks, item_opens, push_blank};
+ghost use Rattle.cm_block.specs.LevelViews.{level_in, IsLevelPlaced};
+ghost use Rattle.cm_block.specs.Frames.{a_quote, an_item, is_last, Frame as open_frame};
 ghost use Rattle.cm_block.specs.steps.FrameSteps.{inward, matching, quoted_by, close_container, close_frames};
-ghost use Rattle.cm_block.specs.FrameViews.{container_of, frame_of, frames_of};
+ghost use Rattle.cm_block.specs.FrameViews.{container_of, frames_in, AreFramesPlaced};
+ghost use Rattle.cm_tree.specs.RawBlocks.{Raw, raw_inlines};
+ghost use Rattle.cm_tree.specs.declared.tree.Block.TheVariants as trees;
 
 use crate::counted_line::CountedLine;
 use crate::level::Level;
 use crate::places::{enter_item, enter_quote};
 use cm_text::Rules;
-use cm_tree::{Block, Items, ListKind};
+use cm_tree::{Items, ListKind, RawBlock, RawBlocks, RawTree};
 use std::alloc::{AllocError, Global};
+use std::marker::Model;
 use std::mem;
 
 /// A quote, or an item of a list with the column at which its content begins.
@@ -50,7 +53,7 @@ pub(crate) struct Frame {
 /// Whether a container is the innermost one and that has only its marker so far.
 fn is_bare_at(frames: &[Frame], depth: usize, bare: bool) -> bool
     requires { depth < length frames.now }
-    ensures { result ≡ (bare && is_last (drop (suc depth) (frames_of frames.now))) }
+    ensures { (raw : Raw) → result ≡ (bare && is_last (drop (suc depth) (frames_in raw frames.now))) }
 {
     bare && depth == frames.len() - 1
 }
@@ -63,7 +66,7 @@ fn matching(
     open_text: bool,
     line: &mut CountedLine<'_>,
 ) -> usize
-    ensures line { (result, line_of line.new.rest) ≡ matching rules bare open_text (frames_of frames.now) (line_of line.old.rest) }
+    ensures line { (raw : Raw) → (result, line_of line.new.rest) ≡ matching rules bare open_text (frames_in raw frames.now) (line_of line.old.rest) }
     ensures tests { Tested 0 (suc (length frames.now)) line.old.tests line.new.tests }
     ensures stays { line.new.tests ≤ line.old.tests + result + 2 }
     ensures plain { line.new.rest.lazy ≡ false → length frames.now ≤ result → line.new.tests ≤ line.old.tests + result }
@@ -83,7 +86,7 @@ fn matching(
 
 /// Whether one of the containers is a quote.
 fn has_quote(frames: &[Frame]) -> bool
-    ensures { result ≡ quoted_by false (frames_of frames.now) }
+    ensures { (raw : Raw) → result ≡ quoted_by false (frames_in raw frames.now) }
 {
     for frame in frames {
         if let Container::Quote = frame.container {
@@ -98,9 +101,29 @@ fn has_quote(frames: &[Frame]) -> bool
 /// `bare` says that the innermost container is an item of which there is only the marker so far.
 #[derive(Debug, Drop)]
 pub(crate) struct Stack {
-    pub(crate) frames: Items<Frame>,
-    pub(crate) bare: bool,
-    pub(crate) level: Level,
+    frames: Items<Frame>,
+    bare: bool,
+    level: Level,
+    raw: RawBlocks,
+    // Room for the blocks of the next container.
+    spare: Vec<RawBlock>,
+}
+
+impl Model for Stack {
+    ghost use Rattle.cm_block.specs.Frames.{Row};
+    ghost use Rattle.std.specs.Coded.{codes};
+    ghost use Rattle.cm_tree.specs.contracts.tree.Block as block;
+    ghost use Rattle.cm_tree.specs.contracts.tree.ListKind as list_kind;
+    ghost use Rattle.cm_block.specs.FrameViews.{frames_in, AreFramesPlaced};
+    ghost use Rattle.cm_block.specs.LevelViews.{level_in, IsLevelPlaced};
+
+    ghost Value = { Row };
+
+    ghost coded = { Prim.hlevel (codes, block.the_row.coded, list_kind.the_row.coded) };
+
+    ghost view = { λ s. record { frames = frames_in s.raw s.frames; bare = s.bare; level = level_in s.raw s.level } };
+
+    ghost invariant = { λ s. AreFramesPlaced s.raw s.frames × IsLevelPlaced s.raw s.level };
 }
 
 impl Stack {
@@ -108,12 +131,14 @@ impl Stack {
     pub(crate) fn new(alloc: Global) -> Stack
         ensures frames { result.frames ≡ [] }
         ensures bare { result.bare ≡ false }
-        ensures level { level_of result.level ≡ empty_level }
+        ensures level { result.level ≡ empty_level }
     {
         Stack {
             frames: Items::new(alloc),
             bare: false,
-            level: Level::new(alloc),
+            level: Level::new(Vec::new(alloc)),
+            raw: RawBlocks::new(alloc),
+            spare: Vec::new(alloc),
         }
     }
 
@@ -125,7 +150,7 @@ impl Stack {
         open_text: bool,
     ) -> usize
         ensures line { (result, line_of line.new.rest)
-            ≡ matching rules self.now.bare open_text (frames_of self.now.frames) (line_of line.old.rest) }
+            ≡ matching rules self.now.bare open_text self.now.frames (line_of line.old.rest) }
         ensures tests { Tested 0 (suc (length self.now.frames)) line.old.tests line.new.tests }
         ensures stays { line.new.tests ≤ line.old.tests + result + 2 }
         ensures plain { line.new.rest.lazy ≡ false → length self.now.frames ≤ result → line.new.tests ≤ line.old.tests + result }
@@ -135,30 +160,31 @@ impl Stack {
 
     /// Whether one of the open containers is a quote.
     pub(crate) fn is_quoted(&self) -> bool
-        ensures { result ≡ quoted_by false (frames_of self.now.frames) }
+        ensures { result ≡ quoted_by false self.now.frames }
     {
         has_quote(self.frames.as_slice())
     }
 
     /// Opens a container in the innermost level, as which this one stands from now on, and goes into it.
     fn open(&mut self, alloc: Global, container: Container) -> Result<(), AllocError>
-        ensures frames { OnOk result (frames_of self.new.frames
-            ≡ frames_of self.old.frames ++ record { level = level_of self.old.level; container = container_of container } ∷ []) }
-        ensures level { OnOk result (level_of self.new.level ≡ empty_level) }
+        ensures frames { OnOk result (self.new.frames
+            ≡ self.old.frames ++ record { level = self.old.level; container = container_of container } ∷ []) }
+        ensures level { OnOk result (self.new.level ≡ empty_level) }
         ensures bare { self.new.bare ≡ self.old.bare }
     {
-        let level = mem::replace(&mut self.level, Level::new(alloc));
+        let room = mem::replace(&mut self.spare, Vec::new(alloc));
+        let level = mem::replace(&mut self.level, Level::new(room));
         self.frames.push(Frame { level, container })
     }
 
     /// Opens a quote.
     pub(crate) fn open_quote(&mut self, alloc: Global) -> Result<(), AllocError>
-        ensures frames { OnOk result (frames_of self.new.frames
-            ≡ frames_of self.old.frames ++ record { level = block_opens (level_of self.old.level); container = a_quote } ∷ []) }
-        ensures level { OnOk result (level_of self.new.level ≡ empty_level) }
+        ensures frames { OnOk result (self.new.frames
+            ≡ self.old.frames ++ record { level = block_opens self.old.level; container = a_quote } ∷ []) }
+        ensures level { OnOk result (self.new.level ≡ empty_level) }
         ensures bare { self.new.bare ≡ self.old.bare }
     {
-        self.level.open_block()?;
+        self.level.open_block(&mut self.raw)?;
         self.open(alloc, Container::Quote)
     }
 
@@ -169,33 +195,38 @@ impl Stack {
         kind: ListKind,
         column: usize,
     ) -> Result<(), AllocError>
-        ensures frames { OnOk result (frames_of self.new.frames
-            ≡ frames_of self.old.frames ++ record { level = item_opens (level_of self.old.level) kind; container = an_item kind column } ∷ []) }
-        ensures level { OnOk result (level_of self.new.level ≡ empty_level) }
+        ensures frames { OnOk result (self.new.frames
+            ≡ self.old.frames ++ record { level = item_opens self.old.level kind; container = an_item kind column } ∷ []) }
+        ensures level { OnOk result (self.new.level ≡ empty_level) }
         ensures bare { self.new.bare ≡ self.old.bare }
     {
-        self.level.open_item(alloc, kind)?;
+        self.level.open_item(alloc, &mut self.raw, kind)?;
         self.open(alloc, Container::Item { kind, column })
     }
 
-    /// Closes the innermost container, which has stood in this frame.
-    fn close(&mut self, frame: Frame) -> Result<(), AllocError>
-        ensures level { OnOk result (level_of self.new.level
-            ≡ close_container (container_of frame.container) (level_of frame.level) (level_of self.old.level)) }
-        ensures frames { self.new.frames ≡ self.old.frames }
+    /// Closes the innermost container, if there is one.
+    fn close_last(&mut self) -> Result<(), AllocError>
+        ensures closes { OnOk result ((outer : List open_frame) (last : open_frame) → self.old.frames ≡ outer ++ last ∷ [] →
+            (self.new.frames ≡ outer) × (self.new.level ≡ close_container last.container last.level self.old.level)) }
         ensures bare { self.new.bare ≡ self.old.bare }
     {
-        let inside = mem::replace(&mut self.level, frame.level);
-        match frame.container {
+        let Some(Frame { level, container }) = self.frames.pop() else {
+            return Ok(());
+        };
+        let inside = mem::replace(&mut self.level, level);
+        match container {
             Container::Quote => {
-                let blocks = inside.into_blocks()?;
-                self.level.close_block(Block::Quote(blocks))
+                let blocks = inside.into_blocks(&mut self.raw)?;
+                let quote = self.raw.quote(&blocks)?;
+                self.spare = blocks;
+                self.level.close_block(quote)
             }
             Container::Item { .. } => {
-                let ends_blank = inside.ends_blank;
-                let separated = inside.separated;
-                let blocks = inside.into_blocks()?;
-                self.level.close_item(blocks, ends_blank, separated)
+                let (ends_blank, separated) = (inside.ends_blank, inside.separated);
+                let blocks = inside.into_blocks(&mut self.raw)?;
+                let item = self.raw.item(&blocks)?;
+                self.spare = blocks;
+                self.level.close_item(item, ends_blank, separated)
             }
         }
     }
@@ -203,15 +234,127 @@ impl Stack {
     /// Closes the containers from the inside out until so many are open.
     pub(crate) fn close_to(&mut self, depth: usize) -> Result<(), AllocError>
         requires { depth ≤ length self.old.frames }
-        ensures frames { OnOk result (frames_of self.new.frames ≡ take depth (frames_of self.old.frames)) }
-        ensures level { OnOk result (level_of self.new.level ≡ close_frames (drop depth (frames_of self.old.frames)) (level_of self.old.level)) }
+        ensures frames { OnOk result (self.new.frames ≡ take depth self.old.frames) }
+        ensures level { OnOk result (self.new.level ≡ close_frames (drop depth self.old.frames) self.old.level) }
         ensures bare { self.new.bare ≡ self.old.bare }
     {
         while self.frames.len() > depth {
-            if let Some(frame) = self.frames.pop() {
-                self.close(frame)?;
-            }
+            self.close_last()?;
         }
         Ok(())
+    }
+
+    /// How many containers are open.
+    pub(crate) fn depth(&self) -> usize
+        ensures { result ≡ length self.now.frames }
+    {
+        self.frames.len()
+    }
+
+    /// Whether the innermost container is an item of which there is only the marker so far.
+    pub(crate) fn is_bare(&self) -> bool
+        ensures { result ≡ self.now.bare }
+    {
+        self.bare
+    }
+
+    /// Says whether the innermost container is an item of which there is only the marker so far.
+    pub(crate) fn set_bare(&mut self, bare: bool)
+        ensures bare { self.new.bare ≡ bare }
+        ensures frames { self.new.frames ≡ self.old.frames }
+        ensures level { self.new.level ≡ self.old.level }
+    {
+        self.bare = bare;
+    }
+
+    /// A blank line in the innermost level.
+    pub(crate) fn push_blank(&mut self)
+        ensures level { self.new.level ≡ push_blank self.old.level }
+        ensures frames { self.new.frames ≡ self.old.frames }
+        ensures bare { self.new.bare ≡ self.old.bare }
+    {
+        self.level.push_blank();
+    }
+
+    /// Opens a leaf block in the innermost level.
+    pub(crate) fn open_block(&mut self) -> Result<(), AllocError>
+        ensures level { OnOk result (self.new.level ≡ block_opens self.old.level) }
+        ensures frames { self.new.frames ≡ self.old.frames }
+        ensures bare { self.new.bare ≡ self.old.bare }
+    {
+        self.level.open_block(&mut self.raw)
+    }
+
+    /// Puts a paragraph that was opened, with this source.
+    pub(crate) fn put_paragraph(&mut self, source: &str) -> Result<(), AllocError>
+        ensures level { OnOk result (self.new.level ≡ block_closes self.old.level (trees.Paragraph (raw_inlines source.now))) }
+        ensures frames { self.new.frames ≡ self.old.frames }
+        ensures bare { self.new.bare ≡ self.old.bare }
+    {
+        let block = self.raw.paragraph(source)?;
+        self.level.close_block(block)
+    }
+
+    /// Puts a heading that was opened, with this source.
+    pub(crate) fn put_heading(&mut self, level: u8, source: &str) -> Result<(), AllocError>
+        ensures level { OnOk result (self.new.level ≡ block_closes self.old.level (trees.Heading level (raw_inlines source.now))) }
+        ensures frames { self.new.frames ≡ self.old.frames }
+        ensures bare { self.new.bare ≡ self.old.bare }
+    {
+        let block = self.raw.heading(level, source)?;
+        self.level.close_block(block)
+    }
+
+    /// Puts a code block that was opened.
+    pub(crate) fn put_code(&mut self, info: &str, text: &str) -> Result<(), AllocError>
+        ensures level { OnOk result (self.new.level ≡ block_closes self.old.level (trees.Code info.now text.now)) }
+        ensures frames { self.new.frames ≡ self.old.frames }
+        ensures bare { self.new.bare ≡ self.old.bare }
+    {
+        let block = self.raw.code(info, text)?;
+        self.level.close_block(block)
+    }
+
+    /// Puts an HTML block that was opened.
+    pub(crate) fn put_html(&mut self, text: &str) -> Result<(), AllocError>
+        ensures level { OnOk result (self.new.level ≡ block_closes self.old.level (trees.Html text.now)) }
+        ensures frames { self.new.frames ≡ self.old.frames }
+        ensures bare { self.new.bare ≡ self.old.bare }
+    {
+        let block = self.raw.html(text)?;
+        self.level.close_block(block)
+    }
+
+    /// Puts a thematic break that was opened.
+    pub(crate) fn put_break(&mut self) -> Result<(), AllocError>
+        ensures level { OnOk result (self.new.level ≡ block_closes self.old.level trees.Break) }
+        ensures frames { self.new.frames ≡ self.old.frames }
+        ensures bare { self.new.bare ≡ self.old.bare }
+    {
+        self.level.close_block(RawBlock::Break)
+    }
+
+    /// Puts a link reference definition that was opened.
+    pub(crate) fn put_definition(
+        &mut self,
+        label: &str,
+        dest: &str,
+        title: &str,
+    ) -> Result<(), AllocError>
+        ensures level { OnOk result (self.new.level ≡ block_closes self.old.level (trees.Definition label.now dest.now title.now)) }
+        ensures frames { self.new.frames ≡ self.old.frames }
+        ensures bare { self.new.bare ≡ self.old.bare }
+    {
+        let block = self.raw.definition(label, dest, title)?;
+        self.level.close_block(block)
+    }
+
+    /// The blocks of the document, where no container is open.
+    pub(crate) fn into_tree(self) -> Result<RawTree, AllocError>
+        ensures { IfOk result (λ blocks. blocks ≡ closed_blocks self.level) }
+    {
+        let Stack { level, mut raw, .. } = self;
+        let blocks = level.into_blocks(&mut raw)?;
+        Ok(RawTree::new(blocks, raw))
     }
 }

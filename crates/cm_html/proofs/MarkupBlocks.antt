@@ -5,7 +5,6 @@ use Rattle.std.specs.List.{list_all}
 use Rattle.std.specs.Char.{is_ascii_digit}
 use Rattle.std.specs.Fmt.{decimal, digits, digits_onto, digit_glyph}
 use Rattle.std.proofs.lemmas.Bool.{and_parts, or_parts, false≢true, leb-true, agree_below_at}
-use Rattle.std.proofs.lemmas.List.{append_assoc}
 use Rattle.cm_tree.specs.declared.tree.Block.{Block, Block-F, map-Block}
 use Rattle.cm_tree.specs.declared.tree.Block.TheOpen as block
 use Rattle.cm_tree.specs.declared.tree.Block.TheViews.{roll-Block}
@@ -48,13 +47,10 @@ one_digit : (digit : ℕ) (html : List ℕ) (tags : Tags)
     → ((names : List (List ℕ)) → Goes (InText names) (codes "<h" ++ digit ∷ codes ">") ((codes "h" ++ digit ∷ []) ∷ []) (InText ((codes "h" ++ digit ∷ []) ∷ names)))
     → Balanced html tags
     → ((names : List (List ℕ)) → Goes (InText ((codes "h" ++ digit ∷ []) ∷ names)) (codes "</h" ++ digit ∷ codes ">\n") ((codes "/h" ++ digit ∷ []) ∷ []) (InText names))
-    → Balanced (codes "<h" ++ (digit ∷ []) ++ codes ">" ++ html ++ codes "</h" ++ (digit ∷ []) ++ codes ">\n") (element (codes "h" ++ digit ∷ []) tags (codes "/h" ++ digit ∷ []))
+    → Balanced (codes "<h" ++ digit ∷ codes ">" ++ html ++ (codes "</h" ++ digit ∷ codes ">\n")) (element (codes "h" ++ digit ∷ []) tags (codes "/h" ++ digit ∷ []))
 one_digit digit html tags opens balanced closes =
-    let front = codes "<h" ++ digit ∷ codes ">" ++ html in
-    subst (λ t. Balanced t (element (codes "h" ++ digit ∷ []) tags (codes "/h" ++ digit ∷ [])))
-    (sym (ap (λ t. t ++ codes ">\n") (append_assoc front (codes "</h") (digit ∷ [])) ∙ append_assoc front (codes "</h" ++ digit ∷ []) (codes ">\n")))
-    (element_balanced (codes "h" ++ digit ∷ []) (codes "h" ++ digit ∷ []) (codes "/h" ++ digit ∷ []) (codes "<h" ++ digit ∷ codes ">") html (codes "</h" ++ digit ∷ codes ">\n") tags
-    opens balanced closes)
+    element_balanced (codes "h" ++ digit ∷ []) (codes "h" ++ digit ∷ []) (codes "/h" ++ digit ∷ []) (codes "<h" ++ digit ∷ codes ">") html (codes "</h" ++ digit ∷ codes ">\n") tags
+    opens balanced closes
 
 heading_balanced : (level : ℕ) (html : List ℕ) (tags : Tags) → is_level level ≡ true → Balanced html tags
     → Balanced (heading_html level html) (element (codes "h" ++ decimal level) tags (codes "/h" ++ decimal level))

@@ -84,8 +84,14 @@ alternative_text inlines = join_plain (map spelled inlines)
 abbrev pub paragraph_html : List ℕ → List ℕ
 paragraph_html html = codes "<p>" ++ html ++ codes "</p>\n"
 
+abbrev pub heading_start : ℕ → List ℕ
+heading_start level = codes "<h" ++ decimal level ++ codes ">"
+
+abbrev pub heading_end : ℕ → List ℕ
+heading_end level = codes "</h" ++ decimal level ++ codes ">\n"
+
 abbrev pub heading_html : ℕ → List ℕ → List ℕ
-heading_html level html = codes "<h" ++ decimal level ++ codes ">" ++ html ++ codes "</h" ++ decimal level ++ codes ">\n"
+heading_html level html = heading_start level ++ html ++ heading_end level
 
 abbrev pub class_start : List ℕ → List ℕ
 class_start word = codes "<pre><code class=\"language-" ++ escape word ++ codes "\">"

@@ -1,6 +1,6 @@
 //! The HTML of blocks.
 ghost use Rattle.std.specs.Prelude.{◌≡◌, ◌++◌, true, map, string_bytes, OnOk};
-ghost use Rattle.cm_html.specs.Html.{list_start, list_end, ordered_start, inlines_html, written, alone, html_of, paragraph_html, heading_html, class_start, code_start, code_html, quote_html, item_html, tight_inside, loose_inside};
+ghost use Rattle.cm_html.specs.Html.{list_start, list_end, ordered_start, inlines_html, written, alone, html_of, paragraph_html, heading_start, heading_end, heading_html, class_start, code_start, code_html, quote_html, item_html, tight_inside, loose_inside};
 
 use crate::escape::{class_word, push_escaped};
 use crate::inlines::push_inlines;
@@ -56,8 +56,30 @@ fn push_paragraph(out: &mut String, content: &[Inline]) -> Result<(), AllocError
 fn push_heading(out: &mut String, level: u8, content: &[Inline]) -> Result<(), AllocError>
     ensures { OnOk result (string_bytes out.new ≡ string_bytes out.old ++ heading_html level (inlines_html content.now)) }
 {
-    write!(out, "<h{level}>")?;
+    push_heading_start(out, level)?;
     push_inlines(out, content)?;
+    push_heading_end(out, level)
+}
+
+/// Adds the start tag of a heading.
+///
+/// # Errors
+///
+/// `AllocError` where a request for memory was refused; a beginning of it may have been added then.
+pub fn push_heading_start(out: &mut String, level: u8) -> Result<(), AllocError>
+    ensures { OnOk result (string_bytes out.new ≡ string_bytes out.old ++ heading_start level) }
+{
+    write!(out, "<h{level}>")
+}
+
+/// Adds the end tag of a heading, and a line feed.
+///
+/// # Errors
+///
+/// As `push_heading_start`.
+pub fn push_heading_end(out: &mut String, level: u8) -> Result<(), AllocError>
+    ensures { OnOk result (string_bytes out.new ≡ string_bytes out.old ++ heading_end level) }
+{
     write!(out, "</h{level}>\n")
 }
 
@@ -80,7 +102,12 @@ fn push_code_start(out: &mut String, word: &str) -> Result<(), AllocError>
     push_class_start(out, word)
 }
 
-fn push_code(out: &mut String, info: &str, text: &str) -> Result<(), AllocError>
+/// Adds a code block with this info string and text.
+///
+/// # Errors
+///
+/// As `push_block`.
+pub fn push_code(out: &mut String, info: &str, text: &str) -> Result<(), AllocError>
     ensures { OnOk result (string_bytes out.new ≡ string_bytes out.old ++ code_html info.now text.now) }
 {
     push_code_start(out, class_word(info))?;
@@ -156,7 +183,12 @@ fn push_loose(out: &mut String, blocks: &[Block]) -> Result<(), AllocError>
     Ok(())
 }
 
-fn push_list_start(out: &mut String, kind: ListKind) -> Result<(), AllocError>
+/// Adds the start tag of a list, and a line feed.
+///
+/// # Errors
+///
+/// As `push_heading_start`.
+pub fn push_list_start(out: &mut String, kind: ListKind) -> Result<(), AllocError>
     ensures { OnOk result (string_bytes out.new ≡ string_bytes out.old ++ list_start kind) }
 {
     match kind {
@@ -175,7 +207,12 @@ fn push_ordered_start(out: &mut String, start: u32) -> Result<(), AllocError>
     }
 }
 
-fn push_list_end(out: &mut String, kind: ListKind) -> Result<(), AllocError>
+/// Adds the end tag of a list, and a line feed.
+///
+/// # Errors
+///
+/// As `push_heading_start`.
+pub fn push_list_end(out: &mut String, kind: ListKind) -> Result<(), AllocError>
     ensures { OnOk result (string_bytes out.new ≡ string_bytes out.old ++ list_end kind) }
 {
     match kind {

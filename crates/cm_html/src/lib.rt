@@ -11,7 +11,9 @@ mod quoting;
 mod rendering;
 mod search;
 
-pub use blocks::push_block;
+pub use blocks::{
+    push_block, push_code, push_heading_end, push_heading_start, push_list_end, push_list_start,
+};
 pub use escape::push_escaped;
 pub use fault::HtmlFault;
 pub use inlines::{push_inline, push_link_start};

@@ -2,8 +2,9 @@
 use Rattle.std.proofs.Common.{◌≡◌, ℕ, zero, suc, ◌+◌, ◌-◌, ◌<◌, ◌≤◌, Bool, false, List, [], ◌∷◌, ◌++◌, length, take, drop, set, get_or, Option, Some, None, refl, sym, ap, subst, ◌∙◌, arith, append_assoc}
 use Rattle.std.specs.List.{slice_range, list_any}
 use Rattle.std.specs.Prelude.{◌||◌}
-use Rattle.std.proofs.lemmas.List.{append-nil, get_or_append_left, get_or_at, length_push, length-append, length-drop, drop-append-le, take-append-le, map-append, drop-map, take-map, map-set, drop_more, take_all, take_rest, drop_at}
+use Rattle.std.proofs.lemmas.List.{append-nil, get_or_append_left, get_or_at, length_push, length-append, map-append, drop-map, take-map, map-set, drop_more, take_rest}
 use Rattle.std.proofs.lemmas.List.Folds.{list_any-append}
+use Rattle.cm_tree.proofs.RawLemmas.{slice-same, slice-last}
 use Rattle.cm_inline.specs.declared.nodes.Group.{Group}
 use Rattle.cm_inline.specs.declared.nodes.Kind.{Kind}
 use Rattle.cm_inline.specs.declared.runs.DelimiterRun.{DelimiterRun}
@@ -221,13 +222,8 @@ rest-held old before rest token are front back = record {
 
 -- more that stands in groups
 
-slice-grows : (inside more : List Token) (from to : ℕ) → from ≤ to → to ≤ length inside → slice_range (inside ++ more) from to ≡ slice_range inside from to
-slice-grows inside more from to order within =
-    ap (take (to - from)) (drop-append-le from inside more (omega (arith, order, within)))
-    ∙ take-append-le (to - from) (drop from inside) more (omega (arith, order, within, length-drop from inside))
-
 group-grows : (inside more : List Token) (number : ℕ) (made : List Made) (group : Group) → IsGroup inside number group → group_made (inside ++ more) made group ≡ group_made inside made group
-group-grows inside more number made group is = ap (λ held. made_by group.kind (nodes_of made held)) (slice-grows inside more group.from group.to is.order is.within)
+group-grows inside more number made group is = ap (λ held. made_by group.kind (nodes_of made held)) (slice-same inside more (inside ++ more) group.from group.to refl is.order is.within)
 
 after-grows : (inside more : List Token) (number : ℕ) (made : List Made) (groups : List Group) → AreGroups inside number groups → groups_after (inside ++ more) made groups ≡ groups_after inside made groups
 unfolding groups_after
@@ -242,7 +238,7 @@ are-grow inside more number (group ∷ groups) are = (
   record {
     order = are.0.order;
     within = omega (arith, are.0.within, length-append inside more);
-    below = subst (AreBelow number) (sym (slice-grows inside more group.from group.to are.0.order are.0.within)) are.0.below;
+    below = subst (AreBelow number) (sym (slice-same inside more (inside ++ more) group.from group.to refl are.0.order are.0.within)) are.0.below;
   },
   are-grow inside more (number + 1) groups are.1,
 )
@@ -323,10 +319,6 @@ cut-held old opener left cut are is =
       rest = subst (λ n. AreBelow n cut.rest) (sym bound) (subst (AreBelow (length old.groups)) (sym is.rest) are.rest);
     }
 
-slice-last : (inside moved : List Token) (from to : ℕ) → from ≡ length inside → to ≡ length (inside ++ moved) → slice_range (inside ++ moved) from to ≡ moved
-slice-last inside moved from to begins ends =
-    ap (take (to - from)) (drop_at inside moved from (sym begins)) ∙ take_all (to - from) moved (omega (arith, begins, ends, length-append inside moved))
-
 pub cut-group : (old : Held) (opener : ℕ) (left : Option DelimiterRun) (cut : Held) (kind : Kind) (from to : ℕ) → AreHeld old → IsCut old opener left cut → from ≡ length old.inside → to ≡ length cut.inside
     → IsGroup cut.inside (length cut.groups) (record { kind = kind; from = from; to = to })
 cut-group old opener left cut kind from to are is begins ends =
@@ -336,7 +328,7 @@ cut-group old opener left cut kind from to are is begins ends =
       order = omega (arith, begins, whole, length-append old.inside moved);
       within = omega (arith, ends);
       below = subst (λ n. AreBelow n (slice_range cut.inside from to)) (sym (ap length is.groups))
-          (subst (AreBelow (length old.groups)) (sym (ap (λ t. slice_range t from to) is.inside ∙ slice-last old.inside moved from to begins whole)) (below-drop (length old.groups) (suc opener) old.before are.before));
+          (subst (AreBelow (length old.groups)) (sym (ap (λ t. slice_range t from to) is.inside ∙ slice-last old.inside moved (old.inside ++ moved) from to refl begins whole)) (below-drop (length old.groups) (suc opener) old.before are.before));
     }
 
 pub same-held : (now : Held) (before : List Token) (groups : List Group) → AreHeld now → before ≡ now.before → groups ≡ now.groups → AreHeld (record { before = before; rest = now.rest; inside = now.inside; groups = groups })
@@ -365,7 +357,7 @@ made-wrapped : (inside moved : List Token) (groups : List Group) (kind : Kind) (
 made-wrapped inside moved groups kind from to are begins ends =
     let group : Group = record { kind = kind; from = from; to = to } in
     made-more (inside ++ moved) groups group ∙ ap (λ m. m ++ group_made (inside ++ moved) m group ∷ []) (after-grows inside moved 0 [] groups are)
-    ∙ ap (λ held. groups_made inside groups ++ made_by kind (nodes_of (groups_made inside groups) held) ∷ []) (slice-last inside moved from to begins ends)
+    ∙ ap (λ held. groups_made inside groups ++ made_by kind (nodes_of (groups_made inside groups) held) ∷ []) (slice-last inside moved (inside ++ moved) from to refl begins ends)
 
 wrapped : (made : List Made) (one : Made) (before : List Token) (opener number : ℕ) (left : Option DelimiterRun) (depth : ℕ) (holds_link : Bool) → AreBelow (length made) before → number ≡ length made
     → nodes_of (made ++ one ∷ []) ((take opener before ++ tokens_left left) ++ tokens.Made number depth holds_link ∷ []) ≡ take opener (nodes_of made before) ++ (rest_in left ++ Finished one depth holds_link ∷ [])

@@ -1,10 +1,8 @@
 -- What reading the inlines of a leaf answers.
-use Rattle.std.specs.Prelude.{◌≡◌, ℕ, ◌*◌, ◌≤◌, true, false, if◌then◌else◌, List, String, string_bytes, Result, Ok, Err, ⊤}
-use Rattle.std.specs.declared.alloc.Global.{Global}
+use Rattle.std.specs.Prelude.{◌≡◌, ℕ, ◌*◌, ◌≤◌, true, false, if◌then◌else◌, List, Result, Ok, Err, ⊤}
 use Rattle.cm_text.specs.Rules.{Rules}
 use Rattle.cm_tree.specs.Definitions.{Targets}
 use Rattle.cm_tree.specs.declared.tree.Inline.{Inline}
-use Rattle.cm_html.specs.Html.{inlines_html}
 use Rattle.cm_scan.specs.Brackets.{Defined, defined_in}
 use Rattle.cm_scan.specs.Inlines.{inlines_of, nests_past}
 use Rattle.cm_scan.specs.Runs.{runs_of, characters_of}
@@ -35,9 +33,3 @@ Refused NoMemory rules targets limit source = ⊤
 abbrev pub Reads : Result (List Inline × Steps) InlineFault → Rules → Targets → (limit : ℕ) → List ℕ → Type 0
 Reads (Ok answer) rules targets limit source = Read rules (defined_in targets) limit source answer
 Reads (Err fault) rules targets limit source = Refused fault rules targets limit source
-
--- the HTML of the inlines of a source, which don't nest past the limit, or why they aren't read
-abbrev pub ReadsHtml : Result (String Global) InlineFault → Rules → Targets → (limit : ℕ) → List ℕ → Type 0
-ReadsHtml (Ok html) rules targets limit source = (string_bytes html ≡ inlines_html (inlines_of rules (defined_in targets) source))
-    × (nests_past rules (defined_in targets) limit source ≡ false)
-ReadsHtml (Err fault) rules targets limit source = Refused fault rules targets limit source

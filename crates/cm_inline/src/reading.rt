@@ -1,5 +1,5 @@
 //! The inlines of a leaf.
-ghost use Rattle.std.specs.Prelude.{◌≡◌, ◌<◌, ◌&&◌, not, ℕ, [], ◌∷◌, ◌++◌, true, length, IfOk, OnOk, IfErr, IsTrue, Err};
+ghost use Rattle.std.specs.Prelude.{◌≡◌, ◌<◌, ◌&&◌, not, ℕ, [], ◌∷◌, ◌++◌, true, false, length, string_bytes, IfOk, OnOk, IfErr, IsTrue, Err};
 ghost use Rattle.std.specs.List.{list_any};
 ghost use Rattle.cm_text.specs.Rules.{Rules, profile};
 ghost use Rattle.cm_text.specs.Search.{is_marked};
@@ -11,7 +11,8 @@ ghost use Rattle.cm_scan.specs.Pieces.{in_pieces};
 ghost use Rattle.cm_scan.specs.Inlines as inlines;
 ghost use Rattle.cm_tree.specs.Depth.{inlines_depth};
 ghost use Rattle.cm_inline.specs.declared.fault.InlineFault.TheVariants.{InlinesTooDeep};
-ghost use Rattle.cm_inline.specs.Reading.{Read, Reads, ReadsHtml, Refused};
+ghost use Rattle.cm_html.specs.Html.{inlines_html};
+ghost use Rattle.cm_inline.specs.Reading.{Read, Reads, Refused};
 ghost use Rattle.cm_inline.specs.steps.Brackets.{IsReadTo};
 ghost use Rattle.cm_inline.specs.steps.Groups.{nodes_in, ArePlaced};
 ghost use Rattle.cm_inline.specs.steps.Nodes.{items_of, text_between, AreParts};
@@ -111,11 +112,6 @@ pub fn is_one_text(source: &str) -> bool
     !source.is_empty() && next_markup(source.as_bytes(), 0) == source.len()
 }
 
-/// Room for the HTML of most sources: a quarter more than the source. More is made room for as it comes.
-fn room(source: &str) -> usize {
-    source.len().saturating_add(source.len() / 4)
-}
-
 /// Reads the nodes of a source, of which nothing more is made then, and answers how many openers were looked at.
 fn read_nodes(
     alloc: Global,
@@ -175,25 +171,27 @@ impl InlineReader {
         Ok((settle(alloc, source, &self.reader.nodes)?, steps))
     }
 
-    /// The HTML of these inlines. It takes less time and memory than they do, since a text is written from the source.
+    /// Adds the HTML of these inlines. It takes less time and memory than they do, since a text is written from the source.
     ///
     /// # Errors
     ///
-    /// As `inlines`.
-    pub fn html(
+    /// As `inlines`; a beginning of the HTML may have been added where a request for memory was refused.
+    pub fn push_html(
         &mut self,
+        html: &mut String,
         rules: Rules,
         source: &str,
         definitions: &Definitions,
         limit: usize,
-    ) -> Result<String, InlineFault>
-        ensures { ReadsHtml result rules definitions.now limit source.now }
+    ) -> Result<(), InlineFault>
+        ensures pushed { OnOk result (string_bytes html.new ≡ string_bytes html.old ++ inlines_html (inlines.inlines_of rules (defined_in definitions.now) source.now)) }
+        ensures within { OnOk result (inlines.nests_past rules (defined_in definitions.now) limit source.now ≡ false) }
+        ensures refused { IfErr result (λ fault. Refused fault rules definitions.now limit source.now) }
     {
         let alloc = self.alloc;
         read_nodes(alloc, rules, source, definitions, limit, &mut self.reader)?;
-        let mut html = String::with_capacity(alloc, room(source))?;
-        push_nodes(alloc, &mut html, source, &self.reader.nodes)?;
-        Ok(html)
+        push_nodes(alloc, html, source, &self.reader.nodes)?;
+        Ok(())
     }
 }
 

@@ -2,13 +2,12 @@
 -- a paragraph is left open, and how deep each line stands (CommonMark 0.31.2, chapters 3 and 5).
 use Rattle.std.specs.Prelude.{ℕ, suc, ◌+◌, Bool, true, false, not, ◌&&◌, ◌||◌, List, [], ◌∷◌, ◌++◌, nat_lt, Option, Some, None, map, replicate}
 use Rattle.cm_text.specs.Unescaping.{unescape}
-use Rattle.cm_tree.specs.declared.tree.Inline.{Inline}
-use Rattle.cm_tree.specs.declared.tree.Inline.TheVariants.{Text}
 use Rattle.cm_tree.specs.declared.tree.Block.{Block}
 use Rattle.cm_tree.specs.declared.tree.Block.TheVariants.{Paragraph, Heading, Code, Html, Break, Definition, Quote, List as ListBlock}
 use Rattle.cm_tree.specs.declared.tree.ListKind.{ListKind}
 use Rattle.cm_tree.specs.declared.tree.Owner.{Owner}
 use Rattle.cm_tree.specs.declared.tree.Owner.TheVariants.{Leaf, Marker, Blank}
+use Rattle.cm_tree.specs.RawBlocks.{raw_inlines}
 use Rattle.cm_tree.specs.Definitions.{Target, Targets, add_all}
 use Rattle.std.specs.FinMap.{empty}
 use Rattle.cm_scan.specs.Words.{given}
@@ -36,11 +35,6 @@ mutual
   pub data ItemParts : Type 0 where
     last_item : Parts → ItemParts
     item : Parts → ℕ → ItemParts → ItemParts
-
--- an inline that stands for a leaf's source, or no inline if that is empty
-abbrev pub raw_inlines : List ℕ → List Inline
-raw_inlines [] = []
-raw_inlines (b ∷ bs) = Text (b ∷ bs) ∷ []
 
 -- A leaf block of the tree. Backslash escapes and references in an info string, a destination and a title stand for their
 -- characters there (2.4, 2.5), and a label is its source.

@@ -14,7 +14,7 @@ use Rattle.cm_tree.specs.declared.tree.Block.TheFolds.{fold_out-Block}
 use Rattle.cm_scan.specs.Brackets.{Defined}
 use Rattle.cm_scan.specs.Documents.{content_read, block_read, with_inlines, defined_by, tree_of_lines, tree_of}
 use Rattle.cm_scan.specs.Inlines.{inlines_of}
-use Rattle.cm_scan.specs.Parts.{raw_inlines}
+use Rattle.cm_tree.specs.RawBlocks.{raw_inlines}
 use Rattle.cm_scan.specs.Words.{is_empty}
 use Rattle.cm_source.specs.declared.why.Why.TheVariants as why
 use Rattle.cm_source.specs.steps.BlocksBack.{source_step, sourced, all_sourced}

@@ -11,7 +11,8 @@ use Rattle.cm_tree.specs.declared.tree.Block.TheViews.{roll-Block}
 use Rattle.cm_tree.specs.declared.tree.Block.TheFolds.{fold-roll-Block}
 use Rattle.cm_tree.specs.declared.tree.ListKind.{ListKind}
 use Rattle.cm_scan.specs.Words.{◌<|>◌}
-use Rattle.cm_scan.specs.Parts.{paragraph, heading, code, html, thematic_break, definition, raw_inlines, leaf_block}
+use Rattle.cm_scan.specs.Parts.{paragraph, heading, code, html, thematic_break, definition, leaf_block}
+use Rattle.cm_tree.specs.RawBlocks.{raw_inlines}
 use Rattle.cm_source.specs.declared.why.Why.{Why}
 use Rattle.cm_source.specs.declared.why.Why.TheVariants.{Definition, Nul, Shape, CodeText, HtmlBlock}
 use Rattle.cm_source.specs.Inlines.{spelled_content}

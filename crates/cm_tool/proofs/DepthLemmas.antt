@@ -20,7 +20,7 @@ use Rattle.cm_scan.specs.Looseness.{line_total, items_total, HaveLines, ItemsHav
 use Rattle.cm_scan.proofs.Counted.{parts_have_lines}
 use Rattle.cm_scan.proofs.Owners.{length-replicate}
 use Rattle.cm_block.proofs.Depths.{position-cons}
-use Rattle.cm_tool.proofs.LeafLemmas.{list_read}
+use Rattle.cm_tool.proofs.RawWalkLemmas.{list_read}
 use Rattle.cm_tool.proofs.OwnerLemmas.{quote-read}
 
 -- ---- the greatest of some numbers

@@ -5,7 +5,6 @@ pub mod EndedLemmas
 pub mod ExampleLemmas
 pub mod LastingLemmas
 pub mod LeafLemmas
-pub mod ContentLemmas
 pub mod LineLemmas
 pub mod MarkupLemmas
 pub mod OrderLemmas
@@ -23,3 +22,4 @@ pub mod TextLemmas
 pub mod WalkedLemmas
 pub mod WithinLemmas
 pub mod PassedLemmas
+pub mod RawWalkLemmas

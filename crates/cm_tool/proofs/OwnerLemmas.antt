@@ -17,7 +17,7 @@ use Rattle.cm_scan.specs.Documents.{read_step, block_read, with_inlines}
 use Rattle.cm_scan.specs.Documents.{defined_by}
 use Rattle.cm_tool.specs.Owners.{OneOwnerALine, RunsInOrder}
 use Rattle.cm_tool.proofs.EndedLemmas.{all_are_lines}
-use Rattle.cm_tool.proofs.LeafLemmas.{list_read}
+use Rattle.cm_tool.proofs.RawWalkLemmas.{list_read}
 
 abbrev leaves : Block → ℕ
 leaves block = fold-Block ℕ leaves_step block

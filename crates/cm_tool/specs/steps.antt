@@ -1,7 +1,7 @@
 pub mod FaultOrder
 pub mod Pushing
 pub mod Numbering
-pub mod Contents
+pub mod Items
 pub mod Ends
 pub mod ExampleSteps
 pub mod Sources

@@ -1,86 +1,57 @@
 //! The inlines of an outline's leaves.
-ghost use Rattle.std.specs.Prelude.{◌≡◌, ◌+◌, ◌≤◌, ◌<◌, [], ◌∷◌, ◌++◌, map, option_map, length, string_bytes, IfOk, IfErr, OnOk, None};
-ghost use Rattle.std.specs.List.{concat};
-ghost use Rattle.cm_tree.specs.declared.tree.Inline.TheVariants.{Html};
+ghost use Rattle.std.specs.Prelude.{◌≡◌, ◌+◌, ◌≤◌, ◌<◌, ℕ, [], ◌∷◌, option_map, IfOk, IfErr, OnOk, None};
+ghost use Rattle.cm_tree.specs.declared.tree.Inline.TheVariants.{Text as text_inline};
 ghost use Rattle.cm_tree.specs.Depth.{inlines_depth};
-ghost use Rattle.cm_html.specs.Html.{html_of, written, alone};
+ghost use Rattle.cm_tree.specs.RawBlocks.{raw_inlines};
+ghost use Rattle.cm_tree.specs.RawBlocks.{block_in, blocks_in, items_in, IsPlaced, ArePlaced, AreItems};
+ghost use Rattle.cm_tool.specs.steps.Items.{items_read, items_leaf_depths};
 ghost use Rattle.cm_scan.specs.Brackets.{defined_in};
+ghost use Rattle.cm_scan.specs.Documents.{content_read, block_read, with_inlines};
 ghost use Rattle.cm_inline.specs.declared.fault.InlineFault.TheVariants as inline_faults;
 ghost use Rattle.cm_tool.specs.declared.fault.Fault.TheVariants as faults;
 ghost use Rattle.cm_tool.specs.Leaves.{depths_in, leaf_depths, first_leaf_past};
-ghost use Rattle.cm_scan.specs.Documents.{content_read, block_read, with_inlines};
 ghost use Rattle.cm_tool.specs.Parsing.{TellsFault};
-ghost use Rattle.cm_tool.specs.steps.Contents.{content_made, block_made, blocks_made};
 ghost use Rattle.cm_tool.specs.steps.Numbering.{Passes, TellsLeaf};
 
 use crate::fault::Fault;
-use crate::pages::{add_page, new_page, turn_page};
-use cm_html::push_block;
 use cm_inline::{InlineFault, InlineReader, is_one_text};
 use cm_text::Limits;
-use cm_tree::{Block, Definitions, Inline, Items, Text, inline_depth};
-use std::alloc::Global;
-use std::mem;
+use cm_tree::{Block, Definitions, Inline, Items, RawBlock, RawBlocks, RawItem, RawTree, Text};
+use std::alloc::{AllocError, Global};
 
-/// What takes the place of a leaf's source.
-#[derive(Clone, Copy)]
-pub(crate) enum Form {
-    /// Its inlines.
-    Tree,
-    /// Their HTML, as one piece of raw HTML, which is written from the source.
-    Html,
+/// The one inline of a source that has no markup.
+fn one_text(alloc: Global, source: &str) -> Result<Items<Inline>, AllocError>
+    ensures { IfOk result (λ inlines. inlines ≡ text_inline source.now ∷ []) }
+{
+    let mut inlines = Items::new(alloc);
+    inlines.push(Inline::Text(Text::from_str(alloc, source)?))?;
+    Ok(inlines)
 }
 
-/// Puts the inlines of a paragraph or heading, or their HTML, in the place of its source.
+/// The inlines of a paragraph or heading with this source.
 fn read_content(
     alloc: Global,
     limits: Limits,
     definitions: &Definitions,
-    form: Form,
     reader: &mut InlineReader,
-    content: &mut Items<Inline>,
-) -> Result<(), InlineFault>
-    ensures read { OnOk result (content.new ≡ content_made form limits.rules (defined_in definitions.now) content.old) }
-    ensures within { OnOk result (inlines_depth (content_read limits.rules (defined_in definitions.now) content.old) ≤ limits.inlines) }
-    ensures deep { IfErr result (λ fault. fault ≡ inline_faults.InlinesTooDeep →
-        limits.inlines < inlines_depth (content_read limits.rules (defined_in definitions.now) content.old)) }
+    source: &str,
+) -> Result<Items<Inline>, InlineFault>
+    ensures read { IfOk result (λ inlines. inlines ≡ content_read limits.rules (defined_in definitions.now) (raw_inlines source.now)) }
+    ensures within { OnOk result (inlines_depth (content_read limits.rules (defined_in definitions.now) (raw_inlines source.now)) ≤ limits.inlines) }
+    ensures deep { IfErr result (λ fault. fault ≡ inline_faults.InlinesTooDeep → limits.inlines < inlines_depth (content_read limits.rules (defined_in definitions.now) (raw_inlines source.now))) }
 {
-    let (rules, limit) = (limits.rules(), limits.inlines());
-    let [Inline::Text(source)] = content.as_slice() else {
-        // There is no source. An outline has no inlines then, but the type allows some.
-        if inline_depth(content.as_slice()) > limit {
-            return Err(InlineFault::InlinesTooDeep);
-        }
-        return Ok(());
-    };
-    if is_one_text(source.as_str()) {
-        return Ok(());
+    if source.is_empty() {
+        return Ok(Items::new(alloc));
     }
-    match form {
-        Form::Tree => {
-            let (inlines, _) = reader.inlines(rules, source.as_str(), definitions, limit)?;
-            *content = inlines;
-        }
-        Form::Html => {
-            let html = reader.html(rules, source.as_str(), definitions, limit)?;
-            put_html(alloc, content, html);
-        }
+    if is_one_text(source) {
+        return Ok(one_text(alloc, source)?);
     }
-    Ok(())
-}
-
-/// Puts one piece of raw HTML in the place of the one inline.
-fn put_html(alloc: Global, content: &mut Items<Inline>, html: String)
-    requires { length content.old ≡ 1 }
-    ensures { content.new ≡ Html (string_bytes html) ∷ [] }
-{
-    let mut inlines = mem::replace(content, Items::new(alloc)).into_vec();
-    inlines[0] = Inline::Html(Text::from(html));
-    *content = Items::from(inlines);
+    let (inlines, _) = reader.inlines(limits.rules(), source, definitions, limits.inlines())?;
+    Ok(inlines)
 }
 
 /// Counts one more leaf, and answers its number.
-fn count_leaf(next: &mut usize) -> Result<usize, Fault>
+pub(crate) fn count_leaf(next: &mut usize) -> Result<usize, Fault>
     ensures number { IfOk result (λ leaf. leaf ≡ next.old) }
     ensures counted { OnOk result (next.new ≡ next.old + 1) }
     ensures memory { IfErr result (λ fault. fault ≡ faults.NoMemory) }
@@ -91,111 +62,177 @@ fn count_leaf(next: &mut usize) -> Result<usize, Fault>
     Ok(leaf)
 }
 
-/// Reads the next leaf, a paragraph or heading.
+/// What is told of a leaf that can't be read.
+pub(crate) fn leaf_fault(fault: InlineFault, leaf: usize) -> Fault
+    ensures { (limit depth : ℕ) → (fault ≡ inline_faults.InlinesTooDeep → limit < depth) → TellsLeaf result limit leaf (depth ∷ []) }
+{
+    match fault {
+        InlineFault::InlinesTooDeep => Fault::InlinesTooDeep { leaf },
+        InlineFault::NoMemory => Fault::NoMemory,
+    }
+}
+
+/// The inlines of the next leaf, a paragraph or heading with this source.
 fn read_leaf(
     alloc: Global,
     limits: Limits,
     definitions: &Definitions,
-    form: Form,
     reader: &mut InlineReader,
     next: &mut usize,
-    content: &mut Items<Inline>,
-) -> Result<(), Fault>
-    ensures read { OnOk result (content.new ≡ content_made form limits.rules (defined_in definitions.now) content.old) }
-    ensures passes { OnOk result (Passes limits.inlines next.old next.new
-        (inlines_depth (content_read limits.rules (defined_in definitions.now) content.old) ∷ [])) }
-    ensures told { IfErr result (λ fault. TellsLeaf fault limits.inlines next.old
-        (inlines_depth (content_read limits.rules (defined_in definitions.now) content.old) ∷ [])) }
+    source: &str,
+) -> Result<Items<Inline>, Fault>
+    ensures read { IfOk result (λ inlines. inlines ≡ content_read limits.rules (defined_in definitions.now) (raw_inlines source.now)) }
+    ensures passes { OnOk result (Passes limits.inlines next.old next.new (inlines_depth (content_read limits.rules (defined_in definitions.now) (raw_inlines source.now)) ∷ [])) }
+    ensures told { IfErr result (λ fault. TellsLeaf fault limits.inlines next.old (inlines_depth (content_read limits.rules (defined_in definitions.now) (raw_inlines source.now)) ∷ [])) }
 {
     let leaf = count_leaf(next)?;
-    match read_content(alloc, limits, definitions, form, reader, content) {
-        Ok(()) => Ok(()),
-        Err(InlineFault::InlinesTooDeep) => Err(Fault::InlinesTooDeep { leaf }),
-        Err(InlineFault::NoMemory) => Err(Fault::NoMemory),
+    match read_content(alloc, limits, definitions, reader, source) {
+        Ok(inlines) => Ok(inlines),
+        Err(fault) => Err(leaf_fault(fault, leaf)),
     }
 }
 
-/// Reads the next leaves, those of the blocks, at every depth.
+/// Blocks with the inlines of their leaves, at every depth.
 #[cycle(leaves)]
-fn with_inlines(
+fn read_blocks(
     alloc: Global,
     limits: Limits,
     definitions: &Definitions,
-    form: Form,
+    raw: &RawBlocks,
     reader: &mut InlineReader,
     next: &mut usize,
-    blocks: Items<Block>,
+    blocks: &[RawBlock],
 ) -> Result<Items<Block>, Fault>
-    ensures read { IfOk result (λ read. read ≡ blocks_made form limits.rules (defined_in definitions.now) blocks) }
-    ensures passes { OnOk result (Passes limits.inlines next.old next.new
-        (leaf_depths (with_inlines limits.rules (defined_in definitions.now) blocks))) }
-    ensures told { IfErr result (λ fault. TellsLeaf fault limits.inlines next.old
-        (leaf_depths (with_inlines limits.rules (defined_in definitions.now) blocks))) }
+    requires { ArePlaced raw.now blocks.now }
+    ensures read { IfOk result (λ read. read ≡ with_inlines limits.rules (defined_in definitions.now) (blocks_in raw.now blocks.now)) }
+    ensures passes { OnOk result (Passes limits.inlines next.old next.new (leaf_depths (with_inlines limits.rules (defined_in definitions.now) (blocks_in raw.now blocks.now)))) }
+    ensures told { IfErr result (λ fault. TellsLeaf fault limits.inlines next.old (leaf_depths (with_inlines limits.rules (defined_in definitions.now) (blocks_in raw.now blocks.now)))) }
 {
-    let mut blocks = blocks.into_vec();
-    for block in blocks.iter_mut() {
-        read_block(alloc, limits, definitions, form, reader, next, block)?;
+    let mut read = Items::from(Vec::with_capacity(alloc, blocks.len())?);
+    for block in blocks {
+        let block = read_block(alloc, limits, definitions, raw, reader, next, *block)?;
+        read.push(block)?;
     }
-    Ok(Items::from(blocks))
+    Ok(read)
 }
 
-/// Reads the next leaves, those of a block.
+/// A block with the inlines of its leaves.
 #[cycle(leaves)]
 pub(crate) fn read_block(
     alloc: Global,
     limits: Limits,
     definitions: &Definitions,
-    form: Form,
+    raw: &RawBlocks,
     reader: &mut InlineReader,
     next: &mut usize,
-    block: &mut Block,
-) -> Result<(), Fault>
-    ensures read { OnOk result (block.new ≡ block_made form limits.rules (defined_in definitions.now) block.old) }
-    ensures passes { OnOk result (Passes limits.inlines next.old next.new
-        (depths_in (block_read limits.rules (defined_in definitions.now) block.old))) }
-    ensures told { IfErr result (λ fault. TellsLeaf fault limits.inlines next.old
-        (depths_in (block_read limits.rules (defined_in definitions.now) block.old))) }
+    block: RawBlock,
+) -> Result<Block, Fault>
+    requires { IsPlaced raw.now block }
+    ensures read { IfOk result (λ read. read ≡ block_read limits.rules (defined_in definitions.now) (block_in raw.now block)) }
+    ensures passes { OnOk result (Passes limits.inlines next.old next.new (depths_in (block_read limits.rules (defined_in definitions.now) (block_in raw.now block)))) }
+    ensures told { IfErr result (λ fault. TellsLeaf fault limits.inlines next.old (depths_in (block_read limits.rules (defined_in definitions.now) (block_in raw.now block)))) }
 {
     match block {
-        Block::Paragraph(content) => read_leaf(
-            alloc,
-            limits,
-            definitions,
-            form,
-            reader,
-            next,
-            content,
-        ),
-        Block::Heading { content, .. } => read_leaf(
-            alloc,
-            limits,
-            definitions,
-            form,
-            reader,
-            next,
-            content,
-        ),
-        Block::Quote(blocks) => {
-            let inside = mem::replace(blocks, Items::new(alloc));
-            *blocks = with_inlines(alloc, limits, definitions, form, reader, next, inside)?;
-            Ok(())
+        RawBlock::Paragraph { from, to } => {
+            let content = read_leaf(alloc, limits, definitions, reader, next, raw.text(from, to))?;
+            Ok(Block::Paragraph(content))
         }
-        Block::List { kind, tight, items } => {
-            let (kind, tight) = (*kind, *tight);
-            let mut read = mem::replace(items, Items::new(alloc)).into_vec();
-            for item in read.iter_mut() {
-                let inside = mem::replace(item, Items::new(alloc));
-                *item = with_inlines(alloc, limits, definitions, form, reader, next, inside)?;
-            }
-            let items = Items::from(read);
-            *block = Block::List { kind, tight, items };
-            Ok(())
+        RawBlock::Heading { level, from, to } => {
+            let content = read_leaf(alloc, limits, definitions, reader, next, raw.text(from, to))?;
+            Ok(Block::Heading { level, content })
         }
-        _ => {
+        RawBlock::Code { info, text, to } => {
             count_leaf(next)?;
-            Ok(())
+            Ok(Block::Code {
+                info: Text::from_str(alloc, raw.text(info, text))?,
+                text: Text::from_str(alloc, raw.text(text, to))?,
+            })
+        }
+        RawBlock::Html { from, to } => {
+            count_leaf(next)?;
+            Ok(Block::Html {
+                text: Text::from_str(alloc, raw.text(from, to))?,
+            })
+        }
+        RawBlock::Break => {
+            count_leaf(next)?;
+            Ok(Block::Break)
+        }
+        RawBlock::Definition {
+            label,
+            dest,
+            title,
+            to,
+        } => {
+            count_leaf(next)?;
+            Ok(Block::Definition {
+                label: Text::from_str(alloc, raw.text(label, dest))?,
+                dest: Text::from_str(alloc, raw.text(dest, title))?,
+                title: Text::from_str(alloc, raw.text(title, to))?,
+            })
+        }
+        RawBlock::Quote { from, to } => {
+            let blocks = read_blocks(
+                alloc,
+                limits,
+                definitions,
+                raw,
+                reader,
+                next,
+                raw.blocks(from, to),
+            )?;
+            Ok(Block::Quote(blocks))
+        }
+        RawBlock::List {
+            kind,
+            tight,
+            from,
+            to,
+        } => {
+            let items = read_items(
+                alloc,
+                limits,
+                definitions,
+                raw,
+                reader,
+                next,
+                raw.items(from, to),
+            )?;
+            Ok(Block::List { kind, tight, items })
         }
     }
+}
+
+/// Items with the inlines of their leaves.
+#[cycle(leaves)]
+fn read_items(
+    alloc: Global,
+    limits: Limits,
+    definitions: &Definitions,
+    raw: &RawBlocks,
+    reader: &mut InlineReader,
+    next: &mut usize,
+    items: &[RawItem],
+) -> Result<Items<Items<Block>>, Fault>
+    requires { AreItems raw.now items.now }
+    ensures read { IfOk result (λ read. read ≡ items_read limits.rules (defined_in definitions.now) (items_in raw.now items.now)) }
+    ensures passes { OnOk result (Passes limits.inlines next.old next.new (items_leaf_depths (items_read limits.rules (defined_in definitions.now) (items_in raw.now items.now)))) }
+    ensures told { IfErr result (λ fault. TellsLeaf fault limits.inlines next.old (items_leaf_depths (items_read limits.rules (defined_in definitions.now) (items_in raw.now items.now)))) }
+{
+    let mut read = Items::from(Vec::with_capacity(alloc, items.len())?);
+    for item in items {
+        let blocks = read_blocks(
+            alloc,
+            limits,
+            definitions,
+            raw,
+            reader,
+            next,
+            raw.blocks(item.from, item.to),
+        )?;
+        read.push(blocks)?;
+    }
+    Ok(read)
 }
 
 /// The blocks with the inlines of their leaves, at every depth.
@@ -208,87 +245,22 @@ pub(crate) fn read_leaves(
     alloc: Global,
     limits: Limits,
     definitions: &Definitions,
-    blocks: Items<Block>,
+    blocks: RawTree,
 ) -> Result<Items<Block>, Fault>
     ensures read { IfOk result (λ read. read ≡ with_inlines limits.rules (defined_in definitions.now) blocks) }
     ensures within { IfOk result (λ read. first_leaf_past limits.inlines read ≡ None) }
-    ensures told { IfErr result (λ fault. TellsFault fault (option_map faults.InlinesTooDeep
-        (first_leaf_past limits.inlines (with_inlines limits.rules (defined_in definitions.now) blocks)))) }
+    ensures told { IfErr result (λ fault. TellsFault fault (option_map faults.InlinesTooDeep (first_leaf_past limits.inlines (with_inlines limits.rules (defined_in definitions.now) blocks)))) }
 {
+    let (top, inside) = blocks.into_parts();
     let mut next = 1;
     let mut reader = InlineReader::new(alloc);
-    with_inlines(
+    read_blocks(
         alloc,
         limits,
         definitions,
-        Form::Tree,
+        &inside,
         &mut reader,
         &mut next,
-        blocks,
+        &top,
     )
-}
-
-/// Reads the inlines of the next leaves, those of a block, and adds its HTML.
-fn push_read(
-    alloc: Global,
-    limits: Limits,
-    definitions: &Definitions,
-    reader: &mut InlineReader,
-    next: &mut usize,
-    html: &mut String,
-    mut block: Block,
-) -> Result<(), Fault>
-    ensures pushed { OnOk result (string_bytes html.new ≡ string_bytes html.old ++ alone (written (block_read limits.rules (defined_in definitions.now) block))) }
-    ensures passes { OnOk result (Passes limits.inlines next.old next.new (depths_in (block_read limits.rules (defined_in definitions.now) block))) }
-    ensures told { IfErr result (λ fault. TellsLeaf fault limits.inlines next.old
-        (depths_in (block_read limits.rules (defined_in definitions.now) block))) }
-{
-    read_block(
-        alloc,
-        limits,
-        definitions,
-        Form::Html,
-        reader,
-        next,
-        &mut block,
-    )?;
-    push_block(html, &block)?;
-    Ok(())
-}
-
-/// The HTML of the blocks with the inlines of their leaves, in pages. The inlines of one block are let go of before those of the next
-/// one are read.
-///
-/// # Errors
-///
-/// As `read_leaves`.
-pub(crate) fn leaves_html(
-    alloc: Global,
-    limits: Limits,
-    definitions: &Definitions,
-    blocks: Items<Block>,
-) -> Result<Items<Text>, Fault>
-    ensures html { IfOk result (λ pages. concat pages ≡ html_of (with_inlines limits.rules (defined_in definitions.now) blocks)) }
-    ensures within { IfOk result (λ _. first_leaf_past limits.inlines (with_inlines limits.rules (defined_in definitions.now) blocks) ≡ None) }
-    ensures told { IfErr result (λ fault. TellsFault fault (option_map faults.InlinesTooDeep
-        (first_leaf_past limits.inlines (with_inlines limits.rules (defined_in definitions.now) blocks)))) }
-{
-    let mut pages = Items::new(alloc);
-    let mut page = new_page(alloc)?;
-    let mut reader = InlineReader::new(alloc);
-    let mut next = 1;
-    for block in blocks.into_vec() {
-        push_read(
-            alloc,
-            limits,
-            definitions,
-            &mut reader,
-            &mut next,
-            &mut page,
-            block,
-        )?;
-        turn_page(alloc, &mut pages, &mut page)?;
-    }
-    add_page(&mut pages, page)?;
-    Ok(pages)
 }

@@ -13,6 +13,7 @@ mod leaves;
 mod listing;
 mod pages;
 mod parser;
+mod raw_html;
 mod reading;
 mod reporting;
 mod rewriting;

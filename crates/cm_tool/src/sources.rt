@@ -2,6 +2,7 @@
 ghost use Rattle.std.specs.Prelude.{◌≡◌, List, [], ◌∷◌, ◌++◌, IfOk, IfErr, OnOk, None, option_map};
 ghost use Rattle.cm_text.specs.Rules as text_rules;
 ghost use Rattle.cm_tree.specs.declared.tree.Block as trees;
+ghost use Rattle.cm_tree.specs.RawBlocks.{block_in, blocks_in, IsPlaced, ArePlaced};
 ghost use Rattle.cm_scan.specs.Brackets.{defined_in};
 ghost use Rattle.cm_scan.specs.Documents.{block_read, with_inlines};
 ghost use Rattle.cm_source.specs.Definitions.{without_definitions};
@@ -12,11 +13,11 @@ ghost use Rattle.cm_tool.specs.steps.Numbering.{Passes, TellsLeaf};
 ghost use Rattle.cm_tool.specs.steps.Sources.{HasTaken, Spelled};
 
 use crate::fault::Fault;
-use crate::leaves::{Form, read_block};
+use crate::leaves::read_block;
 use cm_inline::InlineReader;
 use cm_source::{SourceFault, Speller, Why, block_without_definitions};
 use cm_text::{Limits, NoMemory, Rules};
-use cm_tree::{Block, Definitions, Items};
+use cm_tree::{Block, Definitions, RawBlock, RawBlocks, RawTree};
 use std::alloc::Global;
 
 /// The source of the blocks so far, or why they can't be spelled.
@@ -84,28 +85,54 @@ fn push_spelled(
     alloc: Global,
     limits: Limits,
     definitions: &Definitions,
+    raw: &RawBlocks,
     reader: &mut InlineReader,
     next: &mut usize,
     source: &mut PlainSource,
-    mut block: Block,
+    block: RawBlock,
 ) -> Result<(), Fault>
+    requires { IsPlaced raw.now block }
     ensures pushed { OnOk result ((rules : text_rules.Rules) (blocks : List trees.Block) → HasTaken rules source.old blocks →
-        HasTaken rules source.new (blocks ++ without_definitions (block_read limits.rules (defined_in definitions.now) block ∷ []))) }
-    ensures passes { OnOk result (Passes limits.inlines next.old next.new (depths_in (block_read limits.rules (defined_in definitions.now) block))) }
+        HasTaken rules source.new (blocks ++ without_definitions (block_read limits.rules (defined_in definitions.now) (block_in raw.now block) ∷ []))) }
+    ensures passes { OnOk result (Passes limits.inlines next.old next.new (depths_in (block_read limits.rules (defined_in definitions.now) (block_in raw.now block)))) }
     ensures told { IfErr result (λ fault. TellsLeaf fault limits.inlines next.old
-        (depths_in (block_read limits.rules (defined_in definitions.now) block))) }
+        (depths_in (block_read limits.rules (defined_in definitions.now) (block_in raw.now block)))) }
 {
-    read_block(
-        alloc,
-        limits,
-        definitions,
-        Form::Tree,
-        reader,
-        next,
-        &mut block,
-    )?;
+    let block = read_block(alloc, limits, definitions, raw, reader, next, block)?;
     source.push_cleared(alloc, block)?;
     Ok(())
+}
+
+/// The source of the blocks at the top level.
+fn source_of(
+    alloc: Global,
+    limits: Limits,
+    definitions: &Definitions,
+    raw: &RawBlocks,
+    blocks: &[RawBlock],
+) -> Result<Result<String, Why>, Fault>
+    requires { ArePlaced raw.now blocks.now }
+    ensures source { IfOk result (λ source. Spelled limits.rules (without_definitions (with_inlines limits.rules (defined_in definitions.now) (blocks_in raw.now blocks.now))) source) }
+    ensures within { IfOk result (λ _. first_leaf_past limits.inlines (with_inlines limits.rules (defined_in definitions.now) (blocks_in raw.now blocks.now)) ≡ None) }
+    ensures told { IfErr result (λ fault. TellsFault fault (option_map faults.InlinesTooDeep
+        (first_leaf_past limits.inlines (with_inlines limits.rules (defined_in definitions.now) (blocks_in raw.now blocks.now))))) }
+{
+    let mut source = PlainSource::new(alloc, limits.rules());
+    let mut reader = InlineReader::new(alloc);
+    let mut next = 1;
+    for block in blocks {
+        push_spelled(
+            alloc,
+            limits,
+            definitions,
+            raw,
+            &mut reader,
+            &mut next,
+            &mut source,
+            *block,
+        )?;
+    }
+    Ok(source.finish())
 }
 
 /// The source of the blocks with the inlines of their leaves and without their definitions, or why they can't be spelled. The inlines of
@@ -119,26 +146,13 @@ pub(crate) fn leaves_source(
     alloc: Global,
     limits: Limits,
     definitions: &Definitions,
-    blocks: Items<Block>,
+    blocks: RawTree,
 ) -> Result<Result<String, Why>, Fault>
     ensures source { IfOk result (λ source. Spelled limits.rules (without_definitions (with_inlines limits.rules (defined_in definitions.now) blocks)) source) }
     ensures within { IfOk result (λ _. first_leaf_past limits.inlines (with_inlines limits.rules (defined_in definitions.now) blocks) ≡ None) }
     ensures told { IfErr result (λ fault. TellsFault fault (option_map faults.InlinesTooDeep
         (first_leaf_past limits.inlines (with_inlines limits.rules (defined_in definitions.now) blocks)))) }
 {
-    let mut source = PlainSource::new(alloc, limits.rules());
-    let mut reader = InlineReader::new(alloc);
-    let mut next = 1;
-    for block in blocks.into_vec() {
-        push_spelled(
-            alloc,
-            limits,
-            definitions,
-            &mut reader,
-            &mut next,
-            &mut source,
-            block,
-        )?;
-    }
-    Ok(source.finish())
+    let (top, inside) = blocks.into_parts();
+    source_of(alloc, limits, definitions, &inside, &top)
 }

@@ -1,1 +1,2 @@
+pub mod RawLemmas
 pub mod Targets

@@ -4,5 +4,6 @@ pub mod Depth
 pub mod Definitions
 pub mod Levels
 pub mod RawHtml
+pub mod RawBlocks
 pub mod WorkedExamples
 pub mod steps

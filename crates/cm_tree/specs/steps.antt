@@ -1,1 +1,2 @@
 pub mod LabelNumbers
+pub mod RawSteps

@@ -56,7 +56,9 @@ mod definitions;
 mod depth;
 mod items;
 pub mod laws;
+mod raw_blocks;
 mod raw_html;
+mod raw_tree;
 mod text;
 mod tree;
 
@@ -64,6 +66,8 @@ pub use boxed_text::BoxedText;
 pub use definitions::Definitions;
 pub use depth::{block_depth, inline_depth};
 pub use items::Items;
+pub use raw_blocks::{RawBlock, RawBlocks, RawItem};
 pub use raw_html::has_raw_html;
+pub use raw_tree::RawTree;
 pub use text::Text;
 pub use tree::{Block, Doc, Inline, ListKind, Owner};

@@ -2,7 +2,7 @@
 
 use cm_block::{BlockFault, BlockParser};
 use cm_text::{Limits, Line};
-use cm_tree::Owner;
+use cm_tree::{Owner, RawBlock};
 use std::alloc::Global;
 use std::test::Fail;
 
@@ -22,7 +22,15 @@ fn outline_of_lines(rt: HostRuntime) -> Result<(), Fail> {
     }
     assert_eq!(rt; parser.limits(), Limits::standard());
     let outline = parser.finish().ok().ok_or("outline")?;
-    assert_eq!(rt; outline.blocks.len(), 3);
+    let (blocks, _) = outline.blocks.into_parts();
+    assert!(rt; matches!(
+        blocks.as_slice(),
+        [
+            RawBlock::List { tight: true, .. },
+            RawBlock::Quote { .. },
+            RawBlock::Definition { .. },
+        ]
+    ));
     let owners = outline.owners.into_items(alloc)?;
     assert_eq!(rt; owners.as_slice().first(), Some(&Owner::Leaf(1)));
     assert!(rt; outline.definitions.find("d")?.is_none());

@@ -34,11 +34,12 @@ fn inlines_of_a_leaf(rt: HostRuntime) -> Result<(), Fail> {
     assert!(rt; !is_one_text("a\nb"));
     assert!(rt; !is_one_text(""));
     let mut reader = InlineReader::new(alloc);
-    let html = reader
-        .html(Rules::profile(), "*a* [b", &table, 1)
+    let mut html = String::from_str(alloc, "<p>")?;
+    reader
+        .push_html(&mut html, Rules::profile(), "*a* [b", &table, 1)
         .ok()
         .ok_or("html")?;
-    assert_eq!(rt; html.as_str(), "<em>a</em> [b");
+    assert_eq!(rt; html.as_str(), "<p><em>a</em> [b");
     // Nothing of the leaf before is left.
     let (read, _) = reader
         .inlines(Rules::profile(), "b](c)", &table, 1)

@@ -5,12 +5,10 @@ use Rattle.cm_text.specs.Lines.{LineView}
 use Rattle.cm_block.specs.declared.parser.BlockParser as code
 use Rattle.cm_block.specs.declared.fault.BlockFault.{BlockFault}
 use Rattle.cm_block.specs.declared.fault.BlockFault.TheVariants.{BlocksTooDeep, NoMemory}
-use Rattle.cm_block.specs.LevelViews.{level_of}
 use Rattle.cm_block.specs.Stack.{Stack, close_stack, push_leaf_line, push_line}
 use Rattle.cm_block.specs.Depths.{nesting}
 use Rattle.cm_block.specs.Frames.{within}
 use Rattle.cm_block.specs.OpenLeaf.{LeafLine, line_of_leaf}
-use Rattle.cm_block.specs.FrameViews.{frames_of}
 use Rattle.cm_block.specs.LeafViews.{leaf_of}
 use Rattle.cm_block.specs.Parser.{stack_of}
 
@@ -24,7 +22,7 @@ abbrev pub TakenToLeaf : Bool → ℕ → code.BlockParser → LineView → code
 TakenToLeaf true depth before line now =
     (length before.stack.frames ≤ depth)
     × ((l : LeafLine) × ((line_of_leaf before.limits.rules (leaf_of before.leaf) line ≡ Some l)
-    × (stack_of now ≡ within (frames_of before.stack.frames) (push_leaf_line before.owners (level_of before.stack.level) l))))
+    × (stack_of now ≡ within before.stack.frames (push_leaf_line before.owners before.stack.level l))))
 TakenToLeaf false depth before line now =
     (length before.stack.frames ≤ depth → line_of_leaf before.limits.rules (leaf_of before.leaf) line ≡ None)
     × ((leaf_of now.leaf ≡ leaf_of before.leaf) × ((now.stack ≡ before.stack) × (now.owners ≡ before.owners)))

@@ -9,7 +9,7 @@ use Rattle.cm_tree.specs.declared.tree.Block.{Block, Block-F}
 use Rattle.cm_tree.specs.declared.tree.Block.TheOpen as block
 use Rattle.cm_tree.specs.declared.tree.Block.TheVariants.{Paragraph, Heading, Code, Html, Break, Definition, Quote, List as ListBlock}
 use Rattle.cm_tree.specs.declared.tree.Block.TheFolds.{fold-Block}
-use Rattle.cm_scan.specs.Parts.{raw_inlines}
+use Rattle.cm_tree.specs.RawBlocks.{raw_inlines}
 use Rattle.cm_scan.specs.Blocks.{blocks_of}
 use Rattle.cm_source.specs.InlineRefusals.{paragraph_refusal, heading_refusal, has_nul}
 use Rattle.cm_source.specs.Inlines.{spelled_content}

@@ -1,8 +1,7 @@
 use Rattle.std.proofs.Common.{◌∙◌, sym}
 use Rattle.std.proofs.lemmas.Str.{IsCharBoundary-start}
-use Rattle.cm_block.specs.LevelViews.{level_of}
 use Rattle.cm_block.proofs.RunLemmas.{next_fewer, next_left, none_left}
-use Rattle.cm_block.proofs.PutLemmas.{definition_closes, definition_owns, nothing_closes, nothing_owns, still_whole, no_longer, some_definition, some_taken}
+use Rattle.cm_block.proofs.PutLemmas.{definition_closes, definition_owns, nothing_closes, nothing_owns, some_definition, some_taken}
 use Rattle.cm_block.proofs.closed_leaf.put_definitions.Goals as goal
 
 pub definition-requires : goal.definition-requires
@@ -33,11 +32,11 @@ loop-found-preserved c =
     record {
       utf8 = c.range_from-rest.utf8;
       left = next_left rest left found.label.now found.dest.now found.title.now c.in-Some.end c.in-Some.ensures.read c.range_from-rest.ensures.value ∙ kept.left;
-      within = no_longer c.args.text.now rest left c.in-Some.end c.range_from-rest.ensures.value kept.within;
-      whole = still_whole c.args.text.now rest left c.in-Some.end c.range_from-rest.ensures.value kept.within kept.whole;
-      level = definition_closes (level_of c.loop-found.level) (level_of c.put_definition.new.level) rest left found.label.now found.dest.now found.title.now c.in-Some.end c.in-Some.ensures.read
+      level = definition_closes c.loop-found.stack.level c.put_definition.new.stack.level rest left found.label.now found.dest.now found.title.now c.in-Some.end c.in-Some.ensures.read
           c.range_from-rest.ensures.value put.level
           ∙ kept.level;
+      frames = put.frames ∙ kept.frames;
+      bare = put.bare ∙ kept.bare;
       owners = definition_owns c.loop-found.owners c.put_definition.new.owners rest left found.label.now found.dest.now found.title.now c.in-Some.end c.lines_taken-lines.result c.in-Some.ensures.read
           c.range_from-rest.ensures.value c.lines_taken-lines.ensures put.owners
           ∙ kept.owners;
@@ -47,7 +46,7 @@ pub returns-clause-left : goal.returns-clause-left
 returns-clause-left c = none_left c.loop-found.rest.now c.in_default.ensures.read ∙ c.loop-found.invariant.left
 
 pub returns-clause-level : goal.returns-clause-level
-returns-clause-level c = sym (nothing_closes (level_of c.loop-found.level) c.loop-found.rest.now c.in_default.ensures.read) ∙ c.loop-found.invariant.level
+returns-clause-level c = sym (nothing_closes c.loop-found.stack.level c.loop-found.rest.now c.in_default.ensures.read) ∙ c.loop-found.invariant.level
 
 pub returns-clause-owners : goal.returns-clause-owners
 returns-clause-owners c = sym (nothing_owns c.loop-found.owners c.loop-found.rest.now c.in_default.ensures.read) ∙ c.loop-found.invariant.owners

@@ -1,9 +1,8 @@
-use Rattle.std.proofs.Common.{◌≡◌, ◌≤◌, length}
+use Rattle.std.proofs.Common.{◌≡◌}
 use denote.Text.{Utf8}
 use denote.Shadow.{shadow}
 use Rattle.cm_scan.specs.Links.{definitions_of}
 use Rattle.cm_scan.specs.Blocks.{line_count, definition_leaves}
-use Rattle.cm_block.specs.LevelViews.{level_of}
 use Rattle.cm_block.specs.Stack.{close_leaves, own_leaves}
 use Rattle.cm_block.proofs.closed_leaf.put_definitions.Given as goal
 
@@ -12,10 +11,10 @@ abbrev pub invariant-loop-found : goal.invariant-loop-found
 invariant-loop-found l = record {
   utf8 : shadow (Utf8 l.rest);
   left : (definitions_of l.rest).left ≡ (definitions_of l.text).left;
-  within : length l.rest ≤ length l.text;
-  whole : length l.text ≤ length l.rest → l.rest ≡ l.text;
-  level : close_leaves (level_of l.level) (definition_leaves l.rest (definitions_of l.rest).taken)
-      ≡ close_leaves (level_of l.fn.level) (definition_leaves l.text (definitions_of l.text).taken);
+  level : close_leaves l.stack.level (definition_leaves l.rest (definitions_of l.rest).taken)
+      ≡ close_leaves l.fn.stack.level (definition_leaves l.text (definitions_of l.text).taken);
+  frames : l.stack.frames ≡ l.fn.stack.frames;
+  bare : l.stack.bare ≡ l.fn.stack.bare;
   owners : own_leaves l.owners (definition_leaves l.rest (definitions_of l.rest).taken)
       ≡ own_leaves l.fn.owners (definition_leaves l.text (definitions_of l.text).taken);
 }

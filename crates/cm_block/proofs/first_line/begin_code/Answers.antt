@@ -8,5 +8,5 @@ use Rattle.cm_block.proofs.first_line.begin_code.Goals as goal
 pub returns : goal.returns
 returns c =
     code_begins (string_bytes c.push_line.new.text) (string_bytes c.new.result) (line_of c.args.line.now)
-    (c.in_ok-push_line.ensures.text ∙ ap₂ (λ t (l : LineView). t ++ l.text) c.new-text.ensures.bytes c.strip.ensures.line)
-    (c.in_ok-push_line.ensures.feeds ∙ ap line_feeds c.new-text.ensures.bytes ∙ no_feeds) c.new.ensures.bytes
+    (c.in_ok-push_line.ensures.text ∙ ap₂ (λ t (l : LineView). t ++ l.text) c.take_room-text.ensures c.strip.ensures.line)
+    (c.in_ok-push_line.ensures.feeds ∙ ap line_feeds c.take_room-text.ensures ∙ no_feeds) c.new.ensures.bytes

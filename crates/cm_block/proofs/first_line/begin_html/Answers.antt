@@ -9,12 +9,12 @@ pub returns-then-ends_html : goal.returns-then-ends_html
 returns-then-ends_html c =
     let line = line_of c.args.line.now in
     html_whole (kind_of c.args.kind) (string_bytes c.push_line.new.text) line
-    (c.in_ok-push_line.ensures.text ∙ ap (λ t. t ++ line.text) c.new-text.ensures.bytes)
-    (c.in_ok-push_line.ensures.feeds ∙ ap line_feeds c.new-text.ensures.bytes ∙ no_feeds) c.if-ends_html.ensures
+    (c.in_ok-push_line.ensures.text ∙ ap (λ t. t ++ line.text) c.take_room-text.ensures)
+    (c.in_ok-push_line.ensures.feeds ∙ ap line_feeds c.take_room-text.ensures ∙ no_feeds) c.if-ends_html.ensures
 
 pub returns : goal.returns
 returns c =
     let line = line_of c.args.line.now in
     html_begins (kind_of c.args.kind) (string_bytes c.push_line.new.text) line
-    (c.in_ok-push_line.ensures.text ∙ ap (λ t. t ++ line.text) c.new-text.ensures.bytes)
-    (c.in_ok-push_line.ensures.feeds ∙ ap line_feeds c.new-text.ensures.bytes ∙ no_feeds) c.if-ends_html.ensures
+    (c.in_ok-push_line.ensures.text ∙ ap (λ t. t ++ line.text) c.take_room-text.ensures)
+    (c.in_ok-push_line.ensures.feeds ∙ ap line_feeds c.take_room-text.ensures ∙ no_feeds) c.if-ends_html.ensures

@@ -1,7 +1,8 @@
 use Rattle.std.proofs.Common.{◌≡◌, drop}
 use Rattle.cm_text.specs.Views.{line_of}
 use Rattle.cm_block.specs.steps.FrameSteps.{matching}
-use Rattle.cm_block.specs.FrameViews.{frames_of}
+use Rattle.cm_tree.specs.RawBlocks.{Raw}
+use Rattle.cm_block.specs.FrameViews.{frames_in}
 use Rattle.cm_block.specs.Tests.{Tested}
 use Rattle.cm_block.proofs.Matching.{behind}
 use Rattle.cm_block.proofs.stack.matching.Given as goal
@@ -9,7 +10,7 @@ use Rattle.cm_block.proofs.stack.matching.Given as goal
 -- behind the containers so far, the rest decide; each was one reading
 abbrev pub invariant-loop-depth : goal.invariant-loop-depth
 invariant-loop-depth l = record {
-  rest : behind l.depth (matching l.rules l.bare l.open_text (drop l.depth (frames_of l.frames)) (line_of l.line.rest))
-      ≡ matching l.rules l.bare l.open_text (frames_of l.frames) (line_of l.fn.line.rest);
+  rest : (raw : Raw) → behind l.depth (matching l.rules l.bare l.open_text (drop l.depth (frames_in raw l.frames)) (line_of l.line.rest))
+      ≡ matching l.rules l.bare l.open_text (frames_in raw l.frames) (line_of l.fn.line.rest);
   tests : Tested 0 l.depth l.fn.line.tests l.line.tests;
 }

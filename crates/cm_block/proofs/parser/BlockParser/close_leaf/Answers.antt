@@ -1,8 +1,6 @@
 use Rattle.std.proofs.Common.{◌∙◌, false, ap}
 use Rattle.cm_block.specs.OpenLeaf.{closed_leaves, blank_lines_behind}
-use Rattle.cm_block.specs.LevelViews.{level_of}
 use Rattle.cm_block.specs.steps.FrameSteps.{quoted_by}
-use Rattle.cm_block.specs.FrameViews.{frames_of}
 use Rattle.cm_block.specs.LeafViews.{leaf_of}
 use Rattle.cm_block.specs.steps.LeafSteps.{leaves_of_closed}
 use Rattle.cm_block.proofs.ParserLemmas.{level_with_blanks, level_without, owners_with_blanks, owners_without}
@@ -11,11 +9,11 @@ use Rattle.cm_block.proofs.parser.BlockParser.close_leaf.Goals as goal
 pub returns-in_ok-blank_lines-clause-level : goal.returns-in_ok-blank_lines-clause-level
 returns-in_ok-blank_lines-clause-level c =
     let s = c.args.self.now in
-    c.push_blank.ensures
+    c.push_blank.ensures.level
     ∙ level_with_blanks (leaf_of s.leaf) (leaves_of_closed c.close-leaf.result.0) c.close-leaf.result.1
     (c.close-leaf.ensures.leaves ∙ ap (λ l. closed_leaves (leaf_of l)) c.replace.ensures.value)
     (c.close-leaf.ensures.blank_lines ∙ ap (λ l. blank_lines_behind (leaf_of l)) c.replace.ensures.value)
-    (level_of s.stack.level) (level_of c.put.new.level) c.if-blank_lines-gt0.true c.in_ok-put.ensures.level
+    s.stack.level c.put.new.stack.level c.if-blank_lines-gt0.true c.in_ok-put.ensures.level
 
 pub returns-in_ok-blank_lines-clause-owners : goal.returns-in_ok-blank_lines-clause-owners
 returns-in_ok-blank_lines-clause-owners c =
@@ -23,7 +21,8 @@ returns-in_ok-blank_lines-clause-owners c =
     owners_with_blanks (leaf_of s.leaf) (leaves_of_closed c.close-leaf.result.0) c.close-leaf.result.1
     (c.close-leaf.ensures.leaves ∙ ap (λ l. closed_leaves (leaf_of l)) c.replace.ensures.value)
     (c.close-leaf.ensures.blank_lines ∙ ap (λ l. blank_lines_behind (leaf_of l)) c.replace.ensures.value)
-    (quoted_by false (frames_of s.stack.frames)) c.is_quoted.result s.owners c.put.new.owners c.blank_lines.new.self c.in_ok-blank_lines.ensures c.is_quoted.ensures c.in_ok-put.ensures.owners
+    (quoted_by false s.stack.frames) c.is_quoted.result s.owners c.put.new.owners c.blank_lines.new.self c.in_ok-blank_lines.ensures
+    (c.is_quoted.ensures ∙ ap (quoted_by false) (c.push_blank.ensures.frames ∙ c.in_ok-put.ensures.frames)) c.in_ok-put.ensures.owners
 
 pub returns-else-blank_lines-gt0-clause-level : goal.returns-else-blank_lines-gt0-clause-level
 returns-else-blank_lines-gt0-clause-level c =
@@ -31,7 +30,7 @@ returns-else-blank_lines-gt0-clause-level c =
     level_without (leaf_of s.leaf) (leaves_of_closed c.close-leaf.result.0) c.close-leaf.result.1
     (c.close-leaf.ensures.leaves ∙ ap (λ l. closed_leaves (leaf_of l)) c.replace.ensures.value)
     (c.close-leaf.ensures.blank_lines ∙ ap (λ l. blank_lines_behind (leaf_of l)) c.replace.ensures.value)
-    (level_of s.stack.level) (level_of c.put.new.level) c.if-blank_lines-gt0.false c.in_ok-put.ensures.level
+    s.stack.level c.put.new.stack.level c.if-blank_lines-gt0.false c.in_ok-put.ensures.level
 
 pub returns-else-blank_lines-gt0-clause-owners : goal.returns-else-blank_lines-gt0-clause-owners
 returns-else-blank_lines-gt0-clause-owners c =
@@ -39,4 +38,4 @@ returns-else-blank_lines-gt0-clause-owners c =
     owners_without (leaf_of s.leaf) (leaves_of_closed c.close-leaf.result.0) c.close-leaf.result.1
     (c.close-leaf.ensures.leaves ∙ ap (λ l. closed_leaves (leaf_of l)) c.replace.ensures.value)
     (c.close-leaf.ensures.blank_lines ∙ ap (λ l. blank_lines_behind (leaf_of l)) c.replace.ensures.value)
-    (quoted_by false (frames_of s.stack.frames)) s.owners c.put.new.owners c.if-blank_lines-gt0.false c.in_ok-put.ensures.owners
+    (quoted_by false s.stack.frames) s.owners c.put.new.owners c.if-blank_lines-gt0.false c.in_ok-put.ensures.owners

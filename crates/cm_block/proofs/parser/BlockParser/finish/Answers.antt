@@ -1,8 +1,6 @@
 use Rattle.std.proofs.Common.{◌≡◌, ◌∙◌, ◌<◌, ◌≤◌, ◌^◌, length, ap, ap₂, arith}
 use Rattle.cm_text.specs.Limits.{LimitsView}
-use Rattle.cm_block.specs.LevelViews.{level_of}
 use Rattle.cm_block.specs.steps.FrameSteps.{close_frames}
-use Rattle.cm_block.specs.FrameViews.{frames_of}
 use Rattle.cm_block.specs.LeafViews.{leaf_of}
 use Rattle.cm_block.specs.Parser.{stack_of}
 use Rattle.cm_block.specs.Tests.{container_count, count_of}
@@ -14,14 +12,14 @@ pub returns-clause-outline : goal.returns-clause-outline
 returns-clause-outline c = λ lines h.
     let s = c.args.self in
     let closed = c.in_ok-close_leaf.ensures in
-    let fs = frames_of s.stack.frames in
-    let v = level_of s.stack.level in
+    let fs = s.stack.frames in
+    let v = s.stack.level in
     let x = leaf_of s.leaf in
     record {
       blocks =
-          c.in_ok-into_blocks.ensures
-          ∙ all_blocks _ s.stack.bare fs v x s.owners lines h.holds (level_of c.close_to.new.self.level)
-          (c.in_ok-close_to.ensures.level ∙ ap₂ (λ f w. close_frames (frames_of f) w) closed.frames closed.level);
+          c.in_ok-into_tree.ensures
+          ∙ all_blocks _ s.stack.bare fs v x s.owners lines h.holds c.close_to.new.self.level
+          (c.in_ok-close_to.ensures.level ∙ ap₂ close_frames closed.frames closed.level);
       owners = c.into_parts-owners.ensures.owners ∙ all_owners _ s.stack.bare fs v x s.owners lines h.holds c.close_leaf.new.self.owners closed.owners;
       definitions = c.into_parts-owners.ensures.definitions ∙ all_definitions _ s.stack.bare fs v x s.owners lines h.holds c.close_leaf.new.self.owners closed.owners;
     }
@@ -30,8 +28,8 @@ pub returns-clause-tests : goal.returns-clause-tests
 returns-clause-tests c = λ lines h.
     let s = c.args.self in
     let closed = c.in_ok-close_leaf.ensures in
-    let fs = frames_of s.stack.frames in
-    let v = level_of s.stack.level in
+    let fs = s.stack.frames in
+    let v = s.stack.level in
     let x = leaf_of s.leaf in
     let handed : length c.close_leaf.new.self.owners.owners ≡ length lines = all_lines _ s.stack.bare fs v x s.owners lines h.holds h.are_lines c.close_leaf.new.self.owners closed.owners in
     let blocks : s.limits.blocks ≤ 500 = omega (arith, c.blocks-2.ensures.bound, c.blocks-2.ensures.value, ap (λ (k : LimitsView). k.blocks) closed.limits) in
@@ -42,9 +40,9 @@ returns-clause-tests c = λ lines h.
         arith,
         all.0,
         closed.tests,
-        ap container_count c.in_ok-into_blocks.ensures,
-        all_containers _ s.stack.bare fs v x s.owners lines h.holds (level_of c.close_to.new.self.level)
-            (c.in_ok-close_to.ensures.level ∙ ap₂ (λ f w. close_frames (frames_of f) w) closed.frames closed.level),
+        ap container_count c.in_ok-into_tree.ensures,
+        all_containers _ s.stack.bare fs v x s.owners lines h.holds c.close_to.new.self.level
+            (c.in_ok-close_to.ensures.level ∙ ap₂ close_frames closed.frames closed.level),
       );
       few = omega (arith, all.1, closed.tests);
     }

@@ -1,7 +1,5 @@
 use Rattle.std.proofs.Common.{ap, refl, arith, length}
 use Rattle.cm_block.specs.OpenLeaf.{no_leaf}
-use Rattle.cm_block.specs.LevelViews.{level_of}
-use Rattle.cm_block.specs.FrameViews.{frames_of}
 use Rattle.cm_block.proofs.ContainerLemmas.{count_new}
 use Rattle.cm_block.proofs.ParserLemmas.{new_holds, new_within}
 use Rattle.cm_block.proofs.parser.BlockParser.new.Goals as goal
@@ -10,10 +8,10 @@ pub returns-clause-stands : goal.returns-clause-stands
 returns-clause-stands c = record {
   going = refl;
   are_lines = refl;
-  holds = new_holds c.args.limits.rules c.new.result c.new-2.result c.new.ensures.frames c.new.ensures.bare c.new.ensures.level c.new-2.ensures;
+  holds = new_holds c.args.limits.rules c.new.result c.new-3.result c.new.ensures.frames c.new.ensures.bare c.new.ensures.level c.new-3.ensures;
   within = new_within c.args.limits.rules c.args.limits.blocks;
   few = omega (arith, ap length c.new.ensures.frames);
   tests =
-      let none = count_new c.new.result.bare (frames_of c.new.result.frames) (level_of c.new.result.level) no_leaf c.new-2.result (ap frames_of c.new.ensures.frames) c.new.ensures.level in
+      let none = count_new c.new.result.bare c.new.result.frames c.new.result.level no_leaf c.new-3.result c.new.ensures.frames c.new.ensures.level in
       (λ below. omega (arith, none), omega arith);
 }

@@ -4,9 +4,7 @@ use Rattle.cm_text.specs.Views.{line_of}
 use Rattle.cm_text.specs.declared.view.View.{View}
 use Rattle.cm_block.specs.OpenLeaf.{stays_open, is_last, begins_leaf, begin_of_start}
 use Rattle.cm_block.specs.Level.{block_opens}
-use Rattle.cm_block.specs.LevelViews.{level_of}
 use Rattle.cm_block.specs.Stack.{close_leaves}
-use Rattle.cm_block.specs.FrameViews.{frames_of}
 use Rattle.cm_block.specs.LeafViews.{leaf_of}
 use Rattle.cm_block.specs.steps.LeafSteps.{leaves_of_closed}
 use Rattle.cm_block.specs.steps.StartViews.{seen}
@@ -18,12 +16,14 @@ pub returns-in-Some-Opens-clause-pushed : goal.returns-in-Some-Opens-clause-push
 returns-in-Some-Opens-clause-pushed c =
     let s = c.args.self.now in
     let x = c.in-Some-Opens in
+    let opened = c.in_ok-open_block.ensures in
     let begins = subst (λ o. IfSome o (λ f. begins_leaf (first_of f) ≡ begin_of_start (seen c.args.start.now) (line_of c.read.result))) x.is c.in_ok-leaf.ensures.leaf
     ∙ ap (λ (v : View). begin_of_start (seen c.args.start.now) (line_of v)) c.read.ensures.line in (
       stays_open (leaf_of x.leaf),
       (
         ap (λ f. begins_leaf (first_of f)) (sym x.field-0-is) ∙ begins,
-        stack_stays s.stack.bare (frames_of s.stack.frames) (block_opens (level_of s.stack.level)) (level_of c.open_block.new.self) (leaf_of x.leaf) s.owners c.requires.plain c.in_ok-open_block.ensures,
+        stack_stays c.open_block.new.self.bare s.stack.frames c.open_block.new.self.frames (block_opens s.stack.level) c.open_block.new.self.level (leaf_of x.leaf) s.owners
+            (opened.bare ∙ c.requires.plain) opened.frames opened.level,
       ),
     )
 
@@ -31,13 +31,15 @@ pub returns-in_ok-put-in-Some-Whole-clause-pushed : goal.returns-in_ok-put-in-So
 returns-in_ok-put-in-Some-Whole-clause-pushed c =
     let s = c.args.self.now in
     let x = c.in-Some-Whole in
+    let opened = c.in_ok-open_block.ensures in
+    let put = c.in_ok-put-in-Some-Whole.ensures in
     let begins = subst (λ o. IfSome o (λ f. begins_leaf (first_of f) ≡ begin_of_start (seen c.args.start.now) (line_of c.read.result))) x.is c.in_ok-leaf.ensures.leaf
     ∙ ap (λ (v : View). begin_of_start (seen c.args.start.now) (line_of v)) c.read.ensures.line in (
       is_last (leaves_of_closed x.leaf),
       (
         ap (λ f. begins_leaf (first_of f)) (sym x.field-0-is) ∙ begins,
-        stack_ends s.stack.bare (frames_of s.stack.frames) (block_opens (level_of s.stack.level)) (level_of c.put.new.level) (leaf_of s.leaf) s.owners c.put.new.owners (leaves_of_closed x.leaf)
-            c.requires.plain c.requires.leaf
-            (c.in_ok-put-in-Some-Whole.ensures.level ∙ ap (λ v. close_leaves v (leaves_of_closed x.leaf)) c.in_ok-open_block.ensures) c.in_ok-put-in-Some-Whole.ensures.owners,
+        stack_ends c.put.new.stack.bare s.stack.frames c.put.new.stack.frames (block_opens s.stack.level) c.put.new.stack.level (leaf_of s.leaf) s.owners c.put.new.owners (leaves_of_closed x.leaf)
+            (put.bare ∙ opened.bare ∙ c.requires.plain) (put.frames ∙ opened.frames) c.requires.leaf
+            (put.level ∙ ap (λ v. close_leaves v (leaves_of_closed x.leaf)) opened.level) put.owners,
       ),
     )

@@ -1,8 +1,6 @@
 use Rattle.std.proofs.Common.{◌∙◌, sym, ap, refl, arith}
 use Rattle.cm_text.specs.Views.{line_of}
 use Rattle.cm_block.specs.OpenLeaf.{stays_open, is_last, line_of_leaf}
-use Rattle.cm_block.specs.LevelViews.{level_of}
-use Rattle.cm_block.specs.FrameViews.{frames_of}
 use Rattle.cm_block.specs.LeafViews.{leaf_of}
 use Rattle.cm_block.specs.steps.LeafSteps.{leaves_of_closed, taken_of, left_open}
 use Rattle.cm_block.proofs.ParserLemmas.{stack_stays, stack_ends}
@@ -12,12 +10,12 @@ pub returns-in-Stays-clause-taken : goal.returns-in-Stays-clause-taken
 returns-in-Stays-clause-taken c =
     let s = c.args.self.now in
     let y = leaf_of c.take_line.new.self in (
-      omega (arith, c.len.ensures, c.if-depth-len.false),
+      omega (arith, c.depth.ensures, c.if-depth.false),
       (
         stays_open y,
         (
           ap (λ r. line_of_leaf r (leaf_of s.leaf) (line_of c.args.line.now.rest)) (sym c.rules.ensures) ∙ sym c.in_ok-take_line.ensures.line ∙ ap (λ t. taken_of t y) c.in-Stays.is,
-          stack_stays s.stack.bare (frames_of s.stack.frames) (level_of s.stack.level) (level_of s.stack.level) y s.owners c.requires.plain refl,
+          stack_stays s.stack.bare s.stack.frames s.stack.frames s.stack.level s.stack.level y s.owners c.requires.plain refl refl,
         ),
       ),
     )
@@ -27,13 +25,13 @@ returns-in_ok-put-in-Last-clause-taken c =
     let s = c.args.self.now in
     let y = leaf_of c.take_line.new.self in
     let leaf = c.in-Last.leaf in (
-      omega (arith, c.len.ensures, c.if-depth-len.false),
+      omega (arith, c.depth.ensures, c.if-depth.false),
       (
         is_last (leaves_of_closed leaf),
         (
           ap (λ r. line_of_leaf r (leaf_of s.leaf) (line_of c.args.line.now.rest)) (sym c.rules.ensures) ∙ sym c.in_ok-take_line.ensures.line ∙ ap (λ t. taken_of t y) c.in-Last.is,
-          stack_ends s.stack.bare (frames_of s.stack.frames) (level_of s.stack.level) (level_of c.put.new.level) y s.owners c.put.new.owners (leaves_of_closed leaf)
-              c.requires.plain (c.in_ok-take_line.ensures.left ∙ ap (λ t. left_open t (leaf_of s.leaf) y) c.in-Last.is) c.in_ok-put-in-Last.ensures.level c.in_ok-put-in-Last.ensures.owners,
+          stack_ends c.put.new.stack.bare s.stack.frames c.put.new.stack.frames s.stack.level c.put.new.stack.level y s.owners c.put.new.owners (leaves_of_closed leaf)
+              (c.in_ok-put-in-Last.ensures.bare ∙ c.requires.plain) c.in_ok-put-in-Last.ensures.frames (c.in_ok-take_line.ensures.left ∙ ap (λ t. left_open t (leaf_of s.leaf) y) c.in-Last.is) c.in_ok-put-in-Last.ensures.level c.in_ok-put-in-Last.ensures.owners,
         ),
       ),
     )

@@ -1,0 +1,6 @@
+use Rattle.std.proofs.Common.{subst, sym}
+use Rattle.cm_block.specs.FrameViews.{AreFramesPlaced}
+use Rattle.cm_block.proofs.stack.Stack.new.Goals as goal
+
+pub invariant_of-result : goal.invariant_of-result
+invariant_of-result c = (subst (AreFramesPlaced c.new-4.result) (sym c.new.ensures) tt, c.new-3.ensures.placed c.new-4.result)

@@ -1,0 +1,20 @@
+use Rattle.std.proofs.Common.{ap, ◌∙◌}
+use Rattle.std.proofs.lemmas.Result.{on_ok_weaker}
+use Rattle.cm_block.specs.Level.{item_opens}
+use Rattle.cm_block.specs.Frames.{an_item, Row}
+use Rattle.cm_block.proofs.LevelViewLemmas.{frames-placed-grow}
+use Rattle.cm_block.proofs.RowLemmas.{frames-open}
+use Rattle.cm_block.proofs.stack.Stack.open_item.Goals as goal
+
+pub invariant_of-self : goal.invariant_of-self
+invariant_of-self c =
+    (frames-placed-grow c.self.inside.raw c.open_item.new.raw c.self.inside.frames c.in_err-open_item.ensures.grows c.self.invariant.0, c.in_err-open_item.ensures.placed)
+
+pub invariant_of-self-2 : goal.invariant_of-self-2
+invariant_of-self-2 c =
+    (frames-placed-grow c.self.inside.raw c.open_item.new.raw c.self.inside.frames c.in_ok-open_item.ensures.grows c.self.invariant.0, c.in_ok-open_item.ensures.placed)
+
+pub returns-clause-frames : goal.returns-clause-frames
+returns-clause-frames c = on_ok_weaker c.open.result (λ h.
+    frames-open c.self.inside.raw c.open_item.new.raw c.self.inside.frames c.self.inside.level c.in_ok-open_item.ensures.grows c.self.invariant c.args.self.now.frames c.open.new.self.frames c.open_item.new.self _ (an_item c.args.kind c.args.column)
+    (ap (λ (r : Row). r.frames) c.self.view_is) (c.in_ok-open_item.ensures.level ∙ ap (λ (r : Row). item_opens r.level c.args.kind) c.self.view_is) h) c.open.ensures.frames

@@ -1,0 +1,258 @@
+-- Blocks whose inlines haven't been read, as they are walked: their leaves, what is written of them, and how deep they nest.
+use Rattle.std.proofs.Common.{◌≡◌, ◌∙◌, ◌≤◌, ◌<◌, ◌+◌, codes, ℕ, zero, suc, List, [], ◌∷◌, ◌++◌, length, map, get_or, true, false, refl, sym, ap, ap₂, subst, append_assoc, append-nil, arith}
+use Rattle.std.specs.Prelude.{Bool, cond, nat_lt, option_map, Some, None}
+use Rattle.std.specs.List.{slice_range}
+use Rattle.cm_text.specs.Rules.{Rules}
+use Rattle.cm_tree.specs.Depth.{inlines_depth, depth_step, block_depth_step, depth_of_block, blocks_depth, items_depth}
+use Rattle.cm_tree.specs.declared.tree.Inline.{Inline}
+use Rattle.cm_tree.specs.declared.tree.Inline.TheFolds.{fold_out-Inline}
+use Rattle.cm_tree.specs.declared.tree.Inline.TheVariants.{Text, outs-Text}
+use Rattle.cm_tree.specs.declared.tree.Block.{Block}
+use Rattle.cm_tree.specs.declared.tree.Block.TheFolds.{fold_out-Block}
+use Rattle.cm_tree.specs.declared.tree.Block.TheVariants.{Paragraph, Heading, Code, Html, Break, Definition, Quote, List as ListBlock, outs-Paragraph, outs-Heading, outs-Code, outs-Html, outs-Break, outs-Definition, outs-Quote, outs-List}
+use Rattle.cm_tree.specs.declared.tree.ListKind.{ListKind}
+use Rattle.cm_html.specs.Html.{Spelled, inline_step, spelled, Written, block_step, written, alone, html_of, inlines_html, heading_html, code_html, quote_html, inside, line_feed, list_start, list_end, items_html}
+use Rattle.cm_html.specs.Html.Written.{Nothing, Inlines, Whole}
+use Rattle.cm_html.specs.Escape.{escape}
+use Rattle.cm_scan.specs.Brackets.{Defined}
+use Rattle.cm_scan.specs.Inlines.{inlines_of, items_of, items_after}
+use Rattle.cm_scan.specs.Pairing.{settled_after, pair_all, pairs_within}
+use Rattle.cm_tree.specs.RawBlocks.{raw_inlines}
+use Rattle.cm_scan.specs.Documents.{block_read, content_read, read_step, with_inlines}
+use Rattle.cm_tool.specs.declared.fault.Fault.{Fault}
+use Rattle.cm_tool.specs.declared.fault.Fault.TheVariants.{InlinesTooDeep}
+use Rattle.cm_tree.specs.declared.raw_blocks.RawBlock.{RawBlock}
+use Rattle.cm_tree.specs.declared.raw_blocks.RawBlock.TheVariants as raw_block
+use Rattle.cm_tree.specs.declared.raw_blocks.RawItem.{RawItem}
+use Rattle.cm_tree.specs.RawBlocks.{Raw, block_in, blocks_in, item_in, items_in}
+use Rattle.cm_tool.specs.Leaves.{depths_in, depths_step, first_past, leaf_depths}
+use Rattle.cm_tool.specs.Parsing.{TellsFault}
+use Rattle.cm_tool.specs.steps.Items.{items_read, items_leaf_depths, inside_from}
+use Rattle.cm_tool.specs.steps.Numbering.{Passes, TellsLeaf}
+
+-- ---- parts one after another
+
+-- what is done and what is left are the whole: also with one more part done
+pub joined : {A : Type 0} (done after part rest whole : List A) → done ++ (part ++ rest) ≡ whole → after ≡ done ++ part → after ++ rest ≡ whole
+joined done after part rest whole so_far is = ap (λ t. t ++ rest) is ∙ append_assoc done part rest ∙ so_far
+
+-- nothing is left
+pub all_joined : {A : Type 0} (done rest whole : List A) → rest ≡ [] → done ++ rest ≡ whole → done ≡ whole
+all_joined done rest whole none so_far = sym (append-nil done) ∙ ap (λ t. done ++ t) (sym none) ∙ so_far
+
+-- between a start and an end
+pub enclosed : {A : Type 0} (old started middle done start inside end : List A) → started ≡ old ++ start → middle ≡ started ++ inside → done ≡ middle ++ end
+    → done ≡ old ++ (start ++ inside ++ end)
+enclosed old started middle done start inside end first then last =
+    last ∙ ap (λ t. t ++ end) (then ∙ ap (λ t. t ++ inside) first ∙ append_assoc old start inside) ∙ append_assoc old (start ++ inside) end
+
+module _ (limit : ℕ) where
+  -- Leaves of these depths have been read but for the rest: where the first of all has the one number, the first of the rest has the other.
+  abbrev pub Left : (first next : ℕ) (whole rest : List ℕ) → Type 0
+  Left first next whole rest = (more : List ℕ) → first_past limit first (whole ++ more) ≡ first_past limit next (rest ++ more)
+
+  pub left_next : (first next behind : ℕ) (whole some rest : List ℕ) → Left first next whole (some ++ rest) → Passes limit next behind some
+      → Left first behind whole rest
+  left_next first next behind whole some rest so_far pass more =
+      so_far more ∙ ap (first_past limit next) (append_assoc some rest more) ∙ pass (rest ++ more)
+
+  pub left_told : (fault : Fault) (first next : ℕ) (whole some rest : List ℕ) → Left first next whole (some ++ rest) → TellsLeaf fault limit next some
+      → TellsLeaf fault limit first whole
+  left_told fault first next whole some rest so_far told more =
+      subst (λ leaf. TellsFault fault (option_map InlinesTooDeep leaf))
+      (sym (so_far more ∙ ap (first_past limit next) (append_assoc some rest more))) (told (rest ++ more))
+
+  pub left_none : (first next : ℕ) (whole rest : List ℕ) → rest ≡ [] → Left first next whole rest → Passes limit first next whole
+  left_none first next whole rest none so_far = subst (Left first next whole) none so_far
+
+  -- where the first leaf of all is the first of these
+  pub none_past : (next : ℕ) (depths : List ℕ) → Passes limit 1 next depths → first_past limit 1 depths ≡ None
+  none_past next depths pass = ap (first_past limit 1) (sym (append-nil depths)) ∙ pass []
+
+  pub first_told : (fault : Fault) (depths : List ℕ) → TellsLeaf fault limit 1 depths → TellsFault fault (option_map InlinesTooDeep (first_past limit 1 depths))
+  first_told fault depths told = subst (λ ds. TellsFault fault (option_map InlinesTooDeep (first_past limit 1 ds))) (append-nil depths) (told [])
+
+  -- a leaf without inlines
+  pub counted : (first behind : ℕ) → behind ≡ first + 1 → Passes limit first behind (0 ∷ [])
+  counted first behind is more =
+      ap (λ past. cond past (Some first) (first_past limit (first + 1) more)) (within limit) ∙ ap (λ n. first_past limit n more) (sym is)
+    where
+      within : (limit : ℕ) → nat_lt limit 0 ≡ false
+      within limit = grind arith
+
+-- ---- how deep blocks nest
+
+module _ (raw : Raw) where
+  -- no block is deeper than the deepest, and no item
+  pub block_depth : (held : List RawBlock) (i : ℕ) (d : RawBlock) → i < length held → depth_of_block (block_in raw (get_or held i d)) ≤ blocks_depth (blocks_in raw held)
+  block_depth [] i d within = absurd (omega (arith, within))
+  block_depth (block ∷ held) zero d within = omega arith
+  block_depth (block ∷ held) (suc i) d within = omega (arith, block_depth held i d (omega (arith, within)))
+
+  pub item_depth : (held : List RawItem) (i : ℕ) (d : RawItem) → i < length held → blocks_depth (item_in raw (get_or held i d)) < items_depth (items_in raw held)
+  item_depth [] i d within = absurd (omega (arith, within))
+  item_depth (item ∷ held) zero d within = omega arith
+  item_depth (item ∷ held) (suc i) d within = omega (arith, item_depth held i d (omega (arith, within)))
+
+pub quote_depth : (blocks : List Block) → depth_of_block (Quote blocks) ≡ blocks_depth blocks + 1
+quote_depth blocks = simp (fold_out-Block ℕ block_depth_step, outs-Quote)
+
+pub list_depth : (kind : ListKind) (tight : Bool) (items : List (List Block)) → depth_of_block (ListBlock kind tight items) ≡ items_depth items
+list_depth kind tight items = simp (fold_out-Block ℕ block_depth_step, outs-List)
+
+-- ---- what a block stands for
+
+module _ (raw : Raw) where
+  pub paragraph_in : (block : RawBlock) (from to : ℕ) (source : List ℕ) → block ≡ raw_block.Paragraph from to → source ≡ slice_range raw.text from to
+      → block_in raw block ≡ Paragraph (raw_inlines source)
+  paragraph_in block from to source is there = ap (block_in raw) is ∙ ap (λ t. Paragraph (raw_inlines t)) (sym there)
+
+  pub heading_in : (block : RawBlock) (level from to : ℕ) (source : List ℕ) → block ≡ raw_block.Heading level from to → source ≡ slice_range raw.text from to
+      → block_in raw block ≡ Heading level (raw_inlines source)
+  heading_in block level from to source is there = ap (block_in raw) is ∙ ap (λ t. Heading level (raw_inlines t)) (sym there)
+
+  pub code_in : (block : RawBlock) (at behind to : ℕ) (info text : List ℕ) → block ≡ raw_block.Code at behind to → info ≡ slice_range raw.text at behind
+      → text ≡ slice_range raw.text behind to → block_in raw block ≡ Code info text
+  code_in block at behind to info text is there behind_it = ap (block_in raw) is ∙ ap₂ Code (sym there) (sym behind_it)
+
+  pub html_in : (block : RawBlock) (from to : ℕ) (text : List ℕ) → block ≡ raw_block.Html from to → text ≡ slice_range raw.text from to → block_in raw block ≡ Html text
+  html_in block from to text is there = ap (block_in raw) is ∙ ap Html (sym there)
+
+  pub quote_in : (block : RawBlock) (from to : ℕ) (held : List RawBlock) → block ≡ raw_block.Quote from to → blocks_in raw held ≡ slice_range raw.blocks from to
+      → block_in raw block ≡ Quote (blocks_in raw held)
+  quote_in block from to held is there = ap (block_in raw) is ∙ ap Quote (sym there)
+
+  pub list_in : (block : RawBlock) (kind : ListKind) (tight : Bool) (from to : ℕ) (held : List RawItem) → block ≡ raw_block.List kind tight from to
+      → items_in raw held ≡ slice_range raw.items from to → block_in raw block ≡ ListBlock kind tight (items_in raw held)
+  list_in block kind tight from to held is there = ap (block_in raw) is ∙ ap (ListBlock kind tight) (sym there)
+
+module _ (rules : Rules) (defined : Defined) where
+  -- ---- blocks that have been read, and how deep the inlines of their leaves nest
+
+  abbrev pub read : Block → Block
+  read block = block_read rules defined block
+
+  pub paragraph_read : (content : List Inline) → read (Paragraph content) ≡ Paragraph (content_read rules defined content)
+  paragraph_read content = simp (fold_out-Block Block (read_step rules defined), outs-Paragraph)
+
+  pub heading_read : (level : ℕ) (content : List Inline) → read (Heading level content) ≡ Heading level (content_read rules defined content)
+  heading_read level content = simp (fold_out-Block Block (read_step rules defined), outs-Heading)
+
+  pub quote_read : (blocks : List Block) → read (Quote blocks) ≡ Quote (with_inlines rules defined blocks)
+  quote_read blocks = simp (fold_out-Block Block (read_step rules defined), outs-Quote)
+
+  pub list_read : (kind : ListKind) (tight : Bool) (items : List (List Block)) → read (ListBlock kind tight items) ≡ ListBlock kind tight (items_read rules defined items)
+  list_read kind tight items = simp (fold_out-Block Block (read_step rules defined), outs-List)
+
+  pub paragraph_depths : (content : List Inline) → depths_in (read (Paragraph content)) ≡ inlines_depth (content_read rules defined content) ∷ []
+  paragraph_depths content = ap depths_in (paragraph_read content) ∙ simp (fold_out-Block (List ℕ) depths_step, outs-Paragraph)
+
+  pub heading_depths : (level : ℕ) (content : List Inline) → depths_in (read (Heading level content)) ≡ inlines_depth (content_read rules defined content) ∷ []
+  heading_depths level content = ap depths_in (heading_read level content) ∙ simp (fold_out-Block (List ℕ) depths_step, outs-Heading)
+
+  pub code_depths : (info text : List ℕ) → depths_in (read (Code info text)) ≡ 0 ∷ []
+  code_depths info text = simp (fold_out-Block Block (read_step rules defined), fold_out-Block (List ℕ) depths_step, outs-Code)
+
+  pub html_depths : (text : List ℕ) → depths_in (read (Html text)) ≡ 0 ∷ []
+  html_depths text = simp (fold_out-Block Block (read_step rules defined), fold_out-Block (List ℕ) depths_step, outs-Html)
+
+  pub break_depths : depths_in (read Break) ≡ 0 ∷ []
+  break_depths = simp (fold_out-Block Block (read_step rules defined), fold_out-Block (List ℕ) depths_step, outs-Break)
+
+  pub definition_depths : (label dest title : List ℕ) → depths_in (read (Definition label dest title)) ≡ 0 ∷ []
+  definition_depths label dest title = simp (fold_out-Block Block (read_step rules defined), fold_out-Block (List ℕ) depths_step, outs-Definition)
+
+  pub quote_depths : (blocks : List Block) → depths_in (read (Quote blocks)) ≡ leaf_depths (with_inlines rules defined blocks)
+  quote_depths blocks = ap depths_in (quote_read blocks) ∙ simp (fold_out-Block (List ℕ) depths_step, outs-Quote)
+
+  pub list_depths : (kind : ListKind) (tight : Bool) (items : List (List Block))
+      → depths_in (read (ListBlock kind tight items)) ≡ items_leaf_depths (items_read rules defined items)
+  list_depths kind tight items = ap depths_in (list_read kind tight items) ∙ simp (fold_out-Block (List ℕ) depths_step, outs-List)
+
+  -- ---- what they write
+
+  pub paragraph_written : (content : List Inline) → written (read (Paragraph content)) ≡ Inlines (inlines_html (content_read rules defined content))
+  paragraph_written content = ap written (paragraph_read content) ∙ simp (fold_out-Block Written block_step, outs-Paragraph)
+
+  pub heading_written : (level : ℕ) (content : List Inline) → written (read (Heading level content)) ≡ Whole (heading_html level (inlines_html (content_read rules defined content)))
+  heading_written level content = ap written (heading_read level content) ∙ simp (fold_out-Block Written block_step, outs-Heading)
+
+  pub code_written : (info text : List ℕ) → written (read (Code info text)) ≡ Whole (code_html info text)
+  code_written info text = simp (fold_out-Block Block (read_step rules defined), fold_out-Block Written block_step, outs-Code)
+
+  pub html_written : (text : List ℕ) → written (read (Html text)) ≡ Whole text
+  html_written text = simp (fold_out-Block Block (read_step rules defined), fold_out-Block Written block_step, outs-Html)
+
+  pub break_written : written (read Break) ≡ Whole (codes "<hr />\n")
+  break_written = simp (fold_out-Block Block (read_step rules defined), fold_out-Block Written block_step, outs-Break)
+
+  pub definition_written : (label dest title : List ℕ) → written (read (Definition label dest title)) ≡ Nothing
+  definition_written label dest title = simp (fold_out-Block Block (read_step rules defined), fold_out-Block Written block_step, outs-Definition)
+
+  pub quote_written : (blocks : List Block) → written (read (Quote blocks)) ≡ Whole (quote_html (html_of (with_inlines rules defined blocks)))
+  quote_written blocks = ap written (quote_read blocks) ∙ simp (fold_out-Block Written block_step, outs-Quote)
+
+  pub list_written : (kind : ListKind) (tight : Bool) (items : List (List Block))
+      → written (read (ListBlock kind tight items)) ≡ Whole (list_start kind ++ items_html tight (map (map written) (items_read rules defined items)) ++ list_end kind)
+  list_written kind tight items = ap written (list_read kind tight items) ∙ simp (fold_out-Block Written block_step, outs-List)
+
+  -- a block that is neither a paragraph nor a definition
+  pub whole_written : (raw : Raw) (block : RawBlock) → ((from to : ℕ) → block ≡ raw_block.Paragraph from to → ⊥)
+      → ((label dest title to : ℕ) → block ≡ raw_block.Definition label dest title to → ⊥) → (html : List ℕ) × (written (read (block_in raw block)) ≡ Whole html)
+  whole_written raw (raw_block.Paragraph from to) no_paragraph no_definition = absurd (no_paragraph from to refl)
+  whole_written raw (raw_block.Heading level from to) no_paragraph no_definition = (_, heading_written level (raw_inlines (slice_range raw.text from to)))
+  whole_written raw (raw_block.Code info text to) no_paragraph no_definition = (_, code_written (slice_range raw.text info text) (slice_range raw.text text to))
+  whole_written raw (raw_block.Html from to) no_paragraph no_definition = (_, html_written (slice_range raw.text from to))
+  whole_written raw raw_block.Break no_paragraph no_definition = (_, break_written)
+  whole_written raw (raw_block.Definition label dest title to) no_paragraph no_definition = absurd (no_definition label dest title to refl)
+  whole_written raw (raw_block.Quote from to) no_paragraph no_definition = (_, quote_written (slice_range raw.blocks from to))
+  whole_written raw (raw_block.List kind tight from to) no_paragraph no_definition = (_, list_written kind tight (slice_range raw.items from to))
+
+  -- ---- one leaf
+
+  -- what the source of a leaf is read as
+  pub source_read : (source : List ℕ) → content_read rules defined (raw_inlines source) ≡ inlines_of rules defined source
+  unfolding inlines_of settled_after pair_all pairs_within items_of items_after
+  source_read [] = refl
+  source_read (b ∷ bs) = refl
+
+-- ---- the blocks of an item
+
+pub inside_is : (tight : Bool) (ws : List Written) → inside_from tight true ws ≡ inside tight ws
+inside_is true ws = refl
+inside_is false ws = refl
+
+-- one that writes nothing, a paragraph of a tight list, a paragraph of a loose one, and another block
+pub nothing_inside : (tight fresh : Bool) (w : Written) (others : List Written) (html : List ℕ) → w ≡ Nothing
+    → html ++ inside_from tight fresh others ≡ html ++ inside_from tight fresh (w ∷ others)
+nothing_inside true fresh w others html is = ap (λ w. html ++ inside_from true fresh (w ∷ others)) (sym is)
+nothing_inside false fresh w others html is = ap (λ w. html ++ inside_from false fresh (w ∷ others)) (sym is)
+
+pub inlines_inside : (tight fresh : Bool) (w : Written) (others : List Written) (part old new : List ℕ) → tight ≡ true → w ≡ Inlines part → new ≡ old ++ part
+    → new ++ inside_from tight true others ≡ old ++ inside_from tight fresh (w ∷ others)
+inlines_inside true fresh w others part old new is_tight is more =
+    ap (λ t. t ++ inside_from true true others) more ∙ append_assoc old part (inside_from true true others) ∙ ap (λ w. old ++ inside_from true fresh (w ∷ others)) (sym is)
+inlines_inside false fresh w others part old new is_tight is more = absurd (cc is_tight)
+
+pub loose_inlines_inside : (tight fresh : Bool) (w : Written) (others : List Written) (part old new : List ℕ) → tight ≡ false → w ≡ Inlines part
+    → new ≡ old ++ (line_feed fresh ++ alone w) → new ++ inside_from tight false others ≡ old ++ inside_from tight fresh (w ∷ others)
+loose_inlines_inside true fresh w others part old new is_loose is more = absurd (cc is_loose)
+loose_inlines_inside false fresh w others part old new is_loose is more =
+    ap (λ t. t ++ inside_from false false others) more ∙ append_assoc old (line_feed fresh ++ alone w) (inside_from false false others)
+    ∙ ap (λ w. old ++ (line_feed fresh ++ alone w ++ inside_from false false others)) is ∙ ap (λ w. old ++ inside_from false fresh (w ∷ others)) (sym is)
+
+pub whole_inside : (tight fresh : Bool) (w : Written) (others : List Written) (part old new : List ℕ) → w ≡ Whole part
+    → new ≡ old ++ (line_feed fresh ++ alone w) → new ++ inside_from tight false others ≡ old ++ inside_from tight fresh (w ∷ others)
+whole_inside true fresh w others part old new is more =
+    ap (λ t. t ++ inside_from true false others) more ∙ append_assoc old (line_feed fresh ++ alone w) (inside_from true false others)
+    ∙ ap (λ w. old ++ (line_feed fresh ++ alone w ++ inside_from true false others)) is ∙ ap (λ w. old ++ inside_from true fresh (w ∷ others)) (sym is)
+whole_inside false fresh w others part old new is more =
+    ap (λ t. t ++ inside_from false false others) more ∙ append_assoc old (line_feed fresh ++ alone w) (inside_from false false others)
+    ∙ ap (λ w. old ++ (line_feed fresh ++ alone w ++ inside_from false false others)) is ∙ ap (λ w. old ++ inside_from false fresh (w ∷ others)) (sym is)
+
+-- one text
+pub text_html : (source : List ℕ) → inlines_html (Text source ∷ []) ≡ escape source
+text_html source = append-nil (spelled (Text source)).html ∙ simp (fold_out-Inline Spelled inline_step, outs-Text)
+
+pub text_depth : (source : List ℕ) → inlines_depth (Text source ∷ []) ≡ 0
+text_depth source = simp (fold_out-Inline ℕ depth_step, outs-Text)

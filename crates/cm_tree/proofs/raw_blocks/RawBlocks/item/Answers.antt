@@ -1,0 +1,25 @@
+use Rattle.std.proofs.Common.{[], ap, sym, arith, ◌∙◌}
+use Rattle.std.proofs.lemmas.List.{append-nil}
+use Rattle.cm_tree.specs.RawBlocks.{Raw, blocks_in}
+use Rattle.cm_tree.proofs.RawLemmas.{made-length, blocks-behind, blocks-held, blocks-last}
+use Rattle.cm_tree.proofs.raw_blocks.RawBlocks.item.Goals as goal
+
+pub returns-in_err-extend_from_slice-clause-grows : goal.returns-in_err-extend_from_slice-clause-grows
+returns-in_err-extend_from_slice-clause-grows c =
+    rw c.self.view_is at (blocks-behind _ _ _ c.self.invariant [] _ (c.in_err-extend_from_slice.ensures.items ∙ sym (append-nil _)) tt)
+
+pub invariant_of-self-2 : goal.invariant_of-self-2
+invariant_of-self-2 c = blocks-held _ _ _ c.self.invariant c.args.blocks.now _ c.in_ok-extend_from_slice.ensures.items (rw c.self.view_is c.requires)
+
+pub returns-clause-item : goal.returns-clause-item
+returns-clause-item c =
+    blocks-last _ _ _ c.self.invariant c.args.blocks.now _ c.in_ok-extend_from_slice.ensures.items (rw c.self.view_is c.requires) c.len-from.result c.len-to.result (omega arith) (omega arith)
+    ∙ ap (λ (r : Raw). blocks_in r c.args.blocks.now) c.self.view_is
+
+pub returns-clause-placed : goal.returns-clause-placed
+returns-clause-placed c =
+    let held = blocks-held _ _ _ c.self.invariant c.args.blocks.now _ c.in_ok-extend_from_slice.ensures.items (rw c.self.view_is c.requires) in
+    (omega (arith, c.in_ok-extend_from_slice.ensures.len), omega (arith, made-length _ _ _ held))
+
+pub returns-clause-grows : goal.returns-clause-grows
+returns-clause-grows c = rw c.self.view_is at (blocks-behind _ _ _ c.self.invariant c.args.blocks.now _ c.in_ok-extend_from_slice.ensures.items (rw c.self.view_is c.requires))

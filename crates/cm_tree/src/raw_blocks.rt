@@ -1,0 +1,260 @@
+//! Blocks whose inlines haven't been read. They own no memory: their texts and the blocks in them lie behind one another.
+ghost use Rattle.std.specs.Prelude.{◌≡◌, [], ◌++◌, length, IfOk, OnOk};
+ghost use Rattle.std.specs.List.{slice_range};
+ghost use Rattle.cm_tree.specs.RawBlocks.{raw_inlines, block_in, blocks_in, item_in, items_in, IsBetween, IsRange, IsPlaced, ArePlaced, IsItem, AreItems, Grows};
+ghost use Rattle.cm_tree.specs.declared.tree.Block.TheVariants as trees;
+
+use crate::tree::ListKind;
+use std::alloc::{AllocError, Global};
+use std::marker::Model;
+
+/// A block whose inlines haven't been read. Its texts lie from one place to the next among the texts of [`RawBlocks`], and the blocks and
+/// items in it from one place to the next among the blocks and items there.
+#[derive(Clone, Copy, Debug)]
+pub enum RawBlock {
+    /// A paragraph, and where its source lies.
+    Paragraph {
+        from: usize,
+        to: usize,
+    },
+    /// A heading, and where its source lies.
+    Heading {
+        level: u8,
+        from: usize,
+        to: usize,
+    },
+    /// A code block, and where its info string and then its text lie.
+    Code {
+        info: usize,
+        text: usize,
+        to: usize,
+    },
+    /// An HTML block, and where its text lies.
+    Html {
+        from: usize,
+        to: usize,
+    },
+    /// A thematic break.
+    Break,
+    /// A link reference definition, and where its label, destination and title lie.
+    Definition {
+        label: usize,
+        dest: usize,
+        title: usize,
+        to: usize,
+    },
+    /// A block quote, and where its blocks lie.
+    Quote {
+        from: usize,
+        to: usize,
+    },
+    /// A list, and where its items lie.
+    List {
+        kind: ListKind,
+        tight: bool,
+        from: usize,
+        to: usize,
+    },
+}
+
+/// A list item, and where its blocks lie.
+#[derive(Clone, Copy, Debug)]
+pub struct RawItem {
+    pub from: usize,
+    pub to: usize,
+}
+
+/// What [`RawBlock`]s are made of: the texts of all, the blocks that stand in others, each behind those in it, and the items.
+#[derive(Debug, Drop)]
+pub struct RawBlocks {
+    text: String,
+    blocks: Vec<RawBlock>,
+    items: Vec<RawItem>,
+}
+
+impl Model for RawBlocks {
+    ghost use Rattle.std.specs.Prelude.{string_bytes};
+    ghost use Rattle.cm_tree.specs.RawBlocks.{Raw, raw_code};
+    ghost use Rattle.cm_tree.specs.steps.RawSteps.{raw_held, IsHeld};
+
+    ghost Value = { Raw };
+
+    ghost coded = { raw_code };
+
+    ghost view = { λ r. raw_held (string_bytes r.text) r.blocks.items r.items.items };
+
+    ghost invariant = { λ r. IsHeld (string_bytes r.text) r.blocks.items r.items.items };
+}
+
+impl RawBlocks {
+    /// Nothing yet. It takes no memory.
+    pub fn new(alloc: Global) -> RawBlocks
+        ensures text { result.text ≡ [] }
+        ensures blocks { result.blocks ≡ [] }
+        ensures items { result.items ≡ [] }
+    {
+        RawBlocks {
+            text: String::new(alloc),
+            blocks: Vec::new(alloc),
+            items: Vec::new(alloc),
+        }
+    }
+
+    /// Puts a text behind the others, and answers where it ends.
+    fn push_text(&mut self, text: &str) -> Result<usize, AllocError>
+        ensures text { OnOk result (self.new.text ≡ self.old.text ++ text.now) }
+        ensures end { IfOk result (λ end. end ≡ length self.new.text) }
+        ensures between { IfOk result (λ end. IsBetween self.new.text (length self.old.text) end) }
+        ensures blocks { self.new.blocks ≡ self.old.blocks }
+        ensures items { self.new.items ≡ self.old.items }
+        ensures grows { Grows self.old self.new }
+    {
+        self.text.push_str(text)?;
+        Ok(self.text.len())
+    }
+
+    /// Makes a paragraph with this source.
+    pub fn paragraph(&mut self, source: &str) -> Result<RawBlock, AllocError>
+        ensures block { IfOk result (λ block. block_in self.new block ≡ trees.Paragraph (raw_inlines source.now)) }
+        ensures placed { IfOk result (λ block. IsPlaced self.new block) }
+        ensures grows { Grows self.old self.new }
+    {
+        let from = self.text.len();
+        let to = self.push_text(source)?;
+        Ok(RawBlock::Paragraph { from, to })
+    }
+
+    /// Makes a heading with this source.
+    pub fn heading(&mut self, level: u8, source: &str) -> Result<RawBlock, AllocError>
+        ensures block { IfOk result (λ block. block_in self.new block ≡ trees.Heading level (raw_inlines source.now)) }
+        ensures placed { IfOk result (λ block. IsPlaced self.new block) }
+        ensures grows { Grows self.old self.new }
+    {
+        let from = self.text.len();
+        let to = self.push_text(source)?;
+        Ok(RawBlock::Heading { level, from, to })
+    }
+
+    /// Makes a code block.
+    pub fn code(&mut self, info: &str, text: &str) -> Result<RawBlock, AllocError>
+        ensures block { IfOk result (λ block. block_in self.new block ≡ trees.Code info.now text.now) }
+        ensures placed { IfOk result (λ block. IsPlaced self.new block) }
+        ensures grows { Grows self.old self.new }
+    {
+        let at = self.text.len();
+        let behind = self.push_text(info)?;
+        let to = self.push_text(text)?;
+        Ok(RawBlock::Code {
+            info: at,
+            text: behind,
+            to,
+        })
+    }
+
+    /// Makes an HTML block.
+    pub fn html(&mut self, text: &str) -> Result<RawBlock, AllocError>
+        ensures block { IfOk result (λ block. block_in self.new block ≡ trees.Html text.now) }
+        ensures placed { IfOk result (λ block. IsPlaced self.new block) }
+        ensures grows { Grows self.old self.new }
+    {
+        let from = self.text.len();
+        let to = self.push_text(text)?;
+        Ok(RawBlock::Html { from, to })
+    }
+
+    /// Makes a link reference definition.
+    pub fn definition(
+        &mut self,
+        label: &str,
+        dest: &str,
+        title: &str,
+    ) -> Result<RawBlock, AllocError>
+        ensures block { IfOk result (λ block. block_in self.new block ≡ trees.Definition label.now dest.now title.now) }
+        ensures placed { IfOk result (λ block. IsPlaced self.new block) }
+        ensures grows { Grows self.old self.new }
+    {
+        let first = self.text.len();
+        let second = self.push_text(label)?;
+        let third = self.push_text(dest)?;
+        let to = self.push_text(title)?;
+        Ok(RawBlock::Definition {
+            label: first,
+            dest: second,
+            title: third,
+            to,
+        })
+    }
+
+    /// Puts blocks behind the others as those of an item.
+    pub fn item(&mut self, blocks: &[RawBlock]) -> Result<RawItem, AllocError>
+        requires { ArePlaced self.old blocks.now }
+        ensures item { IfOk result (λ item. item_in self.new item ≡ blocks_in self.old blocks.now) }
+        ensures placed { IfOk result (λ item. IsItem self.new item) }
+        ensures grows { Grows self.old self.new }
+    {
+        let from = self.blocks.len();
+        self.blocks.extend_from_slice(blocks)?;
+        let to = self.blocks.len();
+        Ok(RawItem { from, to })
+    }
+
+    /// Makes a block quote of blocks.
+    pub fn quote(&mut self, blocks: &[RawBlock]) -> Result<RawBlock, AllocError>
+        requires { ArePlaced self.old blocks.now }
+        ensures block { IfOk result (λ block. block_in self.new block ≡ trees.Quote (blocks_in self.old blocks.now)) }
+        ensures placed { IfOk result (λ block. IsPlaced self.new block) }
+        ensures grows { Grows self.old self.new }
+    {
+        let RawItem { from, to } = self.item(blocks)?;
+        Ok(RawBlock::Quote { from, to })
+    }
+
+    /// Makes a list of items.
+    pub fn list(
+        &mut self,
+        kind: ListKind,
+        tight: bool,
+        items: &[RawItem],
+    ) -> Result<RawBlock, AllocError>
+        requires { AreItems self.old items.now }
+        ensures block { IfOk result (λ block. block_in self.new block ≡ trees.List kind tight (items_in self.old items.now)) }
+        ensures placed { IfOk result (λ block. IsPlaced self.new block) }
+        ensures grows { Grows self.old self.new }
+    {
+        let from = self.items.len();
+        self.items.extend_from_slice(items)?;
+        let to = self.items.len();
+        Ok(RawBlock::List {
+            kind,
+            tight,
+            from,
+            to,
+        })
+    }
+
+    /// The text between two places.
+    pub fn text(&self, from: usize, to: usize) -> &str
+        requires { IsBetween self.now.text from to }
+        ensures { result.now ≡ slice_range self.now.text from to }
+    {
+        &self.text[from..to]
+    }
+
+    /// The blocks between two places.
+    pub fn blocks(&self, from: usize, to: usize) -> &[RawBlock]
+        requires { IsRange (length self.now.blocks) from to }
+        ensures blocks { blocks_in self.now result.now ≡ slice_range self.now.blocks from to }
+        ensures placed { ArePlaced self.now result.now }
+    {
+        &self.blocks[from..to]
+    }
+
+    /// The items between two places.
+    pub fn items(&self, from: usize, to: usize) -> &[RawItem]
+        requires { IsRange (length self.now.items) from to }
+        ensures items { items_in self.now result.now ≡ slice_range self.now.items from to }
+        ensures placed { AreItems self.now result.now }
+    {
+        &self.items[from..to]
+    }
+}
