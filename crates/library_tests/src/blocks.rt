@@ -23,14 +23,16 @@ fn outline_of_lines(rt: HostRuntime) -> Result<(), Fail> {
     assert_eq!(rt; parser.limits(), Limits::standard());
     let outline = parser.finish().ok().ok_or("outline")?;
     let (blocks, _) = outline.blocks.into_parts();
-    assert!(rt; matches!(
-        blocks.as_slice(),
-        [
-            RawBlock::List { tight: true, .. },
-            RawBlock::Quote { .. },
-            RawBlock::Definition { .. },
-        ]
-    ));
+    assert!(rt;
+        matches!(
+            blocks.as_slice(),
+            [
+                RawBlock::List { tight: true, .. },
+                RawBlock::Quote { .. },
+                RawBlock::Definition { .. },
+            ]
+        )
+    );
     let owners = outline.owners.into_items(alloc)?;
     assert_eq!(rt; owners.as_slice().first(), Some(&Owner::Leaf(1)));
     assert!(rt; outline.definitions.find("d")?.is_none());
