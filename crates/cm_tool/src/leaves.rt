@@ -2,8 +2,7 @@
 ghost use Rattle.std.specs.Prelude.{◌≡◌, ◌+◌, ◌≤◌, ◌<◌, ℕ, [], ◌∷◌, option_map, IfOk, IfErr, OnOk, None};
 ghost use Rattle.cm_tree.specs.declared.tree.Inline.TheVariants.{Text as text_inline};
 ghost use Rattle.cm_tree.specs.Depth.{inlines_depth};
-ghost use Rattle.cm_tree.specs.RawBlocks.{raw_inlines};
-ghost use Rattle.cm_tree.specs.RawBlocks.{block_in, blocks_in, items_in, IsPlaced, ArePlaced, AreItems};
+ghost use Rattle.cm_tree.specs.RawBlocks.{raw_inlines, block_in, blocks_in, items_in, IsPlaced, ArePlaced, AreItems};
 ghost use Rattle.cm_tool.specs.steps.Items.{items_read, items_leaf_depths};
 ghost use Rattle.cm_scan.specs.Brackets.{defined_in};
 ghost use Rattle.cm_scan.specs.Documents.{content_read, block_read, with_inlines};

@@ -2,8 +2,7 @@
 ghost use Rattle.std.specs.Prelude.{◌≡◌, ◌≤◌, ◌<◌, List, [], ◌∷◌, ◌++◌, map, option_map, string_bytes, IfOk, IfErr, OnOk, None};
 ghost use Rattle.std.specs.List.{concat};
 ghost use Rattle.cm_tree.specs.Depth.{inlines_depth};
-ghost use Rattle.cm_tree.specs.RawBlocks.{raw_inlines};
-ghost use Rattle.cm_tree.specs.RawBlocks.{block_in, blocks_in, items_in, IsPlaced, ArePlaced, AreItems};
+ghost use Rattle.cm_tree.specs.RawBlocks.{raw_inlines, block_in, blocks_in, items_in, IsPlaced, ArePlaced, AreItems};
 ghost use Rattle.cm_tool.specs.steps.Items.{inside_from, items_read, items_leaf_depths};
 ghost use Rattle.cm_html.specs.Html.{html_of, inlines_html, item_html, items_html, line_feed, Written, written, alone};
 ghost use Rattle.cm_scan.specs.Brackets.{defined_in};
