@@ -1,5 +1,5 @@
 #![tactic(auto)]
-//! The tree of a document, how deep it nests, and the table of its definitions.
+//! The tree of a document, how deep it nests, blocks whose inlines haven't been read, and the table of its definitions.
 //!
 //! A tree is made of plain enums over [`Items`], a `Vec` that contracts see as a list, and [`Text`], a
 //! `String` that they see as its bytes, as they see [`BoxedText`], a text on the heap, in links and

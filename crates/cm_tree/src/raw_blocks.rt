@@ -60,11 +60,16 @@ pub enum RawBlock {
 /// A list item, and where its blocks lie.
 #[derive(Clone, Copy, Debug)]
 pub struct RawItem {
+    /// The place of the first.
     pub from: usize,
+    /// The place behind the last.
     pub to: usize,
 }
 
 /// What [`RawBlock`]s are made of: the texts of all, the blocks that stand in others, each behind those in it, and the items.
+///
+/// All that was made stays what it is when more is made. A call that makes something answers `AllocError` where a request for memory
+/// was refused; a beginning of what it would have put behind the others may stand there then, which is part of no block.
 #[derive(Debug, Drop)]
 pub struct RawBlocks {
     text: String,
@@ -113,7 +118,11 @@ impl RawBlocks {
         Ok(self.text.len())
     }
 
-    /// Makes a paragraph with this source.
+    /// Makes a paragraph with this source (CommonMark 0.31.2, 4.8 Paragraphs).
+    ///
+    /// # Errors
+    ///
+    /// `AllocError` where a request for memory was refused.
     pub fn paragraph(&mut self, source: &str) -> Result<RawBlock, AllocError>
         ensures block { IfOk result (λ block. block_in self.new block ≡ trees.Paragraph (raw_inlines source.now)) }
         ensures placed { IfOk result (λ block. IsPlaced self.new block) }
@@ -124,7 +133,11 @@ impl RawBlocks {
         Ok(RawBlock::Paragraph { from, to })
     }
 
-    /// Makes a heading with this source.
+    /// Makes a heading of this level, from 1 to 6, with this source (4.2 ATX headings, 4.3 Setext headings).
+    ///
+    /// # Errors
+    ///
+    /// `AllocError` where a request for memory was refused.
     pub fn heading(&mut self, level: u8, source: &str) -> Result<RawBlock, AllocError>
         ensures block { IfOk result (λ block. block_in self.new block ≡ trees.Heading level (raw_inlines source.now)) }
         ensures placed { IfOk result (λ block. IsPlaced self.new block) }
@@ -135,7 +148,11 @@ impl RawBlocks {
         Ok(RawBlock::Heading { level, from, to })
     }
 
-    /// Makes a code block.
+    /// Makes a code block with this resolved info string and these lines (4.4 Indented code blocks, 4.5 Fenced code blocks).
+    ///
+    /// # Errors
+    ///
+    /// `AllocError` where a request for memory was refused.
     pub fn code(&mut self, info: &str, text: &str) -> Result<RawBlock, AllocError>
         ensures block { IfOk result (λ block. block_in self.new block ≡ trees.Code info.now text.now) }
         ensures placed { IfOk result (λ block. IsPlaced self.new block) }
@@ -151,7 +168,11 @@ impl RawBlocks {
         })
     }
 
-    /// Makes an HTML block.
+    /// Makes an HTML block with these lines (4.6 HTML blocks).
+    ///
+    /// # Errors
+    ///
+    /// `AllocError` where a request for memory was refused.
     pub fn html(&mut self, text: &str) -> Result<RawBlock, AllocError>
         ensures block { IfOk result (λ block. block_in self.new block ≡ trees.Html text.now) }
         ensures placed { IfOk result (λ block. IsPlaced self.new block) }
@@ -162,7 +183,12 @@ impl RawBlocks {
         Ok(RawBlock::Html { from, to })
     }
 
-    /// Makes a link reference definition.
+    /// Makes a definition with this label, as it stands in the source, and this resolved destination and title (4.7 Link reference
+    /// definitions).
+    ///
+    /// # Errors
+    ///
+    /// `AllocError` where a request for memory was refused.
     pub fn definition(
         &mut self,
         label: &str,
@@ -185,7 +211,11 @@ impl RawBlocks {
         })
     }
 
-    /// Puts blocks behind the others as those of an item.
+    /// Puts blocks behind the others as those of an item (5.2 List items).
+    ///
+    /// # Errors
+    ///
+    /// `AllocError` where a request for memory was refused.
     pub fn item(&mut self, blocks: &[RawBlock]) -> Result<RawItem, AllocError>
         requires { ArePlaced self.old blocks.now }
         ensures item { IfOk result (λ item. item_in self.new item ≡ blocks_in self.old blocks.now) }
@@ -198,7 +228,11 @@ impl RawBlocks {
         Ok(RawItem { from, to })
     }
 
-    /// Makes a block quote of blocks.
+    /// Makes a block quote of blocks (5.1 Block quotes).
+    ///
+    /// # Errors
+    ///
+    /// `AllocError` where a request for memory was refused.
     pub fn quote(&mut self, blocks: &[RawBlock]) -> Result<RawBlock, AllocError>
         requires { ArePlaced self.old blocks.now }
         ensures block { IfOk result (λ block. block_in self.new block ≡ trees.Quote (blocks_in self.old blocks.now)) }
@@ -209,7 +243,11 @@ impl RawBlocks {
         Ok(RawBlock::Quote { from, to })
     }
 
-    /// Makes a list of items.
+    /// Makes a list of items (5.3 Lists).
+    ///
+    /// # Errors
+    ///
+    /// `AllocError` where a request for memory was refused.
     pub fn list(
         &mut self,
         kind: ListKind,
