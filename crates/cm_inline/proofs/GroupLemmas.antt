@@ -3,20 +3,19 @@ use Rattle.std.proofs.Common.{◌≡◌, ℕ, zero, suc, ◌+◌, ◌-◌, ◌<�
 use Rattle.std.specs.List.{slice_range, list_any}
 use Rattle.std.specs.Prelude.{◌||◌}
 use Rattle.std.proofs.lemmas.List.{get_or_append_left, get_or_at, length_push, length-drop, drop-map}
-use Rattle.cm_inline.specs.declared.nodes.Group.{Group}
 use Rattle.cm_inline.specs.declared.tokens.Token.{Token}
 use Rattle.cm_inline.specs.declared.tokens.Token.TheVariants as tokens
 use Rattle.cm_inline.specs.steps.Nodes.{node_depth, nodes_depth, is_closer, text_in, text_in_front, behind_texts, AreParts}
-use Rattle.cm_inline.specs.steps.Groups.{Made, Held, nodes_in, nothing_made, node_of, nodes_of, group_made, groups_after, groups_made, AreGroups, IsGroup, ArePlaced, IsPlaced}
+use Rattle.cm_inline.specs.steps.Groups.{Made, Held, Grouped, nodes_in, nothing_made, node_of, nodes_of, group_made, groups_after, groups_made, AreGroups, IsGroup, ArePlaced, IsPlaced}
 
 -- what is made of the groups, one by one
 
-after-more : (inside : List Token) (made : List Made) (earlier later : List Group) → groups_after inside made (earlier ++ later) ≡ groups_after inside (groups_after inside made earlier) later
+after-more : (inside : List Token) (made : List Made) (earlier later : List Grouped) → groups_after inside made (earlier ++ later) ≡ groups_after inside (groups_after inside made earlier) later
 unfolding groups_after
 after-more inside made [] later = refl
 after-more inside made (group ∷ earlier) later = after-more inside (made ++ group_made inside made group ∷ []) earlier later
 
-after-length : (inside : List Token) (made : List Made) (groups : List Group) → length (groups_after inside made groups) ≡ length made + length groups
+after-length : (inside : List Token) (made : List Made) (groups : List Grouped) → length (groups_after inside made groups) ≡ length made + length groups
 unfolding groups_after
 after-length inside made [] = omega arith
 after-length inside made (group ∷ groups) =
@@ -24,14 +23,14 @@ after-length inside made (group ∷ groups) =
     omega (arith, after-length inside (made ++ one ∷ []) groups, length_push made one)
 
 -- what was made stays
-after-keeps : (inside : List Token) (made : List Made) (groups : List Group) (n : ℕ) → n < length made → get_or (groups_after inside made groups) n nothing_made ≡ get_or made n nothing_made
+after-keeps : (inside : List Token) (made : List Made) (groups : List Grouped) (n : ℕ) → n < length made → get_or (groups_after inside made groups) n nothing_made ≡ get_or made n nothing_made
 unfolding groups_after
 after-keeps inside made [] n low = refl
 after-keeps inside made (group ∷ groups) n low =
     let one = group_made inside made group in
     after-keeps inside (made ++ one ∷ []) groups n (omega (arith, length_push made one)) ∙ get_or_append_left made (one ∷ []) nothing_made n low
 
-after-at : (inside : List Token) (made : List Made) (groups : List Group) (n place : ℕ) (group : Group) → n < length groups → length made + n ≡ place
+after-at : (inside : List Token) (made : List Made) (groups : List Grouped) (n place : ℕ) (group : Grouped) → n < length groups → length made + n ≡ place
     → get_or (groups_after inside made groups) place nothing_made ≡ group_made inside (groups_after inside made (take n groups)) (get_or groups n group)
 unfolding groups_after
 after-at inside made [] n place group low at = absurd (omega (arith, low))
@@ -42,21 +41,21 @@ after-at inside made (first ∷ groups) (suc n) place group low at =
     let one = group_made inside made first in
     after-at inside (made ++ one ∷ []) groups n place group (omega (arith, low)) (omega (arith, length_push made one))
 
-pub made-length : (inside : List Token) (groups : List Group) → length (groups_made inside groups) ≡ length groups
+pub made-length : (inside : List Token) (groups : List Grouped) → length (groups_made inside groups) ≡ length groups
 made-length inside groups = omega (arith, after-length inside [] groups)
 
 -- one of the groups is made of those before it
-pub made-at : (inside : List Token) (groups : List Group) (n : ℕ) (group : Group) → n < length groups → group ≡ get_or groups n group
+pub made-at : (inside : List Token) (groups : List Grouped) (n : ℕ) (group : Grouped) → n < length groups → group ≡ get_or groups n group
     → get_or (groups_made inside groups) n nothing_made ≡ group_made inside (groups_made inside (take n groups)) group
 made-at inside groups n group low is = after-at inside [] groups n n group low (omega arith) ∙ ap (group_made inside (groups_made inside (take n groups))) (sym is)
 
 -- one more group
-pub made-more : (inside : List Token) (groups : List Group) (group : Group) → groups_made inside (groups ++ group ∷ []) ≡ groups_made inside groups ++ group_made inside (groups_made inside groups) group ∷ []
+pub made-more : (inside : List Token) (groups : List Grouped) (group : Grouped) → groups_made inside (groups ++ group ∷ []) ≡ groups_made inside groups ++ group_made inside (groups_made inside groups) group ∷ []
 unfolding groups_after
 made-more inside groups group = after-more inside [] groups (group ∷ [])
 
 -- the groups before one, and that one
-front-of : (inside : List Token) (first : ℕ) (groups : List Group) (n place : ℕ) (group : Group) → AreGroups inside first groups → n < length groups → first + n ≡ place
+front-of : (inside : List Token) (first : ℕ) (groups : List Grouped) (n place : ℕ) (group : Grouped) → AreGroups inside first groups → n < length groups → first + n ≡ place
     → AreGroups inside first (take n groups) × IsGroup inside place (get_or groups n group)
 front-of inside first [] n place group are low at = absurd (omega (arith, low))
 front-of inside first (one ∷ groups) zero place group are low at = (tt, subst (λ i. IsGroup inside i one) (omega (arith, at)) are.0)
@@ -64,7 +63,7 @@ front-of inside first (one ∷ groups) (suc n) place group are low at =
     let more = front-of inside (first + 1) groups n place group are.1 (omega (arith, low)) (omega (arith, at)) in
     ((are.0, more.0), more.1)
 
-pub groups-front : (inside : List Token) (groups : List Group) (n : ℕ) (group : Group) → AreGroups inside 0 groups → n < length groups → group ≡ get_or groups n group
+pub groups-front : (inside : List Token) (groups : List Grouped) (n : ℕ) (group : Grouped) → AreGroups inside 0 groups → n < length groups → group ≡ get_or groups n group
     → AreGroups inside 0 (take n groups) × IsGroup inside n group
 groups-front inside groups n group are low is =
     let both = front-of inside 0 groups n n group are low (omega arith) in

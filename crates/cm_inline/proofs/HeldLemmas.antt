@@ -4,14 +4,14 @@ use Rattle.std.specs.List.{slice_range, list_any}
 use Rattle.std.specs.Prelude.{◌||◌}
 use Rattle.std.proofs.lemmas.List.{append-nil, get_or_append_left, get_or_at, length_push, length-append, map-append, drop-map, take-map, map-set, drop_more, take_rest}
 use Rattle.std.proofs.lemmas.List.Folds.{list_any-append}
+use Rattle.cm_tree.specs.Definitions.{Target}
 use Rattle.cm_tree.proofs.RawLemmas.{slice-same, slice-last}
-use Rattle.cm_inline.specs.declared.nodes.Group.{Group}
-use Rattle.cm_inline.specs.declared.nodes.Kind.{Kind}
+use Rattle.cm_inline.specs.declared.groups.Kind.{Kind}
 use Rattle.cm_inline.specs.declared.runs.DelimiterRun.{DelimiterRun}
 use Rattle.cm_inline.specs.declared.tokens.Token.{Token}
 use Rattle.cm_inline.specs.declared.tokens.Token.TheVariants as tokens
 use Rattle.cm_inline.specs.steps.Nodes.{Node, Piece, Characters, Whole, Finished, Run, Opener, rest_in}
-use Rattle.cm_inline.specs.steps.Groups.{Made, Held, nodes_in, waiting_in, nothing_made, node_of, nodes_of, made_by, group_made, groups_after, groups_made, is_run, IsNoGroup, IsBelow, AreBelow, AreGroups, IsGroup, AreHeld, Takes}
+use Rattle.cm_inline.specs.steps.Groups.{Made, Held, Grouped, nodes_in, waiting_in, nothing_made, node_of, nodes_of, made_by, group_made, groups_after, groups_made, is_run, IsNoGroup, IsBelow, AreBelow, AreGroups, IsGroup, AreHeld, Takes}
 use Rattle.cm_inline.proofs.GroupLemmas.{made-length, made-more}
 
 -- groups below a number
@@ -222,17 +222,17 @@ rest-held old before rest token are front back = record {
 
 -- more that stands in groups
 
-group-grows : (inside more : List Token) (number : ℕ) (made : List Made) (group : Group) → IsGroup inside number group → group_made (inside ++ more) made group ≡ group_made inside made group
-group-grows inside more number made group is = ap (λ held. made_by group.kind (nodes_of made held)) (slice-same inside more (inside ++ more) group.from group.to refl is.order is.within)
+group-grows : (inside more : List Token) (number : ℕ) (made : List Made) (group : Grouped) → IsGroup inside number group → group_made (inside ++ more) made group ≡ group_made inside made group
+group-grows inside more number made group is = ap (λ held. made_by group.kind group.target (nodes_of made held)) (slice-same inside more (inside ++ more) group.from group.to refl is.order is.within)
 
-after-grows : (inside more : List Token) (number : ℕ) (made : List Made) (groups : List Group) → AreGroups inside number groups → groups_after (inside ++ more) made groups ≡ groups_after inside made groups
+after-grows : (inside more : List Token) (number : ℕ) (made : List Made) (groups : List Grouped) → AreGroups inside number groups → groups_after (inside ++ more) made groups ≡ groups_after inside made groups
 unfolding groups_after
 after-grows inside more number made [] are = refl
 after-grows inside more number made (group ∷ groups) are =
     ap (λ one. groups_after (inside ++ more) (made ++ one ∷ []) groups) (group-grows inside more number made group are.0)
     ∙ after-grows inside more (number + 1) (made ++ group_made inside made group ∷ []) groups are.1
 
-are-grow : (inside more : List Token) (number : ℕ) (groups : List Group) → AreGroups inside number groups → AreGroups (inside ++ more) number groups
+are-grow : (inside more : List Token) (number : ℕ) (groups : List Grouped) → AreGroups inside number groups → AreGroups (inside ++ more) number groups
 are-grow inside more number [] are = tt
 are-grow inside more number (group ∷ groups) are = (
   record {
@@ -243,7 +243,7 @@ are-grow inside more number (group ∷ groups) are = (
   are-grow inside more (number + 1) groups are.1,
 )
 
-are-append : (inside : List Token) (number place : ℕ) (groups : List Group) (group : Group) → AreGroups inside number groups → number + length groups ≡ place → IsGroup inside place group
+are-append : (inside : List Token) (number place : ℕ) (groups : List Grouped) (group : Grouped) → AreGroups inside number groups → number + length groups ≡ place → IsGroup inside place group
     → AreGroups inside number (groups ++ group ∷ [])
 are-append inside number place [] group are at is = (subst (λ n. IsGroup inside n group) (omega (arith, at)) is, tt)
 are-append inside number place (first ∷ groups) group are at is = (are.0, are-append inside (number + 1) place groups group are.1 (omega (arith, at)) is)
@@ -319,9 +319,9 @@ cut-held old opener left cut are is =
       rest = subst (λ n. AreBelow n cut.rest) (sym bound) (subst (AreBelow (length old.groups)) (sym is.rest) are.rest);
     }
 
-pub cut-group : (old : Held) (opener : ℕ) (left : Option DelimiterRun) (cut : Held) (kind : Kind) (from to : ℕ) → AreHeld old → IsCut old opener left cut → from ≡ length old.inside → to ≡ length cut.inside
-    → IsGroup cut.inside (length cut.groups) (record { kind = kind; from = from; to = to })
-cut-group old opener left cut kind from to are is begins ends =
+pub cut-group : (old : Held) (opener : ℕ) (left : Option DelimiterRun) (cut : Held) (kind : Kind) (target : Target) (from to : ℕ) → AreHeld old → IsCut old opener left cut → from ≡ length old.inside → to ≡ length cut.inside
+    → IsGroup cut.inside (length cut.groups) (record { kind = kind; target = target; from = from; to = to })
+cut-group old opener left cut kind target from to are is begins ends =
     let moved = drop (suc opener) old.before in
     let whole : to ≡ length (old.inside ++ moved) = ends ∙ ap length is.inside in
     record {
@@ -331,12 +331,12 @@ cut-group old opener left cut kind from to are is begins ends =
           (subst (AreBelow (length old.groups)) (sym (ap (λ t. slice_range t from to) is.inside ∙ slice-last old.inside moved (old.inside ++ moved) from to refl begins whole)) (below-drop (length old.groups) (suc opener) old.before are.before));
     }
 
-pub same-held : (now : Held) (before : List Token) (groups : List Group) → AreHeld now → before ≡ now.before → groups ≡ now.groups → AreHeld (record { before = before; rest = now.rest; inside = now.inside; groups = groups })
+pub same-held : (now : Held) (before : List Token) (groups : List Grouped) → AreHeld now → before ≡ now.before → groups ≡ now.groups → AreHeld (record { before = before; rest = now.rest; inside = now.inside; groups = groups })
 same-held now before groups are front same =
     subst (λ (b : List Token). AreHeld (record { before = b; rest = now.rest; inside = now.inside; groups = groups })) (sym front)
-    (subst (λ (g : List Group). AreHeld (record { before = now.before; rest = now.rest; inside = now.inside; groups = g })) (sym same) are)
+    (subst (λ (g : List Grouped). AreHeld (record { before = now.before; rest = now.rest; inside = now.inside; groups = g })) (sym same) are)
 
-pub grouped-held : (cut : Held) (groups : List Group) (group : Group) → AreHeld cut → groups ≡ cut.groups ++ group ∷ [] → IsGroup cut.inside (length cut.groups) group
+pub grouped-held : (cut : Held) (groups : List Grouped) (group : Grouped) → AreHeld cut → groups ≡ cut.groups ++ group ∷ [] → IsGroup cut.inside (length cut.groups) group
     → AreHeld (record { before = cut.before; rest = cut.rest; inside = cut.inside; groups = groups })
 grouped-held cut groups group are more is =
     let low : length cut.groups ≤ length groups = omega (arith, ap length more, length_push cut.groups group) in
@@ -346,18 +346,18 @@ grouped-held cut groups group are more is =
       rest = below-more (length cut.groups) (length groups) cut.rest low are.rest;
     }
 
-pub wrapped-held : (cut : Held) (groups : List Group) (group : Group) (before : List Token) (number depth : ℕ) (holds_link : Bool) → AreHeld cut → groups ≡ cut.groups ++ group ∷ [] → IsGroup cut.inside (length cut.groups) group
+pub wrapped-held : (cut : Held) (groups : List Grouped) (group : Grouped) (before : List Token) (number depth : ℕ) (holds_link : Bool) → AreHeld cut → groups ≡ cut.groups ++ group ∷ [] → IsGroup cut.inside (length cut.groups) group
     → number ≡ length cut.groups → before ≡ cut.before ++ tokens.Made number depth holds_link ∷ [] → AreHeld (record { before = before; rest = cut.rest; inside = cut.inside; groups = groups })
 wrapped-held cut groups group before number depth holds_link are more is last front =
     push-held (record { before = cut.before; rest = cut.rest; inside = cut.inside; groups = groups }) before (tokens.Made number depth holds_link) (grouped-held cut groups group are more is) front
     (omega (arith, last, ap length more, length_push cut.groups group))
 
-made-wrapped : (inside moved : List Token) (groups : List Group) (kind : Kind) (from to : ℕ) → AreGroups inside 0 groups → from ≡ length inside → to ≡ length (inside ++ moved)
-    → groups_made (inside ++ moved) (groups ++ record { kind = kind; from = from; to = to } ∷ []) ≡ groups_made inside groups ++ made_by kind (nodes_of (groups_made inside groups) moved) ∷ []
-made-wrapped inside moved groups kind from to are begins ends =
-    let group : Group = record { kind = kind; from = from; to = to } in
+made-wrapped : (inside moved : List Token) (groups : List Grouped) (kind : Kind) (target : Target) (from to : ℕ) → AreGroups inside 0 groups → from ≡ length inside → to ≡ length (inside ++ moved)
+    → groups_made (inside ++ moved) (groups ++ record { kind = kind; target = target; from = from; to = to } ∷ []) ≡ groups_made inside groups ++ made_by kind target (nodes_of (groups_made inside groups) moved) ∷ []
+made-wrapped inside moved groups kind target from to are begins ends =
+    let group : Grouped = record { kind = kind; target = target; from = from; to = to } in
     made-more (inside ++ moved) groups group ∙ ap (λ m. m ++ group_made (inside ++ moved) m group ∷ []) (after-grows inside moved 0 [] groups are)
-    ∙ ap (λ held. groups_made inside groups ++ made_by kind (nodes_of (groups_made inside groups) held) ∷ []) (slice-last inside moved (inside ++ moved) from to refl begins ends)
+    ∙ ap (λ held. groups_made inside groups ++ made_by kind target (nodes_of (groups_made inside groups) held) ∷ []) (slice-last inside moved (inside ++ moved) from to refl begins ends)
 
 wrapped : (made : List Made) (one : Made) (before : List Token) (opener number : ℕ) (left : Option DelimiterRun) (depth : ℕ) (holds_link : Bool) → AreBelow (length made) before → number ≡ length made
     → nodes_of (made ++ one ∷ []) ((take opener before ++ tokens_left left) ++ tokens.Made number depth holds_link ∷ []) ≡ take opener (nodes_of made before) ++ (rest_in left ++ Finished one depth holds_link ∷ [])
@@ -372,39 +372,39 @@ wrapped made one before opener number left depth holds_link below last =
     ∙ ap (λ ns. ns ++ (rest_in left ++ Finished one depth holds_link ∷ [])) (nodes-more made (one ∷ []) front (below-take (length made) opener before below) ∙ sym (take-map (node_of made) opener before))
 
 -- what was made of the groups, with the new one
-cut-made : (old : Held) (opener : ℕ) (left : Option DelimiterRun) (cut : Held) (groups : List Group) (kind : Kind) (from to : ℕ) → AreHeld old → IsCut old opener left cut → from ≡ length old.inside → to ≡ length cut.inside
-    → groups ≡ cut.groups ++ record { kind = kind; from = from; to = to } ∷ []
-    → groups_made cut.inside groups ≡ groups_made old.inside old.groups ++ made_by kind (nodes_of (groups_made old.inside old.groups) (drop (suc opener) old.before)) ∷ []
-cut-made old opener left cut groups kind from to are is begins ends more =
+cut-made : (old : Held) (opener : ℕ) (left : Option DelimiterRun) (cut : Held) (groups : List Grouped) (kind : Kind) (target : Target) (from to : ℕ) → AreHeld old → IsCut old opener left cut → from ≡ length old.inside → to ≡ length cut.inside
+    → groups ≡ cut.groups ++ record { kind = kind; target = target; from = from; to = to } ∷ []
+    → groups_made cut.inside groups ≡ groups_made old.inside old.groups ++ made_by kind target (nodes_of (groups_made old.inside old.groups) (drop (suc opener) old.before)) ∷ []
+cut-made old opener left cut groups kind target from to are is begins ends more =
     let moved = drop (suc opener) old.before in
-    let group : Group = record { kind = kind; from = from; to = to } in
+    let group : Grouped = record { kind = kind; target = target; from = from; to = to } in
     ap (λ inside. groups_made inside groups) is.inside ∙ ap (groups_made (old.inside ++ moved)) (more ∙ ap (λ gs. gs ++ group ∷ []) is.groups)
-    ∙ made-wrapped old.inside moved old.groups kind from to are.groups begins (ends ∙ ap length is.inside)
+    ∙ made-wrapped old.inside moved old.groups kind target from to are.groups begins (ends ∙ ap length is.inside)
 
-pub wrapped-nodes : (old held : Held) (opener : ℕ) (left : Option DelimiterRun) (cut : Held) (groups : List Group) (before : List Token) (kind : Kind) (from to number depth : ℕ) (holds_link : Bool)
+pub wrapped-nodes : (old held : Held) (opener : ℕ) (left : Option DelimiterRun) (cut : Held) (groups : List Grouped) (before : List Token) (kind : Kind) (target : Target) (from to number depth : ℕ) (holds_link : Bool)
     → old ≡ held → AreHeld old → IsCut old opener left cut → from ≡ length old.inside → to ≡ length cut.inside
-    → groups ≡ cut.groups ++ record { kind = kind; from = from; to = to } ∷ [] → number ≡ length cut.groups → before ≡ cut.before ++ tokens.Made number depth holds_link ∷ []
+    → groups ≡ cut.groups ++ record { kind = kind; target = target; from = from; to = to } ∷ [] → number ≡ length cut.groups → before ≡ cut.before ++ tokens.Made number depth holds_link ∷ []
     → nodes_in (record { before = before; rest = cut.rest; inside = cut.inside; groups = groups })
-    ≡ take opener (nodes_in held) ++ (rest_in left ++ Finished (made_by kind (drop (suc opener) (nodes_in held))) depth holds_link ∷ [])
+    ≡ take opener (nodes_in held) ++ (rest_in left ++ Finished (made_by kind target (drop (suc opener) (nodes_in held))) depth holds_link ∷ [])
 unfolding nodes_in
-wrapped-nodes old held opener left cut groups before kind from to number depth holds_link seen are is begins ends more last front =
+wrapped-nodes old held opener left cut groups before kind target from to number depth holds_link seen are is begins ends more last front =
     let made = groups_made old.inside old.groups in
-    let one = made_by kind (nodes_of made (drop (suc opener) old.before)) in
-    ap (λ m. nodes_of m before) (cut-made old opener left cut groups kind from to are is begins ends more)
+    let one = made_by kind target (nodes_of made (drop (suc opener) old.before)) in
+    ap (λ m. nodes_of m before) (cut-made old opener left cut groups kind target from to are is begins ends more)
     ∙ ap (nodes_of (made ++ one ∷ [])) (front ∙ ap (λ b. b ++ tokens.Made number depth holds_link ∷ []) is.before)
     ∙ wrapped made one old.before opener number left depth holds_link (subst (λ n. AreBelow n old.before) (sym (made-length old.inside old.groups)) are.before) (last ∙ ap length is.groups ∙ sym (made-length old.inside old.groups))
-    ∙ ap (λ ns. take opener (nodes_of made old.before) ++ (rest_in left ++ Finished (made_by kind ns) depth holds_link ∷ [])) (sym (drop-map (node_of made) (suc opener) old.before))
-    ∙ ap (λ h. take opener (nodes_in h) ++ (rest_in left ++ Finished (made_by kind (drop (suc opener) (nodes_in h))) depth holds_link ∷ [])) seen
+    ∙ ap (λ ns. take opener (nodes_of made old.before) ++ (rest_in left ++ Finished (made_by kind target ns) depth holds_link ∷ [])) (sym (drop-map (node_of made) (suc opener) old.before))
+    ∙ ap (λ h. take opener (nodes_in h) ++ (rest_in left ++ Finished (made_by kind target (drop (suc opener) (nodes_in h))) depth holds_link ∷ [])) seen
 
-pub wrapped-waiting : (old held : Held) (opener : ℕ) (left : Option DelimiterRun) (cut : Held) (groups : List Group) (before : List Token) (kind : Kind) (from to : ℕ)
+pub wrapped-waiting : (old held : Held) (opener : ℕ) (left : Option DelimiterRun) (cut : Held) (groups : List Grouped) (before : List Token) (kind : Kind) (target : Target) (from to : ℕ)
     → old ≡ held → AreHeld old → IsCut old opener left cut → from ≡ length old.inside → to ≡ length cut.inside
-    → groups ≡ cut.groups ++ record { kind = kind; from = from; to = to } ∷ []
+    → groups ≡ cut.groups ++ record { kind = kind; target = target; from = from; to = to } ∷ []
     → waiting_in (record { before = before; rest = cut.rest; inside = cut.inside; groups = groups }) ≡ waiting_in held
 unfolding waiting_in
-wrapped-waiting old held opener left cut groups before kind from to seen are is begins ends more =
+wrapped-waiting old held opener left cut groups before kind target from to seen are is begins ends more =
     let made = groups_made old.inside old.groups in
-    let one = made_by kind (nodes_of made (drop (suc opener) old.before)) in
-    ap (λ m. nodes_of m cut.rest) (cut-made old opener left cut groups kind from to are is begins ends more)
+    let one = made_by kind target (nodes_of made (drop (suc opener) old.before)) in
+    ap (λ m. nodes_of m cut.rest) (cut-made old opener left cut groups kind target from to are is begins ends more)
     ∙ ap (nodes_of (made ++ one ∷ [])) is.rest
     ∙ nodes-more made (one ∷ []) old.rest (subst (λ n. AreBelow n old.rest) (sym (made-length old.inside old.groups)) are.rest)
     ∙ ap waiting_in seen

@@ -13,8 +13,9 @@ use Rattle.cm_html.specs.Html.{Spelled, inline_step, inlines_html, spelled, link
 use Rattle.cm_scan.specs.CodeSpans.{one_line}
 use Rattle.cm_scan.specs.Pairing.{bracket_text, text_before, settled_after, settled}
 use Rattle.cm_inline.specs.steps.Nodes.{Node, Piece, Characters, Whole, Finished, Run, Opener, items_of, node_html, nodes_html}
-use Rattle.cm_inline.specs.declared.nodes.Kind.{Kind}
-use Rattle.cm_inline.specs.declared.nodes.Kind.TheVariants as kinds
+use Rattle.cm_tree.specs.Definitions.{Target}
+use Rattle.cm_inline.specs.declared.groups.Kind.{Kind}
+use Rattle.cm_inline.specs.declared.groups.Kind.TheVariants as kinds
 use Rattle.cm_inline.specs.declared.tokens.Token.{Token}
 use Rattle.cm_inline.specs.steps.Groups.{Made, made_by, start_html, end_html, node_of, nodes_of}
 use Rattle.cm_inline.specs.declared.runs.Marker.{Marker}
@@ -106,21 +107,21 @@ strike-html content = simp (fold_out-Inline Spelled inline_step, outs-Strike)
 linked-html : (dest title : List ℕ) (content : List Inline) → (spelled (Link dest title content)).html ≡ link_html dest title (inlines_html content)
 linked-html dest title content = simp (fold_out-Inline Spelled inline_step, outs-Link)
 
-made-html : (source : List ℕ) (kind : Kind) (nodes : List Node) → ((dest title : List ℕ) → kind ≡ kinds.Image dest title → ⊥)
-    → (spelled (made_by kind nodes source)).html ≡ (start_html kind ++ nodes_html source nodes) ++ end_html kind
-made-html source kinds.Emph nodes other = emph-html (settled (items_of source nodes)) ∙ ap emph_html (settled-html source nodes)
-made-html source kinds.Strong nodes other = strong-html (settled (items_of source nodes)) ∙ ap strong_html (settled-html source nodes)
-made-html source kinds.Strike nodes other = strike-html (settled (items_of source nodes)) ∙ ap strike_html (settled-html source nodes)
-made-html source (kinds.Link dest title) nodes other = linked-html dest title (settled (items_of source nodes)) ∙ ap (link_html dest title) (settled-html source nodes)
-made-html source (kinds.Image dest title) nodes other = absurd (other dest title refl)
+made-html : (source : List ℕ) (kind : Kind) (target : Target) (nodes : List Node) → (kind ≡ kinds.Image → ⊥)
+    → (spelled (made_by kind target nodes source)).html ≡ (start_html kind target ++ nodes_html source nodes) ++ end_html kind
+made-html source kinds.Emph target nodes other = emph-html (settled (items_of source nodes)) ∙ ap emph_html (settled-html source nodes)
+made-html source kinds.Strong target nodes other = strong-html (settled (items_of source nodes)) ∙ ap strong_html (settled-html source nodes)
+made-html source kinds.Strike target nodes other = strike-html (settled (items_of source nodes)) ∙ ap strike_html (settled-html source nodes)
+made-html source kinds.Link target nodes other = linked-html target.0 target.1 (settled (items_of source nodes)) ∙ ap (link_html target.0 target.1) (settled-html source nodes)
+made-html source kinds.Image target nodes other = absurd (other refl)
 
 -- a group that was written: its start tag, its nodes, and its end tag
-pub group-html : (source old started noded : List ℕ) (kind : Kind) (nodes : List Node) (tag : List ℕ) → ((dest title : List ℕ) → kind ≡ kinds.Image dest title → ⊥)
-    → started ≡ old ++ start_html kind → noded ≡ started ++ nodes_html source nodes → tag ≡ end_html kind → noded ++ tag ≡ old ++ (spelled (made_by kind nodes source)).html
-group-html source old started noded kind nodes tag other start more end =
+pub group-html : (source old started noded : List ℕ) (kind : Kind) (target : Target) (nodes : List Node) (tag : List ℕ) → (kind ≡ kinds.Image → ⊥)
+    → started ≡ old ++ start_html kind target → noded ≡ started ++ nodes_html source nodes → tag ≡ end_html kind → noded ++ tag ≡ old ++ (spelled (made_by kind target nodes source)).html
+group-html source old started noded kind target nodes tag other start more end =
     let html = nodes_html source nodes in
-    ap (λ t. noded ++ t) end ∙ ap (λ t. t ++ end_html kind) (more ∙ ap (λ t. t ++ html) start ∙ append_assoc old (start_html kind) html)
-    ∙ append_assoc old (start_html kind ++ html) (end_html kind) ∙ sym (ap (λ t. old ++ t) (made-html source kind nodes other))
+    ap (λ t. noded ++ t) end ∙ ap (λ t. t ++ end_html kind) (more ∙ ap (λ t. t ++ html) start ∙ append_assoc old (start_html kind target) html)
+    ∙ append_assoc old (start_html kind target ++ html) (end_html kind) ∙ sym (ap (λ t. old ++ t) (made-html source kind target nodes other))
 
 -- a token that was written, and those that follow
 pub token-html : (source done after : List ℕ) (made : List Made) (token : Token) (held rest : List Token) (whole : List ℕ) → held ≡ token ∷ rest → done ++ nodes_html source (nodes_of made held) ≡ whole

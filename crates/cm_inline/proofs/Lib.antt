@@ -20,6 +20,7 @@ pub mod EmphasisLemmas
 pub mod GroupLemmas
 pub mod PassingLemmas
 pub mod SettlingLemmas
+pub mod PlacedLemmas
 pub mod HeldLemmas
 pub mod EndsLemmas
 pub mod DeeperLemmas

@@ -15,6 +15,7 @@ use Rattle.cm_scan.proofs.PairingLemmas.{nearest-splits, leftmost-no_closer, pai
 use Rattle.cm_scan.proofs.OnePassLemmas.{closed_by-none, closed_by-gone, closed_by-more}
 use Rattle.cm_inline.specs.steps.Nodes as node
 use Rattle.cm_inline.specs.steps.Nodes.{Node, item_of, items_of, is_closer, nodes_depth, rest_in, IsPart, AreParts}
+use Rattle.cm_tree.specs.Definitions.{Target}
 use Rattle.cm_inline.specs.declared.runs.DelimiterRun.{DelimiterRun}
 use Rattle.cm_inline.specs.declared.delimiters.Delimiter.{Delimiter}
 use Rattle.cm_inline.specs.steps.Entries.{Entry, Listed, above, is_listed, reserve, Below, Falling}
@@ -22,7 +23,7 @@ use Rattle.cm_inline.specs.steps.Searching.{NoneBeneath, kind, openers_of, place
 use Rattle.cm_inline.specs.steps.Openers.{zeros, spent, cut, Ready, Closing, Open, Opens, Spends, Finishes}
 use Rattle.cm_inline.specs.steps.Runs.{byte_of, run_of, entry_of, rest_of}
 use Rattle.cm_inline.specs.steps.Pairs.{Adds, AreOf, Stays, opened_at, allowed, allowance, item_emphases, items_emphases}
-use Rattle.cm_inline.specs.declared.nodes.Kind.{Kind}
+use Rattle.cm_inline.specs.declared.groups.Kind.{Kind}
 use Rattle.cm_inline.specs.declared.tokens.Token.{Token}
 use Rattle.cm_inline.specs.steps.Groups.{Held, groups_made, nodes_in, made_by, made_of, is_run, ArePlaced}
 use Rattle.cm_inline.proofs.BetweenLemmas.{between-closer}
@@ -224,15 +225,15 @@ pub behind-both : (from i : ℕ) (whole : List Node) → drop (suc (from + i)) w
 behind-both from i whole = let n : suc (from + i) ≡ from + suc i = omega arith in ap (λ m. drop m whole) n ∙ sym (drop-drop (suc i) from whole)
 
 -- the nodes that come of a pair
-abbrev pub pair_nodes : (place : ℕ) → List Node → Option DelimiterRun → Kind → (depth : ℕ) → List Node
-pair_nodes place whole rest kind depth = take place whole ++ (rest_in rest ++ node.Finished (made_by kind (drop (suc place) whole)) depth false ∷ [])
+abbrev pub pair_nodes : (place : ℕ) → List Node → Option DelimiterRun → Kind → Target → (depth : ℕ) → List Node
+pair_nodes place whole rest kind target depth = take place whole ++ (rest_in rest ++ node.Finished (made_by kind target (drop (suc place) whole)) depth false ∷ [])
 
-pub pair-from : (source : List ℕ) (whole more : List Node) (from : ℕ) (opener : Delimiter) (closer : DelimiterRun) (rest : Option DelimiterRun) (kind : Kind) (depth count : ℕ) → from + opener.item < length whole
-    → rest_of rest ≡ without count (run_of opener.run) → count ≡ used (run_of opener.run) (run_of closer) → ((content : List Inline) → made_of kind content ≡ emphasised (byte_of closer.marker) count content)
-    → more ≡ pair_nodes (from + opener.item) whole rest kind depth → items_of source (drop from more) ≡ up_to_pair (opened_at source (drop from whole) opener) (run_of closer)
-pair-from source whole more from opener closer rest kind depth count within left is makes e =
+pub pair-from : (source : List ℕ) (whole more : List Node) (from : ℕ) (opener : Delimiter) (closer : DelimiterRun) (rest : Option DelimiterRun) (kind : Kind) (target : Target) (depth count : ℕ) → from + opener.item < length whole
+    → rest_of rest ≡ without count (run_of opener.run) → count ≡ used (run_of opener.run) (run_of closer) → ((content : List Inline) → made_of kind target content ≡ emphasised (byte_of closer.marker) count content)
+    → more ≡ pair_nodes (from + opener.item) whole rest kind target depth → items_of source (drop from more) ≡ up_to_pair (opened_at source (drop from whole) opener) (run_of closer)
+pair-from source whole more from opener closer rest kind target depth count within left is makes e =
     let inside = drop (suc (from + opener.item)) whole in
-    let made : Node = node.Finished (made_by kind inside) depth false in
+    let made : Node = node.Finished (made_by kind target inside) depth false in
     let nodes = drop from whole in
     ap (λ t. items_of source (drop from t)) e
     ∙ ap (items_of source) (back-stays from opener.item whole (rest_in rest ++ made ∷ []) within ∙ sym (append_assoc (take opener.item nodes) (rest_in rest) (made ∷ [])))
@@ -240,24 +241,24 @@ pair-from source whole more from opener closer rest kind depth count within left
     (ap Finished (makes (settled (items_of source inside)) ∙ ap (λ n. emphasised (byte_of closer.marker) n (settled (items_of source inside))) is
     ∙ ap (λ t. emphasised (byte_of closer.marker) (used (run_of opener.run) (run_of closer)) (settled (items_of source t))) (behind-both from opener.item whole)))
 
-pub pair-front : (whole more : List Node) (from i : ℕ) (rest : Option DelimiterRun) (kind : Kind) (depth : ℕ) → from + i < length whole → more ≡ pair_nodes (from + i) whole rest kind depth → take from more ≡ take from whole
-pair-front whole more from i rest kind depth within e = ap (take from) e ∙ front-stays from (from + i) whole _ (omega arith) within
+pub pair-front : (whole more : List Node) (from i : ℕ) (rest : Option DelimiterRun) (kind : Kind) (target : Target) (depth : ℕ) → from + i < length whole → more ≡ pair_nodes (from + i) whole rest kind target depth → take from more ≡ take from whole
+pair-front whole more from i rest kind target depth within e = ap (take from) e ∙ front-stays from (from + i) whole _ (omega arith) within
 
-pub pair-long : (whole more : List Node) (from i : ℕ) (rest : Option DelimiterRun) (kind : Kind) (depth : ℕ) → from + i < length whole → more ≡ pair_nodes (from + i) whole rest kind depth → from ≤ length more
-pair-long whole more from i rest kind depth within e =
-    let behind = rest_in rest ++ node.Finished (made_by kind (drop (suc (from + i)) whole)) depth false ∷ [] in
+pub pair-long : (whole more : List Node) (from i : ℕ) (rest : Option DelimiterRun) (kind : Kind) (target : Target) (depth : ℕ) → from + i < length whole → more ≡ pair_nodes (from + i) whole rest kind target depth → from ≤ length more
+pair-long whole more from i rest kind target depth within e =
+    let behind = rest_in rest ++ node.Finished (made_by kind target (drop (suc (from + i)) whole)) depth false ∷ [] in
     omega (arith, ap length e, length-append (take (from + i) whole) behind, length-take (from + i) whole, within)
 
 -- emphasis nests one deeper than what stands in it, and parts of a source stay such
-pub pair-parts : (source : List ℕ) (whole more : List Node) (place character count : ℕ) (rest : Option DelimiterRun) (kind : Kind) (depth : ℕ) → ((content : List Inline) → made_of kind content ≡ emphasised character count content)
-    → depth ≡ nodes_depth (drop (suc place) whole) → more ≡ pair_nodes place whole rest kind (depth + 1) → AreParts source whole → AreParts source more
-pair-parts source whole more place character count rest kind depth makes deep e parts =
+pub pair-parts : (source : List ℕ) (whole more : List Node) (place character count : ℕ) (rest : Option DelimiterRun) (kind : Kind) (target : Target) (depth : ℕ) → ((content : List Inline) → made_of kind target content ≡ emphasised character count content)
+    → depth ≡ nodes_depth (drop (suc place) whole) → more ≡ pair_nodes place whole rest kind target (depth + 1) → AreParts source whole → AreParts source more
+pair-parts source whole more place character count rest kind target depth makes deep e parts =
     let inside = drop (suc place) whole in
     let content = settled (items_of source inside) in
-    let made : depth_of (made_of kind content) ≡ depth + 1 =
+    let made : depth_of (made_of kind target content) ≡ depth + 1 =
     ap depth_of (makes content) ∙ emphasised-depth character count content ∙ ap (λ n. n + 1) (settled-depth source inside (parts-drop source (suc place) whole parts) ∙ sym deep) in
-    subst (AreParts source) (sym e) (parts-append source (take place whole) (rest_in rest ++ node.Finished (made_by kind inside) (depth + 1) false ∷ []) (parts-take source place whole parts)
-    (parts-append source (rest_in rest) (node.Finished (made_by kind inside) (depth + 1) false ∷ []) (rest-parts source rest) (made, tt)))
+    subst (AreParts source) (sym e) (parts-append source (take place whole) (rest_in rest ++ node.Finished (made_by kind target inside) (depth + 1) false ∷ []) (parts-take source place whole parts)
+    (parts-append source (rest_in rest) (node.Finished (made_by kind target inside) (depth + 1) false ∷ []) (rest-parts source rest) (made, tt)))
 
 placed-append : (source : List ℕ) (held more : List Token) → ArePlaced source held → ArePlaced source more → ArePlaced source (held ++ more)
 placed-append source [] more placed others = others

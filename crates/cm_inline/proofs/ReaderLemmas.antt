@@ -16,6 +16,7 @@ use Rattle.std.proofs.lemmas.List.Sums.{sum_by-cons}
 use Rattle.std.proofs.lemmas.Option.{same_Some}
 use Rattle.cm_scan.specs.Atoms.{Atom, Plain, Whole, Delimiter, OpenBracket, CloseBracket}
 use Rattle.cm_scan.specs.Brackets.{Defined, is_linked, holds_link, made}
+use Rattle.cm_tree.specs.Definitions.{Target}
 use Rattle.cm_inline.specs.declared.brackets.Bracket.{Bracket}
 use Rattle.cm_inline.specs.declared.ends.Ends.{Ends}
 use Rattle.cm_inline.specs.declared.links.LinkEnd.{LinkEnd}
@@ -27,7 +28,7 @@ use Rattle.cm_inline.specs.steps.Links.{ends_of}
 use Rattle.cm_inline.specs.steps.Depths.{items_depth}
 use Rattle.cm_inline.specs.steps.Missing.{Knows}
 use Rattle.cm_inline.specs.steps.Reads.{Stands, atom_in, item_for, IsAtom}
-use Rattle.cm_inline.specs.declared.nodes.Kind.{Kind}
+use Rattle.cm_inline.specs.declared.groups.Kind.{Kind}
 use Rattle.cm_inline.specs.steps.Groups.{made_of, made_by}
 use Rattle.cm_inline.specs.steps.Brackets.{bracket_in, brackets_from, AreBefore, LinksEnd, IsRead, outside_of, inside_of, link_of, link_made, left_as_text, closed_at, end_for}
 use Rattle.cm_inline.proofs.BracketLemmas.{Split, split-last, brackets-append, outside-is, inside-is, link-behind, closes-opener, closed_or}
@@ -528,15 +529,15 @@ paired-depth source nodes paired b first place parts pairs =
     sym (settled-depth source (drop (suc b.node) paired) (parts-drop source (suc b.node) paired parts)) ∙ ap (λ t. inlines_depth (settled t)) (paired-inside source nodes paired b first place pairs)
 
 -- what is made of a bracket and of those nodes
-pub makes : (source : List ℕ) (nodes paired more : List Node) (b : Bracket) (dest title : List ℕ) (kind : Kind) (first depth : ℕ) (holds : Bool) (links_end : ℕ) → first ≡ b.node + 1 → AreParts source paired → take first paired ≡ take first nodes
-    → items_of source (drop first paired) ≡ pair_all (items_of source (drop first nodes)) → depth ≡ nodes_depth (drop (suc b.node) paired) → ((content : List Inline) → made_of kind content ≡ link_of b.image dest title content)
-    → more ≡ take b.node paired ++ (rest_in None ++ Finished (made_by kind (drop (suc b.node) paired)) (depth + 1) holds ∷ []) → holds ≡ (not b.image || nat_lt b.node links_end)
-    → IsLink source nodes more b dest title (made_by kind (drop (suc b.node) paired)) depth holds links_end
-makes source nodes paired more b dest title kind first depth holds links_end place parts front pairs deep kind_is more_is holds_is =
+pub makes : (source : List ℕ) (nodes paired more : List Node) (b : Bracket) (dest title : List ℕ) (kind : Kind) (target : Target) (first depth : ℕ) (holds : Bool) (links_end : ℕ) → first ≡ b.node + 1 → AreParts source paired → take first paired ≡ take first nodes
+    → items_of source (drop first paired) ≡ pair_all (items_of source (drop first nodes)) → depth ≡ nodes_depth (drop (suc b.node) paired) → ((content : List Inline) → made_of kind target content ≡ link_of b.image dest title content)
+    → more ≡ take b.node paired ++ (rest_in None ++ Finished (made_by kind target (drop (suc b.node) paired)) (depth + 1) holds ∷ []) → holds ≡ (not b.image || nat_lt b.node links_end)
+    → IsLink source nodes more b dest title (made_by kind target (drop (suc b.node) paired)) depth holds links_end
+makes source nodes paired more b dest title kind target first depth holds links_end place parts front pairs deep kind_is more_is holds_is =
     let inner = drop (suc b.node) paired in
     let low : b.node ≤ first = omega (arith, place) in
     record {
-      nodes_are = more_is ∙ ap (λ t. t ++ Finished (made_by kind inner) (depth + 1) holds ∷ []) (sym (take-take b.node first paired low) ∙ ap (take b.node) front ∙ take-take b.node first nodes low);
+      nodes_are = more_is ∙ ap (λ t. t ++ Finished (made_by kind target inner) (depth + 1) holds ∷ []) (sym (take-take b.node first paired low) ∙ ap (take b.node) front ∙ take-take b.node first nodes low);
       inline_is = kind_is (settled (items_of source inner)) ∙ ap (λ t. link_of b.image dest title (settled t)) (paired-inside source nodes paired b first place pairs);
       depth_is = deep ∙ paired-depth source nodes paired b first place parts pairs;
       holds_is = holds_is;

@@ -1,11 +1,12 @@
 //! Links and images by their brackets (CommonMark 0.31.2, 6.3 Links, 6.4 Images).
 ghost use Rattle.std.specs.Prelude.{◌≡◌, ◌+◌, ◌<◌, ◌≤◌, ◌^◌, ◌++◌, List, [], ◌∷◌, drop, length, reverse, not, ◌||◌, nat_lt, IfOk, OnOk, IfSome, Err};
+ghost use Rattle.std.specs.Cow.{cow_str_bytes};
 ghost use Rattle.std.specs.Str.{IsCharBoundary};
 ghost use Rattle.cm_scan.specs.Brackets.{defined_in};
 ghost use Rattle.cm_scan.specs.Pairing.{bracket_text};
 ghost use Rattle.cm_inline.specs.declared.fault.InlineFault.TheVariants.{InlinesTooDeep};
 ghost use Rattle.cm_tree.specs.declared.tree.Inline.{Inline};
-ghost use Rattle.cm_inline.specs.steps.Groups.{made_of, node_of, nodes_in, IsNoGroup};
+ghost use Rattle.cm_inline.specs.steps.Groups.{made_of, target_of, node_of, nodes_in, IsNoGroup};
 ghost use Rattle.cm_inline.specs.steps.Nodes.{items_of, IsOpener};
 ghost use Rattle.cm_inline.specs.steps.Depths.{items_depth};
 ghost use Rattle.cm_inline.specs.steps.Pairs.{Keeps, allowance};
@@ -15,8 +16,9 @@ ghost use Rattle.cm_inline.specs.steps.Brackets.{IsReadTo, IsReadWith, bracket_i
 
 use crate::ends::Ends;
 use crate::fault::InlineFault;
+use crate::groups::{Kind, Making};
 use crate::links::{LinkEnd, link_end};
-use crate::nodes::{Kind, Nodes};
+use crate::nodes::Nodes;
 use crate::openers::Openers;
 use crate::pairing::pair_from;
 use crate::tokens::Token;
@@ -118,7 +120,7 @@ impl Reader {
         match self.end_behind(alloc, source, definitions, bracket, at)? {
             Some(link) => {
                 let end = link.end;
-                self.make_link(alloc, source, limit, bracket, link)?;
+                self.make_link(alloc, source, limit, bracket, &link)?;
                 Ok(end)
             }
             None => {
@@ -143,14 +145,14 @@ impl Reader {
     }
 
     /// What follows the `]` at a place that makes a link or an image of its bracket. Links don't hold links.
-    fn end_behind(
+    fn end_behind<'a>(
         &self,
         alloc: Global,
-        source: &str,
-        definitions: &Definitions,
+        source: &'a str,
+        definitions: &'a Definitions,
         bracket: Bracket,
         at: usize,
-    ) -> Result<Option<LinkEnd>, NoMemory>
+    ) -> Result<Option<LinkEnd<'a>>, NoMemory>
         requires opener { IsOpener source.now bracket.image bracket.behind }
         requires order { bracket.behind ≤ at }
         requires stands { Stands source.now at 93 }
@@ -170,14 +172,14 @@ impl Reader {
         source: &str,
         limit: usize,
         bracket: Bracket,
-        end: LinkEnd,
+        end: &LinkEnd<'_>,
     ) -> Result<(), InlineFault>
-        requires read { IsReadWith source.now end.end self.old bracket }
+        requires read { IsReadWith source.now end.now.end self.old bracket }
         requires few { self.old.openers.list.looks + allowance 13 (items_of source.now (nodes_in self.old.nodes)) < 2 ^ 127 }
-        ensures read { OnOk result (IsReadTo source.now end.end self.new) }
+        ensures read { OnOk result (IsReadTo source.now end.now.end self.new) }
         ensures keeps { OnOk result (Keeps self.old.openers.list.looks (items_of source.now (nodes_in self.old.nodes)) self.new.openers.list.looks (items_of source.now (nodes_in self.new.nodes))) }
-        ensures items { OnOk result (items_of source.now (nodes_in self.new.nodes) ≡ link_made source.now (nodes_in self.old.nodes) bracket end.dest end.title) }
-        ensures deep { result ≡ Err InlinesTooDeep → limit < items_depth (link_made source.now (nodes_in self.old.nodes) bracket end.dest end.title) }
+        ensures items { OnOk result (items_of source.now (nodes_in self.new.nodes) ≡ link_made source.now (nodes_in self.old.nodes) bracket (cow_str_bytes end.now.dest) (cow_str_bytes end.now.title)) }
+        ensures deep { result ≡ Err InlinesTooDeep → limit < items_depth (link_made source.now (nodes_in self.old.nodes) bracket (cow_str_bytes end.now.dest) (cow_str_bytes end.now.title)) }
     {
         let holds_link = self.holds_link(bracket);
         // Memory holds fewer nodes than a `usize` counts.
@@ -189,9 +191,9 @@ impl Reader {
         if depth >= limit {
             return Err(InlineFault::InlinesTooDeep);
         }
-        let kind = link_of(bracket.image, end);
+        let making = making_of(bracket.image, end);
         self.nodes
-            .wrap(bracket.node, None, kind, depth + 1, holds_link)?;
+            .wrap(bracket.node, None, making, depth + 1, holds_link)?;
         if holds_link {
             self.links_end = self.nodes.len();
         }
@@ -225,19 +227,13 @@ fn width(image: bool) -> usize
     if image { 2 } else { 1 }
 }
 
-/// A link or an image that leads there.
-fn link_of(image: bool, end: LinkEnd) -> Kind
-    ensures { (content : List Inline) → made_of result content ≡ link_of image end.dest end.title content }
+/// What a bracket makes of its content, where that leads there.
+fn making_of<'a>(image: bool, end: &'a LinkEnd<'_>) -> Making<'a>
+    ensures { (content : List Inline) → made_of result.kind (target_of result) content ≡ link_of image (cow_str_bytes end.now.dest) (cow_str_bytes end.now.title) content }
 {
-    if image {
-        Kind::Image {
-            dest: end.dest,
-            title: end.title,
-        }
-    } else {
-        Kind::Link {
-            dest: end.dest,
-            title: end.title,
-        }
+    Making {
+        kind: if image { Kind::Image } else { Kind::Link },
+        dest: &end.dest,
+        title: &end.title,
     }
 }

@@ -7,9 +7,10 @@ ghost use Rattle.cm_scan.specs.CodeSpans.{one_line};
 ghost use Rattle.cm_scan.specs.Pairing.{settled};
 ghost use Rattle.cm_inline.specs.steps.Written.{autolink_html, written_html, IsWithin};
 ghost use Rattle.cm_inline.specs.steps.Nodes.{items_of, node_html, nodes_html, AreParts};
-ghost use Rattle.cm_inline.specs.steps.Groups.{end_html, group_made, groups_made, node_of, nodes_of, nodes_in, start_html, AreBelow, AreGroups, ArePlaced, IsBelow, IsGroup, IsPlaced};
+ghost use Rattle.cm_inline.specs.steps.Groups.{grouped, target_of, end_html, group_made, groups_made, node_of, nodes_of, nodes_in, start_html, AreBelow, AreGroups, ArePlaced, IsBelow, IsGroup, IsPlaced};
 
-use crate::nodes::{Group, Kind, Nodes};
+use crate::groups::{FirstGroups, Group, Kind, Making};
+use crate::nodes::Nodes;
 use crate::settling::group_inline;
 use crate::tokens::{Token, opener_text, push_run};
 use crate::written::{Written, destination_of};
@@ -102,7 +103,7 @@ fn push_token(
     html: &mut String,
     source: &str,
     inside: &[Token],
-    groups: &[Group],
+    groups: &FirstGroups<'_>,
     token: Token,
 ) -> Result<(), AllocError>
     requires placed { ArePlaced source.now inside.now }
@@ -120,8 +121,8 @@ fn push_token(
             html,
             source,
             inside,
-            &groups[..number],
-            &groups[number],
+            &groups.up_to(number),
+            groups.get(number),
         ),
         // Of the characters of runs and openers none is escaped.
         Token::Run(run) => push_run(html, run),
@@ -136,7 +137,7 @@ fn push_tokens(
     html: &mut String,
     source: &str,
     inside: &[Token],
-    groups: &[Group],
+    groups: &FirstGroups<'_>,
     tokens: &[Token],
 ) -> Result<(), AllocError>
     requires placed { ArePlaced source.now inside.now }
@@ -152,28 +153,28 @@ fn push_tokens(
 }
 
 /// Adds the start tag of emphasis or a link.
-fn push_start(html: &mut String, kind: &Kind) -> Result<(), AllocError>
-    ensures { OnOk result (string_bytes html.new ≡ string_bytes html.old ++ start_html kind.now) }
+fn push_start(html: &mut String, making: Making<'_>) -> Result<(), AllocError>
+    ensures { OnOk result (string_bytes html.new ≡ string_bytes html.old ++ start_html making.entry.kind (target_of making.entry)) }
 {
-    match kind {
+    match making.kind {
         Kind::Emph => html.push_str("<em>"),
         Kind::Strong => html.push_str("<strong>"),
         Kind::Strike => html.push_str("<del>"),
-        Kind::Link { dest, title } => push_link_start(html, dest.as_str(), title.as_str()),
-        Kind::Image { .. } => Ok(()),
+        Kind::Link => push_link_start(html, making.dest, making.title),
+        Kind::Image => Ok(()),
     }
 }
 
 /// The end tag of emphasis or a link.
-fn end_tag(kind: &Kind) -> &'static str
-    ensures { result.now ≡ end_html kind.now }
+fn end_tag(kind: Kind) -> &'static str
+    ensures { result.now ≡ end_html kind }
 {
     match kind {
         Kind::Emph => "</em>",
         Kind::Strong => "</strong>",
         Kind::Strike => "</del>",
-        Kind::Link { .. } => "</a>",
-        Kind::Image { .. } => "",
+        Kind::Link => "</a>",
+        Kind::Image => "",
     }
 }
 
@@ -184,19 +185,19 @@ fn push_group(
     html: &mut String,
     source: &str,
     inside: &[Token],
-    groups: &[Group],
-    group: &Group,
+    groups: &FirstGroups<'_>,
+    group: Group<'_>,
 ) -> Result<(), AllocError>
     requires placed { ArePlaced source.now inside.now }
     requires groups { AreGroups inside.now 0 groups.now }
-    requires group { IsGroup inside.now (length groups.now) group.now }
-    ensures { OnOk result (string_bytes html.new ≡ string_bytes html.old ++ (spelled (group_made inside.now (groups_made inside.now groups.now) group.now source.now)).html) }
+    requires group { IsGroup inside.now (length groups.now) (grouped group) }
+    ensures { OnOk result (string_bytes html.new ≡ string_bytes html.old ++ (spelled (group_made inside.now (groups_made inside.now groups.now) (grouped group.entry) source.now)).html) }
 {
-    if let Kind::Image { .. } = &group.kind {
+    if let Kind::Image = group.making.kind {
         let image = group_inline(alloc, source, inside, groups, group)?;
         return push_inline(html, &image);
     }
-    push_start(html, &group.kind)?;
+    push_start(html, group.making)?;
     push_tokens(
         alloc,
         html,
@@ -205,7 +206,7 @@ fn push_group(
         groups,
         &inside[group.from..group.to],
     )?;
-    html.push_str(end_tag(&group.kind))
+    html.push_str(end_tag(group.making.kind))
 }
 
 /// Adds the HTML of the inlines that come of nodes.
@@ -224,7 +225,7 @@ pub(crate) fn push_nodes(
         html,
         source,
         nodes.inside(),
-        nodes.groups(),
+        &nodes.groups(),
         nodes.tokens(),
     )
 }

@@ -8,6 +8,7 @@ mod delimiters;
 mod ends;
 mod fault;
 mod flanking;
+mod groups;
 mod html;
 pub mod laws;
 mod links;

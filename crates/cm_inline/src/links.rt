@@ -8,26 +8,27 @@ ghost use Rattle.cm_inline.specs.steps.Links.{ends_of, leads_to, target_by, behi
 
 use cm_scan::{after_gap, destination, is_blank_next, is_next, label, title};
 use cm_text::{NoMemory, unescape};
-use cm_tree::{BoxedText, Definitions, Text};
+use cm_tree::Definitions;
 use std::alloc::Global;
+use std::borrow::CowStr;
 
 /// Where a link or an image leads, its title, and the place where it ends.
 #[derive(Drop)]
-pub(crate) struct LinkEnd {
-    pub(crate) dest: BoxedText,
-    pub(crate) title: BoxedText,
+pub(crate) struct LinkEnd<'a> {
+    pub(crate) dest: CowStr<'a, Global>,
+    pub(crate) title: CowStr<'a, Global>,
     pub(crate) end: usize,
 }
 
 /// What follows the `]` at a place, whose opener ends at `behind`: where a link or an image leads. An inline link's end
 /// goes before a reference (6.3 Links).
-pub(crate) fn link_end(
+pub(crate) fn link_end<'a>(
     alloc: Global,
-    source: &str,
-    definitions: &Definitions,
+    source: &'a str,
+    definitions: &'a Definitions,
     behind: usize,
     at: usize,
-) -> Result<Option<LinkEnd>, NoMemory>
+) -> Result<Option<LinkEnd<'a>>, NoMemory>
     requires bracket { (0 < behind) × (slice_index source.now (behind - 1) ≡ 91) }
     requires order { behind ≤ at }
     requires stands { Stands source.now at 93 }
@@ -42,7 +43,11 @@ pub(crate) fn link_end(
 }
 
 /// The end of an inline link: `(`, a destination and a title or not, and `)`, with gaps between.
-fn inline_end(alloc: Global, source: &str, at: usize) -> Result<Option<LinkEnd>, NoMemory>
+fn inline_end<'a>(
+    alloc: Global,
+    source: &'a str,
+    at: usize,
+) -> Result<Option<LinkEnd<'a>>, NoMemory>
     requires { IsCharBoundary source.now at }
     ensures ends { IfOk result (λ found. ends_of source.now found ≡ inline_end (drop at source.now)) }
     ensures boundary { IfOk result (λ found. IfSome found (λ e. IsCharBoundary source.now e.end)) }
@@ -58,12 +63,12 @@ fn inline_end(alloc: Global, source: &str, at: usize) -> Result<Option<LinkEnd>,
 }
 
 /// What stands behind a destination: a title that a gap parts from it, or none, and the end.
-fn after_destination(
+fn after_destination<'a>(
     alloc: Global,
-    source: &str,
-    dest: &str,
+    source: &'a str,
+    dest: &'a str,
     at: usize,
-) -> Result<Option<LinkEnd>, NoMemory>
+) -> Result<Option<LinkEnd<'a>>, NoMemory>
     requires { IsCharBoundary source.now at }
     ensures ends { IfOk result (λ found. ends_of source.now found ≡ after_destination dest.now (drop at source.now)) }
     ensures boundary { IfOk result (λ found. IfSome found (λ e. IsCharBoundary source.now e.end)) }
@@ -78,13 +83,13 @@ fn after_destination(
 }
 
 /// A gap and `)`. Destination and title come as they are written.
-fn closed(
+fn closed<'a>(
     alloc: Global,
-    source: &str,
-    dest: &str,
-    title: &str,
+    source: &'a str,
+    dest: &'a str,
+    title: &'a str,
     at: usize,
-) -> Result<Option<LinkEnd>, NoMemory>
+) -> Result<Option<LinkEnd<'a>>, NoMemory>
     requires { IsCharBoundary source.now at }
     ensures ends { IfOk result (λ found. ends_of source.now found ≡ closed dest.now title.now (drop at source.now)) }
     ensures boundary { IfOk result (λ found. IfSome found (λ e. IsCharBoundary source.now e.end)) }
@@ -93,24 +98,22 @@ fn closed(
     if !is_next(source.as_bytes(), end, b')') {
         return Ok(None);
     }
-    let dest = BoxedText::new(alloc, Text::from(unescape(alloc, dest)?))?;
-    let title = BoxedText::new(alloc, Text::from(unescape(alloc, title)?))?;
     Ok(Some(LinkEnd {
-        dest,
-        title,
+        dest: unescape(alloc, dest)?,
+        title: unescape(alloc, title)?,
         end: end + 1,
     }))
 }
 
 /// The end of a reference: a full one, a collapsed one or a shortcut. Where a label follows that isn't defined, there
 /// is none.
-fn reference_end(
+fn reference_end<'a>(
     alloc: Global,
-    source: &str,
-    definitions: &Definitions,
+    source: &'a str,
+    definitions: &'a Definitions,
     behind: usize,
     at: usize,
-) -> Result<Option<LinkEnd>, NoMemory>
+) -> Result<Option<LinkEnd<'a>>, NoMemory>
     requires bracket { (0 < behind) × (slice_index source.now (behind - 1) ≡ 91) }
     requires order { behind ≤ at }
     requires stands { Stands source.now at 93 }
@@ -128,21 +131,23 @@ fn reference_end(
 }
 
 /// Where a reference by a label leads that ends at a place, if the label is defined.
-fn reference(
+fn reference<'a>(
     alloc: Global,
-    definitions: &Definitions,
+    definitions: &'a Definitions,
     label: &str,
     end: usize,
-) -> Result<Option<LinkEnd>, NoMemory>
+) -> Result<Option<LinkEnd<'a>>, NoMemory>
     ensures ends { IfOk result (λ found. (source : List ℕ) → ends_of source found ≡ leads_to (target_of (defined_in definitions.now) label.now) (drop end source)) }
     ensures end { IfOk result (λ found. IfSome found (λ e. e.end ≡ end)) }
 {
     let Some((dest, title)) = definitions.find(label)? else {
         return Ok(None);
     };
-    let dest = BoxedText::new(alloc, Text::from_str(alloc, dest)?)?;
-    let title = BoxedText::new(alloc, Text::from_str(alloc, title)?)?;
-    Ok(Some(LinkEnd { dest, title, end }))
+    Ok(Some(LinkEnd {
+        dest: CowStr::Borrowed(dest),
+        title: CowStr::Borrowed(title),
+        end,
+    }))
 }
 
 /// The source between the brackets, if it is a link label.

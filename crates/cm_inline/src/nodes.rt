@@ -1,32 +1,14 @@
 //! The nodes of a leaf: tokens, and groups of them, which are emphasis, links and images.
 ghost use Rattle.std.specs.Prelude.{◌≡◌, ◌++◌, ◌<◌, ◌≤◌, [], ◌∷◌, suc, length, take, drop, set, IfOk, OnOk};
 ghost use Rattle.std.specs.List.{list_any};
-ghost use Rattle.cm_inline.specs.steps.Groups.{nodes_in, waiting_in, node_of, made_by, AreBelow, AreGroups, IsNoGroup, Takes};
+ghost use Rattle.cm_inline.specs.steps.Groups.{nodes_in, waiting_in, node_of, made_by, target_of, AreBelow, AreGroups, IsNoGroup, Takes};
 ghost use Rattle.cm_inline.specs.steps.Nodes.{Piece, Finished, is_closer, nodes_depth, rest_in};
 
+use crate::groups::{FirstGroups, Groups, Making};
 use crate::runs::DelimiterRun;
 use crate::tokens::{Token, depth_of_all, has_closer};
-use cm_tree::BoxedText;
 use std::alloc::{AllocError, Global};
 use std::marker::Model;
-
-/// What is made of nodes.
-#[derive(Drop)]
-pub(crate) enum Kind {
-    Emph,
-    Strong,
-    Strike,
-    Link { dest: BoxedText, title: BoxedText },
-    Image { dest: BoxedText, title: BoxedText },
-}
-
-/// Emphasis, a link or an image, and the places among the tokens inside of what stands in it.
-#[derive(Drop)]
-pub(crate) struct Group {
-    pub(crate) kind: Kind,
-    pub(crate) from: usize,
-    pub(crate) to: usize,
-}
 
 /// The nodes of a leaf. Each group holds tokens that were moved behind those of the groups before it, so nothing is made twice and
 /// no node owns memory.
@@ -40,7 +22,7 @@ pub(crate) struct Nodes {
     passed: usize,
     /// What stands in groups.
     inside: Vec<Token>,
-    groups: Vec<Group>,
+    groups: Groups,
 }
 
 impl Model for Nodes {
@@ -49,9 +31,9 @@ impl Model for Nodes {
 
     ghost Value = { Held };
 
-    ghost view = { λ n. record { before = n.before.items; rest = drop n.passed n.rest.items; inside = n.inside.items; groups = n.groups.items } };
+    ghost view = { λ n. record { before = n.before.items; rest = drop n.passed n.rest.items; inside = n.inside.items; groups = n.groups } };
 
-    ghost invariant = { λ n. AreHeld (record { before = n.before.items; rest = drop n.passed n.rest.items; inside = n.inside.items; groups = n.groups.items }) };
+    ghost invariant = { λ n. AreHeld (record { before = n.before.items; rest = drop n.passed n.rest.items; inside = n.inside.items; groups = n.groups }) };
 }
 
 impl Nodes {
@@ -62,7 +44,7 @@ impl Nodes {
             rest: Vec::new(alloc),
             passed: 0,
             inside: Vec::new(alloc),
-            groups: Vec::new(alloc),
+            groups: Groups::new(alloc),
         }
     }
 
@@ -94,11 +76,11 @@ impl Nodes {
     }
 
     /// The groups.
-    pub(crate) fn groups(&self) -> &[Group]
-        ensures groups { result.now ≡ self.now.groups }
+    pub(crate) fn groups(&self) -> FirstGroups<'_>
+        ensures groups { result ≡ self.now.groups }
         ensures are { AreGroups self.now.inside 0 self.now.groups }
     {
-        &self.groups
+        self.groups.all()
     }
 
     /// How many nodes there are.
@@ -188,12 +170,12 @@ impl Nodes {
         &mut self,
         opener: usize,
         left: Option<DelimiterRun>,
-        kind: Kind,
+        making: Making<'_>,
         depth: usize,
         holds_link: bool,
     ) -> Result<(), AllocError>
         requires { opener < length (nodes_in self.old) }
-        ensures nodes { OnOk result (nodes_in self.new ≡ take opener (nodes_in self.old) ++ (rest_in left ++ Finished (made_by kind (drop (suc opener) (nodes_in self.old))) depth holds_link ∷ [])) }
+        ensures nodes { OnOk result (nodes_in self.new ≡ take opener (nodes_in self.old) ++ (rest_in left ++ Finished (made_by making.entry.kind (target_of making.entry) (drop (suc opener) (nodes_in self.old))) depth holds_link ∷ [])) }
         ensures waiting { OnOk result (waiting_in self.new ≡ waiting_in self.old) }
         ensures inside { OnOk result (self.new.inside ≡ self.old.inside ++ drop (suc opener) self.old.before) }
     {
@@ -205,7 +187,8 @@ impl Nodes {
             self.before.push(Token::Run(run))?;
         }
         let number = self.groups.len();
-        self.groups.push(Group { kind, from, to })?;
+        self.groups
+            .push(making.kind, making.dest, making.title, from, to)?;
         self.before.push(Token::Made {
             number,
             depth,

@@ -9,25 +9,31 @@ ghost use Rattle.cm_inline.specs.steps.Depths.{items_depth};
 ghost use Rattle.cm_inline.specs.steps.Entries.{is_listed};
 ghost use Rattle.cm_inline.specs.steps.Openers.{spent, cut, Ready, Spends};
 ghost use Rattle.cm_inline.specs.steps.Runs.{run_of, rest_of, entry_of, byte_of};
-ghost use Rattle.cm_inline.specs.steps.Groups.{made_of, nodes_in, waiting_in};
+ghost use Rattle.cm_inline.specs.steps.Groups.{made_of, target_of, nodes_in, waiting_in};
 ghost use Rattle.cm_inline.specs.steps.Nodes.{items_of, nodes_depth, AreParts};
 ghost use Rattle.cm_inline.specs.steps.Pairs.{Adds, AreLooks, Stays, allowance, items_emphases, opened_at};
 
 use crate::delimiters::Delimiter;
 use crate::fault::InlineFault;
-use crate::nodes::{Kind, Nodes};
+use crate::groups::{Kind, Making};
+use crate::nodes::Nodes;
 use crate::openers::{Openers, begin, drop_closer, finish, spend, take_opener};
 use crate::runs::{DelimiterRun, Marker, used, without};
 use crate::tokens::Token;
 
 /// The emphasis that a pair makes of its content.
-fn emphasised(marker: Marker, count: usize) -> Kind
-    ensures { (content : List Inline) → made_of result content ≡ emphasised (byte_of marker) count content }
+fn emphasised(marker: Marker, count: usize) -> Making<'static>
+    ensures { (content : List Inline) → made_of result.kind (target_of result) content ≡ emphasised (byte_of marker) count content }
 {
-    match marker {
+    let kind = match marker {
         Marker::Tilde => Kind::Strike,
         _ if count == 2 => Kind::Strong,
         _ => Kind::Emph,
+    };
+    Making {
+        kind,
+        dest: "",
+        title: "",
     }
 }
 
@@ -61,8 +67,8 @@ fn make_pair(
     }
     let count = used(opener.run, closer);
     let left = without(opener.run, count);
-    let kind = emphasised(closer.marker, count);
-    nodes.wrap(place, left, kind, depth + 1, false)?;
+    let making = emphasised(closer.marker, count);
+    nodes.wrap(place, left, making, depth + 1, false)?;
     spend(openers, opener, left);
     Ok(without(closer, count))
 }

@@ -1,10 +1,11 @@
 //! The inlines that come of nodes of which nothing more is made.
 ghost use Rattle.std.specs.Prelude.{◌≡◌, ◌++◌, length, IfOk, OnOk};
 ghost use Rattle.cm_scan.specs.Pairing.{settled};
-ghost use Rattle.cm_inline.specs.steps.Groups.{group_made, groups_made, made_of, node_of, nodes_of, nodes_in, AreBelow, AreGroups, ArePlaced, IsBelow, IsGroup, IsPlaced};
+ghost use Rattle.cm_inline.specs.steps.Groups.{grouped, group_made, groups_made, made_of, target_of, node_of, nodes_of, nodes_in, AreBelow, AreGroups, ArePlaced, IsBelow, IsGroup, IsPlaced};
 ghost use Rattle.cm_inline.specs.steps.Nodes.{inline_of, items_of, AreParts};
 
-use crate::nodes::{Group, Kind, Nodes};
+use crate::groups::{FirstGroups, Group, Kind, Making};
+use crate::nodes::Nodes;
 use crate::tokens::{Token, push_texts};
 use cm_tree::{BoxedText, Inline, Items, Text};
 use std::alloc::{AllocError, Global};
@@ -23,29 +24,29 @@ fn count_inlines(tokens: &[Token]) -> usize {
     count
 }
 
-/// A text once more.
-fn copy(alloc: Global, text: &BoxedText) -> Result<BoxedText, AllocError>
-    ensures { IfOk result (λ copied. copied ≡ text.now) }
+/// A text on the heap.
+fn boxed(alloc: Global, text: &str) -> Result<BoxedText, AllocError>
+    ensures { IfOk result (λ boxed. boxed ≡ text.now) }
 {
-    BoxedText::new(alloc, Text::from_str(alloc, text.as_str())?)
+    BoxedText::new(alloc, Text::from_str(alloc, text)?)
 }
 
-/// What a kind makes of its content.
-fn made(alloc: Global, kind: &Kind, content: Items<Inline>) -> Result<Inline, AllocError>
-    ensures { IfOk result (λ inline. inline ≡ made_of kind.now content) }
+/// What is made of a content.
+fn made(alloc: Global, making: Making<'_>, content: Items<Inline>) -> Result<Inline, AllocError>
+    ensures { IfOk result (λ inline. inline ≡ made_of making.entry.kind (target_of making.entry) content) }
 {
-    match kind {
+    match making.kind {
         Kind::Emph => Ok(Inline::Emph(content)),
         Kind::Strong => Ok(Inline::Strong(content)),
         Kind::Strike => Ok(Inline::Strike(content)),
-        Kind::Link { dest, title } => Ok(Inline::Link {
-            dest: copy(alloc, dest)?,
-            title: copy(alloc, title)?,
+        Kind::Link => Ok(Inline::Link {
+            dest: boxed(alloc, making.dest)?,
+            title: boxed(alloc, making.title)?,
             content,
         }),
-        Kind::Image { dest, title } => Ok(Inline::Image {
-            dest: copy(alloc, dest)?,
-            title: copy(alloc, title)?,
+        Kind::Image => Ok(Inline::Image {
+            dest: boxed(alloc, making.dest)?,
+            title: boxed(alloc, making.title)?,
             content,
         }),
     }
@@ -57,16 +58,16 @@ pub(crate) fn group_inline(
     alloc: Global,
     source: &str,
     inside: &[Token],
-    groups: &[Group],
-    group: &Group,
+    groups: &FirstGroups<'_>,
+    group: Group<'_>,
 ) -> Result<Inline, AllocError>
     requires placed { ArePlaced source.now inside.now }
     requires groups { AreGroups inside.now 0 groups.now }
-    requires group { IsGroup inside.now (length groups.now) group.now }
-    ensures { IfOk result (λ inline. inline ≡ group_made inside.now (groups_made inside.now groups.now) group.now source.now) }
+    requires group { IsGroup inside.now (length groups.now) (grouped group) }
+    ensures { IfOk result (λ inline. inline ≡ group_made inside.now (groups_made inside.now groups.now) (grouped group.entry) source.now) }
 {
     let content = settle_tokens(alloc, source, inside, groups, &inside[group.from..group.to])?;
-    made(alloc, &group.kind, content)
+    made(alloc, group.making, content)
 }
 
 /// Adds the inline that a token is, if it is one.
@@ -75,7 +76,7 @@ fn push_inline(
     alloc: Global,
     source: &str,
     inside: &[Token],
-    groups: &[Group],
+    groups: &FirstGroups<'_>,
     token: Token,
     content: &mut Vec<Inline>,
 ) -> Result<(), AllocError>
@@ -91,7 +92,13 @@ fn push_inline(
             Ok(content.push(inline)?)
         }
         Token::Made { number, .. } => {
-            let inline = group_inline(alloc, source, inside, &groups[..number], &groups[number])?;
+            let inline = group_inline(
+                alloc,
+                source,
+                inside,
+                &groups.up_to(number),
+                groups.get(number),
+            )?;
             Ok(content.push(inline)?)
         }
         _ => Ok(()),
@@ -104,7 +111,7 @@ fn settle_tokens(
     alloc: Global,
     source: &str,
     inside: &[Token],
-    groups: &[Group],
+    groups: &FirstGroups<'_>,
     tokens: &[Token],
 ) -> Result<Items<Inline>, AllocError>
     requires placed { ArePlaced source.now inside.now }
@@ -139,7 +146,7 @@ pub(crate) fn settle(
         alloc,
         source,
         nodes.inside(),
-        nodes.groups(),
+        &nodes.groups(),
         nodes.tokens(),
     )
 }

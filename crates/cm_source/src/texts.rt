@@ -12,11 +12,11 @@ use cm_text::{ByteKind, cut_at, is_ascii_punct, next_of};
 use std::alloc::AllocError;
 use std::simd::prelude::*;
 
-/// Whether a byte isn't written as it is.
+/// Whether a byte isn't written as it is. Most are small letters, so these are told first.
 fn is_spelled(b: u8) -> bool
     ensures { result ≡ is_spelled b }
 {
-    b.is_ascii_control() || is_ascii_punct(b as char)
+    !b.is_ascii_lowercase() && (b.is_ascii_control() || is_ascii_punct(b as char))
 }
 
 /// The bytes that aren't written as they are.

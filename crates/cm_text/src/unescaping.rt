@@ -1,6 +1,7 @@
 //! Texts with their escapes and references resolved.
 ghost use Rattle.std.specs.Prelude.{◌≡◌, [], ◌∷◌, ◌++◌, ◌<◌, ◌≤◌, length, drop, slice_index, string_bytes, encode_utf8_all, option_map, IfOk, OnOk};
 ghost use Rattle.std.specs.Str.{IsCharBoundary};
+ghost use Rattle.std.specs.Cow.{cow_str_bytes};
 ghost use Rattle.cm_text.specs.References.{chars_of, read_of};
 ghost use Rattle.cm_text.specs.Unescaping.{escape, special, unescape};
 
@@ -9,17 +10,28 @@ use crate::device::NoMemory;
 use crate::references::{Chars, reference};
 use memchr::memchr2;
 use std::alloc::{AllocError, Global};
+use std::borrow::CowStr;
 
 /// A text with its backslash escapes and references resolved, as those of destinations, titles and info
 /// strings are (CommonMark 0.31.2, 2.4 Backslash escapes and 2.5 Entity and numeric character references).
 ///
 /// From the left, a backslash before ASCII punctuation gives that character, and a reference gives its
-/// characters; all else stays.
+/// characters; all else stays. A text without a backslash or an ampersand is lent as it is.
 ///
 /// # Errors
 ///
 /// `NoMemory` where a request for memory was refused.
-pub fn unescape(alloc: Global, text: &str) -> Result<String, NoMemory>
+pub fn unescape(alloc: Global, text: &str) -> Result<CowStr<'_, Global>, NoMemory>
+    ensures { IfOk result (λ unescaped. cow_str_bytes unescaped ≡ unescape text.now) }
+{
+    match memchr2(b'\\', b'&', text.as_bytes()) {
+        Some(_) => Ok(CowStr::Owned(resolve(alloc, text)?)),
+        None => Ok(CowStr::Borrowed(text)),
+    }
+}
+
+/// The same, in memory of its own.
+fn resolve(alloc: Global, text: &str) -> Result<String, AllocError>
     ensures { IfOk result (λ unescaped. string_bytes unescaped ≡ unescape text.now) }
 {
     // No escape or reference gives more bytes than it takes.

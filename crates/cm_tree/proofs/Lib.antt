@@ -1,2 +1,4 @@
 pub mod RawLemmas
 pub mod Targets
+pub mod TargetLemmas
+pub mod KeptLemmas

@@ -30,7 +30,7 @@ slice-last xs more ys from to is begins ends =
 slice-map : {A B : Type 0} (f : A → B) (xs : List A) (from to : ℕ) → slice_range (map f xs) from to ≡ map f (slice_range xs from to)
 slice-map f xs from to = ap (take (to - from)) (drop-map f from xs) ∙ take-map f (to - from) (drop from xs)
 
-boundary-grows : (text more grown : List ℕ) (at : ℕ) → grown ≡ text ++ more → IsUtf8 more → IsCharBoundary text at → IsCharBoundary grown at
+pub boundary-grows : (text more grown : List ℕ) (at : ℕ) → grown ≡ text ++ more → IsUtf8 more → IsCharBoundary text at → IsCharBoundary grown at
 boundary-grows text more grown at is utf8 boundary = elim (cases_lt at (length text)) [
   | inl low ↦ subst (λ g. IsCharBoundary g at) (sym is) (omega (arith, low, length-append text more), λ _ continues. rw (get_or_append_left text more 0 at low) (boundary.1 low (rw (get_or_append_left text more 0 at low) at continues)))
   | inr high ↦ subst (IsCharBoundary grown) (omega (arith, high, boundary.0)) (IsCharBoundary-at_seam grown text more is utf8)

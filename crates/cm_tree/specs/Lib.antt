@@ -5,5 +5,6 @@ pub mod Definitions
 pub mod Levels
 pub mod RawHtml
 pub mod RawBlocks
+pub mod TargetPlaces
 pub mod WorkedExamples
 pub mod steps

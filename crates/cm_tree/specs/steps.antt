@@ -1,2 +1,3 @@
 pub mod LabelNumbers
 pub mod RawSteps
+pub mod KeptTargets

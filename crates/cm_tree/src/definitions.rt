@@ -1,11 +1,12 @@
 //! The table of link reference definitions.
-ghost use Rattle.std.specs.Prelude.{◌≡◌, IsSome, None, OnOk, OnErr, IfOk, option_map, string_bytes};
+ghost use Rattle.std.specs.Prelude.{◌≡◌, ◌++◌, IsSome, None, OnOk, OnErr, IfOk, option_map, string_bytes};
 ghost use Rattle.std.specs.FinMap as map;
 ghost use Rattle.cm_text.specs.Labels.{fold_label};
 ghost use Rattle.cm_tree.specs.Definitions.{add_first};
+ghost use Rattle.cm_tree.specs.TargetPlaces.{places_behind, GoesOn};
 ghost use Rattle.cm_tree.specs.steps.LabelNumbers.{IsNumbered, number_of, found_under, with_entry};
 
-use crate::text::Text;
+use crate::target_places::TargetPlaces;
 use cm_text::{NoMemory, fold_label};
 use std::alloc::{AllocError, Global};
 use std::collections::BTreeMap;
@@ -19,23 +20,26 @@ use std::marker::Model;
 #[derive(Debug, Drop)]
 pub struct Definitions {
     alloc: Global,
+    // destinations and titles
+    texts: String,
     // in the order of the labels' numbers first, which stand in the tree's nodes
-    targets: BTreeMap<(u64, String), (Text, Text)>,
+    targets: BTreeMap<(u64, String), TargetPlaces>,
 }
 
 impl Model for Definitions {
     ghost use Rattle.std.specs.FinMap as map;
     ghost use Rattle.std.specs.Coded.{coded_ℕ, coded_list, coded×};
+    ghost use Rattle.std.specs.Prelude.{string_bytes};
     ghost use Rattle.cm_tree.specs.Definitions.{Targets, targets_of};
-    ghost use Rattle.cm_tree.specs.steps.LabelNumbers.{AreNumbered};
+    ghost use Rattle.cm_tree.specs.steps.KeptTargets.{kept, AreKept};
 
     ghost Value = { Targets };
 
     ghost coded = { map.code (coded_list coded_ℕ) (coded× (coded_list coded_ℕ) (coded_list coded_ℕ)) };
 
-    ghost view = { λ a. targets_of a.targets.entries };
+    ghost view = { λ a. targets_of (kept (string_bytes a.texts) a.targets.entries) };
 
-    ghost invariant = { λ a. AreNumbered a.targets.entries };
+    ghost invariant = { λ a. AreKept (string_bytes a.texts) a.targets.entries };
 }
 
 impl Definitions {
@@ -45,6 +49,7 @@ impl Definitions {
     {
         Definitions {
             alloc,
+            texts: String::new(alloc),
             targets: BTreeMap::new(alloc),
         }
     }
@@ -66,10 +71,13 @@ impl Definitions {
         ensures ok { OnOk result (self.new ≡ add_first self.old (string_bytes folded) (dest.now, title.now)) }
         ensures err { OnErr result (self.new ≡ self.old) }
     {
-        let dest = Text::from_str(self.alloc, dest)?;
-        let title = Text::from_str(self.alloc, title)?;
-        put_first(&mut self.targets, numbered(folded), (dest, title))?;
-        Ok(())
+        put_first(
+            &mut self.targets,
+            &mut self.texts,
+            numbered(folded),
+            dest,
+            title,
+        )
     }
 
     /// The destination and the title of the first definition that was added with a matching label, or
@@ -84,7 +92,7 @@ impl Definitions {
         let folded = fold_label(self.alloc, label)?;
         let wanted = numbered(folded);
         match self.targets.get(&wanted) {
-            Some(target) => Ok(Some((target.0.as_str(), target.1.as_str()))),
+            Some(places) => Ok(Some((places.dest(&self.texts), places.title(&self.texts)))),
             None => Ok(None),
         }
     }
@@ -92,16 +100,26 @@ impl Definitions {
 
 /// Puts a destination and a title under a key, unless others stand there.
 fn put_first(
-    targets: &mut BTreeMap<(u64, String), (Text, Text)>,
+    targets: &mut BTreeMap<(u64, String), TargetPlaces>,
+    texts: &mut String,
     key: (u64, String),
-    target: (Text, Text),
+    dest: &str,
+    title: &str,
 ) -> Result<(), AllocError>
     ensures there { OnOk result (IsSome (found_under targets.old.entries key) → targets.new.entries ≡ targets.old.entries) }
-    ensures absent { OnOk result (found_under targets.old.entries key ≡ None → targets.new.entries ≡ with_entry targets.old.entries key target) }
+    ensures absent { OnOk result (found_under targets.old.entries key ≡ None →
+        targets.new.entries ≡ with_entry targets.old.entries key (places_behind (string_bytes texts.old) dest.now title.now)) }
+    ensures texts { OnOk result (found_under targets.old.entries key ≡ None → string_bytes texts.new ≡ string_bytes texts.old ++ dest.now ++ title.now) }
     ensures err { OnErr result (targets.new.entries ≡ targets.old.entries) }
+    ensures goes_on { GoesOn (string_bytes texts.old) (string_bytes texts.new) }
 {
-    if let Entry::Vacant(place) = targets.entry(key)? {
-        place.insert(target);
+    let len = texts.len();
+    let places = TargetPlaces::push(texts, dest, title)?;
+    match targets.entry(key)? {
+        Entry::Vacant(place) => {
+            place.insert(places);
+        }
+        Entry::Occupied(_) => texts.truncate(len),
     }
     Ok(())
 }

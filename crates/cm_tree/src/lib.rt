@@ -59,6 +59,7 @@ pub mod laws;
 mod raw_blocks;
 mod raw_html;
 mod raw_tree;
+mod target_places;
 mod text;
 mod tree;
 
@@ -69,5 +70,6 @@ pub use items::Items;
 pub use raw_blocks::{RawBlock, RawBlocks, RawItem};
 pub use raw_html::has_raw_html;
 pub use raw_tree::RawTree;
+pub use target_places::TargetPlaces;
 pub use text::Text;
 pub use tree::{Block, Doc, Inline, ListKind, Owner};

@@ -3,11 +3,15 @@ use Rattle.std.specs.Prelude.{◌≡◌, ℕ, ◌+◌, ◌<◌, ◌≤◌, Bool,
 use Rattle.std.specs.List.{slice_range, list_any}
 use Rattle.cm_tree.specs.declared.tree.Inline.{Inline}
 use Rattle.cm_tree.specs.declared.tree.Inline.TheVariants as inlines
+use Rattle.cm_tree.specs.Definitions.{Target}
+use Rattle.cm_tree.specs.TargetPlaces.{target_in, IsTarget}
 use Rattle.cm_html.specs.Html.{link_start}
 use Rattle.cm_scan.specs.Pairing.{settled}
-use Rattle.cm_inline.specs.declared.nodes.Kind.{Kind}
-use Rattle.cm_inline.specs.declared.nodes.Kind.TheVariants as kinds
-use Rattle.cm_inline.specs.declared.nodes.Group.{Group}
+use Rattle.cm_inline.specs.declared.groups.Kind.{Kind}
+use Rattle.cm_inline.specs.declared.groups.Kind.TheVariants as kinds
+use Rattle.cm_inline.specs.declared.groups.Group.{Group}
+use Rattle.cm_inline.specs.declared.groups.Making.{Making}
+use Rattle.cm_inline.specs.declared.groups.PlacedGroup.{PlacedGroup}
 use Rattle.cm_inline.specs.declared.runs.DelimiterRun.{DelimiterRun}
 use Rattle.cm_inline.specs.declared.tokens.Token.{Token}
 use Rattle.cm_inline.specs.declared.tokens.Token.TheVariants as tokens
@@ -18,32 +22,64 @@ use Rattle.cm_inline.specs.steps.Nodes.{Node, Piece, Characters, Whole, Finished
 abbrev pub Made : Type 0
 Made = List ℕ → Inline
 
--- what a kind makes of its content
-abbrev pub made_of : Kind → List Inline → Inline
-made_of kinds.Emph content = inlines.Emph content
-made_of kinds.Strong content = inlines.Strong content
-made_of kinds.Strike content = inlines.Strike content
-made_of (kinds.Link dest title) content = inlines.Link dest title content
-made_of (kinds.Image dest title) content = inlines.Image dest title content
+-- what a kind makes of its content, where a link or an image leads there
+abbrev pub made_of : Kind → Target → List Inline → Inline
+made_of kinds.Emph target content = inlines.Emph content
+made_of kinds.Strong target content = inlines.Strong content
+made_of kinds.Strike target content = inlines.Strike content
+made_of kinds.Link target content = inlines.Link target.0 target.1 content
+made_of kinds.Image target content = inlines.Image target.0 target.1 content
 
 -- and of nodes of which nothing more is made
-abbrev pub made_by : Kind → List Node → Made
-made_by kind nodes source = made_of kind (settled (items_of source nodes))
+abbrev pub made_by : Kind → Target → List Node → Made
+made_by kind target nodes source = made_of kind target (settled (items_of source nodes))
 
 -- the tags of what a kind makes, save images
-abbrev pub start_html : Kind → List ℕ
-start_html kinds.Emph = codes "<em>"
-start_html kinds.Strong = codes "<strong>"
-start_html kinds.Strike = codes "<del>"
-start_html (kinds.Link dest title) = link_start dest title
-start_html (kinds.Image dest title) = []
+abbrev pub start_html : Kind → Target → List ℕ
+start_html kinds.Emph target = codes "<em>"
+start_html kinds.Strong target = codes "<strong>"
+start_html kinds.Strike target = codes "<del>"
+start_html kinds.Link target = link_start target.0 target.1
+start_html kinds.Image target = []
 
 abbrev pub end_html : Kind → List ℕ
 end_html kinds.Emph = codes "</em>"
 end_html kinds.Strong = codes "</strong>"
 end_html kinds.Strike = codes "</del>"
-end_html (kinds.Link dest title) = codes "</a>"
-end_html (kinds.Image dest title) = []
+end_html kinds.Link = codes "</a>"
+end_html kinds.Image = []
+
+-- A group: what it is, where a link or an image leads, and the places of what stands in it.
+pub record Grouped : Type 0 where
+  pub kind : Kind
+  pub target : Target
+  pub from : ℕ
+  pub to : ℕ
+
+abbrev pub target_of : Making → Target
+target_of making = (making.dest.now, making.title.now)
+
+abbrev pub group_of : Kind → Target → (from to : ℕ) → Grouped
+group_of kind target from to = record { kind = kind; target = target; from = from; to = to }
+
+abbrev pub grouped : Group → Grouped
+grouped group = group_of group.making.kind (target_of group.making) group.from group.to
+
+-- the groups as they are kept, where these are the texts
+abbrev pub group_in : List ℕ → PlacedGroup → Grouped
+group_in texts group = group_of group.kind (target_in texts group.target) group.from group.to
+
+abbrev pub groups_in : List ℕ → List PlacedGroup → List Grouped
+groups_in texts groups = map (group_in texts) groups
+
+-- where they lead lies there
+abbrev pub AreTargets : List ℕ → List PlacedGroup → Type 0
+AreTargets texts [] = ⊤
+AreTargets texts (group ∷ groups) = IsTarget texts group.target × AreTargets texts groups
+
+-- the group stands there
+abbrev pub IsAt : List Grouped → ℕ → Grouped → Type 0
+IsAt groups number group = group ≡ get_or groups number group
 
 -- what no token stands for that was read
 abbrev pub nothing_made : Made
@@ -62,14 +98,14 @@ abbrev pub nodes_of : List Made → List Token → List Node
 nodes_of made held = map (node_of made) held
 
 -- what is made of a group, and of groups one after another, each of which may hold those before it
-abbrev pub group_made : (inside : List Token) → List Made → Group → Made
-group_made inside made group = made_by group.kind (nodes_of made (slice_range inside group.from group.to))
+abbrev pub group_made : (inside : List Token) → List Made → Grouped → Made
+group_made inside made group = made_by group.kind group.target (nodes_of made (slice_range inside group.from group.to))
 
-unfoldable pub groups_after : (inside : List Token) → List Made → List Group → List Made
+unfoldable pub groups_after : (inside : List Token) → List Made → List Grouped → List Made
 groups_after inside made [] = made
 groups_after inside made (group ∷ groups) = groups_after inside (made ++ group_made inside made group ∷ []) groups
 
-abbrev pub groups_made : (inside : List Token) → List Group → List Made
+abbrev pub groups_made : (inside : List Token) → List Grouped → List Made
 groups_made inside groups = groups_after inside [] groups
 
 -- The tokens up to those that wait to be paired; those; what stands in groups; and the groups.
@@ -77,7 +113,7 @@ pub record Held : Type 0 where
   pub before : List Token
   pub rest : List Token
   pub inside : List Token
-  pub groups : List Group
+  pub groups : List Grouped
 
 -- the nodes, and those that wait
 unfoldable pub nodes_in : Held → List Node
@@ -101,12 +137,12 @@ AreBelow bound [] = ⊤
 AreBelow bound (token ∷ held) = IsBelow bound token × AreBelow bound held
 
 -- what stands in a group lies inside, and is of groups before it
-pub record IsGroup (inside : List Token) (number : ℕ) (group : Group) : Type 0 where
+pub record IsGroup (inside : List Token) (number : ℕ) (group : Grouped) : Type 0 where
   pub order : group.from ≤ group.to
   pub within : group.to ≤ length inside
   pub below : AreBelow number (slice_range inside group.from group.to)
 
-abbrev pub AreGroups : (inside : List Token) → ℕ → List Group → Type 0
+abbrev pub AreGroups : (inside : List Token) → ℕ → List Grouped → Type 0
 AreGroups inside number [] = ⊤
 AreGroups inside number (group ∷ groups) = IsGroup inside number group × AreGroups inside (number + 1) groups
 

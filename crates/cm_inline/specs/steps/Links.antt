@@ -1,6 +1,7 @@
 -- Where a link or an image leads, and the place where it ends.
 use Rattle.std.specs.Prelude.{ℕ, List, drop, Option, Some, None, option_map, codes}
 use Rattle.std.specs.Borrow.{Bor}
+use Rattle.std.specs.Cow.{cow_str_bytes}
 use Rattle.cm_tree.specs.Definitions.{Target}
 use Rattle.cm_scan.specs.Words.{after_word}
 use Rattle.cm_scan.specs.Brackets as brackets
@@ -10,7 +11,7 @@ use Rattle.cm_inline.specs.declared.links.LinkEnd.{LinkEnd}
 -- what was found in a source, if it was, with what is left behind the place where it ends
 abbrev pub ends_of : List ℕ → Option LinkEnd → Option brackets.LinkEnd
 ends_of source None = None
-ends_of source (Some e) = Some (record { dest = e.dest; title = e.title; rest = drop e.end source })
+ends_of source (Some e) = Some (record { dest = cow_str_bytes e.dest; title = cow_str_bytes e.title; rest = drop e.end source })
 
 -- the end of a reference, with what is left behind it, where its label has a target
 abbrev pub leads_to : Option Target → List ℕ → Option brackets.LinkEnd

@@ -32,9 +32,9 @@ abbrev pub key_cmp : Key → Key → Ordering
 key_cmp x y = ordering_then (nat_cmp x.0 y.0) (string_cmp x.1 y.1)
 
 -- what stands under a key
-abbrev pub found_under : List (Key × Target) → Key → Option Target
+abbrev pub found_under : {Value : Type 0} → List (Key × Value) → Key → Option Value
 found_under entries key = lookup (is_at (key_cmp key)) entries
 
 -- the entries with one more
-abbrev pub with_entry : List (Key × Target) → Key → Target → List (Key × Target)
-with_entry entries key target = insert_entry key_cmp entries key target
+abbrev pub with_entry : {Value : Type 0} → List (Key × Value) → Key → Value → List (Key × Value)
+with_entry entries key value = insert_entry key_cmp entries key value

@@ -4,39 +4,42 @@ use Rattle.std.specs.List.{slice_range}
 use Rattle.std.proofs.lemmas.List.{append-nil, drop_more, drop_all, length-take-le}
 use Rattle.cm_html.specs.Html.{spelled}
 use Rattle.cm_inline.specs.steps.Nodes.{node_html, nodes_html}
-use Rattle.cm_inline.specs.steps.Groups.{groups_made, node_of, nodes_of, AreBelow, ArePlaced, IsBelow, IsGroup}
+use Rattle.cm_inline.specs.steps.Groups.{grouped, target_of, group_made, groups_made, node_of, nodes_of, AreBelow, AreGroups, ArePlaced, IsBelow, IsGroup}
 use Rattle.cm_inline.proofs.GroupLemmas.{made-at, groups-front, placed-range}
 use Rattle.cm_inline.proofs.HtmlLemmas.{group-html, token-html}
 use Rattle.cm_inline.proofs.html.+html.Goals as goal
 
 pub push_group-push_tokens-requires : goal.push_group-push_tokens-requires
 push_group-push_tokens-requires t c =
-    let group = c.args.group.now in
+    let group = c.args.group in
     let asked = c.requires.1.1 in
     let placed = placed-range c.args.source.now c.args.inside.now group.from group.to asked.0 in
     (omega (arith, c.requires.1.0), (asked.0, (asked.1.0, (asked.1.1.below, placed))))
 
 pub push_group-returns : goal.push_group-returns
 push_group-returns t c =
-    let group = c.args.group.now in
+    let group = c.args.group in
     let inside = c.args.inside.now in
     let nodes = nodes_of (groups_made inside c.args.groups.now) (slice_range inside group.from group.to) in
     let html = string_bytes c.args.html.now in
     let started = string_bytes c.push_start.new.html in
     let noded = string_bytes c.push_tokens.new.html in
-    let written = group-html c.args.source.now html started noded group.kind nodes c.end_tag.result.now c.in_default.not-Image (c.in_ok-push_start.ensures) (c.in_ok-push_tokens.ensures) c.end_tag.ensures in
+    let written = group-html c.args.source.now html started noded group.making.kind (target_of group.making) nodes c.end_tag.result.now c.in_default.not-Image (c.in_ok-push_start.ensures) (c.in_ok-push_tokens.ensures) c.end_tag.ensures in
     grind (arith, written, c.push_str.ensures.bytes)
 
 pub push_token-push_group-requires : goal.push_token-push_group-requires
 push_token-push_group-requires t c =
     let groups = c.args.groups.now in
     let number = c.in-Made.number in
-    let group = c.index-groups-number.result in
+    let inside = c.args.inside.now in
+    let group = grouped c.get.result in
     let asked = c.requires.1.1 in
     let low : number < length groups = subst (IsBelow (length groups)) c.in-Made.is asked.1.1.0 in
-    let front = groups-front c.args.inside.now groups number group asked.1.0 low c.index-groups-number.is in
+    let front = groups-front inside groups number group asked.1.0 low c.get.ensures in
     let long : length (take number groups) ≡ number = length-take-le number groups (omega (arith, low)) in
-    (omega (arith, c.requires.1.0, low, long), (asked.0, (front.0, subst (λ n. IsGroup c.args.inside.now n group) (sym long) front.1)))
+    let first = subst (AreGroups inside 0) (sym c.up_to.ensures) front.0 in
+    let is = subst (λ gs. IsGroup inside (length gs) group) (sym c.up_to.ensures) (subst (λ n. IsGroup inside n group) (sym long) front.1) in
+    (omega (arith, c.requires.1.0, low, long, ap length c.up_to.ensures), (asked.0, (first, is)))
 
 pub push_token-returns-in-Made : goal.push_token-returns-in-Made
 push_token-returns-in-Made t c =
@@ -45,7 +48,8 @@ push_token-returns-in-Made t c =
     let source = c.args.source.now in
     let number = c.in-Made.number in
     let low : number < length groups = subst (IsBelow (length groups)) c.in-Made.is c.requires.1.1.1.1.0 in
-    let same = made-at inside groups number c.index-groups-number.result low c.index-groups-number.is in
+    let group = grouped c.get.result in
+    let same = made-at inside groups number group low c.get.ensures ∙ ap (λ gs. group_made inside (groups_made inside gs) group) (sym c.up_to.ensures) in
     let whole = sym (ap (λ token. node_html source (node_of (groups_made inside groups) token)) c.in-Made.is ∙ ap (λ made. (spelled (made source)).html) same) in
     subst (λ html. OnOk c.push_group.result (string_bytes c.push_group.new.html ≡ string_bytes c.args.html.now ++ html)) whole c.push_group.ensures
 

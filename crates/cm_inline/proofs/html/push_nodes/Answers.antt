@@ -18,7 +18,7 @@ returns c =
     let source = c.args.source.now in
     let held = c.args.nodes.now in
     let before = string_bytes c.args.html.now in
-    let same = ap (λ inside. nodes_of (groups_made inside c.groups.result.now) c.tokens.result.now) c.inside.ensures
+    let same = ap (λ inside. nodes_of (groups_made inside c.groups.result) c.tokens.result.now) c.inside.ensures
     ∙ ap (λ groups. nodes_of (groups_made held.inside groups) c.tokens.result.now) c.groups.ensures.groups
     ∙ ap (nodes_of (groups_made held.inside held.groups)) c.tokens.ensures.tokens ∙ sym (nodes-in held) in
     let whole = ap (nodes_html source) same ∙ sym (settled-html source (nodes_in held)) in

@@ -1,6 +1,6 @@
 use Rattle.std.proofs.Common.{◌≡◌, suc, ◌+◌, drop, ap, subst, ◌∙◌, arith}
 use Rattle.cm_scan.specs.Pairing.{without, used}
-use Rattle.cm_inline.specs.steps.Groups.{nodes_in}
+use Rattle.cm_inline.specs.steps.Groups.{target_of, nodes_in}
 use Rattle.cm_inline.specs.steps.Nodes.{nodes_depth}
 use Rattle.cm_inline.specs.steps.Openers.{Spends}
 use Rattle.cm_inline.specs.steps.Runs.{run_of, entry_of, rest_of, byte_of}
@@ -13,16 +13,16 @@ returns-then-depth-limit-clause-deep c = λ _.
     omega (arith, c.if-depth-limit.true, c.depth_behind-depth.ensures, ap nodes_depth (ap (λ n. drop (suc n) nodes) c.in-Some.ensures.1 ∙ behind-both c.args.from c.args.opener.item nodes))
 
 -- the nodes at the end
-all-is : (c : goal.After-without) → nodes_in c.wrap.new.self ≡ pair_nodes (c.args.from + c.args.opener.item) (nodes_in c.args.nodes.now) c.without-left.result c.emphasised-kind.result (c.depth_behind-depth.result + 1)
-all-is c = c.in_ok-wrap.ensures.nodes ∙ ap (λ n. pair_nodes n (nodes_in c.args.nodes.now) c.without-left.result c.emphasised-kind.result (c.depth_behind-depth.result + 1)) c.in-Some.ensures.1
+all-is : (c : goal.After-without) → nodes_in c.wrap.new.self ≡ pair_nodes (c.args.from + c.args.opener.item) (nodes_in c.args.nodes.now) c.without-left.result c.emphasised-making.result.kind (target_of c.emphasised-making.result) (c.depth_behind-depth.result + 1)
+all-is c = c.in_ok-wrap.ensures.nodes ∙ ap (λ n. pair_nodes n (nodes_in c.args.nodes.now) c.without-left.result c.emphasised-making.result.kind (target_of c.emphasised-making.result) (c.depth_behind-depth.result + 1)) c.in-Some.ensures.1
 
 left-is : (c : goal.After-without) → rest_of c.without-left.result ≡ without (used (run_of c.args.opener.run) (run_of c.args.closer)) (run_of c.args.opener.run)
 left-is c = c.without-left.ensures.rest ∙ ap (λ n. without n (run_of c.args.opener.run)) c.used-count.ensures.used
 
 pub returns-clause-made : goal.returns-clause-made
 returns-clause-made c = λ source.
-    pair-from source (nodes_in c.args.nodes.now) (nodes_in c.wrap.new.self) c.args.from c.args.opener c.args.closer c.without-left.result c.emphasised-kind.result (c.depth_behind-depth.result + 1) c.used-count.result c.requires.within
-    c.without-left.ensures.rest c.used-count.ensures.used c.emphasised-kind.ensures (all-is c)
+    pair-from source (nodes_in c.args.nodes.now) (nodes_in c.wrap.new.self) c.args.from c.args.opener c.args.closer c.without-left.result c.emphasised-making.result.kind (target_of c.emphasised-making.result) (c.depth_behind-depth.result + 1) c.used-count.result c.requires.within
+    c.without-left.ensures.rest c.used-count.ensures.used c.emphasised-making.ensures (all-is c)
 
 pub returns-clause-stays : goal.returns-clause-stays
 returns-clause-stays c =
@@ -31,10 +31,10 @@ returns-clause-stays c =
     let place = c.args.from + c.args.opener.item in
     let depth : c.depth_behind-depth.result ≡ nodes_depth (drop (suc place) nodes) = c.depth_behind-depth.ensures ∙ ap (λ n. nodes_depth (drop (suc n) nodes)) c.in-Some.ensures.1 in
     record {
-      front = pair-front nodes more c.args.from c.args.opener.item c.without-left.result c.emphasised-kind.result (c.depth_behind-depth.result + 1) c.requires.within (all-is c);
-      long = pair-long nodes more c.args.from c.args.opener.item c.without-left.result c.emphasised-kind.result (c.depth_behind-depth.result + 1) c.requires.within (all-is c);
+      front = pair-front nodes more c.args.from c.args.opener.item c.without-left.result c.emphasised-making.result.kind (target_of c.emphasised-making.result) (c.depth_behind-depth.result + 1) c.requires.within (all-is c);
+      long = pair-long nodes more c.args.from c.args.opener.item c.without-left.result c.emphasised-making.result.kind (target_of c.emphasised-making.result) (c.depth_behind-depth.result + 1) c.requires.within (all-is c);
       parts = λ source parts.
-          pair-parts source nodes more place (byte_of c.args.closer.marker) c.used-count.result c.without-left.result c.emphasised-kind.result c.depth_behind-depth.result c.emphasised-kind.ensures depth (all-is c) parts;
+          pair-parts source nodes more place (byte_of c.args.closer.marker) c.used-count.result c.without-left.result c.emphasised-making.result.kind (target_of c.emphasised-making.result) c.depth_behind-depth.result c.emphasised-making.ensures depth (all-is c) parts;
       placed = λ source parts inside. placed-inside source c.args.nodes.now c.wrap.new.self c.in-Some.place c.in_ok-wrap.ensures.inside parts inside;
     }
 

@@ -4,7 +4,7 @@ use Rattle.cm_tree.specs.declared.tree.Inline.{Inline}
 use Rattle.cm_scan.specs.Pairing.{settled_after, settled}
 use Rattle.cm_inline.specs.declared.tokens.Token.TheVariants as tokens
 use Rattle.cm_inline.specs.steps.Nodes.{items_of, inline_of}
-use Rattle.cm_inline.specs.steps.Groups.{Made, groups_made, node_of, nodes_of, IsBelow, IsGroup, ArePlaced}
+use Rattle.cm_inline.specs.steps.Groups.{Made, grouped, group_made, groups_made, node_of, nodes_of, AreGroups, IsBelow, IsGroup, ArePlaced}
 use Rattle.cm_inline.proofs.GroupLemmas.{made-at, groups-front, placed-range, placed-drop, placed-at}
 use Rattle.cm_inline.proofs.SettlingLemmas.{below-one, settled-behind, settled-further}
 use Rattle.cm_inline.proofs.settling.+settling.Goals as goal
@@ -13,7 +13,7 @@ use Rattle.cm_inline.proofs.settling.+settling.Goals as goal
 
 pub group_inline-settle_tokens-requires : goal.group_inline-settle_tokens-requires
 group_inline-settle_tokens-requires t c =
-    let group = c.args.group.now in
+    let group = c.args.group in
     let placed = placed-range c.args.source.now c.args.inside.now group.from group.to c.requires.1.1.0 in
     (omega arith, (c.requires.1.1.0, (c.requires.1.1.1.0, (c.requires.1.1.1.1.below, placed))))
 
@@ -22,11 +22,13 @@ push_inline-group_inline-requires t c =
     let inside = c.args.inside.now in
     let groups = c.args.groups.now in
     let number = c.in-Made.number in
-    let group = c.index-groups-number.result in
+    let group = grouped c.get.result in
     let low : number < length groups = subst (IsBelow (length groups)) c.in-Made.is c.requires.1.1.1.1.0 in
     let many : number ≡ length (take number groups) = omega (arith, low, length-take number groups) in
-    let front = groups-front inside groups number group c.requires.1.1.1.0 low c.index-groups-number.is in
-    (omega (arith, low, many), (c.requires.1.1.0, (front.0, subst (λ n. IsGroup inside n group) many front.1)))
+    let front = groups-front inside groups number group c.requires.1.1.1.0 low c.get.ensures in
+    let first = subst (AreGroups inside 0) (sym c.up_to.ensures) front.0 in
+    let is = subst (λ gs. IsGroup inside (length gs) group) (sym c.up_to.ensures) (subst (λ n. IsGroup inside n group) many front.1) in
+    (omega (arith, low, many, ap length c.up_to.ensures), (c.requires.1.1.0, (first, is)))
 
 pub push_inline-returns-in_ok-push-in-Made : goal.push_inline-returns-in_ok-push-in-Made
 push_inline-returns-in_ok-push-in-Made t c =
@@ -36,8 +38,11 @@ push_inline-returns-in_ok-push-in-Made t c =
     let old = c.args.content.now.items in
     let made = groups_made c.args.inside.now groups in
     let low : number < length groups = subst (IsBelow (length groups)) c.in-Made.is c.requires.1.1.1.1.0 in
-    let is = made-at c.args.inside.now groups number c.index-groups-number.result low c.index-groups-number.is in
-    c.in_ok-push-in-Made.ensures.items ∙ ap (λ (inline : Inline). old ++ inline ∷ []) (c.in_ok-inline-in-Made.ensures ∙ sym (ap (λ (one : Made). one source) is))
+    let inside = c.args.inside.now in
+    let group = grouped c.get.result in
+    let is = made-at inside groups number group low c.get.ensures in
+    let first = ap (λ gs. group_made inside (groups_made inside gs) group source) c.up_to.ensures in
+    c.in_ok-push-in-Made.ensures.items ∙ ap (λ (inline : Inline). old ++ inline ∷ []) (c.in_ok-inline-in-Made.ensures ∙ first ∙ sym (ap (λ (one : Made). one source) is))
     ∙ ap (λ token. old ++ inline_of source (node_of made token)) (sym c.in-Made.is)
 
 pub settle_tokens-loop-at-init : goal.settle_tokens-loop-at-init

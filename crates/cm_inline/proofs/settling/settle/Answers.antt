@@ -15,7 +15,7 @@ settle_tokens-requires-clause-tokens c =
 pub returns : goal.returns
 returns c =
     let held = c.args.nodes.now in
-    let same = ap (λ inside. nodes_of (groups_made inside c.groups.result.now) c.tokens.result.now) c.inside.ensures
+    let same = ap (λ inside. nodes_of (groups_made inside c.groups.result) c.tokens.result.now) c.inside.ensures
     ∙ ap (λ groups. nodes_of (groups_made held.inside groups) c.tokens.result.now) c.groups.ensures.groups
     ∙ ap (nodes_of (groups_made held.inside held.groups)) c.tokens.ensures.tokens ∙ sym (nodes-in held) in
     subst (λ nodes. IfOk c.settle_tokens.result (λ content. content ≡ settled (items_of c.args.source.now nodes))) same c.settle_tokens.ensures

@@ -1,7 +1,8 @@
 use Rattle.std.proofs.Common.{suc, drop, sym, ap, subst, arith}
 use Rattle.std.specs.Prelude.{Err}
+use Rattle.std.specs.Cow.{cow_str_bytes}
 use Rattle.cm_inline.specs.declared.fault.InlineFault.TheVariants.{InlinesTooDeep}
-use Rattle.cm_inline.specs.steps.Groups.{nodes_in, made_by}
+use Rattle.cm_inline.specs.steps.Groups.{nodes_in, made_by, target_of}
 use Rattle.cm_inline.specs.steps.Brackets.{IsRead}
 use Rattle.cm_inline.proofs.BracketLemmas.{split-last, split-within}
 use Rattle.cm_inline.proofs.PairLemmas.{placed-inside}
@@ -24,7 +25,7 @@ pair_from-requires-clause-few c = λ source.
 pub returns-in_err-pair_from-clause-deep : goal.returns-in_err-pair_from-clause-deep
 returns-in_err-pair_from-clause-deep c = λ e.
     let told = same-fault c.from_residual.result c.in_err-pair_from.field-0.0 InlinesTooDeep c.from_residual.ensures.1 e in
-    paired-deeper c.args.source.now (nodes_in c.args.self.now.nodes) c.args.bracket c.args.end.dest c.args.end.title c.args.limit c.in-Some.first c.in-Some.ensures.1
+    paired-deeper c.args.source.now (nodes_in c.args.self.now.nodes) c.args.bracket (cow_str_bytes c.args.end.now.dest) (cow_str_bytes c.args.end.now.title) c.args.limit c.in-Some.first c.in-Some.ensures.1
     (c.in_err-pair_from.ensures.deep (ap Err told) c.args.source.now c.requires.read.0.parts)
 
 pub returns-then-depth-limit-clause-deep : goal.returns-then-depth-limit-clause-deep
@@ -34,23 +35,23 @@ returns-then-depth-limit-clause-deep c = λ _.
     let paired = nodes_in c.pair_from.new.nodes in
     let parts = c.in_ok-pair_from.ensures.stays.parts source c.requires.read.0.parts in
     let depth = paired-depth source nodes paired c.args.bracket c.in-Some.first c.in-Some.ensures.1 parts (c.in_ok-pair_from.ensures.pairs source) in
-    link-deeper source nodes c.args.bracket c.args.end.dest c.args.end.title c.args.limit (omega (arith, c.if-depth-limit.true, c.depth_behind-depth.ensures, depth))
+    link-deeper source nodes c.args.bracket (cow_str_bytes c.args.end.now.dest) (cow_str_bytes c.args.end.now.title) c.args.limit (omega (arith, c.if-depth-limit.true, c.depth_behind-depth.ensures, depth))
 
 -- the node of a link
-then-is : (c : goal.After-self-1) → IsLink c.args.source.now (nodes_in c.args.self.now.nodes) (nodes_in c.wrap.new.self) c.args.bracket c.args.end.dest c.args.end.title
-    (made_by c.link_of-kind.result (drop (suc c.args.bracket.node) (nodes_in c.pair_from.new.nodes))) c.depth_behind-depth.result c.holds_link-holds_link.result c.args.self.now.links_end
+then-is : (c : goal.After-self-1) → IsLink c.args.source.now (nodes_in c.args.self.now.nodes) (nodes_in c.wrap.new.self) c.args.bracket (cow_str_bytes c.args.end.now.dest) (cow_str_bytes c.args.end.now.title)
+    (made_by c.making_of-making.result.kind (target_of c.making_of-making.result) (drop (suc c.args.bracket.node) (nodes_in c.pair_from.new.nodes))) c.depth_behind-depth.result c.holds_link-holds_link.result c.args.self.now.links_end
 then-is c =
     let source = c.args.source.now in
     let parts = c.in_ok-pair_from.ensures.stays.parts source c.requires.read.0.parts in
-    makes source (nodes_in c.args.self.now.nodes) (nodes_in c.pair_from.new.nodes) (nodes_in c.wrap.new.self) c.args.bracket c.args.end.dest c.args.end.title c.link_of-kind.result c.in-Some.first c.depth_behind-depth.result
-    c.holds_link-holds_link.result c.args.self.now.links_end c.in-Some.ensures.1 parts c.in_ok-pair_from.ensures.stays.front (c.in_ok-pair_from.ensures.pairs source) c.depth_behind-depth.ensures c.link_of-kind.ensures
+    makes source (nodes_in c.args.self.now.nodes) (nodes_in c.pair_from.new.nodes) (nodes_in c.wrap.new.self) c.args.bracket (cow_str_bytes c.args.end.now.dest) (cow_str_bytes c.args.end.now.title) c.making_of-making.result.kind (target_of c.making_of-making.result) c.in-Some.first c.depth_behind-depth.result
+    c.holds_link-holds_link.result c.args.self.now.links_end c.in-Some.ensures.1 parts c.in_ok-pair_from.ensures.stays.front (c.in_ok-pair_from.ensures.pairs source) c.depth_behind-depth.ensures c.making_of-making.ensures
     c.in_ok-wrap.ensures.nodes c.holds_link-holds_link.ensures
 
 pub returns-then-holds_link-clause-items : goal.returns-then-holds_link-clause-items
 returns-then-holds_link-clause-items c =
     let now = c.args.self.now in
-    let inline = made_by c.link_of-kind.result (drop (suc c.args.bracket.node) (nodes_in c.pair_from.new.nodes)) in
-    link-items c.args.source.now (nodes_in now.nodes) (nodes_in c.wrap.new.self) now.brackets.items c.args.bracket c.args.end.dest c.args.end.title inline c.depth_behind-depth.result c.holds_link-holds_link.result c.args.end.end
+    let inline = made_by c.making_of-making.result.kind (target_of c.making_of-making.result) (drop (suc c.args.bracket.node) (nodes_in c.pair_from.new.nodes)) in
+    link-items c.args.source.now (nodes_in now.nodes) (nodes_in c.wrap.new.self) now.brackets.items c.args.bracket (cow_str_bytes c.args.end.now.dest) (cow_str_bytes c.args.end.now.title) inline c.depth_behind-depth.result c.holds_link-holds_link.result c.args.end.now.end
     now.links_end now.ends c.requires.read.0 (then-is c)
 
 pub returns-then-holds_link-clause-read : goal.returns-then-holds_link-clause-read
@@ -58,10 +59,10 @@ returns-then-holds_link-clause-read c =
     let source = c.args.source.now in
     let now = c.args.self.now in
     let more = nodes_in c.wrap.new.self in
-    let inline = made_by c.link_of-kind.result (drop (suc c.args.bracket.node) (nodes_in c.pair_from.new.nodes)) in
+    let inline = made_by c.making_of-making.result.kind (target_of c.making_of-making.result) (drop (suc c.args.bracket.node) (nodes_in c.pair_from.new.nodes)) in
     let parts = c.in_ok-pair_from.ensures.stays.parts source c.requires.read.0.parts in (
-      subst (λ n. IsRead source c.args.end.end more now.brackets.items n now.ends) (sym c.len-self.ensures)
-          (read-linked source (nodes_in now.nodes) more now.brackets.items c.args.bracket c.args.end.dest c.args.end.title inline c.depth_behind-depth.result c.holds_link-holds_link.result c.args.end.end now.links_end now.ends
+      subst (λ n. IsRead source c.args.end.now.end more now.brackets.items n now.ends) (sym c.len-self.ensures)
+          (read-linked source (nodes_in now.nodes) more now.brackets.items c.args.bracket (cow_str_bytes c.args.end.now.dest) (cow_str_bytes c.args.end.now.title) inline c.depth_behind-depth.result c.holds_link-holds_link.result c.args.end.now.end now.links_end now.ends
           c.requires.read.0 (then-is c) c.if-holds_link.true),
       placed-inside source c.pair_from.new.nodes c.wrap.new.self c.args.bracket.node c.in_ok-wrap.ensures.inside parts (c.in_ok-pair_from.ensures.stays.placed source c.requires.read.0.parts c.requires.read.1),
     )
@@ -70,34 +71,34 @@ pub returns-then-holds_link-clause-keeps : goal.returns-then-holds_link-clause-k
 returns-then-holds_link-clause-keeps c =
     let source = c.args.source.now in
     let now = c.args.self.now in
-    made-keeps source (nodes_in now.nodes) (nodes_in c.wrap.new.self) now.brackets.items c.args.bracket c.args.end.dest c.args.end.title now.openers.list.looks c.pair_from.new.openers.list.looks
+    made-keeps source (nodes_in now.nodes) (nodes_in c.wrap.new.self) now.brackets.items c.args.bracket (cow_str_bytes c.args.end.now.dest) (cow_str_bytes c.args.end.now.title) now.openers.list.looks c.pair_from.new.openers.list.looks
     (split-last 0 (nodes_in now.nodes) now.brackets.items c.args.bracket c.requires.read.0.unclosed) (returns-then-holds_link-clause-items c)
     (inside-looks source (nodes_in now.nodes) c.args.bracket c.in-Some.first now.openers.list.looks c.pair_from.new.openers.list.looks c.in-Some.ensures.1 (c.in_ok-pair_from.ensures.looks source))
 
 -- the node of an image that holds no link
-else-is : (c : goal.Else-holds_link) → IsLink c.args.source.now (nodes_in c.args.self.now.nodes) (nodes_in c.wrap.new.self) c.args.bracket c.args.end.dest c.args.end.title
-    (made_by c.link_of-kind.result (drop (suc c.args.bracket.node) (nodes_in c.pair_from.new.nodes))) c.depth_behind-depth.result c.holds_link-holds_link.result c.args.self.now.links_end
+else-is : (c : goal.Else-holds_link) → IsLink c.args.source.now (nodes_in c.args.self.now.nodes) (nodes_in c.wrap.new.self) c.args.bracket (cow_str_bytes c.args.end.now.dest) (cow_str_bytes c.args.end.now.title)
+    (made_by c.making_of-making.result.kind (target_of c.making_of-making.result) (drop (suc c.args.bracket.node) (nodes_in c.pair_from.new.nodes))) c.depth_behind-depth.result c.holds_link-holds_link.result c.args.self.now.links_end
 else-is c =
     let source = c.args.source.now in
     let parts = c.in_ok-pair_from.ensures.stays.parts source c.requires.read.0.parts in
-    makes source (nodes_in c.args.self.now.nodes) (nodes_in c.pair_from.new.nodes) (nodes_in c.wrap.new.self) c.args.bracket c.args.end.dest c.args.end.title c.link_of-kind.result c.in-Some.first c.depth_behind-depth.result
-    c.holds_link-holds_link.result c.args.self.now.links_end c.in-Some.ensures.1 parts c.in_ok-pair_from.ensures.stays.front (c.in_ok-pair_from.ensures.pairs source) c.depth_behind-depth.ensures c.link_of-kind.ensures
+    makes source (nodes_in c.args.self.now.nodes) (nodes_in c.pair_from.new.nodes) (nodes_in c.wrap.new.self) c.args.bracket (cow_str_bytes c.args.end.now.dest) (cow_str_bytes c.args.end.now.title) c.making_of-making.result.kind (target_of c.making_of-making.result) c.in-Some.first c.depth_behind-depth.result
+    c.holds_link-holds_link.result c.args.self.now.links_end c.in-Some.ensures.1 parts c.in_ok-pair_from.ensures.stays.front (c.in_ok-pair_from.ensures.pairs source) c.depth_behind-depth.ensures c.making_of-making.ensures
     c.in_ok-wrap.ensures.nodes c.holds_link-holds_link.ensures
 
 pub returns-else-holds_link-clause-items : goal.returns-else-holds_link-clause-items
 returns-else-holds_link-clause-items c =
     let now = c.args.self.now in
-    let inline = made_by c.link_of-kind.result (drop (suc c.args.bracket.node) (nodes_in c.pair_from.new.nodes)) in
-    link-items c.args.source.now (nodes_in now.nodes) (nodes_in c.wrap.new.self) now.brackets.items c.args.bracket c.args.end.dest c.args.end.title inline c.depth_behind-depth.result c.holds_link-holds_link.result c.args.end.end
+    let inline = made_by c.making_of-making.result.kind (target_of c.making_of-making.result) (drop (suc c.args.bracket.node) (nodes_in c.pair_from.new.nodes)) in
+    link-items c.args.source.now (nodes_in now.nodes) (nodes_in c.wrap.new.self) now.brackets.items c.args.bracket (cow_str_bytes c.args.end.now.dest) (cow_str_bytes c.args.end.now.title) inline c.depth_behind-depth.result c.holds_link-holds_link.result c.args.end.now.end
     now.links_end now.ends c.requires.read.0 (else-is c)
 
 pub returns-else-holds_link-clause-read : goal.returns-else-holds_link-clause-read
 returns-else-holds_link-clause-read c =
     let source = c.args.source.now in
     let now = c.args.self.now in
-    let inline = made_by c.link_of-kind.result (drop (suc c.args.bracket.node) (nodes_in c.pair_from.new.nodes)) in
+    let inline = made_by c.making_of-making.result.kind (target_of c.making_of-making.result) (drop (suc c.args.bracket.node) (nodes_in c.pair_from.new.nodes)) in
     let parts = c.in_ok-pair_from.ensures.stays.parts source c.requires.read.0.parts in (
-      read-other source (nodes_in now.nodes) (nodes_in c.wrap.new.self) now.brackets.items c.args.bracket c.args.end.dest c.args.end.title inline c.depth_behind-depth.result c.holds_link-holds_link.result c.args.end.end now.links_end
+      read-other source (nodes_in now.nodes) (nodes_in c.wrap.new.self) now.brackets.items c.args.bracket (cow_str_bytes c.args.end.now.dest) (cow_str_bytes c.args.end.now.title) inline c.depth_behind-depth.result c.holds_link-holds_link.result c.args.end.now.end now.links_end
           now.ends c.requires.read.0 (else-is c) c.if-holds_link.false,
       placed-inside source c.pair_from.new.nodes c.wrap.new.self c.args.bracket.node c.in_ok-wrap.ensures.inside parts (c.in_ok-pair_from.ensures.stays.placed source c.requires.read.0.parts c.requires.read.1),
     )
@@ -106,6 +107,6 @@ pub returns-else-holds_link-clause-keeps : goal.returns-else-holds_link-clause-k
 returns-else-holds_link-clause-keeps c =
     let source = c.args.source.now in
     let now = c.args.self.now in
-    made-keeps source (nodes_in now.nodes) (nodes_in c.wrap.new.self) now.brackets.items c.args.bracket c.args.end.dest c.args.end.title now.openers.list.looks c.pair_from.new.openers.list.looks
+    made-keeps source (nodes_in now.nodes) (nodes_in c.wrap.new.self) now.brackets.items c.args.bracket (cow_str_bytes c.args.end.now.dest) (cow_str_bytes c.args.end.now.title) now.openers.list.looks c.pair_from.new.openers.list.looks
     (split-last 0 (nodes_in now.nodes) now.brackets.items c.args.bracket c.requires.read.0.unclosed) (returns-else-holds_link-clause-items c)
     (inside-looks source (nodes_in now.nodes) c.args.bracket c.in-Some.first now.openers.list.looks c.pair_from.new.openers.list.looks c.in-Some.ensures.1 (c.in_ok-pair_from.ensures.looks source))

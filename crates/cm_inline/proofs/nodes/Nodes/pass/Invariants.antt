@@ -6,8 +6,8 @@ use Rattle.cm_inline.proofs.nodes.Nodes.pass.Given as goal
 -- what was taken so far has no run
 abbrev pub invariant-loop-self : goal.invariant-loop-self
 invariant-loop-self l = record {
-  held : AreHeld (record { before = l.self-inside.before.items; rest = drop l.self-inside.passed l.self-inside.rest.items; inside = l.self-inside.inside.items; groups = l.self-inside.groups.items });
-  passes : Passes l.fn.self (record { before = l.self-inside.before.items; rest = drop l.self-inside.passed l.self-inside.rest.items; inside = l.self-inside.inside.items; groups = l.self-inside.groups.items });
+  held : AreHeld (record { before = l.self-inside.before.items; rest = drop l.self-inside.passed l.self-inside.rest.items; inside = l.self-inside.inside.items; groups = l.self-inside.groups });
+  passes : Passes l.fn.self (record { before = l.self-inside.before.items; rest = drop l.self-inside.passed l.self-inside.rest.items; inside = l.self-inside.inside.items; groups = l.self-inside.groups });
   inside : l.self-inside.inside.items ≡ l.fn.self.inside;
 }
 

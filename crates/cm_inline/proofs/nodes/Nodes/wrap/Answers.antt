@@ -1,6 +1,7 @@
 use Rattle.std.proofs.Common.{◌+◌, ◌≤◌, ◌++◌, suc, drop, length, refl, sym, subst, arith, rules, ap, ◌∙◌}
 use Rattle.cm_inline.specs.declared.nodes.Nodes.TheInside.{Inside}
 use Rattle.cm_inline.specs.contracts.nodes.Nodes.{the_view}
+use Rattle.cm_inline.specs.steps.Groups.{target_of}
 use Rattle.cm_inline.proofs.GroupLemmas.{nodes-in-length}
 use Rattle.cm_inline.proofs.HeldLemmas.{IsCut, none-left, cut-some, cut-none, copied, cut-held, cut-group, same-held, grouped-held, wrapped-held, wrapped-nodes, wrapped-waiting}
 use Rattle.cm_inline.proofs.nodes.Nodes.wrap.Goals.{in-Some+in_ok-push, in_default}
@@ -57,36 +58,36 @@ cut-In_ok-push-3 c =
     ]
 
 pub invariant_of-self-in_err-push-2 : goal.invariant_of-self-in_err-push-2
-invariant_of-self-in_err-push-2 c = same-held (the_view c.match-left.self-inside) _ _ (cut-held _ c.args.opener c.args.left _ c.self.invariant (cut-After-from_residual-in_err-push-2 c)) refl c.in_err-push-2.ensures.items
+invariant_of-self-in_err-push-2 c = same-held (the_view c.match-left.self-inside) _ _ (cut-held _ c.args.opener c.args.left _ c.self.invariant (cut-After-from_residual-in_err-push-2 c)) refl c.in_err-push-2.ensures.err
 
 pub invariant_of-self-in_err-push-3 : goal.invariant_of-self-in_err-push-3
 invariant_of-self-in_err-push-3 c =
     let is = cut-After-from_residual-in_err-push-3 c in
     let moved = copied c.self.inside.inside.items c.extend_from_slice.new.self.items c.deref.result.now c.self.inside.before.items c.args.opener c.in_ok-extend_from_slice.ensures.items c.deref.ensures.value in
     same-held _ _ _
-    (grouped-held (the_view c.match-left.self-inside) _ _ (cut-held _ c.args.opener c.args.left _ c.self.invariant is) c.in_ok-push-2.ensures.items
-    (cut-group _ c.args.opener c.args.left _ c.args.kind c.len-from.result c.len-to.result c.self.invariant is (omega arith) (omega (arith, ap length moved, ap length is.inside)))) c.in_err-push-3.ensures.items refl
+    (grouped-held (the_view c.match-left.self-inside) _ _ (cut-held _ c.args.opener c.args.left _ c.self.invariant is) c.in_ok-push-2.ensures.ok
+    (cut-group _ c.args.opener c.args.left _ c.args.making.kind (target_of c.args.making) c.len-from.result c.len-to.result c.self.invariant is (omega arith) (omega (arith, ap length moved, ap length is.inside)))) c.in_err-push-3.ensures.items refl
 
 pub invariant_of-self-2 : goal.invariant_of-self-2
 invariant_of-self-2 c =
     let is = cut-In_ok-push-3 c in
     let moved = copied c.self.inside.inside.items c.extend_from_slice.new.self.items c.deref.result.now c.self.inside.before.items c.args.opener c.in_ok-extend_from_slice.ensures.items c.deref.ensures.value in
-    wrapped-held (the_view c.match-left.self-inside) _ _ _ c.len-number.result c.args.depth c.args.holds_link (cut-held _ c.args.opener c.args.left _ c.self.invariant is) c.in_ok-push-2.ensures.items
-    (cut-group _ c.args.opener c.args.left _ c.args.kind c.len-from.result c.len-to.result c.self.invariant is (omega arith) (omega (arith, ap length moved, ap length is.inside))) (omega arith) c.in_ok-push-3.ensures.items
+    wrapped-held (the_view c.match-left.self-inside) _ _ _ c.len-number.result c.args.depth c.args.holds_link (cut-held _ c.args.opener c.args.left _ c.self.invariant is) c.in_ok-push-2.ensures.ok
+    (cut-group _ c.args.opener c.args.left _ c.args.making.kind (target_of c.args.making) c.len-from.result c.len-to.result c.self.invariant is (omega arith) (omega (arith, ap length moved, ap length is.inside))) (omega arith) c.in_ok-push-3.ensures.items
 
 pub returns-clause-nodes : goal.returns-clause-nodes
 returns-clause-nodes c =
     let is = cut-In_ok-push-3 c in
     let moved = copied c.self.inside.inside.items c.extend_from_slice.new.self.items c.deref.result.now c.self.inside.before.items c.args.opener c.in_ok-extend_from_slice.ensures.items c.deref.ensures.value in
-    wrapped-nodes (the_view c.self.inside) c.args.self.now c.args.opener c.args.left (the_view c.match-left.self-inside) _ _ c.args.kind c.len-from.result c.len-to.result c.len-number.result c.args.depth c.args.holds_link
-    c.self.view_is c.self.invariant is (omega arith) (omega (arith, ap length moved, ap length is.inside)) c.in_ok-push-2.ensures.items (omega arith) c.in_ok-push-3.ensures.items
+    wrapped-nodes (the_view c.self.inside) c.args.self.now c.args.opener c.args.left (the_view c.match-left.self-inside) _ _ c.args.making.kind (target_of c.args.making) c.len-from.result c.len-to.result c.len-number.result c.args.depth c.args.holds_link
+    c.self.view_is c.self.invariant is (omega arith) (omega (arith, ap length moved, ap length is.inside)) c.in_ok-push-2.ensures.ok (omega arith) c.in_ok-push-3.ensures.items
 
 pub returns-clause-waiting : goal.returns-clause-waiting
 returns-clause-waiting c =
     let is = cut-In_ok-push-3 c in
     let moved = copied c.self.inside.inside.items c.extend_from_slice.new.self.items c.deref.result.now c.self.inside.before.items c.args.opener c.in_ok-extend_from_slice.ensures.items c.deref.ensures.value in
-    wrapped-waiting (the_view c.self.inside) c.args.self.now c.args.opener c.args.left (the_view c.match-left.self-inside) _ _ c.args.kind c.len-from.result c.len-to.result
-    c.self.view_is c.self.invariant is (omega arith) (omega (arith, ap length moved, ap length is.inside)) c.in_ok-push-2.ensures.items
+    wrapped-waiting (the_view c.self.inside) c.args.self.now c.args.opener c.args.left (the_view c.match-left.self-inside) _ _ c.args.making.kind (target_of c.args.making) c.len-from.result c.len-to.result
+    c.self.view_is c.self.invariant is (omega arith) (omega (arith, ap length moved, ap length is.inside)) c.in_ok-push-2.ensures.ok
 
 pub returns-clause-inside : goal.returns-clause-inside
 returns-clause-inside c = (cut-In_ok-push-3 c).inside ∙ ap (λ h. h.inside ++ drop (suc c.args.opener) h.before) c.self.view_is

@@ -1,18 +1,15 @@
-use Rattle.std.proofs.Common.{sym, subst}
-use Rattle.cm_tree.specs.steps.LabelNumbers.{AreNumbered}
-use Rattle.cm_tree.proofs.Targets.{IsPut, put_numbered, put_first}
+use Rattle.cm_tree.proofs.KeptLemmas.{told-kept, told-put, told-same}
 use Rattle.cm_tree.proofs.definitions.Definitions.add_folded.Goals as goal
 
 pub invariant_of-self : goal.invariant_of-self
-invariant_of-self c = subst AreNumbered (sym c.in_err-put_first.ensures.err) c.self.invariant
-
-pub invariant_of-self-2 : goal.invariant_of-self-2
-invariant_of-self-2 c =
-    let put : IsPut c.self.inside.targets.entries c.put_first.new.targets.entries c.numbered.result _ = record { there = c.in_ok-put_first.ensures.there; absent = c.in_ok-put_first.ensures.absent } in
-    put_numbered c.self.inside.targets.entries _ c.numbered.result _ c.self.invariant c.numbered.ensures.number put
+invariant_of-self c =
+    told-kept _ _ _ _ c.numbered.result c.args.dest.now c.args.title.now c.utf8.dest c.utf8.title c.self.invariant c.numbered.ensures.number c.put_first.ensures.goes_on c.put_first.result
+    c.put_first.ensures.there c.put_first.ensures.absent c.put_first.ensures.texts c.put_first.ensures.err
 
 pub returns-clause-ok : goal.returns-clause-ok
 returns-clause-ok c =
-    let put : IsPut c.self.inside.targets.entries c.put_first.new.targets.entries c.numbered.result _ = record { there = c.in_ok-put_first.ensures.there; absent = c.in_ok-put_first.ensures.absent } in
-    put_first c.self.inside.targets.entries _ c.args.self.now c.numbered.result _ _ _ c.self.invariant c.numbered.ensures.number c.self.view_is c.numbered.ensures.label
-    (λ i. (c.in_ok-dest.ensures i, c.in_ok-title.ensures i)) put
+    told-put _ _ _ _ c.numbered.result _ c.args.dest.now c.args.title.now c.utf8.dest c.utf8.title c.self.invariant c.numbered.ensures.number c.put_first.ensures.goes_on c.put_first.result
+    c.put_first.ensures.there c.put_first.ensures.absent c.put_first.ensures.texts _ c.self.view_is c.numbered.ensures.label
+
+pub returns-clause-err : goal.returns-clause-err
+returns-clause-err c = told-same _ _ _ _ c.self.invariant c.put_first.ensures.goes_on c.put_first.result c.put_first.ensures.err _ c.self.view_is

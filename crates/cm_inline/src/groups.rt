@@ -1,0 +1,171 @@
+//! The groups of a leaf: emphasis, links and images, by what stands in them and where they lead.
+ghost use Rattle.std.specs.Prelude.{◌≡◌, ◌++◌, ◌<◌, ◌≤◌, [], ◌∷◌, length, take, OnOk, OnErr};
+ghost use Rattle.cm_inline.specs.steps.Groups.{group_of, grouped, IsAt};
+
+use cm_tree::TargetPlaces;
+use std::alloc::{AllocError, Global};
+use std::marker::Model;
+
+/// What is made of nodes.
+#[derive(Clone, Copy)]
+pub(crate) enum Kind {
+    Emph,
+    Strong,
+    Strike,
+    Link,
+    Image,
+}
+
+/// What is made of nodes, where it leads and its title, which emphasis has empty.
+#[derive(Clone, Copy)]
+pub(crate) struct Making<'a> {
+    pub(crate) kind: Kind,
+    pub(crate) dest: &'a str,
+    pub(crate) title: &'a str,
+}
+
+/// Emphasis, a link or an image, and the places among the tokens inside of what stands in it.
+#[derive(Clone, Copy)]
+pub(crate) struct Group<'a> {
+    pub(crate) making: Making<'a>,
+    pub(crate) from: usize,
+    pub(crate) to: usize,
+}
+
+/// A group as it is kept: by the places of where it leads and of its title.
+#[derive(Clone, Copy)]
+struct PlacedGroup {
+    kind: Kind,
+    target: TargetPlaces,
+    from: usize,
+    to: usize,
+}
+
+/// The groups of a leaf, of which none owns memory.
+#[derive(Drop)]
+pub(crate) struct Groups {
+    groups: Vec<PlacedGroup>,
+    /// Where links and images lead, and their titles.
+    texts: String,
+}
+
+impl Model for Groups {
+    ghost use Rattle.std.specs.Prelude.{List, string_bytes};
+    ghost use Rattle.cm_inline.specs.steps.Groups.{Grouped, groups_in, AreTargets};
+
+    ghost Value = { List Grouped };
+
+    ghost view = { λ g. groups_in (string_bytes g.texts) g.groups.items };
+
+    ghost invariant = { λ g. AreTargets (string_bytes g.texts) g.groups.items };
+}
+
+impl Groups {
+    /// No groups. It takes no memory.
+    pub(crate) fn new(alloc: Global) -> Groups
+        ensures { result ≡ [] }
+    {
+        Groups {
+            groups: Vec::new(alloc),
+            texts: String::new(alloc),
+        }
+    }
+
+    /// Lets go of all groups, and keeps their memory.
+    pub(crate) fn clear(&mut self)
+        ensures { self.new ≡ [] }
+    {
+        self.groups.clear();
+        self.texts.clear();
+    }
+
+    /// How many groups there are.
+    pub(crate) fn len(&self) -> usize
+        ensures { result ≡ length self.now }
+    {
+        self.groups.len()
+    }
+
+    /// Adds a group that leads there, with this title, and in which the tokens between these places stand.
+    pub(crate) fn push(
+        &mut self,
+        kind: Kind,
+        dest: &str,
+        title: &str,
+        from: usize,
+        to: usize,
+    ) -> Result<(), AllocError>
+        ensures ok { OnOk result (self.new ≡ self.old ++ group_of kind (dest.now, title.now) from to ∷ []) }
+        ensures err { OnErr result (self.new ≡ self.old) }
+    {
+        let target = TargetPlaces::push(&mut self.texts, dest, title)?;
+        self.groups.push(PlacedGroup {
+            kind,
+            target,
+            from,
+            to,
+        })?;
+        Ok(())
+    }
+
+    /// All groups.
+    pub(crate) fn all(&self) -> FirstGroups<'_>
+        ensures { result ≡ self.now }
+    {
+        FirstGroups {
+            groups: &self.groups,
+            texts: &self.texts,
+        }
+    }
+}
+
+/// The first groups of a leaf, which hold each other alone.
+#[derive(Drop)]
+pub(crate) struct FirstGroups<'a> {
+    groups: &'a [PlacedGroup],
+    texts: &'a str,
+}
+
+impl<'a> Model for FirstGroups<'a> {
+    ghost use Rattle.std.specs.Prelude.{List};
+    ghost use Rattle.cm_inline.specs.steps.Groups.{Grouped, groups_in, AreTargets};
+
+    ghost Value = { List Grouped };
+
+    ghost view = { λ g. groups_in g.texts.now g.groups.now };
+
+    ghost invariant = { λ g. AreTargets g.texts.now g.groups.now };
+}
+
+impl<'a> FirstGroups<'a> {
+    /// The groups before one.
+    pub(crate) fn up_to(&self, number: usize) -> FirstGroups<'a>
+        requires { number ≤ length self.now }
+        ensures { result ≡ take number self.now }
+    {
+        FirstGroups {
+            groups: &self.groups[..number],
+            texts: self.texts,
+        }
+    }
+
+    /// One of the groups.
+    pub(crate) fn get(&self, number: usize) -> Group<'a>
+        requires { number < length self.now }
+        ensures { IsAt self.now number (grouped result) }
+    {
+        let groups = self.groups;
+        let PlacedGroup {
+            kind,
+            target,
+            from,
+            to,
+        } = groups[number];
+        let making = Making {
+            kind,
+            dest: target.dest(self.texts),
+            title: target.title(self.texts),
+        };
+        Group { making, from, to }
+    }
+}
