@@ -1,8 +1,11 @@
 -- The HTML of nodes of which nothing more is made.
-use Rattle.std.proofs.Common.{◌≡◌, ℕ, zero, suc, true, false, List, [], ◌∷◌, ◌++◌, codes, refl, sym, ap, ◌∙◌, append_assoc}
+use Rattle.std.proofs.Common.{◌≡◌, ℕ, zero, suc, ◌+◌, ◌-◌, ◌≤◌, true, false, List, [], ◌∷◌, ◌++◌, take, drop, codes, refl, sym, ap, ◌∙◌, arith, append_assoc, take-add, drop-drop}
 use Rattle.std.specs.Prelude.{encode_utf8_all, replicate, if◌then◌else◌}
+use Rattle.std.specs.Prelude.{Result, Ok, Err, OnOk}
 use Rattle.std.specs.List.{slice_range}
+use Rattle.std.specs.Str.{IsUtf8}
 use Rattle.std.proofs.lemmas.Grind.{flat_map-append}
+use Rattle.std.proofs.lemmas.Str.{IsCharBoundary-start}
 use Rattle.std.proofs.lemmas.List.{append-nil}
 use Rattle.cm_text.specs.References.{chars_of}
 use Rattle.cm_tree.specs.declared.tree.Inline.{Inline}
@@ -22,7 +25,7 @@ use Rattle.cm_inline.specs.declared.runs.Marker.{Marker}
 use Rattle.cm_inline.specs.declared.runs.Marker.TheVariants.{Star, Underscore, Tilde}
 use Rattle.cm_inline.specs.declared.written.Written.{Written}
 use Rattle.cm_inline.specs.declared.written.Written.TheVariants.{Code, Html, Autolink, Soft, Hard}
-use Rattle.cm_inline.specs.steps.Written.{inline_in, written_html}
+use Rattle.cm_inline.specs.steps.Written.{inline_in, written_html, IsBetween}
 use Rattle.cm_inline.specs.steps.Runs.{byte_of}
 
 -- the text of a run is its own HTML
@@ -123,12 +126,50 @@ group-html source old started noded kind target nodes tag other start more end =
     ap (λ t. noded ++ t) end ∙ ap (λ t. t ++ end_html kind) (more ∙ ap (λ t. t ++ html) start ∙ append_assoc old (start_html kind target) html)
     ∙ append_assoc old (start_html kind target ++ html) (end_html kind) ∙ sym (ap (λ t. old ++ t) (made-html source kind target nodes other))
 
--- a token that was written, and those that follow
-pub token-html : (source done after : List ℕ) (made : List Made) (token : Token) (held rest : List Token) (whole : List ℕ) → held ≡ token ∷ rest → done ++ nodes_html source (nodes_of made held) ≡ whole
-    → after ≡ done ++ node_html source (node_of made token) → after ++ nodes_html source (nodes_of made rest) ≡ whole
-token-html source done after made token held rest whole step h more =
+-- a text of the source that waits, and what follows
+
+pub nowhere : (source : List ℕ) → IsUtf8 source → IsBetween source 0 0
+nowhere source utf8 = (omega arith, IsCharBoundary-start source utf8, IsCharBoundary-start source utf8)
+
+pub on-ok : {T E : Type 0} {P Q : Type 0} (r : Result T E) → OnOk r P → (P → Q) → OnOk r Q
+on-ok (Ok x) p f = f p
+on-ok (Err e) p f = tt
+
+slice-both : (source : List ℕ) (from to end : ℕ) → from ≤ to → to ≤ end → slice_range source from end ≡ slice_range source from to ++ slice_range source to end
+slice-both source from to end first second =
+    let long : end - from ≡ to - from + (end - to) = omega (arith, first, second) in
+    let place : from + (to - from) ≡ to = omega (arith, first) in
+    ap (λ n. take n (drop from source)) long ∙ take-add (to - from) (end - to) (drop from source)
+    ∙ ap (λ t. slice_range source from to ++ take (end - to) t) (drop-drop (to - from) from source ∙ ap (λ n. drop n source) place)
+
+pub slice-none : (source : List ℕ) (from to : ℕ) → from ≡ to → slice_range source from to ≡ []
+slice-none source from to same = let none : to - from ≡ 0 = omega (arith, same) in ap (λ n. take n (drop from source)) none
+
+-- a token that goes on with it
+pub text-further : (source done : List ℕ) (from to end : ℕ) (made : List Made) (token : Token) (held rest : List Token) (whole : List ℕ) → from ≤ to → to ≤ end → held ≡ token ∷ rest
+    → node_html source (node_of made token) ≡ escape (slice_range source to end) → done ++ (escape (slice_range source from to) ++ nodes_html source (nodes_of made held)) ≡ whole
+    → done ++ (escape (slice_range source from end) ++ nodes_html source (nodes_of made rest)) ≡ whole
+text-further source done from to end made token held rest whole first second step is h =
+    let before = slice_range source from to in
+    let text = slice_range source to end in
     let html = nodes_html source (nodes_of made rest) in
-    ap (λ t. t ++ html) more ∙ append_assoc done (node_html source (node_of made token)) html ∙ sym (ap (λ t. done ++ nodes_html source (nodes_of made t)) step) ∙ h
+    ap (λ t. done ++ (escape t ++ html)) (slice-both source from to end first second) ∙ ap (λ t. done ++ t) (longer before text html)
+    ∙ ap (λ t. done ++ (escape before ++ (t ++ html))) (sym is) ∙ ap (λ t. done ++ (escape before ++ nodes_html source (nodes_of made t))) (sym step) ∙ h
+
+-- one that was written behind it, and what waits of that
+pub text-written : (source done after more : List ℕ) (text waits : List ℕ) (made : List Made) (token : Token) (held rest : List Token) (whole : List ℕ) → held ≡ token ∷ rest
+    → after ≡ done ++ escape text → more ++ escape waits ≡ after ++ node_html source (node_of made token) → done ++ (escape text ++ nodes_html source (nodes_of made held)) ≡ whole
+    → more ++ (escape waits ++ nodes_html source (nodes_of made rest)) ≡ whole
+text-written source done after more text waits made token held rest whole step written is h =
+    let html = nodes_html source (nodes_of made rest) in
+    let node = node_html source (node_of made token) in
+    sym (append_assoc more (escape waits) html) ∙ ap (λ t. t ++ html) (is ∙ ap (λ t. t ++ node) written) ∙ append_assoc (done ++ escape text) node html ∙ append_assoc done (escape text) (node ++ html)
+    ∙ sym (ap (λ t. done ++ (escape text ++ nodes_html source (nodes_of made t))) step) ∙ h
+
+-- all were written but that text
+pub text-last : (source done after text : List ℕ) (made : List Made) (held : List Token) (whole : List ℕ) → held ≡ [] → after ≡ done ++ escape text → done ++ (escape text ++ nodes_html source (nodes_of made held)) ≡ whole → after ≡ whole
+text-last source done after text made held whole none written h =
+    written ∙ ap (λ t. done ++ t) (sym (append-nil (escape text))) ∙ sym (ap (λ t. done ++ (escape text ++ nodes_html source (nodes_of made t))) none) ∙ h
 
 -- a line, and the space for its line feed
 pub line-html : (html line rest whole : List ℕ) → line ++ 32 ∷ one_line rest ≡ whole → ((html ++ escape line) ++ 32 ∷ []) ++ escape (one_line rest) ≡ html ++ escape whole

@@ -1,13 +1,15 @@
 //! The HTML of nodes of which nothing more is made, from the source.
-ghost use Rattle.std.specs.Prelude.{◌≡◌, ◌++◌, length, string_bytes, encode_utf8_all, OnOk};
+ghost use Rattle.std.specs.Prelude.{◌≡◌, ◌++◌, List, [], length, string_bytes, encode_utf8_all, IfOk, IfSome, OnOk};
+ghost use Rattle.std.specs.List.{slice_range};
+ghost use Rattle.std.specs.Str.{IsCharBoundary};
 ghost use Rattle.cm_text.specs.References.{chars_of};
 ghost use Rattle.cm_html.specs.Escape.{escape};
 ghost use Rattle.cm_html.specs.Html.{code_span_html, inlines_html, spelled};
 ghost use Rattle.cm_scan.specs.CodeSpans.{one_line};
 ghost use Rattle.cm_scan.specs.Pairing.{settled};
-ghost use Rattle.cm_inline.specs.steps.Written.{autolink_html, written_html, IsWithin};
+ghost use Rattle.cm_inline.specs.steps.Written.{autolink_html, written_html, IsBetween, IsWithin};
 ghost use Rattle.cm_inline.specs.steps.Nodes.{items_of, node_html, nodes_html, AreParts};
-ghost use Rattle.cm_inline.specs.steps.Groups.{grouped, target_of, end_html, group_made, groups_made, node_of, nodes_of, nodes_in, start_html, AreBelow, AreGroups, ArePlaced, IsBelow, IsGroup, IsPlaced};
+ghost use Rattle.cm_inline.specs.steps.Groups.{Made, grouped, target_of, end_html, group_made, groups_made, node_of, nodes_of, nodes_in, start_html, AreBelow, AreGroups, ArePlaced, IsBelow, IsGroup, IsPlaced};
 
 use crate::groups::{FirstGroups, Group, Kind, Making};
 use crate::nodes::Nodes;
@@ -15,6 +17,7 @@ use crate::settling::group_inline;
 use crate::tokens::{Token, opener_text, push_run};
 use crate::written::{Written, destination_of};
 use cm_html::{push_escaped, push_inline, push_link_start};
+use cm_scan::is_next;
 use cm_text::{Chars, cut_at};
 use memchr::memchr;
 use std::alloc::{AllocError, Global};
@@ -130,7 +133,72 @@ fn push_token(
     }
 }
 
-/// Adds the HTML of tokens, one after another.
+/// Where the text of a token ends, if the source has it from a place on.
+fn text_ahead(source: &str, at: usize, token: Token) -> Option<usize>
+    requires at { IsCharBoundary source.now at }
+    requires token { IsPlaced source.now token }
+    ensures between { IfSome result (λ end. IsBetween source.now at end) }
+    ensures html { (made : List Made) → IfSome result (λ end. node_html source.now (node_of made token) ≡ escape (slice_range source.now at end)) }
+{
+    match token {
+        Token::Piece { from, to } => (from == at).then_some(to),
+        Token::Whole(Written::Soft) => {
+            if is_next(source.as_bytes(), at, b'\n') {
+                Some(at + 1)
+            } else {
+                None
+            }
+        }
+        _ => None,
+    }
+}
+
+/// The places of no text.
+fn no_text(source: &str) -> (usize, usize)
+    ensures between { IsBetween source.now result.0 result.1 }
+    ensures none { slice_range source.now result.0 result.1 ≡ [] }
+{
+    (0, 0)
+}
+
+/// Adds the HTML of a text of the source, if there is any.
+#[inline(always)]
+fn push_text(html: &mut String, source: &str, from: usize, to: usize) -> Result<(), AllocError>
+    requires { IsBetween source.now from to }
+    ensures { OnOk result (string_bytes html.new ≡ string_bytes html.old ++ escape (slice_range source.now from to)) }
+{
+    if from == to {
+        return Ok(());
+    }
+    push_escaped(html, &source[from..to])
+}
+
+/// Adds the HTML of a token. That of a piece of the source waits; its places are answered, or those of no text.
+#[cycle(html)]
+fn push_apart(
+    alloc: Global,
+    html: &mut String,
+    source: &str,
+    inside: &[Token],
+    groups: &FirstGroups<'_>,
+    token: Token,
+) -> Result<(usize, usize), AllocError>
+    requires placed { ArePlaced source.now inside.now }
+    requires groups { AreGroups inside.now 0 groups.now }
+    requires below { IsBelow (length groups.now) token }
+    requires token { IsPlaced source.now token }
+    ensures between { IfOk result (λ waits. IsBetween source.now waits.0 waits.1) }
+    ensures html { IfOk result (λ waits. string_bytes html.new ++ escape (slice_range source.now waits.0 waits.1)
+        ≡ string_bytes html.old ++ node_html source.now (node_of (groups_made inside.now groups.now) token)) }
+{
+    if let Token::Piece { from, to } = token {
+        return Ok((from, to));
+    }
+    push_token(alloc, html, source, inside, groups, token)?;
+    Ok(no_text(source))
+}
+
+/// Adds the HTML of tokens, one after another. Texts that follow one another in the source are added at once.
 #[cycle(html)]
 fn push_tokens(
     alloc: Global,
@@ -146,10 +214,18 @@ fn push_tokens(
     requires tokens { ArePlaced source.now tokens.now }
     ensures { OnOk result (string_bytes html.new ≡ string_bytes html.old ++ nodes_html source.now (nodes_of (groups_made inside.now groups.now) tokens.now)) }
 {
+    let (mut from, mut to) = no_text(source);
     for token in tokens {
-        push_token(alloc, html, source, inside, groups, *token)?;
+        if let Some(end) = text_ahead(source, to, *token) {
+            to = end;
+            continue;
+        }
+        push_text(html, source, from, to)?;
+        let waits = push_apart(alloc, html, source, inside, groups, *token)?;
+        from = waits.0;
+        to = waits.1;
     }
-    Ok(())
+    push_text(html, source, from, to)
 }
 
 /// Adds the start tag of emphasis or a link.

@@ -1,12 +1,13 @@
-use Rattle.std.proofs.Common.{◌≡◌, ◌++◌, ◌+◌, ◌<◌, length, string_bytes, take, drop, refl, sym, ap, subst, ◌∙◌, arith}
+use Rattle.std.proofs.Common.{◌≡◌, ◌++◌, ◌+◌, ◌<◌, length, string_bytes, take, drop, sym, ap, subst, ◌∙◌, arith}
 use Rattle.std.specs.Prelude.{OnOk}
 use Rattle.std.specs.List.{slice_range}
-use Rattle.std.proofs.lemmas.List.{append-nil, drop_more, drop_all, length-take-le}
+use Rattle.std.proofs.lemmas.List.{drop_more, drop_all, length-take-le}
+use Rattle.cm_html.specs.Escape.{escape}
 use Rattle.cm_html.specs.Html.{spelled}
 use Rattle.cm_inline.specs.steps.Nodes.{node_html, nodes_html}
 use Rattle.cm_inline.specs.steps.Groups.{grouped, target_of, group_made, groups_made, node_of, nodes_of, AreBelow, AreGroups, ArePlaced, IsBelow, IsGroup}
 use Rattle.cm_inline.proofs.GroupLemmas.{made-at, groups-front, placed-range}
-use Rattle.cm_inline.proofs.HtmlLemmas.{group-html, token-html}
+use Rattle.cm_inline.proofs.HtmlLemmas.{group-html, text-further, text-written, text-last, on-ok}
 use Rattle.cm_inline.proofs.html.+html.Goals as goal
 
 pub push_group-push_tokens-requires : goal.push_group-push_tokens-requires
@@ -54,10 +55,16 @@ push_token-returns-in-Made t c =
     subst (λ html. OnOk c.push_group.result (string_bytes c.push_group.new.html ≡ string_bytes c.args.html.now ++ html)) whole c.push_group.ensures
 
 pub push_tokens-loop-token-init : goal.push_tokens-loop-token-init
-push_tokens-loop-token-init t c = record { html = refl; below = c.requires.1.1.1.1.0; placed = c.requires.1.1.1.1.1 }
+push_tokens-loop-token-init t c = record { waits = c.no_text-from.ensures.between; html = ap (λ text. string_bytes c.args.html.now ++ (escape text ++ nodes_html c.args.source.now (nodes_of (groups_made c.args.inside.now c.args.groups.now) c.args.tokens.now))) c.no_text-from.ensures.none; below = c.requires.1.1.1.1.0; placed = c.requires.1.1.1.1.1 }
 
-pub push_tokens-push_token-requires : goal.push_tokens-push_token-requires
-push_tokens-push_token-requires t c =
+pub push_tokens-text_ahead-requires : goal.push_tokens-text_ahead-requires
+push_tokens-text_ahead-requires t c =
+    let step = drop_more c.args.tokens.now c.loop-token.token-index _ c.loop-token-test.true in
+    let placed = subst (ArePlaced c.args.source.now) step c.loop-token.invariant.placed in
+    record { at = c.loop-token.invariant.waits.2; token = placed.0 }
+
+pub push_tokens-push_apart-requires : goal.push_tokens-push_apart-requires
+push_tokens-push_apart-requires t c =
     let tokens = c.args.tokens.now in
     let asked = c.requires.1.1 in
     let step = drop_more tokens c.loop-token.token-index _ c.loop-token-test.true in
@@ -65,21 +72,40 @@ push_tokens-push_token-requires t c =
     let placed = subst (ArePlaced c.args.source.now) step c.loop-token.invariant.placed in
     (omega (arith, c.requires.1.0), (asked.0, (asked.1.0, (below.0, placed.0))))
 
+pub push_tokens-loop-token-preserved-in-Some : goal.push_tokens-loop-token-preserved-in-Some
+push_tokens-loop-token-preserved-in-Some t c =
+    let tokens = c.args.tokens.now in
+    let source = c.args.source.now in
+    let at = c.loop-token.token-index in
+    let step = drop_more tokens at _ c.loop-token-test.true in
+    let made = groups_made c.args.inside.now c.args.groups.now in
+    let waits = c.loop-token.invariant.waits in
+    record {
+      waits = (omega (arith, waits.0, c.in-Some.ensures.between.0), waits.1, c.in-Some.ensures.between.2);
+      html = text-further source (string_bytes c.loop-token.html) c.loop-token.from c.loop-token.to c.in-Some.end made _ (drop at tokens) (drop (at + 1) tokens) _ waits.0 c.in-Some.ensures.between.0 step
+          (c.in-Some.ensures.html made) c.loop-token.invariant.html;
+      below = (subst (AreBelow (length c.args.groups.now)) step c.loop-token.invariant.below).1;
+      placed = (subst (ArePlaced source) step c.loop-token.invariant.placed).1;
+    }
+
 pub push_tokens-loop-token-preserved : goal.push_tokens-loop-token-preserved
 push_tokens-loop-token-preserved t c =
     let tokens = c.args.tokens.now in
+    let source = c.args.source.now in
     let at = c.loop-token.token-index in
     let step = drop_more tokens at _ c.loop-token-test.true in
     let made = groups_made c.args.inside.now c.args.groups.now in
     record {
-      html = token-html c.args.source.now (string_bytes c.loop-token.html) (string_bytes c.push_token.new.html) made _ (drop at tokens) (drop (at + 1) tokens) _ step c.loop-token.invariant.html c.in_ok-push_token.ensures;
+      waits = c.in_ok-waits.ensures.between;
+      html = text-written source (string_bytes c.loop-token.html) (string_bytes c.push_text.new.html) (string_bytes c.push_apart.new.html) (slice_range source c.loop-token.from c.loop-token.to) (slice_range source c.in_ok-waits.waits.0 c.in_ok-waits.waits.1) made _ (drop at tokens) (drop (at + 1) tokens) _ step
+          c.in_ok-push_text.ensures c.in_ok-waits.ensures.html c.loop-token.invariant.html;
       below = (subst (AreBelow (length c.args.groups.now)) step c.loop-token.invariant.below).1;
-      placed = (subst (ArePlaced c.args.source.now) step c.loop-token.invariant.placed).1;
+      placed = (subst (ArePlaced source) step c.loop-token.invariant.placed).1;
     }
 
 pub push_tokens-returns : goal.push_tokens-returns
 push_tokens-returns t c =
     let none = drop_all c.loop-token.token-index c.args.tokens.now c.loop-token-test.false in
-    let html = string_bytes c.loop-token.html in
     let made = groups_made c.args.inside.now c.args.groups.now in
-    sym (append-nil html) ∙ ap (λ held. html ++ nodes_html c.args.source.now (nodes_of made held)) (sym none) ∙ c.loop-token.invariant.html
+    on-ok c.push_text-2.result c.push_text-2.ensures
+    (λ written. text-last c.args.source.now (string_bytes c.loop-token.html) (string_bytes c.push_text-2.new.html) (slice_range c.args.source.now c.loop-token.from c.loop-token.to) made _ _ none written c.loop-token.invariant.html)
