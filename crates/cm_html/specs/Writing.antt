@@ -1,6 +1,6 @@
 -- What writing a text to a sink answers, and what has gone out then.
-use Rattle.std.specs.Prelude.{◌≡◌, ℕ, ◌≤◌, List, length, take, Result, Ok, Err}
-use Rattle.cm_text.specs.Writing.{SinkView, IsUnwritten, Wrote, WroteBeginning}
+use Rattle.std.specs.Prelude.{◌≡◌, ℕ, List, length, Result, Ok, Err}
+use Rattle.cm_text.specs.Writing.{SinkView, IsUnwritten, Wrote, WroteBeginning, WroteFront}
 use Rattle.cm_html.specs.declared.fault.HtmlFault.{HtmlFault}
 use Rattle.cm_html.specs.declared.fault.HtmlFault.TheVariants.{NoMemory, WriteFailed}
 
@@ -8,7 +8,7 @@ use Rattle.cm_html.specs.declared.fault.HtmlFault.TheVariants.{NoMemory, WriteFa
 -- out, and then `Lost` says what may have gone out.
 abbrev pub Writes : (Lost : SinkView → SinkView → List ℕ → Type 0) → Result ℕ HtmlFault → List ℕ → SinkView → SinkView → Type 0
 Writes Lost (Ok n) text old new = Wrote old new text 0 × (n ≡ length text)
-Writes Lost (Err (WriteFailed written)) text old new = Wrote old new (take written text) 1 × (written ≤ length text)
+Writes Lost (Err (WriteFailed written)) text old new = WroteFront old new text written
 Writes Lost (Err NoMemory) text old new = Lost old new text
 
 -- a beginning of the HTML may have gone out
@@ -18,7 +18,3 @@ WritesHtml = Writes WroteBeginning
 -- nothing of the listing has gone out
 abbrev pub WritesListing : Result ℕ HtmlFault → List ℕ → SinkView → SinkView → Type 0
 WritesListing = Writes (λ old new text. IsUnwritten old new)
-
--- memory can't run out
-abbrev pub WritesText : Result ℕ HtmlFault → List ℕ → SinkView → SinkView → Type 0
-WritesText = Writes (λ old new text. ⊥)

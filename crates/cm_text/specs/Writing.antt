@@ -1,5 +1,5 @@
 -- What has gone out to a sink.
-use Rattle.std.specs.Prelude.{◌≡◌, ℕ, ◌+◌, List, take, Option}
+use Rattle.std.specs.Prelude.{◌≡◌, ℕ, ◌+◌, ◌≤◌, List, length, take, Option}
 use Rattle.std.specs.Io.KnownBytes.{Appends, Keeps}
 
 -- a sink, by the bytes that it has taken, where they are known, and the number of failed writes
@@ -20,3 +20,7 @@ pub record Wrote (old new : SinkView) (bytes : List ℕ) (failures : ℕ) : Type
 -- a beginning of the bytes went out, and no write failed
 abbrev pub WroteBeginning : SinkView → SinkView → List ℕ → Type 0
 WroteBeginning old new bytes = (written : ℕ) × Wrote old new (take written bytes) 0
+
+-- one write failed, and just the first so many bytes went out
+abbrev pub WroteFront : SinkView → SinkView → List ℕ → (written : ℕ) → Type 0
+WroteFront old new bytes written = Wrote old new (take written bytes) 1 × (written ≤ length bytes)

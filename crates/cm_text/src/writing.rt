@@ -1,6 +1,6 @@
 //! Writing bytes whole.
-ghost use Rattle.std.specs.Prelude.{◌≡◌, ℕ, ◌+◌, ◌-◌, ◌^◌, ◌<◌, ◌≤◌, length, take, MatchResult, IfOk};
-ghost use Rattle.cm_text.specs.Writing.{Wrote};
+ghost use Rattle.std.specs.Prelude.{◌≡◌, ℕ, ◌+◌, ◌-◌, ◌^◌, ◌<◌, MatchResult, IfOk};
+ghost use Rattle.cm_text.specs.Writing.{Wrote, WroteFront};
 
 use crate::device::Sink;
 
@@ -20,9 +20,8 @@ pub fn write_all<W: Sink>(sink: &mut W, bytes: &[u8]) -> Result<(), WriteFailed>
     ensures { MatchResult result
         (λ _. Wrote (record { taken = W.taken sink.old; failed = W.failed sink.old })
         (record { taken = W.taken sink.new; failed = W.failed sink.new }) bytes.now 0)
-        (λ e. Wrote (record { taken = W.taken sink.old; failed = W.failed sink.old })
-        (record { taken = W.taken sink.new; failed = W.failed sink.new }) (take e.written bytes.now) 1
-        × (e.written ≤ length bytes.now)) }
+        (λ e. WroteFront (record { taken = W.taken sink.old; failed = W.failed sink.old })
+        (record { taken = W.taken sink.new; failed = W.failed sink.new }) bytes.now e.written) }
 {
     let mut written = 0;
     while written < bytes.len() {

@@ -70,5 +70,4 @@ pub html_lost : (fault : HtmlFault) (limits : LimitsView) (bytes pages : List �
 html_lost html.NoMemory limits bytes pages from left old new read is lost =
     (read.same, inr (read, subst (λ t. WritesHtml (Err html.NoMemory) t old new) is lost))
 html_lost (html.WriteFailed written) limits bytes pages from left old new read is lost =
-    let wrote = subst (λ t. WritesHtml (Err (html.WriteFailed written)) t old new) is lost in
-    (read, wrote.0, wrote.1)
+    (read, subst (λ t. WritesHtml (Err (html.WriteFailed written)) t old new) is lost)

@@ -1,10 +1,10 @@
 -- Writing the report of a source's examples.
-use Rattle.std.proofs.Common.{◌≡◌, ◌∙◌, ℕ, List, [], ◌∷◌, ◌≤◌, length, take, refl, sym, ap, subst}
+use Rattle.std.proofs.Common.{◌≡◌, ◌∙◌, ℕ, List, [], ◌∷◌, refl, sym, ap, subst}
 use Rattle.std.specs.Prelude.{Result, Ok, Err}
 use Rattle.cm_text.specs.Limits.{LimitsView}
 use Rattle.cm_text.specs.Lines.{text_of}
 use Rattle.cm_text.specs.Rules.{Rules}
-use Rattle.cm_text.specs.Writing.{SinkView, Wrote}
+use Rattle.cm_text.specs.Writing.{SinkView, Wrote, WroteFront}
 use Rattle.cm_tool.specs.declared.fault.Fault.{Fault}
 use Rattle.cm_tool.specs.declared.fault.Fault.TheVariants.{WriteFailed}
 use Rattle.cm_tool.specs.ExampleFiles.{DifferenceView, ReportView, report_on, verdict_of}
@@ -37,8 +37,7 @@ wrote_report old new bytes text is wrote = subst (λ t. Wrote old new t 0) is wr
 
 -- or a front of it
 pub lost_report : (limits : LimitsView) (read : List ℕ) (from left : SourceView) (old new : SinkView) (bytes : List ℕ) (report : ReportView) (written : ℕ)
-    → IsReported limits read from left report → bytes ≡ report_text report → Wrote old new (take written bytes) 1 × (written ≤ length bytes)
+    → IsReported limits read from left report → bytes ≡ report_text report → WroteFront old new bytes written
     → WritesReport (Err (WriteFailed written)) limits read from left old new
 lost_report limits read from left old new bytes report written is same wrote =
-    let both = subst (λ t. Wrote old new (take written t) 1 × (written ≤ length t)) same wrote in
-    (report, is, both.0, both.1)
+    (report, is, subst (λ t. WroteFront old new t written) same wrote)

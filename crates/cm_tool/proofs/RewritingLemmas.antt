@@ -1,10 +1,10 @@
 -- Rewriting a text.
-use Rattle.std.proofs.Common.{◌≡◌, ◌∙◌, ℕ, List, ◌≤◌, length, take, ap, subst}
+use Rattle.std.proofs.Common.{◌≡◌, ◌∙◌, ℕ, List, length, ap, subst}
 use Rattle.std.specs.Prelude.{Ok, Err, String, string_bytes, IsUtf8}
 use Rattle.std.proofs.lemmas.Str.{IsUtf8-string_bytes}
 use Rattle.std.specs.declared.alloc.Global.{Global}
 use Rattle.cm_text.specs.Limits.{LimitsView}
-use Rattle.cm_text.specs.Writing.{SinkView, Wrote}
+use Rattle.cm_text.specs.Writing.{SinkView, Wrote, WroteFront}
 use Rattle.cm_tool.specs.declared.fault.Fault.TheVariants.{WriteFailed}
 use Rattle.cm_tool.specs.Reading.{SourceView, ReadWhole}
 use Rattle.cm_tool.specs.Rewriting.{Rewrites, IsLasting, kept_tree}
@@ -22,8 +22,7 @@ module _ (limits : LimitsView) (bytes : List ℕ) (from left : SourceView) (old 
   went_out written n same count wrote = ((read, subst (λ t. Wrote old new t 0) (same ∙ spelled.1) wrote, count ∙ ap length spelled.1), lasting)
 
   -- a front of it did
-  pub was_lost : (written : List ℕ) (n : ℕ) → written ≡ string_bytes text → Wrote old new (take n written) 1 × (n ≤ length written)
+  pub was_lost : (written : List ℕ) (n : ℕ) → written ≡ string_bytes text → WroteFront old new written n
       → Rewrites (Err (WriteFailed n)) limits bytes from left old new
   was_lost written n same lost =
-      let both = subst (λ t. Wrote old new (take n t) 1 × (n ≤ length t)) (same ∙ spelled.1) lost in
-      ((read, both.0, both.1), lasting)
+      ((read, subst (λ t. WroteFront old new t n) (same ∙ spelled.1) lost), lasting)

@@ -1,9 +1,9 @@
 -- The report of a source's examples, as it is written.
-use Rattle.std.specs.Prelude.{◌≡◌, ℕ, ◌≤◌, List, ◌++◌, Result, Ok, Err, codes, flat_map, length, take, ◌⊎◌}
+use Rattle.std.specs.Prelude.{◌≡◌, ℕ, List, ◌++◌, Result, Ok, Err, codes, flat_map, ◌⊎◌}
 use Rattle.std.specs.Fmt.{decimal}
 use Rattle.cm_text.specs.Limits.{LimitsView}
 use Rattle.cm_text.specs.Lines.{text_of}
-use Rattle.cm_text.specs.Writing.{SinkView, IsUnwritten, Wrote}
+use Rattle.cm_text.specs.Writing.{SinkView, IsUnwritten, Wrote, WroteFront}
 use Rattle.cm_tool.specs.declared.fault.Fault.{Fault}
 use Rattle.cm_tool.specs.declared.fault.Fault.TheVariants.{NoMemory, WriteFailed, ExampleDiffers}
 use Rattle.cm_tool.specs.ExampleFiles.{DifferenceView, ReportView, report_on, verdict_of}
@@ -39,6 +39,6 @@ abbrev pub WritesReport : Result ℕ Fault → LimitsView → List ℕ → Sourc
 WritesReport (Ok total) limits bytes from left old new = Judges (Ok total) limits bytes from left old new
 WritesReport (Err (ExampleDiffers number)) limits bytes from left old new = Judges (Err (ExampleDiffers number)) limits bytes from left old new
 WritesReport (Err (WriteFailed written)) limits bytes from left old new =
-    (report : ReportView) × IsReported limits bytes from left report × Wrote old new (take written (report_text report)) 1 × (written ≤ length (report_text report))
+    (report : ReportView) × IsReported limits bytes from left report × WroteFront old new (report_text report) written
 WritesReport (Err NoMemory) limits bytes from left old new = (left.failed ≡ from.failed) × IsUnwritten old new
 WritesReport (Err fault) limits bytes from left old new = Unreported fault limits bytes from left × IsUnwritten old new

@@ -1,8 +1,8 @@
 -- What a run of a task, or of what stands in place of a task, writes and answers.
-use Rattle.std.specs.Prelude.{◌≡◌, ℕ, ◌≤◌, List, Result, Ok, Err, length, take, codes, string_bytes, ◌++◌, ◌⊎◌}
+use Rattle.std.specs.Prelude.{◌≡◌, ℕ, List, Result, Ok, Err, codes, string_bytes, ◌++◌, ◌⊎◌}
 use Rattle.cm_tool.specs.Reading.{SourceView}
 use Rattle.cm_text.specs.Limits.{LimitsView}
-use Rattle.cm_text.specs.Writing.{SinkView, IsUnwritten, Wrote}
+use Rattle.cm_text.specs.Writing.{SinkView, IsUnwritten, Wrote, WroteFront}
 use Rattle.cm_tool.specs.Writing.{Converts}
 use Rattle.cm_tool.specs.Writing.{Lists}
 use Rattle.cm_tool.specs.Reporting.{WritesReport}
@@ -13,13 +13,13 @@ use Rattle.cm_tool.specs.declared.job.Job.TheVariants.{Render, Tree, Rewrite, Ex
 use Rattle.cm_tool.specs.declared.job.Stop.{Stop}
 use Rattle.cm_tool.specs.declared.job.Stop.TheVariants.{Help, Wrong, NoMemory}
 
--- a front of the text was written, up to a failure
-abbrev pub WroteFront : SinkView → SinkView → List ℕ → Type 0
-WroteFront old new text = (written : ℕ) × Wrote old new (take written text) 1 × (written ≤ length text)
+-- some front of the text was written, up to a failure
+abbrev pub WroteSome : SinkView → SinkView → List ℕ → Type 0
+WroteSome old new text = (written : ℕ) × WroteFront old new text written
 
 -- the text was written, or a front of it up to a failure
 abbrev pub Offered : SinkView → SinkView → List ℕ → Type 0
-Offered old new text = Wrote old new text 0 ⊎ WroteFront old new text
+Offered old new text = Wrote old new text 0 ⊎ WroteSome old new text
 
 -- the same of some line for a fault
 abbrev pub OfferedLine : SinkView → SinkView → Type 0
@@ -52,7 +52,7 @@ pub record Answers (answer : Result ℕ Fault) (status : ℕ) (job : Job) (limit
 abbrev pub Tells : Stop → ℕ → SinkView → SinkView → SinkView → SinkView → Type 0
 Tells (Help text) status old new old-errors new-errors =
     ((status ≡ 0) × Wrote old new (string_bytes text) 0 × IsUnwritten old-errors new-errors)
-    ⊎ ((status ≡ 1) × WroteFront old new (string_bytes text) × OfferedLine old-errors new-errors)
+    ⊎ ((status ≡ 1) × WroteSome old new (string_bytes text) × OfferedLine old-errors new-errors)
 Tells (Wrong text) status old new old-errors new-errors =
     (status ≡ 2) × IsUnwritten old new × Offered old-errors new-errors (string_bytes text)
 Tells NoMemory status old new old-errors new-errors =

@@ -1,8 +1,8 @@
 -- What a call that reads a text and writes an output of it answers, and what it has written then.
-use Rattle.std.specs.Prelude.{◌≡◌, ℕ, ◌≤◌, List, length, take, Result, Ok, Err, ◌⊎◌}
+use Rattle.std.specs.Prelude.{◌≡◌, ℕ, List, length, Result, Ok, Err, ◌⊎◌}
 use Rattle.cm_text.specs.Rules.{Rules}
 use Rattle.cm_text.specs.Limits.{LimitsView}
-use Rattle.cm_text.specs.Writing.{SinkView, IsUnwritten, Wrote, WroteBeginning}
+use Rattle.cm_text.specs.Writing.{SinkView, IsUnwritten, Wrote, WroteBeginning, WroteFront}
 use Rattle.cm_html.specs.Html.{html_of}
 use Rattle.cm_html.specs.Listing.{listing_of}
 use Rattle.cm_tool.specs.declared.fault.Fault.{Fault}
@@ -31,7 +31,7 @@ abbrev pub Writes : (Lost : SinkView → SinkView → List ℕ → Type 0) → (
 Writes Lost output (Ok n) limits bytes from left old new =
     ReadWhole limits bytes from left × Wrote old new (output limits.rules bytes) 0 × (n ≡ length (output limits.rules bytes))
 Writes Lost output (Err (WriteFailed written)) limits bytes from left old new =
-    ReadWhole limits bytes from left × Wrote old new (take written (output limits.rules bytes)) 1 × (written ≤ length (output limits.rules bytes))
+    ReadWhole limits bytes from left × WroteFront old new (output limits.rules bytes) written
 Writes Lost output (Err fault) limits bytes from left old new =
     Refuses fault limits bytes from left × WentOut fault Lost (ReadWhole limits bytes from left) old new (output limits.rules bytes)
 
