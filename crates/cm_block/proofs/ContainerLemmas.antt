@@ -18,8 +18,8 @@ use Rattle.cm_block.specs.Machine.{Open, in_leaf, in_quote, in_item}
 use Rattle.cm_block.specs.Level.{OpenList, Level, empty_level, with_list, closed_blocks, push_blank, block_opens, list_opens, list_goes_on, item_opens, item_opens_in, block_closes, Item, with_item, item_closes}
 use Rattle.cm_block.specs.Stack.{Owned, Stack, item_of, close_leaves, push_blanks, close_open, push_leaf_line, push_by, push_within, push_begin}
 use Rattle.cm_block.specs.Depths.{nesting}
-use Rattle.cm_block.specs.Frames.{Container, a_quote, an_item, Frame, opened, is_last as is_last_frame, nest, within, stack_with}
-use Rattle.cm_block.specs.steps.FrameSteps.{quoted_by, close_container, close_frames}
+use Rattle.cm_block.specs.Frames.{Container, a_quote, an_item, Frame, opened, is_last as is_last_frame, nest, stack_with}
+use Rattle.cm_block.specs.steps.FrameSteps.{within, quoted_by, close_container, close_frames}
 use Rattle.cm_block.specs.steps.FrameStarts.{begun_in}
 use Rattle.cm_block.specs.Tests.{item_count, container_step, containers_of_block, container_count, count_in, count_open, count_of}
 use Rattle.cm_block.proofs.FrameStartLemmas.{within-nesting}

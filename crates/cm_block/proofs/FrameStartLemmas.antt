@@ -14,7 +14,8 @@ use Rattle.cm_block.specs.Machine.{Open, in_leaf, in_quote, in_item}
 use Rattle.cm_block.specs.Level.{Level, OpenList, empty_level, block_opens, block_closes, item_opens, item_opens_in, list_opens, list_goes_on}
 use Rattle.cm_block.specs.Stack.{Owned, Stack, stack, close_leaves, own_lines, push_leaf_line, not_blank, push_by, push_within, push_begin}
 use Rattle.cm_block.specs.Depths.{nesting}
-use Rattle.cm_block.specs.Frames.{Container, a_quote, an_item, Frame, opened, is_last, nest, within, stack_with}
+use Rattle.cm_block.specs.Frames.{Container, a_quote, an_item, Frame, opened, is_last, nest, stack_with}
+use Rattle.cm_block.specs.steps.FrameSteps.{within}
 use Rattle.cm_block.proofs.BeginCases.{OfInner, inner-less, of-less}
 
 -- the cases, with no word of how deep the calls go

@@ -9,8 +9,8 @@ use Rattle.cm_block.specs.OpenLeaf.{OpenLeaf, is_open_text, LeafLine, line_of_le
 use Rattle.cm_block.specs.Machine.{Open, in_leaf, has_open_text}
 use Rattle.cm_block.specs.Level.{Level}
 use Rattle.cm_block.specs.Stack.{Owned, Stack, stack, close_open, own_open, push_leaf_line, push_begin, push_after, push_to_leaf, push_in}
-use Rattle.cm_block.specs.Frames.{Container, a_quote, an_item, Frame, opened, is_last, nest, within}
-use Rattle.cm_block.specs.steps.FrameSteps.{inward, matching, quoted_in, quoted_by, close_container, close_frames}
+use Rattle.cm_block.specs.Frames.{Container, a_quote, an_item, Frame, opened, is_last, nest}
+use Rattle.cm_block.specs.steps.FrameSteps.{within, inward, matching, quoted_in, quoted_by, close_container, close_frames}
 
 open_text_of : (bare : Bool) (fs : List Frame) (v : Level) (x : OpenLeaf) → has_open_text (nest bare fs v x).1 ≡ is_open_text x
 unfolding has_open_text nest

@@ -12,9 +12,9 @@ use Rattle.cm_block.specs.declared.level.OpenList as code_list
 use Rattle.cm_block.specs.declared.stack.Frame as code_frame
 use Rattle.cm_block.specs.Level.{OpenList, Level, with_list}
 use Rattle.cm_block.specs.steps.LevelSteps.{without_list}
-use Rattle.cm_block.specs.LevelViews.{list_in, level_in, IsListPlaced, IsLevelPlaced}
+use Rattle.cm_block.specs.steps.LevelViews.{list_in, level_in, IsListPlaced, IsLevelPlaced}
 use Rattle.cm_block.specs.Frames.{Frame}
-use Rattle.cm_block.specs.FrameViews.{container_of, frame_in, frames_in, AreFramesPlaced}
+use Rattle.cm_block.specs.steps.FrameViews.{container_of, frame_in, frames_in, AreFramesPlaced}
 use Rattle.cm_tree.proofs.RawLemmas.{blocks-grow, all-placed-grow, items-grow, are_items-grow, placed-append, items-append}
 
 -- a list with these items, and a level with these blocks and this list

@@ -10,7 +10,7 @@ use Rattle.std.specs.Prelude.{nat_le}
 use Rattle.std.specs.List.{slice_index_or}
 use Rattle.cm_block.specs.declared.stack.Frame as code
 use Rattle.cm_tree.specs.RawBlocks.{Raw}
-use Rattle.cm_block.specs.FrameViews.{frame_in, frames_in}
+use Rattle.cm_block.specs.steps.FrameViews.{frame_in, frames_in}
 use Rattle.cm_block.specs.Level.{Level}
 use Rattle.cm_block.proofs.Lazy.{starts_text, place-quote, place-item}
 use Rattle.std.proofs.lemmas.List.{length_push}

@@ -10,8 +10,8 @@ use Rattle.cm_block.specs.OpenLeaf.{no_leaf, LeafLine, Begin, begins_nothing, be
 use Rattle.cm_block.specs.Level.{Level, empty_level, push_blank, block_opens, item_opens}
 use Rattle.cm_block.specs.Stack.{Owned, own_lines, blank_owner, push_leaf_line, push_by, push_begin}
 use Rattle.cm_block.specs.Depths.{nesting}
-use Rattle.cm_block.specs.Frames.{a_quote, an_item, Frame, within}
-use Rattle.cm_block.specs.steps.FrameSteps.{quoted_in, quoted_by}
+use Rattle.cm_block.specs.Frames.{a_quote, an_item, Frame}
+use Rattle.cm_block.specs.steps.FrameSteps.{within, quoted_in, quoted_by}
 use Rattle.cm_scan.specs.declared.markers.ItemMarker as code_marker
 use Rattle.cm_block.specs.declared.starts.Start as code_start
 use Rattle.cm_block.specs.declared.starts.Start.TheVariants as variants

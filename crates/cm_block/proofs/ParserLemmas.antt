@@ -14,8 +14,8 @@ use Rattle.cm_block.specs.Machine.{in_leaf}
 use Rattle.cm_block.specs.Level.{Level, empty_level, closed_blocks, push_blank}
 use Rattle.cm_block.specs.Stack.{Owned, Stack, empty_stack, close_leaves, push_blanks, close_open, own_leaves, own_blanks, own_open, close_stack, push_leaf_line, push_line, push_lines}
 use Rattle.cm_block.specs.Depths.{nesting}
-use Rattle.cm_block.specs.Frames.{Frame, Row, is_last as is_last_frame, within, stack_with, nest}
-use Rattle.cm_block.specs.steps.FrameSteps.{inward, matching, quoted_by, close_frames}
+use Rattle.cm_block.specs.Frames.{Frame, Row, is_last as is_last_frame, stack_with, nest}
+use Rattle.cm_block.specs.steps.FrameSteps.{within, inward, matching, quoted_by, close_frames}
 use Rattle.cm_block.specs.declared.fault.BlockFault.{BlockFault}
 use Rattle.cm_block.specs.declared.fault.BlockFault.TheVariants.{BlocksTooDeep, NoMemory}
 use Rattle.cm_block.specs.steps.FrameStarts.{begun_in, DeepIn}
@@ -24,7 +24,8 @@ use Rattle.cm_text.specs.Limits.{LimitsView}
 use Rattle.cm_block.specs.LeafViews.{leaf_of}
 use Rattle.cm_block.specs.Parser.{stack_of, StandsFor, TellsDepth}
 use Rattle.cm_block.specs.steps.ParserSteps.{Deep, TakenToLeaf}
-use Rattle.cm_block.specs.Tests.{Tested, AllTested, count_in, count_of}
+use Rattle.cm_block.specs.Tests.{AllTested, count_in, count_of}
+use Rattle.cm_block.specs.steps.LineTests.{Tested}
 use Rattle.cm_block.proofs.ContainerLemmas.{count-nest, count-closing-leaf, count-close-frames, count_taken, count_begun}
 use Rattle.cm_block.proofs.TestLemmas.{tested_lines}
 use Rattle.cm_block.proofs.Frames.{closes, owns, pushed, pushed_after, pushed_to_leaf, pushed-left, pushed-all, pushes}

@@ -10,8 +10,8 @@ use Rattle.cm_block.specs.declared.level.Level as code_level
 use Rattle.cm_block.specs.declared.stack.Frame as code
 use Rattle.cm_block.specs.Frames.{Container, Frame}
 use Rattle.cm_block.proofs.FrameStartLemmas.{frame}
-use Rattle.cm_block.specs.LevelViews.{level_in, IsLevelPlaced}
-use Rattle.cm_block.specs.FrameViews.{container_of, frame_in, frames_in, AreFramesPlaced}
+use Rattle.cm_block.specs.steps.LevelViews.{level_in, IsLevelPlaced}
+use Rattle.cm_block.specs.steps.FrameViews.{container_of, frame_in, frames_in, AreFramesPlaced}
 use Rattle.cm_block.proofs.LevelViewLemmas.{level-grows, level-placed-grows, frames-grow, frames-placed-grow, frames-append, frames-before, frames-behind}
 use Rattle.cm_block.proofs.Matching.{frames_last}
 

@@ -3,7 +3,8 @@ use Rattle.std.proofs.Common.{◌≡◌, ℕ, suc, ◌+◌, ◌-◌, ◌*◌, �
 use Rattle.cm_block.specs.Frames.{Frame}
 use Rattle.std.specs.Prelude.{nat_lt}
 use Rattle.std.specs.Result.{OnOk}
-use Rattle.cm_block.specs.Tests.{Tested, AllTested}
+use Rattle.cm_block.specs.Tests.{AllTested}
+use Rattle.cm_block.specs.steps.LineTests.{Tested}
 
 pub tested_then : (a b c d x y z : ℕ) → Tested a b x y → Tested c d y z → Tested (a + c) (b + d) x z
 tested_then a b c d x y z first next = (

@@ -38,8 +38,3 @@ nest bare (f ∷ fs) level leaf = let inside = nest bare fs level leaf in (f.lev
 
 abbrev pub stack_with : Bool → List Frame → Level → OpenLeaf → Owned → Stack
 stack_with bare frames level leaf owned = stack (nest bare frames level leaf).0 (nest bare frames level leaf).1 owned
-
--- what a stack in the innermost of these containers is to the document
-unfoldable pub within : List Frame → Stack → Stack
-within [] inside = inside
-within (f ∷ fs) inside = let i = within fs inside in stack f.level (opened f.container false i.level i.now) i.owned

@@ -8,8 +8,6 @@ pub mod Depths
 pub mod Tests
 pub mod Laws
 pub mod WorkedExamples
-pub mod LevelViews
-pub mod FrameViews
 pub mod OwnedCode
 pub mod OwnerRuns
 pub mod LeafViews

@@ -12,10 +12,6 @@ use Rattle.cm_block.specs.Stack.{Stack}
 abbrev pub Counted : (greatest least most before after : ℕ) → Type 0
 Counted greatest least most before after = (after < greatest → before + least ≤ after) × (after ≤ before + most)
 
--- a line by itself
-abbrev pub Tested : (least most before after : ℕ) → Type 0
-Tested = Counted (2 ^ 64 - 1)
-
 -- all lines
 abbrev pub AllTested : (least most before after : ℕ) → Type 0
 AllTested = Counted (2 ^ 128 - 1)

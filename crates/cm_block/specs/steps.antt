@@ -1,3 +1,5 @@
+pub mod LevelViews
+pub mod FrameViews
 pub mod FirstLines
 pub mod PlaceViews
 pub mod StartViews
@@ -6,3 +8,4 @@ pub mod FrameSteps
 pub mod LeafSteps
 pub mod FrameStarts
 pub mod ParserSteps
+pub mod LineTests

@@ -1,7 +1,7 @@
 //! The quotes and items that a line begins.
 ghost use Rattle.std.specs.Prelude.{◌≡◌, ◌-◌, ◌≤◌, false, suc, length, IfOk, OnOk};
 ghost use Rattle.cm_text.specs.Views.{line_of};
-ghost use Rattle.cm_block.specs.Tests.{Tested};
+ghost use Rattle.cm_block.specs.steps.LineTests.{Tested};
 ghost use Rattle.cm_block.specs.steps.FrameStarts.{Inside};
 
 use crate::counted_line::CountedLine;

@@ -1,6 +1,6 @@
 //! A line that is read by counted calls alone.
 ghost use Rattle.std.specs.Prelude.{◌≡◌};
-ghost use Rattle.cm_block.specs.Tests.{Tested};
+ghost use Rattle.cm_block.specs.steps.LineTests.{Tested};
 
 use cm_text::View;
 

@@ -12,7 +12,7 @@ ghost use Rattle.cm_block.specs.LeafViews.{leaf_of, code_of};
 ghost use Rattle.cm_block.specs.steps.LeafSteps.{leaves_of_closed, closed_as, taken_of, left_open};
 ghost use Rattle.cm_block.specs.declared.leaf.OpenLeaf.TheVariants.{Nothing};
 ghost use Rattle.cm_block.specs.declared.leaf.LeafLine.TheVariants.{Last, Leaves};
-ghost use Rattle.cm_block.specs.Tests.{Tested};
+ghost use Rattle.cm_block.specs.steps.LineTests.{Tested};
 
 use crate::closed_leaf::ClosedLeaf;
 use crate::counted_line::CountedLine;

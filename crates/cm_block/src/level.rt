@@ -2,7 +2,7 @@
 ghost use Rattle.std.specs.Prelude.{◌≡◌, OnOk, IfOk};
 ghost use Rattle.cm_tree.specs.RawBlocks.{Raw, Grows, block_in, blocks_in, item_in, IsPlaced, ArePlaced, IsItem};
 ghost use Rattle.cm_block.specs.Level.{empty_level, closed_blocks, push_blank, block_opens, list_opens, item_opens, block_closes, item_closes};
-ghost use Rattle.cm_block.specs.LevelViews.{level_in, IsLevelPlaced};
+ghost use Rattle.cm_block.specs.steps.LevelViews.{level_in, IsLevelPlaced};
 ghost use Rattle.cm_block.specs.steps.LevelSteps.{item_with, without_list, has_list_of, goes_on};
 
 use cm_scan::is_same_kind;

@@ -14,7 +14,8 @@ ghost use Rattle.cm_block.specs.steps.StartViews.{seen};
 ghost use Rattle.cm_block.specs.steps.FirstLines.{begins_container};
 ghost use Rattle.cm_block.specs.steps.FrameStarts.{begun, with_blank, LeafBegins, DeepIn};
 ghost use Rattle.cm_block.specs.Parser.{stack_of, StandsFor, TellsDepth, OutlineOf, TestsOf};
-ghost use Rattle.cm_block.specs.Tests.{Tested, count_of};
+ghost use Rattle.cm_block.specs.Tests.{count_of};
+ghost use Rattle.cm_block.specs.steps.LineTests.{Tested};
 ghost use Rattle.cm_block.specs.steps.ParserSteps.{Deep, TakenToLeaf};
 
 use crate::containers::Innermost;
@@ -56,7 +57,7 @@ pub struct BlockParser {
     limits: Limits,
     stack: Stack,
     leaf: OpenLeaf,
-    // Room for the text of the next leaf.
+    /// Room for the text of the next leaf.
     spare: String,
     owners: Owners,
     tests: u128,

@@ -7,7 +7,7 @@ ghost use Rattle.cm_scan.specs.Lines.{is_blank};
 ghost use Rattle.cm_scan.specs.Starts.{QuoteMarker, ItemStart, start_of, may_be_lazy, place_if_lazy, behind_quote_marker, place_in_quote, content_offset, content_column, first_content, behind_marker, place_in_item};
 ghost use Rattle.cm_scan.specs.Laws.{goes_inward};
 ghost use Rattle.cm_scan.specs.Words.{given};
-ghost use Rattle.cm_block.specs.Tests.{Tested};
+ghost use Rattle.cm_block.specs.steps.LineTests.{Tested};
 ghost use Rattle.cm_block.specs.steps.StartViews.{seen};
 ghost use Rattle.cm_block.specs.steps.PlaceViews.{begins_quote, seen_marker};
 

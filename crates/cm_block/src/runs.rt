@@ -9,7 +9,7 @@ ghost use Rattle.cm_scan.specs.Blocks.{line_feeds, rest_of, add_text, next_line}
 ghost use Rattle.cm_block.specs.steps.StartViews.{seen};
 ghost use Rattle.cm_block.specs.declared.starts.Start.TheVariants.{Html, Item};
 ghost use Rattle.cm_text.specs.Lines.{LineView};
-ghost use Rattle.cm_block.specs.Tests.{Tested};
+ghost use Rattle.cm_block.specs.steps.LineTests.{Tested};
 ghost use Rattle.cm_block.specs.steps.LeafSteps.{next_of, heading_level};
 
 use crate::counted_line::CountedLine;

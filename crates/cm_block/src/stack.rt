@@ -2,12 +2,12 @@
 ghost use Rattle.std.specs.Prelude.{◌≡◌, ◌<◌, ◌≤◌, ◌∷◌, ◌++◌, ◌+◌, ◌&&◌, [], true, false, suc, List, length, take, drop, OnOk, IfOk};
 ghost use Rattle.cm_text.specs.Views.{line_of};
 ghost use Rattle.cm_scan.specs.Words.{given};
-ghost use Rattle.cm_block.specs.Tests.{Tested};
+ghost use Rattle.cm_block.specs.steps.LineTests.{Tested};
 ghost use Rattle.cm_block.specs.Level.{empty_level, block_opens, block_closes, closed_blocks, item_opens, push_blank};
-ghost use Rattle.cm_block.specs.LevelViews.{level_in, IsLevelPlaced};
+ghost use Rattle.cm_block.specs.steps.LevelViews.{level_in, IsLevelPlaced};
 ghost use Rattle.cm_block.specs.Frames.{a_quote, an_item, is_last, Frame as open_frame};
 ghost use Rattle.cm_block.specs.steps.FrameSteps.{inward, matching, quoted_by, close_container, close_frames};
-ghost use Rattle.cm_block.specs.FrameViews.{container_of, frames_in, AreFramesPlaced};
+ghost use Rattle.cm_block.specs.steps.FrameViews.{container_of, frames_in, AreFramesPlaced};
 ghost use Rattle.cm_tree.specs.RawBlocks.{Raw, raw_inlines};
 ghost use Rattle.cm_tree.specs.declared.tree.Block.TheVariants as trees;
 
@@ -105,7 +105,7 @@ pub(crate) struct Stack {
     bare: bool,
     level: Level,
     raw: RawBlocks,
-    // Room for the blocks of the next container.
+    /// Room for the blocks of the next container.
     spare: Vec<RawBlock>,
 }
 
@@ -114,8 +114,8 @@ impl Model for Stack {
     ghost use Rattle.std.specs.Coded.{codes};
     ghost use Rattle.cm_tree.specs.contracts.tree.Block as block;
     ghost use Rattle.cm_tree.specs.contracts.tree.ListKind as list_kind;
-    ghost use Rattle.cm_block.specs.FrameViews.{frames_in, AreFramesPlaced};
-    ghost use Rattle.cm_block.specs.LevelViews.{level_in, IsLevelPlaced};
+    ghost use Rattle.cm_block.specs.steps.FrameViews.{frames_in, AreFramesPlaced};
+    ghost use Rattle.cm_block.specs.steps.LevelViews.{level_in, IsLevelPlaced};
 
     ghost Value = { Row };
 

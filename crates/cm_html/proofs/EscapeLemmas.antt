@@ -2,8 +2,9 @@
 use Rattle.std.proofs.Common.{◌≡◌, ℕ, ◌+◌, ◌<◌, true, Some, None, List, ◌++◌, take, drop, get_or, arith}
 use Rattle.std.specs.Prelude.{flat_map}
 use Rattle.std.specs.List.{position}
-use Rattle.cm_html.specs.Escape.{is_escaped, escape_byte, escape}
-use Rattle.cm_html.specs.Listing.{has_escape, quote_byte}
+use Rattle.cm_html.specs.Escape.{escape_byte, escape}
+use Rattle.cm_html.specs.steps.Bytes.{is_escaped, has_escape}
+use Rattle.cm_html.specs.Listing.{quote_byte}
 use Rattle.cm_text.proofs.ReplacedLemmas.{Keeps, replaced-found, replaced-none}
 
 -- any other byte stands for itself

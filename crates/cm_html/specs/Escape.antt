@@ -5,11 +5,7 @@ use Rattle.std.specs.List.{list_any, before_first}
 use Rattle.percent_encoding.specs.Percent.{percent_encode_byte}
 pub use Rattle.cm_text.specs.Characters.{is_space_or_tab}
 
--- `&`, `<`, `>` and `"`
-abbrev pub is_escaped : ℕ → Bool
-is_escaped b = b == 38 || b == 60 || b == 62 || b == 34
-
--- those four are written as references
+-- `&`, `<`, `>` and `"` are written as references
 abbrev pub escape_byte : ℕ → List ℕ
 escape_byte b =
     if b == 38 then codes "&amp;"

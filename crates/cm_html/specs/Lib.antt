@@ -6,3 +6,4 @@ pub mod MarkupExamples
 pub mod Tags
 pub mod WorkedExamples
 pub mod Writing
+pub mod steps

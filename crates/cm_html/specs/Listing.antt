@@ -1,5 +1,5 @@
 -- The listing of a tree: one node a line, and then the owner of each line of the source.
-use Rattle.std.specs.Prelude.{ℕ, zero, suc, ◌/◌, ◌%◌, ◌==◌, ◌||◌, Bool, true, false, List, [], ◌∷◌, ◌++◌, map, codes, if◌then◌else◌, flat_map}
+use Rattle.std.specs.Prelude.{ℕ, zero, suc, ◌/◌, ◌%◌, ◌==◌, Bool, true, false, List, [], ◌∷◌, ◌++◌, map, codes, if◌then◌else◌, flat_map}
 use Rattle.std.specs.Fmt.{decimal, digit_glyph}
 use Rattle.std.specs.Char.{is_ascii_control}
 use Rattle.cm_tree.specs.declared.tree.Inline.{Inline, Inline-F}
@@ -12,10 +12,6 @@ use Rattle.cm_tree.specs.declared.tree.ListKind.{ListKind}
 use Rattle.cm_tree.specs.declared.tree.ListKind.TheVariants.{Dash, Plus, Star, Dot, Paren}
 use Rattle.cm_tree.specs.declared.tree.Owner.{Owner}
 use Rattle.cm_tree.specs.declared.tree.Owner.TheVariants.{Leaf, Marker, Blank}
-
--- what is written by an escape between quotes: `\`, `"` and ASCII control characters
-abbrev pub has_escape : ℕ → Bool
-has_escape b = b == 92 || b == 34 || is_ascii_control b
 
 -- a byte between quotes: `\`, `"`, line feeds and other ASCII control characters are written by escapes
 abbrev pub quote_byte : ℕ → List ℕ

@@ -1,6 +1,7 @@
 //! Texts in HTML.
 ghost use Rattle.std.specs.Prelude.{◌≡◌, ℕ, ◌+◌, ◌==◌, ◌||◌, ◌<◌, length, take, drop, slice_index, position, IsTrue, IsUtf8, ◌++◌, string_bytes, OnOk};
-ghost use Rattle.cm_html.specs.Escape.{is_escaped, escape_byte, escape, destination_html, is_space_or_tab, class_word};
+ghost use Rattle.cm_html.specs.Escape.{escape_byte, escape, destination_html, is_space_or_tab, class_word};
+ghost use Rattle.cm_html.specs.steps.Bytes.{is_escaped};
 
 use crate::search::find_escaped;
 use cm_text::cut_at;

@@ -1,6 +1,7 @@
 //! Texts between quotes in a listing.
 ghost use Rattle.std.specs.Prelude.{◌≡◌, ℕ, ◌==◌, ◌||◌, position, IsTrue, ◌++◌, string_bytes, OnOk, flat_map};
-ghost use Rattle.cm_html.specs.Listing.{has_escape, quote_byte, quoted};
+ghost use Rattle.cm_html.specs.Listing.{quote_byte, quoted};
+ghost use Rattle.cm_html.specs.steps.Bytes.{has_escape};
 
 use cm_text::cut_at;
 use std::alloc::AllocError;

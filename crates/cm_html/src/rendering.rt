@@ -2,7 +2,8 @@
 ghost use Rattle.std.specs.Prelude.{◌≡◌, ℕ, ◌-◌, ◌^◌, ◌<◌, IfOk, string_bytes};
 ghost use Rattle.cm_html.specs.Html.{html_of};
 ghost use Rattle.cm_html.specs.Listing.{listing_of};
-ghost use Rattle.cm_html.specs.Writing.{WritesHtml, WritesListing, WritesText};
+ghost use Rattle.cm_html.specs.Writing.{WritesHtml, WritesListing};
+ghost use Rattle.cm_html.specs.steps.Emitting.{WritesText};
 
 use crate::blocks::push_blocks;
 use crate::fault::HtmlFault;

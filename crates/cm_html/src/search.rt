@@ -1,6 +1,6 @@
 //! The search for bytes that are written as references.
 ghost use Rattle.std.specs.Prelude.{◌≡◌, position};
-ghost use Rattle.cm_html.specs.Escape.{is_escaped};
+ghost use Rattle.cm_html.specs.steps.Bytes.{is_escaped};
 
 use cm_text::{ByteKind, next_of};
 use std::simd::prelude::*;

@@ -3,7 +3,7 @@ ghost use Rattle.std.specs.Prelude.{◌≡◌, ℕ, ◌+◌, ◌<◌, ◌^◌, t
 ghost use Rattle.cm_inline.specs.steps.Entries.{after_place, first_place, between_gone, is_listed, Falling};
 ghost use Rattle.cm_inline.specs.steps.Searching.{find_opener, looks_for, kind, bottoms_after};
 ghost use Rattle.cm_inline.specs.steps.Runs.{run_of, entry_of, rest_of, MayBeEntry};
-ghost use Rattle.cm_inline.specs.steps.Openers.{spent, IsClosing, Begins, FindsNone, Opens, Spends, Finishes, Drops, cut, zeros};
+ghost use Rattle.cm_inline.specs.steps.Openers.{spent, IsClosing, BringsCloser, FindsNone, Opens, Spends, Finishes, Drops, cut, zeros};
 
 use crate::delimiters::{Delimiter, DelimiterList, Place};
 use crate::nearest::nearest;
@@ -45,7 +45,7 @@ pub(crate) fn begin(
     run: DelimiterRun,
     item: usize,
 ) -> Result<Place, AllocError>
-    ensures { IfOk result (λ place. Begins openers.old.list openers.old.bottoms openers.new.list openers.new.bottoms place (run_of run)) }
+    ensures { IfOk result (λ place. BringsCloser openers.old.list openers.old.bottoms openers.new.list openers.new.bottoms place (run_of run)) }
 {
     let place = openers.list.push(run, item)?;
     Ok(place)

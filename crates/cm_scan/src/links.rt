@@ -183,15 +183,15 @@ fn enclosed<'a>(text: &'a str, at: usize, bounds: Bounds) -> Option<(&'a str, us
 /// What a part of a text stands between, and what it may hold.
 #[derive(Clone, Copy, Drop)]
 struct Bounds {
-    // The byte that begins the part, which may not stand in it unescaped.
+    /// The byte that begins the part, which may not stand in it unescaped.
     open: u8,
-    // The byte that ends it.
+    /// The byte that ends it.
     close: u8,
-    // The characters that it has at most.
+    /// The characters that it has at most.
     most: usize,
-    // Whether no line feed may stand in it.
+    /// Whether no line feed may stand in it.
     one_line: bool,
-    // Whether blank lines may stand in it.
+    /// Whether blank lines may stand in it.
     blank_lines: bool,
 }
 

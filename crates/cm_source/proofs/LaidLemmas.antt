@@ -8,7 +8,7 @@ use Rattle.cm_scan.proofs.TrimLemmas.{trimmed}
 use Rattle.cm_scan.specs.Words.{keep_byte, trim_end_by, trim_end_spaces}
 use Rattle.cm_source.specs.declared.source.Source.{Source}
 use Rattle.cm_source.specs.Spelling.{in_front, parted_lines}
-use Rattle.cm_source.specs.steps.Laid.{behind, further_lines, all_lines, next_front, next_begun, StandsAt, IsEnded, IsBetween, Place, IsInside, up_to, lay, Writes, Begins, Ends, Lays, Enters, Leaves}
+use Rattle.cm_source.specs.steps.Laid.{behind, further_lines, all_lines, next_front, next_begun, StandsAt, IsEnded, IsBetween, Place, IsInside, up_to, lay, Writes, BeginsLine, Ends, Lays, Enters, Leaves}
 use Rattle.cm_source.proofs.LineFronts.{line_of, parted-lines}
 use Rattle.cm_source.proofs.LineFronts as parted
 
@@ -142,12 +142,12 @@ unfolding lay
 lays-nothing source place front is = is
 
 -- a line broken
-pub lays-break : (one two three : Source) → Ends one two → Begins two three → Lays one three (10 ∷ [])
+pub lays-break : (one two three : Source) → Ends one two → BeginsLine two three → Lays one three (10 ∷ [])
 unfolding lay
 lays-break one two three ends begins place front is = begins false (up_to place) front front (ends place front is)
 
 -- a content that stands between the beginning and the end of a line
-pub writes-content : (one two three four : Source) (content : List ℕ) → Begins one two → Lays two three content → Ends three four → Writes one four (parted_lines content)
+pub writes-content : (one two three four : Source) (content : List ℕ) → BeginsLine one two → Lays two three content → Ends three four → Writes one four (parted_lines content)
 writes-content one two three four content begins lays ends begun done first front is =
     let start : Place = record { done = done; first = first; last = [] } in
     let e = parted-lines content in
@@ -186,7 +186,7 @@ parted-one (b ∷ bs) none = go (b == 10) none (λ h. parted-one bs h)
     go false none again = ap (in_front b) (again none)
 
 -- a line that has begun
-pub begun-already : (old : Source) → old.begun ≡ true → Begins old old
+pub begun-already : (old : Source) → old.begun ≡ true → BeginsLine old old
 begun-already old some begun done first front is =
     let stands = subst (λ b. StandsAt b old.line (string_bytes old.text) done first front) (sym is.begun_is ∙ some) is.stands in
     record { text = stands.0 ∙ sym (append-nil (done ++ first)); begun = some; line = stands.1 ∙ ap length stands.0; front_is = is.front_is; ended = is.ended }
@@ -214,7 +214,7 @@ ends-line old new text same none place front is = record {
     pushed (b ∷ bs) whole (inr (e, f)) = f ∙ ap (λ t. t ++ 10 ∷ []) (whole ∙ append_assoc place.done place.first (b ∷ bs))
 
 -- a container entered
-pub enters : (one two new : Source) (mark further : List ℕ) → Begins one two → string_bytes new.text ≡ string_bytes two.text ++ mark → new.line ≡ length (string_bytes new.text) → new.begun ≡ two.begun → string_bytes new.front ≡ string_bytes two.front ++ further
+pub enters : (one two new : Source) (mark further : List ℕ) → BeginsLine one two → string_bytes new.text ≡ string_bytes two.text ++ mark → new.line ≡ length (string_bytes new.text) → new.begun ≡ two.begun → string_bytes new.front ≡ string_bytes two.front ++ further
     → Enters one new mark further
 enters one two new mark further begins text line same front_is begun done first front is =
     let inside = begins begun done first front is in

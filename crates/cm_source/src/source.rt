@@ -2,7 +2,7 @@
 ghost use Rattle.std.specs.Prelude.{◌≡◌, ◌≢◌, ◌==◌, ◌<◌, ℕ, [], ◌∷◌, false, length, replicate, position, ◌+◌, ◌++◌, codes, string_bytes, IfOk, OnOk};
 ghost use Rattle.std.specs.List.{list_any};
 ghost use Rattle.cm_scan.specs.Words.{trim_end_spaces};
-ghost use Rattle.cm_source.specs.steps.Laid.{IsBetween, Begins, Ends, Lays, Writes, Enters, Leaves};
+ghost use Rattle.cm_source.specs.steps.Laid.{IsBetween, BeginsLine, Ends, Lays, Writes, Enters, Leaves};
 ghost use Rattle.cm_source.specs.Spelling.{ended_lines, marker};
 
 use cm_scan::trim_end_spaces;
@@ -91,7 +91,7 @@ impl Source {
 
     /// Begins a line, unless one has begun.
     pub(crate) fn begin_line(&mut self) -> Result<(), AllocError>
-        ensures begins { OnOk result (Begins self.old self.new) }
+        ensures begins { OnOk result (BeginsLine self.old self.new) }
         ensures same { self.new.front ≡ self.old.front }
     {
         if !self.begun {

@@ -79,10 +79,6 @@ reference_at text place = elim (reference (drop place text)) [ None ↦ None | S
 abbrev pub chars_of : Chars → List ℕ
 chars_of chars = chars.first ∷ elim chars.second [ None ↦ [] | Some second ↦ second ∷ [] ]
 
-abbrev pub characters_of : Option Chars → Option (List ℕ)
-characters_of None = None
-characters_of (Some chars) = Some (chars_of chars)
-
 -- a reference that was read, with its characters as code points
 abbrev pub read_of : Option (Chars × ℕ) → Option (List ℕ × ℕ)
 read_of None = None

@@ -29,7 +29,7 @@ use std::marker::Model;
 pub struct LineFeed {
     alloc: Global,
     limits: Limits,
-    // The lines that can be taken, and what has come behind them.
+    /// The lines that can be taken, and what has come behind them.
     ready: VecDeque<Line>,
     buffer: LineBuffer,
     fault: Option<TextFault>,

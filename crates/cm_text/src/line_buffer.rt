@@ -24,7 +24,7 @@ use std::marker::Model;
 #[derive(Drop)]
 pub struct LineBuffer {
     limits: Limits,
-    // How many bytes have been read as text, and those after them, of which no character is whole yet.
+    /// How many bytes have been read as text, and those after them, of which no character is whole yet.
     start: usize,
     pending: Vec<u8>,
     unread: Unread,

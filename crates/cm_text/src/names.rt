@@ -1,8 +1,8 @@
 //! The names of references, in the order of their bytes.
-ghost use Rattle.std.specs.Prelude.{◌≡◌, ◌≢◌, ℕ, ◌<◌, IfSome, IfNone};
+ghost use Rattle.std.specs.Prelude.{◌≡◌, ◌≢◌, ℕ, ◌<◌, IfSome, IfNone, option_map};
 ghost use Rattle.cm_text.specs.steps.NameTable.{names_joined, start_at, first_at, name_at, characters_at};
 ghost use Rattle.cm_text.specs.NamedReferences.{names};
-ghost use Rattle.cm_text.specs.References.{entry, chars_of, characters_of};
+ghost use Rattle.cm_text.specs.References.{entry, chars_of};
 
 use crate::references::Chars;
 use std::cmp::Ordering;
@@ -63,7 +63,7 @@ const PAIR: usize = 122;
 
 /// The characters of a reference with this name, if it is one of the names.
 pub(crate) fn look_up(name: &[u8]) -> Option<Chars>
-    ensures { characters_of result ≡ entry names name.now }
+    ensures { option_map chars_of result ≡ entry names name.now }
 {
     Some(characters_at(place_of(name)?))
 }

@@ -14,11 +14,11 @@ use std::alloc::Global;
 #[derive(Drop)]
 pub(crate) struct Unread {
     pub(crate) alloc: Global,
-    // Of the text so many bytes have been passed, and so many behind them are the first line.
+    /// Of the text so many bytes have been passed, and so many behind them are the first line.
     pub(crate) text: String,
     pub(crate) passed: usize,
     pub(crate) line: usize,
-    // Whether a carriage return came last, of which the line feed may still come.
+    /// Whether a carriage return came last, of which the line feed may still come.
     pub(crate) after_return: bool,
     pub(crate) ghost boundary: { IsCharBoundary (string_bytes text) passed },
     pub(crate) ghost first: { IsFirstLine line (drop passed (string_bytes text)) },

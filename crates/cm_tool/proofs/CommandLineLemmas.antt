@@ -23,7 +23,8 @@ use Rattle.clap.specs.declared.error.kind.ErrorKind.TheVariants.{DisplayHelp, Di
 use Rattle.cm_tool.specs.declared.job.Job.{Job}
 use Rattle.cm_tool.specs.declared.job.Stop.{Stop}
 use Rattle.cm_tool.specs.declared.job.Stop.TheVariants.{Help, Wrong, NoMemory}
-use Rattle.cm_tool.specs.CommandLine.{Found, IsMistake, IsRead, StopsBy, as_number, cmk_app, fits, is_limit, is_option, is_set, limits_for_job}
+use Rattle.cm_tool.specs.CommandLine.{Found, IsMistake, StopsBy, as_number, cmk_app, is_limit, is_option, is_set, limits_for_job}
+use Rattle.cm_tool.specs.steps.Arguments.{IsRead, fits}
 use Rattle.std.proofs.lemmas.Slice.Eq.{bytes_eq-Decides}
 
 pub cmk_is_simple : is_simple_and_free cmk_app ≡ true

@@ -19,7 +19,8 @@ use Rattle.clap.specs.declared.parser.matches.ValueSource.{ValueSource}
 use Rattle.clap.specs.declared.parser.matches.ValueSource.TheVariants.{CommandLine, DefaultValue}
 use Rattle.cm_tool.specs.declared.job.Job.{Job}
 use Rattle.cm_tool.specs.declared.job.Job.TheVariants.{Render, Tree, Rewrite, Examples}
-use Rattle.cm_tool.specs.CommandLine.{cmk_app, examples_app, file_rule, fits, flag_rule, found_for, is_limit, job_app, limit_rule, job_of, reads_a_text, stops_of, AreRead, FlagsAreRead, IsJob, IsRead}
+use Rattle.cm_tool.specs.CommandLine.{cmk_app, examples_app, file_rule, flag_rule, found_for, is_limit, job_app, limit_rule, job_of, reads_a_text, stops_of}
+use Rattle.cm_tool.specs.steps.Arguments.{IsJob, AreRead, FlagsAreRead, IsRead, fits}
 use Rattle.cm_tool.proofs.RowLemmas.{first_default, row_by, with_defaults}
 
 -- ---- kinds that are none

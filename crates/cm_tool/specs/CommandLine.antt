@@ -1,10 +1,10 @@
 -- What the words of a command line ask for. How clap reads them is said by its own words, at the command line of cmk.
-use Rattle.std.specs.Prelude.{◌≡◌, ◌≢◌, ◌⊎◌, ◌==◌, ◌^◌, ◌&&◌, ◌||◌, ⊤, ℕ, Bool, true, false, not, List, [], ◌∷◌, ◌++◌, Option, Some, Result, Ok, Err, if◌then◌else◌, codes, flat_map, string_bytes, find, option_map, option_and_then, unwrap_or}
+use Rattle.std.specs.Prelude.{◌≡◌, ◌≢◌, ◌⊎◌, ◌==◌, ◌^◌, ◌&&◌, ⊤, ℕ, Bool, true, false, not, List, [], ◌∷◌, ◌++◌, Option, Some, Result, Ok, Err, if◌then◌else◌, codes, flat_map, string_bytes, find, option_map, option_and_then, unwrap_or}
 use Rattle.std.specs.List.{list_all, list_any}
 use Rattle.std.specs.Option.{option_map_or}
 use Rattle.std.specs.Str.{bytes_eq}
 use Rattle.std.specs.Str.Parse.{digits_value, without_leading_plus}
-use Rattle.clap.specs.Words.{App, Kinds, Row, Rule, Text, fault_of, first_of, one_of, new_app, new_rule, subcommand_of, with_rule, with_subcommand, IsAmong}
+use Rattle.clap.specs.Words.{App, Kinds, Row, Rule, Text, fault_of, first_of, new_app, new_rule, subcommand_of, with_rule, with_subcommand, IsAmong}
 use Rattle.clap.specs.ValueTests.{is_unsigned_in}
 use Rattle.clap.specs.declared.builder.action.ArgAction.TheVariants.{SetTrue}
 use Rattle.clap.specs.declared.builder.value_parser.ValueParser.TheVariants.{Unsigned}
@@ -239,43 +239,6 @@ abbrev pub IsTaskFor : Job → Option Text → Option LimitsView → Result Task
 IsTaskFor job file limits (Ok task) =
     (task.job ≡ job) × (option_map string_bytes task.file ≡ file) × (Some task.limits ≡ limits)
 IsTaskFor job file limits (Err stop) = stop ≡ NoMemory
-
--- the value fits the argument of this name: a number in its range, `true` or `false`, or any text
-abbrev pub fits : Text → Text → Bool
-fits name value =
-    if bytes_eq name (codes "blocks") then is_limit value
-    else if bytes_eq name (codes "inlines") then is_limit value
-    else if bytes_eq name (codes "file") then true
-    else bytes_eq value (codes "true") || bytes_eq value (codes "false")
-
--- the argument of this name has a value, as it is written, that fits it
-pub record IsRead (name : Text) (rows : List Row) : Type 0 where
-  pub text : Text
-  pub is_first : first_of name rows ≡ Some text
-  pub is_read : one_of name rows ≡ Some text
-  pub is_fit : fits name text ≡ true
-
--- the flags of a subcommand have values that fit them
-pub record FlagsAreRead (rows : List Row) : Type 0 where
-  pub older : IsRead (codes "older") rows
-  pub strike : IsRead (codes "strike") rows
-
--- the options of a subcommand that reads a text have values that fit them
-pub record AreRead (rows : List Row) : Type 0 where
-  pub blocks : IsRead (codes "blocks") rows
-  pub inlines : IsRead (codes "inlines") rows
-  pub flags : FlagsAreRead rows
-
--- the options of a job's subcommand have values that fit them
-abbrev pub OptionsAreRead : Job → List Row → Type 0
-OptionsAreRead Examples rows = FlagsAreRead rows
-OptionsAreRead _ rows = AreRead rows
-
--- a subcommand that is a job, with values of its options
-pub record IsJob (found : Found) : Type 0 where
-  pub job : Job
-  pub named : job_of found.0 ≡ Some job
-  pub options : OptionsAreRead job found.1
 
 -- a wrong command line, unless memory ran out
 abbrev pub IsMistake : Result Task Stop → Type 0

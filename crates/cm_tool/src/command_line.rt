@@ -6,7 +6,8 @@ ghost use Rattle.clap.specs.Words.{app_of, first_of, found_of, kind_of, rows_of,
 ghost use Rattle.cm_tool.specs.CommandLine.{are_limits, cmk_app, each_once, examples_app, file_rule, flag_rule, found_for, hold_an_option};
 ghost use Rattle.cm_tool.specs.CommandLine.{is_option, job_app, job_of, limit_rule, limits_at, limits_by, limits_for_job};
 ghost use Rattle.cm_tool.specs.CommandLine.{reads_a_text, rules_in, stops_of, words_for, Choice};
-ghost use Rattle.cm_tool.specs.CommandLine.{AreRead, FlagsAreRead, IsJob, IsMistake, OptionsAreRead, IsTaskFor, IsTaskOf, StopsBy, StopsFor};
+ghost use Rattle.cm_tool.specs.CommandLine.{IsMistake, IsTaskFor, IsTaskOf, StopsBy, StopsFor};
+ghost use Rattle.cm_tool.specs.steps.Arguments.{IsJob, OptionsAreRead, AreRead, FlagsAreRead};
 
 use crate::job::{Job, Stop, Task};
 use clap::builder::ValueParser;
@@ -92,7 +93,7 @@ fn command<'a>(alloc: Global) -> Result<Command<'a>, AllocError>
     let tree = "Lists the tree of a CommonMark text, and the owner of each line";
     let rewrite = "Writes a CommonMark text as plain source, without its definitions";
     Command::new(alloc, "cmk")
-        .about("CommonMark 0.31.2 to HTML")
+        .about("CommonMark 0.31.2: to HTML, to a listing of its tree, to plain source")
         .subcommand_required(true)
         .subcommand(job_command(alloc, "render", render)?)?
         .subcommand(job_command(alloc, "tree", tree)?)?

@@ -20,9 +20,9 @@ use std::marker::Model;
 #[derive(Debug, Drop)]
 pub struct Definitions {
     alloc: Global,
-    // destinations and titles
+    /// Destinations and titles.
     texts: String,
-    // in the order of the labels' numbers first, which stand in the tree's nodes
+    /// In the order of the labels' numbers first, which stand in the tree's nodes.
     targets: BTreeMap<(u64, String), TargetPlaces>,
 }
 

@@ -12,8 +12,8 @@ use Rattle.cm_block.specs.OpenLeaf.{LeafLine, no_leaf, begins_leaf, begin_of_sta
 use Rattle.cm_block.specs.Level.{Level, push_blank, block_opens}
 use Rattle.cm_block.specs.Stack.{Owned, Stack, own_lines, blank_owner, push_leaf_line, push_begin}
 use Rattle.cm_block.specs.Depths.{nesting}
-use Rattle.cm_block.specs.Frames.{Frame, Row, within, stack_with}
-use Rattle.cm_block.specs.steps.FrameSteps.{quoted_by}
+use Rattle.cm_block.specs.Frames.{Frame, Row, stack_with}
+use Rattle.cm_block.specs.steps.FrameSteps.{within, quoted_by}
 use Rattle.cm_block.specs.steps.StartViews.{seen}
 use Rattle.cm_block.specs.steps.FirstLines.{begins_container}
 

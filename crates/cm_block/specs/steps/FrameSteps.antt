@@ -1,13 +1,13 @@
 -- Steps of the code over the open containers in a row.
-use Rattle.std.specs.Prelude.{ℕ, suc, Bool, true, ◌&&◌, List, [], ◌∷◌, Option, Some, None}
+use Rattle.std.specs.Prelude.{ℕ, suc, Bool, true, false, ◌&&◌, List, [], ◌∷◌, Option, Some, None}
 use Rattle.cm_text.specs.Rules.{Rules}
 use Rattle.cm_text.specs.Lines.{LineView}
 use Rattle.cm_tree.specs.declared.tree.Block.TheVariants.{Quote}
 use Rattle.cm_scan.specs.Starts.{Place, place_in_quote, place_in_item}
 use Rattle.cm_scan.specs.Laws.{goes_inward}
 use Rattle.cm_block.specs.Level.{Level, closed_blocks, block_closes, item_closes}
-use Rattle.cm_block.specs.Stack.{item_of}
-use Rattle.cm_block.specs.Frames.{a_quote, an_item, Container, Frame, is_last}
+use Rattle.cm_block.specs.Stack.{Stack, item_of, stack}
+use Rattle.cm_block.specs.Frames.{a_quote, an_item, Container, Frame, is_last, opened}
 
 abbrev pub place_in : Rules → Container → (bare : Bool) → LineView → Place
 place_in rules a_quote bare line = place_in_quote rules line
@@ -43,3 +43,8 @@ close_container (an_item kind column) outside inside = item_closes outside (item
 unfoldable pub close_frames : List Frame → Level → Level
 close_frames [] level = level
 close_frames (f ∷ fs) level = close_container f.container f.level (close_frames fs level)
+
+-- what a stack in the innermost of these containers is to the document
+unfoldable pub within : List Frame → Stack → Stack
+within [] inside = inside
+within (f ∷ fs) inside = let i = within fs inside in stack f.level (opened f.container false i.level i.now) i.owned

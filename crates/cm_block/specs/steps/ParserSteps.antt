@@ -7,7 +7,7 @@ use Rattle.cm_block.specs.declared.fault.BlockFault.{BlockFault}
 use Rattle.cm_block.specs.declared.fault.BlockFault.TheVariants.{BlocksTooDeep, NoMemory}
 use Rattle.cm_block.specs.Stack.{Stack, close_stack, push_leaf_line, push_line}
 use Rattle.cm_block.specs.Depths.{nesting}
-use Rattle.cm_block.specs.Frames.{within}
+use Rattle.cm_block.specs.steps.FrameSteps.{within}
 use Rattle.cm_block.specs.OpenLeaf.{LeafLine, line_of_leaf}
 use Rattle.cm_block.specs.LeafViews.{leaf_of}
 use Rattle.cm_block.specs.Parser.{stack_of}

@@ -64,8 +64,8 @@ abbrev pub IsClosing : Listed → List ℕ → ℕ → Run → Type 0
 IsClosing l bottoms place closer = (before : List Item) × Closing before l bottoms place closer
 
 -- a run that came in as a closer
-abbrev pub Begins : Listed → List ℕ → Listed → List ℕ → ℕ → Run → Type 0
-Begins old bottoms new new_bottoms place run =
+abbrev pub BringsCloser : Listed → List ℕ → Listed → List ℕ → ℕ → Run → Type 0
+BringsCloser old bottoms new new_bottoms place run =
     (before : List Item) → Ready before old bottoms → Closing before new new_bottoms place run × ((kinds : ℕ) → spent kinds new new_bottoms ≤ spent kinds old bottoms + (kinds + 1 + run.left)) × (new.looks ≡ old.looks)
 
 -- a search in vain, and one that found an opener

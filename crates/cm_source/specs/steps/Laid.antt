@@ -70,8 +70,8 @@ abbrev pub Writes : Source → Source → List (List ℕ) → Type 0
 Writes old new lines = (begun : Bool) (done first front : List ℕ) → IsBetween old begun done first front
     → IsBetween new (next_begun begun lines) (done ++ all_lines first front lines) (next_front first front lines) front
 
-abbrev pub Begins : Source → Source → Type 0
-Begins old new = (begun : Bool) (done first front : List ℕ) → IsBetween old begun done first front → IsInside new (record { done = done; first = first; last = [] }) front
+abbrev pub BeginsLine : Source → Source → Type 0
+BeginsLine old new = (begun : Bool) (done first front : List ℕ) → IsBetween old begun done first front → IsInside new (record { done = done; first = first; last = [] }) front
 
 abbrev pub Ends : Source → Source → Type 0
 Ends old new = (place : Place) (front : List ℕ) → IsInside old place front → IsBetween new false (up_to place) front front

@@ -11,7 +11,7 @@ use crate::device::{DeviceFailed, Source};
 #[derive(Drop)]
 pub struct Pieces {
     pieces: Vec<Vec<u8>>,
-    // The piece that is read, and how much of it has been read.
+    /// The piece that is read, and how much of it has been read.
     index: usize,
     start: usize,
     fails: bool,

@@ -1,7 +1,7 @@
 use Rattle.std.proofs.Common.{◌≡◌, false, drop}
 use Rattle.cm_block.specs.steps.FrameSteps.{quoted_by}
 use Rattle.cm_tree.specs.RawBlocks.{Raw}
-use Rattle.cm_block.specs.FrameViews.{frames_in}
+use Rattle.cm_block.specs.steps.FrameViews.{frames_in}
 use Rattle.cm_block.proofs.stack.has_quote.Given as goal
 
 -- the containers so far are items

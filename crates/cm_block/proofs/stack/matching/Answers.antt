@@ -4,7 +4,7 @@ use Rattle.cm_text.specs.declared.view.View.{View}
 use Rattle.cm_scan.specs.Words.{given}
 use Rattle.cm_block.specs.steps.FrameSteps.{matching}
 use Rattle.cm_tree.specs.RawBlocks.{Raw}
-use Rattle.cm_block.specs.FrameViews.{container_of, frame_in, frames_in}
+use Rattle.cm_block.specs.steps.FrameViews.{container_of, frame_in, frames_in}
 use Rattle.cm_block.proofs.Matching.{behind, frames_at, frames_end, match_next, match_stop, match_end, match_lazy, behind_all}
 use Rattle.cm_block.proofs.TestLemmas.{tested_then, tested_within}
 use Rattle.cm_block.proofs.stack.matching.Goals.{Else-not-take_in}

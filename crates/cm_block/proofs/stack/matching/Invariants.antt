@@ -2,8 +2,8 @@ use Rattle.std.proofs.Common.{◌≡◌, drop}
 use Rattle.cm_text.specs.Views.{line_of}
 use Rattle.cm_block.specs.steps.FrameSteps.{matching}
 use Rattle.cm_tree.specs.RawBlocks.{Raw}
-use Rattle.cm_block.specs.FrameViews.{frames_in}
-use Rattle.cm_block.specs.Tests.{Tested}
+use Rattle.cm_block.specs.steps.FrameViews.{frames_in}
+use Rattle.cm_block.specs.steps.LineTests.{Tested}
 use Rattle.cm_block.proofs.Matching.{behind}
 use Rattle.cm_block.proofs.stack.matching.Given as goal
 

@@ -2,7 +2,7 @@ use Rattle.std.proofs.Common.{◌≡◌, Some, None, get_or, arith}
 use Rattle.std.proofs.lemmas.Grind.{common_steps}
 use Rattle.std.specs.List.{position}
 use Rattle.std.proofs.lemmas.List.Quantifiers.{position-Some}
-use Rattle.cm_html.specs.Escape.{is_escaped}
+use Rattle.cm_html.specs.steps.Bytes.{is_escaped}
 use Rattle.cm_html.proofs.EscapeLemmas.{escaped_ascii, escape-found, escape-none}
 use Rattle.cm_html.proofs.escape.push_escaped.Goals as goal
 

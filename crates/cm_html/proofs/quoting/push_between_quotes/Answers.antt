@@ -2,7 +2,7 @@ use Rattle.std.proofs.Common.{◌≡◌, Some, None, get_or, arith}
 use Rattle.std.proofs.lemmas.Grind.{common_steps}
 use Rattle.std.specs.List.{position}
 use Rattle.std.proofs.lemmas.List.Quantifiers.{position-Some}
-use Rattle.cm_html.specs.Listing.{has_escape}
+use Rattle.cm_html.specs.steps.Bytes.{has_escape}
 use Rattle.cm_html.proofs.EscapeLemmas.{has_escape_ascii, quote-found, quote-none}
 use Rattle.cm_html.proofs.quoting.push_between_quotes.Goals as goal
 

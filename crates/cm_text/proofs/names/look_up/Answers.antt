@@ -1,12 +1,12 @@
-use Rattle.std.proofs.Common.{ap, sym, ◌∙◌, Some}
+use Rattle.std.proofs.Common.{ap, option_map, sym, ◌∙◌, Some}
 use Rattle.cm_text.specs.NamedReferences.{names}
-use Rattle.cm_text.specs.References.{entry, characters_of}
+use Rattle.cm_text.specs.References.{entry, chars_of}
 use Rattle.cm_text.proofs.NameLemmas.{place-entry, no-entry}
 use Rattle.cm_text.proofs.names.look_up.Goals as goal
 
 pub returns-in_err-place_of : goal.returns-in_err-place_of
 returns-in_err-place_of c =
-    ap characters_of c.from_residual.ensures ∙ sym (no-entry c.args.name.now c.in_err-place_of.ensures.none)
+    ap (option_map chars_of) c.from_residual.ensures ∙ sym (no-entry c.args.name.now c.in_err-place_of.ensures.none)
 
 pub returns : goal.returns
 returns c =

@@ -1,7 +1,7 @@
 use Rattle.std.proofs.Common.{subst, inl, inr}
 use Rattle.clap.specs.Words.{found_of, rows_of}
 use Rattle.cm_tool.specs.declared.job.Job.{Job}
-use Rattle.cm_tool.specs.CommandLine.{OptionsAreRead}
+use Rattle.cm_tool.specs.steps.Arguments.{OptionsAreRead}
 use Rattle.cm_tool.proofs.command_line.limits_for_job.Goals as goal
 
 pub limits_of-requires : goal.limits_of-requires

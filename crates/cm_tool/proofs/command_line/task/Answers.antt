@@ -1,6 +1,7 @@
 use Rattle.std.proofs.Common.{◌≡◌, ◌∙◌, [], ap, sym, subst, Option, IsSomeAnd, inl, inr, map, string_bytes}
 use Rattle.clap.specs.Words.{App, fault_of, is_simple, is_simple_and_free, subcommand_of, kind_of, IsAmong}
-use Rattle.cm_tool.specs.CommandLine.{found_for, stops_of, Found, IsJob, IsTaskOf}
+use Rattle.cm_tool.specs.CommandLine.{found_for, stops_of, Found, IsTaskOf}
+use Rattle.cm_tool.specs.steps.Arguments.{IsJob}
 use Rattle.cm_tool.proofs.CommandLineLemmas.{cmk_is_simple, cmk_reads_simply, is_mistake, no_kinds, only_memory}
 use Rattle.cm_tool.proofs.AskedLemmas.{asked_right, asked_task, asked_wrong}
 use Rattle.cm_tool.proofs.WalkedLemmas.{is_job}

@@ -1,6 +1,7 @@
 use Rattle.std.proofs.Common.{◌≡◌, ◌∙◌, sym, subst, Option, Some, IsSomeAnd}
 use Rattle.clap.specs.Words.{found_of, rows_of}
-use Rattle.cm_tool.specs.CommandLine.{job_of, Found, IsJob, IsTaskOf, OptionsAreRead}
+use Rattle.cm_tool.specs.CommandLine.{job_of, Found, IsTaskOf}
+use Rattle.cm_tool.specs.steps.Arguments.{IsJob, OptionsAreRead}
 use Rattle.cm_tool.specs.declared.job.Task.{Task}
 use Rattle.cm_tool.proofs.CommandLineLemmas.{found_is, same_job, limits_of_job}
 use Rattle.cm_tool.proofs.command_line.task_of.Goals as goal

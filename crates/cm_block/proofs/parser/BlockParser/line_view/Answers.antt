@@ -4,7 +4,8 @@ use Rattle.cm_text.specs.Lines.{LineView}
 use Rattle.cm_text.specs.Views.{line_of}
 use Rattle.cm_text.proofs.IndentationLemmas.{line-spaces}
 use Rattle.cm_block.specs.Parser.{stack_of, StandsFor}
-use Rattle.cm_block.specs.Tests.{Tested, count_of}
+use Rattle.cm_block.specs.Tests.{count_of}
+use Rattle.cm_block.specs.steps.LineTests.{Tested}
 use Rattle.cm_block.proofs.ParserLemmas.{tells_deep, stands_next}
 use Rattle.cm_block.proofs.parser.BlockParser.line_view.Goals as goal
 

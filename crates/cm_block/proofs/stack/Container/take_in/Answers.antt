@@ -1,7 +1,7 @@
 use Rattle.std.proofs.Common.{◌∙◌, sym, ap}
 use Rattle.cm_text.specs.Views.{line_of}
 use Rattle.cm_block.specs.steps.FrameSteps.{inward}
-use Rattle.cm_block.specs.FrameViews.{container_of}
+use Rattle.cm_block.specs.steps.FrameViews.{container_of}
 use Rattle.cm_block.proofs.stack.Container.take_in.Goals as goal
 
 pub returns-in-Quote-clause-line : goal.returns-in-Quote-clause-line

@@ -2,12 +2,12 @@ use Rattle.std.proofs.Common.{sym, ap, ap₂, ◌∙◌}
 use Rattle.std.proofs.lemmas.Result.{on_ok_weaker}
 use Rattle.cm_tree.specs.declared.tree.Block.TheVariants as trees
 use Rattle.cm_block.specs.Level.{block_closes, item_closes}
-use Rattle.cm_block.specs.LevelViews.{level_in}
+use Rattle.cm_block.specs.steps.LevelViews.{level_in}
 use Rattle.cm_tree.specs.RawBlocks.{blocks_in}
 use Rattle.cm_block.specs.Frames.{Row}
 use Rattle.cm_block.specs.steps.FrameSteps.{close_container}
 use Rattle.cm_block.specs.steps.LevelSteps.{item_with}
-use Rattle.cm_block.specs.FrameViews.{container_of}
+use Rattle.cm_block.specs.steps.FrameViews.{container_of}
 use Rattle.cm_tree.proofs.RawLemmas.{grows-more}
 use Rattle.cm_block.proofs.RowLemmas.{taken-placed, taken-is}
 use Rattle.cm_block.proofs.stack.Stack.close_last.Goals as goal

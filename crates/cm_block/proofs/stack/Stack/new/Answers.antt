@@ -1,5 +1,5 @@
 use Rattle.std.proofs.Common.{subst, sym}
-use Rattle.cm_block.specs.FrameViews.{AreFramesPlaced}
+use Rattle.cm_block.specs.steps.FrameViews.{AreFramesPlaced}
 use Rattle.cm_block.proofs.stack.Stack.new.Goals as goal
 
 pub invariant_of-result : goal.invariant_of-result

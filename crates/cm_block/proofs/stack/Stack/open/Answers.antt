@@ -1,5 +1,5 @@
 use Rattle.std.proofs.Common.{subst, sym}
-use Rattle.cm_block.specs.LevelViews.{IsLevelPlaced}
+use Rattle.cm_block.specs.steps.LevelViews.{IsLevelPlaced}
 use Rattle.cm_block.proofs.RowLemmas.{one-more-frame}
 use Rattle.cm_block.proofs.stack.Stack.open.Goals as goal
 

@@ -1,7 +1,7 @@
 use Rattle.std.proofs.Common.{◌≡◌, ◌≤◌, ◌+◌, ◌-◌, true, length}
 use Rattle.cm_text.specs.Views.{line_of}
 use Rattle.cm_scan.specs.Lines.{is_blank}
-use Rattle.cm_block.specs.Tests.{Tested}
+use Rattle.cm_block.specs.steps.LineTests.{Tested}
 use Rattle.cm_block.specs.Stack.{Owned}
 use Rattle.cm_block.specs.steps.FrameStarts.{begun, left_of}
 use Rattle.cm_block.proofs.stack.Stack.open_containers.Given as goal

@@ -1,7 +1,7 @@
 use Rattle.std.proofs.Common.{ℕ, bit_and, bit_or, refl, arith}
 use Rattle.std.proofs.lemmas.Simd.{zip2_splat}
 use Rattle.cm_text.proofs.SearchLemmas.{hits, joined, masked}
-use Rattle.cm_html.specs.Escape.{is_escaped}
+use Rattle.cm_html.specs.steps.Bytes.{is_escaped}
 use Rattle.cm_html.proofs.search.EscapedByteKind.lanes.Goals as goal
 
 pub returns : goal.returns

@@ -5,7 +5,7 @@ use Rattle.cm_block.specs.declared.stack.Container as code_container
 use Rattle.cm_block.specs.declared.stack.Container.TheVariants as variants
 use Rattle.cm_block.specs.declared.stack.Frame as code
 use Rattle.cm_block.specs.Frames.{Container, a_quote, an_item, Frame}
-use Rattle.cm_block.specs.LevelViews.{level_in, IsLevelPlaced}
+use Rattle.cm_block.specs.steps.LevelViews.{level_in, IsLevelPlaced}
 
 abbrev pub container_of : code_container.Container → Container
 container_of variants.Quote = a_quote

@@ -1,0 +1,11 @@
+-- The bytes that the code looks for, since they aren't written as they are.
+use Rattle.std.specs.Prelude.{ℕ, ◌==◌, Bool, ◌||◌}
+use Rattle.std.specs.Char.{is_ascii_control}
+
+-- `&`, `<`, `>` and `"`, in HTML
+abbrev pub is_escaped : ℕ → Bool
+is_escaped b = b == 38 || b == 60 || b == 62 || b == 34
+
+-- `\`, `"` and ASCII control characters, between quotes
+abbrev pub has_escape : ℕ → Bool
+has_escape b = b == 92 || b == 34 || is_ascii_control b
