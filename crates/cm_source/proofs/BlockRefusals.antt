@@ -1,6 +1,5 @@
 -- How blocks are judged.
-use Rattle.std.proofs.Common.{◌≡◌, Bool, true, false, not, ◌&&◌, List, [], ◌∷◌, map, Option, refl, sym, ap, ◌∙◌, ◌↔◌, ◌==◌, ◌<◌, ◌≤◌, length, get_or, arith, rules as std_rules}
-use Rattle.std.specs.Prelude.{IsTrue}
+use Rattle.std.proofs.Common.{◌≡◌, Bool, true, false, not, ◌&&◌, List, [], ◌∷◌, map, Option, refl, sym, ap, ◌∙◌, ◌==◌, ◌<◌, ◌≤◌, length, get_or, arith}
 use Rattle.std.specs.List.{list_any}
 use Rattle.std.proofs.lemmas.Bool.{ne_eqb}
 use Rattle.cm_text.specs.Rules.{Rules}
@@ -16,11 +15,9 @@ use Rattle.cm_source.specs.declared.refusals.Face.TheVariants.{Paragraph, Code, 
 use Rattle.cm_source.specs.steps.BlockFaces.{shown, is_paragraph}
 use Rattle.cm_source.proofs.BlockKinds.{list-judged}
 
-pub filled-first : (rules : Rules) (item : List Block) (items : List (List Block)) (empty : Bool) → (IsTrue empty ↔ (item ≡ [])) → not empty ≡ is_filled (map (map (judged rules)) (item ∷ items))
-filled-first rules [] items true is = refl
-filled-first rules [] items false is = let h : IsTrue false = is.1 refl in absurd (search std_rules)
-filled-first rules (b ∷ bs) items true is = (let h : (b ∷ bs) ≡ [] = is.0 (search std_rules) in absurd (cc h))
-filled-first rules (b ∷ bs) items false is = refl
+pub filled-first : (rules : Rules) (item : List Block) (items : List (List Block)) → not (length item == 0) ≡ is_filled (map (map (judged rules)) (item ∷ items))
+filled-first rules [] items = refl
+filled-first rules (b ∷ bs) items = ap not (ne_eqb (length (b ∷ bs)) 0 (λ e. omega (arith, e)))
 
 pub no-list : (face : Face) (others : List refusals.Face) → ((kind : ListKind) (filled : Bool) → face ≡ ListFace kind filled → ⊥) → false ≡ is_list (shown face ∷ others)
 no-list Paragraph others h = refl

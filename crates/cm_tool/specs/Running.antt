@@ -43,7 +43,7 @@ Does Rewrite answer limits bytes from left old new = Rewrites answer limits byte
 Does Examples answer limits bytes from left old new = WritesReport answer limits bytes from left old new
 
 -- the job has this answer, and the status and the errors tell it
-pub record Answers (answer : Result ℕ Fault) (status : ℕ) (job : Job) (limits : LimitsView) (bytes : List ℕ) (from left : SourceView) (old new old-errors new-errors : SinkView) : Type 0 where
+pub record RunsTo (answer : Result ℕ Fault) (status : ℕ) (job : Job) (limits : LimitsView) (bytes : List ℕ) (from left : SourceView) (old new old-errors new-errors : SinkView) : Type 0 where
   pub does : Does job answer limits bytes from left old new
   pub told : status ≡ status_of answer
   pub reports : Reports answer old-errors new-errors

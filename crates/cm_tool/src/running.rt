@@ -2,7 +2,7 @@
 ghost use Rattle.std.specs.Prelude.{◌≡◌, ℕ, ◌+◌, ◌-◌, ◌^◌, ◌<◌, ◌≤◌, ◌++◌, List, Result, IfOk, length, take};
 ghost use Rattle.std.specs.Io.KnownBytes.{Consumes};
 ghost use Rattle.cm_tool.specs.declared.fault.Fault as faults;
-ghost use Rattle.cm_tool.specs.Running.{Answers, Does, Offered, OfferedLine, Tells};
+ghost use Rattle.cm_tool.specs.Running.{Does, Offered, OfferedLine, Tells, RunsTo};
 
 use crate::conversion::convert;
 use crate::fault::Fault;
@@ -96,7 +96,7 @@ pub fn run<R: Source, W: Sink, E: Sink>(
     requires writes { W.failed writer.old < 2 ^ 64 - 1 }
     requires tells { E.failed errors.old < 2 ^ 64 - 1 }
     ensures { (bytes : List ℕ) × Consumes (R.remaining reader.old) (R.remaining reader.new) bytes
-        × (answer : Result ℕ faults.Fault) × Answers answer result task.now.job task.now.limits bytes
+        × (answer : Result ℕ faults.Fault) × RunsTo answer result task.now.job task.now.limits bytes
         (record { remaining = R.remaining reader.old; failed = R.failed reader.old })
         (record { remaining = R.remaining reader.new; failed = R.failed reader.new })
         (record { taken = W.taken writer.old; failed = W.failed writer.old })

@@ -1,9 +1,8 @@
 //! A list of the tree.
 ghost use Rattle.std.specs.Cmp.Lexicographic.{pointwise, lists_per, lists_equiv};
-ghost use Rattle.std.specs.Prelude.{◌≡◌, ◌^◌, [], ◌∷◌, ◌++◌, ◌<◌, length, slice_get, ◌↔◌, IsTrue, IfOk, MatchOption, OnOk, OnErr, OnSome};
+ghost use Rattle.std.specs.Prelude.{◌≡◌, ◌^◌, [], ◌∷◌, ◌++◌, ◌<◌, length, IfOk, MatchOption, OnOk, OnErr};
 ghost use Rattle.std.specs.Iterator.Runs.{EveryRun, ItemsMapTo};
 ghost use Rattle.std.specs.List.{AllZip};
-ghost use Rattle.std.specs.Option.{option_copied};
 ghost use Rattle.std.specs.Slice.Iter.{iter_rest, iter_steps};
 
 use std::alloc::{AllocError, Global};
@@ -58,21 +57,6 @@ impl<T> Items<T> {
         ensures { result ≡ length self.now }
     {
         self.items.len()
-    }
-
-    /// Whether there are no items.
-    pub fn is_empty(&self) -> bool
-        ensures { IsTrue result ↔ (self.now ≡ []) }
-    {
-        self.items.is_empty()
-    }
-
-    /// The item at a place, counted from 0, or None past the end.
-    pub fn get(&self, at: usize) -> Option<&T>
-        ensures value { option_copied result ≡ slice_get self.now at }
-        ensures within { OnSome result (at < length self.now) }
-    {
-        self.items.get(at)
     }
 
     /// A list with no items that has room for as many as there are here.

@@ -2,7 +2,7 @@
 ghost use Rattle.std.specs.Cmp.{partial_equiv_from_equiv};
 ghost use Rattle.std.specs.Cmp.Lexicographic.{pointwise, nat_list_eq_equiv};
 ghost use Rattle.std.specs.Bool.{nat_eq};
-ghost use Rattle.std.specs.Prelude.{◌≡◌, ◌↔◌, [], ◌++◌, length, string_bytes, IsTrue, IfOk, OnOk, OnErr};
+ghost use Rattle.std.specs.Prelude.{◌≡◌, [], ◌++◌, length, string_bytes, IfOk, OnOk, OnErr};
 
 use std::alloc::{AllocError, Global};
 use std::fmt;
@@ -70,13 +70,6 @@ impl Text {
         ensures { result ≡ length self.now }
     {
         self.string.len()
-    }
-
-    /// Whether the text has no bytes.
-    pub fn is_empty(&self) -> bool
-        ensures { IsTrue result ↔ (self.now ≡ []) }
-    {
-        self.string.is_empty()
     }
 
     /// The `String` inside, without a copy.

@@ -1,4 +1,4 @@
-use Rattle.std.proofs.Common.{map, ap, sym, ◌∙◌}
+use Rattle.std.proofs.Common.{map, not, length, ◌==◌, ap, sym, ◌∙◌}
 use Rattle.cm_source.specs.Refusals.{judged, is_filled}
 use Rattle.cm_source.proofs.RefusalLemmas.{first-item}
 use Rattle.cm_source.proofs.BlockRefusals.{filled-first}
@@ -7,4 +7,4 @@ use Rattle.cm_source.proofs.refusals.is_filled.Goals as goal
 pub returns-in-Some : goal.returns-in-Some
 returns-in-Some c = λ rules.
     let first = first-item c.args.items.now c.in-Some.item.now c.in-Some.ensures.value in
-    filled-first rules c.in-Some.item.now first.0 c.is_empty.result c.is_empty.ensures ∙ sym (ap (λ l. is_filled (map (map (judged rules)) l)) first.1)
+    ap not (c.is_empty.ensures ∙ ap (λ blocks. length blocks == 0) c.deref.ensures) ∙ filled-first rules c.in-Some.item.now first.0 ∙ sym (ap (λ l. is_filled (map (map (judged rules)) l)) first.1)
