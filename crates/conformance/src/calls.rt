@@ -4,8 +4,11 @@
 mod answer;
 mod of_block;
 mod of_command_line;
+mod of_device;
+mod of_inline;
 mod of_scan;
 mod of_text;
+mod of_tree;
 
 use crate::trouble::{Trouble, wrong};
 use crate::words::{Word, words};
@@ -21,7 +24,10 @@ fn called(alloc: Global, asked: &[Word]) -> Result<Answer, Trouble> {
     let name = name.as_str();
     let is_known = of_text::answers(&mut answer, name, given)?
         || of_scan::answers(&mut answer, name, given)?
+        || of_tree::answers(&mut answer, name, given)?
         || of_block::answers(&mut answer, name, given)?
+        || of_inline::answers(&mut answer, name, given)?
+        || of_device::answers(&mut answer, name, given)?
         || of_command_line::answers(&mut answer, name, given)?;
     if is_known {
         return Ok(answer);

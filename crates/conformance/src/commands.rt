@@ -1,15 +1,20 @@
 //! Command lines, from their words to the exit status.
 
 use crate::cases::Case;
-use crate::cuts::{Counted, Cut, pieces};
+use crate::runs::{Space, ran, told};
 use crate::trouble::{Trouble, same, wrong};
 use crate::words::{Word, words};
-use cm_text::{Limits, Room, Rules};
-use cm_tool::{Job, Task, run, task, tell};
+use cm_text::{Limits, Rules};
+use cm_tool::{Job, Task, task};
 use std::alloc::Global;
 
 /// More than any output.
 const AMPLE: usize = 2_000_000;
+
+const ALL: Space = Space {
+    capacity: AMPLE,
+    at_most: AMPLE,
+};
 
 const PARTS: [&str; 9] = [
     "words",
@@ -55,23 +60,27 @@ fn is_written(
     same(alloc, whole, wanted.as_slice(), got)
 }
 
+/// The room that this part of a case tells.
+fn space(case: &Case, part: &str) -> Result<Space, Trouble> {
+    Ok(Space {
+        capacity: case.number(part)?.unwrap_or(AMPLE),
+        at_most: AMPLE,
+    })
+}
+
 /// That a command line is answered as its case wants.
 pub(crate) fn agrees(alloc: Global, case: &Case) -> Result<(), Trouble> {
     case.has_only(&PARTS)?;
     let all = words_of(alloc, case.rest("words").unwrap_or(""))?;
     let input = case.bytes("input")?.unwrap_or(Vec::new(alloc));
-    let room = case.number("room")?.unwrap_or(AMPLE);
-    let room_for_errors = case.number("room_for_errors")?.unwrap_or(AMPLE);
-    let mut source = Counted::new(pieces(alloc, input.as_slice(), Cut::Nowhere)?, false);
-    let mut output = Room::new(alloc, room, AMPLE)?;
-    let mut errors = Room::new(alloc, room_for_errors, AMPLE)?;
-    let status = match task(alloc, &all) {
-        Ok(task) => run(alloc, &task, &mut source, &mut output, &mut errors),
-        Err(stop) => tell(&stop, &mut output, &mut errors),
+    let spaces = (space(case, "room")?, space(case, "room_for_errors")?);
+    let ran = match task(alloc, &all) {
+        Ok(task) => ran(alloc, &task, (vec![in alloc; input]?, false), spaces)?,
+        Err(stop) => told(alloc, &stop, spaces)?,
     };
-    is_written(alloc, case, ("output", "output_holds"), output.taken())?;
-    is_written(alloc, case, ("errors", "errors_hold"), errors.taken())?;
-    if case.number("status")?.unwrap_or(0) != usize::from(status) {
+    is_written(alloc, case, ("output", "output_holds"), ran.output.taken())?;
+    is_written(alloc, case, ("errors", "errors_hold"), ran.errors.taken())?;
+    if case.number("status")?.unwrap_or(0) != usize::from(ran.status) {
         return Err(wrong(alloc, "the exit status is wrong"));
     }
     Ok(())
@@ -84,19 +93,17 @@ pub(crate) fn examples_agree(
     file: &str,
     total: usize,
 ) -> Result<(), Trouble> {
-    let mut source = Counted::new(pieces(alloc, file.as_bytes(), Cut::Nowhere)?, false);
-    let mut output = Room::new(alloc, AMPLE, AMPLE)?;
-    let mut errors = Room::new(alloc, AMPLE, AMPLE)?;
+    let input = Vec::from_slice(alloc, file.as_bytes())?;
     let task = Task {
         job: Job::Examples,
         file: None,
         limits: Limits::standard().with_rules(rules),
     };
-    let status = run(alloc, &task, &mut source, &mut output, &mut errors);
+    let ran = ran(alloc, &task, (vec![in alloc; input]?, false), (ALL, ALL))?;
     let wanted = format!(in alloc; "{total} of {total} agree\n")?;
-    same(alloc, "report", wanted.as_bytes(), output.taken())?;
-    same(alloc, "errors", b"", errors.taken())?;
-    if status != 0 {
+    same(alloc, "report", wanted.as_bytes(), ran.output.taken())?;
+    same(alloc, "errors", b"", ran.errors.taken())?;
+    if ran.status != 0 {
         return Err(wrong(alloc, "the exit status is wrong"));
     }
     Ok(())

@@ -30,6 +30,59 @@ struct Open {
     items: Items<Items<Block>>,
 }
 
+/// A node with all its children.
+#[derive(Drop)]
+enum Whole {
+    Block(Block),
+    Inline(Inline),
+    Item(Items<Block>),
+}
+
+impl Open {
+    /// The node with the children so far.
+    fn whole(self) -> Whole {
+        let Open {
+            node,
+            blocks,
+            inlines: content,
+            items,
+        } = self;
+        match node {
+            Node::Paragraph => Whole::Block(Block::Paragraph(content)),
+            Node::Heading(level) => Whole::Block(Block::Heading { level, content }),
+            Node::Quote => Whole::Block(Block::Quote(blocks)),
+            Node::List { kind, tight } => Whole::Block(Block::List { kind, tight, items }),
+            Node::Item => Whole::Item(blocks),
+            Node::Emph => Whole::Inline(Inline::Emph(content)),
+            Node::Strong => Whole::Inline(Inline::Strong(content)),
+            Node::Strike => Whole::Inline(Inline::Strike(content)),
+            Node::Link { dest, title } => Whole::Inline(Inline::Link {
+                dest,
+                title,
+                content,
+            }),
+            Node::Image { dest, title } => Whole::Inline(Inline::Image {
+                dest,
+                title,
+                content,
+            }),
+        }
+    }
+}
+
+/// The node of this name that has children and no words.
+fn bare_node(name: &str) -> Option<Node> {
+    match name {
+        "paragraph" => Some(Node::Paragraph),
+        "quote" => Some(Node::Quote),
+        "item" => Some(Node::Item),
+        "emph" => Some(Node::Emph),
+        "strong" => Some(Node::Strong),
+        "strike" => Some(Node::Strike),
+        _ => None,
+    }
+}
+
 /// The nodes that are read, from the outside in, and the document so far.
 #[derive(Drop)]
 struct Reading {
@@ -70,36 +123,15 @@ impl Reading {
         let Some(open) = self.open.pop() else {
             return Ok(false);
         };
-        let Open {
-            node,
-            blocks,
-            inlines: content,
-            items,
-        } = open;
-        match node {
-            Node::Paragraph => self.block(Block::Paragraph(content)),
-            Node::Heading(level) => self.block(Block::Heading { level, content }),
-            Node::Quote => self.block(Block::Quote(blocks)),
-            Node::List { kind, tight } => self.block(Block::List { kind, tight, items }),
-            Node::Item => {
+        match open.whole() {
+            Whole::Block(block) => self.block(block),
+            Whole::Inline(inline) => self.inline(inline),
+            Whole::Item(blocks) => {
                 if let Some(list) = self.open.last_mut() {
                     list.items.push(blocks)?;
                 }
                 Ok(true)
             }
-            Node::Emph => self.inline(Inline::Emph(content)),
-            Node::Strong => self.inline(Inline::Strong(content)),
-            Node::Strike => self.inline(Inline::Strike(content)),
-            Node::Link { dest, title } => self.inline(Inline::Link {
-                dest,
-                title,
-                content,
-            }),
-            Node::Image { dest, title } => self.inline(Inline::Image {
-                dest,
-                title,
-                content,
-            }),
         }
     }
 
@@ -152,18 +184,23 @@ impl Reading {
         self.open(Node::List { kind, tight })
     }
 
+    /// A node of this name without words, if there is one.
+    fn bare_line(&mut self, name: &str) -> Result<bool, Trouble> {
+        if let Some(node) = bare_node(name) {
+            return self.open(node);
+        }
+        match name {
+            "break" => self.block(Block::Break),
+            "soft" => self.inline(Inline::Soft),
+            "hard" => self.inline(Inline::Hard),
+            _ => Ok(false),
+        }
+    }
+
     /// A node without words between quotation marks, if the line is one.
     fn plain_line(&mut self, name: &str, words: &[Word]) -> Result<bool, Trouble> {
         match (name, words) {
-            ("paragraph", []) => self.open(Node::Paragraph),
-            ("quote", []) => self.open(Node::Quote),
-            ("item", []) => self.open(Node::Item),
-            ("emph", []) => self.open(Node::Emph),
-            ("strong", []) => self.open(Node::Strong),
-            ("strike", []) => self.open(Node::Strike),
-            ("break", []) => self.block(Block::Break),
-            ("soft", []) => self.inline(Inline::Soft),
-            ("hard", []) => self.inline(Inline::Hard),
+            (_, []) => self.bare_line(name),
             ("heading", [Word::Plain(level)]) => {
                 let level = number(self.alloc, level.as_str())?;
                 self.open(Node::Heading(u8::try_from(level).unwrap_or(0)))
@@ -178,41 +215,58 @@ impl Reading {
         }
     }
 
+    /// A node of this name with one text, if there is one.
+    fn one_text(&mut self, name: &str, text: &String) -> Result<bool, Trouble> {
+        let text = self.text(text)?;
+        let inline = match name {
+            "text" => Inline::Text(text),
+            "code" => Inline::Code(text),
+            "html" if self.is_in_inlines() => Inline::Html(text),
+            "html" => return self.block(Block::Html { text }),
+            _ => return Ok(false),
+        };
+        self.inline(inline)
+    }
+
+    /// A link or an image.
+    fn link(&mut self, name: &str, dest: &String, title: &String) -> Result<bool, Trouble> {
+        let dest = self.boxed_text(dest)?;
+        let title = self.boxed_text(title)?;
+        self.open(if name == "link" {
+            Node::Link { dest, title }
+        } else {
+            Node::Image { dest, title }
+        })
+    }
+
+    fn code_block(&mut self, info: &String, text: &String) -> Result<bool, Trouble> {
+        let info = self.text(info)?;
+        let text = self.text(text)?;
+        self.block(Block::Code { info, text })
+    }
+
+    fn definition(
+        &mut self,
+        label: &String,
+        dest: &String,
+        title: &String,
+    ) -> Result<bool, Trouble> {
+        let label = self.text(label)?;
+        let dest = self.text(dest)?;
+        let title = self.text(title)?;
+        self.block(Block::Definition { label, dest, title })
+    }
+
     /// A node with texts, if the line is one.
     fn text_line(&mut self, name: &str, words: &[Word]) -> Result<bool, Trouble> {
         match (name, words) {
-            ("text", [Word::Text(text)]) => {
-                let text = self.text(text)?;
-                self.inline(Inline::Text(text))
-            }
-            ("code", [Word::Text(text)]) => {
-                let text = self.text(text)?;
-                self.inline(Inline::Code(text))
-            }
-            ("html", [Word::Text(text)]) => {
-                let text = self.text(text)?;
-                if self.is_in_inlines() {
-                    self.inline(Inline::Html(text))
-                } else {
-                    self.block(Block::Html { text })
-                }
-            }
-            ("code", [Word::Text(info), Word::Text(text)]) => {
-                let (info, text) = (self.text(info)?, self.text(text)?);
-                self.block(Block::Code { info, text })
-            }
-            ("link", [Word::Text(dest), Word::Text(title)]) => {
-                let (dest, title) = (self.boxed_text(dest)?, self.boxed_text(title)?);
-                self.open(Node::Link { dest, title })
-            }
-            ("image", [Word::Text(dest), Word::Text(title)]) => {
-                let (dest, title) = (self.boxed_text(dest)?, self.boxed_text(title)?);
-                self.open(Node::Image { dest, title })
+            (_, [Word::Text(text)]) => self.one_text(name, text),
+            ("code", [Word::Text(info), Word::Text(text)]) => self.code_block(info, text),
+            ("link" | "image", [Word::Text(dest), Word::Text(title)]) => {
+                self.link(name, dest, title)
             }
             ("definition", [Word::Text(label), Word::Text(dest), Word::Text(title)]) => {
-                let (label, dest) = (self.text(label)?, self.text(dest)?);
-                let title = self.text(title)?;
-                self.block(Block::Definition { label, dest, title })
+                self.definition(label, dest, title)
             }
             _ => Ok(false),
         }

@@ -1,12 +1,13 @@
 //! Whole texts: their HTML, their listing and their fault, in every cut, and with writers that fail.
 
 use crate::cases::Case;
-use crate::cuts::{Counted, Cut, cuts, pieces};
+use crate::cuts::{Cut, cuts, pieces};
 use crate::dialects::rules_of;
+use crate::runs::{Space, converted, ran};
 use crate::trouble::{Trouble, same, wrong};
 use cm_html::{html, listing};
-use cm_text::{Limits, Room};
-use cm_tool::{Fault, Job, Parser, Task, convert, run};
+use cm_text::Limits;
+use cm_tool::{Fault, Job, Parser, Task};
 use cm_tree::{Doc, block_depth};
 use std::alloc::{AllocError, Global};
 
@@ -42,13 +43,6 @@ pub(crate) struct Text<'a> {
     pub(crate) outcome: Outcome<'a>,
 }
 
-/// Room for an output: so many bytes, at most so many a call.
-#[derive(Clone, Copy)]
-struct Space {
-    capacity: usize,
-    at_most: usize,
-}
-
 impl Space {
     /// How much of an output of so many bytes it takes.
     fn taken(self, len: usize) -> usize {
@@ -67,6 +61,16 @@ fn ample(len: usize) -> Space {
         capacity,
         at_most: capacity,
     }
+}
+
+/// What the parser answers to a piece.
+fn fed(parser: &mut Parser, piece: &[u8]) -> Result<(), Fault> {
+    parser.feed(piece)
+}
+
+/// What the parser answers at the end.
+fn finished(parser: Parser) -> Result<Doc, Fault> {
+    parser.finish()
 }
 
 impl Text<'_> {
@@ -99,27 +103,23 @@ impl Text<'_> {
         let alloc = self.alloc;
         let taken = space.taken(whole.len());
         let told = self.told(whole, taken)?;
-        let mut source = Counted::new(pieces(alloc, self.input, cut)?, self.fails);
-        let mut output = Room::new(alloc, space.capacity, space.at_most)?;
-        let mut errors = Room::new(alloc, SHORT, SHORT)?;
-        let limits = self.limits;
-        let file = None;
-        let task = Task { job, file, limits };
-        let status = run(alloc, &task, &mut source, &mut output, &mut errors);
+        let task = Task {
+            job,
+            file: None,
+            limits: self.limits,
+        };
+        let input = (pieces(alloc, self.input, cut)?, self.fails);
+        let ran = ran(alloc, &task, input, (space, ample(0)))?;
         let is_well = told.is_empty();
         let line = if is_well {
             told
         } else {
             format!(in alloc; "cmk: {told}\n")?
         };
-        same(alloc, "fault", line.as_bytes(), errors.taken())?;
-        same(
-            alloc,
-            "output",
-            whole.get(..taken).unwrap_or(whole),
-            output.taken(),
-        )?;
-        if (status == 0) != is_well || status > 1 {
+        same(alloc, "fault", line.as_bytes(), ran.errors.taken())?;
+        let front = whole.get(..taken).unwrap_or(whole);
+        same(alloc, "output", front, ran.output.taken())?;
+        if (ran.status == 0) != is_well || ran.status > 1 {
             return Err(wrong(alloc, "the exit status is wrong"));
         }
         Ok(())
@@ -133,21 +133,17 @@ impl Text<'_> {
         let alloc = self.alloc;
         let taken = space.taken(whole.len());
         let told = self.told(whole, taken)?;
-        let mut source = Counted::new(pieces(alloc, self.input, cut)?, self.fails);
-        let mut output = Room::new(alloc, space.capacity, space.at_most)?;
-        let (answer, len) = match convert(alloc, &mut source, &mut output, self.limits) {
+        let input = (pieces(alloc, self.input, cut)?, self.fails);
+        let converted = converted(alloc, self.limits, input, space)?;
+        let (answer, len) = match converted.answer {
             Ok(len) => (String::new(alloc), len),
             Err(fault) => (format!(in alloc; "{fault}")?, whole.len()),
         };
         same(alloc, "fault", told.as_bytes(), answer.as_bytes())?;
-        same(
-            alloc,
-            "HTML",
-            whole.get(..taken).unwrap_or(whole),
-            output.taken(),
-        )?;
+        let front = whole.get(..taken).unwrap_or(whole);
+        same(alloc, "HTML", front, converted.output.taken())?;
         match (cut, self.reads) {
-            (Cut::BehindEachByte, Some(reads)) if source.reads() != reads => {
+            (Cut::BehindEachByte, Some(reads)) if converted.reads != reads => {
                 Err(wrong(alloc, "the number of reads is wrong"))
             }
             _ if len != whole.len() => Err(wrong(alloc, "the length told is wrong")),
@@ -159,7 +155,7 @@ impl Text<'_> {
     fn feed(&self, parser: &mut Parser, cut: Cut) -> Result<Option<Fault>, Trouble> {
         let mut first = None;
         for piece in &pieces(self.alloc, self.input, cut)? {
-            match (parser.feed(piece.as_slice()), first) {
+            match (fed(parser, piece.as_slice()), first) {
                 (Ok(()), None) => {}
                 (Err(fault), None) => first = Some(fault),
                 (Err(fault), Some(told)) if fault == told => {}
@@ -192,21 +188,22 @@ impl Text<'_> {
         let alloc = self.alloc;
         let mut parser = Parser::new(alloc, self.limits);
         let first = self.feed(&mut parser, cut)?;
-        let fault = match parser.finish() {
-            Ok(doc) => return self.is_document(&doc),
-            Err(fault) => fault,
-        };
+        match finished(parser) {
+            Ok(doc) => self.is_document(&doc),
+            Err(fault) => self.is_fault(first, fault),
+        }
+    }
+
+    /// That the fault at the end is the one that is wanted, and was told first when it was to be.
+    fn is_fault(&self, first: Option<Fault>, fault: Fault) -> Result<(), Trouble> {
+        let alloc = self.alloc;
         let told = format!(in alloc; "{fault}")?;
         let (line, is_late) = match self.outcome {
             Outcome::Fault { line, is_late } => (line, is_late),
             Outcome::Document { .. } => ("", false),
         };
-        same(
-            alloc,
-            "fault of the parser",
-            line.as_bytes(),
-            told.as_bytes(),
-        )?;
+        let what = "fault of the parser";
+        same(alloc, what, line.as_bytes(), told.as_bytes())?;
         if first != (if is_late { None } else { Some(fault) }) {
             return Err(wrong(alloc, "the fault is told too early or too late"));
         }

@@ -2,6 +2,7 @@
 
 use crate::cases::Case;
 use crate::listed::listed;
+use crate::spelled;
 use crate::trouble::{Trouble, same, wrong};
 use cm_html::{HtmlFault, html, listing, write_html, write_listing};
 use cm_text::Room;
@@ -10,6 +11,19 @@ use std::alloc::Global;
 
 /// Writers fail behind each byte of an output that is no longer than this.
 const SHORT: usize = 200;
+
+const PARTS: [&str; 10] = [
+    "tree",
+    "html",
+    "depth",
+    "depth_of_inlines",
+    "rules",
+    "spelled",
+    "refused",
+    "kept",
+    "pushed",
+    "reasons",
+];
 
 /// How deep the inlines of the first block nest.
 fn depth_of_inlines(doc: &Doc) -> usize {
@@ -69,7 +83,7 @@ fn has_output(alloc: Global, doc: &Doc, output: Output, whole: &[u8]) -> Result<
 
 /// The tree of a case, if it is as its case wants.
 pub(crate) fn agrees(alloc: Global, case: &Case) -> Result<Doc, Trouble> {
-    case.has_only(&["tree", "html", "depth", "depth_of_inlines"])?;
+    case.has_only(&PARTS)?;
     let text = case.lines("tree").unwrap_or("");
     let doc = listed(alloc, text)?;
     let got = listing(alloc, &doc)?;
@@ -91,20 +105,32 @@ pub(crate) fn agrees(alloc: Global, case: &Case) -> Result<Doc, Trouble> {
     {
         return Err(wrong(alloc, "a depth is wrong"));
     }
+    spelled::agrees(alloc, case, &doc.blocks)?;
     Ok(doc)
+}
+
+/// That two documents are told apart, or found equal, wrongly.
+fn mistaken(alloc: Global, doc: &Doc, other: &Doc) -> Result<(), Trouble> {
+    let text = listing(alloc, doc)?;
+    let other = listing(alloc, other)?;
+    Err(Trouble::Told(format!(in alloc; "equal or not:\n{text}and:\n{other}")?))
+}
+
+/// That a copy of the document is equal to the one at its place, and to no other.
+fn is_distinct(alloc: Global, docs: &[Doc], at: usize, doc: &Doc) -> Result<(), Trouble> {
+    let copy = doc.clone()?;
+    for (place, other) in docs.iter().enumerate() {
+        if (*other == copy) != (place == at) {
+            return mistaken(alloc, doc, other);
+        }
+    }
+    Ok(())
 }
 
 /// That each document is equal to its own copy, and to no other.
 pub(crate) fn are_distinct(alloc: Global, docs: &[Doc]) -> Result<(), Trouble> {
     for (at, doc) in docs.iter().enumerate() {
-        let copy = doc.clone()?;
-        for (place, other) in docs.iter().enumerate() {
-            if (*other == copy) != (place == at) {
-                let text = listing(alloc, doc)?;
-                let other = listing(alloc, other)?;
-                return Err(Trouble::Told(format!(in alloc; "equal or not:\n{text}and:\n{other}")?));
-            }
-        }
+        is_distinct(alloc, docs, at, doc)?;
     }
     Ok(())
 }

@@ -40,7 +40,7 @@ pub(crate) fn wrong(alloc: Global, text: &str) -> Trouble {
 }
 
 /// Bytes as they are told.
-fn shown(bytes: &[u8]) -> &str {
+pub(crate) fn shown(bytes: &[u8]) -> &str {
     str::from_utf8(bytes).unwrap_or("(no UTF-8)")
 }
 

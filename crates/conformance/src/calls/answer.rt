@@ -1,8 +1,9 @@
 //! The words of an answer.
 
-use crate::trouble::Trouble;
+use crate::trouble::{Trouble, shown};
 use crate::words::Word;
 use std::alloc::Global;
+use std::fmt;
 
 /// The words so far.
 #[derive(Drop)]
@@ -22,6 +23,17 @@ impl Answer {
     /// A text between quotation marks.
     pub(super) fn text(&mut self, text: &str) -> Result<(), Trouble> {
         let text = String::from_str(self.alloc, text)?;
+        Ok(self.words.push(Word::Text(text))?)
+    }
+
+    /// The text of these bytes.
+    pub(super) fn bytes(&mut self, bytes: &[u8]) -> Result<(), Trouble> {
+        self.text(shown(bytes))
+    }
+
+    /// What a value is, as `{:?}` shows it, between quotation marks.
+    pub(super) fn shown<T: fmt::Debug>(&mut self, value: &T) -> Result<(), Trouble> {
+        let text = format!(in self.alloc; "{value:?}")?;
         Ok(self.words.push(Word::Text(text))?)
     }
 

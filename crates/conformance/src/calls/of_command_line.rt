@@ -1,43 +1,91 @@
-//! Calls of `cm_tool::task`.
+//! Calls of `cm_tool`: `task`, `tell`, and the lines of faults.
 
 use crate::calls::answer::Answer;
+use crate::runs::{Space, told};
 use crate::trouble::Trouble;
-use crate::words::Word;
-use cm_tool::{Job, Stop, task};
+use crate::words::{Word, number};
+use cm_tool::{Fault, Job, Stop, Task, task};
+use std::alloc::Global;
 
-/// Answers the call, if it is one of `task`: the job, the file, the limits and the marks of their rules,
-/// or why there is no task.
-pub(super) fn answers(answer: &mut Answer, name: &str, given: &[Word]) -> Result<bool, Trouble> {
-    if name != "task" {
-        return Ok(false);
+/// The job, the file, the limits and the marks of their rules.
+fn task_of(answer: &mut Answer, task: &Task) -> Result<(), Trouble> {
+    answer.word(match task.job {
+        Job::Render => "render",
+        Job::Tree => "tree",
+        Job::Rewrite => "rewrite",
+        Job::Examples => "examples",
+    })?;
+    match &task.file {
+        Some(file) => answer.text(file.as_str())?,
+        None => answer.word("none")?,
     }
-    let alloc = answer.alloc;
-    let mut words = Vec::new(alloc);
+    answer.number(task.limits.bytes())?;
+    answer.number(task.limits.blocks())?;
+    answer.number(task.limits.inlines())?;
+    answer.truth(task.limits.rules().is_older())?;
+    answer.truth(task.limits.rules().strike())
+}
+
+/// The task of a command line, or why there is none.
+fn asked(answer: &mut Answer, given: &[Word]) -> Result<bool, Trouble> {
+    let mut words = Vec::new(answer.alloc);
     for word in given {
         let (Word::Text(word) | Word::Plain(word)) = word;
         words.push(word.clone()?)?;
     }
-    match task(alloc, &words) {
-        Ok(task) => {
-            answer.word(match task.job {
-                Job::Render => "render",
-                Job::Tree => "tree",
-                Job::Rewrite => "rewrite",
-                Job::Examples => "examples",
-            })?;
-            match &task.file {
-                Some(file) => answer.text(file.as_str())?,
-                None => answer.word("none")?,
-            }
-            answer.number(task.limits.bytes())?;
-            answer.number(task.limits.blocks())?;
-            answer.number(task.limits.inlines())?;
-            answer.truth(task.limits.rules().is_older())?;
-            answer.truth(task.limits.rules().strike())?;
-        }
+    match task(answer.alloc, &words) {
+        Ok(task) => task_of(answer, &task)?,
         Err(Stop::Help(_text)) => answer.word("help")?,
         Err(Stop::Wrong(_text)) => answer.word("wrong")?,
         Err(Stop::NoMemory) => return Err(Trouble::NoMemory),
     }
     Ok(true)
+}
+
+/// What stands in place of a task, by its name.
+fn stop(alloc: Global, name: &str, text: &str) -> Result<Stop, Trouble> {
+    let text = String::from_str(alloc, text)?;
+    Ok(match name {
+        "help" => Stop::Help(text),
+        "wrong" => Stop::Wrong(text),
+        _ => Stop::NoMemory,
+    })
+}
+
+/// The exit status, and what is written where the output has so much room, and then the errors.
+fn told_of(answer: &mut Answer, stop: &Stop, capacity: usize) -> Result<bool, Trouble> {
+    let at_most = 4;
+    let errors = Space {
+        capacity: 99,
+        at_most,
+    };
+    let ran = told(answer.alloc, stop, (Space { capacity, at_most }, errors))?;
+    answer.number(usize::from(ran.status))?;
+    answer.bytes(ran.output.taken())?;
+    answer.bytes(ran.errors.taken())?;
+    Ok(true)
+}
+
+/// The line of the fault that a text is too long at this place.
+fn too_long(answer: &mut Answer, at: usize) -> Result<bool, Trouble> {
+    let line = format!(in answer.alloc; "{}", Fault::TooLong { at })?;
+    answer.text(line.as_str())?;
+    Ok(true)
+}
+
+/// Answers the call, if it is one of `cm_tool`.
+pub(super) fn answers(answer: &mut Answer, name: &str, given: &[Word]) -> Result<bool, Trouble> {
+    match given {
+        words if name == "task" => asked(answer, words),
+        [Word::Plain(kind), Word::Plain(room), Word::Text(text)] if name == "tell" => {
+            let stop = stop(answer.alloc, kind.as_str(), text.as_str())?;
+            let room = number(answer.alloc, room.as_str())?;
+            told_of(answer, &stop, room)
+        }
+        [Word::Plain(at)] if name == "too_long" => {
+            let at = number(answer.alloc, at.as_str())?;
+            too_long(answer, at)
+        }
+        _ => Ok(false),
+    }
 }

@@ -125,11 +125,56 @@ fn raw(answer: &mut Answer, name: &str, text: &String, at: usize) -> Result<(), 
 }
 
 /// Whether the word stands in the text from there on.
-fn holds(answer: &mut Answer, text: &String, from: usize, word: &str) -> Result<(), Trouble> {
+fn holds(answer: &mut Answer, text: &String, from: usize, word: &str) -> Result<bool, Trouble> {
     if text.len() < from {
         return Err(wrong(answer.alloc, "the place is past the text"));
     }
-    answer.truth(holds_from(text.as_str(), from, word))
+    answer.truth(holds_from(text.as_str(), from, word))?;
+    Ok(true)
+}
+
+/// A setext heading's underline: the level, its end.
+fn underlined(answer: &mut Answer, text: &str, at: usize) -> Result<(), Trouble>
+    requires { at ≤ length text.now }
+{
+    match underline(text, at) {
+        Some((level, end)) => {
+            answer.number(usize::from(level))?;
+            answer.number(end)
+        }
+        None => answer.word("none"),
+    }
+}
+
+/// A scanner of what begins a line, if it is one.
+fn starts(answer: &mut Answer, name: &str, text: &str, at: usize) -> Result<bool, Trouble>
+    requires { IsCharBoundary text.now at }
+{
+    match name {
+        "thematic" => answer.place(thematic(text, at))?,
+        "quote_marker" => answer.place(quote_marker(text, at))?,
+        "atx" => heading(answer, text, at)?,
+        "fence" => opening(answer, text, at)?,
+        "item_marker" => marker(answer, text, at)?,
+        "html_start" => html_kind(answer, text, at)?,
+        "underline" => underlined(answer, text, at)?,
+        _ => return Ok(false),
+    }
+    Ok(true)
+}
+
+/// A scanner that answers a slice and its end, if it is one.
+fn slices<'a>(name: &str, text: &'a str, at: usize) -> Option<Option<(&'a str, usize)>>
+    requires { IsCharBoundary text.now at }
+{
+    Some(match name {
+        "label" => label(text, at),
+        "code_span" => code_span(text, at),
+        "raw_html" => raw_html(text, at),
+        "destination" => destination(text, at),
+        "title" => title(text, at),
+        _ => return None,
+    })
 }
 
 /// A scanner at a boundary of characters.
@@ -138,28 +183,14 @@ fn scans(answer: &mut Answer, name: &str, text: &String, at: usize) -> Result<bo
         return Err(wrong(answer.alloc, "the place is no boundary"));
     }
     let text = text.as_str();
+    if let Some(slice) = slices(name, text, at) {
+        answer.slice(slice)?;
+        return Ok(true);
+    }
     match name {
-        "thematic" => answer.place(thematic(text, at))?,
-        "quote_marker" => answer.place(quote_marker(text, at))?,
-        "atx" => heading(answer, text, at)?,
-        "fence" => opening(answer, text, at)?,
-        "item_marker" => marker(answer, text, at)?,
-        "html_start" => html_kind(answer, text, at)?,
-        "label" => answer.slice(label(text, at))?,
-        "code_span" => answer.slice(code_span(text, at))?,
         "autolink" => link(answer, text, at)?,
-        "raw_html" => answer.slice(raw_html(text, at))?,
-        "destination" => answer.slice(destination(text, at))?,
-        "title" => answer.slice(title(text, at))?,
         "definition" => link_definition(answer, text, at)?,
-        "underline" => match underline(text, at) {
-            Some((level, end)) => {
-                answer.number(usize::from(level))?;
-                answer.number(end)?;
-            }
-            None => answer.word("none")?,
-        },
-        _ => return Ok(false),
+        _ => return starts(answer, name, text, at),
     }
     Ok(true)
 }
@@ -167,16 +198,20 @@ fn scans(answer: &mut Answer, name: &str, text: &String, at: usize) -> Result<bo
 /// The end of a fence of this marker and so many of it.
 fn closing(
     answer: &mut Answer,
-    (marker, count): (&str, usize),
+    (marker, count): (&str, &str),
     text: &String,
-    at: usize,
-) -> Result<(), Trouble> {
-    let marker = if marker == "`" { b'`' } else { b'~' };
+    at: &str,
+) -> Result<bool, Trouble> {
+    let at = number(answer.alloc, at)?;
+    let kind = FenceKind {
+        marker: if marker == "`" { b'`' } else { b'~' },
+        count: number(answer.alloc, count)?,
+    };
     if text.len() < at {
         return Err(wrong(answer.alloc, "the place is past the text"));
     }
-    let kind = FenceKind { marker, count };
-    answer.place(fence_end(kind, text.as_str(), at))
+    answer.place(fence_end(kind, text.as_str(), at))?;
+    Ok(true)
 }
 
 /// The end of an HTML block of the kind with this name.
@@ -198,43 +233,57 @@ fn html_starts(answer: &mut Answer, name: &str, text: &String, at: usize) -> Res
     named(answer, started)
 }
 
-/// Answers the call, if it is one of `cm_scan`.
-pub(super) fn answers(answer: &mut Answer, name: &str, given: &[Word]) -> Result<bool, Trouble> {
-    let alloc = answer.alloc;
-    match (name, given) {
-        ("is_blank_text", [Word::Text(text)]) => {
-            answer.truth(is_blank_text(text.as_bytes()))?;
-        }
-        ("trim_end", [Word::Text(text)]) => answer.text(trim_end(text.as_str()))?,
-        ("trim_end_spaces", [Word::Text(text)]) => answer.text(trim_end_spaces(text.as_str()))?,
-        (
-            "fence_end",
-            [
-                Word::Plain(marker),
-                Word::Plain(count),
-                Word::Text(text),
-                Word::Plain(at),
-            ],
-        ) => {
-            let kind = (marker.as_str(), number(alloc, count.as_str())?);
-            closing(answer, kind, text, number(alloc, at.as_str())?)?;
-        }
-        ("html_end", [Word::Plain(kind), Word::Text(text), Word::Plain(at)]) => {
-            html_ends(answer, kind.as_str(), text, number(alloc, at.as_str())?)?;
-        }
-        ("html_start_by", [Word::Plain(name), Word::Text(text), Word::Plain(at)]) => {
-            html_starts(answer, name.as_str(), text, number(alloc, at.as_str())?)?;
-        }
-        ("raw_html_by", [Word::Plain(name), Word::Text(text), Word::Plain(at)]) => {
-            raw(answer, name.as_str(), text, number(alloc, at.as_str())?)?;
-        }
-        ("holds_from", [Word::Text(text), Word::Plain(from), Word::Text(word)]) => {
-            holds(answer, text, number(alloc, from.as_str())?, word.as_str())?;
-        }
-        (_, [Word::Text(text), Word::Plain(at)]) => {
-            return scans(answer, name, text, number(alloc, at.as_str())?);
-        }
+/// A call with a text alone, if it is one.
+fn of_text(answer: &mut Answer, name: &str, text: &str) -> Result<bool, Trouble> {
+    match name {
+        "is_blank_text" => answer.truth(is_blank_text(text.as_bytes()))?,
+        "trim_end" => answer.text(trim_end(text))?,
+        "trim_end_spaces" => answer.text(trim_end_spaces(text))?,
         _ => return Ok(false),
     }
     Ok(true)
+}
+
+/// A call with the name of a kind or of rules, a text and a place, if it is one.
+fn by_name(
+    answer: &mut Answer,
+    (name, kind): (&str, &str),
+    text: &String,
+    at: usize,
+) -> Result<bool, Trouble> {
+    match name {
+        "html_end" => html_ends(answer, kind, text, at)?,
+        "html_start_by" => html_starts(answer, kind, text, at)?,
+        "raw_html_by" => raw(answer, kind, text, at)?,
+        _ => return Ok(false),
+    }
+    Ok(true)
+}
+
+/// Answers the call, if it is one of `cm_scan`.
+pub(super) fn answers(answer: &mut Answer, name: &str, given: &[Word]) -> Result<bool, Trouble> {
+    match given {
+        [Word::Text(text)] => of_text(answer, name, text.as_str()),
+        [Word::Text(text), Word::Plain(at)] => {
+            let at = number(answer.alloc, at.as_str())?;
+            scans(answer, name, text, at)
+        }
+        [Word::Plain(kind), Word::Text(text), Word::Plain(at)] => {
+            let at = number(answer.alloc, at.as_str())?;
+            by_name(answer, (name, kind.as_str()), text, at)
+        }
+        [Word::Text(text), Word::Plain(from), Word::Text(word)] if name == "holds_from" => {
+            let from = number(answer.alloc, from.as_str())?;
+            holds(answer, text, from, word.as_str())
+        }
+        [
+            Word::Plain(marker),
+            Word::Plain(count),
+            Word::Text(text),
+            Word::Plain(at),
+        ] if name == "fence_end" => {
+            closing(answer, (marker.as_str(), count.as_str()), text, at.as_str())
+        }
+        _ => Ok(false),
+    }
 }

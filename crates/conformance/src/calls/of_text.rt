@@ -2,13 +2,17 @@
 
 use crate::calls::answer::Answer;
 use crate::dialects::rules_of;
+use crate::lines::line_at;
 use crate::trouble::{Trouble, wrong};
 use crate::words::{Word, number};
 use cm_text::{
-    Limits, Line, LineFeed, Rules, cut_at, fold_label, indent, is_ascii_punct, is_punct,
+    Limits, Line, LineFeed, Rules, View, cut_at, fold_label, indent, is_ascii_punct, is_punct,
     is_punct_by, is_space, next_markup, reference_at, strip, unescape,
 };
 use std::alloc::Global;
+
+/// The calls with a line that begins at a column.
+const LINES: [&str; 3] = ["indent", "strip", "taken"];
 
 /// A kind of characters.
 #[derive(Drop)]
@@ -20,7 +24,7 @@ enum Kind {
 }
 
 /// The lines of a text that comes in these pieces.
-fn lines(answer: &mut Answer, pieces: &[Word]) -> Result<(), Trouble> {
+fn lines(answer: &mut Answer, pieces: &[Word]) -> Result<bool, Trouble> {
     let alloc = answer.alloc;
     let mut feed = LineFeed::new(alloc, Limits::standard());
     for piece in pieces {
@@ -43,21 +47,16 @@ fn lines(answer: &mut Answer, pieces: &[Word]) -> Result<(), Trouble> {
     if let Some(line) = feed.next_line() {
         answer.text(line.text.as_str())?;
     }
-    answer.truth(feed.ended())
+    answer.truth(feed.ended())?;
+    Ok(true)
 }
 
-/// A line that begins at this column.
-fn line_at(alloc: Global, column: usize, text: &str) -> Result<Line, Trouble> {
-    let mut whole = " ".repeat(alloc, column)?;
-    whole.push_str(text)?;
-    let mut feed = LineFeed::new(alloc, Limits::standard());
-    if feed.push(whole.as_bytes()).is_err() || feed.end().is_err() {
-        return Err(Trouble::NoMemory);
-    }
-    match feed.next_line() {
-        Some(line) => Ok(strip(alloc, column, &line)?),
-        None => Err(wrong(alloc, "the text has no line")),
-    }
+/// A line seen without a copy: its column, its spaces, the rest, and its indentation.
+fn seen(answer: &mut Answer, line: &View<'_>) -> Result<(), Trouble> {
+    answer.number(line.column)?;
+    answer.number(line.spaces)?;
+    answer.text(line.rest)?;
+    answer.number(line.indent())
 }
 
 /// What `strip` leaves of a line: its column and its text. The line seen without a copy is the same.
@@ -65,11 +64,19 @@ fn stripped(answer: &mut Answer, line: &Line, columns: usize) -> Result<(), Trou
     let left = strip(answer.alloc, columns, line)?;
     answer.number(left.column)?;
     answer.text(left.text.as_str())?;
-    let seen = line.view().strip(columns);
-    answer.number(seen.column)?;
-    answer.number(seen.spaces)?;
-    answer.text(seen.rest)?;
-    answer.number(seen.indent())
+    seen(answer, &line.view().strip(columns))
+}
+
+/// A lazy line seen without a copy, from which so many columns are taken one after another.
+fn taken_in_parts(answer: &mut Answer, mut line: Line, parts: &[Word]) -> Result<(), Trouble> {
+    line.lazy = true;
+    let mut left = line.view();
+    for columns in parts {
+        let (Word::Text(columns) | Word::Plain(columns)) = columns;
+        left = left.strip(number(answer.alloc, columns.as_str())?);
+    }
+    seen(answer, &left)?;
+    answer.truth(left.lazy)
 }
 
 /// Whether a character is of this kind.
@@ -122,22 +129,27 @@ fn reference(answer: &mut Answer, text: &String, at: usize) -> Result<(), Troubl
 }
 
 /// The limits of these numbers.
-fn limits(answer: &mut Answer, bytes: usize, blocks: usize, inlines: usize) -> Result<(), Trouble> {
+fn limits(answer: &mut Answer, bytes: &str, blocks: &str, inlines: &str) -> Result<bool, Trouble> {
+    let bytes = number(answer.alloc, bytes)?;
+    let blocks = number(answer.alloc, blocks)?;
+    let inlines = number(answer.alloc, inlines)?;
     match Limits::new(bytes, blocks, inlines) {
         Some(limits) => {
             answer.number(limits.bytes())?;
             answer.number(limits.blocks())?;
-            answer.number(limits.inlines())
+            answer.number(limits.inlines())?;
         }
-        None => answer.word("none"),
+        None => answer.word("none")?,
     }
+    Ok(true)
 }
 
 /// The marks of rules that limits have been given.
-fn rules(answer: &mut Answer, name: &str) -> Result<(), Trouble> {
+fn rules_given(answer: &mut Answer, name: &str) -> Result<bool, Trouble> {
     let limits = Limits::standard().with_rules(rules_of(answer.alloc, name)?);
     answer.truth(limits.rules().is_older())?;
-    answer.truth(limits.rules().strike())
+    answer.truth(limits.rules().strike())?;
+    Ok(true)
 }
 
 /// A call with a text alone, if it is one.
@@ -154,48 +166,63 @@ fn of_one_text(answer: &mut Answer, name: &str, text: &str) -> Result<bool, Trou
     Ok(true)
 }
 
-/// Answers the call, if it is one of `cm_text`.
-pub(super) fn answers(answer: &mut Answer, name: &str, given: &[Word]) -> Result<bool, Trouble> {
-    let alloc = answer.alloc;
-    match (name, given) {
-        ("lines", pieces) => lines(answer, pieces)?,
-        (
-            "limits",
-            [
-                Word::Plain(bytes),
-                Word::Plain(blocks),
-                Word::Plain(inlines),
-            ],
-        ) => {
-            let bytes = number(alloc, bytes.as_str())?;
-            let blocks = number(alloc, blocks.as_str())?;
-            limits(answer, bytes, blocks, number(alloc, inlines.as_str())?)?;
-        }
-        ("indent", [Word::Plain(column), Word::Text(text)]) => {
-            let line = line_at(alloc, number(alloc, column.as_str())?, text.as_str())?;
-            answer.number(indent(&line))?;
-        }
-        ("strip", [Word::Plain(column), Word::Text(text), Word::Plain(columns)]) => {
-            let line = line_at(alloc, number(alloc, column.as_str())?, text.as_str())?;
-            stripped(answer, &line, number(alloc, columns.as_str())?)?;
-        }
-        ("cut_at", [Word::Text(text), Word::Plain(at)]) => {
-            cut(answer, text, number(alloc, at.as_str())?)?;
-        }
-        ("next_markup", [Word::Text(text), Word::Plain(from)]) => {
-            let from = number(alloc, from.as_str())?;
-            answer.number(next_markup(text.as_bytes(), from))?;
-        }
-        ("reference_at", [Word::Text(text), Word::Plain(at)]) => {
-            reference(answer, text, number(alloc, at.as_str())?)?;
-        }
-        ("rules", [Word::Plain(name)]) => rules(answer, name.as_str())?,
-        ("is_punct_by", [Word::Plain(name), Word::Text(text)]) => {
-            let kind = Kind::PunctuationBy(rules_of(alloc, name.as_str())?);
-            characters(answer, text.as_str(), &kind)?;
-        }
-        (_, [Word::Text(text)]) => return of_one_text(answer, name, text.as_str()),
+/// A call with a text and a place, if it is one.
+fn at_place(answer: &mut Answer, name: &str, text: &String, at: usize) -> Result<bool, Trouble> {
+    match name {
+        "cut_at" => cut(answer, text, at)?,
+        "next_markup" => answer.number(next_markup(text.as_bytes(), at))?,
+        "reference_at" => reference(answer, text, at)?,
         _ => return Ok(false),
     }
     Ok(true)
+}
+
+/// A call with a line that begins at a column, and how many columns are taken from it, if it is one.
+fn of_line(answer: &mut Answer, name: &str, line: Line, columns: &[Word]) -> Result<bool, Trouble> {
+    match (name, columns) {
+        ("indent", []) => answer.number(indent(&line))?,
+        ("strip", [Word::Plain(columns)]) => {
+            let columns = number(answer.alloc, columns.as_str())?;
+            stripped(answer, &line, columns)?;
+        }
+        ("taken", parts) => taken_in_parts(answer, line, parts)?,
+        _ => return Ok(false),
+    }
+    Ok(true)
+}
+
+/// The characters of punctuation by the rules of this name.
+fn punctuation(answer: &mut Answer, rules: &str, text: &str) -> Result<bool, Trouble> {
+    let kind = Kind::PunctuationBy(rules_of(answer.alloc, rules)?);
+    characters(answer, text, &kind)?;
+    Ok(true)
+}
+
+/// Answers the call, if it is one of `cm_text`.
+pub(super) fn answers(answer: &mut Answer, name: &str, given: &[Word]) -> Result<bool, Trouble> {
+    match given {
+        pieces if name == "lines" => lines(answer, pieces),
+        [Word::Text(text)] => of_one_text(answer, name, text.as_str()),
+        [Word::Plain(rules)] if name == "rules" => rules_given(answer, rules.as_str()),
+        [
+            Word::Plain(bytes),
+            Word::Plain(blocks),
+            Word::Plain(inlines),
+        ] if name == "limits" => {
+            limits(answer, bytes.as_str(), blocks.as_str(), inlines.as_str())
+        }
+        [Word::Plain(rules), Word::Text(text)] if name == "is_punct_by" => {
+            punctuation(answer, rules.as_str(), text.as_str())
+        }
+        [Word::Text(text), Word::Plain(at)] => {
+            let at = number(answer.alloc, at.as_str())?;
+            at_place(answer, name, text, at)
+        }
+        [Word::Plain(column), Word::Text(text), columns @ ..] if LINES.contains(&name) => {
+            let column = number(answer.alloc, column.as_str())?;
+            let line = line_at(answer.alloc, column, text.as_str())?;
+            of_line(answer, name, line, columns)
+        }
+        _ => Ok(false),
+    }
 }

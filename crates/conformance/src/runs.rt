@@ -1,0 +1,81 @@
+//! What `cm_tool` writes, where only so much of it is taken.
+
+use crate::cuts::Counted;
+use cm_text::{Limits, NoMemory, Room};
+use cm_tool::{Fault, Stop, Task, convert, run, tell};
+use std::alloc::Global;
+
+/// Room for what is written: so many bytes, at most so many a call.
+#[derive(Clone, Copy)]
+pub(crate) struct Space {
+    pub(crate) capacity: usize,
+    pub(crate) at_most: usize,
+}
+
+/// What was taken, and the exit status.
+#[derive(Drop)]
+pub(crate) struct Written {
+    pub(crate) output: Room,
+    pub(crate) errors: Room,
+    pub(crate) status: u8,
+}
+
+/// Does a task on a text that comes in these pieces, behind which the reader may fail.
+pub(crate) fn ran(
+    alloc: Global,
+    task: &Task,
+    (pieces, fails): (Vec<Vec<u8>>, bool),
+    (output, errors): (Space, Space),
+) -> Result<Written, NoMemory> {
+    let mut output = Room::new(alloc, output.capacity, output.at_most)?;
+    let mut errors = Room::new(alloc, errors.capacity, errors.at_most)?;
+    let mut source = Counted::new(pieces, fails);
+    let status = run(alloc, task, &mut source, &mut output, &mut errors);
+    Ok(Written {
+        output,
+        errors,
+        status,
+    })
+}
+
+/// Tells why there is no task.
+pub(crate) fn told(
+    alloc: Global,
+    stop: &Stop,
+    (output, errors): (Space, Space),
+) -> Result<Written, NoMemory> {
+    let mut output = Room::new(alloc, output.capacity, output.at_most)?;
+    let mut errors = Room::new(alloc, errors.capacity, errors.at_most)?;
+    let status = tell(stop, &mut output, &mut errors);
+    Ok(Written {
+        output,
+        errors,
+        status,
+    })
+}
+
+/// What was taken of the HTML, how many reads were made, and the answer.
+#[derive(Drop)]
+pub(crate) struct Page {
+    pub(crate) output: Room,
+    pub(crate) reads: usize,
+    pub(crate) answer: Result<usize, Fault>,
+}
+
+/// Converts a text that comes in these pieces, behind which the reader may fail.
+pub(crate) fn converted(
+    alloc: Global,
+    limits: Limits,
+    (pieces, fails): (Vec<Vec<u8>>, bool),
+    space: Space,
+) -> Result<Page, NoMemory> {
+    let mut output = Room::new(alloc, space.capacity, space.at_most)?;
+    let mut source = Counted::new(pieces, fails);
+    let answer = convert(alloc, &mut source, &mut output, limits);
+    let reads = source.reads();
+    Ok(Page {
+        output,
+        reads,
+        answer,
+    })
+}
