@@ -3,7 +3,6 @@
 use cm_html::{html, listing};
 use cm_tree::{Block, Doc, Inline, Items, Text};
 use std::alloc::{AllocError, Global};
-use std::ops::Range;
 use std::test::Fail;
 
 const DEPTH: usize = 500;
@@ -22,35 +21,63 @@ fn nested(alloc: Global) -> Result<Block, AllocError> {
     Ok(block)
 }
 
-/// The lines of nodes of one kind with so many nodes round each.
-fn lines(alloc: Global, depths: Range<usize>, word: &str) -> Result<String, AllocError> {
+fn document(alloc: Global) -> Result<Doc, AllocError> {
+    Ok(Doc {
+        blocks: Items::from(vec![in alloc; nested(alloc)?]?),
+        owners: Items::new(alloc),
+    })
+}
+
+/// The parts of the HTML, each so many times.
+const PARTS: [(&str, usize); 7] = [
+    ("<blockquote>\n", DEPTH),
+    ("<p>", 1),
+    ("<em>", DEPTH),
+    ("a", 1),
+    ("</em>", DEPTH),
+    ("</p>\n", 1),
+    ("</blockquote>\n", DEPTH),
+];
+
+fn wanted_html(alloc: Global) -> Result<String, AllocError> {
     let mut text = String::new(alloc);
-    for depth in depths {
-        let margin = "  ".repeat(alloc, depth)?;
-        write!(text, "{margin}{word}\n")?;
+    for (part, times) in PARTS {
+        text.push_str(part.repeat(alloc, times)?.as_str())?;
+    }
+    Ok(text)
+}
+
+/// The line of the listing with so many nodes round its node.
+fn line(depth: usize) -> &'static str {
+    match depth {
+        0..DEPTH => "quote\n",
+        DEPTH => "paragraph\n",
+        _ if depth <= 2 * DEPTH => "emph\n",
+        _ => "text \"a\"\n",
+    }
+}
+
+fn wanted_listing(alloc: Global) -> Result<String, AllocError> {
+    let mut text = String::new(alloc);
+    for depth in 0..=2 * DEPTH + 1 {
+        text.push_str("  ".repeat(alloc, depth)?.as_str())?;
+        text.push_str(line(depth))?;
     }
     Ok(text)
 }
 
 #[test]
-fn quotes_and_emphasis(rt: HostRuntime) -> Result<(), Fail> {
+fn html_of_quotes_and_emphasis(rt: HostRuntime) -> Result<(), Fail> {
     let alloc = rt.alloc();
-    let quotes = "<blockquote>\n".repeat(alloc, DEPTH)?;
-    let emphasis = "<em>".repeat(alloc, DEPTH)?;
-    let no_emphasis = "</em>".repeat(alloc, DEPTH)?;
-    let no_quotes = "</blockquote>\n".repeat(alloc, DEPTH)?;
-    let wanted = format!(in alloc; "{quotes}<p>{emphasis}a{no_emphasis}</p>\n{no_quotes}")?;
-    let doc = Doc {
-        blocks: Items::from(vec![in alloc; nested(alloc)?]?),
-        owners: Items::new(alloc),
-    };
-    assert_eq!(rt; html(alloc, &doc)?.as_str(), wanted.as_str());
-    let quotes = lines(alloc, 0..DEPTH, "quote")?;
-    let margin = "  ".repeat(alloc, DEPTH)?;
-    let emphasis = lines(alloc, DEPTH + 1..2 * DEPTH + 1, "emph")?;
-    let wanted = format!(in alloc;
-        "{quotes}{margin}paragraph\n{emphasis}{margin}{margin}  text \"a\"\n"
-    )?;
-    assert_eq!(rt; listing(alloc, &doc)?.as_str(), wanted.as_str());
+    let written = html(alloc, &document(alloc)?)?;
+    assert!(rt; written == wanted_html(alloc)?);
+    Ok(())
+}
+
+#[test]
+fn listing_of_quotes_and_emphasis(rt: HostRuntime) -> Result<(), Fail> {
+    let alloc = rt.alloc();
+    let written = listing(alloc, &document(alloc)?)?;
+    assert!(rt; written == wanted_listing(alloc)?);
     Ok(())
 }

@@ -46,12 +46,16 @@ fn a_title_in_a_quote(rt: HostRuntime) -> Result<(), Fail> {
     assert!(rt; !has_title(&quoted));
     quoted.push(title(alloc, "A title")?)?;
     let blocks = Items::from(vec![in alloc; Block::Quote(quoted)]?);
-    assert!(rt; has_title(&blocks));
-    assert_eq!(rt; block_depth(&blocks), 1);
-    assert!(rt; !has_raw_html(&blocks));
+    assert!(rt; has_title(&blocks) && block_depth(&blocks) == 1 && !has_raw_html(&blocks));
+    Ok(())
+}
+
+#[test]
+fn raw_html_in_emphasis(rt: HostRuntime) -> Result<(), Fail> {
+    let alloc = rt.alloc();
     let raw = Items::from(vec![in alloc; Inline::Html(Text::from_str(alloc, "<b>")?)]?);
     let shown = Items::from(vec![in alloc; Inline::Emph(raw)]?);
-    let raw_blocks = Items::from(vec![in alloc; Block::Paragraph(shown)]?);
-    assert!(rt; has_raw_html(&raw_blocks));
+    let blocks = Items::from(vec![in alloc; Block::Paragraph(shown)]?);
+    assert!(rt; has_raw_html(&blocks));
     Ok(())
 }

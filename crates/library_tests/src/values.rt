@@ -7,23 +7,28 @@ use std::test::Fail;
 fn items(rt: HostRuntime) -> Result<(), Fail> {
     let alloc = rt.alloc();
     let mut items = Items::new(alloc);
-    assert!(rt; items.is_empty());
+    let was_empty = items.is_empty();
     items.push(3_u8)?;
     items.push(5)?;
-    assert_eq!(rt; items.len(), 2);
-    assert_eq!(rt; items.get(1), Some(&5));
-    let mut sum = 0_u32;
+    assert!(rt; was_empty && items.len() == 2 && items.get(1) == Some(&5));
+    assert!(rt; items.first() == Some(&3) && items.iter().next_back() == Some(&5));
+    let copy = items.clone()?;
+    assert!(rt; copy == items && items == Items::from(vec![in alloc; 3, 5]?));
+    let last = items.pop();
+    assert!(rt; last == Some(5) && items != copy);
+    let rest = items.into_vec();
+    assert!(rt; rest.as_slice() == [3].as_slice());
+    Ok(())
+}
+
+#[test]
+fn items_in_order(rt: HostRuntime) -> Result<(), Fail> {
+    let items = Items::from(vec![in rt.alloc(); 3_u8, 5]?);
+    let mut all = 0_u32;
     for item in &items {
-        sum = sum.saturating_add(u32::from(*item));
+        all = all.wrapping_mul(10).wrapping_add(u32::from(*item));
     }
-    assert_eq!(rt; sum, 8);
-    assert_eq!(rt; items.iter().next_back(), Some(&5));
-    assert_eq!(rt; items.first(), Some(&3));
-    assert!(rt; items.clone()? == items);
-    assert!(rt; items == Items::from(vec![in alloc; 3, 5]?));
-    assert_eq!(rt; items.pop(), Some(5));
-    assert!(rt; items == Items::from(vec![in alloc; 3]?));
-    assert_eq!(rt; items.into_vec().len(), 1);
+    assert!(rt; all == 35);
     Ok(())
 }
 
@@ -31,16 +36,21 @@ fn items(rt: HostRuntime) -> Result<(), Fail> {
 fn texts(rt: HostRuntime) -> Result<(), Fail> {
     let alloc = rt.alloc();
     let mut text = Text::new(alloc);
-    assert!(rt; text.is_empty());
+    let was_empty = text.is_empty();
     text.push_str("\u{E9}")?;
-    assert_eq!(rt; text.len(), 2);
-    assert_eq!(rt; text.as_str(), "\u{E9}");
-    assert!(rt; text.ends_with('\u{E9}'));
-    assert!(rt; text == Text::from_str(alloc, "\u{E9}")?);
-    assert!(rt; text == Text::from(String::from_str(alloc, "\u{E9}")?));
+    assert!(rt; was_empty && text.len() == 2 && text.as_str() == "\u{E9}");
+    assert!(rt; text.ends_with('\u{E9}') && text == Text::from_str(alloc, "\u{E9}")?);
+    let string = text.into_string();
+    assert!(rt; string.as_str() == "\u{E9}");
+    Ok(())
+}
+
+#[test]
+fn boxed_texts(rt: HostRuntime) -> Result<(), Fail> {
+    let alloc = rt.alloc();
+    let text = Text::from(String::from_str(alloc, "\u{E9}")?);
     let boxed = BoxedText::new(alloc, text.clone()?)?;
-    assert_eq!(rt; boxed.as_str(), "\u{E9}");
-    assert!(rt; boxed == boxed.clone()?);
-    assert_eq!(rt; text.into_string().as_str(), "\u{E9}");
+    let copy = boxed.clone()?;
+    assert!(rt; boxed.as_str() == "\u{E9}" && boxed == copy && text.as_str() == boxed.as_str());
     Ok(())
 }
