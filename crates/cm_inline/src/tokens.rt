@@ -99,17 +99,6 @@ fn room_for_text(tokens: &[Token]) -> usize {
     room
 }
 
-/// Adds the characters of a reference.
-fn push_chars(text: &mut String, chars: Chars) -> Result<(), AllocError>
-    ensures { OnOk result (string_bytes text.new ≡ string_bytes text.old ++ encode_utf8_all (chars_of chars)) }
-{
-    text.push(chars.first)?;
-    if let Some(second) = chars.second {
-        text.push(second)?;
-    }
-    Ok(())
-}
-
 /// Adds what is left of a delimiter run.
 pub(crate) fn push_run(text: &mut String, run: DelimiterRun) -> Result<(), AllocError>
     ensures { OnOk result (string_bytes text.new ≡ string_bytes text.old ++ replicate run.left (byte_of run.marker)) }
@@ -139,7 +128,7 @@ fn push_text_of(text: &mut String, source: &str, token: Token) -> Result<bool, A
             Ok(true)
         }
         Token::Characters(chars) => {
-            push_chars(text, chars)?;
+            chars.push_to(text)?;
             Ok(true)
         }
         Token::Whole(_) => Ok(false),

@@ -1,12 +1,13 @@
 //! References to characters.
-ghost use Rattle.std.specs.Prelude.{◌≡◌, ◌∷◌, IfSome, ℕ, ◌+◌, ◌==◌, ◌<◌, ◌≤◌, ◌^◌, List, length, drop, take, Option, Some, None, if◌then◌else◌, option_copied};
+ghost use Rattle.std.specs.Prelude.{◌≡◌, ◌∷◌, ◌++◌, IfSome, OnOk, ℕ, ◌+◌, ◌==◌, ◌<◌, ◌≤◌, ◌^◌, List, length, drop, take, Option, Some, None, if◌then◌else◌, option_copied, string_bytes, encode_utf8_all};
 ghost use Rattle.std.specs.Char.{is_ascii_digit, is_ascii_hexdigit, is_ascii_alphanumeric};
 ghost use Rattle.std.specs.List.{prefix_len};
 ghost use Rattle.std.specs.Str.{IsCharBoundary};
 ghost use Rattle.std.specs.Str.Parse.{AllDigits, digits_value};
-ghost use Rattle.cm_text.specs.References.{before_semicolon, numbered_character, numbered, named, begins_with, reference, reference_at, read_of};
+ghost use Rattle.cm_text.specs.References.{before_semicolon, chars_of, numbered_character, numbered, named, begins_with, reference, reference_at, read_of};
 
 use crate::names::look_up;
+use std::alloc::AllocError;
 
 /// What a reference stands for: one character or two.
 #[derive(Clone, Copy, Debug, PartialEq, Eq, Drop)]
@@ -15,6 +16,23 @@ pub struct Chars {
     pub first: char,
     /// The second of two.
     pub second: Option<char>,
+}
+
+impl Chars {
+    /// Adds the characters to the end of a text.
+    ///
+    /// # Errors
+    ///
+    /// `AllocError` where a request for memory was refused.
+    pub fn push_to(self, text: &mut String) -> Result<(), AllocError>
+        ensures { OnOk result (string_bytes text.new ≡ string_bytes text.old ++ encode_utf8_all (chars_of self)) }
+    {
+        text.push(self.first)?;
+        if let Some(second) = self.second {
+            text.push(second)?;
+        }
+        Ok(())
+    }
 }
 
 /// The reference at a place in a text, which is the boundary of a character: what it stands for, and the place

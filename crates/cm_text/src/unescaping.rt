@@ -1,8 +1,8 @@
 //! Texts with their escapes and references resolved.
-ghost use Rattle.std.specs.Prelude.{◌≡◌, [], ◌∷◌, ◌++◌, ◌<◌, ◌≤◌, length, drop, slice_index, string_bytes, encode_utf8_all, option_map, IfOk, OnOk};
+ghost use Rattle.std.specs.Prelude.{◌≡◌, [], ◌∷◌, ◌++◌, ◌<◌, ◌≤◌, length, drop, slice_index, string_bytes, option_map, IfOk, OnOk};
 ghost use Rattle.std.specs.Str.{IsCharBoundary};
 ghost use Rattle.std.specs.Cow.{cow_str_bytes};
-ghost use Rattle.cm_text.specs.References.{chars_of, read_of};
+ghost use Rattle.cm_text.specs.References.{read_of};
 ghost use Rattle.cm_text.specs.Unescaping.{escape, special, unescape};
 
 use crate::characters::is_ascii_punct;
@@ -58,18 +58,8 @@ fn push_special(out: &mut String, text: &str) -> Result<usize, AllocError>
         out.push_str(&text[..1])?;
         return Ok(1);
     };
-    push_chars(out, chars)?;
+    chars.push_to(out)?;
     Ok(len)
-}
-
-fn push_chars(out: &mut String, chars: Chars) -> Result<(), AllocError>
-    ensures { OnOk result (string_bytes out.new ≡ string_bytes out.old ++ encode_utf8_all (chars_of chars)) }
-{
-    out.push(chars.first)?;
-    if let Some(second) = chars.second {
-        out.push(second)?;
-    }
-    Ok(())
 }
 
 /// The escape or the reference with which a text begins, and how many bytes it takes.

@@ -77,24 +77,38 @@ fn pushed(alloc: Global, rules: Rules, blocks: &Items<Block>) -> Result<(String,
     Ok((speller.finish(), reasons))
 }
 
+/// That pushing the blocks one after another gives the source that the case wants, and its reasons.
+fn are_pushed(
+    alloc: Global,
+    case: &Case,
+    wanted: &str,
+    blocks: &Items<Block>,
+) -> Result<(), Trouble> {
+    let rules = rules_of(alloc, case.rest("rules").unwrap_or("profile"))?;
+    let (source, reasons) = pushed(alloc, rules, blocks)?;
+    same(alloc, "source", wanted.as_bytes(), source.as_bytes())?;
+    let wanted = case.lines("reasons").unwrap_or("");
+    same(alloc, "reasons", wanted.as_bytes(), reasons.as_bytes())
+}
+
+/// The rules that the case names, if it does.
+fn rules_named(alloc: Global, case: &Case) -> Result<Option<Rules>, Trouble> {
+    match case.rest("rules") {
+        Some(name) => Ok(Some(rules_of(alloc, name)?)),
+        None => Ok(None),
+    }
+}
+
 /// That the tree is spelled, as the parts of its case want.
 pub(crate) fn agrees(alloc: Global, case: &Case, blocks: &Items<Block>) -> Result<(), Trouble> {
-    let rules = match case.rest("rules") {
-        Some(name) => Some(rules_of(alloc, name)?),
-        None => None,
-    };
     if case.has("spelled") || case.has("refused") {
-        is_spelled(alloc, case, rules, blocks.as_slice())?;
+        is_spelled(alloc, case, rules_named(alloc, case)?, blocks.as_slice())?;
     }
     if let Some(wanted) = case.lines("kept") {
         is_kept(alloc, wanted, blocks)?;
     }
-    if let Some(wanted) = case.lines("pushed") {
-        let rules = rules.unwrap_or(Rules::profile());
-        let (source, reasons) = pushed(alloc, rules, blocks)?;
-        same(alloc, "source", wanted.as_bytes(), source.as_bytes())?;
-        let wanted = case.lines("reasons").unwrap_or("");
-        same(alloc, "reasons", wanted.as_bytes(), reasons.as_bytes())?;
+    match case.lines("pushed") {
+        Some(wanted) => are_pushed(alloc, case, wanted, blocks),
+        None => Ok(()),
     }
-    Ok(())
 }

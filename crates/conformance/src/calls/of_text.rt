@@ -121,10 +121,7 @@ fn reference(answer: &mut Answer, text: &String, at: usize) -> Result<(), Troubl
         return answer.word("none");
     };
     let mut read = String::new(answer.alloc);
-    read.push(characters.first)?;
-    if let Some(second) = characters.second {
-        read.push(second)?;
-    }
+    characters.push_to(&mut read)?;
     answer.slice(Some((read.as_str(), end)))
 }
 

@@ -28,5 +28,5 @@ returns-clause-boundary c = boundary-at c.args.text.now c.in-Some.len c.utf8.tex
 
 pub returns-clause-read : goal.returns-clause-read
 returns-clause-read c =
-    put-special c.args.text.now c.as_bytes.result.now (chars_of c.in-Some.chars) (string_bytes c.args.out.now) (string_bytes c.push_chars.new.out) c.in-Some.len
-    c.as_bytes.ensures.value c.in-Some.ensures c.in_ok-push_chars.ensures
+    put-special c.args.text.now c.as_bytes.result.now (chars_of c.in-Some.chars) (string_bytes c.args.out.now) (string_bytes c.push_to.new.text) c.in-Some.len
+    c.as_bytes.ensures.value c.in-Some.ensures c.in_ok-push_to.ensures
