@@ -4,7 +4,7 @@ ghost use Rattle.std.specs.Prelude.{◌≡◌};
 use cm_block::BlockFault;
 use cm_html::HtmlFault;
 use cm_source::Why;
-use cm_text::{NoMemory, TextFault};
+use cm_text::{NoMemory, TextFault, WriteFailed};
 use std::alloc::AllocError;
 use thiserror::Error;
 
@@ -91,6 +91,19 @@ impl From<NoMemory> for Fault {
 
     fn from(_: NoMemory) -> Fault {
         Fault::NoMemory
+    }
+}
+
+impl From<WriteFailed> for Fault {
+    ghost use Rattle.std.specs.Prelude.{◌≡◌};
+    ghost use Rattle.cm_tool.specs.declared.fault.Fault.TheVariants as faults;
+
+    ghost from_gives = { λ failed e. e ≡ faults.WriteFailed failed.written };
+
+    fn from(failed: WriteFailed) -> Fault {
+        Fault::WriteFailed {
+            written: failed.written,
+        }
     }
 }
 

@@ -7,7 +7,7 @@ ghost use Rattle.cm_tool.specs.Reporting.{difference_text, report_text, WritesRe
 use crate::examining::{Difference, Report, examples_by};
 use crate::fault::Fault;
 use crate::texts::read_text;
-use cm_text::{Limits, Sink, Source, WriteFailed, write_all};
+use cm_text::{Limits, Sink, Source, write_all};
 use std::alloc::{AllocError, Global};
 use std::fmt::Write;
 
@@ -59,8 +59,6 @@ pub(crate) fn report<R: Source, W: Sink>(
     let text = read_text(alloc, source, limits)?;
     let report = examples_by(alloc, limits.rules(), &text)?;
     let output = report_text(alloc, &report)?;
-    if let Err(WriteFailed { written }) = write_all(sink, output.as_bytes()) {
-        return Err(Fault::WriteFailed { written });
-    }
+    write_all(sink, output.as_bytes())?;
     report.verdict()
 }

@@ -5,7 +5,7 @@ ghost use Rattle.cm_tool.specs.Rewriting.{Rewrites};
 
 use crate::fault::Fault;
 use crate::reading::read_source;
-use cm_text::{Limits, Sink, Source, WriteFailed, write_all};
+use cm_text::{Limits, Sink, Source, write_all};
 use std::alloc::Global;
 
 /// Writes plain source of the source's tree without its link reference definitions, and answers its length
@@ -30,8 +30,6 @@ pub fn rewrite<R: Source, W: Sink>(
         (record { taken = W.taken sink.new; failed = W.failed sink.new }) }
 {
     let text = read_source(alloc, source, limits)??;
-    if let Err(WriteFailed { written }) = write_all(sink, text.as_bytes()) {
-        return Err(Fault::WriteFailed { written });
-    }
+    write_all(sink, text.as_bytes())?;
     Ok(text.len())
 }
