@@ -8,7 +8,7 @@ use Rattle.cm_tree.specs.declared.tree.Block.{Block}
 use Rattle.cm_tree.specs.declared.tree.Block.TheVariants.{Quote, List as ListBlock}
 use Rattle.cm_scan.specs.Words.{given}
 use Rattle.cm_scan.specs.LineForms.{is_same_kind}
-use Rattle.cm_scan.specs.Parts.{Parts, none, blank, leaf, quote, list, ItemParts, last_item, item, leaf_block, is_separated, is_loose, items_end_blank, ends_blank_after, next_items, put_before, put_item, tree_of, items_of}
+use Rattle.cm_scan.specs.Parts.{Parts, none, blank, leaf, quote, list, ItemParts, last_item, item, leaf_block, is_separated, is_loose, items_end_blank, ends_blank_after, next_items, put_before, put_item, blocks_of_parts, blocks_of_items}
 use Rattle.cm_block.specs.Machine.{Piece, blank_piece, leaf_piece, quote_piece, item_piece, put, put_all}
 use Rattle.cm_block.specs.Level.{OpenList, Item, Level, empty_level, closed_blocks, push_blank, list_opens, list_goes_on, item_opens_in, item_closes, push_block, push_item, item_of_parts, add, add_all, LevelOfParts}
 
@@ -33,12 +33,12 @@ Following = Option (ℕ × ItemParts × Parts)
 
 -- where no item goes on with the list
 abbrev plain : Level → Parts → Outcome
-plain v p = outcome (closed_blocks v ++ tree_of p) (v.separated || is_separated v.has_block v.ends_blank p) (ends_blank_after v.ends_blank p)
+plain v p = outcome (closed_blocks v ++ blocks_of_parts p) (v.separated || is_separated v.has_block v.ends_blank p) (ends_blank_after v.ends_blank p)
 
 -- where these do
 abbrev longer : Level → OpenList → ℕ × ItemParts × Parts → Outcome
 longer v o f =
-    outcome (v.blocks ++ ListBlock o.kind (not (o.loose || nat_lt 0 f.0 || v.ends_blank || is_loose f.1)) (o.items ++ items_of f.1) ∷ tree_of f.2)
+    outcome (v.blocks ++ ListBlock o.kind (not (o.loose || nat_lt 0 f.0 || v.ends_blank || is_loose f.1)) (o.items ++ blocks_of_items f.1) ∷ blocks_of_parts f.2)
     (v.separated || is_separated true (items_end_blank f.1) f.2) (ends_blank_after (items_end_blank f.1) f.2)
 
 by_next : Level → OpenList → Parts → Following → Outcome
@@ -53,7 +53,7 @@ result : Level → Parts → Outcome
 result v p = by_list v p v.open_list
 
 result-none : (v : Level) → result v none ≡ outcome (closed_blocks v) (v.separated || false) v.ends_blank
-unfolding result by_list by_next tree_of is_separated ends_blank_after next_items
+unfolding result by_list by_next blocks_of_parts is_separated ends_blank_after next_items
 result-none v = go v.open_list
   where
     go : (x : Option OpenList) → by_list v none x ≡ outcome (closed_blocks v) (v.separated || false) v.ends_blank
@@ -82,13 +82,13 @@ loose-later true b c n = refl
 loose-later false b c n = grind arith
 
 blank-result : (v : Level) (p : Parts) → result v (blank p) ≡ result (push_blank v) p
-unfolding result by_list by_next tree_of is_separated ends_blank_after later next_items
+unfolding result by_list by_next blocks_of_parts is_separated ends_blank_after later next_items
 blank-result v p = go v.open_list
   where
     next : (o : OpenList) (x : Following) → by_next v o (blank p) (later x) ≡ by_next (push_blank v) o p x
     next o None = refl
     next o (Some f) =
-        ap (λ b. outcome (v.blocks ++ ListBlock o.kind (not b) (o.items ++ items_of f.1) ∷ tree_of f.2)
+        ap (λ b. outcome (v.blocks ++ ListBlock o.kind (not b) (o.items ++ blocks_of_items f.1) ∷ blocks_of_parts f.2)
         (v.separated || is_separated true (items_end_blank f.1) f.2) (ends_blank_after (items_end_blank f.1) f.2)) (loose-later o.loose v.ends_blank (is_loose f.1) f.0)
 
     go : (x : Option OpenList) → by_list v (blank p) x ≡ by_list (push_blank v) p x
@@ -97,21 +97,21 @@ blank-result v p = go v.open_list
 
 -- a block that is no item
 plain-push : (v : Level) (b : Block) (p : Parts)
-    → outcome (closed_blocks v ++ b ∷ tree_of p) (v.separated || (v.has_block && v.ends_blank || is_separated true false p)) (ends_blank_after false p) ≡ plain (push_block v b) p
+    → outcome (closed_blocks v ++ b ∷ blocks_of_parts p) (v.separated || (v.has_block && v.ends_blank || is_separated true false p)) (ends_blank_after false p) ≡ plain (push_block v b) p
 plain-push v b p =
-    ap₂ (λ bs s. outcome bs s (ends_blank_after false p)) (sym (append_assoc (closed_blocks v) (b ∷ []) (tree_of p)))
+    ap₂ (λ bs s. outcome bs s (ends_blank_after false p)) (sym (append_assoc (closed_blocks v) (b ∷ []) (blocks_of_parts p)))
     (sym (or_assoc v.separated (v.has_block && v.ends_blank) (is_separated true false p)))
 
 -- an item that begins a list
 list-begins : (v : Level) (kind : ListKind) (c p : Parts) (x : Following)
-    → plain v (put_before kind c p x) ≡ by_next (first_item v kind (item_of_parts c)) (record { kind = kind; loose = is_separated false false c; items = tree_of c ∷ [] }) p x
-unfolding by_next tree_of is_separated ends_blank_after is_loose items_end_blank
+    → plain v (put_before kind c p x) ≡ by_next (first_item v kind (item_of_parts c)) (record { kind = kind; loose = is_separated false false c; items = blocks_of_parts c ∷ [] }) p x
+unfolding by_next blocks_of_parts is_separated ends_blank_after is_loose items_end_blank
 list-begins v kind c p None =
     ap₂ (λ bs s. outcome bs s (ends_blank_after (items_end_blank (last_item c)) p))
-    (sym (append_assoc (closed_blocks v) (ListBlock kind (not (is_separated false false c)) (tree_of c ∷ []) ∷ []) (tree_of p)))
+    (sym (append_assoc (closed_blocks v) (ListBlock kind (not (is_separated false false c)) (blocks_of_parts c ∷ []) ∷ []) (blocks_of_parts p)))
     (sym (or_assoc v.separated (v.has_block && v.ends_blank) (is_separated true (items_end_blank (last_item c)) p)))
 list-begins v kind c p (Some f) =
-    ap (λ s. outcome (closed_blocks v ++ ListBlock kind (not (is_loose (item c f.0 f.1))) (tree_of c ∷ items_of f.1) ∷ tree_of f.2) s (ends_blank_after (items_end_blank f.1) f.2))
+    ap (λ s. outcome (closed_blocks v ++ ListBlock kind (not (is_loose (item c f.0 f.1))) (blocks_of_parts c ∷ blocks_of_items f.1) ∷ blocks_of_parts f.2) s (ends_blank_after (items_end_blank f.1) f.2))
     (sym (or_assoc v.separated (v.has_block && v.ends_blank) (is_separated true (items_end_blank f.1) f.2)))
 
 -- an item that goes on with a list
@@ -130,17 +130,17 @@ goes_on v o c p (Some f) = longer v o (0, item c f.0 f.1, f.2)
 
 list-goes-on : (v : Level) (o : OpenList) (c p : Parts) (x : Following)
     → goes_on v o c p x
-    ≡ by_next (next_item v o (item_of_parts c)) (record { kind = o.kind; loose = o.loose || v.ends_blank || is_separated false false c; items = o.items ++ tree_of c ∷ [] }) p x
-unfolding goes_on by_next tree_of is_separated is_loose items_end_blank
+    ≡ by_next (next_item v o (item_of_parts c)) (record { kind = o.kind; loose = o.loose || v.ends_blank || is_separated false false c; items = o.items ++ blocks_of_parts c ∷ [] }) p x
+unfolding goes_on by_next blocks_of_parts is_separated is_loose items_end_blank
 list-goes-on v o c p None =
-    ap (λ b. outcome (v.blocks ++ ListBlock o.kind (not b) (o.items ++ tree_of c ∷ []) ∷ tree_of p) (v.separated || is_separated true (items_end_blank (last_item c)) p) (ends_blank_after (items_end_blank (last_item c)) p))
+    ap (λ b. outcome (v.blocks ++ ListBlock o.kind (not b) (o.items ++ blocks_of_parts c ∷ []) ∷ blocks_of_parts p) (v.separated || is_separated true (items_end_blank (last_item c)) p) (ends_blank_after (items_end_blank (last_item c)) p))
     (last-loose o.loose v.ends_blank (is_separated false false c))
     ∙ ap (λ bs. outcome bs (v.separated || is_separated true (items_end_blank (last_item c)) p) (ends_blank_after (items_end_blank (last_item c)) p))
-    (sym (append_assoc v.blocks (ListBlock o.kind (not (o.loose || v.ends_blank || is_separated false false c)) (o.items ++ tree_of c ∷ []) ∷ []) (tree_of p)))
+    (sym (append_assoc v.blocks (ListBlock o.kind (not (o.loose || v.ends_blank || is_separated false false c)) (o.items ++ blocks_of_parts c ∷ []) ∷ []) (blocks_of_parts p)))
 list-goes-on v o c p (Some f) =
-    ap₂ (λ b js. outcome (v.blocks ++ ListBlock o.kind (not b) js ∷ tree_of f.2) (v.separated || is_separated true (items_end_blank f.1) f.2) (ends_blank_after (items_end_blank f.1) f.2))
+    ap₂ (λ b js. outcome (v.blocks ++ ListBlock o.kind (not b) js ∷ blocks_of_parts f.2) (v.separated || is_separated true (items_end_blank f.1) f.2) (ends_blank_after (items_end_blank f.1) f.2))
     (more-loose o.loose v.ends_blank (is_separated false false c) (nat_lt 0 f.0) (items_end_blank (last_item c)) (is_loose f.1))
-    (sym (append_assoc o.items (tree_of c ∷ []) (items_of f.1)))
+    (sym (append_assoc o.items (blocks_of_parts c ∷ []) (blocks_of_items f.1)))
 
 -- items of one kind
 same-kind : (i j k : ListKind) → is_same_kind i j ≡ true → is_same_kind i k ≡ is_same_kind j k
@@ -162,7 +162,7 @@ item-result v kind c p = go v.open_list
     i = item_of_parts c
 
     grown : OpenList → OpenList
-    grown o = record { kind = o.kind; loose = o.loose || v.ends_blank || is_separated false false c; items = o.items ++ tree_of c ∷ [] }
+    grown o = record { kind = o.kind; loose = o.loose || v.ends_blank || is_separated false false c; items = o.items ++ blocks_of_parts c ∷ [] }
 
     others : (o : OpenList) (x : Following) → is_same_kind o.kind kind ≡ false → by_next v o (put_before kind c p x) (next_items o.kind 0 (put_before kind c p x)) ≡ plain v (put_before kind c p x)
     others o None e = ap (λ b. by_next v o (put_before kind c p None) (given b (0, last_item c, p))) e
@@ -184,14 +184,14 @@ item-result v kind c p = go v.open_list
     go (Some o) = by_kind o (is_same_kind o.kind kind) refl
 
 put-add : (x : Piece) (v : Level) (p : Parts) → result v (put x p) ≡ result (add v x) p
-unfolding add result by_list by_next next_items tree_of is_separated ends_blank_after
+unfolding add result by_list by_next next_items blocks_of_parts is_separated ends_blank_after
 put-add blank_piece v p = blank-result v p
 put-add (leaf_piece x n) v p = go v.open_list ∙ plain-push v (leaf_block x) p
   where
     go : (y : Option OpenList) → by_list v (leaf x n p) y ≡ plain v (leaf x n p)
     go None = refl
     go (Some o) = refl
-put-add (quote_piece c) v p = go v.open_list ∙ plain-push v (Quote (tree_of c)) p
+put-add (quote_piece c) v p = go v.open_list ∙ plain-push v (Quote (blocks_of_parts c)) p
   where
     go : (y : Option OpenList) → by_list v (quote c p) y ≡ plain v (quote c p)
     go None = refl
@@ -203,7 +203,7 @@ unfolding put_all add_all
 put_all-add [] v = refl
 put_all-add (x ∷ ps) v = put-add x v (put_all ps none) ∙ put_all-add ps (add v x)
 
-level-outcome : (ps : List Piece) → outcome (tree_of (put_all ps none)) (is_separated false false (put_all ps none)) (ends_blank_after false (put_all ps none))
+level-outcome : (ps : List Piece) → outcome (blocks_of_parts (put_all ps none)) (is_separated false false (put_all ps none)) (ends_blank_after false (put_all ps none))
     ≡ (let v = add_all empty_level ps in outcome (closed_blocks v) (v.separated || false) v.ends_blank)
 unfolding result by_list
 level-outcome ps = put_all-add ps empty_level ∙ result-none (add_all empty_level ps)

@@ -13,7 +13,7 @@ use Rattle.cm_scan.specs.LineForms.{Fence}
 use Rattle.cm_scan.specs.HtmlBlocks.{HtmlKind, RawText, Comment, Instruction, Declaration, CharacterData, BlockTag, AnyTag, is_html_end, ends_at_blank_line}
 use Rattle.cm_scan.specs.Starts.{Start, IndentedCode, QuoteMarker, AtxHeading, OpeningFence, HtmlStart, BreakLine, ItemStart, TextLine, start_of, Place, Stays, StaysIfOpen, Leaves, behind_quote_marker, place_in_quote, content_column, first_content, place_in_item}
 use Rattle.cm_scan.specs.Parts.{LeafPart, heading, code, html, thematic_break, Parts, none, blank, leaf, leaves_paragraph_open, put_leaves}
-use Rattle.cm_scan.specs.Blocks.{add_text, NextLine, GoesOn, Ends, Underlines, next_line, Run, text_run, leaves_of_run, Taken, taken, closes_fence, fenced, html_to_end, html_to_blank, html_lines, code_line, indented, Inside, inside, is_bare, quote_parts, item_parts, fence_parts, html_parts, code_parts, text_parts, parts_by_start, parts_of}
+use Rattle.cm_scan.specs.Blocks.{add_text, NextLine, GoesOn, Ends, Underlines, next_line, TextRun, text_run, leaves_of_run, Taken, taken, closes_fence, fenced, html_to_end, html_to_blank, html_lines, code_line, indented, Inside, inside, is_bare, quote_parts, item_parts, fence_parts, html_parts, code_parts, text_parts, parts_by_start, parts_of}
 use Rattle.cm_scan.specs.Laws.{goes_inward, next_inward}
 use Rattle.cm_scan.proofs.Sizes.{marks-behind_quote_marker, marks-first_content, Keeps, keeps-quote, keeps-item, size-append}
 use Rattle.cm_scan.proofs.Cases.{no_lines, blank_case, starting, inside-in, inside-out}
@@ -199,7 +199,7 @@ module _ (rules : Rules) where
   abbrev put_taken : (List ℕ → LeafPart) → Taken → Parts
   put_taken leaf_of t = leaf (leaf_of t.text) t.lines (parts_of rules t.following)
 
-  abbrev put_run : Run → Parts
+  abbrev put_run : TextRun → Parts
   put_run run = put_leaves (leaves_of_run run) (parts_of rules run.following)
 
   -- every kind of open block with the lines that follow it, where fewer lines are known to agree
@@ -215,8 +215,8 @@ module _ (rules : Rules) where
         x : OpenLeaf
         x = open_text source
 
-        run : NextLine → Run
-        run v = elim v as (λ _. Run) [
+        run : NextLine → TextRun
+        run v = elim v as (λ _. TextRun) [
           | GoesOn ↦ text_run rules (add_text source line) lines
           | Ends ↦ record { source = source; level = None; following = line ∷ lines }
           | Underlines level ↦ record { source = source; level = Some level; following = lines }

@@ -11,7 +11,7 @@ use Rattle.cm_tree.specs.declared.tree.Block.TheVariants.{Quote}
 use Rattle.cm_tree.specs.declared.tree.Owner.TheVariants.{Marker}
 use Rattle.cm_scan.specs.Lines.{is_blank, marks}
 use Rattle.cm_scan.specs.Starts.{place_in_quote, place_in_item}
-use Rattle.cm_scan.specs.Parts.{LeafPart, Parts, none, blank, leaf, quote, list, ItemParts, last_item, next_items, put_before, put_item, leaf_block, is_separated, items_end_blank, ends_blank_after, tree_of, line_owners, table_of}
+use Rattle.cm_scan.specs.Parts.{LeafPart, Parts, none, blank, leaf, quote, list, ItemParts, last_item, next_items, put_before, put_item, leaf_block, is_separated, items_end_blank, ends_blank_after, blocks_of_parts, line_owners, table_of}
 use Rattle.cm_scan.specs.Blocks.{blocks_of, owners_of, reference_table}
 use Rattle.cm_scan.specs.Laws.{goes_inward}
 use Rattle.cm_scan.proofs.Counted.{one_owner}
@@ -116,7 +116,7 @@ item-of-list kind c p = go (next_items kind 0 p)
 abbrev level_item : List Piece → Item
 level_item ps = item_of (add_all empty_level ps)
 
-item-by : (ps qs : List Piece) → tree_of (put_all qs none) ≡ tree_of (put_all ps none) → ends_blank_after false (put_all qs none) ≡ items_end_blank (last_item (put_all ps none))
+item-by : (ps qs : List Piece) → blocks_of_parts (put_all qs none) ≡ blocks_of_parts (put_all ps none) → ends_blank_after false (put_all qs none) ≡ items_end_blank (last_item (put_all ps none))
     → is_separated false false (put_all qs none) ≡ is_separated false false (put_all ps none) → level_item qs ≡ item_of_parts (put_all ps none)
 item-by ps qs t e s =
     let l = level_of_parts qs in
@@ -124,7 +124,7 @@ item-by ps qs t e s =
     ∙ ap (λ b. record (item_of_parts (put_all ps none)) { separated = b }) (l.separated ∙ s)
 
 item-level : (ps : List Piece) → level_item (past_blank ps) ≡ item_of_parts (put_all ps none)
-unfolding put_all tree_of is_separated items_end_blank
+unfolding put_all blocks_of_parts is_separated items_end_blank
 item-level [] = item-by [] [] refl refl refl
 item-level (blank_piece ∷ ps) = item-by (blank_piece ∷ ps) ps refl refl (sym (separated-first (put_all ps none)))
 item-level (leaf_piece x n ∷ ps) = item-by (leaf_piece x n ∷ ps) (leaf_piece x n ∷ ps) refl refl refl
@@ -477,7 +477,7 @@ pub stack_blocks : StackBlocks
 unfolding close_stack blocks_of parts_in_one_pass close
 stack_blocks rules lines =
     let m = take_lines rules new_machine lines in
-    ap closed_blocks (comes rules lines).level ∙ (level_of_parts (m.closed ++ closing m.now)).blocks ∙ ap tree_of (one_pass rules lines)
+    ap closed_blocks (comes rules lines).level ∙ (level_of_parts (m.closed ++ closing m.now)).blocks ∙ ap blocks_of_parts (one_pass rules lines)
 
 pub stack_owners : StackOwners
 unfolding close_stack owners_of line_owners parts_in_one_pass close

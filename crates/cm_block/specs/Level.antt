@@ -5,7 +5,7 @@ use Rattle.cm_tree.specs.declared.tree.ListKind.{ListKind}
 use Rattle.cm_tree.specs.declared.tree.Block.{Block}
 use Rattle.cm_tree.specs.declared.tree.Block.TheVariants.{Quote, List as ListBlock}
 use Rattle.cm_scan.specs.LineForms.{is_same_kind}
-use Rattle.cm_scan.specs.Parts.{Parts, none, last_item, leaf_block, is_separated, items_end_blank, ends_blank_after, tree_of}
+use Rattle.cm_scan.specs.Parts.{Parts, none, last_item, leaf_block, is_separated, items_end_blank, ends_blank_after, blocks_of_parts}
 use Rattle.cm_block.specs.Machine.{Piece, blank_piece, leaf_piece, quote_piece, item_piece, put_all}
 
 -- A list with its closed items and its mark of looseness. A further item of it may be open.
@@ -102,12 +102,12 @@ push_item level kind item = item_closes (item_opens level kind) item
 
 -- an item with these parts
 abbrev pub item_of_parts : Parts → Item
-item_of_parts inside = record { blocks = tree_of inside; ends_blank = items_end_blank (last_item inside); separated = is_separated false false inside }
+item_of_parts inside = record { blocks = blocks_of_parts inside; ends_blank = items_end_blank (last_item inside); separated = is_separated false false inside }
 
 unfoldable pub add : Level → Piece → Level
 add level blank_piece = push_blank level
 add level (leaf_piece x lines) = push_block level (leaf_block x)
-add level (quote_piece inside) = push_block level (Quote (tree_of inside))
+add level (quote_piece inside) = push_block level (Quote (blocks_of_parts inside))
 add level (item_piece kind inside) = push_item level kind (item_of_parts inside)
 
 unfoldable pub add_all : Level → List Piece → Level
@@ -116,6 +116,6 @@ add_all level (piece ∷ pieces) = add_all (add level piece) pieces
 
 -- A level read from the left has the blocks, the separation and the last line that its parts have.
 pub record LevelOfParts (pieces : List Piece) : Type 0 where
-  pub blocks : closed_blocks (add_all empty_level pieces) ≡ tree_of (put_all pieces none)
+  pub blocks : closed_blocks (add_all empty_level pieces) ≡ blocks_of_parts (put_all pieces none)
   pub separated : (add_all empty_level pieces).separated ≡ is_separated false false (put_all pieces none)
   pub ends_blank : (add_all empty_level pieces).ends_blank ≡ ends_blank_after false (put_all pieces none)

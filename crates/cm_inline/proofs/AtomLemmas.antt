@@ -16,7 +16,7 @@ use Rattle.cm_scan.specs.Words.{begins_with, run_length, after_run, after_word}
 use Rattle.cm_scan.specs.Links.{Reading}
 use Rattle.cm_scan.specs.Autolinks.{Autolink, autolink}
 use Rattle.cm_scan.specs.RawHtml.{raw_html}
-use Rattle.cm_scan.specs.Angles.{Angled, Linked, Tagged, before, tagged, at_angle}
+use Rattle.cm_scan.specs.Angles.{Angled, Addressed, Tagged, before, tagged, at_angle}
 use Rattle.cm_scan.specs.CodeSpans.{content_of, one_line, stripped, code_span}
 use Rattle.cm_scan.specs.Scanned.{whole_of}
 use Rattle.cm_scan.specs.Delimiters as delimiters
@@ -140,12 +140,12 @@ module _ (rules : Rules) (source : List ℕ) (at : ℕ) where
 
   abbrev angled_or : Option Angled → Option AtomRead
   angled_or o = elim o as (λ _. Option AtomRead) [
-    | Some angled ↦ elim angled as (λ _. Option AtomRead) [ Linked link ↦ read (Whole (link_of link)) link.rest | Tagged tag ↦ read (Whole (inline.Html tag.text)) tag.rest ]
+    | Some angled ↦ elim angled as (λ _. Option AtomRead) [ Addressed link ↦ read (Whole (link_of link)) link.rest | Tagged tag ↦ read (Whole (inline.Html tag.text)) tag.rest ]
     | None ↦ None
   ]
 
   abbrev link_or : Option Autolink → Option Angled
-  link_or o = elim o as (λ _. Option Angled) [ Some link ↦ Some (Linked link) | None ↦ tagged (drop at source) (raw_html rules (drop at source)) ]
+  link_or o = elim o as (λ _. Option Angled) [ Some link ↦ Some (Addressed link) | None ↦ tagged (drop at source) (raw_html rules (drop at source)) ]
 
   angle-in : (o : Option Autolink) → Stands source at 60 → o ≡ autolink (drop at source) → atom_in rules source at ≡ or_byte 60 (drop (at + 1) source) (angled_or (link_or o))
   unfolding atom_at markup_atom angle_atom at_angle

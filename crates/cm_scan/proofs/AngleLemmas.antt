@@ -3,7 +3,7 @@ use Rattle.std.proofs.Common.{◌≡◌, ℕ, ◌-◌, ◌≤◌, List, [], ◌+
 use Rattle.std.proofs.lemmas.List.{take-append-le}
 use Rattle.cm_scan.specs.RawHtml.{raw_html}
 use Rattle.cm_scan.specs.Autolinks.{Autolink, autolink}
-use Rattle.cm_scan.specs.Angles.{Angled, Linked, Tagged, before, tagged, at_angle}
+use Rattle.cm_scan.specs.Angles.{Angled, Addressed, Tagged, before, tagged, at_angle}
 use Rattle.cm_scan.specs.SpanLaws.{longer_angled, AngledGoesOn, WholeTagGoesOn}
 use Rattle.cm_scan.proofs.ReadFurther.{none-some}
 use Rattle.cm_scan.proofs.RawHtmlLemmas.{raw_html_goes_on}
@@ -24,7 +24,7 @@ unfolding at_angle angled-of
 angled_goes_on rules text x angled e = go (autolink text) refl e
   where
     by : List ℕ → Option Autolink → Option Angled
-    by t o = elim o as (λ _. Option Angled) [ Some link ↦ Some (Linked link) | None ↦ tagged t (raw_html rules t) ]
+    by t o = elim o as (λ _. Option Angled) [ Some link ↦ Some (Addressed link) | None ↦ tagged t (raw_html rules t) ]
 
     longer : Option Angled → Option Angled
     longer o = Some (longer_angled (angled-of angled o) x)

@@ -14,7 +14,7 @@ use Rattle.cm_scan.specs.LineForms.{underline, Fence, ItemMarker, marker_width, 
 use Rattle.cm_scan.specs.HtmlBlocks.{HtmlKind, is_html_end}
 use Rattle.cm_scan.specs.Starts.{start_by, start_of_content, start_of, underline_if, underline_of, behind_quote_marker, behind_marker, content_offset, content_column, first_content}
 use Rattle.cm_scan.specs.Parts.{Parts, list, ItemParts, item, next_items, put_before, put_item}
-use Rattle.cm_scan.specs.Blocks.{add_text, NextLine, GoesOn, Ends, Underlines, Run, text_run, Taken, taken, closes_fence, fenced, html_to_end, html_to_blank, html_lines}
+use Rattle.cm_scan.specs.Blocks.{add_text, NextLine, GoesOn, Ends, Underlines, TextRun, text_run, Taken, taken, closes_fence, fenced, html_to_end, html_to_blank, html_lines}
 use Rattle.cm_scan.specs.BlockLaws.{is_unindented, UnindentedLine, after_columns, QuoteAndSpace, QuoteAlone, ContentAt, ItemAndSpace, ItemAlone, no_more, one_goes_on, RunUpToItsEnd, RunUpToItsUnderline, none_closes, text_without, FencedUpToItsEnd, FencedToTheLast, none_ends, HtmlUpToItsEnd, first_is_blank, HtmlUpToABlankLine, KindOfItself, blank_lines, ItemBeforeItsList, ItemByItself}
 
 -- Lines at the margin
@@ -137,8 +137,8 @@ item_alone marker line width unindented =
 
 -- Runs of text
 
-abbrev by_next : Rules → List ℕ → LineView → List LineView → NextLine → Run
-by_next rules source line lines next = elim next as (λ _. Run) [
+abbrev by_next : Rules → List ℕ → LineView → List LineView → NextLine → TextRun
+by_next rules source line lines next = elim next as (λ _. TextRun) [
   | GoesOn ↦ text_run rules (add_text source line) lines
   | Ends ↦ record { source = source; level = None; following = line ∷ lines }
   | Underlines level ↦ record { source = source; level = Some level; following = lines }

@@ -14,7 +14,7 @@ use Rattle.cm_scan.specs.HtmlBlocks.{HtmlKind}
 use Rattle.cm_scan.specs.Links.{LinkDefinition, label, link_definition, Definitions, definitions_within, definitions_of}
 use Rattle.cm_scan.specs.Starts.{Start, QuoteMarker, start_of, Place, Stays, StaysIfOpen, Leaves, place_if_lazy, behind_quote_marker, quote_place, place_in_quote, content_offset, behind_marker, first_content, place_in_item}
 use Rattle.cm_scan.specs.Parts.{LeafPart, Parts, none, blank, leaf, quote, list, ItemParts, leaves_paragraph_open, next_items, put_before, put_item, put_leaves}
-use Rattle.cm_scan.specs.Blocks.{add_text, rest_of, NextLine, GoesOn, Ends, Underlines, next_line, Run, text_run, line_feeds, line_count, definition_leaves, content_leaf, leaves_of_run, fenced, html_to_end, html_to_blank, html_lines, indented, Inside, inside, is_bare}
+use Rattle.cm_scan.specs.Blocks.{add_text, rest_of, NextLine, GoesOn, Ends, Underlines, next_line, TextRun, text_run, line_feeds, line_count, definition_leaves, content_leaf, leaves_of_run, fenced, html_to_end, html_to_blank, html_lines, indented, Inside, inside, is_bare}
 use Rattle.cm_scan.specs.Starts.{IndentedCode, AtxHeading, OpeningFence, HtmlStart, BreakLine, ItemStart, TextLine, content_column}
 use Rattle.cm_scan.specs.Blocks.{code_line, quote_parts, item_parts, fence_parts, html_parts, code_parts, text_parts, parts_by_start, parts_of, blocks_of, owners_of}
 use Rattle.cm_scan.specs.Parts.{line_owners}
@@ -318,11 +318,11 @@ underline_lines None = 0
 underline_lines (Some level) = 1
 
 -- what is left above an underline isn't nothing
-abbrev HasContent : Run → Type 0
+abbrev HasContent : TextRun → Type 0
 HasContent run = IfSome run.level (λ level. is_empty (rest_of run.source) ≡ false)
 
 -- a run of so many lines
-record RunOf (n : ℕ) (run : Run) : Type 0 where
+record RunOf (n : ℕ) (run : TextRun) : Type 0 where
   firm : Firm run.source
   counted : line_feeds run.source + underline_lines run.level + length run.following ≡ n
   plain : Plain run.following
@@ -340,7 +340,7 @@ text_run-of rules source (line ∷ lines) h p =
   where
     go : (next : NextLine) → ((level : ℕ) → next ≡ Underlines level → is_empty (rest_of source) ≡ false)
         → RunOf (line_feeds (add_text source line) + length lines) (text_run rules (add_text source line) lines)
-        → RunOf (line_feeds source + suc (length lines)) (elim next as (λ _. Run) [
+        → RunOf (line_feeds source + suc (length lines)) (elim next as (λ _. TextRun) [
           | GoesOn ↦ text_run rules (add_text source line) lines
           | Ends ↦ record { source = source; level = None; following = line ∷ lines }
           | Underlines level ↦ record { source = source; level = Some level; following = lines }
@@ -444,7 +444,7 @@ content-some (Some level) [] = tt
 content-some None (b ∷ bs) = (omega arith, tt)
 content-some (Some level) (b ∷ bs) = (omega arith, tt)
 
-run-count : (n : ℕ) (run : Run) → RunOf n run → lines_of_leaves (leaves_of_run run) + length run.following ≡ suc n
+run-count : (n : ℕ) (run : TextRun) → RunOf n run → lines_of_leaves (leaves_of_run run) + length run.following ≡ suc n
 unfolding leaves_of_run definitions_of rest_of
 run-count n run r =
     let source = trim_end run.source in
@@ -460,7 +460,7 @@ run-count n run r =
       r.counted,
     )
 
-run-some : (run : Run) → AllSome (leaves_of_run run)
+run-some : (run : TextRun) → AllSome (leaves_of_run run)
 unfolding leaves_of_run definitions_of
 run-some run =
     let source = trim_end run.source in

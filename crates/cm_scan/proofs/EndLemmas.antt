@@ -3,7 +3,7 @@ use Rattle.std.proofs.Common.{◌≡◌, ℕ, zero, suc, Bool, true, false, ◌=
 use Rattle.cm_text.specs.Rules.{Rules}
 use Rattle.cm_scan.specs.Words.{is_letter, is_letter_or_digit, skip, front_of, after_word, ◌<|>◌}
 use Rattle.cm_scan.specs.Tags.{Named, after_gap, is_blank_next, tag_name, begins_attribute, continues_attribute, is_unquoted, after_quoted, after_unquoted, after_value, after_specification, after_attribute, after_tag_end, after_attributes, with_rest, open_tag, closing_tag}
-use Rattle.cm_scan.specs.RawHtml.{rest_of, past, from_to, short_end, after_comment, comment, instruction, after_declaration, declaration, character_data, raw_html}
+use Rattle.cm_scan.specs.RawHtml.{behind_tag, past, from_to, short_end, after_comment, comment, instruction, after_declaration, declaration, character_data, raw_html}
 use Rattle.cm_scan.proofs.ReadFurther.{none-some, some-same}
 use Rattle.cm_scan.proofs.TagsFurther.{with_rest-read, enough, closes}
 use Rattle.cm_scan.proofs.RawHtmlLemmas.{word-front}
@@ -213,7 +213,7 @@ unfolding raw_html
 raw_html-ends rules text rest e = go (open_tag text) (closing_tag text) (comment rules.older text) (instruction text) (declaration text) refl refl refl refl refl e
   where
     go : (a b : Option Named) (c d f : Option (List ℕ)) → open_tag text ≡ a → closing_tag text ≡ b → comment rules.older text ≡ c → instruction text ≡ d → declaration text ≡ f
-        → rest_of a <|> rest_of b <|> c <|> d <|> f <|> character_data text ≡ Some rest → IsEnd (62 ∷ rest) text
+        → behind_tag a <|> behind_tag b <|> c <|> d <|> f <|> character_data text ≡ Some rest → IsEnd (62 ∷ rest) text
     go (Some tag) b c d f p q r s t e = same-left (62 ∷ tag.rest) (62 ∷ rest) (ap (λ l. 62 ∷ l) (some-same e)) (open_tag-ends text tag p)
     go None (Some tag) c d f p q r s t e = same-left (62 ∷ tag.rest) (62 ∷ rest) (ap (λ l. 62 ∷ l) (some-same e)) (closing_tag-ends text tag q)
     go None None (Some left) d f p q r s t e = comment-ends rules.older text rest (r ∙ e)

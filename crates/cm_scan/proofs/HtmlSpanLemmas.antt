@@ -8,7 +8,7 @@ use Rattle.cm_text.specs.Rules.{Rules}
 use Rattle.cm_scan.specs.Words.{is_letter, after_word, ◌<|>◌}
 use Rattle.cm_scan.specs.Tags.{tag_name, open_tag, closing_tag}
 use Rattle.cm_scan.specs.Links.{Reading}
-use Rattle.cm_scan.specs.RawHtml.{rest_of, past, from_to, short_end, after_comment, comment, after_declaration, declaration, raw_html}
+use Rattle.cm_scan.specs.RawHtml.{behind_tag, past, from_to, short_end, after_comment, comment, after_declaration, declaration, raw_html}
 use Rattle.cm_scan.specs.Angles.{before}
 use Rattle.cm_scan.specs.Scanned.{whole_of}
 use Rattle.cm_scan.proofs.RawHtmlLemmas.{word-front}
@@ -120,16 +120,16 @@ module _ (rules : Rules) where
   unfolding raw_html open_tag closing_tag comment from_to declaration after_word tag_name
   html-instruction behind = sym (first-alone (past (codes "?>") behind))
 
-  pub html-closing : (behind : List ℕ) → rest_of (closing_tag (60 ∷ 47 ∷ behind)) ≡ raw_html rules (60 ∷ 47 ∷ behind)
+  pub html-closing : (behind : List ℕ) → behind_tag (closing_tag (60 ∷ 47 ∷ behind)) ≡ raw_html rules (60 ∷ 47 ∷ behind)
   unfolding raw_html open_tag comment from_to declaration after_word tag_name
-  html-closing behind = sym (first-alone (rest_of (closing_tag (60 ∷ 47 ∷ behind))))
+  html-closing behind = sym (first-alone (behind_tag (closing_tag (60 ∷ 47 ∷ behind))))
 
-  html-alone : (c : ℕ) (behind : List ℕ) → (c ≡ 33 → ⊥) → (c ≡ 63 → ⊥) → (c ≡ 47 → ⊥) → raw_html rules (60 ∷ c ∷ behind) ≡ rest_of (open_tag (60 ∷ c ∷ behind)) <|> None
+  html-alone : (c : ℕ) (behind : List ℕ) → (c ≡ 33 → ⊥) → (c ≡ 63 → ⊥) → (c ≡ 47 → ⊥) → raw_html rules (60 ∷ c ∷ behind) ≡ behind_tag (open_tag (60 ∷ c ∷ behind)) <|> None
   unfolding raw_html closing_tag comment from_to declaration after_word
   html-alone c behind h k l = grind (arith, h, k, l)
 
-  pub html-open : (c : ℕ) (behind : List ℕ) → (c ≡ 33 → ⊥) → (c ≡ 63 → ⊥) → (c ≡ 47 → ⊥) → rest_of (open_tag (60 ∷ c ∷ behind)) ≡ raw_html rules (60 ∷ c ∷ behind)
-  html-open c behind h k l = sym (html-alone c behind h k l ∙ first-alone (rest_of (open_tag (60 ∷ c ∷ behind))))
+  pub html-open : (c : ℕ) (behind : List ℕ) → (c ≡ 33 → ⊥) → (c ≡ 63 → ⊥) → (c ≡ 47 → ⊥) → behind_tag (open_tag (60 ∷ c ∷ behind)) ≡ raw_html rules (60 ∷ c ∷ behind)
+  html-open c behind h k l = sym (html-alone c behind h k l ∙ first-alone (behind_tag (open_tag (60 ∷ c ∷ behind))))
 
 -- the whole of it, by what is left
 

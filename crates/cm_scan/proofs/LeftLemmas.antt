@@ -17,7 +17,7 @@ use Rattle.cm_scan.specs.Links.{Reading, behind, keep_if, escapes_next, closed_b
 use Rattle.cm_scan.specs.CodeSpans.{up_to_run, content_of, spanned, code_span}
 use Rattle.cm_scan.specs.Autolinks.{Autolink, is_inside, ended, in_angles, is_absolute, is_address, as_autolink, autolink}
 use Rattle.cm_scan.specs.RawHtml.{raw_html}
-use Rattle.cm_scan.specs.Angles.{Angled, Linked, Tagged, tagged, at_angle}
+use Rattle.cm_scan.specs.Angles.{Angled, Addressed, Tagged, tagged, at_angle}
 use Rattle.cm_scan.specs.Delimiters.{Run}
 use Rattle.cm_scan.specs.Atoms.{Atom, AtomRead, Plain, Whole, Delimiter, OpenBracket, CloseBracket, read, link_of, backtick_atom, angle_atom, backslash_atom, reference_atom, break_atom, run_between, run_atom, tilde_atom, bang_atom, is_markup, markup_atom, byte_atom, or_byte, atom_at}
 use Rattle.cm_scan.specs.Pairing.{Item}
@@ -327,13 +327,13 @@ angle-leaves rules b bs = go (autolink (b ∷ bs)) (raw_html rules (b ∷ bs)) r
   where
     atom_of : Option Angled → Option AtomRead
     atom_of o = elim o as (λ _. Option AtomRead) [
-      | Some (Linked link) ↦ read (Whole (link_of link)) link.rest
+      | Some (Addressed link) ↦ read (Whole (link_of link)) link.rest
       | Some (Tagged tag) ↦ read (Whole (Html tag.text)) tag.rest
       | None ↦ None
     ]
 
     go : (link : Option Autolink) (html : Option (List ℕ)) → autolink (b ∷ bs) ≡ link → raw_html rules (b ∷ bs) ≡ html
-        → Leaves (atom_of (elim link as (λ _. Option Angled) [ Some link ↦ Some (Linked link) | None ↦ tagged (b ∷ bs) html ])) bs
+        → Leaves (atom_of (elim link as (λ _. Option Angled) [ Some link ↦ Some (Addressed link) | None ↦ tagged (b ∷ bs) html ])) bs
     go (Some link) html f g = leaves _ bs refl (link-behind b bs link f)
     go None (Some rest) f g = leaves _ bs refl (end-behind-one 62 b rest bs (raw_html-ends rules (b ∷ bs) rest g))
     go None None f g = leaves-none bs

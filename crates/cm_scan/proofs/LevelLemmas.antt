@@ -15,8 +15,8 @@ use Rattle.cm_scan.specs.Links.{LinkDefinition, definitions_of}
 use Rattle.cm_scan.specs.LineForms.{Heading, without_closing, atx_heading, underline, is_underline_of, opening_fence, is_thematic_break, item_marker, Fence, ItemMarker}
 use Rattle.cm_scan.specs.HtmlBlocks.{HtmlKind, html_start}
 use Rattle.cm_scan.specs.Starts.{Start, IndentedCode, QuoteMarker, AtxHeading, OpeningFence, HtmlStart, BreakLine, ItemStart, TextLine, start_of, start_by, start_of_content, seen_as, or_text, underline_if, underline_of, interrupts_paragraph, content_column, first_content, place_in_item}
-use Rattle.cm_scan.specs.Parts.{LeafPart, paragraph, heading, code, html, thematic_break, definition, Parts, none, blank, leaf, quote, list, ItemParts, last_item, item, leaf_block, is_loose, tree_of, items_of, next_items, put_before, put_item, put_leaves}
-use Rattle.cm_scan.specs.Blocks.{NextLine, GoesOn, Ends, Underlines, by_underline, next_line, Run, text_run, definition_leaves, content_leaf, leaves_of_run, quote_parts, item_parts, fence_parts, html_parts, code_parts, text_parts, parts_by_start, parts_by_cases, parts_within, parts_of, blocks_of, inside, add_text, rest_of}
+use Rattle.cm_scan.specs.Parts.{LeafPart, paragraph, heading, code, html, thematic_break, definition, Parts, none, blank, leaf, quote, list, ItemParts, last_item, item, leaf_block, is_loose, blocks_of_parts, blocks_of_items, next_items, put_before, put_item, put_leaves}
+use Rattle.cm_scan.specs.Blocks.{NextLine, GoesOn, Ends, Underlines, by_underline, next_line, TextRun, text_run, definition_leaves, content_leaf, leaves_of_run, quote_parts, item_parts, fence_parts, html_parts, code_parts, text_parts, parts_by_start, parts_by_cases, parts_within, parts_of, blocks_of, inside, add_text, rest_of}
 use Rattle.cm_scan.specs.Laws.{HeadingLevels}
 
 -- ---- of the parts
@@ -57,21 +57,21 @@ both : (a b : Bool) → a ≡ true → b ≡ true → (a && b) ≡ true
 both a b p q = ap (λ t. t && b) p ∙ q
 
 mutual
-  unfolding tree_of items_of PartLevels ItemLevels
+  unfolding blocks_of_parts blocks_of_items PartLevels ItemLevels
 
-  tree-levels : (p : Parts) → PartLevels p → have_levels (tree_of p) ≡ true
+  tree-levels : (p : Parts) → PartLevels p → have_levels (blocks_of_parts p) ≡ true
   tree-levels none h = refl
   tree-levels (blank rest) h = tree-levels rest h
-  tree-levels (leaf x lines rest) h = both (has_levels (leaf_block x)) (have_levels (tree_of rest)) (leaf-level x h.0) (tree-levels rest h.1)
+  tree-levels (leaf x lines rest) h = both (has_levels (leaf_block x)) (have_levels (blocks_of_parts rest)) (leaf-level x h.0) (tree-levels rest h.1)
   tree-levels (quote inside rest) h =
-      both (has_levels (Quote (tree_of inside))) (have_levels (tree_of rest)) (quote-levels (tree_of inside) ∙ tree-levels inside h.0) (tree-levels rest h.1)
+      both (has_levels (Quote (blocks_of_parts inside))) (have_levels (blocks_of_parts rest)) (quote-levels (blocks_of_parts inside) ∙ tree-levels inside h.0) (tree-levels rest h.1)
   tree-levels (list kind items rest) h =
-      both (has_levels (ListBlock kind (not (is_loose items)) (items_of items))) (have_levels (tree_of rest))
-      (list-levels kind (not (is_loose items)) (items_of items) ∙ item-levels items h.0) (tree-levels rest h.1)
+      both (has_levels (ListBlock kind (not (is_loose items)) (blocks_of_items items))) (have_levels (blocks_of_parts rest))
+      (list-levels kind (not (is_loose items)) (blocks_of_items items) ∙ item-levels items h.0) (tree-levels rest h.1)
 
-  item-levels : (items : ItemParts) → ItemLevels items → all_of_items (map (map has_levels) (items_of items)) ≡ true
-  item-levels (last_item inside) h = both (have_levels (tree_of inside)) true (tree-levels inside h) refl
-  item-levels (item inside blanks items) h = both (have_levels (tree_of inside)) (all_of_items (map (map has_levels) (items_of items))) (tree-levels inside h.0) (item-levels items h.1)
+  item-levels : (items : ItemParts) → ItemLevels items → all_of_items (map (map has_levels) (blocks_of_items items)) ≡ true
+  item-levels (last_item inside) h = both (have_levels (blocks_of_parts inside)) true (tree-levels inside h) refl
+  item-levels (item inside blanks items) h = both (have_levels (blocks_of_parts inside)) (all_of_items (map (map has_levels) (blocks_of_items items))) (tree-levels inside h.0) (item-levels items h.1)
 
 -- ---- an item in front of what follows it
 
@@ -191,7 +191,7 @@ next_line-level rules source line = go (is_blank line) (underline_of line) (not 
     go false None left true h = tt
     go false None left false h = tt
 
-abbrev RunLevel : Run → Type 0
+abbrev RunLevel : TextRun → Type 0
 RunLevel run = MarkLevel run.level
 
 run-level : (rules : Rules) (source : List ℕ) (lines : List LineView) → RunLevel (text_run rules source lines)
@@ -227,7 +227,7 @@ content-levels level [] h = tt
 content-levels None (b ∷ bs) h = (tt, tt)
 content-levels (Some level) (b ∷ bs) h = (h, tt)
 
-run-levels : (run : Run) → MarkLevel run.level → LeafLevels (leaves_of_run run)
+run-levels : (run : TextRun) → MarkLevel run.level → LeafLevels (leaves_of_run run)
 unfolding leaves_of_run
 run-levels run h =
     let source = trim_end run.source in

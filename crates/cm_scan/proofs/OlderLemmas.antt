@@ -3,7 +3,7 @@ use Rattle.std.proofs.Common.{◌≡◌, ℕ, Bool, true, false, ◌==◌, List,
 use Rattle.cm_text.specs.Rules.{profile}
 use Rattle.cm_scan.specs.Words.{after_word, ◌<|>◌}
 use Rattle.cm_scan.specs.Tags.{Named, open_tag, closing_tag}
-use Rattle.cm_scan.specs.RawHtml.{rest_of, past, short_end, after_comment, comment, instruction, declaration, character_data, raw_html}
+use Rattle.cm_scan.specs.RawHtml.{behind_tag, past, short_end, after_comment, comment, instruction, declaration, character_data, raw_html}
 use Rattle.cm_scan.specs.SpanLaws.{OlderIsRead}
 use Rattle.cm_scan.proofs.ReadFurther.{none-some, some-same}
 use Rattle.cm_scan.proofs.RawHtmlLemmas.{word-front, closing-goes-on, comment-goes-on, instruction-goes-on, declaration-goes-on, character_data-goes-on}
@@ -78,9 +78,9 @@ unfolding raw_html
 older_is_read text rest e = go (open_tag text) (closing_tag text) (comment true text) (instruction text) (declaration text) refl refl refl refl refl e
   where
     go : (a b : Option Named) (c d f : Option (List ℕ)) → open_tag text ≡ a → closing_tag text ≡ b → comment true text ≡ c → instruction text ≡ d → declaration text ≡ f
-        → rest_of a <|> rest_of b <|> c <|> d <|> f <|> character_data text ≡ Some rest → raw_html profile text ≡ Some rest
+        → behind_tag a <|> behind_tag b <|> c <|> d <|> f <|> character_data text ≡ Some rest → raw_html profile text ≡ Some rest
     go (Some tag) b c d f p q r s t e =
-        ap (λ (o : Option Named). rest_of o <|> rest_of (closing_tag text) <|> comment false text <|> instruction text <|> declaration text <|> character_data text) p ∙ e
+        ap (λ (o : Option Named). behind_tag o <|> behind_tag (closing_tag text) <|> comment false text <|> instruction text <|> declaration text <|> character_data text) p ∙ e
     go None (Some tag) c d f p q r s t e = nothing-behind text tag.rest (closing-goes-on profile text [] tag q) ∙ e
     go None None (Some left) d f p q r s t e = nothing-behind text left (comment-goes-on profile text [] left (older-comment text left r)) ∙ e
     go None None None (Some left) f p q r s t e = nothing-behind text left (instruction-goes-on profile text [] left s) ∙ e

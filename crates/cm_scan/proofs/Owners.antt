@@ -8,9 +8,9 @@ use Rattle.cm_tree.specs.declared.tree.Block.TheVariants.{Quote, List as ListBlo
 use Rattle.cm_tree.specs.declared.tree.ListKind.{ListKind}
 use Rattle.cm_tree.specs.declared.tree.Owner.{Owner}
 use Rattle.cm_tree.specs.declared.tree.Owner.TheVariants.{Leaf, Marker, Blank}
-use Rattle.cm_scan.specs.Parts.{LeafPart, paragraph, heading, code, html, thematic_break, definition, Parts, none, blank, leaf, quote, list, ItemParts, last_item, item, leaf_block, is_loose, tree_of, items_of, leaf_count, item_leaf_count, marked, owners_after, item_owners_after, marked_first}
+use Rattle.cm_scan.specs.Parts.{LeafPart, paragraph, heading, code, html, thematic_break, definition, Parts, none, blank, leaf, quote, list, ItemParts, last_item, item, leaf_block, is_loose, blocks_of_parts, blocks_of_items, leaf_count, item_leaf_count, marked, owners_after, item_owners_after, marked_first}
 use Rattle.cm_scan.specs.Looseness.{line_total, items_total, HaveLines, ItemsHaveLines}
-use Rattle.cm_scan.specs.Laws.{Named, name_next, name_lines, leaves_named, total_of_all, leaves_step, leaves_in}
+use Rattle.cm_scan.specs.Laws.{LeavesNamed, name_next, name_lines, leaves_named, total_of_all, leaves_step, leaves_in}
 
 pub length-replicate : {A : Type 0} (n : ℕ) (x : A) → length (replicate n x) ≡ n
 length-replicate zero x = refl
@@ -63,20 +63,20 @@ mutual
 
 -- naming the leaves of lines, one after another
 
-abbrev named : Bool → ℕ → Option Named
+abbrev named : Bool → ℕ → Option LeavesNamed
 named in_leaf count = Some (record { in_leaf = in_leaf; count = count })
 
-name-append : (s : Option Named) (xs ys : List Owner) → name_lines s (xs ++ ys) ≡ name_lines (name_lines s xs) ys
+name-append : (s : Option LeavesNamed) (xs ys : List Owner) → name_lines s (xs ++ ys) ≡ name_lines (name_lines s xs) ys
 name-append s [] ys = refl
 name-append s (x ∷ xs) ys = name-append (name_next s x) xs ys
 
-name-marked : (s : Option Named) (o : Owner) → name_next s (marked o) ≡ name_next s o
+name-marked : (s : Option LeavesNamed) (o : Owner) → name_next s (marked o) ≡ name_next s o
 name-marked None o = refl
 name-marked (Some n) (Leaf number) = refl
 name-marked (Some n) Marker = refl
 name-marked (Some n) Blank = refl
 
-name-all_marked : (s : Option Named) (os : List Owner) → name_lines s (map marked os) ≡ name_lines s os
+name-all_marked : (s : Option LeavesNamed) (os : List Owner) → name_lines s (map marked os) ≡ name_lines s os
 name-all_marked s [] = refl
 name-all_marked s (o ∷ os) = name-all_marked (name_next s (marked o)) os ∙ ap (λ t. name_lines t os) (name-marked s o)
 
@@ -159,7 +159,7 @@ mutual
       ∙ name-items (after_blanks (in_leaf_after b inside) blanks) (n + leaf_count inside) items have.2 ∙ ap (named _) (omega arith)
 
 pub leaves_in_order : (p : Parts) → HaveLines p → leaves_named (owners_after 0 p) ≡ Some (leaf_count p)
-leaves_in_order p have = ap (λ s. option_map (λ (t : Named). t.count) s) (name-parts false 0 p have) ∙ ap Some (omega arith)
+leaves_in_order p have = ap (λ s. option_map (λ (t : LeavesNamed). t.count) s) (name-parts false 0 p have) ∙ ap Some (omega arith)
 
 -- the leaves of the tree
 
@@ -179,15 +179,15 @@ pub list-leaves : (kind : ListKind) (tight : Bool) (items : List (List Block))
 list-leaves kind tight items = simp (fold_out-Block ℕ leaves_step, outs-List)
 
 mutual
-  unfolding tree_of items_of leaf_count item_leaf_count
+  unfolding blocks_of_parts blocks_of_items leaf_count item_leaf_count
 
-  pub tree-leaves : (p : Parts) → leaves_in (tree_of p) ≡ leaf_count p
+  pub tree-leaves : (p : Parts) → leaves_in (blocks_of_parts p) ≡ leaf_count p
   tree-leaves none = refl
   tree-leaves (blank rest) = tree-leaves rest
   tree-leaves (leaf x lines rest) = omega (arith, leaf-one x, tree-leaves rest)
-  tree-leaves (quote inside rest) = omega (arith, quote-leaves (tree_of inside), tree-leaves inside, tree-leaves rest)
-  tree-leaves (list kind items rest) = omega (arith, list-leaves kind (not (is_loose items)) (items_of items), items-leaves items, tree-leaves rest)
+  tree-leaves (quote inside rest) = omega (arith, quote-leaves (blocks_of_parts inside), tree-leaves inside, tree-leaves rest)
+  tree-leaves (list kind items rest) = omega (arith, list-leaves kind (not (is_loose items)) (blocks_of_items items), items-leaves items, tree-leaves rest)
 
-  items-leaves : (items : ItemParts) → total_of_all (map (map (fold-Block ℕ leaves_step)) (items_of items)) ≡ item_leaf_count items
+  items-leaves : (items : ItemParts) → total_of_all (map (map (fold-Block ℕ leaves_step)) (blocks_of_items items)) ≡ item_leaf_count items
   items-leaves (last_item inside) = omega (arith, tree-leaves inside)
   items-leaves (item inside blanks items) = omega (arith, tree-leaves inside, items-leaves items)

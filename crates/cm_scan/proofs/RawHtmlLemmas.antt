@@ -4,7 +4,7 @@ use Rattle.std.proofs.lemmas.Bool.{eqb-true}
 use Rattle.cm_text.specs.Rules.{Rules}
 use Rattle.cm_scan.specs.Words.{is_letter, after_word, ◌<|>◌}
 use Rattle.cm_scan.specs.Tags.{Named, tag_name, with_rest, after_gap, open_tag, closing_tag}
-use Rattle.cm_scan.specs.RawHtml.{rest_of, past, from_to, short_end, after_comment, comment, instruction, after_declaration, declaration, character_data, raw_html}
+use Rattle.cm_scan.specs.RawHtml.{behind_tag, past, from_to, short_end, after_comment, comment, instruction, after_declaration, declaration, character_data, raw_html}
 use Rattle.cm_scan.specs.SpanLaws.{RawHtmlGoesOn, WholeRawHtmlGoesOn}
 use Rattle.cm_scan.proofs.ReadFurther.{false-true, none-some, some-same, word-extends, word-other, word-length, past-length, past-extends, from_to-extends}
 use Rattle.cm_scan.proofs.TagsFurther.{longer, open_tag-extends, closing_tag-extends}
@@ -108,7 +108,7 @@ word-front (w ∷ ws) (b ∷ bs) rest e = go (b == w) refl e (λ h. word-front w
     go false f e k = none-some e
 
 module _ (rules : Rules) (inside rest : List ℕ) where
-  closing-alone : rest_of (closing_tag (60 ∷ 47 ∷ inside)) ≡ Some rest → raw_html rules (60 ∷ 47 ∷ inside) ≡ Some rest
+  closing-alone : behind_tag (closing_tag (60 ∷ 47 ∷ inside)) ≡ Some rest → raw_html rules (60 ∷ 47 ∷ inside) ≡ Some rest
   unfolding raw_html open_tag after_word tag_name
   closing-alone e = ap (λ o. o <|> comment rules.older (60 ∷ 47 ∷ inside) <|> instruction (60 ∷ 47 ∷ inside) <|> declaration (60 ∷ 47 ∷ inside) <|> character_data (60 ∷ 47 ∷ inside)) e
 
@@ -168,7 +168,7 @@ module _ (rules : Rules) (text x : List ℕ) where
       go (Some inside) f h =
           let front : text ≡ 60 ∷ 47 ∷ inside = word-front (codes "</") text inside f in
           let read : closing_tag (60 ∷ 47 ∷ (inside ++ x)) ≡ Some (longer tag x) = ap (λ t. closing_tag (t ++ x)) (sym front) ∙ closing_tag-extends text x tag e in
-          ap (λ t. raw_html rules (t ++ x)) front ∙ closing-alone rules (inside ++ x) (tag.rest ++ x) (ap rest_of read)
+          ap (λ t. raw_html rules (t ++ x)) front ∙ closing-alone rules (inside ++ x) (tag.rest ++ x) (ap behind_tag read)
 
   module _ (rest : List ℕ) where
     pub comment-goes-on : comment rules.older text ≡ Some rest → raw_html rules (text ++ x) ≡ Some (rest ++ x)
@@ -215,13 +215,13 @@ raw_html_goes_on rules text rest x e = opening (open_tag text) refl e
     third (Some r) f h = comment-goes-on rules text x r f ∙ ap (λ t. Some (t ++ x)) (some-same h)
     third None f h = fourth (instruction text) refl h
 
-    closing : (o : Option Named) → closing_tag text ≡ o → rest_of o <|> comment rules.older text <|> instruction text <|> declaration text <|> character_data text ≡ Some rest
+    closing : (o : Option Named) → closing_tag text ≡ o → behind_tag o <|> comment rules.older text <|> instruction text <|> declaration text <|> character_data text ≡ Some rest
         → raw_html rules (text ++ x) ≡ Some (rest ++ x)
     closing (Some tag) f h = closing-goes-on rules text x tag f ∙ ap (λ t. Some (t ++ x)) (some-same h)
     closing None f h = third (comment rules.older text) refl h
 
     others : List ℕ → Option Named → Option (List ℕ)
-    others t o = rest_of o <|> rest_of (closing_tag t) <|> comment rules.older t <|> instruction t <|> declaration t <|> character_data t
+    others t o = behind_tag o <|> behind_tag (closing_tag t) <|> comment rules.older t <|> instruction t <|> declaration t <|> character_data t
 
     opening : (o : Option Named) → open_tag text ≡ o → others text o ≡ Some rest → raw_html rules (text ++ x) ≡ Some (rest ++ x)
     opening (Some tag) f h = ap (others (text ++ x)) (open_tag-extends text x tag f) ∙ ap (λ t. Some (t ++ x)) (some-same h)

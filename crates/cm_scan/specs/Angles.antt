@@ -6,7 +6,7 @@ use Rattle.cm_scan.specs.RawHtml.{raw_html}
 use Rattle.cm_scan.specs.Autolinks.{Autolink, autolink}
 
 pub data Angled : Type 0 where
-  Linked : Autolink → Angled
+  Addressed : Autolink → Angled
   Tagged : Reading → Angled
 
 -- what stands before the rest of a text
@@ -20,4 +20,4 @@ tagged text (Some rest) = Some (Tagged (record { text = before rest text; rest =
 
 -- an autolink goes before raw HTML
 unfoldable pub at_angle : Rules → List ℕ → Option Angled
-at_angle rules text = elim (autolink text) [ Some link ↦ Some (Linked link) | None ↦ tagged text (raw_html rules text) ]
+at_angle rules text = elim (autolink text) [ Some link ↦ Some (Addressed link) | None ↦ tagged text (raw_html rules text) ]

@@ -9,7 +9,7 @@ use Rattle.cm_tree.specs.declared.tree.Inline.TheVariants.{Text, Code, Html, Sof
 use Rattle.cm_scan.specs.Words.{run_length, after_run, after_word}
 use Rattle.cm_scan.specs.Autolinks.{Autolink}
 use Rattle.cm_scan.specs.CodeSpans.{code_span}
-use Rattle.cm_scan.specs.Angles.{Linked, Tagged, at_angle}
+use Rattle.cm_scan.specs.Angles.{Addressed, Tagged, at_angle}
 use Rattle.cm_scan.specs.Delimiters.{Run, neighbour, may_open, may_close}
 
 -- Characters of text; another inline; a delimiter run; `[` or `![`; and `]`.
@@ -41,7 +41,7 @@ link_of link = Link link.destination [] (Text link.text ∷ [])
 -- an autolink or raw HTML (6.5 Autolinks, 6.6 Raw HTML)
 unfoldable pub angle_atom : Rules → List ℕ → Option AtomRead
 angle_atom rules text = elim (at_angle rules text) [
-  | Some (Linked link) ↦ read (Whole (link_of link)) link.rest
+  | Some (Addressed link) ↦ read (Whole (link_of link)) link.rest
   | Some (Tagged tag) ↦ read (Whole (Html tag.text)) tag.rest
   | None ↦ None
 ]

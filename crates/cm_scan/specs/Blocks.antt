@@ -15,7 +15,7 @@ use Rattle.cm_scan.specs.LineForms.{Fence, is_closing_fence, ItemMarker}
 use Rattle.cm_scan.specs.HtmlBlocks.{HtmlKind, is_html_end, ends_at_blank_line}
 use Rattle.cm_scan.specs.Links.{LinkDefinition, definitions_of}
 use Rattle.cm_scan.specs.Starts.{Start, IndentedCode, QuoteMarker, AtxHeading, OpeningFence, HtmlStart, BreakLine, ItemStart, TextLine, start_of, interrupts_paragraph, underline_of, Place, Stays, StaysIfOpen, Leaves, behind_quote_marker, place_in_quote, content_column, first_content, place_in_item}
-use Rattle.cm_scan.specs.Parts.{LeafPart, paragraph, heading, code, html, thematic_break, definition, Parts, none, blank, leaf, quote, leaves_paragraph_open, put_item, put_leaves, tree_of, line_owners, depths_of, table_of}
+use Rattle.cm_scan.specs.Parts.{LeafPart, paragraph, heading, code, html, thematic_break, definition, Parts, none, blank, leaf, quote, leaves_paragraph_open, put_item, put_leaves, blocks_of_parts, line_owners, depths_of, table_of}
 
 -- one more line of a run of text, whose source so far is given: its leading spaces and tabs go (4.8 Paragraphs)
 abbrev pub add_text : List ℕ → LineView → List ℕ
@@ -49,13 +49,13 @@ next_line rules source line = elim (is_blank line) [
 ]
 
 -- A run of text: its source, the level of the underline if one ends it, and the lines that follow.
-pub record Run : Type 0 where
+pub record TextRun : Type 0 where
   pub source : List ℕ
   pub level : Option ℕ
   pub following : List LineView
 
 -- the run with this source so far
-unfoldable pub text_run : Rules → List ℕ → List LineView → Run
+unfoldable pub text_run : Rules → List ℕ → List LineView → TextRun
 text_run rules source [] = record { source = source; level = None; following = [] }
 text_run rules source (line ∷ lines) = elim (next_line rules source line) [
   | GoesOn ↦ text_run rules (add_text source line) lines
@@ -85,7 +85,7 @@ content_leaf None (b ∷ bs) = (paragraph (b ∷ bs), line_count (b ∷ bs)) ∷
 content_leaf (Some level) (b ∷ bs) = (heading level (b ∷ bs), suc (line_count (b ∷ bs))) ∷ []
 
 -- the leaves of a run: the definitions at its front, then what is left
-unfoldable pub leaves_of_run : Run → List (LeafPart × ℕ)
+unfoldable pub leaves_of_run : TextRun → List (LeafPart × ℕ)
 leaves_of_run run =
     let source = trim_end run.source in
     let found = definitions_of source in
@@ -234,7 +234,7 @@ parts_of rules lines = parts_within rules (size lines) lines
 
 -- the blocks of a list of lines, in which a paragraph's or heading's source stands as one text
 unfoldable pub blocks_of : Rules → List LineView → List Block
-blocks_of rules lines = tree_of (parts_of rules lines)
+blocks_of rules lines = blocks_of_parts (parts_of rules lines)
 
 -- the owner of each line
 unfoldable pub owners_of : Rules → List LineView → List Owner

@@ -111,29 +111,29 @@ abbrev pub OneOwnerALine : Type 0
 OneOwnerALine = (rules : Rules) (lines : List LineView) → AreLines lines → length (owners_of rules lines) ≡ length lines
 
 -- how many leaves have been named, and whether the last line is the last one's
-pub record Named : Type 0 where
+pub record LeavesNamed : Type 0 where
   pub in_leaf : Bool
   pub count : ℕ
 
 -- one more line: it begins the next leaf, goes on with the one before, or is no leaf's; anything else is out of order
-abbrev pub name_line : Named → Owner → Option Named
+abbrev pub name_line : LeavesNamed → Owner → Option LeavesNamed
 name_line so_far (Leaf number) =
     if number == suc so_far.count then Some (record { in_leaf = true; count = suc so_far.count })
     else (if so_far.in_leaf && number == so_far.count then Some so_far else None)
 name_line so_far Marker = Some (record { in_leaf = false; count = so_far.count })
 name_line so_far Blank = Some (record { in_leaf = false; count = so_far.count })
 
-abbrev pub name_next : Option Named → Owner → Option Named
+abbrev pub name_next : Option LeavesNamed → Owner → Option LeavesNamed
 name_next None owner = None
 name_next (Some so_far) owner = name_line so_far owner
 
-abbrev pub name_lines : Option Named → List Owner → Option Named
+abbrev pub name_lines : Option LeavesNamed → List Owner → Option LeavesNamed
 name_lines so_far [] = so_far
 name_lines so_far (owner ∷ owners) = name_lines (name_next so_far owner) owners
 
 -- How many leaves the lines have, if each leaf's lines are one unbroken run, and the runs stand in the order of the leaves' numbers.
 abbrev pub leaves_named : List Owner → Option ℕ
-leaves_named owners = option_map (λ (named : Named). named.count) (name_lines (Some (record { in_leaf = false; count = 0 })) owners)
+leaves_named owners = option_map (λ (named : LeavesNamed). named.count) (name_lines (Some (record { in_leaf = false; count = 0 })) owners)
 
 abbrev pub total : List ℕ → ℕ
 total [] = 0

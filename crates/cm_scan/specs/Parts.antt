@@ -119,16 +119,16 @@ is_loose (item inside blanks items) = is_separated false false inside || nat_lt 
 
 -- the blocks, blank lines left aside
 unfoldable mutual
-  pub tree_of : Parts → List Block
-  tree_of none = []
-  tree_of (blank rest) = tree_of rest
-  tree_of (leaf x lines rest) = leaf_block x ∷ tree_of rest
-  tree_of (quote inside rest) = Quote (tree_of inside) ∷ tree_of rest
-  tree_of (list kind items rest) = ListBlock kind (not (is_loose items)) (items_of items) ∷ tree_of rest
+  pub blocks_of_parts : Parts → List Block
+  blocks_of_parts none = []
+  blocks_of_parts (blank rest) = blocks_of_parts rest
+  blocks_of_parts (leaf x lines rest) = leaf_block x ∷ blocks_of_parts rest
+  blocks_of_parts (quote inside rest) = Quote (blocks_of_parts inside) ∷ blocks_of_parts rest
+  blocks_of_parts (list kind items rest) = ListBlock kind (not (is_loose items)) (blocks_of_items items) ∷ blocks_of_parts rest
 
-  pub items_of : ItemParts → List (List Block)
-  items_of (last_item inside) = tree_of inside ∷ []
-  items_of (item inside blanks items) = tree_of inside ∷ items_of items
+  pub blocks_of_items : ItemParts → List (List Block)
+  blocks_of_items (last_item inside) = blocks_of_parts inside ∷ []
+  blocks_of_items (item inside blanks items) = blocks_of_parts inside ∷ blocks_of_items items
 
 -- how many leaves there are
 unfoldable mutual

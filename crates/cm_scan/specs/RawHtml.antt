@@ -6,9 +6,9 @@ use Rattle.cm_scan.specs.Words.{is_letter, after_word, ◌<|>◌}
 use Rattle.cm_scan.specs.Tags.{Named, open_tag, closing_tag}
 
 -- what is left behind a tag
-abbrev pub rest_of : Option Named → Option (List ℕ)
-rest_of None = None
-rest_of (Some tag) = Some tag.rest
+abbrev pub behind_tag : Option Named → Option (List ℕ)
+behind_tag None = None
+behind_tag (Some tag) = Some tag.rest
 
 -- what is left behind the first place where a word of a byte or more stands
 unfoldable pub past : List ℕ → List ℕ → Option (List ℕ)
@@ -56,5 +56,5 @@ character_data text = from_to (codes "<![CDATA[") (codes "]]>") text
 -- An HTML tag consists of an open tag, a closing tag, an HTML comment, a processing instruction, a declaration, or a CDATA
 -- section. No text begins with two of them.
 unfoldable pub raw_html : Rules → List ℕ → Option (List ℕ)
-raw_html rules text = rest_of (open_tag text) <|> rest_of (closing_tag text) <|> comment rules.older text <|> instruction text
+raw_html rules text = behind_tag (open_tag text) <|> behind_tag (closing_tag text) <|> comment rules.older text <|> instruction text
     <|> declaration text <|> character_data text

@@ -6,7 +6,7 @@ use Rattle.cm_scan.specs.Links.{Reading}
 use Rattle.cm_scan.specs.RawHtml.{past, raw_html}
 use Rattle.cm_scan.specs.Autolinks.{Autolink, autolink}
 use Rattle.cm_scan.specs.CodeSpans.{code_span}
-use Rattle.cm_scan.specs.Angles.{Angled, Linked, Tagged, at_angle}
+use Rattle.cm_scan.specs.Angles.{Angled, Addressed, Tagged, at_angle}
 
 -- with anything behind the text, that is what is left too
 abbrev pub RawHtmlGoesOn : Type 0
@@ -37,7 +37,7 @@ CodeSpanGoesOn = (text behind : List ℕ) (span : Reading) → code_span text �
 
 -- with more behind what is left
 abbrev pub longer_angled : Angled → List ℕ → Angled
-longer_angled (Linked link) behind = Linked (record { destination = link.destination; text = link.text; rest = link.rest ++ behind })
+longer_angled (Addressed link) behind = Addressed (record { destination = link.destination; text = link.text; rest = link.rest ++ behind })
 longer_angled (Tagged tag) behind = Tagged (record { text = tag.text; rest = tag.rest ++ behind })
 
 -- what a `<` begins is the same

@@ -10,7 +10,7 @@ use Rattle.cm_tree.specs.declared.tree.Block.TheViews.{outs-Paragraph, outs-Head
 use Rattle.cm_tree.specs.declared.tree.Block.TheFolds.{fold_out-Block}
 use Rattle.cm_source.specs.Inlines.{spelled_content}
 use Rattle.cm_source.specs.Refusals as refusals
-use Rattle.cm_source.specs.Refusals.{Face, Judged, judged}
+use Rattle.cm_source.specs.Refusals.{BlockFace, JudgedBlock, judged_block}
 use Rattle.cm_source.specs.Spelling as spelling
 use Rattle.cm_source.specs.Spelling.{parted_lines, heading_lines, quote_lines, list_lines, joined, lines_of_block}
 use Rattle.cm_source.specs.steps.Utf8Inlines.{all_of, has_utf8}
@@ -19,20 +19,20 @@ use Rattle.cm_source.specs.steps.Utf8Blocks.{utf8_step, has_texts}
 -- how each is judged
 
 module _ (rules : Rules) where
-  pub paragraph-judged : (content : List Inline) → judged rules (Paragraph content) ≡ refusals.block_step rules (block.Paragraph content)
-  paragraph-judged content = simp (fold_out-Block Judged (refusals.block_step rules), outs-Paragraph)
+  pub paragraph-judged : (content : List Inline) → judged_block rules (Paragraph content) ≡ refusals.block_step rules (block.Paragraph content)
+  paragraph-judged content = simp (fold_out-Block JudgedBlock (refusals.block_step rules), outs-Paragraph)
 
-  pub heading-judged : (level : ℕ) (content : List Inline) → judged rules (Heading level content) ≡ refusals.block_step rules (block.Heading level content)
-  heading-judged level content = simp (fold_out-Block Judged (refusals.block_step rules), outs-Heading)
+  pub heading-judged : (level : ℕ) (content : List Inline) → judged_block rules (Heading level content) ≡ refusals.block_step rules (block.Heading level content)
+  heading-judged level content = simp (fold_out-Block JudgedBlock (refusals.block_step rules), outs-Heading)
 
-  pub quote-judged : (blocks : List Block) → judged rules (Quote blocks) ≡ refusals.block_step rules (block.Quote (map (judged rules) blocks))
-  quote-judged blocks = simp (fold_out-Block Judged (refusals.block_step rules), outs-Quote)
+  pub quote-judged : (blocks : List Block) → judged_block rules (Quote blocks) ≡ refusals.block_step rules (block.Quote (map (judged_block rules) blocks))
+  quote-judged blocks = simp (fold_out-Block JudgedBlock (refusals.block_step rules), outs-Quote)
 
-  pub list-judged : (kind : ListKind) (tight : Bool) (items : List (List Block)) → judged rules (ListBlock kind tight items) ≡ refusals.block_step rules (block.List kind tight (map (map (judged rules)) items))
-  list-judged kind tight items = simp (fold_out-Block Judged (refusals.block_step rules), outs-List)
+  pub list-judged : (kind : ListKind) (tight : Bool) (items : List (List Block)) → judged_block rules (ListBlock kind tight items) ≡ refusals.block_step rules (block.List kind tight (map (map (judged_block rules)) items))
+  list-judged kind tight items = simp (fold_out-Block JudgedBlock (refusals.block_step rules), outs-List)
 
-pub refused-as : {j k : Judged} → j ≡ k → (before : Option Face) → j.refusal before ≡ None → k.refusal before ≡ None
-refused-as is before e = sym (ap (λ (judged : Judged). judged.refusal before) is) ∙ e
+pub refused-as : {j k : JudgedBlock} → j ≡ k → (before : Option BlockFace) → j.refusal before ≡ None → k.refusal before ≡ None
+refused-as is before e = sym (ap (λ (j : JudgedBlock). j.refusal before) is) ∙ e
 
 -- how each is spelled
 

@@ -33,8 +33,8 @@ spelled_block b = fold_out-Block (List (List ℕ)) block_step b
 pub judged_inline : (rules : Rules) (i : Inline) → inlines.judged rules i ≡ inlines.inline_step rules (map-Inline Inline inlines.Judged (inlines.judged rules) (out-Inline i))
 judged_inline rules i = fold_out-Inline inlines.Judged (inlines.inline_step rules) i
 
-pub judged_block : (rules : Rules) (b : Block) → blocks.judged rules b ≡ blocks.block_step rules (map-Block Block blocks.Judged (blocks.judged rules) (out-Block b))
-judged_block rules b = fold_out-Block blocks.Judged (blocks.block_step rules) b
+pub judged_block : (rules : Rules) (b : Block) → blocks.judged_block rules b ≡ blocks.block_step rules (map-Block Block blocks.JudgedBlock (blocks.judged_block rules) (out-Block b))
+judged_block rules b = fold_out-Block blocks.JudgedBlock (blocks.block_step rules) b
 
 pub read_block : (rules : Rules) (defined : Defined) (b : Block) → block_read rules defined b ≡ read_step rules defined (map-Block Block Block (block_read rules defined) (out-Block b))
 read_block rules defined b = fold_out-Block Block (read_step rules defined) b

@@ -22,7 +22,7 @@ use Rattle.cm_source.specs.steps.ContentBack.{FitsAll}
 use Rattle.cm_source.specs.Inlines.{spelled_content}
 use Rattle.cm_source.specs.InlineRefusals.{refused, paragraph_refusal, heading_refusal, of_paragraph, of_heading}
 use Rattle.cm_source.specs.ReadingBack.{TreesReadBack}
-use Rattle.cm_source.specs.Refusals.{IsSpellable, Face, refusal_of_all, refusal_of_items, list_reasons, judged}
+use Rattle.cm_source.specs.Refusals.{IsSpellable, BlockFace, refusal_of_all, refusal_of_items, list_reasons, judged_block}
 use Rattle.cm_source.specs.Spelling.{spelling_of}
 use Rattle.cm_source.specs.steps.Utf8Inlines.{AreTexts, all_of}
 use Rattle.cm_source.specs.steps.Utf8Blocks.{has_texts}
@@ -60,24 +60,24 @@ module _ (rules : Rules) (defined : Defined) where
 
   -- a block that isn't refused is read from its source
   abbrev ReadsBack : Block → Type 0
-  ReadsBack b = has_texts b ≡ true → (before : Option Face) → (judged rules b).refusal before ≡ None → block_read rules defined (sourced b) ≡ b
+  ReadsBack b = has_texts b ≡ true → (before : Option BlockFace) → (judged_block rules b).refusal before ≡ None → block_read rules defined (sourced b) ≡ b
 
-  all-back : (blocks : List Block) → AllHold ReadsBack blocks → all_of (map has_texts blocks) ≡ true → (before : Option Face) → refusal_of_all before (map (judged rules) blocks) ≡ None
+  all-back : (blocks : List Block) → AllHold ReadsBack blocks → all_of (map has_texts blocks) ≡ true → (before : Option BlockFace) → refusal_of_all before (map (judged_block rules) blocks) ≡ None
       → with_inlines rules defined (all_sourced blocks) ≡ blocks
   unfolding AllHold
   all-back [] hold texts before e = refl
   all-back (b ∷ bs) hold texts before e =
       let utf8 = and_parts (has_texts b) (all_of (map has_texts bs)) texts in
-      let parts = or-none ((judged rules b).refusal before) (refusal_of_all (Some (judged rules b).face) (map (judged rules) bs)) e in
-      ap (λ c. c ∷ with_inlines rules defined (all_sourced bs)) (hold.0 utf8.0 before parts.0) ∙ ap (λ cs. b ∷ cs) (all-back bs hold.1 utf8.1 (Some (judged rules b).face) parts.1)
+      let parts = or-none ((judged_block rules b).refusal before) (refusal_of_all (Some (judged_block rules b).face) (map (judged_block rules) bs)) e in
+      ap (λ c. c ∷ with_inlines rules defined (all_sourced bs)) (hold.0 utf8.0 before parts.0) ∙ ap (λ cs. b ∷ cs) (all-back bs hold.1 utf8.1 (Some (judged_block rules b).face) parts.1)
 
-  items-back : (items : List (List Block)) → ItemsHold ReadsBack items → all_of (map all_of (map (map has_texts) items)) ≡ true → refusal_of_items (map (map (judged rules)) items) ≡ None
+  items-back : (items : List (List Block)) → ItemsHold ReadsBack items → all_of (map all_of (map (map has_texts) items)) ≡ true → refusal_of_items (map (map (judged_block rules)) items) ≡ None
       → map (map (block_read rules defined)) (map (map sourced) items) ≡ items
   unfolding ItemsHold
   items-back [] hold texts e = refl
   items-back (item ∷ items) hold texts e =
       let utf8 = and_parts (all_of (map has_texts item)) (all_of (map all_of (map (map has_texts) items))) texts in
-      let parts = or-none (refusal_of_all None (map (judged rules) item)) (refusal_of_items (map (map (judged rules)) items)) e in
+      let parts = or-none (refusal_of_all None (map (judged_block rules) item)) (refusal_of_items (map (map (judged_block rules)) items)) e in
       ap (λ c. c ∷ map (map (block_read rules defined)) (map (map sourced) items)) (all-back item hold.0 utf8.0 None parts.0) ∙ ap (λ cs. item ∷ cs) (items-back items hold.1 utf8.1 parts.1)
 
   cases : Cases ReadsBack
@@ -95,7 +95,7 @@ module _ (rules : Rules) (defined : Defined) where
     quote = λ blocks hold texts before e.
         simp (sources, read_block, outs-Quote) (ap Quote (all-back blocks hold (sym (quote-texts blocks) ∙ texts) None (refused-as (quote-judged rules blocks) before e)));
     list = λ kind tight items hold texts before e.
-        let accepted = or-none (refused (list_reasons kind tight (seen_items rules items) before)) (refusal_of_items (map (map (judged rules)) items)) (refused-as (list-judged rules kind tight items) before e) in
+        let accepted = or-none (refused (list_reasons kind tight (seen_items rules items) before)) (refusal_of_items (map (map (judged_block rules)) items)) (refused-as (list-judged rules kind tight items) before e) in
         simp (sources, read_block, outs-List) (ap (ListBlock kind tight) (items-back items hold (sym (list-texts kind tight items) ∙ texts) accepted.1));
   }
 

@@ -12,7 +12,7 @@ use Rattle.cm_scan.specs.HtmlBlocks.{html_start}
 use Rattle.cm_scan.specs.Links.{definitions_of}
 use Rattle.cm_scan.specs.Starts.{AtxHeading, start_of_content, can_interrupt, interrupts_paragraph, underline_of}
 use Rattle.cm_scan.specs.Parts.{paragraph, heading, thematic_break, Parts, leaf, put_leaves}
-use Rattle.cm_scan.specs.Blocks.{add_text, rest_of, NextLine, GoesOn, Ends, by_interruption, by_underline, next_line, Run, text_run, line_count, definition_leaves, content_leaf, leaves_of_run, parts_of}
+use Rattle.cm_scan.specs.Blocks.{add_text, rest_of, NextLine, GoesOn, Ends, by_interruption, by_underline, next_line, TextRun, text_run, line_count, definition_leaves, content_leaf, leaves_of_run, parts_of}
 use Rattle.cm_scan.specs.BlockLaws.{is_unindented, AllGoOn, no_more, one_goes_on, FirstEnds}
 use Rattle.cm_scan.proofs.Cases.{break_case, heading_case, text_case}
 use Rattle.cm_scan.proofs.BlockLemmas.{unindented_line, run_up_to_its_end}
@@ -242,7 +242,7 @@ module _ (rules : Rules) where
       ap (λ l. parts_of rules (l ++ rest)) same
       ∙ text_case rules (at c p.first) (further ++ rest) (reads.not_blank, reads.start ∙ p.starts)
       ∙ ap (λ t. put_leaves (leaves_of_run (text_run rules t (further ++ rest))) (parts_of rules (text_run rules t (further ++ rest)).following)) reads.content
-      ∙ ap (λ (r : Run). put_leaves (leaves_of_run r) (parts_of rules r.following)) run
+      ∙ ap (λ (r : TextRun). put_leaves (leaves_of_run r) (parts_of rules r.following)) run
       ∙ ap (λ t. put_leaves (leaves_of_run (record { source = t; level = None; following = rest })) (parts_of rules rest)) source
       ∙ ap by_source p.trimmed
       ∙ ap (λ d. put_leaves (definition_leaves s d.taken ++ content_leaf None d.left) (parts_of rules rest)) p.defines_nothing

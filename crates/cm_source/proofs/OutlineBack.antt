@@ -10,7 +10,7 @@ use Rattle.cm_tree.specs.declared.tree.ListKind.{ListKind}
 use Rattle.cm_scan.specs.Words.{run_length, after_run}
 use Rattle.cm_scan.specs.LineForms.{ItemMarker, marker_width, underline}
 use Rattle.cm_scan.specs.Starts.{ItemStart, start_of_content, interrupts_paragraph, can_interrupt, place_in_item, starts_at_one}
-use Rattle.cm_scan.specs.Parts.{LeafPart, paragraph, heading, code, html, thematic_break, definition, Parts, none, blank, leaf, quote, list, ItemParts, item, leaves_paragraph_open, next_items, put_item, tree_of}
+use Rattle.cm_scan.specs.Parts.{LeafPart, paragraph, heading, code, html, thematic_break, definition, Parts, none, blank, leaf, quote, list, ItemParts, item, leaves_paragraph_open, next_items, put_item, blocks_of_parts}
 use Rattle.cm_scan.specs.Blocks.{parts_of, blocks_of}
 use Rattle.cm_scan.specs.Laws.{FirstLeaves}
 use Rattle.cm_scan.specs.BlockLaws.{is_unindented}
@@ -343,4 +343,4 @@ module _ (rules : Rules) where
   -- spelled blocks read back
   pub reads-back : (o : Outline) → FitAll rules o → blocks_of rules (map plain_line (block_lines true false o)) ≡ tree o
   unfolding blocks_of
-  reads-back o fit = ap tree_of (back o true false (map plain_line (block_lines true false o)) fit refl (have-lines (block_lines true false o))) ∙ same-tree rules true false o fit
+  reads-back o fit = ap blocks_of_parts (back o true false (map plain_line (block_lines true false o)) fit refl (have-lines (block_lines true false o))) ∙ same-tree rules true false o fit

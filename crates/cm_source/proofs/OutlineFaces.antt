@@ -6,22 +6,22 @@ use Rattle.cm_tree.specs.declared.tree.ListKind.TheVariants.{Dash, Plus, Star, D
 use Rattle.cm_scan.specs.LineForms.{is_same_kind}
 use Rattle.cm_scan.specs.Starts.{starts_at_one}
 use Rattle.cm_scan.specs.Parts.{LeafPart, paragraph, heading, code, html, thematic_break, definition}
-use Rattle.cm_source.specs.Refusals.{Face, ParagraphFace, CodeFace, QuoteFace, ListFace, OtherFace, is_list, begins_late, can_follow, is_tight_item, has_two, is_behind_same}
+use Rattle.cm_source.specs.Refusals.{BlockFace, ParagraphFace, CodeBlockFace, QuoteFace, ListFace, OtherBlockFace, is_list, begins_late, can_follow, is_tight_item, has_two, is_behind_same}
 use Rattle.cm_source.specs.steps.Outlines.{Outline, is_none, no_blocks, leaf_then, quote_then, list_then, is_paragraph, is_code, first_inside, interrupts_alone, fits_tight, has_two_blocks, begins_with_list, begins_with_kind}
 
-abbrev pub leaf_face : LeafPart → Face
+abbrev pub leaf_face : LeafPart → BlockFace
 leaf_face (paragraph source) = ParagraphFace
-leaf_face (code info text) = CodeFace
-leaf_face _ = OtherFace
+leaf_face (code info text) = CodeBlockFace
+leaf_face _ = OtherBlockFace
 
-abbrev pub faces_of : Outline → List Face
+abbrev pub faces_of : Outline → List BlockFace
 faces_of no_blocks = []
 faces_of (leaf_then x rest) = leaf_face x.part ∷ faces_of rest
 faces_of (quote_then inside rest) = QuoteFace ∷ faces_of rest
 faces_of (list_then kind tight items rest) = ListFace kind (not (is_none (first_inside items))) ∷ faces_of rest
 
 -- a list comes first, and one of its kind stands right before
-abbrev pub clashes : (before : Option Face) → List Face → Bool
+abbrev pub clashes : (before : Option BlockFace) → List BlockFace → Bool
 clashes before (ListFace kind filled ∷ others) = is_behind_same kind before
 clashes before _ = false
 
@@ -31,7 +31,7 @@ no-faces (leaf_then x rest) h = absurd (cc h)
 no-faces (quote_then inside rest) h = absurd (cc h)
 no-faces (list_then kind tight items rest) h = absurd (cc h)
 
-pub some-face : (o : Outline) (face : Face) (others : List Face) → faces_of o ≡ face ∷ others → is_none o ≡ false
+pub some-face : (o : Outline) (face : BlockFace) (others : List BlockFace) → faces_of o ≡ face ∷ others → is_none o ≡ false
 some-face no_blocks face others h = absurd (cc h)
 some-face (leaf_then x rest) face others h = refl
 some-face (quote_then inside rest) face others h = refl
@@ -43,7 +43,7 @@ pub has-two : (o : Outline) → has_two (faces_of o) ≡ has_two_blocks o
 has-two no_blocks = refl
 has-two (leaf_then x rest) = behind (leaf_face x.part) rest
   where
-    behind : (face : Face) (rest : Outline) → has_two (face ∷ faces_of rest) ≡ not (is_none rest)
+    behind : (face : BlockFace) (rest : Outline) → has_two (face ∷ faces_of rest) ≡ not (is_none rest)
     behind face no_blocks = refl
     behind face (leaf_then x rest) = refl
     behind face (quote_then inside rest) = refl
@@ -61,7 +61,7 @@ pub list-first : (o : Outline) → is_list (faces_of o) ≡ begins_with_list o
 list-first no_blocks = refl
 list-first (leaf_then x rest) = leaf-first x.part (faces_of rest)
   where
-    leaf-first : (part : LeafPart) (others : List Face) → is_list (leaf_face part ∷ others) ≡ false
+    leaf-first : (part : LeafPart) (others : List BlockFace) → is_list (leaf_face part ∷ others) ≡ false
     leaf-first (paragraph source) others = refl
     leaf-first (heading level content) others = refl
     leaf-first (code info text) others = refl
@@ -106,7 +106,7 @@ no-clash kind filled (leaf_then x rest) h = refl
 no-clash kind filled (quote_then inside rest) h = refl
 no-clash kind filled (list_then other tight items rest) h = same-kind kind other ∙ h
 
-pub leaf-apart : (before : Option Face) (part : LeafPart) (others : List Face) → clashes before (leaf_face part ∷ others) ≡ false
+pub leaf-apart : (before : Option BlockFace) (part : LeafPart) (others : List BlockFace) → clashes before (leaf_face part ∷ others) ≡ false
 leaf-apart before (paragraph source) others = refl
 leaf-apart before (heading level content) others = refl
 leaf-apart before (code info text) others = refl
@@ -116,12 +116,12 @@ leaf-apart before (definition label dest title) others = refl
 
 -- the blocks of an item of a tight list
 
-record AreTwo (part : LeafPart) (next : Face) (others : List Face) : Type 0 where
+record AreTwo (part : LeafPart) (next : BlockFace) (others : List BlockFace) : Type 0 where
   pub first : is_paragraph part ≡ true
   pub second : can_follow next ≡ true
   pub last : others ≡ []
 
-are-two : (part : LeafPart) (next : Face) (others : List Face) → is_tight_item (leaf_face part ∷ next ∷ others) ≡ true → AreTwo part next others
+are-two : (part : LeafPart) (next : BlockFace) (others : List BlockFace) → is_tight_item (leaf_face part ∷ next ∷ others) ≡ true → AreTwo part next others
 are-two (paragraph source) next [] h = record { first = refl; second = h; last = refl }
 are-two (paragraph source) next (face ∷ others) h = absurd (false≢true h)
 are-two (heading level content) next others h = absurd (false≢true h)

@@ -7,7 +7,7 @@ use Rattle.cm_tree.specs.declared.tree.Block.TheVariants.{Quote, List as ListBlo
 use Rattle.cm_tree.specs.declared.tree.ListKind.{ListKind}
 use Rattle.cm_scan.specs.Words.{given}
 use Rattle.cm_scan.specs.Starts.{starts_at_one}
-use Rattle.cm_scan.specs.Parts.{leaf_block, Parts, none, blank, leaf, quote, list, ItemParts, last_item, item, is_open_leaf, leaves_open_after, items_leave_open, next_items, ends_blank_after, items_end_blank, is_separated, is_loose, tree_of, items_of}
+use Rattle.cm_scan.specs.Parts.{leaf_block, Parts, none, blank, leaf, quote, list, ItemParts, last_item, item, is_open_leaf, leaves_open_after, items_leave_open, next_items, ends_blank_after, items_end_blank, is_separated, is_loose, blocks_of_parts, blocks_of_items}
 use Rattle.cm_source.specs.steps.Outlines.{Outline, is_none, no_blocks, leaf_then, quote_then, list_then, OutlineItems, last_one, one_and, tree, items_tree, gap_before, is_paragraph, is_code, first_inside, interrupts_alone, fits_tight, has_two_blocks, can_be_loose, begins_with_list, begins_with_kind}
 use Rattle.cm_source.proofs.OutlineFits.{leaf_size, FitAll, ItemsFit}
 
@@ -204,13 +204,13 @@ loose-first (list_then k t is rest) more = or-third _ false _ more (inside-ends 
 
 -- The tree of what is read is the tree that was spelled.
 
-tree-blank_if : (v : Bool) (p : Parts) → tree_of (blank_if v p) ≡ tree_of p
-unfolding tree_of
+tree-blank_if : (v : Bool) (p : Parts) → blocks_of_parts (blank_if v p) ≡ blocks_of_parts p
+unfolding blocks_of_parts
 tree-blank_if true p = refl
 tree-blank_if false p = refl
 
-same-inside : (o : Outline) (p : Parts) → tree_of p ≡ tree o → tree_of (or_blank o p) ≡ tree o
-unfolding tree_of tree
+same-inside : (o : Outline) (p : Parts) → blocks_of_parts p ≡ tree o → blocks_of_parts (or_blank o p) ≡ tree o
+unfolding blocks_of_parts tree
 same-inside no_blocks p h = refl
 same-inside (leaf_then x rest) p h = h
 same-inside (quote_then inside rest) p h = h
@@ -236,24 +236,24 @@ module _ (rules : Rules) where
   looseness false e items h fit = ap not (loose e items h fit)
 
   mutual
-    unfolding concrete concrete_items tree_of items_of tree items_tree FitAll ItemsFit
+    unfolding concrete concrete_items blocks_of_parts blocks_of_items tree items_tree FitAll ItemsFit
 
-    pub same-tree : (a e : Bool) (o : Outline) → FitAll rules o → tree_of (concrete a e o) ≡ tree o
+    pub same-tree : (a e : Bool) (o : Outline) → FitAll rules o → blocks_of_parts (concrete a e o) ≡ tree o
     same-tree a e no_blocks h = refl
     same-tree a e (leaf_then x rest) h = ap (λ bs. leaf_block x.part ∷ bs) (tree-blank_if (gap_before a e rest) (concrete a e rest) ∙ same-tree a e rest h.1)
     same-tree a e (quote_then inside rest) h =
-        ap (λ bs. Quote bs ∷ tree_of (blank_if (gap_before a e rest) (concrete a e rest))) (same-inside inside (concrete true false inside) (same-tree true false inside h.0))
+        ap (λ bs. Quote bs ∷ blocks_of_parts (blank_if (gap_before a e rest) (concrete a e rest))) (same-inside inside (concrete true false inside) (same-tree true false inside h.0))
         ∙ ap (λ bs. Quote (tree inside) ∷ bs) (tree-blank_if (gap_before a e rest) (concrete a e rest) ∙ same-tree a e rest h.1)
     same-tree a e (list_then kind tight items rest) h =
         let g = gap_before a e rest in
-        ap (λ t. ListBlock kind t (items_of (concrete_items tight g items)) ∷ tree_of (blank_if (g && last_is_bare items) (concrete a e rest))) (looseness tight g items h.2 h.1)
-        ∙ ap (λ is. ListBlock kind tight is ∷ tree_of (blank_if (g && last_is_bare items) (concrete a e rest))) (same-items tight g items h.1)
+        ap (λ t. ListBlock kind t (blocks_of_items (concrete_items tight g items)) ∷ blocks_of_parts (blank_if (g && last_is_bare items) (concrete a e rest))) (looseness tight g items h.2 h.1)
+        ∙ ap (λ is. ListBlock kind tight is ∷ blocks_of_parts (blank_if (g && last_is_bare items) (concrete a e rest))) (same-items tight g items h.1)
         ∙ ap (λ bs. ListBlock kind tight (items_tree items) ∷ bs) (tree-blank_if (g && last_is_bare items) (concrete a e rest) ∙ same-tree a e rest h.4)
 
-    same-items : (tight e : Bool) (items : OutlineItems) → ItemsFit rules tight items → items_of (concrete_items tight e items) ≡ items_tree items
+    same-items : (tight e : Bool) (items : OutlineItems) → ItemsFit rules tight items → blocks_of_items (concrete_items tight e items) ≡ items_tree items
     same-items tight e (last_one inside) h = ap (λ bs. bs ∷ []) (same-inside inside _ (same-tree (not tight) e inside h.2))
     same-items tight e (one_and inside items) h =
-        ap (λ bs. bs ∷ items_of (concrete_items tight e items)) (same-inside inside _ (same-tree (not tight) (not tight) inside h.2))
+        ap (λ bs. bs ∷ blocks_of_items (concrete_items tight e items)) (same-inside inside _ (same-tree (not tight) (not tight) inside h.2))
         ∙ ap (λ is. tree inside ∷ is) (same-items tight e items h.3)
 
 -- No list of the kind comes first.

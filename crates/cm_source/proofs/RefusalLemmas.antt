@@ -12,7 +12,7 @@ use Rattle.cm_scan.specs.Words.{is_empty, ◌<|>◌}
 use Rattle.cm_scan.specs.Links.{Reading}
 use Rattle.cm_scan.specs.RawHtml.{raw_html}
 use Rattle.cm_scan.specs.Autolinks.{Autolink, autolink}
-use Rattle.cm_scan.specs.Angles.{Angled, Linked, Tagged, before, tagged, at_angle}
+use Rattle.cm_scan.specs.Angles.{Angled, Addressed, Tagged, before, tagged, at_angle}
 use Rattle.cm_scan.specs.Scanned.{whole_of}
 use Rattle.cm_source.specs.declared.why.Why.{Why}
 use Rattle.cm_source.specs.Answers.{ok_unless}
@@ -118,24 +118,24 @@ none-read f (Some x) o e none = absurd (cc none)
 
 abbrev is_tag : Option Angled → Bool
 is_tag None = false
-is_tag (Some (Linked link)) = false
+is_tag (Some (Addressed link)) = false
 is_tag (Some (Tagged tag)) = is_empty tag.rest
 
 tag-is : (rules : Rules) (text : List ℕ) → is_one_tag rules text ≡ is_tag (at_angle rules text)
 tag-is rules text = go (at_angle rules text)
   where
-    go : (o : Option Angled) → (elim o as (λ _. Bool) [ Some (Tagged tag) ↦ is_empty tag.rest | Some (Linked link) ↦ false | None ↦ false ]) ≡ is_tag o
+    go : (o : Option Angled) → (elim o as (λ _. Bool) [ Some (Tagged tag) ↦ is_empty tag.rest | Some (Addressed link) ↦ false | None ↦ false ]) ≡ is_tag o
     go None = refl
-    go (Some (Linked link)) = refl
+    go (Some (Addressed link)) = refl
     go (Some (Tagged tag)) = refl
 
 pub link-no_tag : (rules : Rules) (text : List ℕ) (link : Autolink) → autolink text ≡ Some link → is_one_tag rules text ≡ false
 unfolding at_angle
-link-no_tag rules text link e = tag-is rules text ∙ ap (λ o. is_tag (elim o as (λ _. Option Angled) [ Some l ↦ Some (Linked l) | None ↦ tagged text (raw_html rules text) ])) e
+link-no_tag rules text link e = tag-is rules text ∙ ap (λ o. is_tag (elim o as (λ _. Option Angled) [ Some l ↦ Some (Addressed l) | None ↦ tagged text (raw_html rules text) ])) e
 
 by-tag : (rules : Rules) (text : List ℕ) → autolink text ≡ None → is_one_tag rules text ≡ is_tag (tagged text (raw_html rules text))
 unfolding at_angle
-by-tag rules text e = tag-is rules text ∙ ap (λ o. is_tag (elim o as (λ _. Option Angled) [ Some l ↦ Some (Linked l) | None ↦ tagged text (raw_html rules text) ])) e
+by-tag rules text e = tag-is rules text ∙ ap (λ o. is_tag (elim o as (λ _. Option Angled) [ Some l ↦ Some (Addressed l) | None ↦ tagged text (raw_html rules text) ])) e
 
 pub no-tag : (rules : Rules) (text : List ℕ) → autolink text ≡ None → None ≡ whole_of text (raw_html rules text) → is_one_tag rules text ≡ false
 no-tag rules text none e = by-tag rules text none ∙ go (raw_html rules text) e

@@ -19,7 +19,7 @@ use Rattle.cm_source.specs.Inlines.{spelled_content}
 use Rattle.cm_source.specs.InlineRefusals.{refused, has_nul, paragraph_refusal, heading_refusal}
 use Rattle.cm_source.specs.Texts.{spelled_text}
 use Rattle.cm_source.specs.Refusals as refusals
-use Rattle.cm_source.specs.Refusals.{Face, ListFace, Judged, faces, is_filled, is_list, is_tight_item, is_as_said, has_two, is_html_block, is_code_text, judged, refusal_of_all, refusal_of_items, is_behind_same, begins_too_high, list_reasons}
+use Rattle.cm_source.specs.Refusals.{BlockFace, ListFace, JudgedBlock, faces, is_filled, is_list, is_tight_item, is_as_said, has_two, is_html_block, is_code_text, judged_block, refusal_of_all, refusal_of_items, is_behind_same, begins_too_high, list_reasons}
 use Rattle.cm_source.specs.Spelling as spelling
 use Rattle.cm_source.specs.Spelling.{gap, joined, quote_lines, marker, item_lines, list_lines, lines_of_block}
 use Rattle.cm_source.specs.steps.BlocksBack.{source_step, sourced, ContentsGiveSources}
@@ -55,29 +55,29 @@ module _ (rules : Rules) where
     pub blocks : tree (f rest) ≡ s ∷ tree rest
     pub lines : (a e : Bool) → block_lines a e (f rest) ≡ l ++ gap (gap_before a e rest) ++ block_lines a e rest
 
-  record Spelled (f : Outline → Outline) (j : Judged) (s : Block) (l : List (List ℕ)) : Type 0 where
+  record Spelled (f : Outline → Outline) (j : JudgedBlock) (s : Block) (l : List (List ℕ)) : Type 0 where
     pub faces : (rest : Outline) → faces_of (f rest) ≡ j.face ∷ faces_of rest
-    pub apart : (before : Option Face) (others : List Face) → j.refusal before ≡ None → clashes before (j.face ∷ others) ≡ false
-    pub stands : (before : Option Face) (rest : Outline) → j.refusal before ≡ None → FitAll rules rest → clashes (Some j.face) (faces_of rest) ≡ false → Stands f s l rest
+    pub apart : (before : Option BlockFace) (others : List BlockFace) → j.refusal before ≡ None → clashes before (j.face ∷ others) ≡ false
+    pub stands : (before : Option BlockFace) (rest : Outline) → j.refusal before ≡ None → FitAll rules rest → clashes (Some j.face) (faces_of rest) ≡ false → Stands f s l rest
 
   -- Blocks, one after another
 
-  data AllSpelled : List (Outline → Outline) → List Judged → List Block → List (List (List ℕ)) → Type 0 where
+  data AllSpelled : List (Outline → Outline) → List JudgedBlock → List Block → List (List (List ℕ)) → Type 0 where
     none_spelled : AllSpelled [] [] [] []
-    one_spelled : {f : Outline → Outline} {j : Judged} {s : Block} {l : List (List ℕ)} {fs : List (Outline → Outline)} {js : List Judged} {ss : List Block} {ls : List (List (List ℕ))}
+    one_spelled : {f : Outline → Outline} {j : JudgedBlock} {s : Block} {l : List (List ℕ)} {fs : List (Outline → Outline)} {js : List JudgedBlock} {ss : List Block} {ls : List (List (List ℕ))}
         → Spelled f j s l → AllSpelled fs js ss ls → AllSpelled (f ∷ fs) (j ∷ js) (s ∷ ss) (l ∷ ls)
 
-  chain-faces : {fs : List (Outline → Outline)} {js : List Judged} {ss : List Block} {ls : List (List (List ℕ))} → AllSpelled fs js ss ls → faces_of (chain fs) ≡ faces js
+  chain-faces : {fs : List (Outline → Outline)} {js : List JudgedBlock} {ss : List Block} {ls : List (List (List ℕ))} → AllSpelled fs js ss ls → faces_of (chain fs) ≡ faces js
   chain-faces none_spelled = refl
   chain-faces (one_spelled {j = j} {fs = fs} one more) = one.faces (chain fs) ∙ ap (λ others. j.face ∷ others) (chain-faces more)
 
-  pub record AllStand (before : Option Face) (fs : List (Outline → Outline)) (ss : List Block) (ls : List (List (List ℕ))) : Type 0 where
+  pub record AllStand (before : Option BlockFace) (fs : List (Outline → Outline)) (ss : List Block) (ls : List (List (List ℕ))) : Type 0 where
     pub fits : FitAll rules (chain fs)
     pub apart : clashes before (faces_of (chain fs)) ≡ false
     pub blocks : tree (chain fs) ≡ ss
     pub lines : (a : Bool) → block_lines a false (chain fs) ≡ joined a ls
 
-  lines-more : (a : Bool) {f : Outline → Outline} {s : Block} {l : List (List ℕ)} {fs : List (Outline → Outline)} {js : List Judged} {ss : List Block} {ls : List (List (List ℕ))} → Stands f s l (chain fs) → AllSpelled fs js ss ls
+  lines-more : (a : Bool) {f : Outline → Outline} {s : Block} {l : List (List ℕ)} {fs : List (Outline → Outline)} {js : List JudgedBlock} {ss : List Block} {ls : List (List (List ℕ))} → Stands f s l (chain fs) → AllSpelled fs js ss ls
       → block_lines a false (chain fs) ≡ joined a ls → block_lines a false (f (chain fs)) ≡ joined a (l ∷ ls)
   unfolding block_lines
   lines-more a {l = l} one none_spelled more = one.lines a false ∙ ap (λ t. t ++ []) (append-nil l)
@@ -87,7 +87,7 @@ module _ (rules : Rules) where
       ∙ ap (λ t. (l ++ gap a) ++ t) more
       ∙ joined-more a l m ls
 
-  all-stand : {fs : List (Outline → Outline)} {js : List Judged} {ss : List Block} {ls : List (List (List ℕ))} (before : Option Face) → AllSpelled fs js ss ls → refusal_of_all before js ≡ None → AllStand before fs ss ls
+  all-stand : {fs : List (Outline → Outline)} {js : List JudgedBlock} {ss : List Block} {ls : List (List (List ℕ))} (before : Option BlockFace) → AllSpelled fs js ss ls → refusal_of_all before js ≡ None → AllStand before fs ss ls
   unfolding FitAll tree block_lines
   all-stand before none_spelled h = record { fits = tt; apart = refl; blocks = refl; lines = λ a. refl }
   all-stand before (one_spelled {f = f} {j = j} {s = s} {fs = fs} {js = js} one more) h =
@@ -103,10 +103,10 @@ module _ (rules : Rules) where
 
   -- Items
 
-  data ItemsSpelled : List (List (Outline → Outline)) → List (List Judged) → List (List Block) → List (List (List (List ℕ))) → Type 0 where
+  data ItemsSpelled : List (List (Outline → Outline)) → List (List JudgedBlock) → List (List Block) → List (List (List (List ℕ))) → Type 0 where
     no_items : ItemsSpelled [] [] [] []
-    one_item : {fs : List (Outline → Outline)} {js : List Judged} {ss : List Block} {ls : List (List (List ℕ))}
-        {fss : List (List (Outline → Outline))} {jss : List (List Judged)} {sss : List (List Block)} {lss : List (List (List (List ℕ)))}
+    one_item : {fs : List (Outline → Outline)} {js : List JudgedBlock} {ss : List Block} {ls : List (List (List ℕ))}
+        {fss : List (List (Outline → Outline))} {jss : List (List JudgedBlock)} {sss : List (List Block)} {lss : List (List (List (List ℕ)))}
         → AllSpelled fs js ss ls → ItemsSpelled fss jss sss lss → ItemsSpelled (fs ∷ fss) (js ∷ jss) (ss ∷ sss) (ls ∷ lss)
 
   record ItemsStand (kind : ListKind) (tight : Bool) (fss : List (List (Outline → Outline))) (sss : List (List Block)) (lss : List (List (List (List ℕ)))) : Type 0 where
@@ -115,7 +115,7 @@ module _ (rules : Rules) where
     pub lines : lines_of_items kind tight (chain_items fss) ≡ list_lines kind tight lss
 
   -- what is asked of one item, and of each further one
-  tight-inside : (tight : Bool) {fs : List (Outline → Outline)} {js : List Judged} {ss : List Block} {ls : List (List (List ℕ))} → AllSpelled fs js ss ls
+  tight-inside : (tight : Bool) {fs : List (Outline → Outline)} {js : List JudgedBlock} {ss : List Block} {ls : List (List (List ℕ))} → AllSpelled fs js ss ls
       → (not tight || is_tight_item (faces js)) ≡ true → (not tight || fits_tight (chain fs)) ≡ true
   tight-inside true {fs = fs} all h = tight-item (chain fs) (ap is_tight_item (chain-faces all) ∙ h)
   tight-inside false all h = refl
@@ -124,11 +124,11 @@ module _ (rules : Rules) where
   parts-tight true v w h = and_parts v w h
   parts-tight false v w h = (refl, refl)
 
-  no-list-first : {fs : List (Outline → Outline)} {js : List Judged} {ss : List Block} {ls : List (List (List ℕ))} → AllSpelled fs js ss ls → is_list (faces js) ≡ false → begins_with_list (chain fs) ≡ false
+  no-list-first : {fs : List (Outline → Outline)} {js : List JudgedBlock} {ss : List Block} {ls : List (List (List ℕ))} → AllSpelled fs js ss ls → is_list (faces js) ≡ false → begins_with_list (chain fs) ≡ false
   no-list-first {fs = fs} all h = sym (list-first (chain fs)) ∙ ap is_list (chain-faces all) ∙ h
 
-  items-stand : (kind : ListKind) (tight : Bool) {fs : List (Outline → Outline)} {js : List Judged} {ss : List Block} {ls : List (List (List ℕ))}
-      {fss : List (List (Outline → Outline))} {jss : List (List Judged)} {sss : List (List Block)} {lss : List (List (List (List ℕ)))} → AllSpelled fs js ss ls → ItemsSpelled fss jss sss lss
+  items-stand : (kind : ListKind) (tight : Bool) {fs : List (Outline → Outline)} {js : List JudgedBlock} {ss : List Block} {ls : List (List (List ℕ))}
+      {fss : List (List (Outline → Outline))} {jss : List (List JudgedBlock)} {sss : List (List Block)} {lss : List (List (List (List ℕ)))} → AllSpelled fs js ss ls → ItemsSpelled fss jss sss lss
       → refusal_of_items (js ∷ jss) ≡ None → list_any is_list (map faces (js ∷ jss)) ≡ false → (not tight || list_all is_tight_item (map faces (js ∷ jss))) ≡ true
       → ItemsStand kind tight (fs ∷ fss) (ss ∷ sss) (ls ∷ lss)
   unfolding ItemsFit items_tree lines_of_items
@@ -156,8 +156,8 @@ module _ (rules : Rules) where
             ∙ joined-more (not tight) (own ls) (own ms) (map own lss);
       }
 
-  loose-inside : (tight : Bool) {fs : List (Outline → Outline)} {js : List Judged} {ss : List Block} {ls : List (List (List ℕ))}
-      {fss : List (List (Outline → Outline))} {jss : List (List Judged)} {sss : List (List Block)} {lss : List (List (List (List ℕ)))} → AllSpelled fs js ss ls → ItemsSpelled fss jss sss lss
+  loose-inside : (tight : Bool) {fs : List (Outline → Outline)} {js : List JudgedBlock} {ss : List Block} {ls : List (List (List ℕ))}
+      {fss : List (List (Outline → Outline))} {jss : List (List JudgedBlock)} {sss : List (List Block)} {lss : List (List (List (List ℕ)))} → AllSpelled fs js ss ls → ItemsSpelled fss jss sss lss
       → is_as_said tight (map faces (js ∷ jss)) ≡ true → (tight || can_be_loose (chain_items (fs ∷ fss))) ≡ true
   loose-inside true one more said = refl
   loose-inside false {fs = fs} {js = js} one no_items said = sym (has-two (chain fs)) ∙ ap has_two (chain-faces one) ∙ or-no (has_two (faces js)) said
@@ -167,12 +167,12 @@ module _ (rules : Rules) where
       or-no false h = h
   loose-inside false one (one_item next more) said = refl
 
-  tight-as-said : (tight : Bool) (items : List (List Face)) → is_as_said tight items ≡ true → (not tight || list_all is_tight_item items) ≡ true
+  tight-as-said : (tight : Bool) (items : List (List BlockFace)) → is_as_said tight items ≡ true → (not tight || list_all is_tight_item items) ≡ true
   tight-as-said true items said = said
   tight-as-said false items said = refl
 
-  filled-first : {fs : List (Outline → Outline)} {js : List Judged} {ss : List Block} {ls : List (List (List ℕ))}
-      {fss : List (List (Outline → Outline))} {jss : List (List Judged)} {sss : List (List Block)} {lss : List (List (List (List ℕ)))} → AllSpelled fs js ss ls → ItemsSpelled fss jss sss lss
+  filled-first : {fs : List (Outline → Outline)} {js : List JudgedBlock} {ss : List Block} {ls : List (List (List ℕ))}
+      {fss : List (List (Outline → Outline))} {jss : List (List JudgedBlock)} {sss : List (List Block)} {lss : List (List (List (List ℕ)))} → AllSpelled fs js ss ls → ItemsSpelled fss jss sss lss
       → not (is_none (first_inside (chain_items (fs ∷ fss)))) ≡ is_filled (js ∷ jss)
   filled-first none_spelled no_items = refl
   filled-first none_spelled (one_item next more) = refl
@@ -181,7 +181,7 @@ module _ (rules : Rules) where
 
   -- The kinds of blocks
 
-  abbrev leaf_judged : SpelledLeaf → Option Why → Judged
+  abbrev leaf_judged : SpelledLeaf → Option Why → JudgedBlock
   leaf_judged x reason = refusals.leaf_block (leaf_face x.part) reason
 
   leaf-spelled : (x : SpelledLeaf) (s : Block) (reason : Option Why) → (reason ≡ None → LeafFits rules x × (leaf_block x.part ≡ s)) → Spelled (leaf_then x) (leaf_judged x reason) s x.lines
@@ -192,7 +192,7 @@ module _ (rules : Rules) where
     stands = λ before rest h rest_fits clash. record { fits = ((fits h).0, rest_fits); blocks = ap (λ b. b ∷ tree rest) (fits h).1; lines = λ a e. refl };
   }
 
-  quote-spelled : {fs : List (Outline → Outline)} {js : List Judged} {ss : List Block} {ls : List (List (List ℕ))} → AllSpelled fs js ss ls
+  quote-spelled : {fs : List (Outline → Outline)} {js : List JudgedBlock} {ss : List Block} {ls : List (List (List ℕ))} → AllSpelled fs js ss ls
       → Spelled (quote_then (chain fs)) (refusals.leaf_block refusals.QuoteFace (refusal_of_all None js)) (Quote ss) (quote_lines (joined true ls))
   unfolding FitAll tree block_lines
   quote-spelled all = record {
@@ -207,28 +207,28 @@ module _ (rules : Rules) where
         };
   }
 
-  abbrev list_judged : ListKind → Bool → List (List Judged) → Judged
+  abbrev list_judged : ListKind → Bool → List (List JudgedBlock) → JudgedBlock
   list_judged kind tight jss = record {
     face = ListFace kind (is_filled jss);
     refusal = λ before. refused (list_reasons kind tight (map faces jss) before) <|> refusal_of_items jss;
   }
 
   -- why a list isn't refused
-  record ListStands (kind : ListKind) (tight : Bool) (jss : List (List Judged)) (before : Option Face) : Type 0 where
-    pub some : list_any (λ (item : List Face). true) (map faces jss) ≡ true
+  record ListStands (kind : ListKind) (tight : Bool) (jss : List (List JudgedBlock)) (before : Option BlockFace) : Type 0 where
+    pub some : list_any (λ (item : List BlockFace). true) (map faces jss) ≡ true
     pub low : begins_too_high kind ≡ false
     pub apart : is_behind_same kind before ≡ false
     pub no_lists : list_any is_list (map faces jss) ≡ false
     pub said : is_as_said tight (map faces jss) ≡ true
     pub inside : refusal_of_items jss ≡ None
 
-  list-stands : (kind : ListKind) (tight : Bool) (jss : List (List Judged)) (before : Option Face) → (list_judged kind tight jss).refusal before ≡ None → ListStands kind tight jss before
+  list-stands : (kind : ListKind) (tight : Bool) (jss : List (List JudgedBlock)) (before : Option BlockFace) → (list_judged kind tight jss).refusal before ≡ None → ListStands kind tight jss before
   list-stands kind tight jss before h =
       let (reasons, inside) = or-none (refused (list_reasons kind tight (map faces jss) before)) (refusal_of_items jss) h in
       let none = none-holds (list_reasons kind tight (map faces jss) before) reasons in
-      let (some, low) = or_parts (not (list_any (λ (item : List Face). true) (map faces jss))) (begins_too_high kind) none.0 in
+      let (some, low) = or_parts (not (list_any (λ (item : List BlockFace). true) (map faces jss))) (begins_too_high kind) none.0 in
       record {
-        some = not-false (list_any (λ (item : List Face). true) (map faces jss)) some;
+        some = not-false (list_any (λ (item : List BlockFace). true) (map faces jss)) some;
         low = low;
         apart = none.1.0;
         no_lists = none.1.1.0;
@@ -236,7 +236,7 @@ module _ (rules : Rules) where
         inside = inside;
       }
 
-  list-spelled : (kind : ListKind) (tight : Bool) {fss : List (List (Outline → Outline))} {jss : List (List Judged)} {sss : List (List Block)} {lss : List (List (List (List ℕ)))} → ItemsSpelled fss jss sss lss
+  list-spelled : (kind : ListKind) (tight : Bool) {fss : List (List (Outline → Outline))} {jss : List (List JudgedBlock)} {sss : List (List Block)} {lss : List (List (List (List ℕ)))} → ItemsSpelled fss jss sss lss
       → Spelled (list_then kind tight (chain_items fss)) (list_judged kind tight jss) (ListBlock kind tight sss) (list_lines kind tight lss)
   unfolding FitAll tree block_lines
   list-spelled kind tight no_items = record {
@@ -260,21 +260,21 @@ module _ (rules : Rules) where
   -- Every block, by induction over the tree
 
   abbrev BlockSpelled : Block → Type 0
-  BlockSpelled b = Spelled (in_front_of b) (judged rules b) (sourced b) (lines_of_block b)
+  BlockSpelled b = Spelled (in_front_of b) (judged_block rules b) (sourced b) (lines_of_block b)
 
-  all-spelled : (bs : List Block) → AllHold BlockSpelled bs → AllSpelled (map in_front_of bs) (map (judged rules) bs) (map sourced bs) (map lines_of_block bs)
+  all-spelled : (bs : List Block) → AllHold BlockSpelled bs → AllSpelled (map in_front_of bs) (map (judged_block rules) bs) (map sourced bs) (map lines_of_block bs)
   unfolding AllHold
   all-spelled [] hold = none_spelled
   all-spelled (b ∷ bs) hold = one_spelled hold.0 (all-spelled bs hold.1)
 
   items-spelled : (items : List (List Block)) → ItemsHold BlockSpelled items
-      → ItemsSpelled (map (map in_front_of) items) (map (map (judged rules)) items) (map (map sourced) items) (map (map lines_of_block) items)
+      → ItemsSpelled (map (map in_front_of) items) (map (map (judged_block rules)) items) (map (map sourced) items) (map (map lines_of_block) items)
   unfolding ItemsHold
   items-spelled [] hold = no_items
   items-spelled (item ∷ items) hold = one_item (all-spelled item hold.0) (items-spelled items hold.1)
 
   abbrev LayerSpelled : Block-F Block → Type 0
-  LayerSpelled x = Spelled (outline_step (map-Block Block (Outline → Outline) in_front_of x)) (refusals.block_step rules (map-Block Block Judged (judged rules) x))
+  LayerSpelled x = Spelled (outline_step (map-Block Block (Outline → Outline) in_front_of x)) (refusals.block_step rules (map-Block Block JudgedBlock (judged_block rules) x))
       (source_step (map-Block Block Block sourced x)) (spelling.block_step (map-Block Block (List (List ℕ)) lines_of_block x))
 
   module _ (gives : ContentsGiveSources rules) where
@@ -311,10 +311,10 @@ module _ (rules : Rules) where
 
     rolled : (x : Block-F Block) → LayerSpelled x → BlockSpelled (roll-Block x)
     rolled x of_layer =
-        subst (λ f. Spelled f (judged rules (roll-Block x)) (sourced (roll-Block x)) (lines_of_block (roll-Block x))) (sym (fold-roll-Block (Outline → Outline) outline_step x))
-        (subst (λ j. Spelled (outline_step (map-Block Block (Outline → Outline) in_front_of x)) j (sourced (roll-Block x)) (lines_of_block (roll-Block x))) (sym (fold-roll-Block Judged (refusals.block_step rules) x))
-        (subst (λ s. Spelled (outline_step (map-Block Block (Outline → Outline) in_front_of x)) (refusals.block_step rules (map-Block Block Judged (judged rules) x)) s (lines_of_block (roll-Block x))) (sym (fold-roll-Block Block source_step x))
-        (subst (λ l. Spelled (outline_step (map-Block Block (Outline → Outline) in_front_of x)) (refusals.block_step rules (map-Block Block Judged (judged rules) x)) (source_step (map-Block Block Block sourced x)) l)
+        subst (λ f. Spelled f (judged_block rules (roll-Block x)) (sourced (roll-Block x)) (lines_of_block (roll-Block x))) (sym (fold-roll-Block (Outline → Outline) outline_step x))
+        (subst (λ j. Spelled (outline_step (map-Block Block (Outline → Outline) in_front_of x)) j (sourced (roll-Block x)) (lines_of_block (roll-Block x))) (sym (fold-roll-Block JudgedBlock (refusals.block_step rules) x))
+        (subst (λ s. Spelled (outline_step (map-Block Block (Outline → Outline) in_front_of x)) (refusals.block_step rules (map-Block Block JudgedBlock (judged_block rules) x)) s (lines_of_block (roll-Block x))) (sym (fold-roll-Block Block source_step x))
+        (subst (λ l. Spelled (outline_step (map-Block Block (Outline → Outline) in_front_of x)) (refusals.block_step rules (map-Block Block JudgedBlock (judged_block rules) x)) (source_step (map-Block Block Block sourced x)) l)
         (sym (fold-roll-Block (List (List ℕ)) spelling.block_step x)) of_layer)))
 
     -- a tree that can be spelled

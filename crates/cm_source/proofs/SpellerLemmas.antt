@@ -12,7 +12,7 @@ use Rattle.cm_source.specs.declared.fault.SourceFault.TheVariants.{Unspellable}
 use Rattle.cm_source.specs.declared.refusals.Face.{Face as SeenFace}
 use Rattle.cm_source.specs.declared.spelling.Speller as code
 use Rattle.cm_source.specs.Answers.{ok_unless}
-use Rattle.cm_source.specs.Refusals.{Face, Judged, judged, refusal_of_all, refusal_of, IsSpellable}
+use Rattle.cm_source.specs.Refusals.{BlockFace, JudgedBlock, judged_block, refusal_of_all, refusal_of, IsSpellable}
 use Rattle.cm_source.specs.Speller.{face_behind, StandsFor, Refuses}
 use Rattle.cm_source.specs.Spelling.{gap, joined, lines_of_block, lines_of_blocks, spelling_of}
 use Rattle.cm_source.specs.steps.BlockFaces.{seen}
@@ -26,39 +26,39 @@ or-more : (first second third : Option Why) → first <|> (second <|> third) ≡
 or-more None second third = refl
 or-more (Some why) second third = refl
 
-refusal-behind : (before : Option Face) (blocks others : List Judged) → refusal_of_all before (blocks ++ others) ≡ refusal_of_all before blocks <|> refusal_of_all (face_behind before blocks) others
+refusal-behind : (before : Option BlockFace) (blocks others : List JudgedBlock) → refusal_of_all before (blocks ++ others) ≡ refusal_of_all before blocks <|> refusal_of_all (face_behind before blocks) others
 refusal-behind before [] others = refl
 refusal-behind before (next ∷ blocks) others =
     ap (λ r. next.refusal before <|> r) (refusal-behind (Some next.face) blocks others)
     ∙ or-more (next.refusal before) (refusal_of_all (Some next.face) blocks) (refusal_of_all (face_behind (Some next.face) blocks) others)
 
-face-behind : (before : Option Face) (blocks : List Judged) (last : Judged) → face_behind before (blocks ++ last ∷ []) ≡ Some last.face
+face-behind : (before : Option BlockFace) (blocks : List JudgedBlock) (last : JudgedBlock) → face_behind before (blocks ++ last ∷ []) ≡ Some last.face
 face-behind before [] last = refl
 face-behind before (next ∷ blocks) last = face-behind (Some next.face) blocks last
 
 module _ (rules : Rules) (blocks : List Block) (block : Block) where
-  abbrev last_seen : Option Face
-  last_seen = face_behind None (map (judged rules) blocks)
+  abbrev last_seen : Option BlockFace
+  last_seen = face_behind None (map (judged_block rules) blocks)
 
-  behind-is : (others : List Block) → IsSpellable rules blocks → refusal_of rules (blocks ++ block ∷ others) ≡ (judged rules block).refusal last_seen <|> refusal_of_all (Some (judged rules block).face) (map (judged rules) others)
+  behind-is : (others : List Block) → IsSpellable rules blocks → refusal_of rules (blocks ++ block ∷ others) ≡ (judged_block rules block).refusal last_seen <|> refusal_of_all (Some (judged_block rules block).face) (map (judged_block rules) others)
   behind-is others e =
-      ap (refusal_of_all None) (map-append (judged rules) blocks (block ∷ others))
-      ∙ refusal-behind None (map (judged rules) blocks) (map (judged rules) (block ∷ others))
-      ∙ ap (λ r. r <|> refusal_of_all last_seen (map (judged rules) (block ∷ others))) e
+      ap (refusal_of_all None) (map-append (judged_block rules) blocks (block ∷ others))
+      ∙ refusal-behind None (map (judged_block rules) blocks) (map (judged_block rules) (block ∷ others))
+      ∙ ap (λ r. r <|> refusal_of_all last_seen (map (judged_block rules) (block ∷ others))) e
 
-  pub one-more : IsSpellable rules blocks → (judged rules block).refusal last_seen ≡ None → IsSpellable rules (blocks ++ block ∷ [])
+  pub one-more : IsSpellable rules blocks → (judged_block rules block).refusal last_seen ≡ None → IsSpellable rules (blocks ++ block ∷ [])
   one-more e fine = behind-is [] e ∙ ap (λ r. r <|> None) fine
 
-  pub refuses : (why : Why) → IsSpellable rules blocks → Err why ≡ ok_unless ((judged rules block).refusal last_seen) → Refuses (Unspellable why) rules blocks block
-  refuses why e told others = behind-is others e ∙ go ((judged rules block).refusal last_seen) told
+  pub refuses : (why : Why) → IsSpellable rules blocks → Err why ≡ ok_unless ((judged_block rules block).refusal last_seen) → Refuses (Unspellable why) rules blocks block
+  refuses why e told others = behind-is others e ∙ go ((judged_block rules block).refusal last_seen) told
     where
-      go : (reason : Option Why) → Err why ≡ ok_unless reason → reason <|> refusal_of_all (Some (judged rules block).face) (map (judged rules) others) ≡ Some why
+      go : (reason : Option Why) → Err why ≡ ok_unless reason → reason <|> refusal_of_all (Some (judged_block rules block).face) (map (judged_block rules) others) ≡ Some why
       go None told = absurd (cc told)
       go (Some other) told = let same : other ≡ why = cc told in ap Some same
 
 -- the lines of blocks and one behind them
 
-some-behind : (before : Option Face) (blocks : List Judged) → is_some before ≡ true → is_some (face_behind before blocks) ≡ true
+some-behind : (before : Option BlockFace) (blocks : List JudgedBlock) → is_some before ≡ true → is_some (face_behind before blocks) ≡ true
 some-behind before [] some = some
 some-behind before (next ∷ blocks) some = some-behind (Some next.face) blocks refl
 
@@ -73,26 +73,26 @@ joined-more first last others =
     ∙ sym (append_assoc first (flat_map apart others) (apart last))
 
 lines-behind : (rules : Rules) (blocks : List Block) (block : Block)
-    → lines_of_blocks true (blocks ++ block ∷ []) ≡ lines_of_blocks true blocks ++ (gap (is_some (face_behind None (map (judged rules) blocks))) ++ lines_of_block block)
+    → lines_of_blocks true (blocks ++ block ∷ []) ≡ lines_of_blocks true blocks ++ (gap (is_some (face_behind None (map (judged_block rules) blocks))) ++ lines_of_block block)
 lines-behind rules [] block = append-nil (lines_of_block block)
 lines-behind rules (first ∷ blocks) block =
     ap (joined true) (map-append lines_of_block (first ∷ blocks) (block ∷ []))
     ∙ joined-more (lines_of_block first) (lines_of_block block) (map lines_of_block blocks)
-    ∙ ap (λ some. lines_of_blocks true (first ∷ blocks) ++ (gap some ++ lines_of_block block)) (sym (some-behind (Some (judged rules first).face) (map (judged rules) blocks) refl))
+    ∙ ap (λ some. lines_of_blocks true (first ∷ blocks) ++ (gap some ++ lines_of_block block)) (sym (some-behind (Some (judged_block rules first).face) (map (judged_block rules) blocks) refl))
 
 -- a speller with one more block
 
-pub fits-behind : (rules : Rules) (old : code.Speller) (blocks : List Block) (block : Block) → StandsFor rules old blocks → Ok tt ≡ ok_unless ((judged old.rules block).refusal (seen old.before)) → IsSpellable rules (blocks ++ block ∷ [])
+pub fits-behind : (rules : Rules) (old : code.Speller) (blocks : List Block) (block : Block) → StandsFor rules old blocks → Ok tt ≡ ok_unless ((judged_block old.rules block).refusal (seen old.before)) → IsSpellable rules (blocks ++ block ∷ [])
 fits-behind rules old blocks block stands fine =
     one-more rules blocks block stands.spellable
-    (ap (judged rules block).refusal (sym stands.last) ∙ ap (λ r. (judged r block).refusal (seen old.before)) (sym stands.same_rules) ∙ no-reason ((judged old.rules block).refusal (seen old.before)) fine)
+    (ap (judged_block rules block).refusal (sym stands.last) ∙ ap (λ r. (judged_block r block).refusal (seen old.before)) (sym stands.same_rules) ∙ no-reason ((judged_block old.rules block).refusal (seen old.before)) fine)
 
-pub refused-behind : (rules : Rules) (old : code.Speller) (blocks : List Block) (block : Block) (why : Why) → StandsFor rules old blocks → Err why ≡ ok_unless ((judged old.rules block).refusal (seen old.before)) → Refuses (Unspellable why) rules blocks block
+pub refused-behind : (rules : Rules) (old : code.Speller) (blocks : List Block) (block : Block) (why : Why) → StandsFor rules old blocks → Err why ≡ ok_unless ((judged_block old.rules block).refusal (seen old.before)) → Refuses (Unspellable why) rules blocks block
 refused-behind rules old blocks block why stands told =
-    refuses rules blocks block why stands.spellable (told ∙ ap (λ r. ok_unless ((judged r block).refusal (seen old.before))) stands.same_rules ∙ ap (λ f. ok_unless ((judged rules block).refusal f)) stands.last)
+    refuses rules blocks block why stands.spellable (told ∙ ap (λ r. ok_unless ((judged_block r block).refusal (seen old.before))) stands.same_rules ∙ ap (λ f. ok_unless ((judged_block rules block).refusal f)) stands.last)
 
-pub goes-on-behind : (rules : Rules) (old new : code.Speller) (blocks : List Block) (block : Block) → StandsFor rules old blocks → new.rules ≡ old.rules → Ok tt ≡ ok_unless ((judged old.rules block).refusal (seen old.before))
-    → Writes old.source new.source (gap (is_some old.before) ++ lines_of_block block) → seen new.before ≡ Some (judged rules block).face → StandsFor rules new (blocks ++ block ∷ [])
+pub goes-on-behind : (rules : Rules) (old new : code.Speller) (blocks : List Block) (block : Block) → StandsFor rules old blocks → new.rules ≡ old.rules → Ok tt ≡ ok_unless ((judged_block old.rules block).refusal (seen old.before))
+    → Writes old.source new.source (gap (is_some old.before) ++ lines_of_block block) → seen new.before ≡ Some (judged_block rules block).face → StandsFor rules new (blocks ++ block ∷ [])
 goes-on-behind rules old new blocks block stands same fine writes last =
     let lines = gap (is_some old.before) ++ lines_of_block block in
     let ended : List ℕ → List ℕ = λ line. line ++ 10 ∷ [] in
@@ -103,5 +103,5 @@ goes-on-behind rules old new blocks block stands same fine writes last =
       same_rules = same ∙ stands.same_rules;
       spellable = fits-behind rules old blocks block stands fine;
       spelled = subst (λ t. IsBetween new.source false t [] []) (sym spelled) (written-behind lines old.source new.source (spelling_of blocks) stands.spelled writes);
-      last = last ∙ sym (ap (face_behind None) (map-append (judged rules) blocks (block ∷ [])) ∙ face-behind None (map (judged rules) blocks) (judged rules block));
+      last = last ∙ sym (ap (face_behind None) (map-append (judged_block rules) blocks (block ∷ [])) ∙ face-behind None (map (judged_block rules) blocks) (judged_block rules block));
     }

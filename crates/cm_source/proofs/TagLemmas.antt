@@ -6,7 +6,7 @@ use Rattle.cm_scan.specs.Words.{is_empty, after_word}
 use Rattle.cm_scan.specs.Tags.{open_tag, closing_tag}
 use Rattle.cm_scan.specs.RawHtml.{from_to, comment, declaration, raw_html}
 use Rattle.cm_scan.specs.Autolinks.{Autolink, autolink}
-use Rattle.cm_scan.specs.Angles.{Angled, Linked, Tagged, tagged, at_angle}
+use Rattle.cm_scan.specs.Angles.{Angled, Addressed, Tagged, tagged, at_angle}
 use Rattle.cm_scan.proofs.EndLemmas.{raw_html-ends}
 use Rattle.cm_source.specs.InlineRefusals.{is_one_tag}
 
@@ -20,10 +20,10 @@ unfolding at_angle
 whole-read rules text e = go (autolink text) (raw_html rules text) refl refl e
   where
     one : Option Angled → Bool
-    one found = elim found [ Some (Tagged tag) ↦ is_empty tag.rest | Some (Linked link) ↦ false | None ↦ false ]
+    one found = elim found [ Some (Tagged tag) ↦ is_empty tag.rest | Some (Addressed link) ↦ false | None ↦ false ]
 
     go : (a : Option Autolink) (r : Option (List ℕ)) → autolink text ≡ a → raw_html rules text ≡ r
-        → one (elim a as (λ _. Option Angled) [ Some link ↦ Some (Linked link) | None ↦ tagged text r ]) ≡ true → IsWhole rules text
+        → one (elim a as (λ _. Option Angled) [ Some link ↦ Some (Addressed link) | None ↦ tagged text r ]) ≡ true → IsWhole rules text
     go (Some link) r p q e = absurd (cc e)
     go None None p q e = absurd (cc e)
     go None (Some []) p q e = record { no_link = p; tag = q }

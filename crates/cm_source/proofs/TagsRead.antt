@@ -3,7 +3,7 @@ use Rattle.std.proofs.Common.{◌≡◌, ℕ, ◌-◌, true, List, [], ◌∷◌
 use Rattle.cm_text.specs.Rules.{Rules}
 use Rattle.cm_tree.specs.declared.tree.Inline.TheVariants.{Html}
 use Rattle.cm_scan.specs.RawHtml.{raw_html}
-use Rattle.cm_scan.specs.Angles.{Angled, Linked, Tagged, before, tagged, at_angle}
+use Rattle.cm_scan.specs.Angles.{Angled, Addressed, Tagged, before, tagged, at_angle}
 use Rattle.cm_scan.specs.Atoms.{AtomRead, Whole, read, link_of, or_byte, angle_atom, markup_atom, atom_at}
 use Rattle.cm_scan.proofs.AngleLemmas.{whole_tag_goes_on}
 use Rattle.cm_source.specs.InlineRefusals.{is_one_tag}
@@ -21,7 +21,7 @@ one_tag_is : (rules : Rules) (text : List ℕ) → is_one_tag rules text ≡ tru
 unfolding at_angle
 one_tag_is rules text e =
     let read = whole-read rules text e in
-    ap (λ a. elim a as (λ _. Option Angled) [ Some link ↦ Some (Linked link) | None ↦ tagged text (raw_html rules text) ]) read.no_link
+    ap (λ a. elim a as (λ _. Option Angled) [ Some link ↦ Some (Addressed link) | None ↦ tagged text (raw_html rules text) ]) read.no_link
     ∙ ap (tagged text) read.tag ∙ ap (λ t. Some (Tagged (record { text = t; rest = [] }))) (before_nothing text)
 
 pub some_tag : (rules : Rules) → is_one_tag rules [] ≡ true → ⊥
@@ -33,7 +33,7 @@ atom_tag rules passed b bs rest e =
     let first : b ≡ 60 = ap (λ l. get_or l 0 0) (tag-begins rules (b ∷ bs) e).1 in
     subst (λ c. atom_at rules passed c (bs ++ rest) ≡ atom_left (Whole (Html (c ∷ bs))) rest) (sym first)
     (ap (λ o. or_byte 60 (bs ++ rest) (elim o as (λ _. Option AtomRead) [
-      | Some (Linked link) ↦ read (Whole (link_of link)) link.rest
+      | Some (Addressed link) ↦ read (Whole (link_of link)) link.rest
       | Some (Tagged tag) ↦ read (Whole (Html tag.text)) tag.rest
       | None ↦ None
     ])) (whole_tag_goes_on rules (60 ∷ bs) rest (one_tag_is rules (60 ∷ bs) (subst (λ c. is_one_tag rules (c ∷ bs) ≡ true) first e))))

@@ -1,10 +1,10 @@
 -- How texts are spelled, up to the first byte that isn't written as it is.
 use Rattle.std.proofs.Common.{◌≡◌, ℕ, zero, suc, ◌+◌, ◌-◌, ◌<◌, ◌≤◌, max, ◌==◌, ◌&&◌, ◌||◌, Bool, true, false, List, [], ◌∷◌, ◌++◌, length, take, drop, get_or, Some, None, refl, sym, ap, ◌∙◌, append_assoc, append-nil, arith}
-use Rattle.std.proofs.lemmas.Bool.{ne_eqb}
+use Rattle.std.proofs.lemmas.Bool.{ne_eqb, true≢false}
 use Rattle.std.proofs.lemmas.List.{drop_more, drop_all}
 use Rattle.std.specs.Prelude.{if◌then◌else◌}
 use Rattle.std.specs.Char.{is_ascii_control}
-use Rattle.std.specs.List.{position}
+use Rattle.std.specs.List.{position, list_any}
 use Rattle.cm_text.specs.Characters.{is_ascii_punct}
 use Rattle.cm_text.proofs.ReplacedLemmas.{Keeps, replaced-found, replaced-none}
 use Rattle.cm_scan.specs.Words.{is_empty, run_length}
@@ -132,6 +132,16 @@ ends-last c [] e = absurd (cc e)
 ends-last c (b ∷ bs) e =
     let place : length (b ∷ bs) - 1 ≡ length bs = omega arith in
     ends-at c (length bs) (b ∷ bs) (omega arith) ∙ ap (λ n. get_or (b ∷ bs) n 0 == c) (sym place)
+
+-- where no backtick stands, no run is longer than none
+pub no-runs : (text : List ℕ) → list_any (λ b. b == 96) text ≡ false → 0 ≡ longest_run 0 text
+unfolding longest_run
+no-runs [] h = refl
+no-runs (b ∷ bs) h = go (b == 96) h (no-runs bs)
+  where
+    go : (tick : Bool) → (tick || list_any (λ b. b == 96) bs) ≡ false → (list_any (λ b. b == 96) bs ≡ false → 0 ≡ longest_run 0 bs) → 0 ≡ (if tick then longest_run 1 bs else max 0 (longest_run 0 bs))
+    go true h rest = absurd (true≢false h)
+    go false h rest = let none : 0 ≡ longest_run 0 bs = rest h in omega (arith, none)
 
 pub longest-within : (before : ℕ) (text : List ℕ) → longest_run before text ≤ before + length text
 unfolding longest_run

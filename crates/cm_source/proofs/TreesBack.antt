@@ -12,7 +12,7 @@ use Rattle.cm_tree.specs.declared.tree.Block.TheViews.{outs-Code, outs-Html, out
 use Rattle.cm_tree.specs.declared.tree.Block.TheFolds.{fold_out-Block}
 use Rattle.cm_source.specs.Inlines.{spelled_content}
 use Rattle.cm_source.specs.InlineRefusals.{refused, paragraph_refusal, heading_refusal, of_paragraph, of_heading}
-use Rattle.cm_source.specs.Refusals.{Face, judged, refusal_of_all, refusal_of_items, list_reasons}
+use Rattle.cm_source.specs.Refusals.{BlockFace, judged_block, refusal_of_all, refusal_of_items, list_reasons}
 use Rattle.cm_source.specs.Spelling.{parted_lines, spaced, after_space, gap, joined, quoted, quote_lines, marker, indented, item_lines, lines_of_block, lines_of_blocks}
 use Rattle.cm_source.specs.steps.Utf8Inlines.{all_of, has_utf8}
 use Rattle.cm_source.specs.steps.Utf8Blocks.{utf8_step, has_texts}
@@ -103,22 +103,22 @@ item-utf8 mark (line ∷ lines) u = (spaced-utf8 mark line u.0, indented-utf8 (l
 
 module _ (rules : Rules) where
   abbrev HasTexts : Block → Type 0
-  HasTexts b = (before : Option Face) → (judged rules b).refusal before ≡ None → AllUtf8 (lines_of_block b) → has_texts b ≡ true
+  HasTexts b = (before : Option BlockFace) → (judged_block rules b).refusal before ≡ None → AllUtf8 (lines_of_block b) → has_texts b ≡ true
 
-  all-texts : (blocks : List Block) → AllHold HasTexts blocks → (before : Option Face) → refusal_of_all before (map (judged rules) blocks) ≡ None → EachUtf8 (map lines_of_block blocks)
+  all-texts : (blocks : List Block) → AllHold HasTexts blocks → (before : Option BlockFace) → refusal_of_all before (map (judged_block rules) blocks) ≡ None → EachUtf8 (map lines_of_block blocks)
       → all_of (map has_texts blocks) ≡ true
   unfolding AllHold
   all-texts [] hold before e u = refl
   all-texts (b ∷ bs) hold before e u =
-      let parts = or-none ((judged rules b).refusal before) (refusal_of_all (Some (judged rules b).face) (map (judged rules) bs)) e in
-      and_from (has_texts b) (all_of (map has_texts bs)) (hold.0 before parts.0 u.0) (all-texts bs hold.1 (Some (judged rules b).face) parts.1 u.1)
+      let parts = or-none ((judged_block rules b).refusal before) (refusal_of_all (Some (judged_block rules b).face) (map (judged_block rules) bs)) e in
+      and_from (has_texts b) (all_of (map has_texts bs)) (hold.0 before parts.0 u.0) (all-texts bs hold.1 (Some (judged_block rules b).face) parts.1 u.1)
 
-  items-texts : (kind : ListKind) (tight : Bool) (items : List (List Block)) → ItemsHold HasTexts items → refusal_of_items (map (map (judged rules)) items) ≡ None
+  items-texts : (kind : ListKind) (tight : Bool) (items : List (List Block)) → ItemsHold HasTexts items → refusal_of_items (map (map (judged_block rules)) items) ≡ None
       → EachUtf8 (map (λ blocks. item_lines (marker kind) (joined (not tight) blocks)) (map (map lines_of_block) items)) → all_of (map all_of (map (map has_texts) items)) ≡ true
   unfolding ItemsHold
   items-texts kind tight [] hold e u = refl
   items-texts kind tight (item ∷ items) hold e u =
-      let parts = or-none (refusal_of_all None (map (judged rules) item)) (refusal_of_items (map (map (judged rules)) items)) e in
+      let parts = or-none (refusal_of_all None (map (judged_block rules) item)) (refusal_of_items (map (map (judged_block rules)) items)) e in
       let lines = map lines_of_block item in
       and_from (all_of (map has_texts item)) (all_of (map all_of (map (map has_texts) items)))
       (all-texts item hold.0 None parts.0 (joined-utf8 (not tight) lines (item-utf8 (marker kind) (joined (not tight) lines) u.0)))
@@ -147,7 +147,7 @@ module _ (rules : Rules) where
         let lines = map lines_of_block blocks in
         quote-texts blocks ∙ all-texts blocks hold None (refused-as (quote-judged rules blocks) before e) (joined-utf8 true lines (quote-utf8 (joined true lines) (subst AllUtf8 (quote-lines blocks) u)));
     list = λ kind tight items hold before e u.
-        let accepted = (or-none (refused (list_reasons kind tight (seen_items rules items) before)) (refusal_of_items (map (map (judged rules)) items)) (refused-as (list-judged rules kind tight items) before e)).1 in
+        let accepted = (or-none (refused (list_reasons kind tight (seen_items rules items) before)) (refusal_of_items (map (map (judged_block rules)) items)) (refused-as (list-judged rules kind tight items) before e)).1 in
         list-texts kind tight items ∙ items-texts kind tight items hold accepted
         (joined-utf8 (not tight) (map (λ blocks. item_lines (marker kind) (joined (not tight) blocks)) (map (map lines_of_block) items)) (subst AllUtf8 (list-lines kind tight items) u));
   }

@@ -8,7 +8,7 @@ use Rattle.cm_tree.specs.declared.tree.Inline.{Inline, Inline-F}
 use Rattle.cm_tree.specs.declared.tree.Inline.TheOpen as inline
 use Rattle.cm_tree.specs.declared.tree.Inline.TheFolds.{fold-Inline}
 use Rattle.cm_scan.specs.Words.{is_empty, holds_word, ◌<|>◌}
-use Rattle.cm_scan.specs.Angles.{Linked, Tagged, at_angle}
+use Rattle.cm_scan.specs.Angles.{Addressed, Tagged, at_angle}
 use Rattle.cm_scan.specs.Atoms.{first_character, last_character}
 use Rattle.cm_source.specs.declared.why.Why.{Why}
 use Rattle.cm_source.specs.declared.why.Why.TheVariants.{Nul, Text, EmphasisNested, EmphasisTouching, EmphasisEdge, CodeSpan, RawHtml, LinkInLink, LineBreak, StrikeOff}
@@ -140,7 +140,7 @@ ends_a_label place text = place.in_opening_link && holds_word (codes "]:") text
 
 -- the text is read as one tag, comment, instruction, declaration or CDATA section, and nothing else
 abbrev pub is_one_tag : Rules → List ℕ → Bool
-is_one_tag rules text = elim (at_angle rules text) [ Some (Tagged tag) ↦ is_empty tag.rest | Some (Linked link) ↦ false | None ↦ false ]
+is_one_tag rules text = elim (at_angle rules text) [ Some (Tagged tag) ↦ is_empty tag.rest | Some (Addressed link) ↦ false | None ↦ false ]
 
 abbrev pub code_reasons : Place → List ℕ → Option Face → List (Bool × Why)
 code_reasons place text before = (has_nul text, Nul) ∷ (is_empty text || has_line_ending text || is_code before || ends_a_label place text, CodeSpan) ∷ []

@@ -19,15 +19,15 @@ use Rattle.cm_source.specs.declared.why.Why.TheVariants.{Definition, Nul, Shape,
 use Rattle.cm_source.specs.InlineRefusals.{refused, has_nul, paragraph_refusal, heading_refusal}
 
 -- What the blocks round a block see of it: the list that it is, with whether its first item has a block.
-pub data Face : Type 0 where
-  ParagraphFace : Face
-  CodeFace : Face
-  QuoteFace : Face
-  ListFace : ListKind → (filled : Bool) → Face
-  OtherFace : Face
+pub data BlockFace : Type 0 where
+  ParagraphFace : BlockFace
+  CodeBlockFace : BlockFace
+  QuoteFace : BlockFace
+  ListFace : ListKind → (filled : Bool) → BlockFace
+  OtherBlockFace : BlockFace
 
 -- a list begins here
-abbrev pub is_list : List Face → Bool
+abbrev pub is_list : List BlockFace → Bool
 is_list (ListFace kind filled ∷ others) = true
 is_list _ = false
 
@@ -38,14 +38,14 @@ begins_late (Paren start) = not (start == 1)
 begins_late kind = false
 
 -- a block that can follow a paragraph without an empty line
-abbrev pub can_follow : Face → Bool
-can_follow CodeFace = true
+abbrev pub can_follow : BlockFace → Bool
+can_follow CodeBlockFace = true
 can_follow QuoteFace = true
 can_follow (ListFace kind filled) = filled && not (begins_late kind)
 can_follow face = false
 
 -- the blocks of an item of a tight list
-abbrev pub is_tight_item : List Face → Bool
+abbrev pub is_tight_item : List BlockFace → Bool
 is_tight_item [] = true
 is_tight_item (one ∷ []) = true
 is_tight_item (ParagraphFace ∷ next ∷ []) = can_follow next
@@ -56,7 +56,7 @@ abbrev pub has_two : {A : Type 0} → List A → Bool
 has_two (first ∷ second ∷ others) = true
 has_two _ = false
 
-abbrev pub is_as_said : (tight : Bool) → List (List Face) → Bool
+abbrev pub is_as_said : (tight : Bool) → List (List BlockFace) → Bool
 is_as_said true items = list_all is_tight_item items
 is_as_said false items = has_two items || list_any has_two items
 
@@ -96,60 +96,60 @@ abbrev pub is_html_block : Rules → List ℕ → Bool
 is_html_block rules text = begins_with 60 text && is_html_part text (parts_of rules (plain_lines_of text)) && is_html_ended rules text
 
 -- A block as it is judged: what others see of it, and why it is refused behind another.
-pub record Judged : Type 0 where
-  pub face : Face
-  pub refusal : (before : Option Face) → Option Why
+pub record JudgedBlock : Type 0 where
+  pub face : BlockFace
+  pub refusal : (before : Option BlockFace) → Option Why
 
-abbrev pub faces : List Judged → List Face
-faces blocks = map (λ (b : Judged). b.face) blocks
+abbrev pub faces : List JudgedBlock → List BlockFace
+faces blocks = map (λ (b : JudgedBlock). b.face) blocks
 
 -- blocks, one after another
-abbrev pub refusal_of_all : (before : Option Face) → List Judged → Option Why
+abbrev pub refusal_of_all : (before : Option BlockFace) → List JudgedBlock → Option Why
 refusal_of_all before [] = None
 refusal_of_all before (next ∷ others) = next.refusal before <|> refusal_of_all (Some next.face) others
 
-abbrev pub refusal_of_items : List (List Judged) → Option Why
+abbrev pub refusal_of_items : List (List JudgedBlock) → Option Why
 refusal_of_items [] = None
 refusal_of_items (item ∷ items) = refusal_of_all None item <|> refusal_of_items items
 
 -- a list of the same kind stands right before
-abbrev pub is_behind_same : ListKind → Option Face → Bool
+abbrev pub is_behind_same : ListKind → Option BlockFace → Bool
 is_behind_same kind (Some (ListFace other filled)) = is_same_kind kind other
 is_behind_same kind _ = false
 
-abbrev pub list_reasons : ListKind → (tight : Bool) → List (List Face) → Option Face → List (Bool × Why)
+abbrev pub list_reasons : ListKind → (tight : Bool) → List (List BlockFace) → Option BlockFace → List (Bool × Why)
 list_reasons kind tight items before =
     (not (list_any (λ item. true) items) || begins_too_high kind, Shape) ∷ (is_behind_same kind before, AdjacentLists)
     ∷ (list_any is_list items, ItemBeginsWithList) ∷ (not (is_as_said tight items), Looseness) ∷ []
 
 -- the first item of a list has a block
-abbrev pub is_filled : List (List Judged) → Bool
+abbrev pub is_filled : List (List JudgedBlock) → Bool
 is_filled ((block ∷ blocks) ∷ items) = true
 is_filled _ = false
 
-abbrev pub leaf_block : Face → Option Why → Judged
+abbrev pub leaf_block : BlockFace → Option Why → JudgedBlock
 leaf_block face refusal = record { face = face; refusal = λ before. refusal }
 
 -- one block, with how each block inside is judged in its place
-abbrev pub block_step : Rules → Block-F Judged → Judged
+abbrev pub block_step : Rules → Block-F JudgedBlock → JudgedBlock
 block_step rules (block.Paragraph content) = leaf_block ParagraphFace (refused ((not (list_any (λ i. true) content), Shape) ∷ []) <|> paragraph_refusal rules content)
-block_step rules (block.Heading level content) = leaf_block OtherFace (refused ((not (nat_le 1 level && nat_le level 6), Shape) ∷ []) <|> heading_refusal rules content)
-block_step rules (block.Code info text) = leaf_block CodeFace (refused ((has_nul info || has_nul text, Nul) ∷ (not (is_code_text text), CodeText) ∷ []))
-block_step rules (block.Html text) = leaf_block OtherFace (refused ((has_nul text, Nul) ∷ (not (is_html_block rules text), HtmlBlock) ∷ []))
-block_step rules block.Break = leaf_block OtherFace None
-block_step rules (block.Definition label dest title) = leaf_block OtherFace (Some Definition)
+block_step rules (block.Heading level content) = leaf_block OtherBlockFace (refused ((not (nat_le 1 level && nat_le level 6), Shape) ∷ []) <|> heading_refusal rules content)
+block_step rules (block.Code info text) = leaf_block CodeBlockFace (refused ((has_nul info || has_nul text, Nul) ∷ (not (is_code_text text), CodeText) ∷ []))
+block_step rules (block.Html text) = leaf_block OtherBlockFace (refused ((has_nul text, Nul) ∷ (not (is_html_block rules text), HtmlBlock) ∷ []))
+block_step rules block.Break = leaf_block OtherBlockFace None
+block_step rules (block.Definition label dest title) = leaf_block OtherBlockFace (Some Definition)
 block_step rules (block.Quote blocks) = leaf_block QuoteFace (refusal_of_all None blocks)
 block_step rules (block.List kind tight items) = record {
   face = ListFace kind (is_filled items);
   refusal = λ before. refused (list_reasons kind tight (map faces items) before) <|> refusal_of_items items;
 }
 
-abbrev pub judged : Rules → Block → Judged
-judged rules = fold-Block Judged (block_step rules)
+abbrev pub judged_block : Rules → Block → JudgedBlock
+judged_block rules = fold-Block JudgedBlock (block_step rules)
 
 -- the first reason why a tree can't be spelled, by these rules
 abbrev pub refusal_of : Rules → List Block → Option Why
-refusal_of rules blocks = refusal_of_all None (map (judged rules) blocks)
+refusal_of rules blocks = refusal_of_all None (map (judged_block rules) blocks)
 
 -- it can be spelled
 abbrev pub IsSpellable : Rules → List Block → Type 0

@@ -5,13 +5,13 @@ use Rattle.cm_tree.specs.declared.tree.Block.{Block}
 use Rattle.cm_source.specs.declared.spelling.Speller as code
 use Rattle.cm_source.specs.declared.fault.SourceFault.{SourceFault}
 use Rattle.cm_source.specs.declared.fault.SourceFault.TheVariants.{Unspellable, NoMemory}
-use Rattle.cm_source.specs.Refusals.{Face, Judged, judged, refusal_of, IsSpellable}
+use Rattle.cm_source.specs.Refusals.{BlockFace, JudgedBlock, judged_block, refusal_of, IsSpellable}
 use Rattle.cm_source.specs.Spelling.{spelling_of}
 use Rattle.cm_source.specs.steps.BlockFaces.{seen}
 use Rattle.cm_source.specs.steps.Laid.{IsBetween}
 
 -- what a block behind these sees of the last of them
-abbrev pub face_behind : (before : Option Face) → List Judged → Option Face
+abbrev pub face_behind : (before : Option BlockFace) → List JudgedBlock → Option BlockFace
 face_behind before [] = before
 face_behind before (next ∷ others) = face_behind (Some next.face) others
 
@@ -20,7 +20,7 @@ pub record StandsFor (rules : Rules) (speller : code.Speller) (blocks : List Blo
   pub same_rules : speller.rules ≡ rules
   pub spellable : IsSpellable rules blocks
   pub spelled : IsBetween speller.source false (spelling_of blocks) [] []
-  pub last : seen speller.before ≡ face_behind None (map (judged rules) blocks)
+  pub last : seen speller.before ≡ face_behind None (map (judged_block rules) blocks)
 
 -- Why a block isn't spelled behind these: they can't be spelled with it, whatever stands behind it; memory may be refused.
 abbrev pub Refuses : SourceFault → Rules → List Block → Block → Type 0

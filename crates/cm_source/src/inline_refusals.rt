@@ -6,11 +6,11 @@ ghost use Rattle.cm_source.specs.Answers.{ok_unless};
 ghost use Rattle.cm_source.specs.InlineRefusals.{refused, has_nul, has_line_ending, is_text, is_emphasis, is_whitespace, is_plain, first_of, last_of, further_in, inside_link, judged, first_face, last_face, hold_emphasis, hold_link, has_wrong_edge, emphasis_reasons, emphasis, ends_a_label, is_one_tag, code_reasons, html_reasons, break_reasons, refusal_of_all, paragraph_refusal, heading_refusal};
 ghost use Rattle.cm_source.specs.steps.InlineFaces.{shown, seen, place_of};
 
+use crate::search::has_byte;
 use crate::why::Why;
 use cm_scan::{autolink, first_character, holds_from, last_character, raw_html_by};
-use cm_text::{ByteKind, Rules, is_punct_by, is_space, next_of};
+use cm_text::{Rules, is_punct_by, is_space};
 use cm_tree::Inline;
-use std::simd::prelude::*;
 
 /// What the inlines beside an inline see of it.
 #[derive(Clone, Copy)]
@@ -65,28 +65,11 @@ pub(crate) fn refuse_if(holds: bool, why: Why) -> Result<(), Why>
     if holds { Err(why) } else { Ok(()) }
 }
 
-/// U+0000.
-struct Nul;
-
-impl ByteKind for Nul {
-    ghost passes = { λ b. b == 0 };
-
-    #[inline(always)]
-    fn contains(b: u8) -> bool {
-        b == 0
-    }
-
-    #[inline(always)]
-    fn lanes(lanes: u8x16) -> u64 {
-        lanes.simd_eq(u8x16::splat(0)).to_bitmask()
-    }
-}
-
 /// Whether a string has U+0000.
 pub(crate) fn has_nul(text: &str) -> bool
     ensures { result ≡ has_nul text.now }
 {
-    next_of::<Nul>(text.as_bytes(), 0) < text.len()
+    has_byte(0, text)
 }
 
 /// Whether one of two strings has U+0000.

@@ -10,6 +10,7 @@ mod inlines;
 pub mod laws;
 pub mod reading_laws;
 mod refusals;
+mod search;
 mod source;
 mod spelling;
 pub mod spelling_laws;

@@ -6,7 +6,7 @@ ghost use Rattle.cm_text.specs.Rules.{profile};
 ghost use Rattle.cm_scan.specs.Words.{◌<|>◌};
 ghost use Rattle.cm_source.specs.Answers.{ok_unless};
 ghost use Rattle.cm_source.specs.InlineRefusals.{refused, has_nul, paragraph_refusal, heading_refusal};
-ghost use Rattle.cm_source.specs.Refusals.{is_list, has_two, begins_late, can_follow, is_tight_item, is_as_said, begins_too_high, is_code_text, is_html_block, faces, judged, is_behind_same, list_reasons, is_filled, refusal_of_all, refusal_of};
+ghost use Rattle.cm_source.specs.Refusals.{is_list, has_two, begins_late, can_follow, is_tight_item, is_as_said, begins_too_high, is_code_text, is_html_block, faces, judged_block, is_behind_same, list_reasons, is_filled, refusal_of_all, refusal_of};
 ghost use Rattle.cm_source.specs.steps.BlockFaces.{shown, seen, is_paragraph};
 
 use crate::html_alone::is_html_block;
@@ -32,7 +32,7 @@ pub(crate) enum Face {
 
 /// Whether the first item of a list has a block.
 fn is_filled(items: &[Items<Block>]) -> bool
-    ensures { (rules : text_rules.Rules) → result ≡ is_filled (map (map (judged rules)) items.now) }
+    ensures { (rules : text_rules.Rules) → result ≡ is_filled (map (map (judged_block rules)) items.now) }
 {
     match items.first() {
         Some(item) => !item.is_empty(),
@@ -42,7 +42,7 @@ fn is_filled(items: &[Items<Block>]) -> bool
 
 /// What the blocks beside a block see of it.
 pub(crate) fn face_of(block: &Block) -> Face
-    ensures { (rules : text_rules.Rules) → shown result ≡ (judged rules block.now).face }
+    ensures { (rules : text_rules.Rules) → shown result ≡ (judged_block rules block.now).face }
 {
     match block {
         Block::Paragraph(_) => Face::Paragraph,
@@ -88,7 +88,7 @@ fn is_paragraph(face: Face) -> bool
 
 /// Whether an item of a tight list can have these blocks.
 fn is_tight_item(blocks: &[Block]) -> bool
-    ensures { (rules : text_rules.Rules) → result ≡ is_tight_item (faces (map (judged rules) blocks.now)) }
+    ensures { (rules : text_rules.Rules) → result ≡ is_tight_item (faces (map (judged_block rules) blocks.now)) }
 {
     match blocks {
         [] => true,
@@ -100,7 +100,7 @@ fn is_tight_item(blocks: &[Block]) -> bool
 
 /// Whether a tight list can have these items.
 fn are_tight(items: &[Items<Block>]) -> bool
-    ensures { (rules : text_rules.Rules) → result ≡ list_all is_tight_item (map faces (map (map (judged rules)) items.now)) }
+    ensures { (rules : text_rules.Rules) → result ≡ list_all is_tight_item (map faces (map (map (judged_block rules)) items.now)) }
 {
     for item in items {
         if !is_tight_item(item.as_slice()) {
@@ -112,7 +112,7 @@ fn are_tight(items: &[Items<Block>]) -> bool
 
 /// Whether one of these items has two blocks or more.
 fn any_has_two(items: &[Items<Block>]) -> bool
-    ensures { (rules : text_rules.Rules) → result ≡ list_any has_two (map faces (map (map (judged rules)) items.now)) }
+    ensures { (rules : text_rules.Rules) → result ≡ list_any has_two (map faces (map (map (judged_block rules)) items.now)) }
 {
     for item in items {
         if item.len() > 1 {
@@ -124,7 +124,7 @@ fn any_has_two(items: &[Items<Block>]) -> bool
 
 /// Whether a list with these items is tight or loose, as it says.
 fn is_as_said(tight: bool, items: &[Items<Block>]) -> bool
-    ensures { (rules : text_rules.Rules) → result ≡ is_as_said tight (map faces (map (map (judged rules)) items.now)) }
+    ensures { (rules : text_rules.Rules) → result ≡ is_as_said tight (map faces (map (map (judged_block rules)) items.now)) }
 {
     if tight {
         return are_tight(items);
@@ -155,7 +155,7 @@ fn is_behind_same(kind: ListKind, before: Option<Face>) -> bool
 
 /// Whether an item begins with a list.
 fn begins_with_list(item: &[Block]) -> bool
-    ensures { (rules : text_rules.Rules) → result ≡ is_list (faces (map (judged rules) item.now)) }
+    ensures { (rules : text_rules.Rules) → result ≡ is_list (faces (map (judged_block rules) item.now)) }
 {
     match item.first() {
         Some(first) => matches!(face_of(first), Face::List { .. }),
@@ -165,7 +165,7 @@ fn begins_with_list(item: &[Block]) -> bool
 
 /// Whether an item of these begins with a list.
 fn any_begins_with_list(items: &[Items<Block>]) -> bool
-    ensures { (rules : text_rules.Rules) → result ≡ list_any is_list (map faces (map (map (judged rules)) items.now)) }
+    ensures { (rules : text_rules.Rules) → result ≡ list_any is_list (map faces (map (map (judged_block rules)) items.now)) }
 {
     for item in items {
         if begins_with_list(item.as_slice()) {
@@ -177,7 +177,7 @@ fn any_begins_with_list(items: &[Items<Block>]) -> bool
 
 /// Whether a list has no items, or begins at 10^9 or later.
 fn is_malformed(kind: ListKind, items: &[Items<Block>]) -> bool
-    ensures { (rules : text_rules.Rules) → result ≡ (not (list_any (λ item. true) (map faces (map (map (judged rules)) items.now))) || begins_too_high kind) }
+    ensures { (rules : text_rules.Rules) → result ≡ (not (list_any (λ item. true) (map faces (map (map (judged_block rules)) items.now))) || begins_too_high kind) }
 {
     items.is_empty() || begins_too_high(kind)
 }
@@ -189,7 +189,7 @@ fn check_list(
     items: &[Items<Block>],
     before: Option<Face>,
 ) -> Result<(), Why>
-    ensures { (rules : text_rules.Rules) → result ≡ ok_unless (refused (list_reasons kind tight (map faces (map (map (judged rules)) items.now)) (seen before))) }
+    ensures { (rules : text_rules.Rules) → result ≡ ok_unless (refused (list_reasons kind tight (map faces (map (map (judged_block rules)) items.now)) (seen before))) }
 {
     refuse_if(is_malformed(kind, items), Why::Shape)?;
     refuse_if(is_behind_same(kind, before), Why::AdjacentLists)?;
@@ -232,7 +232,7 @@ fn check_heading(rules: Rules, level: u8, content: &[Inline]) -> Result<(), Why>
 /// Refuses blocks, one after another.
 #[cycle(blocks)]
 fn check_blocks(rules: Rules, blocks: &[Block]) -> Result<(), Why>
-    ensures { result ≡ ok_unless (refusal_of_all None (map (judged rules) blocks.now)) }
+    ensures { result ≡ ok_unless (refusal_of_all None (map (judged_block rules) blocks.now)) }
 {
     let mut before = None;
     for block in blocks {
@@ -245,7 +245,7 @@ fn check_blocks(rules: Rules, blocks: &[Block]) -> Result<(), Why>
 /// Refuses a block behind this one.
 #[cycle(blocks)]
 pub(crate) fn check_block(rules: Rules, block: &Block, before: Option<Face>) -> Result<(), Why>
-    ensures { result ≡ ok_unless ((judged rules block.now).refusal (seen before)) }
+    ensures { result ≡ ok_unless ((judged_block rules block.now).refusal (seen before)) }
 {
     match block {
         Block::Paragraph(content) => check_paragraph(rules, content.as_slice()),

@@ -5,6 +5,7 @@ ghost use Rattle.cm_scan.specs.Words.{trim_end_spaces};
 ghost use Rattle.cm_source.specs.steps.Laid.{IsBetween, BeginsLine, Ends, Lays, Writes, Enters, Leaves};
 ghost use Rattle.cm_source.specs.Spelling.{ended_lines, marker};
 
+use crate::search::find_byte;
 use cm_scan::trim_end_spaces;
 use cm_text::cut_at;
 use cm_tree::ListKind;
@@ -15,7 +16,7 @@ use std::mem;
 pub(crate) fn find_feed(bytes: &[u8]) -> Option<usize>
     ensures { result ≡ position (λ b. b == 10) bytes.now }
 {
-    bytes.iter().position(|b| *b == b'\n')
+    find_byte(b'\n', bytes)
 }
 
 /// A text with so many spaces behind it.

@@ -7,7 +7,7 @@ ghost use Rattle.cm_tree.specs.declared.tree.Block as trees;
 ghost use Rattle.cm_scan.specs.Documents.{tree_of};
 ghost use Rattle.cm_source.specs.Answers.{Spells};
 ghost use Rattle.cm_source.specs.declared.fault.SourceFault.TheVariants as faults;
-ghost use Rattle.cm_source.specs.Refusals.{judged, IsSpellable};
+ghost use Rattle.cm_source.specs.Refusals.{judged_block, IsSpellable};
 ghost use Rattle.cm_source.specs.Speller.{StandsFor, Refuses};
 ghost use Rattle.cm_source.specs.Spelling.{gap, lines_of_block, spelling_of};
 ghost use Rattle.cm_source.specs.steps.BlockFaces.{seen};
@@ -105,7 +105,7 @@ impl Speller {
     /// Writes a block behind those so far.
     fn add(&mut self, block: &Block) -> Result<(), NoMemory>
         ensures writes { OnOk result (Writes self.old.source self.new.source (gap (is_some self.old.before) ++ lines_of_block block.now)) }
-        ensures before { OnOk result ((rules : text_rules.Rules) → seen self.new.before ≡ Some (judged rules block.now).face) }
+        ensures before { OnOk result ((rules : text_rules.Rules) → seen self.new.before ≡ Some (judged_block rules block.now).face) }
         ensures rules { self.new.rules ≡ self.old.rules }
     {
         spell_gap(&mut self.source, self.before.is_some())?;

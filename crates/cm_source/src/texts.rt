@@ -7,6 +7,7 @@ ghost use Rattle.cm_scan.specs.Autolinks.{ends_with};
 ghost use Rattle.cm_source.specs.Refusals.{is_code_text};
 ghost use Rattle.cm_source.specs.steps.Bytes.{is_spelled};
 
+use crate::search::has_byte;
 use cm_scan::is_next;
 use cm_text::{ByteKind, cut_at, is_ascii_punct, next_of};
 use std::alloc::AllocError;
@@ -148,6 +149,18 @@ pub(crate) fn longest_run(text: &str) -> usize
     ensures longest { result ≡ longest_run 0 text.now }
     ensures within { result ≤ length text.now }
 {
+    if has_byte(b'`', text) {
+        longest_of_runs(text)
+    } else {
+        0
+    }
+}
+
+/// The same, byte by byte.
+fn longest_of_runs(text: &str) -> usize
+    ensures longest { result ≡ longest_run 0 text.now }
+    ensures within { result ≤ length text.now }
+{
     let mut longest = 0;
     let mut run = 0;
     for b in text.as_bytes() {
@@ -175,7 +188,7 @@ fn is_ended(text: &str) -> bool
 fn has_return(text: &str) -> bool
     ensures { result ≡ list_any (λ b. b == 13) text.now }
 {
-    text.as_bytes().iter().any(|b| *b == b'\r')
+    has_byte(b'\r', text)
 }
 
 /// Whether a text is nothing, or lines that line feeds end.

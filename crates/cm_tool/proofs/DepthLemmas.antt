@@ -12,7 +12,7 @@ use Rattle.cm_tree.specs.declared.tree.Block.TheFolds.{fold_out-Block}
 use Rattle.cm_tree.specs.declared.tree.Block.TheVariants.{Quote, List as ListBlock, outs-Paragraph, outs-Heading, outs-Code, outs-Html, outs-Break, outs-Definition, outs-Quote, outs-List}
 use Rattle.cm_tree.specs.declared.tree.ListKind.{ListKind}
 use Rattle.cm_scan.specs.Brackets.{Defined}
-use Rattle.cm_scan.specs.Parts.{LeafPart, paragraph, heading, code, html, thematic_break, definition, Parts, none, blank, leaf, quote, list, ItemParts, last_item, item, leaf_block, is_loose, tree_of, items_of, depths_of, item_depths_of}
+use Rattle.cm_scan.specs.Parts.{LeafPart, paragraph, heading, code, html, thematic_break, definition, Parts, none, blank, leaf, quote, list, ItemParts, last_item, item, leaf_block, is_loose, blocks_of_parts, blocks_of_items, depths_of, item_depths_of}
 use Rattle.cm_scan.specs.Blocks.{parts_of, blocks_of, first_too_deep}
 use Rattle.cm_scan.specs.Documents.{read_step, block_read, with_inlines, defined_by, tree_of_lines}
 use Rattle.cm_scan.specs.Laws.{AreLines}
@@ -132,24 +132,24 @@ module _ (rules : Rules) (defined : Defined) where
   inside-depth inside n some is = further-in (depths_of inside) (omega (arith, some, depths-count inside)) ∙ ap (λ d. d + 1) is
 
   mutual
-    unfolding tree_of items_of depths_of item_depths_of HaveLines ItemsHaveLines
+    unfolding blocks_of_parts blocks_of_items depths_of item_depths_of HaveLines ItemsHaveLines
 
-    deepest : (p : Parts) → HaveLines p → greatest (depths_of p) ≡ blocks_depth (with_inlines rules defined (tree_of p))
+    deepest : (p : Parts) → HaveLines p → greatest (depths_of p) ≡ blocks_depth (with_inlines rules defined (blocks_of_parts p))
     deepest none have = refl
     deepest (blank rest) have = omega (arith, deepest rest have)
     deepest (leaf x lines rest) have =
         omega (arith, greatest_append (replicate lines 0) (depths_of rest), greatest-zeros lines, leaf-depth x, deepest rest have.1)
     deepest (quote inside rest) have =
-        let one : depth_of_block (block_read rules defined (Quote (tree_of inside))) ≡ blocks_depth (with_inlines rules defined (tree_of inside)) + 1 =
-        ap depth_of_block (quote-read rules defined (tree_of inside)) ∙ depth_quote (with_inlines rules defined (tree_of inside)) in
+        let one : depth_of_block (block_read rules defined (Quote (blocks_of_parts inside))) ≡ blocks_depth (with_inlines rules defined (blocks_of_parts inside)) + 1 =
+        ap depth_of_block (quote-read rules defined (blocks_of_parts inside)) ∙ depth_quote (with_inlines rules defined (blocks_of_parts inside)) in
         omega (arith, greatest_append (map suc (depths_of inside)) (depths_of rest), inside-depth inside _ have.0 (deepest inside have.1), one, deepest rest have.2)
     deepest (list kind items rest) have =
         let tight = not (is_loose items) in
-        let one : depth_of_block (block_read rules defined (ListBlock kind tight (items_of items))) ≡ items_depth (map (with_inlines rules defined) (items_of items)) =
-        ap depth_of_block (list_read rules defined kind tight (items_of items)) ∙ depth_list kind tight (map (with_inlines rules defined) (items_of items)) in
+        let one : depth_of_block (block_read rules defined (ListBlock kind tight (blocks_of_items items))) ≡ items_depth (map (with_inlines rules defined) (blocks_of_items items)) =
+        ap depth_of_block (list_read rules defined kind tight (blocks_of_items items)) ∙ depth_list kind tight (map (with_inlines rules defined) (blocks_of_items items)) in
         omega (arith, greatest_append (item_depths_of items) (depths_of rest), items-deepest items have.0, one, deepest rest have.1)
 
-    items-deepest : (items : ItemParts) → ItemsHaveLines items → greatest (item_depths_of items) ≡ items_depth (map (with_inlines rules defined) (items_of items))
+    items-deepest : (items : ItemParts) → ItemsHaveLines items → greatest (item_depths_of items) ≡ items_depth (map (with_inlines rules defined) (blocks_of_items items))
     items-deepest (last_item inside) have = omega (arith, inside-depth inside _ have.0 (deepest inside have.1))
     items-deepest (item inside blanks items) have =
         let first = map suc (depths_of inside) in

@@ -8,7 +8,7 @@ use Rattle.cm_tree.specs.declared.tree.Block.{Block}
 use Rattle.cm_tree.specs.declared.tree.Block.TheFolds.{fold-Block, fold_out-Block}
 use Rattle.cm_tree.specs.declared.tree.Block.TheVariants.{Quote, List as ListBlock, outs-Paragraph, outs-Heading, outs-Code, outs-Html, outs-Break, outs-Definition, outs-Quote}
 use Rattle.cm_scan.specs.Brackets.{Defined}
-use Rattle.cm_scan.specs.Parts.{LeafPart, paragraph, heading, code, html, thematic_break, definition, Parts, none, blank, leaf, quote, list, ItemParts, last_item, item, leaf_block, is_loose, tree_of, items_of, leaf_count, item_leaf_count}
+use Rattle.cm_scan.specs.Parts.{LeafPart, paragraph, heading, code, html, thematic_break, definition, Parts, none, blank, leaf, quote, list, ItemParts, last_item, item, leaf_block, is_loose, blocks_of_parts, blocks_of_items, leaf_count, item_leaf_count}
 use Rattle.cm_scan.specs.Blocks.{parts_of, blocks_of}
 use Rattle.cm_scan.specs.Laws.{total_of_all, leaves_step, leaves_in}
 use Rattle.cm_scan.proofs.Owners.{quote-leaves, list-leaves, tree-leaves}
@@ -39,23 +39,23 @@ module _ (rules : Rules) (defined : Defined) where
   -- as many leaves as before
 
   mutual
-    unfolding tree_of items_of leaf_count item_leaf_count
+    unfolding blocks_of_parts blocks_of_items leaf_count item_leaf_count
 
-    leaves-read : (p : Parts) → leaves_in (with_inlines rules defined (tree_of p)) ≡ leaf_count p
+    leaves-read : (p : Parts) → leaves_in (with_inlines rules defined (blocks_of_parts p)) ≡ leaf_count p
     leaves-read none = refl
     leaves-read (blank rest) = leaves-read rest
     leaves-read (leaf x lines rest) = omega (arith, leaf-read x, leaves-read rest)
     leaves-read (quote inside rest) =
-        let one : leaves (block_read rules defined (Quote (tree_of inside))) ≡ leaf_count inside =
-        ap leaves (quote-read (tree_of inside)) ∙ quote-leaves (with_inlines rules defined (tree_of inside)) ∙ leaves-read inside in
+        let one : leaves (block_read rules defined (Quote (blocks_of_parts inside))) ≡ leaf_count inside =
+        ap leaves (quote-read (blocks_of_parts inside)) ∙ quote-leaves (with_inlines rules defined (blocks_of_parts inside)) ∙ leaves-read inside in
         omega (arith, one, leaves-read rest)
     leaves-read (list kind items rest) =
         let tight = not (is_loose items) in
-        let one : leaves (block_read rules defined (ListBlock kind tight (items_of items))) ≡ item_leaf_count items =
-        ap leaves (list_read rules defined kind tight (items_of items)) ∙ list-leaves kind tight (map (with_inlines rules defined) (items_of items)) ∙ items-read items in
+        let one : leaves (block_read rules defined (ListBlock kind tight (blocks_of_items items))) ≡ item_leaf_count items =
+        ap leaves (list_read rules defined kind tight (blocks_of_items items)) ∙ list-leaves kind tight (map (with_inlines rules defined) (blocks_of_items items)) ∙ items-read items in
         omega (arith, one, leaves-read rest)
 
-    items-read : (items : ItemParts) → total_of_all (map (map (fold-Block ℕ leaves_step)) (map (with_inlines rules defined) (items_of items))) ≡ item_leaf_count items
+    items-read : (items : ItemParts) → total_of_all (map (map (fold-Block ℕ leaves_step)) (map (with_inlines rules defined) (blocks_of_items items))) ≡ item_leaf_count items
     items-read (last_item inside) = omega (arith, leaves-read inside)
     items-read (item inside blanks items) = omega (arith, leaves-read inside, items-read items)
 

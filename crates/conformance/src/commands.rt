@@ -4,17 +4,11 @@ use crate::cases::Case;
 use crate::runs::{Space, ran, told};
 use crate::trouble::{Trouble, same, wrong};
 use crate::words::{Word, words};
-use cm_text::{Limits, Rules};
-use cm_tool::{Job, Task, task};
+use cm_tool::task;
 use std::alloc::Global;
 
 /// More than any output.
 const AMPLE: usize = 2_000_000;
-
-const ALL: Space = Space {
-    capacity: AMPLE,
-    at_most: AMPLE,
-};
 
 const PARTS: [&str; 9] = [
     "words",
@@ -81,29 +75,6 @@ pub(crate) fn agrees(alloc: Global, case: &Case) -> Result<(), Trouble> {
     is_written(alloc, case, ("output", "output_holds"), ran.output.taken())?;
     is_written(alloc, case, ("errors", "errors_hold"), ran.errors.taken())?;
     if case.number("status")?.unwrap_or(0) != usize::from(ran.status) {
-        return Err(wrong(alloc, "the exit status is wrong"));
-    }
-    Ok(())
-}
-
-/// That all examples of a file, which are so many, agree by these rules, as the program runs them.
-pub(crate) fn examples_agree(
-    alloc: Global,
-    rules: Rules,
-    file: &str,
-    total: usize,
-) -> Result<(), Trouble> {
-    let input = Vec::from_slice(alloc, file.as_bytes())?;
-    let task = Task {
-        job: Job::Examples,
-        file: None,
-        limits: Limits::standard().with_rules(rules),
-    };
-    let ran = ran(alloc, &task, (vec![in alloc; input]?, false), (ALL, ALL))?;
-    let wanted = format!(in alloc; "{total} of {total} agree\n")?;
-    same(alloc, "report", wanted.as_bytes(), ran.output.taken())?;
-    same(alloc, "errors", b"", ran.errors.taken())?;
-    if ran.status != 0 {
         return Err(wrong(alloc, "the exit status is wrong"));
     }
     Ok(())

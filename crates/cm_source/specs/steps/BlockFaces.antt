@@ -5,17 +5,17 @@ use Rattle.cm_source.specs.declared.refusals.Face.{Face}
 use Rattle.cm_source.specs.declared.refusals.Face.TheVariants.{Paragraph, Code, Quote, List, Other}
 
 -- the face of the definitions
-abbrev pub shown : Face → refusals.Face
+abbrev pub shown : Face → refusals.BlockFace
 shown Paragraph = refusals.ParagraphFace
-shown Code = refusals.CodeFace
+shown Code = refusals.CodeBlockFace
 shown Quote = refusals.QuoteFace
 shown (List kind filled) = refusals.ListFace kind filled
-shown Other = refusals.OtherFace
+shown Other = refusals.OtherBlockFace
 
 -- that of what stands there, if anything does
-abbrev pub seen : Option Face → Option refusals.Face
+abbrev pub seen : Option Face → Option refusals.BlockFace
 seen beside = option_map shown beside
 
-abbrev pub is_paragraph : refusals.Face → Bool
+abbrev pub is_paragraph : refusals.BlockFace → Bool
 is_paragraph refusals.ParagraphFace = true
 is_paragraph face = false

@@ -1,6 +1,6 @@
 use Rattle.std.proofs.Common.{◌∷◌, ◌∙◌, sym, ap, arith}
 use Rattle.cm_scan.specs.Tags.{open_tag}
-use Rattle.cm_scan.specs.RawHtml.{rest_of, raw_html}
+use Rattle.cm_scan.specs.RawHtml.{behind_tag, raw_html}
 use Rattle.cm_scan.specs.steps.SpanSteps.{left_of}
 use Rattle.cm_scan.proofs.HtmlSpanLemmas.{html-none, html-other, html-end, html-instruction, html-closing, html-open}
 use Rattle.cm_scan.proofs.inline_html.after_raw_html.Goals as goal
@@ -29,23 +29,23 @@ returns-in-63 c =
 pub returns-in_err-closing_tag-in-47 : goal.returns-in_err-closing_tag-in-47
 returns-in_err-closing_tag-in-47 c =
     let text = c.in_ok-b.ensures ∙ ap (λ b. b ∷ c.in_ok-b.inside.now) c.if-b-ne60.false ∙ ap (λ t. 60 ∷ t) c.in_ok-c.ensures ∙ ap (λ m. 60 ∷ m ∷ c.in_ok-c.behind.now) c.in-47.is in
-    ap left_of c.from_residual-in_err-closing_tag-in-47.ensures ∙ sym (ap rest_of c.in_err-closing_tag-in-47.ensures)
+    ap left_of c.from_residual-in_err-closing_tag-in-47.ensures ∙ sym (ap behind_tag c.in_err-closing_tag-in-47.ensures)
     ∙ html-closing c.args.rules c.in_ok-c.behind.now ∙ sym (ap (raw_html c.args.rules) text)
 
 pub returns-in_ok-closing_tag-in-47 : goal.returns-in_ok-closing_tag-in-47
 returns-in_ok-closing_tag-in-47 c =
     let text = c.in_ok-b.ensures ∙ ap (λ b. b ∷ c.in_ok-b.inside.now) c.if-b-ne60.false ∙ ap (λ t. 60 ∷ t) c.in_ok-c.ensures ∙ ap (λ m. 60 ∷ m ∷ c.in_ok-c.behind.now) c.in-47.is in
-    sym (ap rest_of c.in_ok-closing_tag-in-47.ensures) ∙ html-closing c.args.rules c.in_ok-c.behind.now ∙ sym (ap (raw_html c.args.rules) text)
+    sym (ap behind_tag c.in_ok-closing_tag-in-47.ensures) ∙ html-closing c.args.rules c.in_ok-c.behind.now ∙ sym (ap (raw_html c.args.rules) text)
 
 pub returns-in_err-open_tag-in_default : goal.returns-in_err-open_tag-in_default
 returns-in_err-open_tag-in_default c =
     let text = c.in_ok-b.ensures ∙ ap (λ b. b ∷ c.in_ok-b.inside.now) c.if-b-ne60.false ∙ ap (λ t. 60 ∷ t) c.in_ok-c.ensures in
     ap left_of c.from_residual-in_err-open_tag-in_default.ensures
-    ∙ sym (ap (λ t. rest_of (open_tag (60 ∷ t))) (sym c.in_ok-c.ensures) ∙ ap rest_of c.in_err-open_tag-in_default.ensures)
+    ∙ sym (ap (λ t. behind_tag (open_tag (60 ∷ t))) (sym c.in_ok-c.ensures) ∙ ap behind_tag c.in_err-open_tag-in_default.ensures)
     ∙ html-open c.args.rules c.in_ok-c.c c.in_ok-c.behind.now (λ e. absurd (omega (arith, e))) (λ e. absurd (omega (arith, e))) (λ e. absurd (omega (arith, e))) ∙ sym (ap (raw_html c.args.rules) text)
 
 pub returns-in_ok-open_tag-in_default : goal.returns-in_ok-open_tag-in_default
 returns-in_ok-open_tag-in_default c =
     let text = c.in_ok-b.ensures ∙ ap (λ b. b ∷ c.in_ok-b.inside.now) c.if-b-ne60.false ∙ ap (λ t. 60 ∷ t) c.in_ok-c.ensures in
-    sym (ap (λ t. rest_of (open_tag (60 ∷ t))) (sym c.in_ok-c.ensures) ∙ ap rest_of c.in_ok-open_tag-in_default.ensures)
+    sym (ap (λ t. behind_tag (open_tag (60 ∷ t))) (sym c.in_ok-c.ensures) ∙ ap behind_tag c.in_ok-open_tag-in_default.ensures)
     ∙ html-open c.args.rules c.in_ok-c.c c.in_ok-c.behind.now (λ e. absurd (omega (arith, e))) (λ e. absurd (omega (arith, e))) (λ e. absurd (omega (arith, e))) ∙ sym (ap (raw_html c.args.rules) text)

@@ -1,7 +1,7 @@
 use Rattle.std.proofs.Common.{Bool, ◌&&◌, ◌+◌, List, map, drop, sym, ap, ◌∙◌}
 use Rattle.std.specs.List.{list_all}
 use Rattle.cm_tree.specs.declared.tree.Block.{Block}
-use Rattle.cm_source.specs.Refusals.{is_tight_item, faces, judged}
+use Rattle.cm_source.specs.Refusals.{is_tight_item, faces, judged_block}
 use Rattle.cm_source.proofs.RefusalLemmas.{from-next, from-end}
 use Rattle.cm_source.proofs.BlockRefusals.{seen_items}
 use Rattle.cm_source.proofs.refusals.are_tight.Goals as goal
@@ -11,14 +11,14 @@ returns-then-not-is_tight_item c = λ rules.
     let of : List (List Block) → Bool = λ l. list_all is_tight_item (seen_items rules l) in
     let rest = drop (c.loop-item.item-index + 1) c.args.items.now in
     sym (from-next of c.args.items.now c.loop-item.item-index c.item-item.result c.loop-item-test.true c.item-item.is ∙ ap (λ v. v && of rest)
-    (sym (c.is_tight_item.ensures rules ∙ ap (λ l. is_tight_item (faces (map (judged rules) l))) c.as_slice.ensures) ∙ c.if-not-is_tight_item.true)) ∙ c.loop-item.invariant rules
+    (sym (c.is_tight_item.ensures rules ∙ ap (λ l. is_tight_item (faces (map (judged_block rules) l))) c.as_slice.ensures) ∙ c.if-not-is_tight_item.true)) ∙ c.loop-item.invariant rules
 
 pub loop-item-preserved : goal.loop-item-preserved
 loop-item-preserved c = λ rules.
     let of : List (List Block) → Bool = λ l. list_all is_tight_item (seen_items rules l) in
     let rest = drop (c.loop-item.item-index + 1) c.args.items.now in
     sym (from-next of c.args.items.now c.loop-item.item-index c.item-item.result c.loop-item-test.true c.item-item.is ∙ ap (λ v. v && of rest)
-    (sym (c.is_tight_item.ensures rules ∙ ap (λ l. is_tight_item (faces (map (judged rules) l))) c.as_slice.ensures) ∙ c.if-not-is_tight_item.false)) ∙ c.loop-item.invariant rules
+    (sym (c.is_tight_item.ensures rules ∙ ap (λ l. is_tight_item (faces (map (judged_block rules) l))) c.as_slice.ensures) ∙ c.if-not-is_tight_item.false)) ∙ c.loop-item.invariant rules
 
 pub returns : goal.returns
 returns c = λ rules.

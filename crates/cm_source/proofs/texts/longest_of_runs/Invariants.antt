@@ -1,6 +1,6 @@
 use Rattle.std.proofs.Common.{◌≡◌, ◌≤◌, drop, max}
 use Rattle.cm_source.specs.Texts.{longest_run}
-use Rattle.cm_source.proofs.texts.longest_run.Given as goal
+use Rattle.cm_source.proofs.texts.longest_of_runs.Given as goal
 
 abbrev pub invariant-loop-b : goal.invariant-loop-b
 invariant-loop-b l = record {
