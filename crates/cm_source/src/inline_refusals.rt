@@ -6,11 +6,11 @@ ghost use Rattle.cm_source.specs.Answers.{ok_unless};
 ghost use Rattle.cm_source.specs.InlineRefusals.{refused, has_nul, has_line_ending, is_text, is_emphasis, is_whitespace, is_plain, first_of, last_of, further_in, inside_link, judged, first_face, last_face, hold_emphasis, hold_link, has_wrong_edge, emphasis_reasons, emphasis, ends_a_label, is_one_tag, code_reasons, html_reasons, break_reasons, refusal_of_all, paragraph_refusal, heading_refusal};
 ghost use Rattle.cm_source.specs.steps.InlineFaces.{shown, seen, place_of};
 
-use crate::search::has_byte;
 use crate::why::Why;
 use cm_scan::{autolink, first_character, holds_from, last_character, raw_html_by};
-use cm_text::{Rules, is_punct_by, is_space};
+use cm_text::{ByteKind, Rules, is_punct_by, is_space, next_of};
 use cm_tree::Inline;
+use std::simd::prelude::*;
 
 /// What the inlines beside an inline see of it.
 #[derive(Clone, Copy)]
@@ -65,11 +65,28 @@ pub(crate) fn refuse_if(holds: bool, why: Why) -> Result<(), Why>
     if holds { Err(why) } else { Ok(()) }
 }
 
+/// U+0000.
+struct Nul;
+
+impl ByteKind for Nul {
+    ghost passes = { λ b. b == 0 };
+
+    #[inline(always)]
+    fn contains(b: u8) -> bool {
+        b == 0
+    }
+
+    #[inline(always)]
+    fn lanes(lanes: u8x16) -> u64 {
+        lanes.simd_eq(u8x16::splat(0)).to_bitmask()
+    }
+}
+
 /// Whether a string has U+0000.
 pub(crate) fn has_nul(text: &str) -> bool
     ensures { result ≡ has_nul text.now }
 {
-    has_byte(0, text)
+    next_of::<Nul>(text.as_bytes(), 0) < text.len()
 }
 
 /// Whether one of two strings has U+0000.
@@ -328,12 +345,12 @@ fn check_html(rules: Rules, place: Place, text: &str, before: Option<Face<'_>>) 
     )
 }
 
-/// Refuses a line break at a place, between these.
-fn check_break(place: Place, before: Option<Face<'_>>, after: Option<Face<'_>>) -> Result<(), Why>
-    ensures { result ≡ ok_unless (refused (break_reasons (place_of place) (seen before.entry) (seen after.entry))) }
+/// Refuses a line break at a place, behind this and before these.
+fn check_break(place: Place, before: Option<Face<'_>>, rest: &[Inline]) -> Result<(), Why>
+    ensures { (rules : text_rules.Rules) → result ≡ ok_unless (refused (break_reasons (place_of place) (seen before.entry) (first_face (map (judged rules) rest.now)))) }
 {
     refuse_if(
-        place.heading || before.is_none() || after.is_none() || matches!(before, Some(Face::Break)),
+        place.heading || before.is_none() || rest.is_empty() || matches!(before, Some(Face::Break)),
         Why::LineBreak,
     )
 }
@@ -346,38 +363,38 @@ fn check_inlines(rules: Rules, place: Place, inlines: &[Inline]) -> Result<(), W
     let mut place = place;
     let mut before = None;
     for (at, inline) in inlines.iter().enumerate() {
-        check_inline(rules, place, inline, before, first_face(&inlines[at + 1..]))?;
+        check_inline(rules, place, inline, before, &inlines[at + 1..])?;
         place = place.further();
         before = Some(face_of(inline));
     }
     Ok(())
 }
 
-/// Refuses an inline at a place, between these.
+/// Refuses an inline at a place, behind this and before these.
 #[cycle(inlines)]
 fn check_inline(
     rules: Rules,
     place: Place,
     inline: &Inline,
     before: Option<Face<'_>>,
-    after: Option<Face<'_>>,
+    rest: &[Inline],
 ) -> Result<(), Why>
-    ensures { result ≡ ok_unless ((judged rules inline.now).refusal (place_of place) (seen before.entry) (seen after.entry)) }
+    ensures { result ≡ ok_unless ((judged rules inline.now).refusal (place_of place) (seen before.entry) (first_face (map (judged rules) rest.now))) }
 {
     match inline {
         Inline::Text(text) => check_text(text.as_str(), before),
         Inline::Code(text) => check_code(place, text.as_str(), before),
         Inline::Html(text) => check_html(rules, place, text.as_str(), before),
-        Inline::Soft => check_break(place, before, after),
-        Inline::Hard => check_break(place, before, after),
+        Inline::Soft => check_break(place, before, rest),
+        Inline::Hard => check_break(place, before, rest),
         Inline::Emph(content) => {
-            check_between(rules, place, false, content.as_slice(), before, after)
+            check_between(rules, place, false, content.as_slice(), before, rest)
         }
         Inline::Strong(content) => {
-            check_between(rules, place, false, content.as_slice(), before, after)
+            check_between(rules, place, false, content.as_slice(), before, rest)
         }
         Inline::Strike(content) => {
-            check_between(rules, place, true, content.as_slice(), before, after)
+            check_between(rules, place, true, content.as_slice(), before, rest)
         }
         Inline::Link {
             dest,
@@ -411,7 +428,7 @@ fn check_strike(rules: Rules, strike: bool) -> Result<(), Why>
     refuse_if(strike && !rules.strike(), Why::StrikeOff)
 }
 
-/// Refuses emphasis, strong emphasis or strikethrough at a place, between these.
+/// Refuses emphasis, strong emphasis or strikethrough at a place, behind this and before these.
 #[cycle(inlines)]
 fn check_between(
     rules: Rules,
@@ -419,11 +436,11 @@ fn check_between(
     strike: bool,
     content: &[Inline],
     before: Option<Face<'_>>,
-    after: Option<Face<'_>>,
+    rest: &[Inline],
 ) -> Result<(), Why>
-    ensures { result ≡ ok_unless ((emphasis rules strike (map (judged rules) content.now)).refusal (place_of place) (seen before.entry) (seen after.entry)) }
+    ensures { result ≡ ok_unless ((emphasis rules strike (map (judged rules) content.now)).refusal (place_of place) (seen before.entry) (first_face (map (judged rules) rest.now))) }
 {
-    check_emphasis(rules, content, before, after)?;
+    check_emphasis(rules, content, before, first_face(rest))?;
     check_strike(rules, strike)?;
     check_inlines(rules, place.further(), content)
 }

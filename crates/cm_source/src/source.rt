@@ -96,7 +96,9 @@ impl Source {
         ensures same { self.new.front ≡ self.old.front }
     {
         if !self.begun {
-            self.text.push_str(&self.front)?;
+            if !self.front.is_empty() {
+                self.text.push_str(&self.front)?;
+            }
             self.begun = true;
             self.line = self.text.len();
         }
@@ -110,7 +112,7 @@ impl Source {
         if self.line == self.text.len() {
             strip_end(&mut self.text);
         }
-        self.text.push_str("\n")?;
+        self.text.push('\n')?;
         self.begun = false;
         Ok(())
     }

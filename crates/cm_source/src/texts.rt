@@ -66,7 +66,7 @@ fn push_byte(out: &mut String, b: u8) -> Result<(), AllocError>
     if b == b'`' || b.is_ascii_control() {
         return push_numbered(out, b);
     }
-    out.push_str("\\")?;
+    out.push('\\')?;
     out.push(b as char)
 }
 

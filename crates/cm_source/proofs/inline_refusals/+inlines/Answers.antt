@@ -4,8 +4,9 @@ use Rattle.cm_tree.specs.declared.tree.Inline.{Inline}
 use Rattle.cm_scan.specs.Words.{◌<|>◌}
 use Rattle.cm_source.specs.declared.why.Why.{Why}
 use Rattle.cm_source.specs.Answers.{ok_unless}
-use Rattle.cm_source.specs.InlineRefusals.{first_face, further_in, judged, refusal_of_all}
+use Rattle.cm_source.specs.InlineRefusals.{first_face, further_in, Judged, judged, refused, emphasis_reasons, refusal_of_all}
 use Rattle.cm_source.specs.steps.InlineFaces.{seen, place_of}
+use Rattle.cm_source.proofs.InlineKinds.{soft-judged, hard-judged}
 use Rattle.cm_source.proofs.RefusalLemmas.{stops, goes-on, no-reason, told-error, from-next, from-end}
 use Rattle.cm_source.proofs.inline_refusals.+inlines.Goals as goal
 
@@ -20,7 +21,7 @@ check_inlines-loop-at-preserved t c =
     let before = seen c.loop-at.before in
     let next = c.index-inlines-at.result in
     let rest = drop (c.loop-at.at + 1) all in
-    let after = c.first_face.ensures rules ∙ ap (λ l. first_face (map (judged rules) l)) (take_rest all (c.loop-at.at + 1)) in
+    let after = ap (λ l. first_face (map (judged rules) l)) (take_rest all (c.loop-at.at + 1)) in
     let fine = no-reason _ (c.in_ok-check_inline.ensures ∙ ap (λ a. ok_unless ((judged rules next).refusal place before a)) after) in
     let left : List Inline → Option Why = λ l. refusal_of_all place before (map (judged rules) l) in
     c.loop-at.invariant ∙ from-next left all c.loop-at.at next c.loop-at-test.true c.index-inlines-at.is
@@ -42,7 +43,7 @@ check_inlines-returns-in_err-check_inline t c =
     let before = seen c.loop-at.before in
     let next = c.index-inlines-at.result in
     let rest = drop (c.loop-at.at + 1) all in
-    let after = c.first_face.ensures rules ∙ ap (λ l. first_face (map (judged rules) l)) (take_rest all (c.loop-at.at + 1)) in
+    let after = ap (λ l. first_face (map (judged rules) l)) (take_rest all (c.loop-at.at + 1)) in
     let why = c.in_err-check_inline.ensures ∙ ap (λ a. ok_unless ((judged rules next).refusal place before a)) after in
     let left : List Inline → Option Why = λ l. refusal_of_all place before (map (judged rules) l) in
     told-error c.from_residual.result c.in_err-check_inline.field-0.0 c.from_residual.ensures.1
@@ -51,17 +52,20 @@ check_inlines-returns-in_err-check_inline t c =
 
 pub check_between-returns-in_err-check_emphasis : goal.check_between-returns-in_err-check_emphasis
 check_between-returns-in_err-check_emphasis t c =
-    told-error c.from_residual.result c.in_err-check_emphasis.field-0.0 c.from_residual.ensures.1 ∙ stops _ _ _ c.in_err-check_emphasis.ensures
+    told-error c.from_residual.result c.in_err-check_emphasis.field-0.0 c.from_residual.ensures.1
+    ∙ stops _ _ _ (c.in_err-check_emphasis.ensures ∙ ap (λ a. ok_unless (refused (emphasis_reasons c.args.rules (map (judged c.args.rules) c.args.content.now) (seen c.args.before) a))) (c.first_face.ensures c.args.rules))
 
 pub check_between-returns-in_err-check_strike : goal.check_between-returns-in_err-check_strike
 check_between-returns-in_err-check_strike t c =
     told-error c.from_residual-in_err-check_strike.result c.in_err-check_strike.field-0.0 c.from_residual-in_err-check_strike.ensures.1
-    ∙ stops _ _ _ c.in_err-check_strike.ensures ∙ goes-on _ _ c.in_ok-check_emphasis.ensures
+    ∙ stops _ _ _ c.in_err-check_strike.ensures
+    ∙ goes-on _ _ (c.in_ok-check_emphasis.ensures ∙ ap (λ a. ok_unless (refused (emphasis_reasons c.args.rules (map (judged c.args.rules) c.args.content.now) (seen c.args.before) a))) (c.first_face.ensures c.args.rules))
 
 pub check_between-returns : goal.check_between-returns
 check_between-returns t c =
     let content = map (judged c.args.rules) c.args.content.now in
-    c.check_inlines.ensures ∙ ap (λ p. ok_unless (refusal_of_all p None content)) c.further.ensures ∙ goes-on _ _ c.in_ok-check_strike.ensures ∙ goes-on _ _ c.in_ok-check_emphasis.ensures
+    c.check_inlines.ensures ∙ ap (λ p. ok_unless (refusal_of_all p None content)) c.further.ensures ∙ goes-on _ _ c.in_ok-check_strike.ensures
+    ∙ goes-on _ _ (c.in_ok-check_emphasis.ensures ∙ ap (λ a. ok_unless (refused (emphasis_reasons c.args.rules content (seen c.args.before) a))) (c.first_face.ensures c.args.rules))
 
 pub check_link-returns : goal.check_link-returns
 check_link-returns t c =
@@ -71,3 +75,15 @@ check_link-returns t c =
 pub check_link-returns-in_err-check_target : goal.check_link-returns-in_err-check_target
 check_link-returns-in_err-check_target t c =
     told-error c.from_residual.result c.in_err-check_target.field-0.0 c.from_residual.ensures.1 ∙ stops _ _ _ (c.in_err-check_target.ensures c.args.rules)
+
+pub check_inline-returns-in-Soft : goal.check_inline-returns-in-Soft
+check_inline-returns-in-Soft t c =
+    let rules = c.args.rules in
+    c.check_break.ensures rules
+    ∙ ap (λ (j : Judged). ok_unless (j.refusal (place_of c.args.place) (seen c.args.before) (first_face (map (judged rules) c.args.rest.now)))) (sym (ap (judged rules) c.in-Soft.is ∙ soft-judged rules))
+
+pub check_inline-returns-in-Hard : goal.check_inline-returns-in-Hard
+check_inline-returns-in-Hard t c =
+    let rules = c.args.rules in
+    c.check_break-in-Hard.ensures rules
+    ∙ ap (λ (j : Judged). ok_unless (j.refusal (place_of c.args.place) (seen c.args.before) (first_face (map (judged rules) c.args.rest.now)))) (sym (ap (judged rules) c.in-Hard.is ∙ hard-judged rules))

@@ -11,4 +11,4 @@ returns-then-b-eq96 c = elim c.then-b-eq96.branch [
 ]
 
 pub returns : goal.returns
-returns c = grind (arith, common_steps, behind-backslash c.args.b c.requires, c.if-b-eq96.false, c.is_ascii_control.ensures.value, c.if-is_ascii_control.false, c.in_ok-push_str.ensures.bytes, c.push.ensures.bytes)
+returns c = grind (arith, common_steps, behind-backslash c.args.b c.requires, c.if-b-eq96.false, c.is_ascii_control.ensures.value, c.if-is_ascii_control.false, c.in_ok-push.ensures.bytes, c.push.ensures.bytes)

@@ -6,9 +6,10 @@ use Rattle.cm_source.proofs.source.Source.end_line.Goals.{then-self-len, else-se
 use Rattle.cm_source.proofs.source.Source.end_line.Goals as goal
 
 pub returns : goal.returns
+unfolding lib.Utf8.encode
 returns c =
     let old = c.args.self.now in
-    let pushed = c.in_ok-push_str.ensures.bytes in
+    let pushed = c.in_ok-push.ensures.bytes in
     ends-line old _
     (elim c.if-self-len.branch [
       | then-self-len w ↦
