@@ -13,6 +13,7 @@ ghost use Rattle.cm_inline.specs.steps.Groups.{Made, grouped, target_of, end_htm
 
 use crate::groups::{FirstGroups, Group, Kind, Making};
 use crate::nodes::Nodes;
+use crate::room::Room;
 use crate::settling::group_inline;
 use crate::tokens::{Token, opener_text, push_run};
 use crate::written::{Written, destination_of};
@@ -78,7 +79,7 @@ fn push_autolink(
 
 /// Adds the HTML of an inline that stands by itself in the source.
 fn push_written(
-    alloc: Global,
+    room: &mut Room,
     html: &mut String,
     source: &str,
     written: Written,
@@ -93,7 +94,7 @@ fn push_written(
             from,
             to,
             is_address,
-        } => push_autolink(alloc, html, is_address, &source[from..to]),
+        } => push_autolink(room.alloc(), html, is_address, &source[from..to]),
         Written::Soft => html.push_str("\n"),
         Written::Hard => html.push_str("<br />\n"),
     }
@@ -102,7 +103,7 @@ fn push_written(
 /// Adds the HTML of a token.
 #[cycle(html)]
 fn push_token(
-    alloc: Global,
+    room: &mut Room,
     html: &mut String,
     source: &str,
     inside: &[Token],
@@ -118,9 +119,9 @@ fn push_token(
     match token {
         Token::Piece { from, to } => push_escaped(html, &source[from..to]),
         Token::Characters(chars) => push_chars(html, chars),
-        Token::Whole(written) => push_written(alloc, html, source, written),
+        Token::Whole(written) => push_written(room, html, source, written),
         Token::Made { number, .. } => push_group(
-            alloc,
+            room,
             html,
             source,
             inside,
@@ -176,7 +177,7 @@ fn push_text(html: &mut String, source: &str, from: usize, to: usize) -> Result<
 /// Adds the HTML of a token. That of a piece of the source waits; its places are answered, or those of no text.
 #[cycle(html)]
 fn push_apart(
-    alloc: Global,
+    room: &mut Room,
     html: &mut String,
     source: &str,
     inside: &[Token],
@@ -194,14 +195,14 @@ fn push_apart(
     if let Token::Piece { from, to } = token {
         return Ok((from, to));
     }
-    push_token(alloc, html, source, inside, groups, token)?;
+    push_token(room, html, source, inside, groups, token)?;
     Ok(no_text(source))
 }
 
 /// Adds the HTML of tokens, one after another. Texts that follow one another in the source are added at once.
 #[cycle(html)]
 fn push_tokens(
-    alloc: Global,
+    room: &mut Room,
     html: &mut String,
     source: &str,
     inside: &[Token],
@@ -221,7 +222,7 @@ fn push_tokens(
             continue;
         }
         push_text(html, source, from, to)?;
-        let waits = push_apart(alloc, html, source, inside, groups, *token)?;
+        let waits = push_apart(room, html, source, inside, groups, *token)?;
         from = waits.0;
         to = waits.1;
     }
@@ -257,7 +258,7 @@ fn end_tag(kind: Kind) -> &'static str
 /// Adds the HTML of a group, which holds groups before it.
 #[cycle(html)]
 fn push_group(
-    alloc: Global,
+    room: &mut Room,
     html: &mut String,
     source: &str,
     inside: &[Token],
@@ -270,12 +271,14 @@ fn push_group(
     ensures { OnOk result (string_bytes html.new ≡ string_bytes html.old ++ (spelled (group_made inside.now (groups_made inside.now groups.now) (grouped group.entry) source.now)).html) }
 {
     if let Kind::Image = group.making.kind {
-        let image = group_inline(alloc, source, inside, groups, group)?;
-        return push_inline(html, &image);
+        let image = group_inline(room, source, inside, groups, group)?;
+        push_inline(html, &image)?;
+        room.keep_inline(image);
+        return Ok(());
     }
     push_start(html, group.making)?;
     push_tokens(
-        alloc,
+        room,
         html,
         source,
         inside,
@@ -287,7 +290,7 @@ fn push_group(
 
 /// Adds the HTML of the inlines that come of nodes.
 pub(crate) fn push_nodes(
-    alloc: Global,
+    room: &mut Room,
     html: &mut String,
     source: &str,
     nodes: &Nodes,
@@ -297,7 +300,7 @@ pub(crate) fn push_nodes(
     ensures { OnOk result (string_bytes html.new ≡ string_bytes html.old ++ inlines_html (settled (items_of source.now (nodes_in nodes.now)))) }
 {
     push_tokens(
-        alloc,
+        room,
         html,
         source,
         nodes.inside(),

@@ -17,6 +17,7 @@ mod nodes;
 mod openers;
 mod pairing;
 mod reading;
+mod room;
 mod runs;
 mod settling;
 mod tokens;

@@ -24,10 +24,11 @@ use crate::fault::InlineFault;
 use crate::html::push_nodes;
 use crate::nodes::Nodes;
 use crate::pairing::pair_from;
+use crate::room::Room;
 use crate::settling::settle;
 use crate::tokens::Token;
 use cm_text::{Rules, next_markup};
-use cm_tree::{Definitions, Inline, Items};
+use cm_tree::{Block, Definitions, Inline, Items};
 use std::alloc::{AllocError, Global};
 
 /// How many openers the pairing of delimiter runs has looked at: one or more for each emphasis, strong emphasis and
@@ -137,16 +138,16 @@ fn read_nodes(
 /// Reads the inlines of leaves, one after another, in the same memory, and takes more of it where a leaf needs more.
 #[derive(Drop)]
 pub struct InlineReader {
-    alloc: Global,
     reader: Reader,
+    room: Room,
 }
 
 impl InlineReader {
     /// No leaf was read yet. It takes no memory.
     pub fn new(alloc: Global) -> InlineReader {
         InlineReader {
-            alloc,
             reader: Reader::new(alloc),
+            room: Room::new(alloc),
         }
     }
 
@@ -166,9 +167,25 @@ impl InlineReader {
     ) -> Result<(Items<Inline>, Steps), InlineFault>
         ensures { Reads result rules definitions.now limit source.now }
     {
-        let alloc = self.alloc;
+        let alloc = self.room.alloc();
         let steps = read_nodes(alloc, rules, source, definitions, limit, &mut self.reader)?;
-        Ok((settle(alloc, source, &self.reader.nodes)?, steps))
+        Ok((settle(&mut self.room, source, &self.reader.nodes)?, steps))
+    }
+
+    /// The source of a leaf without markup, as `is_one_text` tells it, as its one inline.
+    ///
+    /// # Errors
+    ///
+    /// `AllocError` where a request for memory was refused.
+    pub fn one_text(&mut self, source: &str) -> Result<Items<Inline>, AllocError>
+        ensures { IfOk result (λ inlines. inlines ≡ Text source.now ∷ []) }
+    {
+        self.room.one_text(source)
+    }
+
+    /// Lets go of a block. The memory of its inlines serves for those that are read next.
+    pub fn let_go(&mut self, block: Block) {
+        self.room.keep_block(block);
     }
 
     /// Adds the HTML of these inlines. It takes less time and memory than they do, since a text is written from the source.
@@ -188,9 +205,9 @@ impl InlineReader {
         ensures within { OnOk result (inlines.nests_past rules (defined_in definitions.now) limit source.now ≡ false) }
         ensures refused { IfErr result (λ fault. Refused fault rules definitions.now limit source.now) }
     {
-        let alloc = self.alloc;
+        let alloc = self.room.alloc();
         read_nodes(alloc, rules, source, definitions, limit, &mut self.reader)?;
-        push_nodes(alloc, html, source, &self.reader.nodes)?;
+        push_nodes(&mut self.room, html, source, &self.reader.nodes)?;
         Ok(())
     }
 }

@@ -1,14 +1,15 @@
 //! The inlines that come of nodes of which nothing more is made.
-ghost use Rattle.std.specs.Prelude.{◌≡◌, ◌++◌, length, IfOk, OnOk};
+ghost use Rattle.std.specs.Prelude.{◌≡◌, [], ◌++◌, length, IfOk, OnOk};
 ghost use Rattle.cm_scan.specs.Pairing.{settled};
 ghost use Rattle.cm_inline.specs.steps.Groups.{grouped, group_made, groups_made, made_of, target_of, node_of, nodes_of, nodes_in, AreBelow, AreGroups, ArePlaced, IsBelow, IsGroup, IsPlaced};
 ghost use Rattle.cm_inline.specs.steps.Nodes.{inline_of, items_of, AreParts};
 
 use crate::groups::{FirstGroups, Group, Kind, Making};
 use crate::nodes::Nodes;
+use crate::room::Room;
 use crate::tokens::{Token, push_texts};
-use cm_tree::{BoxedText, Inline, Items, Text};
-use std::alloc::{AllocError, Global};
+use cm_tree::{Inline, Items};
+use std::alloc::AllocError;
 
 /// How many inlines come of the tokens, where texts side by side are one: as many as there is room for.
 fn count_inlines(tokens: &[Token]) -> usize {
@@ -24,15 +25,18 @@ fn count_inlines(tokens: &[Token]) -> usize {
     count
 }
 
-/// A text on the heap.
-fn boxed(alloc: Global, text: &str) -> Result<BoxedText, AllocError>
-    ensures { IfOk result (λ boxed. boxed ≡ text.now) }
+/// A list of no inlines in memory that is left, or else with room for those of the tokens.
+fn list_for(room: &mut Room, tokens: &[Token]) -> Result<Vec<Inline>, AllocError>
+    ensures { IfOk result (λ list. list.items ≡ []) }
 {
-    BoxedText::new(alloc, Text::from_str(alloc, text)?)
+    match room.list() {
+        Some(list) => Ok(list),
+        None => Ok(Vec::with_capacity(room.alloc(), count_inlines(tokens))?),
+    }
 }
 
 /// What is made of a content.
-fn made(alloc: Global, making: Making<'_>, content: Items<Inline>) -> Result<Inline, AllocError>
+fn made(room: &mut Room, making: Making<'_>, content: Items<Inline>) -> Result<Inline, AllocError>
     ensures { IfOk result (λ inline. inline ≡ made_of making.entry.kind (target_of making.entry) content) }
 {
     match making.kind {
@@ -40,13 +44,13 @@ fn made(alloc: Global, making: Making<'_>, content: Items<Inline>) -> Result<Inl
         Kind::Strong => Ok(Inline::Strong(content)),
         Kind::Strike => Ok(Inline::Strike(content)),
         Kind::Link => Ok(Inline::Link {
-            dest: boxed(alloc, making.dest)?,
-            title: boxed(alloc, making.title)?,
+            dest: room.boxed(making.dest)?,
+            title: room.boxed(making.title)?,
             content,
         }),
         Kind::Image => Ok(Inline::Image {
-            dest: boxed(alloc, making.dest)?,
-            title: boxed(alloc, making.title)?,
+            dest: room.boxed(making.dest)?,
+            title: room.boxed(making.title)?,
             content,
         }),
     }
@@ -55,7 +59,7 @@ fn made(alloc: Global, making: Making<'_>, content: Items<Inline>) -> Result<Inl
 /// The inline of a group, which holds groups before it.
 #[cycle(settling)]
 pub(crate) fn group_inline(
-    alloc: Global,
+    room: &mut Room,
     source: &str,
     inside: &[Token],
     groups: &FirstGroups<'_>,
@@ -66,14 +70,14 @@ pub(crate) fn group_inline(
     requires group { IsGroup inside.now (length groups.now) (grouped group) }
     ensures { IfOk result (λ inline. inline ≡ group_made inside.now (groups_made inside.now groups.now) (grouped group.entry) source.now) }
 {
-    let content = settle_tokens(alloc, source, inside, groups, &inside[group.from..group.to])?;
-    made(alloc, group.making, content)
+    let content = settle_tokens(room, source, inside, groups, &inside[group.from..group.to])?;
+    made(room, group.making, content)
 }
 
 /// Adds the inline that a token is, if it is one.
 #[cycle(settling)]
 fn push_inline(
-    alloc: Global,
+    room: &mut Room,
     source: &str,
     inside: &[Token],
     groups: &FirstGroups<'_>,
@@ -88,12 +92,12 @@ fn push_inline(
 {
     match token {
         Token::Whole(written) => {
-            let inline = written.inline(alloc, source)?;
+            let inline = written.inline(room, source)?;
             Ok(content.push(inline)?)
         }
         Token::Made { number, .. } => {
             let inline = group_inline(
-                alloc,
+                room,
                 source,
                 inside,
                 &groups.up_to(number),
@@ -108,7 +112,7 @@ fn push_inline(
 /// The inlines of tokens, where texts side by side are one.
 #[cycle(settling)]
 fn settle_tokens(
-    alloc: Global,
+    room: &mut Room,
     source: &str,
     inside: &[Token],
     groups: &FirstGroups<'_>,
@@ -120,12 +124,12 @@ fn settle_tokens(
     requires tokens { ArePlaced source.now tokens.now }
     ensures { IfOk result (λ content. content ≡ settled (items_of source.now (nodes_of (groups_made inside.now groups.now) tokens.now))) }
 {
-    let mut content = Vec::with_capacity(alloc, count_inlines(tokens))?;
+    let mut content = list_for(room, tokens)?;
     let mut at = 0;
     while at < tokens.len() {
-        at += push_texts(alloc, source, &tokens[at..], &mut content)?;
+        at += push_texts(room, source, &tokens[at..], &mut content)?;
         if at < tokens.len() {
-            push_inline(alloc, source, inside, groups, tokens[at], &mut content)?;
+            push_inline(room, source, inside, groups, tokens[at], &mut content)?;
             at += 1;
         }
     }
@@ -134,7 +138,7 @@ fn settle_tokens(
 
 /// The inlines of nodes.
 pub(crate) fn settle(
-    alloc: Global,
+    room: &mut Room,
     source: &str,
     nodes: &Nodes,
 ) -> Result<Items<Inline>, AllocError>
@@ -143,7 +147,7 @@ pub(crate) fn settle(
     ensures { IfOk result (λ content. content ≡ settled (items_of source.now (nodes_in nodes.now))) }
 {
     settle_tokens(
-        alloc,
+        room,
         source,
         nodes.inside(),
         &nodes.groups(),

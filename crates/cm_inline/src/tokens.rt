@@ -7,11 +7,12 @@ ghost use Rattle.cm_inline.specs.steps.Groups.{node_of, nodes_of, IsPlaced, AreP
 ghost use Rattle.cm_inline.specs.steps.Runs.{byte_of};
 ghost use Rattle.cm_inline.specs.steps.Nodes.{is_closer, is_text, node_depth, nodes_depth, text_in, text_in_front, behind_texts};
 
+use crate::room::Room;
 use crate::runs::DelimiterRun;
 use crate::written::Written;
 use cm_text::Chars;
 use cm_tree::{Inline, Text};
-use std::alloc::{AllocError, Global};
+use std::alloc::AllocError;
 
 /// A token: what was read at a place of the source, or the number of a group.
 #[derive(Clone, Copy, Debug)]
@@ -83,20 +84,20 @@ pub(crate) fn has_closer(tokens: &[Token]) -> bool
 }
 
 /// About how many bytes of text the tokens begin with, and never fewer.
-fn room_for_text(tokens: &[Token]) -> usize {
-    let mut room: usize = 0;
+fn size_of_text(tokens: &[Token]) -> usize {
+    let mut size: usize = 0;
     for token in tokens {
         let more = match token {
             Token::Piece { from, to } => to.saturating_sub(*from),
             Token::Characters(_) => 8,
-            Token::Whole(_) => return room,
-            Token::Made { .. } => return room,
+            Token::Whole(_) => return size,
+            Token::Made { .. } => return size,
             Token::Run(run) => run.left,
             Token::Opener { .. } => 2,
         };
-        room = room.saturating_add(more);
+        size = size.saturating_add(more);
     }
-    room
+    size
 }
 
 /// Adds what is left of a delimiter run.
@@ -144,14 +145,24 @@ fn push_text_of(text: &mut String, source: &str, token: Token) -> Result<bool, A
     }
 }
 
+/// A string of no bytes in memory that is left, or else with room for the text with which the tokens begin.
+fn string_for(room: &mut Room, tokens: &[Token]) -> Result<String, AllocError>
+    ensures { IfOk result (λ string. string_bytes string ≡ []) }
+{
+    match room.string() {
+        Some(string) => Ok(string),
+        None => String::with_capacity(room.alloc(), size_of_text(tokens)),
+    }
+}
+
 /// The text with which the tokens begin, in one piece, and how many of them it takes.
-fn join(alloc: Global, source: &str, tokens: &[Token]) -> Result<(Text, usize), AllocError>
+fn join(room: &mut Room, source: &str, tokens: &[Token]) -> Result<(Text, usize), AllocError>
     requires { ArePlaced source.now tokens.now }
     ensures text { IfOk result (λ joined. joined.0 ≡ text_in_front source.now (nodes_of [] tokens.now)) }
     ensures rest { IfOk result (λ joined. nodes_of [] (drop joined.1 tokens.now) ≡ behind_texts (nodes_of [] tokens.now)) }
     ensures within { IfOk result (λ joined. joined.1 ≤ length tokens.now) }
 {
-    let mut text = String::with_capacity(alloc, room_for_text(tokens))?;
+    let mut text = string_for(room, tokens)?;
     for (at, token) in tokens.iter().enumerate() {
         if !push_text_of(&mut text, source, *token)? {
             return Ok((Text::from(text), at));
@@ -162,7 +173,7 @@ fn join(alloc: Global, source: &str, tokens: &[Token]) -> Result<(Text, usize), 
 
 /// Adds the text with which the tokens begin, if there is one, and answers how many of them it takes.
 pub(crate) fn push_texts(
-    alloc: Global,
+    room: &mut Room,
     source: &str,
     tokens: &[Token],
     content: &mut Vec<Inline>,
@@ -172,7 +183,7 @@ pub(crate) fn push_texts(
     ensures rest { IfOk result (λ count. nodes_of [] (drop count tokens.now) ≡ behind_texts (nodes_of [] tokens.now)) }
     ensures pushed { OnOk result (content.new.items ≡ content.old.items ++ text_before (text_in_front source.now (nodes_of [] tokens.now)) []) }
 {
-    let (text, count) = join(alloc, source, tokens)?;
+    let (text, count) = join(room, source, tokens)?;
     if !text.is_empty() {
         content.push(Inline::Text(text))?;
     }

@@ -4,7 +4,8 @@ ghost use Rattle.cm_tree.specs.declared.tree.Inline.TheVariants as inlines;
 ghost use Rattle.cm_inline.specs.steps.Written.{inline_in, written_depth, IsWithin};
 
 use crate::code::one_line;
-use cm_tree::{BoxedText, Inline, Items, Text};
+use crate::room::Room;
+use cm_tree::{BoxedText, Inline};
 use std::alloc::{AllocError, Global};
 
 /// An inline in which nothing nests but text, by the places between which its text stands.
@@ -32,20 +33,18 @@ pub(crate) enum Written {
 
 impl Written {
     /// The inline.
-    pub(crate) fn inline(self, alloc: Global, source: &str) -> Result<Inline, AllocError>
+    pub(crate) fn inline(self, room: &mut Room, source: &str) -> Result<Inline, AllocError>
         requires { IsWithin source.now self }
         ensures { IfOk result (λ inline. inline ≡ inline_in source.now self) }
     {
         match self {
-            Written::Code { from, to } => Ok(Inline::Code(one_line(alloc, &source[from..to])?)),
-            Written::Html { from, to } => {
-                Ok(Inline::Html(Text::from_str(alloc, &source[from..to])?))
-            }
+            Written::Code { from, to } => Ok(Inline::Code(one_line(room, &source[from..to])?)),
+            Written::Html { from, to } => { Ok(Inline::Html(room.text(&source[from..to])?)) }
             Written::Autolink {
                 from,
                 to,
                 is_address,
-            } => link_to(alloc, is_address, &source[from..to]),
+            } => link_to(room, is_address, &source[from..to]),
             Written::Soft => Ok(Inline::Soft),
             Written::Hard => Ok(Inline::Hard),
         }
@@ -78,16 +77,24 @@ pub(crate) fn destination_of(
     Ok(dest)
 }
 
+/// The same on the heap.
+fn boxed_destination(room: &mut Room, is_address: bool, text: &str) -> Result<BoxedText, AllocError>
+    ensures { IfOk result (λ dest. dest ≡ (if is_address then codes "mailto:" ++ text.now else text.now)) }
+{
+    if !is_address {
+        return room.boxed(text);
+    }
+    let dest = destination_of(room.alloc(), is_address, text)?;
+    room.boxed(&dest)
+}
+
 /// An autolink as a link (6.5 Autolinks).
-fn link_to(alloc: Global, is_address: bool, text: &str) -> Result<Inline, AllocError>
+fn link_to(room: &mut Room, is_address: bool, text: &str) -> Result<Inline, AllocError>
     ensures { IfOk result (λ made. made ≡ inlines.Link (if is_address then codes "mailto:" ++ text.now else text.now) [] (inlines.Text text.now ∷ [])) }
 {
-    let dest = destination_of(alloc, is_address, text)?;
-    let mut content = Items::new(alloc);
-    content.push(Inline::Text(Text::from_str(alloc, text)?))?;
     Ok(Inline::Link {
-        dest: BoxedText::new(alloc, Text::from(dest))?,
-        title: BoxedText::new(alloc, Text::new(alloc))?,
-        content,
+        dest: boxed_destination(room, is_address, text)?,
+        title: room.boxed("")?,
+        content: room.one_text(text)?,
     })
 }

@@ -1,6 +1,5 @@
 //! The inlines of an outline's leaves.
 ghost use Rattle.std.specs.Prelude.{◌≡◌, ◌+◌, ◌≤◌, ◌<◌, ℕ, [], ◌∷◌, option_map, IfOk, IfErr, OnOk, None};
-ghost use Rattle.cm_tree.specs.declared.tree.Inline.TheVariants.{Text as text_inline};
 ghost use Rattle.cm_tree.specs.Depth.{inlines_depth};
 ghost use Rattle.cm_tree.specs.RawBlocks.{raw_inlines, block_in, blocks_in, items_in, IsPlaced, ArePlaced, AreItems};
 ghost use Rattle.cm_tool.specs.steps.Items.{items_read, items_leaf_depths};
@@ -16,16 +15,7 @@ use crate::fault::Fault;
 use cm_inline::{InlineFault, InlineReader, is_one_text};
 use cm_text::Limits;
 use cm_tree::{Block, Definitions, Inline, Items, RawBlock, RawBlocks, RawItem, RawTree, Text};
-use std::alloc::{AllocError, Global};
-
-/// The one inline of a source that has no markup.
-fn one_text(alloc: Global, source: &str) -> Result<Items<Inline>, AllocError>
-    ensures { IfOk result (λ inlines. inlines ≡ text_inline source.now ∷ []) }
-{
-    let mut inlines = Items::new(alloc);
-    inlines.push(Inline::Text(Text::from_str(alloc, source)?))?;
-    Ok(inlines)
-}
+use std::alloc::Global;
 
 /// The inlines of a paragraph or heading with this source.
 fn read_content(
@@ -43,7 +33,7 @@ fn read_content(
         return Ok(Items::new(alloc));
     }
     if is_one_text(source) {
-        return Ok(one_text(alloc, source)?);
+        return Ok(reader.one_text(source)?);
     }
     let (inlines, _) = reader.inlines(limits.rules(), source, definitions, limits.inlines())?;
     Ok(inlines)

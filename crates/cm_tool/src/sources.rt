@@ -56,15 +56,21 @@ impl PlainSource {
         }
     }
 
-    /// Goes on with one more block without its definitions, or with nothing if it is one.
-    fn push_cleared(&mut self, alloc: Global, block: Block) -> Result<(), NoMemory>
+    /// Goes on with one more block without its definitions, or with nothing if it is one, and lets go of it.
+    fn push_cleared(
+        &mut self,
+        alloc: Global,
+        reader: &mut InlineReader,
+        block: Block,
+    ) -> Result<(), NoMemory>
         ensures { OnOk result ((rules : text_rules.Rules) (blocks : List trees.Block) → HasTaken rules self.old blocks →
             HasTaken rules self.new (blocks ++ without_definitions (block ∷ []))) }
     {
-        match block_without_definitions(alloc, block) {
-            Some(block) => self.push(&block),
-            None => Ok(()),
+        if let Some(block) = block_without_definitions(alloc, block) {
+            self.push(&block)?;
+            reader.let_go(block);
         }
+        Ok(())
     }
 
     /// The source of the blocks so far.
@@ -99,7 +105,7 @@ fn push_spelled(
         (depths_in (block_read limits.rules (defined_in definitions.now) (block_in raw.now block)))) }
 {
     let block = read_block(alloc, limits, definitions, raw, reader, next, block)?;
-    source.push_cleared(alloc, block)?;
+    source.push_cleared(alloc, reader, block)?;
     Ok(())
 }
 

@@ -3,6 +3,7 @@ ghost use Rattle.std.specs.Cmp.{partial_equiv_from_equiv};
 ghost use Rattle.std.specs.Cmp.Lexicographic.{pointwise, nat_list_eq_equiv};
 ghost use Rattle.std.specs.Bool.{nat_eq};
 ghost use Rattle.std.specs.Prelude.{◌≡◌, IfOk};
+ghost use Rattle.cm_tree.specs.BoxedTexts.{boxed_bytes};
 
 use crate::text::Text;
 use std::alloc::{AllocError, Global};
@@ -42,6 +43,14 @@ impl BoxedText {
         })
     }
 
+    /// The box inside, without a copy, or None where there is none: then the text has no bytes.
+    pub fn into_box(self) -> Option<Box<Text>>
+        ensures { boxed_bytes result ≡ self }
+    {
+        let BoxedText { text } = self;
+        text
+    }
+
     /// The text as a string slice.
     pub fn as_str(&self) -> &str
         ensures { result.now ≡ self.now }
@@ -50,6 +59,15 @@ impl BoxedText {
             None => "",
             Some(text) => text.as_str(),
         }
+    }
+}
+
+/// The text in a box, without a copy.
+impl From<Box<Text>> for BoxedText {
+    ghost from_gives = { λ text boxed. boxed ≡ text.value };
+
+    fn from(text: Box<Text>) -> BoxedText {
+        BoxedText { text: Some(text) }
     }
 }
 

@@ -58,6 +58,13 @@ impl Text {
         self.string.push_str(more)
     }
 
+    /// Takes all bytes off, and keeps their memory for others.
+    pub fn clear(&mut self)
+        ensures { self.new ≡ [] }
+    {
+        self.string.clear();
+    }
+
     /// The text as a string slice.
     pub fn as_str(&self) -> &str
         ensures { result.now ≡ self.now }

@@ -46,7 +46,7 @@ push_inline-returns-in_ok-push-in-Made t c =
     ∙ ap (λ token. old ++ inline_of source (node_of made token)) (sym c.in-Made.is)
 
 pub settle_tokens-loop-at-init : goal.settle_tokens-loop-at-init
-settle_tokens-loop-at-init t c = ap (λ done. done ++ settled (items_of c.args.source.now (nodes_of (groups_made c.args.inside.now c.args.groups.now) c.args.tokens.now))) c.in_ok-content.ensures.items
+settle_tokens-loop-at-init t c = ap (λ done. done ++ settled (items_of c.args.source.now (nodes_of (groups_made c.args.inside.now c.args.groups.now) c.args.tokens.now))) c.in_ok-content.ensures
 
 pub settle_tokens-push_texts-requires : goal.settle_tokens-push_texts-requires
 settle_tokens-push_texts-requires t c =

@@ -9,7 +9,7 @@ use Rattle.cm_inline.proofs.tokens.join.Goals as goal
 
 pub loop-at-init : goal.loop-at-init
 loop-at-init c = record {
-  text = ap (λ t. t ++ text_in_front c.args.source.now (nodes_of [] c.args.tokens.now)) c.in_ok-text.ensures.bytes;
+  text = ap (λ t. t ++ text_in_front c.args.source.now (nodes_of [] c.args.tokens.now)) c.in_ok-text.ensures;
   rest = refl;
   placed = c.requires;
 }

@@ -1,0 +1,186 @@
+//! Memory of inlines that were let go of, which serves for the next ones.
+ghost use Rattle.std.specs.Prelude.{◌≡◌, [], ◌∷◌, string_bytes, IfOk, IfSome};
+ghost use Rattle.cm_tree.specs.declared.tree.Inline.TheVariants.{Text as text_inline};
+
+use cm_tree::{Block, BoxedText, Inline, Items, Text};
+use std::alloc::{AllocError, Global};
+use std::mem;
+
+/// Texts and lists of inlines that were let go of.
+#[derive(Drop)]
+pub(crate) struct Room {
+    alloc: Global,
+    texts: Vec<String>,
+    boxes: Vec<Box<Text>>,
+    lists: Vec<Vec<Inline>>,
+}
+
+impl Room {
+    /// Nothing was let go of. It takes no memory.
+    pub(crate) fn new(alloc: Global) -> Room {
+        Room {
+            alloc,
+            texts: Vec::new(alloc),
+            boxes: Vec::new(alloc),
+            lists: Vec::new(alloc),
+        }
+    }
+
+    /// The allocator.
+    pub(crate) fn alloc(&self) -> Global {
+        self.alloc
+    }
+
+    /// A string of no bytes in the memory of a text, if one is left.
+    pub(crate) fn string(&mut self) -> Option<String>
+        ensures { IfSome result (λ string. string_bytes string ≡ []) }
+    {
+        match self.texts.pop() {
+            Some(mut text) => {
+                text.clear();
+                Some(text)
+            }
+            None => None,
+        }
+    }
+
+    /// A string of no bytes in such memory, or else with room for so many.
+    pub(crate) fn string_for(&mut self, size: usize) -> Result<String, AllocError>
+        ensures { IfOk result (λ string. string_bytes string ≡ []) }
+    {
+        match self.string() {
+            Some(string) => Ok(string),
+            None => String::with_capacity(self.alloc, size),
+        }
+    }
+
+    /// A list of no inlines in the memory of one, if one is left.
+    pub(crate) fn list(&mut self) -> Option<Vec<Inline>>
+        ensures { IfSome result (λ list. list.items ≡ []) }
+    {
+        match self.lists.pop() {
+            Some(mut list) => {
+                list.clear();
+                Some(list)
+            }
+            None => None,
+        }
+    }
+
+    /// A copy of a text.
+    pub(crate) fn text(&mut self, text: &str) -> Result<Text, AllocError>
+        ensures { IfOk result (λ copy. copy ≡ text.now) }
+    {
+        let mut copy = self.string_for(text.len())?;
+        copy.push_str(text)?;
+        Ok(Text::from(copy))
+    }
+
+    /// A copy of a text, on the heap.
+    pub(crate) fn boxed(&mut self, text: &str) -> Result<BoxedText, AllocError>
+        ensures { IfOk result (λ boxed. boxed ≡ text.now) }
+    {
+        if text.is_empty() {
+            return BoxedText::new(self.alloc, Text::new(self.alloc));
+        }
+        match self.boxes.pop() {
+            Some(mut copy) => {
+                copy.clear();
+                copy.push_str(text)?;
+                Ok(BoxedText::from(copy))
+            }
+            None => BoxedText::new(self.alloc, Text::from_str(self.alloc, text)?),
+        }
+    }
+
+    /// A text as the one inline of a list.
+    pub(crate) fn one_text(&mut self, text: &str) -> Result<Items<Inline>, AllocError>
+        ensures { IfOk result (λ inlines. inlines ≡ text_inline text.now ∷ []) }
+    {
+        let mut inlines = match self.list() {
+            Some(list) => Items::from(list),
+            None => Items::new(self.alloc),
+        };
+        inlines.push(Inline::Text(self.text(text)?))?;
+        Ok(inlines)
+    }
+
+    /// Keeps the memory of a text. Where there is no room to keep it, it is freed.
+    fn keep_text(&mut self, text: Text) {
+        let _ = self.texts.push(text.into_string());
+    }
+
+    /// Keeps the memory of a text on the heap.
+    fn keep_boxed(&mut self, text: BoxedText) {
+        if let Some(text) = text.into_box() {
+            let _ = self.boxes.push(text);
+        }
+    }
+
+    /// Keeps the memory of inlines.
+    #[cycle(inlines)]
+    pub(crate) fn keep_inlines(&mut self, inlines: Items<Inline>) {
+        let mut list = inlines.into_vec();
+        for inline in list.iter_mut() {
+            self.keep_inline(mem::replace(inline, Inline::Soft));
+        }
+        let _ = self.lists.push(list);
+    }
+
+    /// Keeps the memory of an inline.
+    #[cycle(inlines)]
+    pub(crate) fn keep_inline(&mut self, inline: Inline) {
+        match inline {
+            Inline::Text(text) => self.keep_text(text),
+            Inline::Code(text) => self.keep_text(text),
+            Inline::Html(text) => self.keep_text(text),
+            Inline::Soft => {}
+            Inline::Hard => {}
+            Inline::Emph(content) => self.keep_inlines(content),
+            Inline::Strong(content) => self.keep_inlines(content),
+            Inline::Strike(content) => self.keep_inlines(content),
+            Inline::Link {
+                dest,
+                title,
+                content,
+            } => {
+                self.keep_boxed(dest);
+                self.keep_boxed(title);
+                self.keep_inlines(content);
+            }
+            Inline::Image {
+                dest,
+                title,
+                content,
+            } => {
+                self.keep_boxed(dest);
+                self.keep_boxed(title);
+                self.keep_inlines(content);
+            }
+        }
+    }
+
+    /// Keeps the memory of the inlines in blocks.
+    #[cycle(blocks)]
+    fn keep_blocks(&mut self, blocks: Items<Block>) {
+        for block in blocks.into_vec() {
+            self.keep_block(block);
+        }
+    }
+
+    /// Keeps the memory of the inlines in a block.
+    #[cycle(blocks)]
+    pub(crate) fn keep_block(&mut self, block: Block) {
+        match block {
+            Block::Paragraph(content) => self.keep_inlines(content),
+            Block::Heading { content, .. } => self.keep_inlines(content),
+            Block::Quote(blocks) => self.keep_blocks(blocks),
+            Block::List { items, .. } => {
+                for item in items.into_vec() {
+                    self.keep_blocks(item);
+                }
+            }
+            _ => {}
+        }
+    }
+}
