@@ -1,5 +1,5 @@
 -- How deep the inlines that nodes come to nest.
-use Rattle.std.proofs.Common.{◌≡◌, ℕ, ◌+◌, true, false, List, [], ◌∷◌, ◌++◌, codes, refl, sym, ap, ◌∙◌, arith, max}
+use Rattle.std.proofs.Common.{◌≡◌, ℕ, ◌+◌, ◌≤◌, true, false, List, [], ◌∷◌, ◌++◌, codes, refl, sym, ap, ◌∙◌, arith, max}
 use Rattle.std.specs.Prelude.{if◌then◌else◌, ◌==◌, Bool}
 use Rattle.cm_tree.specs.declared.tree.Inline.{Inline}
 use Rattle.cm_tree.specs.declared.tree.Inline.TheVariants.{Text, Code, Html, Soft, Hard, Emph, Strong, Strike, Link}
@@ -91,3 +91,11 @@ settled-after source text (Finished inline depth true ∷ nodes) parts =
 -- the inlines nest as deep as the nodes that they come of
 pub settled-depth : (source : List ℕ) (nodes : List Node) → AreParts source nodes → inlines_depth (settled (items_of source nodes)) ≡ nodes_depth nodes
 settled-depth source nodes parts = settled-after source [] nodes parts
+
+-- inlines with one more behind them
+pub one-more-depth : (inlines all : List Inline) (last : Inline) → all ≡ inlines ++ last ∷ [] → (inlines_depth inlines ≤ inlines_depth all) × (depth_of last ≤ inlines_depth all)
+one-more-depth inlines all last is = let both = after inlines in let same = ap inlines_depth is in (omega (arith, both, same), omega (arith, both, same))
+  where
+    after : (inlines : List Inline) → inlines_depth (inlines ++ last ∷ []) ≡ max (inlines_depth inlines) (depth_of last)
+    after [] = omega arith
+    after (i ∷ is) = omega (arith, after is)

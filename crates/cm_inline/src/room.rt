@@ -4,7 +4,6 @@ ghost use Rattle.cm_tree.specs.declared.tree.Inline.TheVariants.{Text as text_in
 
 use cm_tree::{Block, BoxedText, Inline, Items, Text};
 use std::alloc::{AllocError, Global};
-use std::mem;
 
 /// Texts and lists of inlines that were let go of.
 #[derive(Drop)]
@@ -121,8 +120,8 @@ impl Room {
     #[cycle(inlines)]
     pub(crate) fn keep_inlines(&mut self, inlines: Items<Inline>) {
         let mut list = inlines.into_vec();
-        for inline in list.iter_mut() {
-            self.keep_inline(mem::replace(inline, Inline::Soft));
+        while let Some(inline) = list.pop() {
+            self.keep_inline(inline);
         }
         let _ = self.lists.push(list);
     }
