@@ -105,7 +105,7 @@ impl Room {
     }
 
     /// Keeps the memory of a text. Where there is no room to keep it, it is freed.
-    fn keep_text(&mut self, text: Text) {
+    pub(crate) fn keep_text(&mut self, text: Text) {
         let _ = self.texts.push(text.into_string());
     }
 

@@ -184,7 +184,9 @@ pub(crate) fn push_texts(
     ensures pushed { OnOk result (content.new.items ≡ content.old.items ++ text_before (text_in_front source.now (nodes_of [] tokens.now)) []) }
 {
     let (text, count) = join(room, source, tokens)?;
-    if !text.is_empty() {
+    if text.is_empty() {
+        room.keep_text(text);
+    } else {
         content.push(Inline::Text(text))?;
     }
     Ok(count)

@@ -40,8 +40,10 @@ fn texts(rt: HostRuntime) -> Result<(), Fail> {
     text.push_str("\u{E9}")?;
     assert!(rt; was_empty && text.len() == 2 && text.as_str() == "\u{E9}");
     assert!(rt; text.ends_with('\u{E9}') && text == Text::from_str(alloc, "\u{E9}")?);
+    let mut cleared = text.clone()?;
+    cleared.clear();
     let string = text.into_string();
-    assert!(rt; string.as_str() == "\u{E9}");
+    assert!(rt; string.as_str() == "\u{E9}" && cleared.is_empty());
     Ok(())
 }
 
@@ -52,5 +54,7 @@ fn boxed_texts(rt: HostRuntime) -> Result<(), Fail> {
     let boxed = BoxedText::new(alloc, text.clone()?)?;
     let copy = boxed.clone()?;
     assert!(rt; boxed.as_str() == "\u{E9}" && boxed == copy && text.as_str() == boxed.as_str());
+    let again = copy.into_box().map(BoxedText::from);
+    assert!(rt; again.is_some_and(|text| text.as_str() == "\u{E9}"));
     Ok(())
 }
