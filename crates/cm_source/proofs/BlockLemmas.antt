@@ -32,13 +32,13 @@ module _ (mark further : List ℕ) (outer : List (List ℕ) → List (List ℕ))
   abbrev pub IsSome : Type 0
   IsSome = (lines : List (List ℕ)) → (line : List ℕ) × (rest : List (List ℕ)) × (outer lines ≡ line ∷ rest)
 
-  pub container-writes : (one two three four : Source) (kept : List ℕ) (lines : List (List ℕ)) → Marks → IsSome → Enters one two mark further → Writes two three lines → Leaves three four kept → kept ≡ string_bytes one.front → Writes one four (outer lines)
+  pub container-writes : (one two three four : Source) (kept : ℕ) (lines : List (List ℕ)) → Marks → IsSome → Enters one two mark further → Writes two three lines → Leaves three four kept → kept ≡ length (string_bytes one.front) → Writes one four (outer lines)
   container-writes one two three four kept lines marks some enters writes leaves same begun done first front is =
       let (line, rest, e) = some lines in
       let inside = writes true done (first ++ mark) (front ++ further) (enters begun done first front is) in
-      let left = leaves done (first ++ mark) (front ++ further) lines inside in
+      let left = leaves done (first ++ mark) front further lines (same ∙ ap length is.front_is) inside in
       let place = ap (λ t. done ++ t) (marks first front lines) in
-      let after = subst (λ t. IsBetween four false t front front) place (subst (λ p. IsBetween four false (done ++ all_lines (first ++ mark) (front ++ further) (or_empty_line lines)) p p) (same ∙ is.front_is) left) in
+      let after = subst (λ t. IsBetween four false t front front) place left in
       subst (λ t. IsBetween four (next_begun begun t) (done ++ all_lines first front (outer lines)) (next_front first front t) front) (sym e) after
 
 -- a quote
@@ -128,10 +128,10 @@ is-mark Star = byte-mark 42 (codes "*") refl refl
 is-mark (Dot start) = number-mark start 46 refl
 is-mark (Paren start) = number-mark start 41 refl
 
-pub quote-writes : (one two three four : Source) (kept : List ℕ) (lines : List (List ℕ)) → Enters one two (codes "> ") (codes "> ") → Writes two three lines → Leaves three four kept → kept ≡ string_bytes one.front → Writes one four (quote_lines lines)
+pub quote-writes : (one two three four : Source) (kept : ℕ) (lines : List (List ℕ)) → Enters one two (codes "> ") (codes "> ") → Writes two three lines → Leaves three four kept → kept ≡ length (string_bytes one.front) → Writes one four (quote_lines lines)
 quote-writes one two three four kept lines = container-writes (codes "> ") (codes "> ") quote_lines one two three four kept lines quote-marks quote-some
 
-pub item-writes : (one two three four : Source) (kept : List ℕ) (kind : ListKind) (lines : List (List ℕ)) → Enters one two (marker kind ++ codes " ") (replicate (length (marker kind) + 1) 32) → Writes two three lines → Leaves three four kept → kept ≡ string_bytes one.front
+pub item-writes : (one two three four : Source) (kept : ℕ) (kind : ListKind) (lines : List (List ℕ)) → Enters one two (marker kind ++ codes " ") (replicate (length (marker kind) + 1) 32) → Writes two three lines → Leaves three four kept → kept ≡ length (string_bytes one.front)
     → Writes one four (item_lines (marker kind) lines)
 item-writes one two three four kept kind lines =
     container-writes (marker kind ++ codes " ") (replicate (length (marker kind) + 1) 32) (item_lines (marker kind)) one two three four kept lines (item-marks (marker kind) (is-mark kind)) (item-some (marker kind))

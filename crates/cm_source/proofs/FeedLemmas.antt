@@ -76,6 +76,6 @@ pub ended-rest : (text : List ℕ) → (length text == 0) ≡ false → has_feed
 ended-rest [] e none = absurd (cc e)
 ended-rest (b ∷ bs) e none = ended-last b bs none
 
-pub marks-without : (n : ℕ) → has_feed (replicate n 96) ≡ false
-marks-without zero = refl
-marks-without (suc n) = marks-without n
+pub marks-without : (mark n : ℕ) → (mark == 10) ≡ false → has_feed (replicate n mark) ≡ false
+marks-without mark zero other = refl
+marks-without mark (suc n) other = ap (λ v. v || has_feed (replicate n mark)) other ∙ marks-without mark n other

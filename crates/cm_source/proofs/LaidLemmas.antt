@@ -226,15 +226,24 @@ enters one two new mark further begins text line same front_is begun done first 
       ended = inside.ended;
     }
 
--- and left
-pub leaves-begun : (old mid new : Source) (front : List ℕ) → old.begun ≡ true → Ends old mid → string_bytes new.text ≡ string_bytes mid.text → new.begun ≡ mid.begun → string_bytes new.front ≡ front → Leaves old new front
-leaves-begun old mid new front some ends text same front_is done first inner [] is =
-    let inside = begun-already old some true (done ++ []) first inner is in
-    let after = ends (record { done = done ++ []; first = first; last = [] }) inner inside in
-    let place = ap (λ t. (t ++ behind first []) ++ 10 ∷ []) (append-nil done) ∙ append_assoc done (behind first []) (10 ∷ []) in
-    record { begun_is = same ∙ after.begun_is; stands = (text ∙ after.stands.0 ∙ place, refl); front_is = front_is; ended = subst IsEnded place after.ended }
-leaves-begun old mid new front some ends text same front_is done first inner (line ∷ lines) is = absurd (cc (sym some ∙ is.begun_is))
+-- and left: what stands in front of further lines is cut back to what did before
+cut-back : (mid new : Source) (front : ℕ) (done outer further : List ℕ) → front ≡ length outer → string_bytes new.text ≡ string_bytes mid.text → new.begun ≡ mid.begun → string_bytes new.front ≡ take front (string_bytes mid.front)
+    → IsBetween mid false done (outer ++ further) (outer ++ further) → IsBetween new false done outer outer
+cut-back mid new front done outer further long text same cut is = record {
+  begun_is = same ∙ is.begun_is;
+  stands = (text ∙ is.stands.0, refl);
+  front_is = cut ∙ ap (take front) is.front_is ∙ ap (λ n. take n (outer ++ further)) long ∙ take-append_seam outer further;
+  ended = is.ended;
+}
 
-pub leaves-ended : (old new : Source) (front : List ℕ) → old.begun ≡ false → string_bytes new.text ≡ string_bytes old.text → new.begun ≡ old.begun → string_bytes new.front ≡ front → Leaves old new front
-leaves-ended old new front none text same front_is done first inner [] is = absurd (cc (sym none ∙ is.begun_is))
-leaves-ended old new front none text same front_is done first inner (line ∷ lines) is = record { begun_is = same ∙ none; stands = (text ∙ is.stands.0, refl); front_is = front_is; ended = is.ended }
+pub leaves-begun : (old mid new : Source) (front : ℕ) → old.begun ≡ true → Ends old mid → string_bytes new.text ≡ string_bytes mid.text → new.begun ≡ mid.begun → string_bytes new.front ≡ take front (string_bytes mid.front) → Leaves old new front
+leaves-begun old mid new front some ends text same cut done first outer further [] long is =
+    let inside = begun-already old some true (done ++ []) first (outer ++ further) is in
+    let place = ap (λ t. (t ++ behind first []) ++ 10 ∷ []) (append-nil done) ∙ append_assoc done (behind first []) (10 ∷ []) in
+    let after = ends (record { done = done ++ []; first = first; last = [] }) (outer ++ further) inside in
+    cut-back mid new front (done ++ (behind first [] ++ 10 ∷ [])) outer further long text same cut (subst (λ t. IsBetween mid false t (outer ++ further) (outer ++ further)) place after)
+leaves-begun old mid new front some ends text same cut done first outer further (line ∷ lines) long is = absurd (cc (sym some ∙ is.begun_is))
+
+pub leaves-ended : (old new : Source) (front : ℕ) → old.begun ≡ false → string_bytes new.text ≡ string_bytes old.text → new.begun ≡ old.begun → string_bytes new.front ≡ take front (string_bytes old.front) → Leaves old new front
+leaves-ended old new front none text same cut done first outer further [] long is = absurd (cc (sym none ∙ is.begun_is))
+leaves-ended old new front none text same cut done first outer further (line ∷ lines) long is = cut-back old new front (done ++ all_lines first (outer ++ further) (line ∷ lines)) outer further long text same cut is

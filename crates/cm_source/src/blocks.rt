@@ -9,7 +9,7 @@ use crate::inlines::{spell_inlines, spell_text};
 use crate::source::Source;
 use crate::texts::longest_run;
 use cm_tree::{Block, Inline, ListKind};
-use std::alloc::{AllocError, Global};
+use std::alloc::AllocError;
 
 /// Spells a paragraph.
 fn spell_paragraph(source: &mut Source, content: &[Inline]) -> Result<(), AllocError>
@@ -74,7 +74,6 @@ pub(crate) fn spell_gap(source: &mut Source, apart: bool) -> Result<(), AllocErr
 /// Spells blocks, with an empty line between two or none.
 #[cycle(blocks)]
 pub(crate) fn spell_blocks(
-    alloc: Global,
     source: &mut Source,
     blocks: &[Block],
     apart: bool,
@@ -84,7 +83,7 @@ pub(crate) fn spell_blocks(
     let mut gap = false;
     for block in blocks {
         spell_gap(source, gap)?;
-        spell_block(alloc, source, block)?;
+        spell_block(source, block)?;
         gap = apart;
     }
     Ok(())
@@ -92,11 +91,7 @@ pub(crate) fn spell_blocks(
 
 /// Spells a block.
 #[cycle(blocks)]
-pub(crate) fn spell_block(
-    alloc: Global,
-    source: &mut Source,
-    block: &Block,
-) -> Result<(), AllocError>
+pub(crate) fn spell_block(source: &mut Source, block: &Block) -> Result<(), AllocError>
     ensures { OnOk result (Writes source.old source.new (lines_of_block block.now)) }
 {
     match block {
@@ -106,12 +101,12 @@ pub(crate) fn spell_block(
         Block::Html { text } => source.push_ended_lines(text.as_str()),
         Block::Break => source.push_line("___"),
         Block::Definition { .. } => Ok(()),
-        Block::Quote(blocks) => spell_quote(alloc, source, blocks.as_slice()),
+        Block::Quote(blocks) => spell_quote(source, blocks.as_slice()),
         Block::List { kind, tight, items } => {
             let mut gap = false;
             for item in items.as_slice() {
                 spell_gap(source, gap)?;
-                spell_item(alloc, source, *kind, *tight, item.as_slice())?;
+                spell_item(source, *kind, *tight, item.as_slice())?;
                 gap = !*tight;
             }
             Ok(())
@@ -121,18 +116,17 @@ pub(crate) fn spell_block(
 
 /// Spells a quote.
 #[cycle(blocks)]
-fn spell_quote(alloc: Global, source: &mut Source, blocks: &[Block]) -> Result<(), AllocError>
+fn spell_quote(source: &mut Source, blocks: &[Block]) -> Result<(), AllocError>
     ensures { OnOk result (Writes source.old source.new (quote_lines (lines_of_blocks true blocks.now))) }
 {
-    let front = source.enter_quote(alloc)?;
-    spell_blocks(alloc, source, blocks, true)?;
+    let front = source.enter_quote()?;
+    spell_blocks(source, blocks, true)?;
     source.leave(front)
 }
 
 /// Spells an item.
 #[cycle(blocks)]
 fn spell_item(
-    alloc: Global,
     source: &mut Source,
     kind: ListKind,
     tight: bool,
@@ -140,7 +134,7 @@ fn spell_item(
 ) -> Result<(), AllocError>
     ensures { OnOk result (Writes source.old source.new (item_lines (marker kind) (lines_of_blocks (not tight) blocks.now))) }
 {
-    let front = source.enter_item(alloc, kind)?;
-    spell_blocks(alloc, source, blocks, !tight)?;
+    let front = source.enter_item(kind)?;
+    spell_blocks(source, blocks, !tight)?;
     source.leave(front)
 }

@@ -1,8 +1,8 @@
 //! The source so far, line by line.
 ghost use Rattle.std.specs.Prelude.{◌≡◌, ◌≢◌, ◌==◌, ◌<◌, ℕ, [], ◌∷◌, false, length, replicate, position, ◌+◌, ◌++◌, codes, string_bytes, IfOk, OnOk};
 ghost use Rattle.std.specs.List.{list_any};
+ghost use Rattle.std.specs.Str.{IsAscii};
 ghost use Rattle.cm_scan.specs.Words.{trim_end_spaces};
-ghost use Rattle.cm_source.specs.steps.Laid.{IsBetween, BeginsLine, Ends, Lays, Writes, Enters, Leaves};
 ghost use Rattle.cm_source.specs.Spelling.{ended_lines, marker};
 
 use crate::search::find_byte;
@@ -10,7 +10,6 @@ use cm_scan::trim_end_spaces;
 use cm_text::cut_at;
 use cm_tree::ListKind;
 use std::alloc::{AllocError, Global};
-use std::mem;
 
 /// Where the first line feed stands.
 pub(crate) fn find_feed(bytes: &[u8]) -> Option<usize>
@@ -19,26 +18,16 @@ pub(crate) fn find_feed(bytes: &[u8]) -> Option<usize>
     find_byte(b'\n', bytes)
 }
 
-/// A text with so many spaces behind it.
-fn with_spaces(alloc: Global, text: &str, count: usize) -> Result<String, AllocError>
-    ensures { IfOk result (λ out. string_bytes out ≡ text.now ++ replicate count 32) }
+/// Writes a character so many times.
+fn push_repeated(out: &mut String, mark: char, count: usize) -> Result<(), AllocError>
+    requires { mark < 128 }
+    ensures written { OnOk result (string_bytes out.new ≡ string_bytes out.old ++ replicate count mark) }
+    ensures ascii { IsAscii (string_bytes out.old) → IsAscii (string_bytes out.new) }
 {
-    let mut out = String::new(alloc);
-    out.push_str(text)?;
     for _ in 0..count {
-        out.push_str(" ")?;
+        out.push(mark)?;
     }
-    Ok(out)
-}
-
-/// A text with the mark of a quote behind it.
-fn with_quote_mark(alloc: Global, text: &str) -> Result<String, AllocError>
-    ensures { IfOk result (λ out. string_bytes out ≡ text.now ++ codes "> ") }
-{
-    let mut out = String::new(alloc);
-    out.push_str(text)?;
-    out.push_str("> ")?;
-    Ok(out)
+    Ok(())
 }
 
 /// Writes the marker of an item and a space, and answers how many bytes they are.
@@ -69,15 +58,18 @@ fn strip_end(text: &mut String)
 #[derive(Drop)]
 pub(crate) struct Source {
     pub(crate) text: String,
-    /// What stands in front of each further line.
+    /// What stands in front of each further line: marks of quotes, and spaces.
     pub(crate) front: String,
     /// Whether the last line has begun.
     pub(crate) begun: bool,
     /// Where its content begins then.
     pub(crate) line: usize,
+    pub(crate) ghost ascii: { IsAscii (string_bytes front) },
 }
 
 impl Source {
+    ghost use Rattle.cm_source.specs.steps.Laid.{IsBetween, BeginsLine, Ends, Lays, Writes, Enters, Leaves};
+
     /// No line.
     pub(crate) fn new(alloc: Global) -> Source
         ensures { IsBetween result false [] [] [] }
@@ -153,10 +145,7 @@ impl Source {
         requires one_line { mark ≢ 10 }
         ensures { OnOk result (Lays self.old self.new (replicate count mark)) }
     {
-        for _ in 0..count {
-            self.text.push(mark)?;
-        }
-        Ok(())
+        push_repeated(&mut self.text, mark, count)
     }
 
     /// Writes an empty line.
@@ -193,38 +182,40 @@ impl Source {
         self.end_line()
     }
 
-    /// Enters a quote, and gives what stood in front of further lines.
-    pub(crate) fn enter_quote(&mut self, alloc: Global) -> Result<String, AllocError>
+    /// Enters a quote, and answers how many bytes stood in front of further lines before.
+    pub(crate) fn enter_quote(&mut self) -> Result<usize, AllocError>
         ensures enters { OnOk result (Enters self.old self.new (codes "> ") (codes "> ")) }
-        ensures front { IfOk result (λ front. string_bytes front ≡ string_bytes self.old.front) }
+        ensures front { IfOk result (λ front. front ≡ length (string_bytes self.old.front)) }
     {
         self.begin_line()?;
         self.text.push_str("> ")?;
         self.line = self.text.len();
-        let front = with_quote_mark(alloc, &self.front)?;
-        Ok(mem::replace(&mut self.front, front))
+        let front = self.front.len();
+        self.front.push_str("> ")?;
+        Ok(front)
     }
 
-    /// Enters an item, and gives what stood in front of further lines.
-    pub(crate) fn enter_item(&mut self, alloc: Global, kind: ListKind) -> Result<String, AllocError>
+    /// Enters an item, and answers how many bytes stood in front of further lines before.
+    pub(crate) fn enter_item(&mut self, kind: ListKind) -> Result<usize, AllocError>
         ensures enters { OnOk result (Enters self.old self.new (marker kind ++ codes " ") (replicate (length (marker kind) + 1) 32)) }
-        ensures front { IfOk result (λ front. string_bytes front ≡ string_bytes self.old.front) }
+        ensures front { IfOk result (λ front. front ≡ length (string_bytes self.old.front)) }
     {
         self.begin_line()?;
         let width = push_marker(&mut self.text, kind)?;
         self.line = self.text.len();
-        let front = with_spaces(alloc, &self.front, width)?;
-        Ok(mem::replace(&mut self.front, front))
+        let front = self.front.len();
+        push_repeated(&mut self.front, ' ', width)?;
+        Ok(front)
     }
 
-    /// Leaves a container, in front of whose further lines this stood.
-    pub(crate) fn leave(&mut self, front: String) -> Result<(), AllocError>
-        ensures { OnOk result (Leaves self.old self.new (string_bytes front)) }
+    /// Leaves a container, before which so many bytes stood in front of further lines.
+    pub(crate) fn leave(&mut self, front: usize) -> Result<(), AllocError>
+        ensures { OnOk result (Leaves self.old self.new front) }
     {
         if self.begun {
             self.end_line()?;
         }
-        self.front = front;
+        self.front.truncate(front);
         Ok(())
     }
 }

@@ -26,7 +26,7 @@ fn spelling(alloc: Global, blocks: &[Block]) -> Result<String, NoMemory>
     ensures { IfOk result (λ text. string_bytes text ≡ spelling_of blocks.now) }
 {
     let mut source = Source::new(alloc);
-    spell_blocks(alloc, &mut source, blocks, true)?;
+    spell_blocks(&mut source, blocks, true)?;
     Ok(source.text)
 }
 
@@ -62,7 +62,6 @@ pub fn spell_by(alloc: Global, rules: Rules, blocks: &[Block]) -> Result<String,
 /// `b`, are finished as `a`, an empty line, and `b`.
 #[derive(Drop)]
 pub struct Speller {
-    alloc: Global,
     rules: Rules,
     source: Source,
     /// What the next block sees of the last one.
@@ -75,7 +74,6 @@ impl Speller {
         ensures { StandsFor rules result [] }
     {
         Speller {
-            alloc,
             rules,
             source: Source::new(alloc),
             before: None,
@@ -109,7 +107,7 @@ impl Speller {
         ensures rules { self.new.rules ≡ self.old.rules }
     {
         spell_gap(&mut self.source, self.before.is_some())?;
-        spell_block(self.alloc, &mut self.source, block)?;
+        spell_block(&mut self.source, block)?;
         self.before = Some(face_of(block));
         Ok(())
     }

@@ -89,7 +89,7 @@ or_empty_line [] = [] ∷ []
 or_empty_line (line ∷ lines) = line ∷ lines
 
 -- A container whose first line had begun is left: if no line of it was ended, an empty one is. In front of further lines stands again
--- what did before.
-abbrev pub Leaves : Source → Source → (front : List ℕ) → Type 0
-Leaves old new front = (done first inner : List ℕ) (lines : List (List ℕ)) → IsBetween old (next_begun true lines) (done ++ all_lines first inner lines) (next_front first inner lines) inner
-    → IsBetween new false (done ++ all_lines first inner (or_empty_line lines)) front front
+-- what did before, which was so many bytes.
+abbrev pub Leaves : Source → Source → (front : ℕ) → Type 0
+Leaves old new front = (done first outer further : List ℕ) (lines : List (List ℕ)) → front ≡ length outer → IsBetween old (next_begun true lines) (done ++ all_lines first (outer ++ further) lines) (next_front first (outer ++ further) lines) (outer ++ further)
+    → IsBetween new false (done ++ all_lines first (outer ++ further) (or_empty_line lines)) outer outer

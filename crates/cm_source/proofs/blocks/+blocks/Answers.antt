@@ -1,6 +1,5 @@
 use Rattle.std.proofs.Common.{◌+◌, true, not, ◌∷◌, ◌++◌, map, drop, sym, ap, subst, ◌∙◌, append_assoc, append-nil}
 use Rattle.std.proofs.lemmas.List.{drop_more, drop_all}
-use Rattle.std.specs.Prelude.{string_bytes}
 use Rattle.cm_source.specs.Spelling.{gap, marker, item_lines, lines_of_block, lines_of_blocks}
 use Rattle.cm_source.specs.steps.Laid.{Writes}
 use Rattle.cm_source.proofs.LaidLemmas.{then-ok, writes-then}
@@ -10,11 +9,11 @@ use Rattle.cm_source.proofs.blocks.+blocks.Goals as goal
 
 pub spell_quote-returns : goal.spell_quote-returns
 spell_quote-returns t c =
-    then-ok c.leave.result (λ left. quote-writes c.args.source.now c.enter_quote.new.self c.spell_blocks.new.source c.leave.new.self (string_bytes c.in_ok-front.front) (lines_of_blocks true c.args.blocks.now) c.in_ok-front.ensures.enters c.in_ok-spell_blocks.ensures left c.in_ok-front.ensures.front) c.leave.ensures
+    then-ok c.leave.result (λ left. quote-writes c.args.source.now c.enter_quote.new.self c.spell_blocks.new.source c.leave.new.self c.in_ok-front.front (lines_of_blocks true c.args.blocks.now) c.in_ok-front.ensures.enters c.in_ok-spell_blocks.ensures left c.in_ok-front.ensures.front) c.leave.ensures
 
 pub spell_item-returns : goal.spell_item-returns
 spell_item-returns t c =
-    then-ok c.leave.result (λ left. item-writes c.args.source.now c.enter_item.new.self c.spell_blocks.new.source c.leave.new.self (string_bytes c.in_ok-front.front) c.args.kind (lines_of_blocks (not c.args.tight) c.args.blocks.now) c.in_ok-front.ensures.enters c.in_ok-spell_blocks.ensures left c.in_ok-front.ensures.front) c.leave.ensures
+    then-ok c.leave.result (λ left. item-writes c.args.source.now c.enter_item.new.self c.spell_blocks.new.source c.leave.new.self c.in_ok-front.front c.args.kind (lines_of_blocks (not c.args.tight) c.args.blocks.now) c.in_ok-front.ensures.enters c.in_ok-spell_blocks.ensures left c.in_ok-front.ensures.front) c.leave.ensures
 
 pub spell_blocks-loop-block-preserved : goal.spell_blocks-loop-block-preserved
 spell_blocks-loop-block-preserved t c =

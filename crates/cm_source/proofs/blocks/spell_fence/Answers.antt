@@ -1,4 +1,4 @@
-use Rattle.std.proofs.Common.{ℕ, List, true, ◌++◌, replicate, subst}
+use Rattle.std.proofs.Common.{ℕ, List, true, ◌++◌, replicate, refl, subst}
 use Rattle.cm_source.specs.Texts.{spelled_text}
 use Rattle.cm_source.specs.steps.Laid.{Writes}
 use Rattle.cm_source.proofs.FeedLemmas.{both-without, marks-without}
@@ -15,5 +15,5 @@ returns c =
     let end = c.end_line.new.self in
     let marks : List ℕ = replicate c.args.marks 96 in
     let info = spelled_text true true c.args.info.now in
-    then-ok c.end_line.result (λ ends. subst (Writes start end) (parted-one (marks ++ info) (both-without marks info (marks-without c.args.marks) (text-without true true c.args.info.now)))
+    then-ok c.end_line.result (λ ends. subst (Writes start end) (parted-one (marks ++ info) (both-without marks info (marks-without 96 c.args.marks refl) (text-without true true c.args.info.now)))
     (writes-content start one three end (marks ++ info) c.in_ok-begin_line.ensures.begins (lays-then one two three marks info c.in_ok-push_marks.ensures c.in_ok-spell_text.ensures) ends)) c.end_line.ensures

@@ -1,4 +1,4 @@
-use Rattle.std.proofs.Common.{refl, ap}
+use Rattle.std.proofs.Common.{take, ap, ◌∙◌}
 use Rattle.std.specs.Prelude.{string_bytes}
 use Rattle.cm_source.specs.declared.source.Source.{Source}
 use Rattle.cm_source.proofs.LaidLemmas.{leaves-begun, leaves-ended}
@@ -8,9 +8,10 @@ use Rattle.cm_source.proofs.source.Source.leave.Goals as goal
 pub returns : goal.returns
 returns c =
     let old = c.args.self.now in
-    let front = string_bytes c.args.front in
+    let front = c.args.front in
+    let cut = c.truncate.ensures.bytes in
     elim c.if-self.branch [
       | then-self+in_ok-end_line w ↦
-          leaves-begun old w.end_line.new.self _ front w.if-self.true w.in_ok-end_line.ensures (ap (λ (s : Source). string_bytes s.text) w.self-is) (ap (λ (s : Source). s.begun) w.self-is) refl
-      | else-self w ↦ leaves-ended old _ front w.if-self.false (ap (λ (s : Source). string_bytes s.text) w.self-is) (ap (λ (s : Source). s.begun) w.self-is) refl
+          leaves-begun old w.end_line.new.self _ front w.if-self.true w.in_ok-end_line.ensures (ap (λ (s : Source). string_bytes s.text) w.self-is) (ap (λ (s : Source). s.begun) w.self-is) (cut ∙ ap (λ (s : Source). take front (string_bytes s.front)) w.self-is)
+      | else-self w ↦ leaves-ended old _ front w.if-self.false (ap (λ (s : Source). string_bytes s.text) w.self-is) (ap (λ (s : Source). s.begun) w.self-is) (cut ∙ ap (λ (s : Source). take front (string_bytes s.front)) w.self-is)
     ]
