@@ -1,10 +1,9 @@
 -- The first place that the kit's search answers is where a byte first stands in a text, and there is one just where the byte stands there.
-use Rattle.std.proofs.Common.{◌≡◌, ℕ, ◌+◌, min, Bool, true, false, not, cond, ◌||◌, List, [], ◌∷◌, nat_lt, Option, Some, None, length, get_or, refl, sym, ap, arith}
+use Rattle.std.proofs.Common.{◌≡◌, ℕ, ◌+◌, Bool, true, false, not, cond, ◌||◌, List, [], ◌∷◌, nat_lt, Option, Some, None, length, get_or, refl, sym, ap, arith}
 use Rattle.std.specs.List.{list_any, position, position_or_len}
 use Rattle.std.specs.Option.{is_some}
 use Rattle.std.proofs.lemmas.List.Sums.{position_or_len_is}
 use Rattle.memchr.specs.Find.{IsFirstByte}
-use Rattle.cm_text.specs.Search.{next_place}
 
 is-false : (b : Bool) → (b ≡ true → ⊥) → b ≡ false
 is-false true h = absurd (h refl)
@@ -25,15 +24,5 @@ found-any p (b ∷ bs) = go (p b) (found-any p bs)
   where
     go : (passes : Bool) → is_some (position p bs) ≡ list_any p bs
         → is_some (cond (nat_lt (cond (not passes) (1 + position_or_len p bs) 0) (length (b ∷ bs))) (Some (cond (not passes) (1 + position_or_len p bs) 0)) None) ≡ (passes || list_any p bs)
-    go true rest = grind arith
-    go false rest = grind (arith, rest)
-
--- The place of the first byte that passes a test lies in a text just where one passes.
-pub found-within : (p : ℕ → Bool) (bs : List ℕ) → nat_lt (next_place p bs 0) (length bs) ≡ list_any p bs
-found-within p [] = refl
-found-within p (b ∷ bs) = go (p b) (found-within p bs)
-  where
-    go : (passes : Bool) → nat_lt (next_place p bs 0) (length bs) ≡ list_any p bs
-        → nat_lt (min (length (b ∷ bs)) (0 + cond (not passes) (1 + position_or_len p bs) 0)) (length (b ∷ bs)) ≡ (passes || list_any p bs)
     go true rest = grind arith
     go false rest = grind (arith, rest)

@@ -6,7 +6,7 @@ ghost use Rattle.cm_source.specs.Spelling.{ended_lines};
 ghost use Rattle.cm_source.specs.Refusals.{first_line, is_html_block};
 ghost use Rattle.cm_source.specs.steps.HtmlLines.{fits, all_fit};
 
-use crate::source::find_feed;
+use crate::search::find_byte;
 use crate::texts::is_code_text;
 use cm_scan::{HtmlKind, html_end, html_start_by, is_blank_text};
 use cm_text::{Rules, cut_at};
@@ -34,7 +34,7 @@ fn all_fit(kind: HtmlKind, text: &str) -> bool
     ensures { result ≡ all_fit (kind_of kind) (ended_lines text.now) }
 {
     let mut rest = text;
-    while let Some(at) = find_feed(rest.as_bytes()) {
+    while let Some(at) = find_byte(b'\n', rest.as_bytes()) {
         let (line, behind) = cut_at(rest, at);
         if !fits(kind, line, behind.is_empty()) {
             return false;
@@ -48,7 +48,7 @@ fn all_fit(kind: HtmlKind, text: &str) -> bool
 fn first_line(text: &str) -> &str
     ensures { result.now ≡ first_line (ended_lines text.now) }
 {
-    match find_feed(text.as_bytes()) {
+    match find_byte(b'\n', text.as_bytes()) {
         Some(at) => cut_at(text, at).0,
         None => text,
     }

@@ -1,5 +1,5 @@
 //! The source so far, line by line.
-ghost use Rattle.std.specs.Prelude.{◌≡◌, ◌≢◌, ◌==◌, ◌<◌, ℕ, [], ◌∷◌, false, length, replicate, position, ◌+◌, ◌++◌, codes, string_bytes, IfOk, OnOk};
+ghost use Rattle.std.specs.Prelude.{◌≡◌, ◌≢◌, ◌==◌, ◌<◌, ℕ, [], ◌∷◌, false, length, replicate, ◌+◌, ◌++◌, codes, string_bytes, IfOk, OnOk};
 ghost use Rattle.std.specs.List.{list_any};
 ghost use Rattle.std.specs.Str.{IsAscii};
 ghost use Rattle.cm_scan.specs.Words.{trim_end_spaces};
@@ -10,13 +10,6 @@ use cm_scan::trim_end_spaces;
 use cm_text::cut_at;
 use cm_tree::ListKind;
 use std::alloc::{AllocError, Global};
-
-/// Where the first line feed stands.
-pub(crate) fn find_feed(bytes: &[u8]) -> Option<usize>
-    ensures { result ≡ position (λ b. b == 10) bytes.now }
-{
-    find_byte(b'\n', bytes)
-}
 
 /// Writes a character so many times.
 fn push_repeated(out: &mut String, mark: char, count: usize) -> Result<(), AllocError>
@@ -130,7 +123,7 @@ impl Source {
         ensures { OnOk result (Lays self.old self.new text.now) }
     {
         let mut rest = text;
-        while let Some(at) = find_feed(rest.as_bytes()) {
+        while let Some(at) = find_byte(b'\n', rest.as_bytes()) {
             let (line, behind) = cut_at(rest, at);
             self.push(line)?;
             self.break_line()?;
@@ -161,7 +154,7 @@ impl Source {
         ensures { OnOk result (Writes self.old self.new (ended_lines text.now)) }
     {
         let mut rest = text;
-        while let Some(at) = find_feed(rest.as_bytes()) {
+        while let Some(at) = find_byte(b'\n', rest.as_bytes()) {
             let (line, behind) = cut_at(rest, at);
             self.push_line(line)?;
             rest = behind;
