@@ -31,6 +31,7 @@ impl Room {
     }
 
     /// A string of no bytes in the memory of a text, if one is left.
+    #[inline(always)]
     pub(crate) fn string(&mut self) -> Option<String>
         ensures { IfSome result (λ string. string_bytes string ≡ []) }
     {
@@ -44,6 +45,7 @@ impl Room {
     }
 
     /// A string of no bytes in such memory, or else with room for so many.
+    #[inline(always)]
     pub(crate) fn string_for(&mut self, size: usize) -> Result<String, AllocError>
         ensures { IfOk result (λ string. string_bytes string ≡ []) }
     {
@@ -54,6 +56,7 @@ impl Room {
     }
 
     /// A list of no inlines in the memory of one, if one is left.
+    #[inline(always)]
     pub(crate) fn list(&mut self) -> Option<Vec<Inline>>
         ensures { IfSome result (λ list. list.items ≡ []) }
     {
@@ -67,6 +70,7 @@ impl Room {
     }
 
     /// A copy of a text.
+    #[inline(always)]
     pub(crate) fn text(&mut self, text: &str) -> Result<Text, AllocError>
         ensures { IfOk result (λ copy. copy ≡ text.now) }
     {
@@ -105,11 +109,13 @@ impl Room {
     }
 
     /// Keeps the memory of a text. Where there is no room to keep it, it is freed.
+    #[inline(always)]
     pub(crate) fn keep_text(&mut self, text: Text) {
         let _ = self.texts.push(text.into_string());
     }
 
     /// Keeps the memory of a text on the heap.
+    #[inline(always)]
     fn keep_boxed(&mut self, text: BoxedText) {
         if let Some(text) = text.into_box() {
             let _ = self.boxes.push(text);
@@ -127,6 +133,7 @@ impl Room {
     }
 
     /// Keeps the memory of an inline.
+    #[inline(always)]
     #[cycle(inlines)]
     pub(crate) fn keep_inline(&mut self, inline: Inline) {
         match inline {

@@ -11,6 +11,7 @@ use cm_tree::Inline;
 use std::alloc::AllocError;
 
 /// Spells a text.
+#[inline(always)]
 pub(crate) fn spell_text(
     source: &mut Source,
     text: &str,

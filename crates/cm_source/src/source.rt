@@ -76,6 +76,7 @@ impl Source {
     }
 
     /// Begins a line, unless one has begun.
+    #[inline(always)]
     pub(crate) fn begin_line(&mut self) -> Result<(), AllocError>
         ensures begins { OnOk result (BeginsLine self.old self.new) }
         ensures same { self.new.front ≡ self.old.front }
@@ -91,6 +92,7 @@ impl Source {
     }
 
     /// Ends the line that has begun. In front of an empty one no spaces stand at the end.
+    #[inline(always)]
     pub(crate) fn end_line(&mut self) -> Result<(), AllocError>
         ensures { OnOk result (Ends self.old self.new) }
     {
@@ -103,6 +105,7 @@ impl Source {
     }
 
     /// Ends a line and begins the next one.
+    #[inline(always)]
     pub(crate) fn break_line(&mut self) -> Result<(), AllocError>
         ensures { OnOk result (Lays self.old self.new (10 ∷ [])) }
     {

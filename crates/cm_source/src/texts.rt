@@ -77,14 +77,20 @@ pub(crate) fn push_spelled(out: &mut String, text: &str) -> Result<(), AllocErro
     let mut rest = text;
     while let Some(at) = find_spelled(rest.as_bytes()) {
         let (before, after) = cut_at(rest, at);
-        out.push_str(before)?;
+        if at > 0 {
+            out.push_str(before)?;
+        }
         push_byte(out, rest.as_bytes()[at])?;
         rest = after;
+    }
+    if rest.is_empty() {
+        return Ok(());
     }
     out.push_str(rest)
 }
 
 /// Writes a text that stands at the end of a line or not, and not at the beginning of one.
+#[inline(always)]
 fn push_to_end(out: &mut String, text: &str, last: bool) -> Result<(), AllocError>
     ensures { OnOk result (string_bytes out.new ≡ string_bytes out.old ++ spelled_text false last text.now) }
 {
@@ -101,6 +107,7 @@ fn push_to_end(out: &mut String, text: &str, last: bool) -> Result<(), AllocErro
 }
 
 /// Writes a text that stands at the beginning of a line or not, and at the end of one or not.
+#[inline(always)]
 pub(crate) fn push_text(
     out: &mut String,
     text: &str,
