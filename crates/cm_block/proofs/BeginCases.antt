@@ -6,11 +6,11 @@ use Rattle.cm_text.specs.Lines.{LineView}
 use Rattle.cm_scan.specs.Lines.{is_blank, marks}
 use Rattle.cm_scan.specs.Starts.{Start, IndentedCode, QuoteMarker, AtxHeading, OpeningFence, HtmlStart, BreakLine, ItemStart, TextLine, start_of}
 use Rattle.cm_scan.proofs.Sizes.{marks-behind_quote_marker, marks-first_content}
-use Rattle.cm_block.specs.OpenLeaf.{Begin, begins_nothing, begins_leaf, begins_quote, begins_item, begin_of_start, begin_of}
+use Rattle.cm_block.specs.OpenLeaf.{LineOpens, begins_nothing, begins_leaf, begins_quote, begins_item, begin_of_start, begin_of}
 use Rattle.cm_block.specs.Machine.{Change, change, in_quote, in_item, begin_by, begin_within, begin}
 
 -- the line behind a marker, if the line begins a container, passes a test
-abbrev pub OfInner : (LineView → Type 0) → Begin → Type 0
+abbrev pub OfInner : (LineView → Type 0) → LineOpens → Type 0
 OfInner P (begins_quote inner) = P inner
 OfInner P (begins_item kind column inner) = P inner
 OfInner P _ = ⊤
@@ -30,19 +30,19 @@ inner-less rules line = go (is_blank line) refl
     of_start (ItemStart marker) e = marks-first_content marker line e
     of_start TextLine e = tt
 
-    go : (v : Bool) → is_blank line ≡ v → OfInner (λ inner. marks inner.text < marks line.text) (elim v as (λ _. Begin) [ true ↦ begins_nothing | false ↦ begin_of_start (start_of rules line) line ])
+    go : (v : Bool) → is_blank line ≡ v → OfInner (λ inner. marks inner.text < marks line.text) (elim v as (λ _. LineOpens) [ true ↦ begins_nothing | false ↦ begin_of_start (start_of rules line) line ])
     go true e = tt
     go false e = of_start (start_of rules line) e
 
 -- two functions that agree on the line behind the marker give the same
-agree-by : (f g : LineView → Change) (b : Begin) → OfInner (λ inner. f inner ≡ g inner) b → begin_by f b ≡ begin_by g b
+agree-by : (f g : LineView → Change) (b : LineOpens) → OfInner (λ inner. f inner ≡ g inner) b → begin_by f b ≡ begin_by g b
 agree-by f g begins_nothing h = refl
 agree-by f g (begins_leaf x) h = refl
 agree-by f g (begins_quote inner) h = ap (λ (c : Change). change [] (in_quote c.closed c.now)) h
 agree-by f g (begins_item kind column inner) h = ap (λ (c : Change). change [] (in_item kind column (is_blank inner) c.closed c.now)) h
 
 -- what is said of every line with fewer marks is said of the line behind the marker
-pub of-less : (P Q : LineView → Type 0) → ((l : LineView) → P l → Q l) → (b : Begin) → OfInner P b → OfInner Q b
+pub of-less : (P Q : LineView → Type 0) → ((l : LineView) → P l → Q l) → (b : LineOpens) → OfInner P b → OfInner Q b
 of-less P Q h begins_nothing p = tt
 of-less P Q h (begins_leaf x) p = tt
 of-less P Q h (begins_quote inner) p = h inner p

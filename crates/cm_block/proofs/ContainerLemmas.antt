@@ -13,7 +13,7 @@ use Rattle.cm_tree.specs.declared.tree.ListKind.{ListKind}
 use Rattle.cm_scan.specs.LineForms.{is_same_kind}
 use Rattle.cm_scan.specs.Lines.{marks}
 use Rattle.cm_scan.specs.Parts.{LeafPart, paragraph, heading, code, html, thematic_break, definition, leaf_block}
-use Rattle.cm_block.specs.OpenLeaf.{OpenLeaf, closed_leaves, blank_lines_behind, LeafLine, stays_open, is_last, Begin, begins_nothing, begins_leaf, begins_quote, begins_item, begin_of}
+use Rattle.cm_block.specs.OpenLeaf.{OpenLeaf, closed_leaves, blank_lines_behind, LeafLine, stays_open, is_last, LineOpens, begins_nothing, begins_leaf, begins_quote, begins_item, begin_of}
 use Rattle.cm_block.specs.Machine.{Open, in_leaf, in_quote, in_item}
 use Rattle.cm_block.specs.Level.{OpenList, Level, empty_level, with_list, closed_blocks, push_blank, block_opens, list_opens, list_goes_on, item_opens, item_opens_in, block_closes, Item, with_item, item_closes}
 use Rattle.cm_block.specs.Stack.{Owned, Stack, item_of, close_leaves, push_blanks, close_open, push_leaf_line, push_by, push_within, push_begin}
@@ -170,7 +170,7 @@ count-leaf-line s v (stays_open x) = refl
 count-leaf-line s v (is_last leaves) = omega (arith, count-leaves leaves v)
 
 count-began : (push : (in_a_quote : Bool) → Owned → Level → LineView → Stack) → ((q : Bool) (s : Owned) (v : Level) (line : LineView) → count_of (push q s v line) ≡ count_in v + nesting (push q s v line).now)
-    → (q : Bool) (s : Owned) (v : Level) (b : Begin) → count_of (push_by push q s v b) ≡ count_in v + nesting (push_by push q s v b).now
+    → (q : Bool) (s : Owned) (v : Level) (b : LineOpens) → count_of (push_by push q s v b) ≡ count_in v + nesting (push_by push q s v b).now
 unfolding count_open nesting
 count-began push inside q s v begins_nothing = refl
 count-began push inside q s v (begins_leaf l) = count-leaf-line s (block_opens v) l

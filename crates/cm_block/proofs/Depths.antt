@@ -18,7 +18,7 @@ use Rattle.cm_scan.specs.Laws.{goes_inward, AreLines}
 use Rattle.cm_scan.specs.Looseness.{line_total, items_total}
 use Rattle.cm_scan.proofs.Owners.{one_owner_a_line}
 use Rattle.cm_scan.proofs.Counted.{one_owner}
-use Rattle.cm_block.specs.OpenLeaf.{OpenLeaf, no_leaf, closed_leaves, blank_lines_behind, LeafLine, stays_open, is_last, line_of_leaf, Begin, begins_nothing, begins_leaf, begins_quote, begins_item, begin_of}
+use Rattle.cm_block.specs.OpenLeaf.{OpenLeaf, no_leaf, closed_leaves, blank_lines_behind, LeafLine, stays_open, is_last, line_of_leaf, LineOpens, begins_nothing, begins_leaf, begins_quote, begins_item, begin_of}
 use Rattle.cm_block.specs.Machine.{Piece, blank_piece, leaf_piece, quote_piece, item_piece, put, put_all, Open, in_leaf, in_quote, in_item, has_open_text, Change, change, leaf_pieces, closing, leaf_change, begin_by, begin_within, begin, after_closing, leaf_step, step, Machine, new_machine, take_line, take_lines, close, parts_in_one_pass}
 use Rattle.cm_block.specs.Level.{Level, empty_level}
 use Rattle.cm_block.specs.Stack.{Owned, Stack, empty_stack, push_line, push_lines}
@@ -140,7 +140,7 @@ grows-leaf m before e (is_last leaves) = record {
 abbrev Adds : Change → Type 0
 Adds c = (k : ℕ) × (pieces_depths (c.closed ++ closing c.now) ≡ replicate k (nesting c.now))
 
-adds-by : (begin : LineView → Change) (b : Begin) → OfInner (λ inner. Adds (begin inner)) b → Adds (begin_by begin b)
+adds-by : (begin : LineView → Change) (b : LineOpens) → OfInner (λ inner. Adds (begin inner)) b → Adds (begin_by begin b)
 unfolding nesting closing closed_leaves
 adds-by begin begins_nothing i = (1, refl)
 adds-by begin (begins_leaf (stays_open y)) i = (_, closing-zeros y)

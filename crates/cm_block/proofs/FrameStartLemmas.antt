@@ -9,7 +9,7 @@ use Rattle.cm_scan.specs.LineForms.{is_same_kind}
 use Rattle.cm_scan.specs.Parts.{LeafPart, leaf_block}
 use Rattle.cm_scan.specs.Starts.{Start, IndentedCode, QuoteMarker, AtxHeading, OpeningFence, HtmlStart, BreakLine, ItemStart, TextLine, start_of}
 use Rattle.cm_tree.specs.declared.tree.Owner.TheVariants.{Marker}
-use Rattle.cm_block.specs.OpenLeaf.{OpenLeaf, no_leaf, LeafLine, stays_open, is_last as ends, Begin, begins_nothing, begins_leaf, begins_quote, begins_item, begin_of_start, begin_of}
+use Rattle.cm_block.specs.OpenLeaf.{OpenLeaf, no_leaf, LeafLine, stays_open, is_last as ends, LineOpens, begins_nothing, begins_leaf, begins_quote, begins_item, begin_of_start, begin_of}
 use Rattle.cm_block.specs.Machine.{Open, in_leaf, in_quote, in_item}
 use Rattle.cm_block.specs.Level.{Level, OpenList, empty_level, block_opens, block_closes, item_opens, item_opens_in, list_opens, list_goes_on}
 use Rattle.cm_block.specs.Stack.{Owned, Stack, stack, close_leaves, own_lines, push_leaf_line, not_blank, push_by, push_within, push_begin}
@@ -23,7 +23,7 @@ use Rattle.cm_block.proofs.BeginCases.{OfInner, inner-less, of-less}
 abbrev Push : Type 0
 Push = Bool → Owned → Level → LineView → Stack
 
-agree-by : (f g : Push) (q : Bool) (s : Owned) (v : Level) (b : Begin) → OfInner (λ inner. (q : Bool) (s : Owned) (v : Level) → f q s v inner ≡ g q s v inner) b
+agree-by : (f g : Push) (q : Bool) (s : Owned) (v : Level) (b : LineOpens) → OfInner (λ inner. (q : Bool) (s : Owned) (v : Level) → f q s v inner ≡ g q s v inner) b
     → push_by f q s v b ≡ push_by g q s v b
 agree-by f g q s v begins_nothing h = refl
 agree-by f g q s v (begins_leaf l) h = refl
@@ -65,11 +65,11 @@ item-ends v kind = go v.open_list
     go (Some list) = same list (is_same_kind list.kind kind)
 
 -- what isn't nothing
-abbrev pub IsBegin : Begin → Type 0
+abbrev pub IsBegin : LineOpens → Type 0
 IsBegin begins_nothing = ⊥
 IsBegin _ = ⊤
 
-by-ends : (rules : Rules) (q : Bool) (s : Owned) (v : Level) (b : Begin) → IsBegin b → (push_by (push_begin rules) q s v b).level.ends_blank ≡ false
+by-ends : (rules : Rules) (q : Bool) (s : Owned) (v : Level) (b : LineOpens) → IsBegin b → (push_by (push_begin rules) q s v b).level.ends_blank ≡ false
 by-ends rules q s v begins_nothing h = absurd h
 by-ends rules q s v (begins_leaf (stays_open x)) h = refl
 by-ends rules q s v (begins_leaf (ends leaves)) h = leaves-end (block_opens v) leaves refl
@@ -90,7 +90,7 @@ pub not-nothing : (rules : Rules) (line : LineView) → is_blank line ≡ false 
 unfolding begin_of
 not-nothing rules line h = go (is_blank line) h
   where
-    go : (b : Bool) → b ≡ false → IsBegin (elim b as (λ _. Begin) [ true ↦ begins_nothing | false ↦ begin_of_start (start_of rules line) line ])
+    go : (b : Bool) → b ≡ false → IsBegin (elim b as (λ _. LineOpens) [ true ↦ begins_nothing | false ↦ begin_of_start (start_of rules line) line ])
     go true h = absurd (cc h)
     go false h = start-begins (start_of rules line) line
 

@@ -17,7 +17,7 @@ use Rattle.cm_scan.specs.Blocks.{add_text, NextLine, GoesOn, Ends, Underlines, n
 use Rattle.cm_scan.specs.Laws.{goes_inward, next_inward}
 use Rattle.cm_scan.proofs.Sizes.{marks-behind_quote_marker, marks-first_content, Keeps, keeps-quote, keeps-item, size-append}
 use Rattle.cm_scan.proofs.Cases.{no_lines, blank_case, starting, inside-in, inside-out}
-use Rattle.cm_block.specs.OpenLeaf.{OpenLeaf, no_leaf, open_text, open_code, open_fence, open_html, run_leaves, closed_leaves, blank_lines_behind, LeafLine, stays_open, is_last, line_of_text, line_of_code, line_of_fence, line_of_html, line_of_leaf, Begin, begins_nothing, begin_of_start, begin_of}
+use Rattle.cm_block.specs.OpenLeaf.{OpenLeaf, no_leaf, open_text, open_code, open_fence, open_html, run_leaves, closed_leaves, blank_lines_behind, LeafLine, stays_open, is_last, line_of_text, line_of_code, line_of_fence, line_of_html, line_of_leaf, LineOpens, begins_nothing, begin_of_start, begin_of}
 use Rattle.cm_block.specs.Machine.{Piece, blank_piece, quote_piece, item_piece, put, put_all, Open, in_leaf, in_quote, in_item, has_open_text, Change, change, leaf_pieces, closing, leaf_change, begin_by, begin, after_closing, leaf_step, step, Machine, new_machine, take_line, take_lines, close, parts_in_one_pass}
 use Rattle.cm_block.specs.Laws.{OnePass}
 use Rattle.cm_block.proofs.BeginCases.{begin-cases}
@@ -483,8 +483,8 @@ module _ (rules : Rules) where
     unfolding begin_of put_all
     by-cases = ap (λ ps. put_all ps none) (finish-begin line lines) ∙ ap comes_to (begin-cases rules line) ∙ go (is_blank line) refl
       where
-        begins : Bool → Begin
-        begins v = elim v as (λ _. Begin) [ true ↦ begins_nothing | false ↦ begin_of_start (start_of rules line) line ]
+        begins : Bool → LineOpens
+        begins v = elim v as (λ _. LineOpens) [ true ↦ begins_nothing | false ↦ begin_of_start (start_of rules line) line ]
 
         go : (v : Bool) → is_blank line ≡ v → comes_to (begin_by (begin rules) (begins v)) ≡ parts_of rules (line ∷ lines)
         go true e = ap blank (pass-less _ shorter lines less) ∙ sym (blank_case rules line lines e)

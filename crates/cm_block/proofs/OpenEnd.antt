@@ -16,7 +16,7 @@ use Rattle.cm_scan.specs.Parts.{LeafPart, is_open_leaf, Parts, none, blank, leaf
 use Rattle.cm_scan.specs.Blocks.{rest_of, NextLine, GoesOn, Ends, Underlines, next_line, definition_leaves, content_leaf, leaves_of_run, closes_fence}
 use Rattle.cm_scan.specs.Laws.{goes_inward}
 use Rattle.cm_scan.proofs.Counted.{Firm, firm-content, firm-add_text, underlined}
-use Rattle.cm_block.specs.OpenLeaf.{OpenLeaf, no_leaf, open_text, open_code, open_fence, open_html, run_leaves, closed_leaves, is_open_text, LeafLine, stays_open, is_last, line_of_text, line_of_code, line_of_fence, line_of_html, line_of_leaf, Begin, begins_nothing, begins_leaf, begins_quote, begins_item, begin_of_start, begin_of}
+use Rattle.cm_block.specs.OpenLeaf.{OpenLeaf, no_leaf, open_text, open_code, open_fence, open_html, run_leaves, closed_leaves, is_open_text, LeafLine, stays_open, is_last, line_of_text, line_of_code, line_of_fence, line_of_html, line_of_leaf, LineOpens, begins_nothing, begins_leaf, begins_quote, begins_item, begin_of_start, begin_of}
 use Rattle.cm_block.specs.Machine.{Piece, blank_piece, leaf_piece, quote_piece, item_piece, put, put_all, Open, in_leaf, in_quote, in_item, has_open_text, Change, change, leaf_pieces, closing, leaf_change, begin_by, begin_within, begin, after_closing, leaf_step, step, Machine, new_machine, take_line, take_lines}
 use Rattle.cm_block.proofs.BeginCases.{OfInner, inner-less, of-less}
 
@@ -230,7 +230,7 @@ sound-line rules (open_html kind text lines) pieces line h = go (ends_at_blank_l
     go true = tt
     go false = html-sound kind text lines line (is_html_end kind line.text)
 
-abbrev pub SoundBegin : Begin → Type 0
+abbrev pub SoundBegin : LineOpens → Type 0
 SoundBegin (begins_leaf l) = SoundLine l
 SoundBegin _ = ⊤
 
@@ -248,7 +248,7 @@ pub begin-sound : (rules : Rules) (line : LineView) → SoundBegin (begin_of rul
 unfolding begin_of
 begin-sound rules line = go (is_blank line) refl
   where
-    go : (v : Bool) → is_blank line ≡ v → SoundBegin (elim v as (λ _. Begin) [ true ↦ begins_nothing | false ↦ begin_of_start (start_of rules line) line ])
+    go : (v : Bool) → is_blank line ≡ v → SoundBegin (elim v as (λ _. LineOpens) [ true ↦ begins_nothing | false ↦ begin_of_start (start_of rules line) line ])
     go true e = tt
     go false e = start-sound line e (start_of rules line)
 
@@ -291,7 +291,7 @@ fits-leaf pieces (stays_open (open_code text lines blank_text blank_lines)) h = 
 fits-leaf pieces (stays_open (open_fence fence columns text lines)) h = (tt, tt)
 fits-leaf pieces (stays_open (open_html kind text lines)) h = (tt, tt)
 
-fits-by : (begin : LineView → Change) (pieces : List Piece) (b : Begin) → SoundBegin b → OfInner (λ inner. Fits [] (begin inner)) b → Fits pieces (begin_by begin b)
+fits-by : (begin : LineView → Change) (pieces : List Piece) (b : LineOpens) → SoundBegin b → OfInner (λ inner. Fits [] (begin inner)) b → Fits pieces (begin_by begin b)
 unfolding Fit
 fits-by begin pieces begins_nothing h i = (last-push pieces blank_piece refl, tt)
 fits-by begin pieces (begins_leaf l) h i = fits-leaf pieces l h

@@ -6,7 +6,7 @@ use Rattle.cm_tree.specs.declared.tree.Owner.TheVariants.{Marker}
 use Rattle.cm_scan.specs.Lines.{is_blank}
 use Rattle.cm_scan.specs.LineForms.{ItemMarker}
 use Rattle.cm_scan.specs.Starts.{Start, QuoteMarker, ItemStart, start_of, behind_quote_marker, content_column, first_content}
-use Rattle.cm_block.specs.OpenLeaf.{no_leaf, LeafLine, Begin, begins_nothing, begins_leaf, begins_quote, begins_item, begin_of_start, begin_of}
+use Rattle.cm_block.specs.OpenLeaf.{no_leaf, LeafLine, LineOpens, begins_nothing, begins_leaf, begins_quote, begins_item, begin_of_start, begin_of}
 use Rattle.cm_block.specs.Level.{Level, empty_level, push_blank, block_opens, item_opens}
 use Rattle.cm_block.specs.Stack.{Owned, own_lines, blank_owner, push_leaf_line, push_by, push_begin}
 use Rattle.cm_block.specs.Depths.{nesting}
@@ -24,7 +24,7 @@ use Rattle.cm_block.proofs.FrameStartLemmas.{frame, push-cases, not-nothing, IsB
 -- a line that isn't blank doesn't ask whether a marker was taken
 
 module _ (rules : Rules) where
-  marked-by : (q p : Bool) (s : Owned) (v : Level) (b : Begin) → IsBegin b → push_by (push_begin rules) q s v b ≡ push_by (push_begin rules) p s v b
+  marked-by : (q p : Bool) (s : Owned) (v : Level) (b : LineOpens) → IsBegin b → push_by (push_begin rules) q s v b ≡ push_by (push_begin rules) p s v b
   marked-by q p s v begins_nothing h = absurd h
   marked-by q p s v (begins_leaf l) h = refl
   marked-by q p s v (begins_quote inner) h = refl
@@ -39,7 +39,7 @@ module _ (rules : Rules) where
   unfolding begin_of
   begins-as line start some is = go (is_blank line) some
     where
-      go : (b : Bool) → b ≡ false → (elim b as (λ _. Begin) [ true ↦ begins_nothing | false ↦ begin_of_start (start_of rules line) line ]) ≡ begin_of_start start line
+      go : (b : Bool) → b ≡ false → (elim b as (λ _. LineOpens) [ true ↦ begins_nothing | false ↦ begin_of_start (start_of rules line) line ]) ≡ begin_of_start start line
       go true e = absurd (cc e)
       go false e = ap (λ s. begin_of_start s line) is
 

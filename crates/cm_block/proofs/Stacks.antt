@@ -15,7 +15,7 @@ use Rattle.cm_scan.specs.Parts.{LeafPart, Parts, none, blank, leaf, quote, list,
 use Rattle.cm_scan.specs.Blocks.{blocks_of, owners_of, reference_table}
 use Rattle.cm_scan.specs.Laws.{goes_inward}
 use Rattle.cm_scan.proofs.Counted.{one_owner}
-use Rattle.cm_block.specs.OpenLeaf.{OpenLeaf, no_leaf, open_text, open_code, open_fence, open_html, run_leaves, closed_leaves, blank_lines_behind, LeafLine, stays_open, is_last, line_of_leaf, Begin, begins_nothing, begins_leaf, begins_quote, begins_item, begin_of}
+use Rattle.cm_block.specs.OpenLeaf.{OpenLeaf, no_leaf, open_text, open_code, open_fence, open_html, run_leaves, closed_leaves, blank_lines_behind, LeafLine, stays_open, is_last, line_of_leaf, LineOpens, begins_nothing, begins_leaf, begins_quote, begins_item, begin_of}
 use Rattle.cm_block.specs.Machine.{Piece, blank_piece, leaf_piece, quote_piece, item_piece, put_all, Open, in_leaf, in_quote, in_item, has_open_text, Change, change, leaf_pieces, closing, leaf_change, begin_by, begin_within, begin, after_closing, leaf_step, step, Machine, new_machine, take_line, take_lines, close, parts_in_one_pass}
 use Rattle.cm_block.specs.Level.{Level, empty_level, closed_blocks, push_blank, separated_next, block_opens, item_opens, block_closes, Item, push_block, push_item, item_of_parts, add, add_all}
 use Rattle.cm_block.specs.Stack.{Owned, Stack, stack, empty_stack, close_leaves, push_blanks, item_of, close_open, own_lines, own_blanks, own_open, close_stack, push_leaf_line, not_blank, push_by, push_within, push_begin, push_after, push_to_leaf, push_in, push_line, push_lines}
@@ -270,7 +270,7 @@ opened-not_blank (open_code text lines blank_text blank_lines) = refl
 opened-not_blank (open_fence fence columns text lines) = refl
 opened-not_blank (open_html kind text lines) = refl
 
-first-by : (begin : LineView → Change) (b : Begin) → OfInner (λ inner. First (begin inner)) b → First (begin_by begin b)
+first-by : (begin : LineView → Change) (b : LineOpens) → OfInner (λ inner. First (begin inner)) b → First (begin_by begin b)
 unfolding add_all add owned_in own_pieces
 first-by begin begins_nothing i = record { level = refl; owned = λ q s. refl }
 first-by begin (begins_leaf (stays_open x)) i = record { level = opened-not_blank x; owned = λ q s. refl }
@@ -281,7 +281,7 @@ first-by begin (begins_leaf (is_last leaves)) i = record {
 first-by begin (begins_quote inner) i = record { level = refl; owned = λ q s. refl }
 first-by begin (begins_item kind column inner) i = record { level = refl; owned = λ q s. sym (i.owned true s) ∙ i.owned q s }
 
-follows-by : (begin : LineView → Change) (push : (q : Bool) → Owned → Level → LineView → Stack) (q : Bool) (s : Owned) (v : Level) (b : Begin) → SoundBegin b
+follows-by : (begin : LineView → Change) (push : (q : Bool) → Owned → Level → LineView → Stack) (q : Bool) (s : Owned) (v : Level) (b : LineOpens) → SoundBegin b
     → OfInner (λ inner. Follows true s empty_level (begin inner) (push true s empty_level inner) × First (begin inner)) b → Follows q s v (begin_by begin b) (push_by push q s v b)
 unfolding add_all add held owned_in own_pieces
 follows-by begin push true s v begins_nothing h i = record { level = refl; now = refl; owned = refl }

@@ -7,7 +7,7 @@ use Rattle.cm_scan.specs.Lines.{is_blank, marks}
 use Rattle.cm_scan.specs.Parts.{LeafPart, Parts, none, blank, leaf, quote, put_item}
 use Rattle.cm_scan.specs.Starts.{place_in_quote, place_in_item}
 use Rattle.cm_scan.specs.Laws.{goes_inward}
-use Rattle.cm_block.specs.OpenLeaf.{OpenLeaf, no_leaf, closed_leaves, blank_lines_behind, is_open_text, LeafLine, stays_open, is_last, line_of_leaf, Begin, begins_nothing, begins_leaf, begins_quote, begins_item, begin_of}
+use Rattle.cm_block.specs.OpenLeaf.{OpenLeaf, no_leaf, closed_leaves, blank_lines_behind, is_open_text, LeafLine, stays_open, is_last, line_of_leaf, LineOpens, begins_nothing, begins_leaf, begins_quote, begins_item, begin_of}
 
 -- What stands closed at one level: a blank line, a leaf with how many lines it has, a quote, an item.
 pub data Piece : Type 0 where
@@ -63,7 +63,7 @@ leaf_change (stays_open x) = change [] (in_leaf x)
 leaf_change (is_last leaves) = change (leaf_pieces leaves) (in_leaf no_leaf)
 
 -- What a line begins; `begin` says it of a line from which a marker was taken.
-abbrev pub begin_by : (LineView → Change) → Begin → Change
+abbrev pub begin_by : (LineView → Change) → LineOpens → Change
 begin_by begin begins_nothing = change (blank_piece ∷ []) (in_leaf no_leaf)
 begin_by begin (begins_leaf x) = leaf_change x
 begin_by begin (begins_quote inner) = let c = begin inner in change [] (in_quote c.closed c.now)

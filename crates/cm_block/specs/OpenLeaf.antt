@@ -84,13 +84,13 @@ line_of_leaf rules (open_html kind text lines) line = elim (ends_at_blank_line k
 
 -- What a line begins where no leaf is open: nothing, since it is blank; a leaf block; a quote, with the line behind its marker; an
 -- item, with the column at which its content begins and the line behind its marker.
-pub data Begin : Type 0 where
-  begins_nothing : Begin
-  begins_leaf : LeafLine → Begin
-  begins_quote : LineView → Begin
-  begins_item : ListKind → (column : ℕ) → LineView → Begin
+pub data LineOpens : Type 0 where
+  begins_nothing : LineOpens
+  begins_leaf : LeafLine → LineOpens
+  begins_quote : LineView → LineOpens
+  begins_item : ListKind → (column : ℕ) → LineView → LineOpens
 
-abbrev pub begin_of_start : Start → LineView → Begin
+abbrev pub begin_of_start : Start → LineView → LineOpens
 begin_of_start IndentedCode line = begins_leaf (stays_open (open_code (code_line line) 1 [] 0))
 begin_of_start QuoteMarker line = begins_quote (behind_quote_marker line)
 begin_of_start (AtxHeading h) line = begins_leaf (is_last ((heading h.level h.content, 1) ∷ []))
@@ -100,5 +100,5 @@ begin_of_start BreakLine line = begins_leaf (is_last ((thematic_break, 1) ∷ []
 begin_of_start (ItemStart marker) line = begins_item marker.kind (content_column marker line) (first_content marker line)
 begin_of_start TextLine line = begins_leaf (stays_open (open_text (content_of line)))
 
-unfoldable pub begin_of : Rules → LineView → Begin
+unfoldable pub begin_of : Rules → LineView → LineOpens
 begin_of rules line = elim (is_blank line) [ true ↦ begins_nothing | false ↦ begin_of_start (start_of rules line) line ]

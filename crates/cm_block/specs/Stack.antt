@@ -15,7 +15,7 @@ use Rattle.cm_scan.specs.Lines.{is_blank, marks}
 use Rattle.cm_scan.specs.Parts.{LeafPart, definition, leaf_block}
 use Rattle.cm_scan.specs.Starts.{place_in_quote, place_in_item}
 use Rattle.cm_scan.specs.Laws.{goes_inward}
-use Rattle.cm_block.specs.OpenLeaf.{OpenLeaf, no_leaf, closed_leaves, blank_lines_behind, LeafLine, stays_open, is_last, line_of_leaf, Begin, begins_nothing, begins_leaf, begins_quote, begins_item, begin_of}
+use Rattle.cm_block.specs.OpenLeaf.{OpenLeaf, no_leaf, closed_leaves, blank_lines_behind, LeafLine, stays_open, is_last, line_of_leaf, LineOpens, begins_nothing, begins_leaf, begins_quote, begins_item, begin_of}
 use Rattle.cm_block.specs.Machine.{Open, in_leaf, in_quote, in_item, has_open_text}
 use Rattle.cm_block.specs.Level.{Level, empty_level, closed_blocks, push_blank, block_opens, item_opens, block_closes, Item, item_closes}
 
@@ -111,7 +111,7 @@ abbrev pub not_blank : Level → Level
 not_blank inside = record { blocks = inside.blocks; open_list = inside.open_list; has_block = inside.has_block; ends_blank = false; separated = inside.separated }
 
 -- What a line begins; `push` says it of a line from which a marker was taken.
-abbrev pub push_by : ((in_a_quote : Bool) → Owned → Level → LineView → Stack) → (in_a_quote : Bool) → Owned → Level → Begin → Stack
+abbrev pub push_by : ((in_a_quote : Bool) → Owned → Level → LineView → Stack) → (in_a_quote : Bool) → Owned → Level → LineOpens → Stack
 push_by push in_a_quote owned level begins_nothing = stack (push_blank level) (in_leaf no_leaf) (own_lines owned (blank_owner in_a_quote ∷ []))
 push_by push in_a_quote owned level (begins_leaf l) = push_leaf_line owned (block_opens level) l
 push_by push in_a_quote owned level (begins_quote inner) = let c = push true owned empty_level inner in stack (block_opens level) (in_quote c.level c.now) c.owned

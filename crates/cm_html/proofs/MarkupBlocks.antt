@@ -14,7 +14,7 @@ use Rattle.cm_tree.specs.declared.tree.ListKind.TheVariants.{Dash, Plus, Star, D
 use Rattle.cm_html.specs.Escape.{escape, class_word}
 use Rattle.cm_html.specs.Html.{inlines_html, Written, block_step, written, alone, all_alone, line_feed, tight_inside, loose_inside, inside, item_html, items_html, paragraph_html, heading_html, code_html, code_start, quote_html, ordered_start, list_start, list_end, html_of}
 use Rattle.cm_html.specs.Html.Written.{Nothing, Inlines, Whole}
-use Rattle.cm_tree.specs.Levels.{is_level, all_of, all_of_items, level_step, has_levels, have_levels}
+use Rattle.cm_tree.specs.HeadingLevels.{is_level, all_of, all_of_items, level_step, has_levels, have_levels}
 use Rattle.cm_html.specs.Markup.Place.{InText, InValue}
 use Rattle.cm_html.specs.Markup.{is_text, may_stand}
 use Rattle.cm_tree.specs.RawHtml.{any_of, any_of_items, raw_block_step, block_has_raw, blocks_have_raw}

@@ -77,10 +77,6 @@ spelled = fold-Inline Spelled inline_step
 abbrev pub inlines_html : List Inline → List ℕ
 inlines_html inlines = join_html (map spelled inlines)
 
--- the alternative text of an image with this content
-abbrev pub alternative_text : List Inline → List ℕ
-alternative_text inlines = join_plain (map spelled inlines)
-
 abbrev pub paragraph_html : List ℕ → List ℕ
 paragraph_html html = codes "<p>" ++ html ++ codes "</p>\n"
 

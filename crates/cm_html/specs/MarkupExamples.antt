@@ -6,7 +6,7 @@ use Rattle.cm_tree.specs.declared.tree.Block.{Block}
 use Rattle.cm_tree.specs.declared.tree.Block.TheVariants.{Paragraph, Heading, Code, Html, Break, Quote, List as ListBlock}
 use Rattle.cm_tree.specs.declared.tree.ListKind.TheVariants.{Dash, Dot}
 use Rattle.cm_html.specs.Html.{html_of}
-use Rattle.cm_tree.specs.Levels.{have_levels}
+use Rattle.cm_tree.specs.HeadingLevels.{have_levels}
 use Rattle.cm_html.specs.Markup.{tags_in, is_markup}
 use Rattle.cm_tree.specs.RawHtml.{blocks_have_raw}
 use Rattle.cm_html.specs.Tags.{tags_of}

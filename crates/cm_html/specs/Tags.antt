@@ -12,7 +12,7 @@ use Rattle.cm_tree.specs.declared.tree.ListKind.{ListKind}
 use Rattle.cm_tree.specs.declared.tree.ListKind.TheVariants.{Dash, Plus, Star, Dot, Paren}
 use Rattle.cm_html.specs.Escape.{class_word}
 use Rattle.cm_html.specs.Html.{html_of}
-use Rattle.cm_tree.specs.Levels.{have_levels}
+use Rattle.cm_tree.specs.HeadingLevels.{have_levels}
 use Rattle.cm_html.specs.Markup.{tags_in}
 use Rattle.cm_tree.specs.RawHtml.{blocks_have_raw}
 

@@ -1,2 +1,3 @@
+pub mod AlternativeText
 pub mod Bytes
 pub mod Emitting

@@ -1,7 +1,8 @@
 //! The HTML of inlines.
 ghost use Rattle.std.specs.Prelude.{◌≡◌, ◌++◌, string_bytes, OnOk};
 ghost use Rattle.cm_html.specs.Escape.{escape};
-ghost use Rattle.cm_html.specs.Html.{Spelled, spelled, inlines_html, alternative_text, code_span_html, between, title_html, link_start, link_html, image_start, image_html};
+ghost use Rattle.cm_html.specs.Html.{Spelled, spelled, inlines_html, code_span_html, between, title_html, link_start, link_html, image_start, image_html};
+ghost use Rattle.cm_html.specs.steps.AlternativeText.{alternative_text};
 
 use crate::escape::{push_destination, push_escaped};
 use cm_tree::Inline;

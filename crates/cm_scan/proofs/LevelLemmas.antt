@@ -7,7 +7,7 @@ use Rattle.cm_tree.specs.declared.tree.Block.{Block}
 use Rattle.cm_tree.specs.declared.tree.Block.TheFolds.{fold_out-Block}
 use Rattle.cm_tree.specs.declared.tree.Block.TheVariants.{Quote, List as ListBlock, outs-Paragraph, outs-Heading, outs-Code, outs-Html, outs-Break, outs-Definition, outs-Quote, outs-List}
 use Rattle.cm_tree.specs.declared.tree.ListKind.{ListKind}
-use Rattle.cm_tree.specs.Levels.{is_level, level_step, has_levels, have_levels, all_of_items}
+use Rattle.cm_tree.specs.HeadingLevels.{is_level, level_step, has_levels, have_levels, all_of_items}
 use Rattle.cm_text.specs.Indentation.{indent_of}
 use Rattle.cm_scan.specs.Words.{given, ◌<|>◌, begins_with, is_at_gap, run_length, after_run, trim, trim_end, is_empty}
 use Rattle.cm_scan.specs.Lines.{size, is_blank, content_of}

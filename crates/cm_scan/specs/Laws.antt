@@ -8,7 +8,7 @@ use Rattle.cm_tree.specs.declared.tree.Block.{Block, Block-F}
 use Rattle.cm_tree.specs.declared.tree.Block.TheOpen as block
 use Rattle.cm_tree.specs.declared.tree.Block.TheFolds.{fold-Block}
 use Rattle.cm_tree.specs.declared.tree.Owner.{Owner}
-use Rattle.cm_tree.specs.Levels.{have_levels}
+use Rattle.cm_tree.specs.HeadingLevels.{have_levels}
 use Rattle.cm_tree.specs.declared.tree.Owner.TheVariants.{Leaf, Marker, Blank}
 use Rattle.cm_text.specs.Rules.{Rules}
 use Rattle.cm_text.specs.Lines.{LineView}

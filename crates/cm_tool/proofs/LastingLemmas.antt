@@ -2,7 +2,8 @@
 use Rattle.std.proofs.Common.{◌≡◌, ◌∙◌, ℕ, ◌≤◌, Bool, true, false, not, cond, List, [], ◌∷◌, map, None, refl, sym, ap, subst, arith}
 use Rattle.std.specs.Prelude.{IsUtf8}
 use Rattle.cm_text.specs.Limits.{LimitsView}
-use Rattle.cm_tree.specs.Depth.{greatest, depth_of_block, blocks_depth, items_depth}
+use Rattle.cm_tree.specs.Depth.{greatest, depth_of_block, blocks_depth}
+use Rattle.cm_tree.specs.steps.ItemSteps.{items_depth}
 use Rattle.cm_tree.specs.declared.tree.ListKind.{ListKind}
 use Rattle.cm_tree.specs.declared.tree.Block.{Block}
 use Rattle.cm_tree.specs.declared.tree.Block.TheFolds.{fold_out-Block}

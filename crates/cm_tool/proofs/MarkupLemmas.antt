@@ -7,7 +7,7 @@ use Rattle.cm_tree.specs.declared.tree.Block.TheOpen as block
 use Rattle.cm_tree.specs.declared.tree.Block.TheViews.{roll-Block}
 use Rattle.cm_tree.specs.declared.tree.Block.TheFolds.{fold-roll-Block, fold_out-Block, ind-Block}
 use Rattle.cm_tree.specs.declared.tree.Block.TheVariants.{outs-Paragraph, outs-Heading, outs-Code, outs-Html, outs-Break, outs-Definition, outs-Quote, outs-List}
-use Rattle.cm_tree.specs.Levels.{all_of, all_of_items, level_step, has_levels, have_levels}
+use Rattle.cm_tree.specs.HeadingLevels.{all_of, all_of_items, level_step, has_levels, have_levels}
 use Rattle.cm_scan.specs.Brackets.{Defined}
 use Rattle.cm_scan.specs.Blocks.{blocks_of}
 use Rattle.cm_scan.proofs.LevelLemmas.{heading_levels}

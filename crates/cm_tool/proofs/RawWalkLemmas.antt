@@ -3,7 +3,8 @@ use Rattle.std.proofs.Common.{◌≡◌, ◌∙◌, ◌≤◌, ◌<◌, ◌+◌,
 use Rattle.std.specs.Prelude.{Bool, cond, nat_lt, option_map, Some, None}
 use Rattle.std.specs.List.{slice_range}
 use Rattle.cm_text.specs.Rules.{Rules}
-use Rattle.cm_tree.specs.Depth.{inlines_depth, depth_step, block_depth_step, depth_of_block, blocks_depth, items_depth}
+use Rattle.cm_tree.specs.Depth.{inlines_depth, depth_step, block_depth_step, depth_of_block, blocks_depth}
+use Rattle.cm_tree.specs.steps.ItemSteps.{items_depth}
 use Rattle.cm_tree.specs.declared.tree.Inline.{Inline}
 use Rattle.cm_tree.specs.declared.tree.Inline.TheFolds.{fold_out-Inline}
 use Rattle.cm_tree.specs.declared.tree.Inline.TheVariants.{Text, outs-Text}

@@ -1,7 +1,7 @@
 -- What the HTML of a text's bytes can contain.
 use Rattle.std.specs.Prelude.{◌≡◌, ℕ, true, false, Some, List}
 use Rattle.cm_text.specs.Rules.{Rules}
-use Rattle.cm_tree.specs.Levels.{have_levels}
+use Rattle.cm_tree.specs.HeadingLevels.{have_levels}
 use Rattle.cm_tree.specs.RawHtml.{blocks_have_raw}
 use Rattle.cm_html.specs.Markup.{tags_in}
 use Rattle.cm_html.specs.Tags.{tags_of}

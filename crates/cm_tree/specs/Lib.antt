@@ -1,8 +1,8 @@
 pub mod formers
 pub mod BoxedTexts
 pub mod Depth
+pub mod HeadingLevels
 pub mod Definitions
-pub mod Levels
 pub mod RawHtml
 pub mod RawBlocks
 pub mod TargetPlaces

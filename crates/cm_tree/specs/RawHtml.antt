@@ -46,6 +46,3 @@ block_has_raw = fold-Block Bool raw_block_step
 -- raw HTML or an HTML block stands in the blocks, at any depth, but in an image
 abbrev pub blocks_have_raw : List Block → Bool
 blocks_have_raw blocks = any_of (map block_has_raw blocks)
-
-abbrev pub items_have_raw : List (List Block) → Bool
-items_have_raw items = any_of_items (map (map block_has_raw) items)

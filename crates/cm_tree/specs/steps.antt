@@ -1,3 +1,4 @@
+pub mod ItemSteps
 pub mod LabelNumbers
 pub mod RawSteps
 pub mod KeptTargets

@@ -1,6 +1,7 @@
 //! How deep a tree nests.
 ghost use Rattle.std.specs.Prelude.{◌≡◌};
-ghost use Rattle.cm_tree.specs.Depth.{saturated, depth_of, inlines_depth, depth_of_block, blocks_depth, items_depth};
+ghost use Rattle.cm_tree.specs.Depth.{saturated, depth_of, inlines_depth, depth_of_block, blocks_depth};
+ghost use Rattle.cm_tree.specs.steps.ItemSteps.{items_depth};
 
 use crate::tree::{Block, Inline};
 

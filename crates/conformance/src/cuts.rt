@@ -16,7 +16,7 @@ pub(crate) enum Cut {
     Nowhere,
     BehindEachByte,
     BehindByte(usize),
-    // Behind each byte whose bit is set.
+    /// Behind each byte whose bit is set.
     BehindBytes(u16),
 }
 

@@ -8,13 +8,13 @@ use std::alloc::Global;
 enum Place {
     Plain,
     Escape,
-    // The first digit of `\x` is still to come, or has come.
+    /// The first digit of `\x` is still to come, or has come.
     Byte,
     ByteWith(u32),
-    // Of `\u{..}`: the brace is still to come; the digits so far.
+    /// Of `\u{..}`: the brace is still to come; the digits so far.
     Scalar,
     ScalarWith(u32),
-    // Of `\{..|`: the digits so far.
+    /// Of `\{..|`: the digits so far.
     Count(usize),
 }
 
@@ -24,7 +24,7 @@ struct Unescaping {
     alloc: Global,
     bytes: Vec<u8>,
     place: Place,
-    // In `\{N|..}`: N, and where in the bytes what is repeated begins.
+    /// In `\{N|..}`: N, and where in the bytes what is repeated begins.
     repeated: Option<(usize, usize)>,
 }
 

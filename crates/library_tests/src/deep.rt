@@ -75,9 +75,9 @@ fn html_of_quotes_and_emphasis(rt: HostRuntime) -> Result<(), Fail> {
 }
 
 #[test]
-fn listing_of_quotes_and_emphasis(rt: HostRuntime) -> Result<(), Fail> {
+fn listing_of_a_copy(rt: HostRuntime) -> Result<(), Fail> {
     let alloc = rt.alloc();
-    let written = listing(alloc, &document(alloc)?)?;
+    let written = listing(alloc, &document(alloc)?.clone()?)?;
     assert!(rt; written == wanted_listing(alloc)?);
     Ok(())
 }

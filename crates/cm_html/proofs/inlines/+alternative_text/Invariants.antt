@@ -1,6 +1,6 @@
 use Rattle.std.proofs.Common.{◌≡◌, ◌++◌, string_bytes, drop}
 use Rattle.cm_html.specs.Escape.{escape}
-use Rattle.cm_html.specs.Html.{alternative_text}
+use Rattle.cm_html.specs.steps.AlternativeText.{alternative_text}
 use Rattle.cm_html.proofs.inlines.+alternative_text.Given as goal
 
 -- what was written and what is left are all

@@ -8,7 +8,7 @@ use Rattle.cm_tree.specs.declared.tree.Block.{Block, map-Block, out-Block}
 use Rattle.cm_tree.specs.declared.tree.Block.TheFolds.{fold_out-Block}
 use Rattle.cm_html.specs.Escape.{is_kept, destination_byte, class_word}
 use Rattle.cm_html.specs.Html.{Spelled, inline_step, Written, block_step}
-use Rattle.cm_tree.specs.Levels.{level_step}
+use Rattle.cm_tree.specs.HeadingLevels.{level_step}
 use Rattle.cm_tree.specs.RawHtml.{raw_inline_step, raw_block_step}
 use Rattle.cm_html.specs.Tags.{Tags, inline_tags, block_tags, tags_of_block}
 use Rattle.cm_html.specs.MarkupExamples.{MarkupExamples, TextMarkupExamples, RawHtmlExamples}

@@ -1,5 +1,6 @@
 use Rattle.std.proofs.Common.{◌≡◌, ◌++◌, ◌+◌, ◌*◌, List, drop}
-use Rattle.cm_tree.specs.Depth.{blocks_depth, depth_of_block, items_depth}
+use Rattle.cm_tree.specs.Depth.{blocks_depth, depth_of_block}
+use Rattle.cm_tree.specs.steps.ItemSteps.{items_depth}
 use Rattle.cm_tree.specs.declared.tree.Block.{Block}
 use Rattle.cm_scan.specs.Brackets.{defined_in}
 use Rattle.cm_scan.specs.Documents.{with_inlines}

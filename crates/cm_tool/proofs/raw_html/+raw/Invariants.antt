@@ -1,6 +1,7 @@
 use Rattle.std.proofs.Common.{◌≡◌, ◌++◌, ◌+◌, ◌*◌, List, string_bytes, drop}
 use Rattle.std.specs.Prelude.{map}
-use Rattle.cm_tree.specs.Depth.{blocks_depth, depth_of_block, items_depth}
+use Rattle.cm_tree.specs.Depth.{blocks_depth, depth_of_block}
+use Rattle.cm_tree.specs.steps.ItemSteps.{items_depth}
 use Rattle.cm_tree.specs.declared.tree.Block.{Block}
 use Rattle.cm_html.specs.Html.{html_of, inside, items_html, written}
 use Rattle.cm_scan.specs.Brackets.{defined_in}

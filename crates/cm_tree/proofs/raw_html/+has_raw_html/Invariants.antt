@@ -1,5 +1,6 @@
 use Rattle.std.proofs.Common.{◌≡◌, ◌||◌, drop}
-use Rattle.cm_tree.specs.RawHtml.{block_has_raw, blocks_have_raw, items_have_raw}
+use Rattle.cm_tree.specs.RawHtml.{block_has_raw, blocks_have_raw}
+use Rattle.cm_tree.specs.steps.ItemSteps.{items_have_raw}
 use Rattle.cm_tree.proofs.raw_html.+has_raw_html.Given as goal
 
 -- what was found and what is left have the answer of all
