@@ -4,7 +4,7 @@ ghost use Rattle.std.specs.List.{list_all, slice_range};
 ghost use Rattle.cm_scan.specs.CodeSpans.{one_line, stripped};
 ghost use Rattle.cm_inline.specs.steps.Written.{IsBetween};
 
-use crate::room::Room;
+use crate::spare::Spare;
 use cm_text::cut_at;
 use cm_tree::Text;
 use memchr::memchr;
@@ -45,10 +45,10 @@ pub(crate) fn content_between(source: &str, from: usize, to: usize) -> (usize, u
 }
 
 /// A text with its line feeds as spaces.
-pub(crate) fn one_line(room: &mut Room, text: &str) -> Result<Text, AllocError>
+pub(crate) fn one_line(spare: &mut Spare, text: &str) -> Result<Text, AllocError>
     ensures { IfOk result (λ line. line ≡ one_line text.now) }
 {
-    let mut line = room.string_for(text.len())?;
+    let mut line = spare.string_for(text.len())?;
     let mut rest = text;
     while let Some(at) = memchr(b'\n', rest.as_bytes()) {
         let (before, behind) = cut_at(rest, at);

@@ -13,8 +13,8 @@ ghost use Rattle.cm_inline.specs.steps.Groups.{Made, grouped, target_of, end_htm
 
 use crate::groups::{FirstGroups, Group, Kind, Making};
 use crate::nodes::Nodes;
-use crate::room::Room;
 use crate::settling::group_inline;
+use crate::spare::Spare;
 use crate::tokens::{Token, opener_text, push_run};
 use crate::written::{Written, destination_of};
 use cm_html::{push_escaped, push_inline, push_link_start};
@@ -79,7 +79,7 @@ fn push_autolink(
 
 /// Adds the HTML of an inline that stands by itself in the source.
 fn push_written(
-    room: &mut Room,
+    spare: &mut Spare,
     html: &mut String,
     source: &str,
     written: Written,
@@ -94,7 +94,7 @@ fn push_written(
             from,
             to,
             is_address,
-        } => push_autolink(room.alloc(), html, is_address, &source[from..to]),
+        } => push_autolink(spare.alloc(), html, is_address, &source[from..to]),
         Written::Soft => html.push_str("\n"),
         Written::Hard => html.push_str("<br />\n"),
     }
@@ -103,7 +103,7 @@ fn push_written(
 /// Adds the HTML of a token.
 #[cycle(html)]
 fn push_token(
-    room: &mut Room,
+    spare: &mut Spare,
     html: &mut String,
     source: &str,
     inside: &[Token],
@@ -119,9 +119,9 @@ fn push_token(
     match token {
         Token::Piece { from, to } => push_escaped(html, &source[from..to]),
         Token::Characters(chars) => push_chars(html, chars),
-        Token::Whole(written) => push_written(room, html, source, written),
+        Token::Whole(written) => push_written(spare, html, source, written),
         Token::Made { number, .. } => push_group(
-            room,
+            spare,
             html,
             source,
             inside,
@@ -177,7 +177,7 @@ fn push_text(html: &mut String, source: &str, from: usize, to: usize) -> Result<
 /// Adds the HTML of a token. That of a piece of the source waits; its places are answered, or those of no text.
 #[cycle(html)]
 fn push_apart(
-    room: &mut Room,
+    spare: &mut Spare,
     html: &mut String,
     source: &str,
     inside: &[Token],
@@ -195,14 +195,14 @@ fn push_apart(
     if let Token::Piece { from, to } = token {
         return Ok((from, to));
     }
-    push_token(room, html, source, inside, groups, token)?;
+    push_token(spare, html, source, inside, groups, token)?;
     Ok(no_text(source))
 }
 
 /// Adds the HTML of tokens, one after another. Texts that follow one another in the source are added at once.
 #[cycle(html)]
 fn push_tokens(
-    room: &mut Room,
+    spare: &mut Spare,
     html: &mut String,
     source: &str,
     inside: &[Token],
@@ -222,7 +222,7 @@ fn push_tokens(
             continue;
         }
         push_text(html, source, from, to)?;
-        let waits = push_apart(room, html, source, inside, groups, *token)?;
+        let waits = push_apart(spare, html, source, inside, groups, *token)?;
         from = waits.0;
         to = waits.1;
     }
@@ -258,7 +258,7 @@ fn end_tag(kind: Kind) -> &'static str
 /// Adds the HTML of a group, which holds groups before it.
 #[cycle(html)]
 fn push_group(
-    room: &mut Room,
+    spare: &mut Spare,
     html: &mut String,
     source: &str,
     inside: &[Token],
@@ -271,14 +271,14 @@ fn push_group(
     ensures { OnOk result (string_bytes html.new ≡ string_bytes html.old ++ (spelled (group_made inside.now (groups_made inside.now groups.now) (grouped group.entry) source.now)).html) }
 {
     if let Kind::Image = group.making.kind {
-        let image = group_inline(room, source, inside, groups, group)?;
+        let image = group_inline(spare, source, inside, groups, group)?;
         push_inline(html, &image)?;
-        room.keep_inline(image);
+        spare.keep_inline(image);
         return Ok(());
     }
     push_start(html, group.making)?;
     push_tokens(
-        room,
+        spare,
         html,
         source,
         inside,
@@ -290,7 +290,7 @@ fn push_group(
 
 /// Adds the HTML of the inlines that come of nodes.
 pub(crate) fn push_nodes(
-    room: &mut Room,
+    spare: &mut Spare,
     html: &mut String,
     source: &str,
     nodes: &Nodes,
@@ -300,7 +300,7 @@ pub(crate) fn push_nodes(
     ensures { OnOk result (string_bytes html.new ≡ string_bytes html.old ++ inlines_html (settled (items_of source.now (nodes_in nodes.now)))) }
 {
     push_tokens(
-        room,
+        spare,
         html,
         source,
         nodes.inside(),

@@ -17,9 +17,9 @@ mod nodes;
 mod openers;
 mod pairing;
 mod reading;
-mod room;
 mod runs;
 mod settling;
+mod spare;
 mod tokens;
 mod written;
 

@@ -24,8 +24,8 @@ use crate::fault::InlineFault;
 use crate::html::push_nodes;
 use crate::nodes::Nodes;
 use crate::pairing::pair_from;
-use crate::room::Room;
 use crate::settling::settle;
+use crate::spare::Spare;
 use crate::tokens::Token;
 use cm_text::{Rules, next_markup};
 use cm_tree::{Block, Definitions, Inline, Items};
@@ -139,7 +139,7 @@ fn read_nodes(
 #[derive(Drop)]
 pub struct InlineReader {
     reader: Reader,
-    room: Room,
+    spare: Spare,
 }
 
 impl InlineReader {
@@ -147,7 +147,7 @@ impl InlineReader {
     pub fn new(alloc: Global) -> InlineReader {
         InlineReader {
             reader: Reader::new(alloc),
-            room: Room::new(alloc),
+            spare: Spare::new(alloc),
         }
     }
 
@@ -167,9 +167,9 @@ impl InlineReader {
     ) -> Result<(Items<Inline>, Steps), InlineFault>
         ensures { Reads result rules definitions.now limit source.now }
     {
-        let alloc = self.room.alloc();
+        let alloc = self.spare.alloc();
         let steps = read_nodes(alloc, rules, source, definitions, limit, &mut self.reader)?;
-        Ok((settle(&mut self.room, source, &self.reader.nodes)?, steps))
+        Ok((settle(&mut self.spare, source, &self.reader.nodes)?, steps))
     }
 
     /// The source of a leaf without markup, as `is_one_text` tells it, as its one inline.
@@ -180,12 +180,12 @@ impl InlineReader {
     pub fn one_text(&mut self, source: &str) -> Result<Items<Inline>, AllocError>
         ensures { IfOk result (λ inlines. inlines ≡ Text source.now ∷ []) }
     {
-        self.room.one_text(source)
+        self.spare.one_text(source)
     }
 
     /// Lets go of a block. The memory of its inlines serves for those that are read next.
     pub fn let_go(&mut self, block: Block) {
-        self.room.keep_block(block);
+        self.spare.keep_block(block);
     }
 
     /// Adds the HTML of these inlines. It takes less time and memory than they do, since a text is written from the source.
@@ -205,9 +205,9 @@ impl InlineReader {
         ensures within { OnOk result (inlines.nests_past rules (defined_in definitions.now) limit source.now ≡ false) }
         ensures refused { IfErr result (λ fault. Refused fault rules definitions.now limit source.now) }
     {
-        let alloc = self.room.alloc();
+        let alloc = self.spare.alloc();
         read_nodes(alloc, rules, source, definitions, limit, &mut self.reader)?;
-        push_nodes(&mut self.room, html, source, &self.reader.nodes)?;
+        push_nodes(&mut self.spare, html, source, &self.reader.nodes)?;
         Ok(())
     }
 }

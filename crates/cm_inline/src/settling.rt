@@ -6,7 +6,7 @@ ghost use Rattle.cm_inline.specs.steps.Nodes.{inline_of, items_of, AreParts};
 
 use crate::groups::{FirstGroups, Group, Kind, Making};
 use crate::nodes::Nodes;
-use crate::room::Room;
+use crate::spare::Spare;
 use crate::tokens::{Token, push_texts};
 use cm_tree::{Inline, Items};
 use std::alloc::AllocError;
@@ -26,17 +26,17 @@ fn count_inlines(tokens: &[Token]) -> usize {
 }
 
 /// A list of no inlines in memory that is left, or else with room for those of the tokens.
-fn list_for(room: &mut Room, tokens: &[Token]) -> Result<Vec<Inline>, AllocError>
+fn list_for(spare: &mut Spare, tokens: &[Token]) -> Result<Vec<Inline>, AllocError>
     ensures { IfOk result (λ list. list.items ≡ []) }
 {
-    match room.list() {
+    match spare.list() {
         Some(list) => Ok(list),
-        None => Ok(Vec::with_capacity(room.alloc(), count_inlines(tokens))?),
+        None => Ok(Vec::with_capacity(spare.alloc(), count_inlines(tokens))?),
     }
 }
 
 /// What is made of a content.
-fn made(room: &mut Room, making: Making<'_>, content: Items<Inline>) -> Result<Inline, AllocError>
+fn made(spare: &mut Spare, making: Making<'_>, content: Items<Inline>) -> Result<Inline, AllocError>
     ensures { IfOk result (λ inline. inline ≡ made_of making.entry.kind (target_of making.entry) content) }
 {
     match making.kind {
@@ -44,13 +44,13 @@ fn made(room: &mut Room, making: Making<'_>, content: Items<Inline>) -> Result<I
         Kind::Strong => Ok(Inline::Strong(content)),
         Kind::Strike => Ok(Inline::Strike(content)),
         Kind::Link => Ok(Inline::Link {
-            dest: room.boxed(making.dest)?,
-            title: room.boxed(making.title)?,
+            dest: spare.boxed(making.dest)?,
+            title: spare.boxed(making.title)?,
             content,
         }),
         Kind::Image => Ok(Inline::Image {
-            dest: room.boxed(making.dest)?,
-            title: room.boxed(making.title)?,
+            dest: spare.boxed(making.dest)?,
+            title: spare.boxed(making.title)?,
             content,
         }),
     }
@@ -59,7 +59,7 @@ fn made(room: &mut Room, making: Making<'_>, content: Items<Inline>) -> Result<I
 /// The inline of a group, which holds groups before it.
 #[cycle(settling)]
 pub(crate) fn group_inline(
-    room: &mut Room,
+    spare: &mut Spare,
     source: &str,
     inside: &[Token],
     groups: &FirstGroups<'_>,
@@ -70,14 +70,14 @@ pub(crate) fn group_inline(
     requires group { IsGroup inside.now (length groups.now) (grouped group) }
     ensures { IfOk result (λ inline. inline ≡ group_made inside.now (groups_made inside.now groups.now) (grouped group.entry) source.now) }
 {
-    let content = settle_tokens(room, source, inside, groups, &inside[group.from..group.to])?;
-    made(room, group.making, content)
+    let content = settle_tokens(spare, source, inside, groups, &inside[group.from..group.to])?;
+    made(spare, group.making, content)
 }
 
 /// Adds the inline that a token is, if it is one.
 #[cycle(settling)]
 fn push_inline(
-    room: &mut Room,
+    spare: &mut Spare,
     source: &str,
     inside: &[Token],
     groups: &FirstGroups<'_>,
@@ -92,12 +92,12 @@ fn push_inline(
 {
     match token {
         Token::Whole(written) => {
-            let inline = written.inline(room, source)?;
+            let inline = written.inline(spare, source)?;
             Ok(content.push(inline)?)
         }
         Token::Made { number, .. } => {
             let inline = group_inline(
-                room,
+                spare,
                 source,
                 inside,
                 &groups.up_to(number),
@@ -112,7 +112,7 @@ fn push_inline(
 /// The inlines of tokens, where texts side by side are one.
 #[cycle(settling)]
 fn settle_tokens(
-    room: &mut Room,
+    spare: &mut Spare,
     source: &str,
     inside: &[Token],
     groups: &FirstGroups<'_>,
@@ -124,12 +124,12 @@ fn settle_tokens(
     requires tokens { ArePlaced source.now tokens.now }
     ensures { IfOk result (λ content. content ≡ settled (items_of source.now (nodes_of (groups_made inside.now groups.now) tokens.now))) }
 {
-    let mut content = list_for(room, tokens)?;
+    let mut content = list_for(spare, tokens)?;
     let mut at = 0;
     while at < tokens.len() {
-        at += push_texts(room, source, &tokens[at..], &mut content)?;
+        at += push_texts(spare, source, &tokens[at..], &mut content)?;
         if at < tokens.len() {
-            push_inline(room, source, inside, groups, tokens[at], &mut content)?;
+            push_inline(spare, source, inside, groups, tokens[at], &mut content)?;
             at += 1;
         }
     }
@@ -138,7 +138,7 @@ fn settle_tokens(
 
 /// The inlines of nodes.
 pub(crate) fn settle(
-    room: &mut Room,
+    spare: &mut Spare,
     source: &str,
     nodes: &Nodes,
 ) -> Result<Items<Inline>, AllocError>
@@ -147,7 +147,7 @@ pub(crate) fn settle(
     ensures { IfOk result (λ content. content ≡ settled (items_of source.now (nodes_in nodes.now))) }
 {
     settle_tokens(
-        room,
+        spare,
         source,
         nodes.inside(),
         &nodes.groups(),

@@ -7,8 +7,8 @@ ghost use Rattle.cm_inline.specs.steps.Groups.{node_of, nodes_of, IsPlaced, AreP
 ghost use Rattle.cm_inline.specs.steps.Runs.{byte_of};
 ghost use Rattle.cm_inline.specs.steps.Nodes.{is_closer, is_text, node_depth, nodes_depth, text_in, text_in_front, behind_texts};
 
-use crate::room::Room;
 use crate::runs::DelimiterRun;
+use crate::spare::Spare;
 use crate::written::Written;
 use cm_text::Chars;
 use cm_tree::{Inline, Text};
@@ -146,23 +146,23 @@ fn push_text_of(text: &mut String, source: &str, token: Token) -> Result<bool, A
 }
 
 /// A string of no bytes in memory that is left, or else with room for the text with which the tokens begin.
-fn string_for(room: &mut Room, tokens: &[Token]) -> Result<String, AllocError>
+fn string_for(spare: &mut Spare, tokens: &[Token]) -> Result<String, AllocError>
     ensures { IfOk result (λ string. string_bytes string ≡ []) }
 {
-    match room.string() {
+    match spare.string() {
         Some(string) => Ok(string),
-        None => String::with_capacity(room.alloc(), size_of_text(tokens)),
+        None => String::with_capacity(spare.alloc(), size_of_text(tokens)),
     }
 }
 
 /// The text with which the tokens begin, in one piece, and how many of them it takes.
-fn join(room: &mut Room, source: &str, tokens: &[Token]) -> Result<(Text, usize), AllocError>
+fn join(spare: &mut Spare, source: &str, tokens: &[Token]) -> Result<(Text, usize), AllocError>
     requires { ArePlaced source.now tokens.now }
     ensures text { IfOk result (λ joined. joined.0 ≡ text_in_front source.now (nodes_of [] tokens.now)) }
     ensures rest { IfOk result (λ joined. nodes_of [] (drop joined.1 tokens.now) ≡ behind_texts (nodes_of [] tokens.now)) }
     ensures within { IfOk result (λ joined. joined.1 ≤ length tokens.now) }
 {
-    let mut text = string_for(room, tokens)?;
+    let mut text = string_for(spare, tokens)?;
     for (at, token) in tokens.iter().enumerate() {
         if !push_text_of(&mut text, source, *token)? {
             return Ok((Text::from(text), at));
@@ -173,7 +173,7 @@ fn join(room: &mut Room, source: &str, tokens: &[Token]) -> Result<(Text, usize)
 
 /// Adds the text with which the tokens begin, if there is one, and answers how many of them it takes.
 pub(crate) fn push_texts(
-    room: &mut Room,
+    spare: &mut Spare,
     source: &str,
     tokens: &[Token],
     content: &mut Vec<Inline>,
@@ -183,9 +183,9 @@ pub(crate) fn push_texts(
     ensures rest { IfOk result (λ count. nodes_of [] (drop count tokens.now) ≡ behind_texts (nodes_of [] tokens.now)) }
     ensures pushed { OnOk result (content.new.items ≡ content.old.items ++ text_before (text_in_front source.now (nodes_of [] tokens.now)) []) }
 {
-    let (text, count) = join(room, source, tokens)?;
+    let (text, count) = join(spare, source, tokens)?;
     if text.is_empty() {
-        room.keep_text(text);
+        spare.keep_text(text);
     } else {
         content.push(Inline::Text(text))?;
     }

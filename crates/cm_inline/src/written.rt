@@ -4,7 +4,7 @@ ghost use Rattle.cm_tree.specs.declared.tree.Inline.TheVariants as inlines;
 ghost use Rattle.cm_inline.specs.steps.Written.{inline_in, written_depth, IsWithin};
 
 use crate::code::one_line;
-use crate::room::Room;
+use crate::spare::Spare;
 use cm_tree::{BoxedText, Inline};
 use std::alloc::{AllocError, Global};
 
@@ -33,18 +33,18 @@ pub(crate) enum Written {
 
 impl Written {
     /// The inline.
-    pub(crate) fn inline(self, room: &mut Room, source: &str) -> Result<Inline, AllocError>
+    pub(crate) fn inline(self, spare: &mut Spare, source: &str) -> Result<Inline, AllocError>
         requires { IsWithin source.now self }
         ensures { IfOk result (λ inline. inline ≡ inline_in source.now self) }
     {
         match self {
-            Written::Code { from, to } => Ok(Inline::Code(one_line(room, &source[from..to])?)),
-            Written::Html { from, to } => { Ok(Inline::Html(room.text(&source[from..to])?)) }
+            Written::Code { from, to } => Ok(Inline::Code(one_line(spare, &source[from..to])?)),
+            Written::Html { from, to } => { Ok(Inline::Html(spare.text(&source[from..to])?)) }
             Written::Autolink {
                 from,
                 to,
                 is_address,
-            } => link_to(room, is_address, &source[from..to]),
+            } => link_to(spare, is_address, &source[from..to]),
             Written::Soft => Ok(Inline::Soft),
             Written::Hard => Ok(Inline::Hard),
         }
@@ -78,23 +78,27 @@ pub(crate) fn destination_of(
 }
 
 /// The same on the heap.
-fn boxed_destination(room: &mut Room, is_address: bool, text: &str) -> Result<BoxedText, AllocError>
+fn boxed_destination(
+    spare: &mut Spare,
+    is_address: bool,
+    text: &str,
+) -> Result<BoxedText, AllocError>
     ensures { IfOk result (λ dest. dest ≡ (if is_address then codes "mailto:" ++ text.now else text.now)) }
 {
     if !is_address {
-        return room.boxed(text);
+        return spare.boxed(text);
     }
-    let dest = destination_of(room.alloc(), is_address, text)?;
-    room.boxed(&dest)
+    let dest = destination_of(spare.alloc(), is_address, text)?;
+    spare.boxed(&dest)
 }
 
 /// An autolink as a link (6.5 Autolinks).
-fn link_to(room: &mut Room, is_address: bool, text: &str) -> Result<Inline, AllocError>
+fn link_to(spare: &mut Spare, is_address: bool, text: &str) -> Result<Inline, AllocError>
     ensures { IfOk result (λ made. made ≡ inlines.Link (if is_address then codes "mailto:" ++ text.now else text.now) [] (inlines.Text text.now ∷ [])) }
 {
     Ok(Inline::Link {
-        dest: boxed_destination(room, is_address, text)?,
-        title: room.boxed("")?,
-        content: room.one_text(text)?,
+        dest: boxed_destination(spare, is_address, text)?,
+        title: spare.boxed("")?,
+        content: spare.one_text(text)?,
     })
 }

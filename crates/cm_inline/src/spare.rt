@@ -1,4 +1,4 @@
-//! Memory of inlines that were let go of, which serves for the next ones.
+//! Spare memory: that of inlines which were let go of, and which serves for the next ones.
 ghost use Rattle.std.specs.Prelude.{◌≡◌, [], ◌∷◌, string_bytes, IfOk, IfSome};
 ghost use Rattle.cm_tree.specs.declared.tree.Inline.TheVariants.{Text as text_inline};
 
@@ -7,17 +7,17 @@ use std::alloc::{AllocError, Global};
 
 /// Texts and lists of inlines that were let go of.
 #[derive(Drop)]
-pub(crate) struct Room {
+pub(crate) struct Spare {
     alloc: Global,
     texts: Vec<String>,
     boxes: Vec<Box<Text>>,
     lists: Vec<Vec<Inline>>,
 }
 
-impl Room {
+impl Spare {
     /// Nothing was let go of. It takes no memory.
-    pub(crate) fn new(alloc: Global) -> Room {
-        Room {
+    pub(crate) fn new(alloc: Global) -> Spare {
+        Spare {
             alloc,
             texts: Vec::new(alloc),
             boxes: Vec::new(alloc),

@@ -1,6 +1,6 @@
 use Rattle.std.proofs.Common.{arith}
 use Rattle.cm_inline.proofs.DepthLemmas.{one-more-depth}
-use Rattle.cm_inline.proofs.room.Room.+inlines.Goals as goal
+use Rattle.cm_inline.proofs.spare.Spare.+inlines.Goals as goal
 
 pub keep_inlines-keep_inline-requires : goal.keep_inlines-keep_inline-requires
 keep_inlines-keep_inline-requires t c =

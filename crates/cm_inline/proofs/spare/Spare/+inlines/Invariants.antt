@@ -1,6 +1,6 @@
 use Rattle.std.proofs.Common.{◌≤◌, ◌+◌, ◌*◌, length}
 use Rattle.cm_tree.specs.Depth.{depth_of, inlines_depth}
-use Rattle.cm_inline.proofs.room.Room.+inlines.Given as goal
+use Rattle.cm_inline.proofs.spare.Spare.+inlines.Given as goal
 
 -- What stands in an inline nests less deep than it.
 
