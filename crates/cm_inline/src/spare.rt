@@ -108,10 +108,13 @@ impl Spare {
         Ok(inlines)
     }
 
-    /// Keeps the memory of a text. Where there is no room to keep it, it is freed.
+    /// Keeps the memory of a text, if it has any. Where there is no room to keep it, it is freed.
     #[inline(always)]
     pub(crate) fn keep_text(&mut self, text: Text) {
-        let _ = self.texts.push(text.into_string());
+        let text = text.into_string();
+        if text.capacity() > 0 {
+            let _ = self.texts.push(text);
+        }
     }
 
     /// Keeps the memory of a text on the heap.
@@ -122,14 +125,16 @@ impl Spare {
         }
     }
 
-    /// Keeps the memory of inlines.
+    /// Keeps the memory of inlines, if they have any.
     #[cycle(inlines)]
     pub(crate) fn keep_inlines(&mut self, inlines: Items<Inline>) {
         let mut list = inlines.into_vec();
         while let Some(inline) = list.pop() {
             self.keep_inline(inline);
         }
-        let _ = self.lists.push(list);
+        if list.capacity() > 0 {
+            let _ = self.lists.push(list);
+        }
     }
 
     /// Keeps the memory of an inline.
