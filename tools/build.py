@@ -1,0 +1,408 @@
+#!/usr/bin/env python3
+"""Proves and builds the program cmk, and then becomes it: ./cmk calls this where the program isn't there, or may be older than its sources.
+
+  tools/build.py [WORD..]    the words are those of cmk
+
+Each crate is proved from nothing, and built for those above it without its proofs. What is proved is kept in ~/.cache/cmk, or in
+$XDG_CACHE_HOME/cmk, by the sum of all that it was made from: so another copy of these sources takes it from there, and after an
+interrupt the crates that were whole are there. What is told of it goes to standard error.
+"""
+import contextlib
+import fcntl
+import hashlib
+import os
+import pathlib
+import re
+import shutil
+import signal
+import subprocess
+import sys
+import tempfile
+import time
+
+TOP = pathlib.Path(__file__).resolve().parent.parent
+OUT = TOP / "crates/cmk/out"
+PROGRAM = "cmk"
+PARTS = ("src", "specs", "proofs")
+MEMORY = pathlib.Path("/proc/meminfo")
+# What `rattle build` takes, and what the kit's folder holds, where libraries can be built without their proofs.
+FLAGS = "--crate-name --extern -L --antt-project --logic-built --links --statements --jobs --backend --toolchain -o".split()
+FILES = "bin/rattle bin/rattle-link rlibs logic_built rattle/logic/antt-project.json toolchain c/libos_c.a c/liblibc_c.a".split()
+# The seconds that each crate took on the last machine (docs/performance.md).
+SECONDS = {"cm_text": 120, "cm_tree": 110, "cm_html": 110, "cm_scan": 130, "cm_source": 170, "cm_block": 210, "cm_inline": 220, "cm_tool": 300, "cmk": 70}
+# How many processors prove the crate on which most of the others wait.
+JOBS = 2
+# How much memory is to be free for each crate, in kB.
+ROOM = 3 * 1024 * 1024
+# How many of each name are kept.
+KEPT = 4
+
+
+class Failed(Exception):
+    """Why there is no program, or none with what was asked for."""
+
+
+class Stopped(Exception):
+    """A signal that ends this run."""
+
+
+def tell(text):
+    print(f"cmk: {text}", file=sys.stderr, flush=True)
+
+
+class Crate:
+    """A crate of the repository, with the libraries that it names: those of the repository, and those of the kit."""
+
+    def __init__(self, name, named, ours):
+        self.name = name
+        self.below = [it for it in named if it in ours]
+        self.of_kit = ["std", *(it for it in named if it not in ours)]
+        self.folder = TOP / "crates" / name
+        self.seconds = SECONDS.get(name, max(SECONDS.values()))
+
+    def sum(self, kit, below):
+        """Returns the sum of all that the crate is made from: the kit, the sources, and what it stands on, of which the sums are given."""
+        made_of = hashlib.sha256(repr((kit.identity, self.name, self.of_kit, below)).encode())
+        for file in sorted(it for part in PARTS for it in (self.folder / part).rglob("*") if it.is_file()):
+            made_of.update(repr((str(file.relative_to(self.folder)), file.read_bytes())).encode())
+        return made_of.hexdigest()[:32]
+
+    def keeps_work(self):
+        """Returns whether `rt check` has left work, over which it is short."""
+        kept = self.folder / "out/incremental"
+        return kept.is_dir() and any(kept.iterdir())
+
+
+def crates():
+    """Returns by name the crates that cmk stands on, and cmk: each behind those that it stands on."""
+    lines = (it.partition("#")[0].replace(",", " ").partition(":") for it in (TOP / "crates.txt").read_text().splitlines())
+    named = {head.split()[0]: names.split() for head, colon, names in lines if colon}
+    found, entered = {}, set()
+
+    def add(name):
+        if name in named and name not in found:
+            if name in entered:
+                raise Failed(f"in {TOP}/crates.txt crates stand on one another in a circle")
+            entered.add(name)
+            for it in named[name]:
+                add(it)
+            found[name] = Crate(name, named[name], named)
+
+    add(PROGRAM)
+    if not found:
+        raise Failed(f"{TOP}/crates.txt doesn't name {PROGRAM}")
+    return found
+
+
+def sums_of(plan, kit):
+    sums = {}
+    for crate in plan.values():
+        sums[crate.name] = crate.sum(kit, [sums[it] for it in crate.below])
+    return sums
+
+
+class Kit:
+    """The Rattle kit, by its command rt."""
+
+    def __init__(self):
+        self.prover = shutil.which("rt") or "/opt/rattle/bin/rt"
+        if not os.access(self.prover, os.X_OK):
+            raise Failed(f"the program is to be proved, and there is no rt on PATH or at {self.prover}")
+        self.folder = pathlib.Path(self.prover).resolve().parent.parent
+        with contextlib.suppress(OSError):
+            self.identity = ""
+            self.identity = (self.folder / "KIT-ID").read_text().strip()
+
+    def lacking(self):
+        """Returns what isn't as it has to be where libraries are built without their proofs, or None."""
+        absent = [it for it in FILES if not (self.folder / it).exists()]
+        if absent:
+            return absent[0]
+        help_text = subprocess.run([self.folder / "bin/rattle", "build", "--help"], stdin=subprocess.DEVNULL, stdout=subprocess.PIPE, check=False).stdout
+        words = set(re.findall(r"(?m)^ *(-[\w-]+)(?:, (--[\w-]+))?", help_text.decode(errors="replace")))
+        return next((it for it in FLAGS if it not in {word for pair in words for word in pair}), None)
+
+    def steps(self, crate, libraries, jobs, made):
+        """Returns the commands that prove the crate and build it into a folder. The libraries are those of the repository that it
+        stands on, by name, with their folders."""
+        rattle = self.folder / "bin/rattle"
+        words = ["--crate-name", crate.name, "--links", f"{crate.name}="]
+        for name in crate.of_kit:
+            words += ["--extern", f"{name}={self.folder}/rlibs/{name}.rlib"]
+        for name in crate.below:
+            words += ["--extern", f"{name}={libraries[name]}/{name}.rlib"]
+        for folder in [self.folder / "rlibs", *libraries.values()]:
+            words += ["-L", f"dependency={folder}"]
+        words += ["--antt-project", self.folder / "rattle/logic/antt-project.json"]
+        proving = ["--logic-built", self.folder / "logic_built", "--jobs", str(jobs)]
+        if crate.name != PROGRAM:
+            return [[rattle, "build", "src/lib.rt", *words, *proving, "--statements", "-o", made / f"{crate.name}.rlib"]]
+        toolchain = ["--toolchain", self.folder / "toolchain"]
+        linked = ["--target", "x86_64-unknown-linux-gnu", *toolchain, "-o", made / PROGRAM, made / "cmk.o"]
+        return [
+            [rattle, "build", "src/main.rt", *words, *proving, "--backend", "llvm", *toolchain, "-o", made / "cmk.o"],
+            [self.folder / "bin/rattle-link", *linked, self.folder / "c/libos_c.a", self.folder / "c/liblibc_c.a"],
+            ["rm", made / "cmk.o"],
+            [made / PROGRAM, "--help"],
+        ]
+
+
+class Store:
+    """What was proved on this machine: a folder for each library, and for the program, by its name and its sum."""
+
+    def __init__(self):
+        cache = os.environ.get("XDG_CACHE_HOME") or os.path.expanduser("~/.cache")
+        for folder in ([pathlib.Path(cache) / "cmk"] if os.path.isabs(cache) else []) + [OUT / "proved"]:
+            with contextlib.suppress(OSError):
+                folder.mkdir(parents=True, exist_ok=True)
+                self.folder, self.lock = folder, (folder / "lock").open("a")
+                return
+        raise Failed(f"nothing can be written to {OUT}")
+
+    def wait(self):
+        """Waits until no other run proves anything here. The kernel drops a run's lock when the run ends, however that is."""
+        try:
+            fcntl.flock(self.lock, fcntl.LOCK_EX | fcntl.LOCK_NB)
+        except BlockingIOError:
+            tell("waiting for another run that proves it")
+            fcntl.flock(self.lock, fcntl.LOCK_EX)
+        # A run that was killed may have left such a folder.
+        for left in self.folder.glob("proving.*"):
+            shutil.rmtree(left, ignore_errors=True)
+
+    def place(self, name, made_of):
+        return self.folder / f"{name}-{made_of}"
+
+    def has(self, name, made_of):
+        return self.place(name, made_of).is_dir()
+
+    def keep(self, made, name, made_of):
+        """Takes a folder in. Of those of one name the last few stay."""
+        made.rename(self.place(name, made_of))
+        for old in sorted(self.folder.glob(f"{name}-*"), key=lambda it: it.stat().st_mtime)[:-KEPT]:
+            shutil.rmtree(old, ignore_errors=True)
+
+
+class Processes:
+    """What this run starts, in a group of processes that ends when this run ends, however that is."""
+
+    def __init__(self):
+        # The shell's read returns when this run's end of the pipe closes.
+        nowhere = {"stdout": subprocess.DEVNULL, "stderr": subprocess.DEVNULL}
+        self.started = []
+        self.guard = subprocess.Popen(["sh", "-c", "read _; kill -9 0"], stdin=subprocess.PIPE, preexec_fn=os.setpgrp, **nowhere)
+
+    def start(self, words, folder, log):
+        with log.open("ab") as to:
+            how = {"cwd": folder, "stdin": subprocess.DEVNULL, "stdout": to, "stderr": subprocess.STDOUT}
+            self.started.append(subprocess.Popen(words, preexec_fn=lambda: os.setpgid(0, self.guard.pid), **how))
+        return self.started[-1]
+
+    def close(self):
+        self.guard.stdin.close()
+        for it in (self.guard, *self.started):
+            it.wait()
+
+
+class Making:
+    """A crate that is proved and built into a folder, command by command."""
+
+    def __init__(self, crate, steps, processes, made):
+        self.crate, self.steps, self.processes, self.made = crate, steps, processes, made
+        self.log = made.with_suffix(".log")
+        self.began = time.monotonic()
+        self.process = None
+        made.mkdir()
+
+    def goes_on(self):
+        """Starts the next command where the last one has ended, and returns whether one is at work."""
+        if self.process and self.process.poll() is None:
+            return True
+        if self.process and self.process.returncode:
+            lines = [it for it in self.log.read_text(errors="replace").splitlines() if not it.startswith("statements ")]
+            why = "was killed, most likely for want of memory" if self.process.returncode == -signal.SIGKILL else "isn't proved"
+            print("\n".join(lines[-20:]), file=sys.stderr)
+            raise Failed(f"{self.crate.name} {why}, so nothing was run")
+        if self.steps:
+            self.process = self.processes.start(self.steps.pop(0), self.crate.folder, self.log)
+            return True
+        return False
+
+
+class Progress:
+    """Tells how far it is: on a terminal in a line that is written anew, and elsewhere in a line a minute."""
+
+    def __init__(self):
+        self.is_terminal = sys.stderr.isatty()
+        self.told = time.monotonic()
+
+    def tell(self, text):
+        if self.is_terminal:
+            line = f"cmk: {text}"[: shutil.get_terminal_size().columns - 1]
+            print(f"\r{line}\033[K", end="", file=sys.stderr, flush=True)
+        elif time.monotonic() - self.told >= 60:
+            self.told = time.monotonic()
+            tell(text)
+
+    def end(self):
+        if self.is_terminal:
+            print("\r\033[K", end="", file=sys.stderr, flush=True)
+
+
+def minutes(seconds):
+    count = max(1, round(seconds / 60))
+    return f"{count} minute{'s' * (count > 1)}"
+
+
+class Build:
+    """The crates that aren't kept, as far as they are proved."""
+
+    def __init__(self, plan, sums, kit, store):
+        self.plan, self.sums, self.kit, self.store = plan, sums, kit, store
+        self.waiting = [it for it in plan if not store.has(it, sums[it])]
+        self.total = len(self.waiting)
+        self.running = {}
+        self.processors = len(os.sched_getaffinity(0))
+        # The seconds that those which have ended took, here and on the last machine.
+        self.took = self.expected = 0
+
+    def is_kept(self, name):
+        return name not in self.waiting and name not in self.running
+
+    def stands_on(self, name, other):
+        return any(it == other or self.stands_on(it, other) for it in self.plan[name].below)
+
+    def chains(self, seconds):
+        """Returns for each crate the longest time that it and crates above it take one after another, by the seconds of each."""
+        found = {}
+        for name in reversed(self.plan):
+            found[name] = seconds[name] + max((found[it] for it in found if name in self.plan[it].below), default=0)
+        return found
+
+    def left(self):
+        """Returns the seconds that are left at the pace so far: of the longest chain, or of all crates if the processors don't suffice."""
+        pace = self.took / self.expected if self.expected else 1
+        seconds = {name: 0 if self.is_kept(name) else crate.seconds * pace for name, crate in self.plan.items()}
+        for name, it in self.running.items():
+            seconds[name] = max(seconds[name] - (time.monotonic() - it.began), 5)
+        return max(*self.chains(seconds).values(), sum(seconds.values()) / self.processors)
+
+    def has_place(self):
+        """Returns whether one more crate may run: the first may, another where a processor is free, and memory for each."""
+        lines = dict(it.split(":", 1) for it in MEMORY.read_text().splitlines())
+        room = int(lines["MemAvailable"].split()[0]) // ROOM
+        return not self.running or len(self.running) < min(self.processors, room)
+
+    def start_ready(self, processes, work):
+        """Starts the crates that wait for none, first those on which most others wait, as long as there is a place."""
+        chains = self.chains({name: 0 if self.is_kept(name) else crate.seconds for name, crate in self.plan.items()})
+        longest = max(chains[it] for it in (*self.waiting, *self.running))
+        ready = [it for it in self.waiting if all(self.is_kept(below) for below in self.plan[it].below)]
+        for name in sorted(ready, key=lambda it: -chains[it]):
+            if not self.has_place():
+                return
+            jobs = min(JOBS if chains[name] == longest else 1, self.processors)
+            libraries = {it: self.store.place(it, self.sums[it]) for it in self.plan if self.stands_on(name, it)}
+            self.waiting.remove(name)
+            steps = self.kit.steps(self.plan[name], libraries, jobs, work / name)
+            self.running[name] = Making(self.plan[name], steps, processes, work / name)
+
+    def keep_ended(self):
+        """Keeps what has been built, if its sources are as they were."""
+        for name, it in list(self.running.items()):
+            if it.goes_on():
+                continue
+            if self.plan[name].sum(self.kit, [self.sums[below] for below in self.plan[name].below]) != self.sums[name]:
+                raise Failed(f"a source of {name} has changed while it was proved: run it again")
+            self.store.keep(it.made, name, self.sums[name])
+            del self.running[name]
+            self.took += time.monotonic() - it.began
+            self.expected += self.plan[name].seconds
+
+    def run(self, processes, work):
+        progress = Progress()
+        try:
+            while self.waiting or self.running:
+                self.start_ready(processes, work)
+                done = self.total - len(self.waiting) - len(self.running)
+                progress.tell(f"{done} of {self.total} crates are proved, now {' and '.join(self.running)}; about {minutes(self.left())} left")
+                time.sleep(0.1)
+                self.keep_ended()
+        finally:
+            progress.end()
+
+
+def run_rt(kit, processes, work):
+    """Has rt prove what isn't proved, one crate after another, and build the program in its folder."""
+    jobs = min(4, len(os.sched_getaffinity(0)))
+    rt = Making(Crate(PROGRAM, [], []), [[kit.prover, "run", "--jobs", str(jobs), "--", "--help"]], processes, work / PROGRAM)
+    progress = Progress()
+    try:
+        while rt.goes_on():
+            progress.tell(f"proving for {minutes(time.monotonic() - rt.began)}")
+            time.sleep(0.1)
+    finally:
+        progress.end()
+
+
+def obtain(plan, sums, kit, store):
+    """Puts the program into its folder: the one that is kept, or one that is built once all is proved."""
+    build = Build(plan, sums, kit, store)
+    is_developed = all(it.keeps_work() for it in plan.values() if it.name != PROGRAM)
+    lacking = None if is_developed or not build.total else kit.lacking()
+    what = "what changed" if (OUT / PROGRAM).exists() else "each function of the program"
+    processes = Processes()
+    with tempfile.TemporaryDirectory(prefix="proving.", dir=store.folder) as work, contextlib.closing(processes):
+        if not build.total:
+            tell(f"these sources are proved already, and the program is in {store.folder}")
+        elif is_developed or lacking:
+            why = f"since this kit has no {lacking}" if lacking else "over the work that rt check has left"
+            tell(f"{what} is proved on this machine first, by rt run, {why}")
+            run_rt(kit, processes, pathlib.Path(work))
+            return
+        else:
+            tell(f"{what} is proved on this machine first: about {minutes(build.left())}")
+            build.run(processes, pathlib.Path(work))
+    shutil.copy2(store.place(PROGRAM, sums[PROGRAM]) / PROGRAM, OUT / "new")
+    (OUT / "new").replace(OUT / PROGRAM)
+
+
+def prove():
+    """Sees to it that the program is there, and is that of these sources and this kit."""
+    OUT.mkdir(parents=True, exist_ok=True)
+    plan, kit, store = crates(), Kit(), Store()
+    store.wait()
+    began = time.time()
+    sums = sums_of(plan, kit)
+    built, made_of = OUT / "built", f"{kit.identity}\n{sums[PROGRAM]}\n"
+    if not (OUT / PROGRAM).exists() or not built.exists() or built.read_text() != made_of:
+        built.unlink(missing_ok=True)
+        obtain(plan, sums, kit, store)
+        built.write_text(made_of)
+    # It is as old as the start of this run, so a source that changed meanwhile is newer.
+    os.utime(OUT / PROGRAM, (began, began))
+
+
+def main():
+    def stop(number, _):
+        raise Stopped(number)
+
+    for number in (signal.SIGHUP, signal.SIGINT, signal.SIGTERM):
+        if signal.getsignal(number) is not signal.SIG_IGN:
+            signal.signal(number, stop)
+    try:
+        prove()
+    except BrokenPipeError:
+        return 128 + signal.SIGPIPE
+    except (Failed, OSError) as why:
+        tell(why)
+        return 1
+    except Stopped as stopped:
+        tell("interrupted")
+        return 128 + stopped.args[0]
+    # Python ignores this signal, and a program keeps what is ignored.
+    signal.signal(signal.SIGPIPE, signal.SIG_DFL)
+    os.execv(OUT / PROGRAM, [OUT / PROGRAM, *sys.argv[1:]])
+
+
+sys.exit(main())
