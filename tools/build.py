@@ -30,7 +30,7 @@ FLAGS = "--crate-name --extern -L --antt-project --logic-built --links --stateme
 FILES = "bin/rattle bin/rattle-link rlibs logic_built rattle/logic/antt-project.json toolchain c/libos_c.a c/liblibc_c.a".split()
 # The seconds that each crate took on the last machine (docs/performance.md).
 SECONDS = {"cm_text": 120, "cm_tree": 110, "cm_html": 110, "cm_scan": 130, "cm_source": 170, "cm_block": 210, "cm_inline": 220, "cm_tool": 300, "cmk": 70}
-# How many processors prove the crate on which most of the others wait.
+# How many processors may prove a crate: a second one takes a sixth off its time, and half as much again of the processors'.
 JOBS = 2
 # How much memory is to be free for each crate, in kB.
 ROOM = 3 * 1024 * 1024
@@ -207,8 +207,8 @@ class Processes:
 class Making:
     """A crate that is proved and built into a folder, command by command."""
 
-    def __init__(self, crate, steps, processes, made):
-        self.crate, self.steps, self.processes, self.made = crate, steps, processes, made
+    def __init__(self, crate, jobs, steps, processes, made):
+        self.crate, self.jobs, self.steps, self.processes, self.made = crate, jobs, steps, processes, made
         self.log = made.with_suffix(".log")
         self.began = time.monotonic()
         self.process = None
@@ -287,25 +287,24 @@ class Build:
             seconds[name] = max(seconds[name] - (time.monotonic() - it.began), 5)
         return max(*self.chains(seconds).values(), sum(seconds.values()) / self.processors)
 
-    def has_place(self):
-        """Returns whether one more crate may run: the first may, another where a processor is free, and memory for each."""
+    def free(self):
+        """Returns how many processors are free; none where there is no memory for one more crate. The first has all of them in any case."""
         lines = dict(it.split(":", 1) for it in MEMORY.read_text().splitlines())
-        room = int(lines["MemAvailable"].split()[0]) // ROOM
-        return not self.running or len(self.running) < min(self.processors, room)
+        has_room = int(lines["MemAvailable"].split()[0]) >= (len(self.running) + 1) * ROOM
+        return self.processors - sum(it.jobs for it in self.running.values()) if has_room or not self.running else 0
 
     def start_ready(self, processes, work):
-        """Starts the crates that wait for none, first those on which most others wait, as long as there is a place."""
+        """Starts the crates that wait for none, first those on which most others wait. A second processor goes to one that leaves enough to others."""
         chains = self.chains({name: 0 if self.is_kept(name) else crate.seconds for name, crate in self.plan.items()})
-        longest = max(chains[it] for it in (*self.waiting, *self.running))
         ready = [it for it in self.waiting if all(self.is_kept(below) for below in self.plan[it].below)]
-        for name in sorted(ready, key=lambda it: -chains[it]):
-            if not self.has_place():
-                return
-            jobs = min(JOBS if chains[name] == longest else 1, self.processors)
+        ready.sort(key=lambda it: -chains[it])
+        while ready and self.free():
+            name = ready.pop(0)
+            jobs = max(1, min(JOBS, self.free() - len(ready)))
             libraries = {it: self.store.place(it, self.sums[it]) for it in self.plan if self.stands_on(name, it)}
-            self.waiting.remove(name)
             steps = self.kit.steps(self.plan[name], libraries, jobs, work / name)
-            self.running[name] = Making(self.plan[name], steps, processes, work / name)
+            self.waiting.remove(name)
+            self.running[name] = Making(self.plan[name], jobs, steps, processes, work / name)
 
     def keep_ended(self):
         """Keeps what has been built, if its sources are as they were."""
@@ -335,7 +334,7 @@ class Build:
 def run_rt(kit, processes, work):
     """Has rt prove what isn't proved, one crate after another, and build the program in its folder."""
     jobs = min(4, len(os.sched_getaffinity(0)))
-    rt = Making(Crate(PROGRAM, [], []), [[kit.prover, "run", "--jobs", str(jobs), "--", "--help"]], processes, work / PROGRAM)
+    rt = Making(Crate(PROGRAM, [], []), jobs, [[kit.prover, "run", "--jobs", str(jobs), "--", "--help"]], processes, work / PROGRAM)
     progress = Progress()
     try:
         while rt.goes_on():

@@ -1,5 +1,3 @@
-pub mod AskedLemmas
-pub mod CommandLineLemmas
 pub mod DepthLemmas
 pub mod EndedLemmas
 pub mod ExampleLemmas
@@ -15,11 +13,9 @@ pub mod PartLemmas
 pub mod ReadLemmas
 pub mod ReportingLemmas
 pub mod RewritingLemmas
-pub mod RowLemmas
 pub mod SettledLemmas
 pub mod SourceLemmas
 pub mod TextLemmas
-pub mod WalkedLemmas
 pub mod WithinLemmas
 pub mod PassedLemmas
 pub mod RawWalkLemmas

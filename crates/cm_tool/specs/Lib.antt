@@ -12,8 +12,6 @@ pub mod ExampleFiles
 pub mod FileExamples
 pub mod Reporting
 pub mod Rewriting
-pub mod CommandLine
-pub mod WordExamples
 pub mod Running
 pub mod TextMarkup
 pub mod Within

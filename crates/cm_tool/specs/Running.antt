@@ -8,10 +8,10 @@ use Rattle.cm_tool.specs.Writing.{Lists}
 use Rattle.cm_tool.specs.Reporting.{WritesReport}
 use Rattle.cm_tool.specs.Rewriting.{Rewrites}
 use Rattle.cm_tool.specs.declared.fault.Fault.{Fault}
-use Rattle.cm_tool.specs.declared.job.Job.{Job}
-use Rattle.cm_tool.specs.declared.job.Job.TheVariants.{Render, Tree, Rewrite, Examples}
-use Rattle.cm_tool.specs.declared.job.Stop.{Stop}
-use Rattle.cm_tool.specs.declared.job.Stop.TheVariants.{Help, Wrong, NoMemory}
+use Rattle.cm_command.specs.declared.job.Job.{Job}
+use Rattle.cm_command.specs.declared.job.Job.TheVariants.{Render, Tree, Rewrite, Examples}
+use Rattle.cm_command.specs.declared.job.Stop.{Stop}
+use Rattle.cm_command.specs.declared.job.Stop.TheVariants.{Help, Wrong, NoMemory}
 
 -- some front of the text was written, up to a failure
 abbrev pub WroteSome : SinkView → SinkView → List ℕ → Type 0

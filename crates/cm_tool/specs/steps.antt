@@ -5,4 +5,3 @@ pub mod Items
 pub mod Ends
 pub mod ExampleSteps
 pub mod Sources
-pub mod Arguments

@@ -6,7 +6,6 @@ ghost use Rattle.cm_tool.specs.Owners.{OneOwnerALine, RunsInOrder};
 ghost use Rattle.cm_tool.specs.ReadingExamples.{ReadingExamples};
 ghost use Rattle.cm_tool.specs.TextMarkup.{HeadingLevels, TextIsNoMarkup};
 ghost use Rattle.cm_tool.specs.Within.{NoFaultJustWithin, SpelledWithoutFault};
-ghost use Rattle.cm_tool.specs.WordExamples.{WordExamples};
 ghost use Rattle.cm_tool.specs.steps.FaultOrder.{FaultsInOrder};
 
 /// Worked examples, by computation.
@@ -17,8 +16,6 @@ pub fn worked_examples()
     ensures html { Examples }
     // From a file of examples to their report.
     ensures files { FileExamples }
-    // Of the words of `cmk examples`.
-    ensures words { WordExamples }
 {}
 
 /// A parser meets faults in an order that gives the fault of the input: first a line that has ended and

@@ -2,12 +2,10 @@
 //! and the program round it.
 #![tactic(auto)]
 
-mod command_line;
 mod conversion;
 mod examining;
 mod example_files;
 mod fault;
-mod job;
 pub mod laws;
 mod leaves;
 mod listing;
@@ -21,11 +19,10 @@ mod running;
 mod sources;
 mod texts;
 
-pub use command_line::task;
+pub use cm_command::{Job, Stop, Task, task};
 pub use conversion::convert;
 pub use examining::{Difference, Report, examples, examples_by};
 pub use fault::Fault;
-pub use job::{Job, Stop, Task};
 pub use parser::Parser;
 pub use reading::read;
 pub use rewriting::rewrite;

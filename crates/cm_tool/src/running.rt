@@ -6,10 +6,10 @@ ghost use Rattle.cm_tool.specs.Running.{Does, Offered, OfferedLine, Tells, RunsT
 
 use crate::conversion::convert;
 use crate::fault::Fault;
-use crate::job::{Job, Stop, Task};
 use crate::listing::list;
 use crate::reporting::report;
 use crate::rewriting::rewrite;
+use cm_command::{Job, Stop, Task};
 use cm_text::{Sink, Source, WriteFailed, write_all};
 use std::alloc::Global;
 use std::io::{Cursor, Write};

@@ -1,18 +1,11 @@
 //! Calls of one line: the name of a function, what it is called with, `=`, and its answer. A table of
 //! them is described at the front of `text.calls`.
 
-mod answer;
-mod of_block;
 mod of_command_line;
-mod of_device;
-mod of_inline;
-mod of_scan;
-mod of_text;
-mod of_tree;
 
-use crate::trouble::{Trouble, wrong};
-use crate::words::{Word, words};
-use answer::Answer;
+use case_tables::calls::{self, Answer};
+use case_tables::trouble::{Trouble, wrong};
+use case_tables::words::{Word, words};
 use std::alloc::Global;
 
 /// What a call answers.
@@ -22,12 +15,7 @@ fn called(alloc: Global, asked: &[Word]) -> Result<Answer, Trouble> {
     };
     let mut answer = Answer::new(alloc);
     let name = name.as_str();
-    let is_known = of_text::answers(&mut answer, name, given)?
-        || of_scan::answers(&mut answer, name, given)?
-        || of_tree::answers(&mut answer, name, given)?
-        || of_block::answers(&mut answer, name, given)?
-        || of_inline::answers(&mut answer, name, given)?
-        || of_device::answers(&mut answer, name, given)?
+    let is_known = calls::answers(&mut answer, name, given)?
         || of_command_line::answers(&mut answer, name, given)?;
     if is_known {
         return Ok(answer);

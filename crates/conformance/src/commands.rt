@@ -1,9 +1,9 @@
 //! Command lines, from their words to the exit status.
 
-use crate::cases::Case;
 use crate::runs::{Space, ran, told};
-use crate::trouble::{Trouble, same, wrong};
-use crate::words::{Word, words};
+use case_tables::cases::Case;
+use case_tables::trouble::{Trouble, same, wrong};
+use case_tables::words::{Word, words};
 use cm_tool::task;
 use std::alloc::Global;
 

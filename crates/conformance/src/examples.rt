@@ -3,7 +3,7 @@
 //! outside examples are passed over.
 
 use crate::texts::{Outcome, Text};
-use crate::trouble::{Trouble, wrong};
+use case_tables::trouble::{Trouble, wrong};
 use cm_text::{Limits, Rules};
 use std::alloc::{AllocError, Global};
 

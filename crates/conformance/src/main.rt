@@ -4,21 +4,11 @@
 #![tactic(auto)]
 
 mod calls;
-mod cases;
 mod commands;
-mod cuts;
-mod dialects;
-mod escapes;
 mod examples;
-mod lines;
-mod listed;
 mod runs;
-mod spelled;
 mod tally;
 mod texts;
-mod trees;
-mod trouble;
-mod words;
 
 use std::process::ExitCode;
 use std::{env, fs};

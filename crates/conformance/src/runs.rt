@@ -1,6 +1,6 @@
 //! What `cm_tool` writes, where only so much of it is taken.
 
-use crate::cuts::Counted;
+use case_tables::cuts::Counted;
 use cm_text::{Limits, NoMemory, Room};
 use cm_tool::{Fault, Stop, Task, convert, run, tell};
 use std::alloc::Global;

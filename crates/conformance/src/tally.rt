@@ -1,9 +1,10 @@
 //! How many cases of a table come out.
 
-use crate::cases::{Case, cases};
 use crate::examples::examples;
-use crate::trouble::Trouble;
-use crate::{calls, commands, texts, trees};
+use crate::{calls, commands, texts};
+use case_tables::cases::{Case, cases};
+use case_tables::trees;
+use case_tables::trouble::Trouble;
 use cm_text::{NoMemory, Rules};
 use std::alloc::Global;
 

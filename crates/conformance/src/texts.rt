@@ -1,10 +1,10 @@
 //! Whole texts: their HTML, their listing and their fault, in every cut, and with writers that fail.
 
-use crate::cases::Case;
-use crate::cuts::{Cut, cuts, pieces};
-use crate::dialects::rules_of;
 use crate::runs::{Space, converted, ran};
-use crate::trouble::{Trouble, same, wrong};
+use case_tables::cases::Case;
+use case_tables::cuts::{Cut, cuts, pieces};
+use case_tables::dialects::rules_of;
+use case_tables::trouble::{Trouble, same, wrong};
 use cm_html::{html, listing};
 use cm_text::Limits;
 use cm_tool::{Fault, Job, Parser, Task};

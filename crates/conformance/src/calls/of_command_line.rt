@@ -1,9 +1,9 @@
 //! Calls of `cm_tool`: `task`, `tell`, and the lines of faults.
 
-use crate::calls::answer::Answer;
 use crate::runs::{Space, told};
-use crate::trouble::Trouble;
-use crate::words::{Word, number};
+use case_tables::calls::Answer;
+use case_tables::trouble::Trouble;
+use case_tables::words::{Word, number};
 use cm_tool::{Fault, Job, Stop, Task, task};
 use std::alloc::Global;
 

@@ -1,5 +1,4 @@
 use Rattle.std.proofs.Common.{◌≡◌, ℕ, List, [], ◌∷◌, Option, Some, ap, codes, refl}
-use Rattle.clap.proofs.OnLiterals.{clap_on_literals}
 use Rattle.cm_text.specs.Rules.{profile}
 use Rattle.cm_text.specs.Lines.{text_of, plain_lines_of}
 use Rattle.cm_text.proofs.Computing.{label_folding}
@@ -100,17 +99,4 @@ returns-clause-files c = record {
   no_closing_line = refl;
   all_agree = refl;
   first_that_differs = refl;
-}
-
-pub returns-clause-words : goal.returns-clause-words
-unfolding clap_on_literals
-returns-clause-words c = record {
-  job = refl;
-  file = refl;
-  limits = refl;
-  older = refl;
-  strike = refl;
-  right = refl;
-  no_file = refl;
-  no_blocks = refl;
 }

@@ -1,0 +1,16 @@
+use Rattle.std.proofs.Common.{refl}
+use Rattle.clap.proofs.OnLiterals.{clap_on_literals}
+use Rattle.cm_command.proofs.laws.worked_examples.Goals as goal
+
+pub returns : goal.returns
+unfolding clap_on_literals
+returns c = record {
+  job = refl;
+  file = refl;
+  limits = refl;
+  older = refl;
+  strike = refl;
+  right = refl;
+  no_file = refl;
+  no_blocks = refl;
+}

@@ -1,0 +1,247 @@
+-- What the words of a command line ask for. How clap reads them is said by its own words, at the command line of cmk.
+use Rattle.std.specs.Prelude.{◌≡◌, ◌≢◌, ◌⊎◌, ◌==◌, ◌^◌, ◌&&◌, ⊤, ℕ, Bool, true, false, not, List, [], ◌∷◌, ◌++◌, Option, Some, Result, Ok, Err, codes, flat_map, string_bytes, find, option_map, option_and_then, unwrap_or}
+use Rattle.std.specs.List.{list_all, list_any}
+use Rattle.std.specs.Option.{option_map_or}
+use Rattle.std.specs.Str.{bytes_eq}
+use Rattle.std.specs.Str.Parse.{digits_value, without_leading_plus}
+use Rattle.clap.specs.Words.{App, Kinds, Row, Rule, Text, fault_of, first_of, new_app, new_rule, subcommand_of, with_rule, with_subcommand, IsAmong}
+use Rattle.clap.specs.ValueTests.{is_unsigned_in}
+use Rattle.clap.specs.declared.builder.action.ArgAction.TheVariants.{SetTrue}
+use Rattle.clap.specs.declared.builder.value_parser.ValueParser.TheVariants.{Unsigned}
+use Rattle.clap.specs.declared.error.kind.ErrorKind.{ErrorKind}
+use Rattle.clap.specs.declared.error.kind.ErrorKind.TheVariants.{DisplayHelp, DisplayVersion, OutOfMemory}
+use Rattle.cm_text.specs.Limits.{LimitsView, limits_for}
+use Rattle.cm_text.specs.Rules.{Rules}
+use Rattle.cm_command.specs.declared.job.Job.{Job}
+use Rattle.cm_command.specs.declared.job.Job.TheVariants.{Render, Tree, Rewrite, Examples}
+use Rattle.cm_command.specs.declared.job.Task.{Task}
+use Rattle.cm_command.specs.declared.job.Stop.{Stop}
+use Rattle.cm_command.specs.declared.job.Stop.TheVariants.{Help, Wrong, NoMemory}
+
+-- the argument FILE
+abbrev pub file_rule : Rule
+file_rule = record (new_rule (codes "file")) { value_names = 1 }
+
+-- the same where it can't be left out
+abbrev pub needed_file_rule : Rule
+needed_file_rule = record file_rule { required = true }
+
+-- the option --name N, a number from 1 to 500, and 100 where it is left out
+abbrev pub limit_rule : Text → Rule
+limit_rule name = record (new_rule name) {
+  long = Some name;
+  value_names = 1;
+  parser = Some (Unsigned 1 500);
+  defaults = codes "100" ∷ [];
+}
+
+-- the option --blocks N
+abbrev pub blocks_rule : Rule
+blocks_rule = limit_rule (codes "blocks")
+
+-- the option --inlines N
+abbrev pub inlines_rule : Rule
+inlines_rule = limit_rule (codes "inlines")
+
+-- the flag --name, which takes no value
+abbrev pub flag_rule : Text → Rule
+flag_rule name = record (new_rule name) { long = Some name; action = Some SetTrue }
+
+-- the flag --older
+abbrev pub older_rule : Rule
+older_rule = flag_rule (codes "older")
+
+-- the flag --strike
+abbrev pub strike_rule : Rule
+strike_rule = flag_rule (codes "strike")
+
+-- the subcommand of this name, which reads a text
+abbrev pub job_app : Text → App
+job_app name = with_rule (with_rule (with_rule (with_rule (with_rule (new_app name) file_rule) blocks_rule) inlines_rule) older_rule) strike_rule
+
+-- the subcommand that reads a file of examples, under the standard limits
+abbrev pub examples_app : App
+examples_app = with_rule (with_rule (with_rule (new_app (codes "examples")) needed_file_rule) older_rule) strike_rule
+
+abbrev pub name_of : Job → Text
+name_of Render = codes "render"
+name_of Tree = codes "tree"
+name_of Rewrite = codes "rewrite"
+name_of Examples = codes "examples"
+
+-- the job is done on a text, and not on a file of examples
+abbrev pub reads_a_text : Job → Bool
+reads_a_text Examples = false
+reads_a_text _ = true
+
+-- the command line of cmk, which needs a subcommand
+abbrev pub cmk_top : App
+cmk_top = let a = new_app (codes "cmk") in record a { top = record a.top { subcommand_required = true } }
+
+abbrev pub cmk_app : App
+cmk_app = with_subcommand (with_subcommand (with_subcommand (with_subcommand cmk_top (job_app (name_of Render)).top) (job_app (name_of Tree)).top) (job_app (name_of Rewrite)).top) examples_app.top
+
+-- the name of a subcommand, and what is found for its arguments
+abbrev pub Found : Type 0
+Found = Text × List Row
+
+-- what the words name
+abbrev pub found_for : List Text → Option Found
+found_for words = subcommand_of cmk_app words
+
+-- the job of this name
+abbrev pub job_of : Text → Option Job
+job_of name = find (λ job. bytes_eq (name_of job) name) (Render ∷ Tree ∷ Rewrite ∷ Examples ∷ [])
+
+abbrev pub job_in : Option Found → Option Job
+job_in found = option_and_then (λ f. job_of f.0) found
+
+abbrev pub file_in : Option Found → Option Text
+file_in found = option_and_then (λ f. first_of (codes "file") f.1) found
+
+-- the standard limits, with so many blocks and inlines, by these rules
+abbrev pub limits_with : Rules → (blocks inlines : ℕ) → Option LimitsView
+limits_with rules blocks inlines = option_map (λ (limits : LimitsView). record limits { rules = rules }) (limits_for (2 ^ 28) blocks inlines)
+
+-- a number, as it is written
+abbrev pub as_number : Text → ℕ
+as_number number = digits_value 10 (without_leading_plus number)
+
+-- the limits with these numbers, as they are written
+abbrev pub limits_of : Rules → (blocks inlines : Text) → Option LimitsView
+limits_of rules blocks inlines = limits_with rules (as_number blocks) (as_number inlines)
+
+-- the flag of this name is set
+abbrev pub is_set : Text → List Row → Bool
+is_set name rows = option_map_or (λ value. bytes_eq value (codes "true")) (first_of name rows) false
+
+-- the rules that the flags ask for
+abbrev pub rules_in : List Row → Rules
+rules_in rows = record { older = is_set (codes "older") rows; strike = is_set (codes "strike") rows }
+
+-- the limits that the options of a subcommand ask for
+abbrev pub limits_at : List Row → Option LimitsView
+limits_at rows =
+    option_and_then (λ blocks. option_and_then (limits_of (rules_in rows) blocks) (first_of (codes "inlines") rows)) (first_of (codes "blocks") rows)
+
+-- the limits of a job: examples are read under the standard ones
+abbrev pub limits_for_job : Job → List Row → Option LimitsView
+limits_for_job Examples rows = limits_with (rules_in rows) 100 100
+limits_for_job _ rows = limits_at rows
+
+abbrev pub limits_in : Option Found → Option LimitsView
+limits_in found = option_and_then (λ f. option_and_then (λ job. limits_for_job job f.1) (job_of f.0)) found
+
+-- the task is the one that the words name
+pub record IsTaskOf (found : Option Found) (task : Task) : Type 0 where
+  pub job : job_in found ≡ Some task.job
+  pub file : file_in found ≡ option_map string_bytes task.file
+  pub limits : limits_in found ≡ Some task.limits
+
+-- an option as it is given: the number of blocks or of inlines, as it is written, or a flag
+pub data Choice : Type 0 where
+  Blocks : Text → Choice
+  Inlines : Text → Choice
+  Older : Choice
+  Strike : Choice
+
+-- the name of the option
+abbrev pub option_of : Choice → Text
+option_of (Blocks number) = codes "blocks"
+option_of (Inlines number) = codes "inlines"
+option_of Older = codes "older"
+option_of Strike = codes "strike"
+
+-- the words that give an option
+abbrev pub words_of : Choice → List Text
+words_of (Blocks number) = codes "--blocks" ∷ number ∷ []
+words_of (Inlines number) = codes "--inlines" ∷ number ∷ []
+words_of Older = codes "--older" ∷ []
+words_of Strike = codes "--strike" ∷ []
+
+-- The words that ask for a job on a text with these options, in their order, on this file, behind the program's name. The file may be left out.
+abbrev pub words_for : Job → List Choice → Option Text → List Text
+words_for job choices file = name_of job ∷ flat_map words_of choices ++ option_map_or (λ f. f ∷ []) file []
+
+-- the option of this name is given
+abbrev pub is_given : Text → List Choice → Bool
+is_given name choices = list_any (λ choice. bytes_eq name (option_of choice)) choices
+
+-- no option is given twice
+abbrev pub each_once : List Choice → Bool
+each_once [] = true
+each_once (choice ∷ choices) = not (is_given (option_of choice) choices) && each_once choices
+
+-- the numbers that are given
+abbrev pub numbers_in : List Choice → List Text
+numbers_in [] = []
+numbers_in (Blocks number ∷ choices) = number ∷ numbers_in choices
+numbers_in (Inlines number ∷ choices) = number ∷ numbers_in choices
+numbers_in (Older ∷ choices) = numbers_in choices
+numbers_in (Strike ∷ choices) = numbers_in choices
+
+-- the value of an option, where that of a flag is `true`
+abbrev pub value_of : Choice → Text
+value_of (Blocks number) = number
+value_of (Inlines number) = number
+value_of Older = codes "true"
+value_of Strike = codes "true"
+
+-- the value of the option of this name, if it is given
+abbrev pub given_for : Text → List Choice → Option Text
+given_for name choices = option_map value_of (find (λ choice. bytes_eq (option_of choice) name) choices)
+
+-- the number of the option of this name: the one that is given, or 100
+abbrev pub number_for : Text → List Choice → Text
+number_for name choices = unwrap_or (given_for name choices) (codes "100")
+
+-- the rules that these options ask for
+abbrev pub rules_by : List Choice → Rules
+rules_by choices = record { older = is_given (codes "older") choices; strike = is_given (codes "strike") choices }
+
+-- the limits that these options ask for: each number that is given, or 100, and the rules that are given
+abbrev pub limits_by : List Choice → Option LimitsView
+limits_by choices = limits_of (rules_by choices) (number_for (codes "blocks") choices) (number_for (codes "inlines") choices)
+
+-- the word begins with a hyphen
+abbrev pub is_option : Text → Bool
+is_option [] = false
+is_option (byte ∷ bytes) = byte == 45
+
+-- the word is a number from 1 to 500
+abbrev pub is_limit : Text → Bool
+is_limit = is_unsigned_in 1 500
+
+-- the numbers that are given are from 1 to 500
+abbrev pub are_limits : List Choice → Bool
+are_limits choices = list_all is_limit (numbers_in choices)
+
+-- a number that is given begins with a hyphen
+abbrev pub hold_an_option : List Choice → Bool
+hold_an_option choices = list_any is_option (numbers_in choices)
+
+-- the kinds of stop that the words call for: none, a mistake, or a request for help
+abbrev pub stops_of : List Text → Kinds
+stops_of words = fault_of cmk_app words
+
+-- help is for a request, and a wrong command line is one with a mistake
+abbrev pub StopsBy : ErrorKind → Stop → Type 0
+StopsBy kind (Help text) = (kind ≡ DisplayHelp) ⊎ (kind ≡ DisplayVersion)
+StopsBy kind (Wrong text) = (kind ≢ OutOfMemory) × (kind ≢ DisplayHelp) × (kind ≢ DisplayVersion)
+StopsBy kind NoMemory = ⊤
+
+-- memory ran out, or the words call for this stop
+abbrev pub StopsFor : Kinds → Stop → Type 0
+StopsFor kinds stop = (stop ≡ NoMemory) ⊎ ((kind : ErrorKind) × IsAmong kind kinds × StopsBy kind stop)
+
+-- this job on this file under these limits, unless memory ran out
+abbrev pub IsTaskFor : Job → Option Text → Option LimitsView → Result Task Stop → Type 0
+IsTaskFor job file limits (Ok task) =
+    (task.job ≡ job) × (option_map string_bytes task.file ≡ file) × (Some task.limits ≡ limits)
+IsTaskFor job file limits (Err stop) = stop ≡ NoMemory
+
+-- a wrong command line, unless memory ran out
+abbrev pub IsMistake : Result Task Stop → Type 0
+IsMistake (Err (Wrong text)) = ⊤
+IsMistake (Err NoMemory) = ⊤
+IsMistake _ = ⊥

@@ -1,0 +1,22 @@
+-- Worked examples: what the words of `cmk examples` ask for, as clap reads them.
+use Rattle.std.specs.Prelude.{◌≡◌, ◌^◌, false, true, List, [], ◌∷◌, Some, codes}
+use Rattle.clap.specs.Words.{Text}
+use Rattle.clap.specs.declared.error.kind.ErrorKind.TheVariants.{MissingRequiredArgument, UnknownArgument}
+use Rattle.cm_text.specs.Rules.{older_rules, profile}
+use Rattle.cm_command.specs.declared.job.Job.TheVariants.{Examples}
+use Rattle.cm_command.specs.CommandLine.{file_in, found_for, job_in, limits_in, stops_of}
+
+-- the words of the program's name, the subcommand and these
+abbrev pub examples_with : List Text → List Text
+examples_with words = codes "cmk" ∷ codes "examples" ∷ words
+
+pub record WordExamples : Type 0 where
+  pub job : job_in (found_for (examples_with (codes "f" ∷ []))) ≡ Some Examples
+  pub file : file_in (found_for (examples_with (codes "f" ∷ codes "--older" ∷ []))) ≡ Some (codes "f")
+  pub limits : limits_in (found_for (examples_with (codes "f" ∷ []))) ≡ Some (record { bytes = 2 ^ 28; blocks = 100; inlines = 100; rules = profile })
+  pub older : limits_in (found_for (examples_with (codes "--older" ∷ codes "f" ∷ []))) ≡ Some (record { bytes = 2 ^ 28; blocks = 100; inlines = 100; rules = older_rules })
+  pub strike : limits_in (found_for (examples_with (codes "f" ∷ codes "--strike" ∷ [])))
+      ≡ Some (record { bytes = 2 ^ 28; blocks = 100; inlines = 100; rules = record { older = false; strike = true } })
+  pub right : stops_of (examples_with (codes "f" ∷ codes "--older" ∷ codes "--strike" ∷ [])) ≡ []
+  pub no_file : stops_of (examples_with (codes "--older" ∷ [])) ≡ MissingRequiredArgument ∷ []
+  pub no_blocks : stops_of (examples_with (codes "f" ∷ codes "--blocks" ∷ codes "3" ∷ [])) ≡ UnknownArgument ∷ []

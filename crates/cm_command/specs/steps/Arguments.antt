@@ -1,0 +1,44 @@
+-- What is found for the arguments of a subcommand fits them.
+use Rattle.std.specs.Prelude.{◌≡◌, Bool, true, ◌||◌, List, Some, if◌then◌else◌, codes}
+use Rattle.std.specs.Str.{bytes_eq}
+use Rattle.clap.specs.Words.{Row, Text, first_of, one_of}
+use Rattle.cm_command.specs.declared.job.Job.{Job}
+use Rattle.cm_command.specs.declared.job.Job.TheVariants.{Examples}
+use Rattle.cm_command.specs.CommandLine.{Found, is_limit, job_of}
+
+-- the value fits the argument of this name: a number in its range, `true` or `false`, or any text
+abbrev pub fits : Text → Text → Bool
+fits name value =
+    if bytes_eq name (codes "blocks") then is_limit value
+    else if bytes_eq name (codes "inlines") then is_limit value
+    else if bytes_eq name (codes "file") then true
+    else bytes_eq value (codes "true") || bytes_eq value (codes "false")
+
+-- the argument of this name has a value, as it is written, that fits it
+pub record IsRead (name : Text) (rows : List Row) : Type 0 where
+  pub text : Text
+  pub is_first : first_of name rows ≡ Some text
+  pub is_read : one_of name rows ≡ Some text
+  pub is_fit : fits name text ≡ true
+
+-- the flags of a subcommand have values that fit them
+pub record FlagsAreRead (rows : List Row) : Type 0 where
+  pub older : IsRead (codes "older") rows
+  pub strike : IsRead (codes "strike") rows
+
+-- the options of a subcommand that reads a text have values that fit them
+pub record AreRead (rows : List Row) : Type 0 where
+  pub blocks : IsRead (codes "blocks") rows
+  pub inlines : IsRead (codes "inlines") rows
+  pub flags : FlagsAreRead rows
+
+-- the options of a job's subcommand have values that fit them
+abbrev pub OptionsAreRead : Job → List Row → Type 0
+OptionsAreRead Examples rows = FlagsAreRead rows
+OptionsAreRead _ rows = AreRead rows
+
+-- a subcommand that is a job, with values of its options
+pub record IsJob (found : Found) : Type 0 where
+  pub job : Job
+  pub named : job_of found.0 ≡ Some job
+  pub options : OptionsAreRead job found.1

@@ -1,0 +1,221 @@
+//! What the words of a command line ask for.
+ghost use Rattle.std.specs.Prelude.{◌≡◌, ◌∷◌, [], ℕ, List, Option, Some, true, false, IfOk, IfErr, IfSome, IsSomeAnd};
+ghost use Rattle.std.specs.Prelude.{codes, map, option_map, string_bytes};
+ghost use Rattle.clap.specs.declared.builder.command.Command.TheViews.{out-Command};
+ghost use Rattle.clap.specs.Words.{app_of, first_of, found_of, kind_of, rows_of, rule_of, subcommand_rows_of};
+ghost use Rattle.cm_command.specs.CommandLine.{are_limits, cmk_app, each_once, examples_app, file_rule, flag_rule, found_for, hold_an_option};
+ghost use Rattle.cm_command.specs.CommandLine.{is_option, job_app, job_of, limit_rule, limits_at, limits_by, limits_for_job};
+ghost use Rattle.cm_command.specs.CommandLine.{reads_a_text, rules_in, stops_of, words_for, Choice};
+ghost use Rattle.cm_command.specs.CommandLine.{IsMistake, IsTaskFor, IsTaskOf, StopsBy, StopsFor};
+ghost use Rattle.cm_command.specs.steps.Arguments.{IsJob, OptionsAreRead, AreRead, FlagsAreRead};
+
+use crate::job::{Job, Stop, Task};
+use clap::builder::ValueParser;
+use clap::error::ErrorKind;
+use clap::{Arg, ArgAction, ArgMatches, Command, Error};
+use cm_text::{Limits, Rules};
+use std::alloc::{AllocError, Global};
+
+/// What `--older` does.
+const OLDER: &str = "Reads by older rules: <source> begins an HTML block, <search> does not";
+
+/// What `--strike` does.
+const STRIKE: &str = "Reads text between two tildes as struck through";
+
+/// The argument FILE.
+fn file_arg<'a>(alloc: Global, help: &'a str) -> Arg<'a>
+    ensures rule { rule_of result ≡ file_rule }
+    ensures local { result.global ≡ false }
+{
+    Arg::new(alloc, "file").value_name("FILE").help(help)
+}
+
+/// The option of this name, which takes a number.
+fn limit_arg<'a>(alloc: Global, name: &'a str, help: &'a str) -> Arg<'a>
+    ensures rule { rule_of result ≡ limit_rule name.now }
+    ensures local { result.global ≡ false }
+{
+    Arg::new(alloc, name)
+        .long(name)
+        .value_name("N")
+        .value_parser(ValueParser::unsigned(1, 500))
+        .default_value("100")
+        .help(help)
+}
+
+/// The flag of this name.
+fn flag_arg<'a>(alloc: Global, name: &'a str, help: &'a str) -> Arg<'a>
+    ensures rule { rule_of result ≡ flag_rule name.now }
+    ensures local { result.global ≡ false }
+{
+    Arg::new(alloc, name)
+        .long(name)
+        .action(ArgAction::SetTrue)
+        .help(help)
+}
+
+/// The subcommand of this name, which reads a text.
+fn job_command<'a>(alloc: Global, name: &'a str, about: &'a str) -> Result<Command<'a>, AllocError>
+    ensures app { IfOk result (λ c. app_of c ≡ job_app name.now) }
+    ensures local { IfOk result (λ c. (out-Command c).has_globals ≡ false) }
+{
+    let blocks = "How many quotes and list items may stand round a line, 1 to 500";
+    let inlines = "How deep emphasis, links and images may nest, 1 to 500";
+    let file = "The file to read; standard input if it is left out";
+    Command::new(alloc, name)
+        .about(about)
+        .arg(file_arg(alloc, file))?
+        .arg(limit_arg(alloc, "blocks", blocks))?
+        .arg(limit_arg(alloc, "inlines", inlines))?
+        .arg(flag_arg(alloc, "older", OLDER))?
+        .arg(flag_arg(alloc, "strike", STRIKE))
+}
+
+/// The subcommand that reads a file of examples.
+fn examples_command<'a>(alloc: Global) -> Result<Command<'a>, AllocError>
+    ensures app { IfOk result (λ c. app_of c ≡ examples_app) }
+    ensures local { IfOk result (λ c. (out-Command c).has_globals ≡ false) }
+{
+    let about = "Runs a file of CommonMark examples, and tells which of them differ";
+    let file = "The file of examples, in the form of the CommonMark specification";
+    Command::new(alloc, "examples")
+        .about(about)
+        .arg(file_arg(alloc, file).required(true))?
+        .arg(flag_arg(alloc, "older", OLDER))?
+        .arg(flag_arg(alloc, "strike", STRIKE))
+}
+
+/// The command line of `cmk`.
+fn command<'a>(alloc: Global) -> Result<Command<'a>, AllocError>
+    ensures { IfOk result (λ c. app_of c ≡ cmk_app) }
+{
+    let render = "Writes a CommonMark text as HTML to standard output";
+    let tree = "Lists the tree of a CommonMark text, and the owner of each line";
+    let rewrite = "Writes a CommonMark text as plain source, without its definitions";
+    Command::new(alloc, "cmk")
+        .about("CommonMark 0.31.2: to HTML, to a listing of its tree, to plain source")
+        .subcommand_required(true)
+        .subcommand(job_command(alloc, "render", render)?)?
+        .subcommand(job_command(alloc, "tree", tree)?)?
+        .subcommand(job_command(alloc, "rewrite", rewrite)?)?
+        .subcommand(examples_command(alloc)?)
+}
+
+/// The job of this name.
+fn job_of(name: &str) -> Option<Job>
+    ensures { result ≡ job_of name.now }
+{
+    match name {
+        "render" => Some(Job::Render),
+        "tree" => Some(Job::Tree),
+        "rewrite" => Some(Job::Rewrite),
+        "examples" => Some(Job::Examples),
+        _ => None,
+    }
+}
+
+/// Why there are no matches. Want of memory comes first, since it has a text and a status too.
+fn stop_of(alloc: Global, error: &Error) -> Stop
+    ensures memory { kind_of error.now ≡ ErrorKind.OutOfMemory → result ≡ Stop.NoMemory }
+    ensures kind { StopsBy (kind_of error.now) result }
+{
+    if error.kind() == ErrorKind::OutOfMemory {
+        return Stop::NoMemory;
+    }
+    let Ok(text) = format!(in alloc; "{error}") else {
+        return Stop::NoMemory;
+    };
+    if error.use_stderr() {
+        Stop::Wrong(text)
+    } else {
+        Stop::Help(text)
+    }
+}
+
+/// The file that the words of a subcommand name.
+fn file_of(alloc: Global, found: &ArgMatches<'_>) -> Result<Option<String>, AllocError>
+    ensures { IfOk result (λ file. option_map string_bytes file
+        ≡ first_of (codes "file") (rows_of (found_of found.now))) }
+{
+    match found.get_str("file") {
+        Some(name) => Ok(Some(String::from_str(alloc, name)?)),
+        None => Ok(None),
+    }
+}
+
+/// The rules that the flags of a subcommand ask for.
+fn rules_of(found: &ArgMatches<'_>) -> Rules
+    requires { FlagsAreRead (rows_of (found_of found.now)) }
+    ensures { result ≡ rules_in (rows_of (found_of found.now)) }
+{
+    let rules = if found.get_flag("older") {
+        Rules::older()
+    } else {
+        Rules::profile()
+    };
+    rules.with_strike(found.get_flag("strike"))
+}
+
+/// The limits that the options of a subcommand that reads a text ask for.
+fn limits_of(found: &ArgMatches<'_>) -> Limits
+    requires { AreRead (rows_of (found_of found.now)) }
+    ensures { limits_at (rows_of (found_of found.now)) ≡ Some result }
+{
+    let standard = Limits::standard();
+    let blocks = found.get_one::<usize>("blocks").unwrap();
+    let inlines = found.get_one::<usize>("inlines").unwrap();
+    let limits = Limits::new(standard.bytes(), blocks, inlines).unwrap();
+    limits.with_rules(rules_of(found))
+}
+
+/// The limits of a job, of whose subcommand this was found.
+fn limits_for_job(job: Job, found: &ArgMatches<'_>) -> Limits
+    requires { OptionsAreRead job (rows_of (found_of found.now)) }
+    ensures { limits_for_job job (rows_of (found_of found.now)) ≡ Some result }
+{
+    match job {
+        Job::Render | Job::Tree | Job::Rewrite => limits_of(found),
+        Job::Examples => Limits::standard().with_rules(rules_of(found)),
+    }
+}
+
+/// The task of the words in which this was found.
+fn task_of(alloc: Global, matches: &ArgMatches<'_>) -> Result<Task, AllocError>
+    requires { IsSomeAnd (subcommand_rows_of matches.now) IsJob }
+    ensures { IfOk result (λ task. IsTaskOf (subcommand_rows_of matches.now) task) }
+{
+    let (name, found) = matches.subcommand().unwrap();
+    let job = job_of(name).unwrap();
+    Ok(Task {
+        job,
+        file: file_of(alloc, found)?,
+        limits: limits_for_job(job, found),
+    })
+}
+
+/// The task that the words of a command line ask for, of which the first is the program's name.
+///
+/// A request for help and words that are no command line of the program are a `Stop`, whose text is
+/// `clap`'s. Memory may run out in any call.
+pub fn task(alloc: Global, words: &[String]) -> Result<Task, Stop>
+    // A job on a text by its name, with each option at most once, in any order, and a file or none.
+    // Neither a number nor the file begins with a hyphen.
+    ensures asked { (name : List ℕ) (job : Job) (choices : List Choice) (file : Option (List ℕ))
+        → reads_a_text job ≡ true → map string_bytes words.now ≡ name ∷ words_for job choices file
+        → each_once choices ≡ true → are_limits choices ≡ true
+        → IfSome file (λ f. is_option f ≡ false) → IsTaskFor job file (limits_by choices) result }
+    ensures out_of_range { (name : List ℕ) (job : Job) (choices : List Choice) (file : Option (List ℕ))
+        → reads_a_text job ≡ true → map string_bytes words.now ≡ name ∷ words_for job choices file
+        → each_once choices ≡ true → are_limits choices ≡ false → hold_an_option choices ≡ false
+        → IfSome file (λ f. is_option f ≡ false) → IsMistake result }
+
+    // All words, as `clap` reads them.
+    ensures found { IfOk result (IsTaskOf (found_for (map string_bytes words.now))) }
+    ensures right { IfOk result (λ _. stops_of (map string_bytes words.now) ≡ []) }
+    ensures stops { IfErr result (StopsFor (stops_of (map string_bytes words.now))) }
+{
+    match command(alloc)?.try_get_matches_from(words) {
+        Ok(matches) => Ok(task_of(alloc, &matches)?),
+        Err(error) => Err(stop_of(alloc, &error)),
+    }
+}

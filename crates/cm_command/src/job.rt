@@ -1,0 +1,48 @@
+//! Tasks, and what there is in place of one.
+
+use cm_text::Limits;
+use std::alloc::AllocError;
+
+/// What is done with a text.
+#[derive(Clone, Copy, Debug, PartialEq, Eq, Drop)]
+pub enum Job {
+    /// The text is written as HTML.
+    Render,
+    /// The tree of the text is listed, and the owner of each line.
+    Tree,
+    /// The text is written as plain source of its tree.
+    Rewrite,
+    /// The text is a file of examples, of which the report is written.
+    Examples,
+}
+
+/// A job, and what it is done on.
+#[derive(Debug, Drop)]
+pub struct Task {
+    pub job: Job,
+    /// The file that is read; standard input if it is left out.
+    pub file: Option<String>,
+    pub limits: Limits,
+}
+
+/// Why the words of a command line give no task.
+#[derive(Debug, Drop)]
+pub enum Stop {
+    /// Help was asked for, and this is its text.
+    Help(String),
+    /// The words aren't a command line of the program, as the text says.
+    Wrong(String),
+    /// A request for memory was refused.
+    NoMemory,
+}
+
+impl From<AllocError> for Stop {
+    ghost use Rattle.std.specs.Prelude.{◌≡◌};
+    ghost use Rattle.cm_command.specs.declared.job.Stop.TheVariants.{NoMemory};
+
+    ghost from_gives = { λ _ e. e ≡ NoMemory };
+
+    fn from(_error: AllocError) -> Stop {
+        Stop::NoMemory
+    }
+}

@@ -1,0 +1,7 @@
+//! Laws of the definitions.
+ghost use Rattle.cm_command.specs.WordExamples.{WordExamples};
+
+/// Worked examples of the words of `cmk examples`, by computation.
+pub fn worked_examples()
+    ensures { WordExamples }
+{}
