@@ -35,7 +35,7 @@ JOBS = 2
 # How much memory is to be free for each crate, in kB.
 ROOM = 3 * 1024 * 1024
 # How many of each name are kept.
-KEPT = 4
+KEPT = 2
 
 
 class Failed(Exception):
