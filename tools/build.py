@@ -30,10 +30,10 @@ FLAGS = "--crate-name --extern -L --antt-project --logic-built --links --stateme
 FILES = "bin/rattle bin/rattle-link rlibs logic_built rattle/logic/antt-project.json toolchain c/libos_c.a c/liblibc_c.a".split()
 # The seconds that each crate took on the last machine (docs/performance.md).
 SECONDS = {"cm_text": 120, "cm_tree": 110, "cm_html": 110, "cm_scan": 130, "cm_source": 170, "cm_block": 210, "cm_inline": 220, "cm_tool": 300, "cmk": 70}
-# How many processors may prove a crate: a second one takes a sixth off its time, and half as much again of the processors'.
-JOBS = 2
-# How much memory is to be free for each crate, in kB.
-ROOM = 3 * 1024 * 1024
+# How many jobs prove a crate, where there are as many processors: cm_text took 185 seconds by one, 160 by two, 112 by three, 84 by four.
+JOBS = 4
+# How much memory is to be free for each crate that runs beside another, in kB.
+ROOM = 8 * 1024 * 1024
 # How many of each name are kept.
 KEPT = 2
 
@@ -207,8 +207,8 @@ class Processes:
 class Making:
     """A crate that is proved and built into a folder, command by command."""
 
-    def __init__(self, crate, jobs, steps, processes, made):
-        self.crate, self.jobs, self.steps, self.processes, self.made = crate, jobs, steps, processes, made
+    def __init__(self, crate, steps, processes, made):
+        self.crate, self.steps, self.processes, self.made = crate, steps, processes, made
         self.log = made.with_suffix(".log")
         self.began = time.monotonic()
         self.process = None
@@ -287,24 +287,23 @@ class Build:
             seconds[name] = max(seconds[name] - (time.monotonic() - it.began), 5)
         return max(*self.chains(seconds).values(), sum(seconds.values()) / self.processors)
 
-    def free(self):
-        """Returns how many processors are free; none where there is no memory for one more crate. The first has all of them in any case."""
+    def has_place(self):
+        """Returns whether one more crate may run: the first may, another where there are two processors and memory for each."""
         lines = dict(it.split(":", 1) for it in MEMORY.read_text().splitlines())
-        has_room = int(lines["MemAvailable"].split()[0]) >= (len(self.running) + 1) * ROOM
-        return self.processors - sum(it.jobs for it in self.running.values()) if has_room or not self.running else 0
+        wanted = len(self.running) + 1
+        return wanted == 1 or (2 * wanted <= self.processors and int(lines["MemAvailable"].split()[0]) >= wanted * ROOM)
 
     def start_ready(self, processes, work):
-        """Starts the crates that wait for none, first those on which most others wait. A second processor goes to one that leaves enough to others."""
+        """Starts the crates that wait for none, first those on which most others wait, as long as there is a place."""
         chains = self.chains({name: 0 if self.is_kept(name) else crate.seconds for name, crate in self.plan.items()})
         ready = [it for it in self.waiting if all(self.is_kept(below) for below in self.plan[it].below)]
-        ready.sort(key=lambda it: -chains[it])
-        while ready and self.free():
-            name = ready.pop(0)
-            jobs = max(1, min(JOBS, self.free() - len(ready)))
+        for name in sorted(ready, key=lambda it: -chains[it]):
+            if not self.has_place():
+                return
             libraries = {it: self.store.place(it, self.sums[it]) for it in self.plan if self.stands_on(name, it)}
-            steps = self.kit.steps(self.plan[name], libraries, jobs, work / name)
+            steps = self.kit.steps(self.plan[name], libraries, min(JOBS, self.processors), work / name)
             self.waiting.remove(name)
-            self.running[name] = Making(self.plan[name], jobs, steps, processes, work / name)
+            self.running[name] = Making(self.plan[name], steps, processes, work / name)
 
     def keep_ended(self):
         """Keeps what has been built, if its sources are as they were."""
@@ -333,8 +332,8 @@ class Build:
 
 def run_rt(kit, processes, work):
     """Has rt prove what isn't proved, one crate after another, and build the program in its folder."""
-    jobs = min(4, len(os.sched_getaffinity(0)))
-    rt = Making(Crate(PROGRAM, [], []), jobs, [[kit.prover, "run", "--jobs", str(jobs), "--", "--help"]], processes, work / PROGRAM)
+    jobs = min(JOBS, len(os.sched_getaffinity(0)))
+    rt = Making(Crate(PROGRAM, [], []), [[kit.prover, "run", "--jobs", str(jobs), "--", "--help"]], processes, work / PROGRAM)
     progress = Progress()
     try:
         while rt.goes_on():
@@ -404,4 +403,5 @@ def main():
     os.execv(OUT / PROGRAM, [OUT / PROGRAM, *sys.argv[1:]])
 
 
-sys.exit(main())
+if __name__ == "__main__":
+    sys.exit(main())
