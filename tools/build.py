@@ -29,11 +29,11 @@ MEMORY = pathlib.Path("/proc/meminfo")
 FLAGS = "--crate-name --extern -L --antt-project --logic-built --links --statements --jobs --backend --toolchain -o".split()
 FILES = "bin/rattle bin/rattle-link rlibs logic_built rattle/logic/antt-project.json toolchain c/libos_c.a c/liblibc_c.a".split()
 # The seconds that each crate took on the last machine (docs/performance.md).
-SECONDS = {"cm_text": 120, "cm_tree": 110, "cm_html": 110, "cm_scan": 130, "cm_source": 170, "cm_block": 210, "cm_inline": 220, "cm_tool": 300, "cmk": 70}
-# How many jobs prove a crate, where there are as many processors: cm_text took 185 seconds by one, 160 by two, 112 by three, 84 by four.
+SECONDS = {"cm_text": 90, "cm_tree": 90, "cm_command": 100, "cm_scan": 150, "cm_html": 190, "cm_source": 340, "cm_block": 350, "cm_inline": 340, "cm_tool": 200, "cmk": 80}
+# How many jobs may prove a crate: cm_text alone took 185 seconds by one, 160 by two, 112 by three, 84 by four, and 98 by eight.
 JOBS = 4
-# How much memory is to be free for each crate that runs beside another, in kB.
-ROOM = 8 * 1024 * 1024
+# A crate takes twice as much memory as this, in kB, and once more for each job after the first.
+ROOM = 1536 * 1024
 # How many of each name are kept.
 KEPT = 2
 
@@ -207,8 +207,8 @@ class Processes:
 class Making:
     """A crate that is proved and built into a folder, command by command."""
 
-    def __init__(self, crate, steps, processes, made):
-        self.crate, self.steps, self.processes, self.made = crate, steps, processes, made
+    def __init__(self, crate, jobs, steps, processes, made):
+        self.crate, self.jobs, self.steps, self.processes, self.made = crate, jobs, steps, processes, made
         self.log = made.with_suffix(".log")
         self.began = time.monotonic()
         self.process = None
@@ -287,23 +287,29 @@ class Build:
             seconds[name] = max(seconds[name] - (time.monotonic() - it.began), 5)
         return max(*self.chains(seconds).values(), sum(seconds.values()) / self.processors)
 
-    def has_place(self):
-        """Returns whether one more crate may run: the first may, another where there are two processors and memory for each."""
+    def jobs(self, others):
+        """Returns how many jobs one more crate may have, of which a processor each is left to so many others: none where there is no
+        processor or no memory for it. The first has one in any case."""
         lines = dict(it.split(":", 1) for it in MEMORY.read_text().splitlines())
-        wanted = len(self.running) + 1
-        return wanted == 1 or (2 * wanted <= self.processors and int(lines["MemAvailable"].split()[0]) >= wanted * ROOM)
+        room = int(lines["MemAvailable"].split()[0]) // ROOM - 2 * len(self.running)
+        free = self.processors - sum(it.jobs for it in self.running.values())
+        found = min(JOBS, max(free - others, min(free, 1)), room - 1)
+        return max(found, 0 if self.running else 1)
 
     def start_ready(self, processes, work):
         """Starts the crates that wait for none, first those on which most others wait, as long as there is a place."""
         chains = self.chains({name: 0 if self.is_kept(name) else crate.seconds for name, crate in self.plan.items()})
         ready = [it for it in self.waiting if all(self.is_kept(below) for below in self.plan[it].below)]
-        for name in sorted(ready, key=lambda it: -chains[it]):
-            if not self.has_place():
+        ready.sort(key=chains.get)
+        while ready:
+            name = ready.pop()
+            jobs = self.jobs(len(ready))
+            if not jobs:
                 return
             libraries = {it: self.store.place(it, self.sums[it]) for it in self.plan if self.stands_on(name, it)}
-            steps = self.kit.steps(self.plan[name], libraries, min(JOBS, self.processors), work / name)
+            steps = self.kit.steps(self.plan[name], libraries, jobs, work / name)
             self.waiting.remove(name)
-            self.running[name] = Making(self.plan[name], steps, processes, work / name)
+            self.running[name] = Making(self.plan[name], jobs, steps, processes, work / name)
 
     def keep_ended(self):
         """Keeps what has been built, if its sources are as they were."""
@@ -333,7 +339,7 @@ class Build:
 def run_rt(kit, processes, work):
     """Has rt prove what isn't proved, one crate after another, and build the program in its folder."""
     jobs = min(JOBS, len(os.sched_getaffinity(0)))
-    rt = Making(Crate(PROGRAM, [], []), [[kit.prover, "run", "--jobs", str(jobs), "--", "--help"]], processes, work / PROGRAM)
+    rt = Making(Crate(PROGRAM, [], []), jobs, [[kit.prover, "run", "--jobs", str(jobs), "--", "--help"]], processes, work / PROGRAM)
     progress = Progress()
     try:
         while rt.goes_on():

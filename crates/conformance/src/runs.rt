@@ -2,7 +2,7 @@
 
 use case_tables::cuts::Counted;
 use cm_text::{Limits, NoMemory, Room};
-use cm_tool::{Fault, Stop, Task, convert, run, tell};
+use cm_tool::{Fault, Stop, Task, convert, read_text, rewrite, run, tell};
 use std::alloc::Global;
 
 /// Room for what is written: so many bytes, at most so many a call.
@@ -54,7 +54,7 @@ pub(crate) fn told(
     })
 }
 
-/// What was taken of the HTML, how many reads were made, and the answer.
+/// What was taken of the output, how many reads were made, and the answer.
 #[derive(Drop)]
 pub(crate) struct Page {
     pub(crate) output: Room,
@@ -78,4 +78,33 @@ pub(crate) fn converted(
         reads,
         answer,
     })
+}
+
+/// Rewrites such a text.
+pub(crate) fn rewritten(
+    alloc: Global,
+    limits: Limits,
+    (pieces, fails): (Vec<Vec<u8>>, bool),
+    space: Space,
+) -> Result<Page, NoMemory> {
+    let mut output = Room::new(alloc, space.capacity, space.at_most)?;
+    let mut source = Counted::new(pieces, fails);
+    let answer = rewrite(alloc, &mut source, &mut output, limits);
+    let reads = source.reads();
+    Ok(Page {
+        output,
+        reads,
+        answer,
+    })
+}
+
+/// Such a text, read as a text, and how many reads were made.
+pub(crate) fn text_read(
+    alloc: Global,
+    limits: Limits,
+    (pieces, fails): (Vec<Vec<u8>>, bool),
+) -> (Result<String, Fault>, usize) {
+    let mut source = Counted::new(pieces, fails);
+    let answer = read_text(alloc, &mut source, limits);
+    (answer, source.reads())
 }

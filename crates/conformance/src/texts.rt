@@ -1,6 +1,6 @@
 //! Whole texts: their HTML, their listing and their fault, in every cut, and with writers that fail.
 
-use crate::runs::{Space, converted, ran};
+use crate::runs::{Page, Space, converted, ran, rewritten, text_read};
 use case_tables::cases::Case;
 use case_tables::cuts::{Cut, cuts, pieces};
 use case_tables::dialects::rules_of;
@@ -73,13 +73,18 @@ fn finished(parser: Parser) -> Result<Doc, Fault> {
     parser.finish()
 }
 
+/// Whether a fault is one of the bytes of a text, or of its reader.
+fn is_of_bytes(line: &str) -> bool {
+    line.starts_with("F1 ") || line.starts_with("F2 ") || line.starts_with("F6 ")
+}
+
 impl Text<'_> {
     /// The whole output of the job, where the table has it.
     fn whole(&self, job: Job) -> Option<&[u8]> {
         match (self.outcome, job) {
             (Outcome::Document { html, .. }, Job::Render) => html,
             (Outcome::Document { listing, .. }, Job::Tree) => Some(listing?.as_bytes()),
-            (Outcome::Document { .. }, Job::Rewrite | Job::Examples) => None,
+            (Outcome::Document { .. }, Job::Rewrite) | (_, Job::Examples) => None,
             (Outcome::Fault { .. }, _) => Some(b""),
         }
     }
@@ -125,29 +130,67 @@ impl Text<'_> {
         Ok(())
     }
 
-    /// That `convert` answers what is wanted, and makes as many reads.
-    fn converts(&self, cut: Cut, space: Space) -> Result<(), Trouble> {
-        let Some(whole) = self.whole(Job::Render) else {
+    /// That a call of the library does the job as is wanted, and makes as many reads.
+    fn answers(&self, job: Job, page: &Page, cut: Cut, space: Space) -> Result<(), Trouble> {
+        let Some(whole) = self.whole(job) else {
             return Ok(());
         };
         let alloc = self.alloc;
         let taken = space.taken(whole.len());
         let told = self.told(whole, taken)?;
-        let input = (pieces(alloc, self.input, cut)?, self.fails);
-        let converted = converted(alloc, self.limits, input, space)?;
-        let (answer, len) = match converted.answer {
+        let (answer, len) = match page.answer {
             Ok(len) => (String::new(alloc), len),
             Err(fault) => (format!(in alloc; "{fault}")?, whole.len()),
         };
         same(alloc, "fault", told.as_bytes(), answer.as_bytes())?;
         let front = whole.get(..taken).unwrap_or(whole);
-        same(alloc, "HTML", front, converted.output.taken())?;
+        same(alloc, "output", front, page.output.taken())?;
+        if len != whole.len() {
+            return Err(wrong(alloc, "the length told is wrong"));
+        }
+        self.has_reads(cut, page.reads)
+    }
+
+    /// That so many reads are those that are wanted.
+    fn has_reads(&self, cut: Cut, reads: usize) -> Result<(), Trouble> {
         match (cut, self.reads) {
-            (Cut::BehindEachByte, Some(reads)) if converted.reads != reads => {
-                Err(wrong(alloc, "the number of reads is wrong"))
+            (Cut::BehindEachByte, Some(wanted)) if reads != wanted => {
+                Err(wrong(self.alloc, "the number of reads is wrong"))
             }
-            _ if len != whole.len() => Err(wrong(alloc, "the length told is wrong")),
             _ => Ok(()),
+        }
+    }
+
+    /// That `convert` and `rewrite` answer what is wanted.
+    fn converts(&self, cut: Cut, space: Space) -> Result<(), Trouble> {
+        let alloc = self.alloc;
+        let input = (pieces(alloc, self.input, cut)?, self.fails);
+        let page = converted(alloc, self.limits, input, space)?;
+        self.answers(Job::Render, &page, cut, space)?;
+        let input = (pieces(alloc, self.input, cut)?, self.fails);
+        let page = rewritten(alloc, self.limits, input, space)?;
+        self.answers(Job::Rewrite, &page, cut, space)
+    }
+
+    /// That `read_text` answers the text, or its fault, if that is one of the bytes or of the reader.
+    fn is_text(&self, cut: Cut) -> Result<(), Trouble> {
+        let alloc = self.alloc;
+        let input = (pieces(alloc, self.input, cut)?, self.fails);
+        let (answer, reads) = text_read(alloc, self.limits, input);
+        let told = match &answer {
+            Ok(text) if text.len() < self.input.len() => {
+                return Err(wrong(alloc, "the text that is read is too short"));
+            }
+            Ok(_) => String::new(alloc),
+            Err(fault) => format!(in alloc; "{fault}")?,
+        };
+        match self.outcome {
+            Outcome::Fault { line, .. } if is_of_bytes(line) => {
+                same(alloc, "fault of the text", line.as_bytes(), told.as_bytes())?;
+                self.has_reads(cut, reads)
+            }
+            Outcome::Fault { .. } => Ok(()),
+            Outcome::Document { .. } => same(alloc, "fault of the text", b"", told.as_bytes()),
         }
     }
 
@@ -212,12 +255,13 @@ impl Text<'_> {
 
     /// That all calls give what is wanted of the text, cut so.
     fn is_read(&self, cut: Cut) -> Result<(), Trouble> {
-        for job in [Job::Render, Job::Tree] {
+        for job in [Job::Render, Job::Tree, Job::Rewrite] {
             let len = self.whole(job).map_or(0, |whole| whole.len());
             self.runs(job, cut, ample(len))?;
         }
         let len = self.whole(Job::Render).map_or(0, |whole| whole.len());
         self.converts(cut, ample(len))?;
+        self.is_text(cut)?;
         if self.fails {
             return Ok(());
         }
@@ -243,7 +287,7 @@ impl Text<'_> {
     }
 
     /// That it comes to what is wanted, however it is cut and however much of the output is taken.
-    pub(crate) fn agrees(&self) -> Result<(), Trouble> {
+    fn agrees_in_cuts(&self) -> Result<(), Trouble> {
         for cut in &cuts(self.alloc, self.input.len())? {
             match self.is_read(*cut) {
                 Err(Trouble::Told(text)) => {
@@ -254,6 +298,39 @@ impl Text<'_> {
         }
         self.is_written(Job::Render)?;
         self.is_written(Job::Tree)
+    }
+
+    /// The listing of the document, where the text comes whole.
+    fn listed(&self) -> Result<String, Trouble> {
+        let mut parser = Parser::new(self.alloc, self.limits);
+        let _ = fed(&mut parser, self.input);
+        match finished(parser) {
+            Ok(doc) => Ok(listing(self.alloc, &doc)?),
+            Err(fault) => Err(Trouble::Told(format!(in self.alloc; "{fault}\n")?)),
+        }
+    }
+
+    /// The same, and that it comes to one tree in all cuts where its table has none.
+    pub(crate) fn agrees(&self) -> Result<(), Trouble> {
+        let Outcome::Document {
+            html,
+            listing: None,
+        } = self.outcome
+        else {
+            return self.agrees_in_cuts();
+        };
+        let listing = self.listed()?;
+        let listing = Some(listing.as_str());
+        Text {
+            alloc: self.alloc,
+            input: self.input,
+            limits: self.limits,
+            fails: self.fails,
+            reads: self.reads,
+            depth: self.depth,
+            outcome: Outcome::Document { html, listing },
+        }
+        .agrees_in_cuts()
     }
 }
 
