@@ -28,8 +28,19 @@ MEMORY = pathlib.Path("/proc/meminfo")
 # What `rattle build` takes, and what the kit's folder holds, where libraries can be built without their proofs.
 FLAGS = "--crate-name --extern -L --antt-project --logic-built --links --statements --jobs --backend --toolchain -o".split()
 FILES = "bin/rattle bin/rattle-link rlibs logic_built rattle/logic/antt-project.json toolchain c/libos_c.a c/liblibc_c.a".split()
-# The seconds that each crate took on the last machine (docs/performance.md).
-SECONDS = {"cm_text": 90, "cm_tree": 90, "cm_command": 100, "cm_scan": 150, "cm_html": 190, "cm_source": 340, "cm_block": 350, "cm_inline": 340, "cm_tool": 200, "cmk": 80}
+# The seconds that each crate took on the last machine, by as many jobs as it has here (docs/performance.md).
+SECONDS = {
+    "cm_text": 90,
+    "cm_tree": 90,
+    "cm_command": 150,
+    "cm_scan": 150,
+    "cm_html": 190,
+    "cm_source": 340,
+    "cm_block": 350,
+    "cm_inline": 340,
+    "cm_tool": 200,
+    "cmk": 80,
+}
 # How many jobs may prove a crate: cm_text alone took 185 seconds by one, 160 by two, 112 by three, 84 by four, and 98 by eight.
 JOBS = 4
 # A crate takes twice as much memory as this, in kB, and once more for each job after the first.
@@ -118,9 +129,10 @@ class Kit:
         absent = [it for it in FILES if not (self.folder / it).exists()]
         if absent:
             return absent[0]
-        help_text = subprocess.run([self.folder / "bin/rattle", "build", "--help"], stdin=subprocess.DEVNULL, stdout=subprocess.PIPE, check=False).stdout
-        words = set(re.findall(r"(?m)^ *(-[\w-]+)(?:, (--[\w-]+))?", help_text.decode(errors="replace")))
-        return next((it for it in FLAGS if it not in {word for pair in words for word in pair}), None)
+        asked = [self.folder / "bin/rattle", "build", "--help"]
+        told = subprocess.run(asked, stdin=subprocess.DEVNULL, stdout=subprocess.PIPE, check=False).stdout.decode(errors="replace")
+        words = {word for pair in re.findall(r"(?m)^ *(-[\w-]+)(?:, (--[\w-]+))?", told) for word in pair}
+        return next((it for it in FLAGS if it not in words), None)
 
     def steps(self, crate, libraries, jobs, made):
         """Returns the commands that prove the crate and build it into a folder. The libraries are those of the repository that it
@@ -259,7 +271,7 @@ class Build:
 
     def __init__(self, plan, sums, kit, store):
         self.plan, self.sums, self.kit, self.store = plan, sums, kit, store
-        self.waiting = [it for it in plan if not store.has(it, sums[it])]
+        self.waiting = [it for it in plan if not store.has(PROGRAM, sums[PROGRAM]) and not store.has(it, sums[it])]
         self.total = len(self.waiting)
         self.running = {}
         self.processors = len(os.sched_getaffinity(0))
@@ -288,8 +300,8 @@ class Build:
         return max(*self.chains(seconds).values(), sum(seconds.values()) / self.processors)
 
     def jobs(self, others):
-        """Returns how many jobs one more crate may have, of which a processor each is left to so many others: none where there is no
-        processor or no memory for it. The first has one in any case."""
+        """Returns how many jobs one more crate may have, with a processor left to each of so many others: none where there is no processor
+        or no memory for it. The first has one in any case."""
         lines = dict(it.split(":", 1) for it in MEMORY.read_text().splitlines())
         room = int(lines["MemAvailable"].split()[0]) // ROOM - 2 * len(self.running)
         free = self.processors - sum(it.jobs for it in self.running.values())
@@ -328,8 +340,8 @@ class Build:
         try:
             while self.waiting or self.running:
                 self.start_ready(processes, work)
-                done = self.total - len(self.waiting) - len(self.running)
-                progress.tell(f"{done} of {self.total} crates are proved, now {' and '.join(self.running)}; about {minutes(self.left())} left")
+                done, now = self.total - len(self.waiting) - len(self.running), " and ".join(self.running)
+                progress.tell(f"{done} of {self.total} crates are proved, now {now}; about {minutes(self.left())} left")
                 time.sleep(0.1)
                 self.keep_ended()
         finally:
