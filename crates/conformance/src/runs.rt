@@ -2,7 +2,7 @@
 
 use case_tables::cuts::Counted;
 use cm_text::{Limits, NoMemory, Room};
-use cm_tool::{Fault, Stop, Task, convert, read_text, rewrite, run, tell};
+use cm_tool::{Fault, Job, Stop, Task, convert, read_text, rewrite, run, tell};
 use std::alloc::Global;
 
 /// Room for what is written: so many bytes, at most so many a call.
@@ -62,16 +62,21 @@ pub(crate) struct Page {
     pub(crate) answer: Result<usize, Fault>,
 }
 
-/// Converts a text that comes in these pieces, behind which the reader may fail.
-pub(crate) fn converted(
+/// What `rewrite`, or for any other job `convert`, answers on a text that comes in these pieces, behind which
+/// the reader may fail.
+pub(crate) fn answered(
     alloc: Global,
+    job: Job,
     limits: Limits,
     (pieces, fails): (Vec<Vec<u8>>, bool),
     space: Space,
 ) -> Result<Page, NoMemory> {
     let mut output = Room::new(alloc, space.capacity, space.at_most)?;
     let mut source = Counted::new(pieces, fails);
-    let answer = convert(alloc, &mut source, &mut output, limits);
+    let answer = match job {
+        Job::Rewrite => rewrite(alloc, &mut source, &mut output, limits),
+        _ => convert(alloc, &mut source, &mut output, limits),
+    };
     let reads = source.reads();
     Ok(Page {
         output,
@@ -80,25 +85,7 @@ pub(crate) fn converted(
     })
 }
 
-/// Rewrites such a text.
-pub(crate) fn rewritten(
-    alloc: Global,
-    limits: Limits,
-    (pieces, fails): (Vec<Vec<u8>>, bool),
-    space: Space,
-) -> Result<Page, NoMemory> {
-    let mut output = Room::new(alloc, space.capacity, space.at_most)?;
-    let mut source = Counted::new(pieces, fails);
-    let answer = rewrite(alloc, &mut source, &mut output, limits);
-    let reads = source.reads();
-    Ok(Page {
-        output,
-        reads,
-        answer,
-    })
-}
-
-/// Such a text, read as a text, and how many reads were made.
+/// What `read_text` answers on such a text, and how many reads were made.
 pub(crate) fn text_read(
     alloc: Global,
     limits: Limits,

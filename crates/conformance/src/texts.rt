@@ -1,6 +1,6 @@
 //! Whole texts: their HTML, their listing and their fault, in every cut, and with writers that fail.
 
-use crate::runs::{Page, Space, converted, ran, rewritten, text_read};
+use crate::runs::{Page, Space, answered, ran, text_read};
 use case_tables::cases::Case;
 use case_tables::cuts::{Cut, cuts, pieces};
 use case_tables::dialects::rules_of;
@@ -163,13 +163,12 @@ impl Text<'_> {
 
     /// That `convert` and `rewrite` answer what is wanted.
     fn converts(&self, cut: Cut, space: Space) -> Result<(), Trouble> {
-        let alloc = self.alloc;
-        let input = (pieces(alloc, self.input, cut)?, self.fails);
-        let page = converted(alloc, self.limits, input, space)?;
-        self.answers(Job::Render, &page, cut, space)?;
-        let input = (pieces(alloc, self.input, cut)?, self.fails);
-        let page = rewritten(alloc, self.limits, input, space)?;
-        self.answers(Job::Rewrite, &page, cut, space)
+        for job in [Job::Render, Job::Rewrite] {
+            let input = (pieces(self.alloc, self.input, cut)?, self.fails);
+            let page = answered(self.alloc, job, self.limits, input, space)?;
+            self.answers(job, &page, cut, space)?;
+        }
+        Ok(())
     }
 
     /// That `read_text` answers the text, or its fault, if that is one of the bytes or of the reader.
