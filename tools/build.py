@@ -28,7 +28,7 @@ MEMORY = pathlib.Path("/proc/meminfo")
 # What `rattle build` takes, and what the kit's folder holds, where libraries can be built without their proofs.
 FLAGS = "--crate-name --extern -L --antt-project --logic-built --links --statements --jobs --backend --toolchain -o".split()
 FILES = "bin/rattle bin/rattle-link rlibs logic_built rattle/logic/antt-project.json toolchain c/libos_c.a c/liblibc_c.a".split()
-# The seconds that each crate took on the last machine, by as many jobs as it has here (docs/performance.md).
+# About how many seconds each crate took on the last machine, by as many jobs as it has here.
 SECONDS = {
     "cm_text": 90,
     "cm_tree": 90,
