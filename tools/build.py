@@ -41,7 +41,7 @@ SECONDS = {
     "cm_tool": 200,
     "cmk": 80,
 }
-# How many jobs may prove a crate: cm_text alone took 185 seconds by one, 160 by two, 112 by three, 84 by four, and 98 by eight.
+# How many jobs may prove a crate: cm_text took 185 seconds by one, 160 by two, 112 by three, 84 by four, and 98 by eight.
 JOBS = 4
 # A crate takes twice as much memory as this, in kB, and once more for each job after the first.
 ROOM = 1536 * 1024
@@ -120,8 +120,8 @@ class Kit:
         if not os.access(self.prover, os.X_OK):
             raise Failed(f"the program is to be proved, and there is no rt on PATH or at {self.prover}")
         self.folder = pathlib.Path(self.prover).resolve().parent.parent
+        self.identity = ""
         with contextlib.suppress(OSError):
-            self.identity = ""
             self.identity = (self.folder / "KIT-ID").read_text().strip()
 
     def lacking(self):
