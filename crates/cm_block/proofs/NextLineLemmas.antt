@@ -52,6 +52,10 @@ module _ (rules : Rules) where
   unfolding interrupts_paragraph
   interrupts start line b is e = e ∙ ap (λ s. can_interrupt s line) is
 
+  pub lazy_interrupts : (line : LineView) → line.lazy ≡ true → interrupts_paragraph rules line ≡ false
+  unfolding interrupts_paragraph start_of
+  lazy_interrupts line lazy = grind (arith, lazy)
+
 pub item_interrupts : (marker : ItemMarker) (line : LineView) (text : List ℕ) → text ≡ content_of line → starts_at_one marker.kind ≡ true
     → not (is_blank_text (drop (suc marker.digits) text)) ≡ can_interrupt (ItemStart marker) line
 unfolding past

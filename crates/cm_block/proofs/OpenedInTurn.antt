@@ -2,10 +2,10 @@
 use Rattle.std.proofs.Common.{◌≡◌, ℕ, ◌≤◌, Bool, true, false, List, [], ◌∷◌, ◌++◌, length, refl, ◌∙◌, sym, ap, ap₂, arith}
 use Rattle.cm_text.specs.Rules.{Rules}
 use Rattle.cm_text.specs.Lines.{LineView}
+use Rattle.cm_tree.specs.declared.tree.ListKind.{ListKind}
 use Rattle.cm_tree.specs.declared.tree.Owner.TheVariants.{Marker}
 use Rattle.cm_scan.specs.Lines.{is_blank}
-use Rattle.cm_scan.specs.LineForms.{ItemMarker}
-use Rattle.cm_scan.specs.Starts.{Start, QuoteMarker, ItemStart, start_of, behind_quote_marker, content_column, first_content}
+use Rattle.cm_scan.specs.Starts.{Start, start_of}
 use Rattle.cm_block.specs.OpenLeaf.{no_leaf, LeafLine, LineOpens, begins_nothing, begins_leaf, begins_quote, begins_item, begin_of_start, begin_of}
 use Rattle.cm_block.specs.Level.{Level, empty_level, push_blank, block_opens, item_opens}
 use Rattle.cm_block.specs.Stack.{Owned, own_lines, blank_owner, push_leaf_line, push_by, push_begin}
@@ -13,8 +13,8 @@ use Rattle.cm_block.specs.Depths.{nesting}
 use Rattle.cm_block.specs.Frames.{a_quote, an_item, Frame}
 use Rattle.cm_block.specs.steps.FrameSteps.{within, quoted_in, quoted_by}
 use Rattle.cm_scan.specs.declared.markers.ItemMarker as code_marker
-use Rattle.cm_block.specs.declared.starts.Start as code_start
-use Rattle.cm_block.specs.declared.starts.Start.TheVariants as variants
+use Rattle.cm_block.specs.declared.counted_line.starts.Start as code_start
+use Rattle.cm_block.specs.declared.counted_line.starts.Start.TheVariants as variants
 use Rattle.cm_block.specs.steps.StartViews.{seen}
 use Rattle.cm_block.specs.steps.PlaceViews.{begins_quote as begins_quote_marker}
 use Rattle.cm_block.specs.steps.FirstLines.{begins_container}
@@ -35,7 +35,7 @@ module _ (rules : Rules) where
       push-cases rules q s v line ∙ marked-by q p s v (begin_of rules line) (not-nothing rules line some) ∙ sym (push-cases rules p s v line)
 
   -- what it begins, by its start
-  begins-as : (line : LineView) (start : Start) → is_blank line ≡ false → start_of rules line ≡ start → begin_of rules line ≡ begin_of_start start line
+  pub begins-as : (line : LineView) (start : Start) → is_blank line ≡ false → start_of rules line ≡ start → begin_of rules line ≡ begin_of_start start line
   unfolding begin_of
   begins-as line start some is = go (is_blank line) some
     where
@@ -49,37 +49,33 @@ quoted-last q [] f = refl
 quoted-last q (g ∷ gs) f = quoted-last (quoted_in g.container q) gs f
 
 module _ (rules : Rules) (fs : List Frame) (v : Level) (line : LineView) (owned : Owned) where
-  pub quote_next : (inner : LineView) → is_blank line ≡ false → start_of rules line ≡ QuoteMarker → inner ≡ behind_quote_marker line
+  pub quote_next : (inner : LineView) → begin_of rules line ≡ begins_quote inner
       → begun_in rules fs v line owned ≡ begun_in rules (fs ++ frame (block_opens v) a_quote ∷ []) empty_level inner owned
-  quote_next inner some is at =
-      ap (within fs) (begins-quote rules (quoted_by false fs) owned v line inner (begins-as _ line QuoteMarker some is ∙ ap begins_quote (sym at)))
+  quote_next inner is =
+      ap (within fs) (begins-quote rules (quoted_by false fs) owned v line inner is)
       ∙ sym (within-append fs (f ∷ []) (push_begin rules true owned empty_level inner))
       ∙ ap (λ q. within (fs ++ f ∷ []) (push_begin rules q owned empty_level inner)) (sym (quoted-last false fs f))
     where
       f : Frame
       f = frame (block_opens v) a_quote
 
-  module _ (m : ItemMarker) (inner : LineView) (column : ℕ) (some : is_blank line ≡ false) (is : start_of rules line ≡ ItemStart m)
-      (at : inner ≡ first_content m line) (reaches : column ≡ content_column m line) where
-    begins-it : begin_of rules line ≡ begins_item m.kind column inner
-    begins-it = begins-as _ line (ItemStart m) some is ∙ ap₂ (begins_item m.kind) (sym reaches) (sym at)
-
+  module _ (kind : ListKind) (inner : LineView) (column : ℕ) (is : begin_of rules line ≡ begins_item kind column inner) where
     opened-frame : Frame
-    opened-frame = frame (item_opens v m.kind) (an_item m.kind column)
+    opened-frame = frame (item_opens v kind) (an_item kind column)
 
     pub item_next : is_blank inner ≡ false
-        → begun_in rules fs v line owned ≡ begun_in rules (fs ++ frame (item_opens v m.kind) (an_item m.kind column) ∷ []) empty_level inner owned
+        → begun_in rules fs v line owned ≡ begun_in rules (fs ++ frame (item_opens v kind) (an_item kind column) ∷ []) empty_level inner owned
     unfolding opened-frame
     item_next more =
-        ap (within fs) (begins-item rules (quoted_by false fs) owned v line inner m.kind column begins-it more)
+        ap (within fs) (begins-item rules (quoted_by false fs) owned v line inner kind column is more)
         ∙ sym (within-append fs (opened-frame ∷ []) (push_begin rules true owned empty_level inner))
         ∙ ap (within (fs ++ opened-frame ∷ [])) (marked-same _ true (quoted_by false (fs ++ opened-frame ∷ [])) owned empty_level inner more)
 
     pub item_bare : is_blank inner ≡ true
-        → begun_in rules fs v line owned ≡ blank_in true (fs ++ frame (item_opens v m.kind) (an_item m.kind column) ∷ []) empty_level owned
+        → begun_in rules fs v line owned ≡ blank_in true (fs ++ frame (item_opens v kind) (an_item kind column) ∷ []) empty_level owned
     unfolding opened-frame
     item_bare none =
-        ap (within fs) (begins-bare-item rules (quoted_by false fs) owned v line inner m.kind column begins-it none)
+        ap (within fs) (begins-bare-item rules (quoted_by false fs) owned v line inner kind column is none)
         ∙ sym (nest-last true fs opened-frame empty_level no_leaf (own_lines owned (Marker ∷ [])))
 
   pub blank_next : is_blank line ≡ true → begun_in rules fs v line owned ≡ blank_in false fs v owned
@@ -87,9 +83,9 @@ module _ (rules : Rules) (fs : List Frame) (v : Level) (line : LineView) (owned 
       ap (within fs) (begins-nothing rules (quoted_by false fs) owned v line (blank-begins rules line none))
       ∙ sym (nest-within fs (push_blank v) no_leaf (own_lines owned (blank_owner (quoted_by false fs) ∷ [])))
 
-  pub leaf_next : (start : Start) (l : LeafLine) → is_blank line ≡ false → start_of rules line ≡ start → begins_leaf l ≡ begin_of_start start line
+  pub leaf_next : (start : Start) (l : LeafLine) → begin_of rules line ≡ begin_of_start start line → begins_leaf l ≡ begin_of_start start line
       → begun_in rules fs v line owned ≡ within fs (push_leaf_line owned (block_opens v) l)
-  leaf_next start l some is at = ap (within fs) (begins-leaf rules (quoted_by false fs) owned v line l (begins-as _ line start some is ∙ sym at))
+  leaf_next start l is at = ap (within fs) (begins-leaf rules (quoted_by false fs) owned v line l (is ∙ sym at))
 
   pub deeper : length fs ≤ nesting (begun_in rules fs v line owned).now
   deeper = omega (arith, within-nesting fs (push_begin rules (quoted_by false fs) owned v line))
@@ -116,15 +112,15 @@ module _ (rules : Rules) where
       sym (left_some _ bare gs w line owned e ∙ ap₂ (λ hs u. begun_in rules hs u line owned) frames level)
 
   -- behind an item's marker, by whether the rest of the line is blank
-  pub item_left : (bare : Bool) (fs gs : List Frame) (v w : Level) (line : LineView) (owned : Owned) (m : ItemMarker) (inner : LineView) (column : ℕ)
-      → is_blank line ≡ false → start_of rules line ≡ ItemStart m → inner ≡ first_content m line → column ≡ content_column m line → bare ≡ is_blank inner
-      → gs ≡ fs ++ frame (item_opens v m.kind) (an_item m.kind column) ∷ [] → w ≡ empty_level
+  pub item_left : (bare : Bool) (fs gs : List Frame) (v w : Level) (line : LineView) (owned : Owned) (kind : ListKind) (inner : LineView) (column : ℕ)
+      → begin_of rules line ≡ begins_item kind column inner → bare ≡ is_blank inner
+      → gs ≡ fs ++ frame (item_opens v kind) (an_item kind column) ∷ [] → w ≡ empty_level
       → begun_in rules fs v line owned ≡ left_in rules bare gs w inner owned
-  item_left true fs gs v w line owned m inner column some is at reaches none frames level =
-      item_bare _ fs v line owned m inner column some is at reaches (sym none)
+  item_left true fs gs v w line owned kind inner column is none frames level =
+      item_bare _ fs v line owned kind inner column is (sym none)
       ∙ sym (ap₂ (λ hs u. blank_in true hs u owned) frames level)
-  item_left false fs gs v w line owned m inner column some is at reaches more frames level =
-      item_next _ fs v line owned m inner column some is at reaches (sym more)
+  item_left false fs gs v w line owned kind inner column is more frames level =
+      item_next _ fs v line owned kind inner column is (sym more)
       ∙ sym (ap₂ (λ hs u. begun_in rules hs u inner owned) frames level)
 
 -- what is neither a quote's nor an item's marker

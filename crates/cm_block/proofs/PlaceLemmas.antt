@@ -1,5 +1,6 @@
 -- Places of lines in containers.
 use Rattle.std.specs.Prelude.{min, nat_le, ◌-◌, ◌==◌, ◌||◌}
+use Rattle.std.proofs.lemmas.Bool.{and_parts}
 use Rattle.std.proofs.lemmas.Bool.Decides.{nat_tests}
 use Rattle.std.proofs.Common.{◌≡◌, ◌≢◌, ℕ, zero, suc, ◌+◌, ◌<◌, ◌≤◌, Bool, true, false, not, ◌&&◌, List, ◌++◌, replicate, drop, None, refl, ◌∙◌, ap, ap₂, arith}
 use Rattle.cm_text.specs.Rules.{Rules}
@@ -97,6 +98,10 @@ module _ (rules : Rules) (column : ℕ) (bare : Bool) (line : LineView) where
       go true true is blank both = in_item_bare e blank is
       go true false is blank both = absurd (cc both)
       go false k is blank both = absurd (cc both)
+
+  -- a blank line, which ends it, is no lazy continuation line either
+  pub in_item_ends : line.lazy ≡ false → (bare && is_blank line) ≡ true → place_in_item rules column bare line ≡ place_if_lazy rules line
+  in_item_ends e both = in_item_leaves e both ∙ lazy_blank rules line (and_parts bare (is_blank line) both).1
 
   pub in_item_stays : line.lazy ≡ false → (bare && is_blank line) ≡ false → (nat_le column (indent_of line) || is_blank line) ≡ true
       → place_in_item rules column bare line ≡ Stays (strip_columns column line)

@@ -11,6 +11,7 @@ ghost use Rattle.cm_block.specs.Stack.{close_leaves, own_leaf, own_leaves};
 ghost use Rattle.cm_block.specs.steps.LeafSteps.{fence_lines, leaves_of_closed, own_plain_leaf};
 
 use crate::line_owners::Owners;
+use crate::rooms::TextRoom;
 use crate::runs::line_feeds;
 use crate::stack::Stack;
 use cm_scan::{LinkDefinition, definition, trim_end};
@@ -187,12 +188,12 @@ fn fence_lines(ended: bool, text: &str) -> usize
 }
 
 impl ClosedLeaf {
-    /// Puts the leaf at the end of the innermost level, and its lines at the end of the owners. The room of its text
-    /// is spare then.
+    /// Puts the leaf at the end of the innermost level, and its lines at the end of the owners. The memory of its text
+    /// is kept.
     pub(crate) fn put(
         self,
         alloc: Global,
-        spare: &mut String,
+        leaves: &mut TextRoom,
         stack: &mut Stack,
         owners: &mut Owners,
     ) -> Result<(), NoMemory>
@@ -205,7 +206,7 @@ impl ClosedLeaf {
             ClosedLeaf::Nothing => Ok(()),
             ClosedLeaf::Run { source, heading } => {
                 put_run(alloc, &source, heading, stack, owners)?;
-                *spare = source;
+                leaves.keep(source);
                 Ok(())
             }
             ClosedLeaf::Heading { level, content } => {
@@ -220,13 +221,13 @@ impl ClosedLeaf {
                 let lines = line_feeds(&text) + 1;
                 text.push_str("\n")?;
                 put_code(alloc, "", &text, lines, stack, owners)?;
-                *spare = text;
+                leaves.keep(text);
                 Ok(())
             }
             ClosedLeaf::Fenced { info, text, ended } => {
                 let lines = fence_lines(ended, &text);
                 put_code(alloc, &info, &text, lines, stack, owners)?;
-                *spare = text;
+                leaves.keep(text);
                 Ok(())
             }
             ClosedLeaf::Html { mut text } => {
@@ -234,7 +235,7 @@ impl ClosedLeaf {
                 text.push_str("\n")?;
                 owners.leaf(lines)?;
                 stack.put_html(&text)?;
-                *spare = text;
+                leaves.keep(text);
                 Ok(())
             }
         }

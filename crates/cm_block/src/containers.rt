@@ -4,10 +4,8 @@ ghost use Rattle.cm_text.specs.Views.{line_of};
 ghost use Rattle.cm_block.specs.steps.LineTests.{Tested};
 ghost use Rattle.cm_block.specs.steps.FrameStarts.{Inside};
 
-use crate::counted_line::CountedLine;
-use crate::places::{is_blank, item_content, quote_content};
+use crate::counted_line::{Begins, CountedLine, LeafStart};
 use crate::stack::Stack;
-use crate::starts::{Start, start_of};
 use cm_text::Rules;
 use std::alloc::{AllocError, Global};
 
@@ -19,7 +17,7 @@ pub(crate) enum Innermost<'a> {
     /// A blank line.
     Blank,
     /// The first line of a leaf block, which begins so.
-    Leaf(Start<'a>),
+    Leaf(LeafStart<'a>),
 }
 
 impl Stack {
@@ -38,23 +36,15 @@ impl Stack {
         ensures tests { OnOk result (Tested (length self.new.frames - length self.old.frames) (suc (length self.new.frames - length self.old.frames)) line.old.tests line.new.tests) }
     {
         while self.depth() <= limit {
-            let view = line.read();
-            if is_blank(&view) {
-                return Ok(Innermost::Blank);
+            match line.begins(rules) {
+                Begins::Nothing => return Ok(Innermost::Blank),
+                Begins::Quote => self.open_quote(alloc)?,
+                Begins::Item { kind, column, bare } => {
+                    self.open_item(alloc, kind, column)?;
+                    self.set_bare(bare);
+                }
+                Begins::Leaf(start) => return Ok(Innermost::Leaf(start)),
             }
-            if let Some(inner) = quote_content(&view) {
-                self.open_quote(alloc)?;
-                line.enter(inner);
-                continue;
-            }
-            let start = start_of(rules, &view);
-            let Start::Item(marker) = start else {
-                return Ok(Innermost::Leaf(start));
-            };
-            let (column, inner) = item_content(&view, &marker);
-            self.open_item(alloc, marker.kind, column)?;
-            self.set_bare(is_blank(&inner));
-            line.enter(inner);
         }
         Ok(Innermost::TooDeep)
     }

@@ -1,18 +1,75 @@
 //! A line that is read by counted calls alone.
-ghost use Rattle.std.specs.Prelude.{◌≡◌};
+ghost use Rattle.std.specs.Prelude.{◌≡◌, ◌++◌, ◌∷◌, ◌&&◌, ℕ, List, suc, true, false, string_bytes, IfOk, IfSome, IfNone, OnOk};
+ghost use Rattle.cm_text.specs.Indentation.{strip_columns};
+ghost use Rattle.cm_text.specs.Rules as all;
+ghost use Rattle.cm_text.specs.Views.{line_of};
+ghost use Rattle.cm_scan.specs.Words.{given};
+ghost use Rattle.cm_scan.specs.Lines.{is_blank, with_ending};
+ghost use Rattle.cm_scan.specs.HtmlBlocks.{is_html_end};
+ghost use Rattle.cm_scan.specs.HtmlKinds.{kind_of};
+ghost use Rattle.cm_scan.specs.Starts.{place_if_lazy, place_in_quote, place_in_item, interrupts_paragraph, underline_of};
+ghost use Rattle.cm_scan.specs.Laws.{goes_inward};
+ghost use Rattle.cm_scan.specs.Blocks.{line_feeds, add_text, closes_fence};
+ghost use Rattle.cm_block.specs.OpenLeaf.{stays_open, line_of_leaf, begins_leaf, begin_of_start};
+ghost use Rattle.cm_block.specs.LeafViews.{code_of};
 ghost use Rattle.cm_block.specs.steps.LineTests.{Tested};
+ghost use Rattle.cm_block.specs.steps.StartViews.{seen};
+ghost use Rattle.cm_block.specs.steps.PlaceViews.{IsInside};
+ghost use Rattle.cm_block.specs.steps.FirstLines.{first_of, begins_container};
 
-use cm_text::View;
+mod copies;
+mod ends;
+mod first_line;
+mod interruptions;
+mod places;
+mod starts;
+
+use crate::rooms::TextRoom;
+use cm_scan::{FenceKind, HtmlKind};
+use cm_text::{Rules, View};
+use cm_tree::ListKind;
+use copies::{add_text, push_next_line, push_whole_line, take_code_line};
+use ends::{closes_fence, ends_html};
+pub(crate) use first_line::FirstLine;
+use first_line::begin_leaf;
+use interruptions::{interrupts_paragraph, underline_of};
+use places::{ends_bare_item, if_lazy, is_blank, item_content, quote_content, reaches_or_is_blank};
+pub(crate) use starts::LeafStart;
+use starts::{Start, start_of};
+use std::alloc::{AllocError, Global};
 
 /// What is left of a line inside the containers in which it stays, and how often it has been read so far.
-/// It is shown by a call that counts, and by no other; and it is let go by the call that gives the
-/// count, and by no other.
+///
+/// Nothing that shows the line leaves this type. Each of its calls is one reading: it counts one, and answers
+/// what was found, or copies what is left of the line. The count is told by the call that lets the line go, and
+/// by no other.
 pub(crate) struct CountedLine<'a> {
     rest: View<'a>,
     tests: u64,
 }
 
+/// What a line begins in the innermost container, where no leaf is open.
+#[derive(Clone, Copy, Debug)]
+pub(crate) enum Begins<'a> {
+    /// Nothing: it is blank.
+    Nothing,
+    /// A quote, into which the line has gone.
+    Quote,
+    /// An item, into which the line has gone: the kind of its list, the column at which its content begins, and
+    /// whether nothing stands behind its marker.
+    Item {
+        kind: ListKind,
+        column: usize,
+        bare: bool,
+    },
+    /// A leaf block.
+    Leaf(LeafStart<'a>),
+}
+
 impl<'a> CountedLine<'a> {
+    ghost use Rattle.cm_block.specs.steps.LineTests.{ReadOnce};
+    ghost use Rattle.cm_block.specs.steps.FirstLines.{Found};
+
     /// A whole line, which hasn't been read.
     pub(crate) fn new(line: View<'a>) -> CountedLine<'a>
         ensures line { result.rest ≡ line.entry }
@@ -24,37 +81,204 @@ impl<'a> CountedLine<'a> {
         }
     }
 
-    /// Reads what is left of the line, and counts this.
-    #[inline(always)]
-    pub(crate) fn read(&mut self) -> View<'a>
-        ensures line { result ≡ self.old.rest }
-        ensures same { self.new.rest ≡ self.old.rest }
-        ensures tests { Tested 1 1 self.old.tests self.new.tests }
-    {
-        self.tests = self.tests.saturating_add(1);
-        self.rest
-    }
-
-    /// The line goes into a container, where this is left of it.
-    pub(crate) fn enter(&mut self, inner: View<'a>)
-        ensures line { self.new.rest ≡ inner.entry }
-        ensures tests { self.new.tests ≡ self.old.tests }
-    {
-        self.rest = inner;
-    }
-
-    /// Whether the line goes on a paragraph without the markers of its containers.
-    pub(crate) fn is_lazy(&self) -> bool
-        ensures { result ≡ self.now.rest.lazy }
-    {
-        self.rest.lazy
-    }
-
     /// The end of the line: how often it was read.
     pub(crate) fn into_tests(self) -> u64
         ensures { result ≡ self.entry.tests }
     {
         let CountedLine { rest: _, tests } = self;
         tests
+    }
+
+    /// What is left of the line, for one reading, which it counts.
+    #[inline(always)]
+    fn read(&mut self) -> View<'a>
+        ensures line { result ≡ self.old.rest }
+        ensures read { ReadOnce self.old self.new }
+    {
+        self.tests = self.tests.saturating_add(1);
+        self.rest
+    }
+
+    /// The line goes into a container, where this is left of it.
+    #[inline(always)]
+    fn enter(&mut self, inner: View<'a>)
+        ensures line { self.new.rest ≡ inner.entry }
+        ensures tests { self.new.tests ≡ self.old.tests }
+    {
+        self.rest = inner;
+    }
+
+    /// Whether the line stays in an open quote by its marker, behind which it then goes on (5.1 Block quotes).
+    pub(crate) fn stays_in_quote(&mut self) -> bool
+        ensures place { (by : all.Rules) → IsInside result (place_in_quote by (line_of self.old.rest)) (place_if_lazy by (line_of self.old.rest)) (line_of self.new.rest) }
+        ensures same { result ≡ false → self.new.rest ≡ self.old.rest }
+        ensures tests { Tested 1 1 self.old.tests self.new.tests }
+    {
+        let Some(inner) = quote_content(&self.read()) else {
+            return false;
+        };
+        self.enter(inner);
+        true
+    }
+
+    /// Whether the line stays in an open item whose content begins at a column, into which it then goes: it reaches
+    /// the column, or is blank. A blank line ends an item of which there is only the marker (5.2 List items).
+    pub(crate) fn stays_in_item(&mut self, column: usize, bare: bool) -> bool
+        ensures place { (by : all.Rules) → IsInside result (place_in_item by column bare (line_of self.old.rest)) (place_if_lazy by (line_of self.old.rest)) (line_of self.new.rest) }
+        ensures same { result ≡ false → self.new.rest ≡ self.old.rest }
+        ensures tests { Tested 1 1 self.old.tests self.new.tests }
+    {
+        let view = self.read();
+        if view.lazy {
+            return false;
+        }
+        if ends_bare_item(bare, &view) {
+            return false;
+        }
+        let inner = view.strip(column);
+        if !reaches_or_is_blank(&view, &inner, column) {
+            return false;
+        }
+        self.enter(inner);
+        true
+    }
+
+    /// Whether the line goes on a paragraph without the markers of its containers, as which it is then marked:
+    /// `open_text` says that the lines so far leave a paragraph open (5.1 Block quotes, 5.2 List items).
+    pub(crate) fn goes_on_lazily(&mut self, rules: Rules, open_text: bool) -> bool
+        ensures line { given result (line_of self.new.rest) ≡ goes_inward (place_if_lazy rules (line_of self.old.rest)) open_text }
+        ensures same { result ≡ false → self.new.rest ≡ self.old.rest }
+        ensures lazy { result ≡ true → self.new.rest.lazy ≡ true }
+        ensures tests { Tested 1 1 self.old.tests self.new.tests }
+    {
+        let Some(inner) = if_lazy(rules, &self.read(), open_text) else {
+            return false;
+        };
+        self.enter(inner);
+        true
+    }
+
+    /// What the line begins in the innermost container, where no leaf is open. It goes into the quote or the item
+    /// that it begins.
+    pub(crate) fn begins(&mut self, rules: Rules) -> Begins<'a>
+        ensures found { Found rules (line_of self.old.rest) result (line_of self.new.rest) }
+        ensures tests { Tested 1 1 self.old.tests self.new.tests }
+    {
+        let view = self.read();
+        if is_blank(&view) {
+            return Begins::Nothing;
+        }
+        if let Some(inner) = quote_content(&view) {
+            self.enter(inner);
+            return Begins::Quote;
+        }
+        let start = start_of(rules, &view);
+        let Start::Item(marker) = start else {
+            return Begins::Leaf(LeafStart::new(start));
+        };
+        let (column, inner) = item_content(&view, &marker);
+        self.enter(inner);
+        Begins::Item {
+            kind: marker.kind,
+            column,
+            bare: is_blank(&inner),
+        }
+    }
+
+    /// Whether the line is blank (2.1 Characters and lines).
+    pub(crate) fn is_blank(&mut self) -> bool
+        ensures blank { result ≡ is_blank (line_of self.old.rest) }
+        ensures read { ReadOnce self.old self.new }
+    {
+        is_blank(&self.read())
+    }
+
+    /// The level that the line gives to the text above it, as an underline (4.3 Setext headings).
+    pub(crate) fn underline(&mut self) -> Option<u8>
+        ensures level { result ≡ underline_of (line_of self.old.rest) }
+        ensures read { ReadOnce self.old self.new }
+    {
+        underline_of(&self.read())
+    }
+
+    /// Whether the line can interrupt a paragraph.
+    pub(crate) fn interrupts_paragraph(&mut self, rules: Rules) -> bool
+        ensures interrupts { result ≡ interrupts_paragraph rules (line_of self.old.rest) }
+        ensures read { ReadOnce self.old self.new }
+    {
+        interrupts_paragraph(rules, &self.read())
+    }
+
+    /// Whether the line is the closing fence of a fence of this kind (4.5 Fenced code blocks).
+    pub(crate) fn closes_fence(&mut self, kind: FenceKind) -> bool
+        ensures closes { (info : List ℕ) → result ≡ closes_fence (record { marker = kind.marker; count = kind.count; info = info }) (line_of self.old.rest) }
+        ensures read { ReadOnce self.old self.new }
+    {
+        closes_fence(kind, &self.read())
+    }
+
+    /// Whether the line meets the end condition of an HTML block of this kind (4.6 HTML blocks).
+    pub(crate) fn ends_html(&mut self, kind: HtmlKind) -> bool
+        ensures ends { result ≡ is_html_end (kind_of kind) (line_of self.old.rest).text }
+        ensures read { ReadOnce self.old self.new }
+    {
+        ends_html(kind, &self.read())
+    }
+
+    /// Goes on with a run of text by the line, whose leading spaces and tabs go (4.8 Paragraphs).
+    pub(crate) fn add_text(&mut self, source: &mut String) -> Result<(), AllocError>
+        ensures text { OnOk result (string_bytes source.new ≡ add_text (string_bytes source.old) (line_of self.old.rest)) }
+        ensures read { ReadOnce self.old self.new }
+    {
+        add_text(source, &self.read())
+    }
+
+    /// Goes on with indented code by the line, if it is one of the block, and answers whether it is. A blank line
+    /// waits for a further line of code (4.4 Indented code blocks).
+    pub(crate) fn add_code(
+        &mut self,
+        text: &mut String,
+        blank_lines: &mut String,
+    ) -> Result<bool, AllocError>
+        ensures taken { (by : all.Rules) → IfOk result (λ taken. given taken (stays_open (code_of (string_bytes text.new) (string_bytes blank_lines.new)))
+            ≡ line_of_leaf by (code_of (string_bytes text.old) (string_bytes blank_lines.old)) (line_of self.old.rest)) }
+        ensures kept { IfOk result (λ taken. taken ≡ false → text.new ≡ text.old) }
+        ensures waiting { IfOk result (λ taken. taken ≡ false → blank_lines.new ≡ blank_lines.old) }
+        ensures read { ReadOnce self.old self.new }
+    {
+        take_code_line(text, blank_lines, &self.read())
+    }
+
+    /// Goes on with fenced code by the line, which loses so many columns (4.5 Fenced code blocks).
+    pub(crate) fn add_fenced(&mut self, columns: usize, text: &mut String) -> Result<(), AllocError>
+        ensures text { OnOk result (string_bytes text.new ≡ string_bytes text.old ++ with_ending (strip_columns columns (line_of self.old.rest))) }
+        ensures feeds { OnOk result (line_feeds (string_bytes text.new) ≡ suc (line_feeds (string_bytes text.old))) }
+        ensures read { ReadOnce self.old self.new }
+    {
+        push_whole_line(text, &self.read().strip(columns))
+    }
+
+    /// Goes on with HTML by the line (4.6 HTML blocks).
+    pub(crate) fn add_html(&mut self, text: &mut String) -> Result<(), AllocError>
+        ensures text { OnOk result (string_bytes text.new ≡ string_bytes text.old ++ 10 ∷ (line_of self.old.rest).text) }
+        ensures feeds { OnOk result (line_feeds (string_bytes text.new) ≡ suc (line_feeds (string_bytes text.old))) }
+        ensures read { ReadOnce self.old self.new }
+    {
+        push_next_line(text, &self.read())
+    }
+
+    /// Begins the leaf block that was found to begin with the line. A quote's or an item's marker begins none. What is
+    /// open takes the room of texts.
+    pub(crate) fn begin_leaf(
+        &mut self,
+        alloc: Global,
+        leaves: &mut TextRoom,
+        start: &LeafStart<'_>,
+    ) -> Result<Option<FirstLine>, AllocError>
+        ensures leaf { IfOk result (λ first. IfSome first (λ f. begins_leaf (first_of f) ≡ begin_of_start (seen start.now.found) (line_of self.old.rest))) }
+        ensures container { IfOk result (λ first. IfNone first (begins_container (seen start.now.found) ≡ true)) }
+        ensures read { ReadOnce self.old self.new }
+    {
+        begin_leaf(alloc, leaves, start, &self.read())
     }
 }

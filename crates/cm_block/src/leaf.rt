@@ -1,14 +1,11 @@
 //! The leaf block that is open, and what one more line does to it (chapter 4).
-ghost use Rattle.std.specs.Prelude.{◌≡◌, ◌+◌, ◌≤◌, ◌&&◌, ◌++◌, ◌∷◌, [], ℕ, List, Some, None, suc, true, false, string_bytes, IfOk, OnOk};
-ghost use Rattle.cm_text.specs.Rules as all;
+ghost use Rattle.std.specs.Prelude.{◌≡◌, ◌+◌, ◌≤◌, ◌&&◌, Some, true, IfOk};
 ghost use Rattle.cm_text.specs.Views.{line_of};
-ghost use Rattle.cm_scan.specs.Words.{given};
-ghost use Rattle.cm_scan.specs.Lines.{is_blank, with_ending};
-ghost use Rattle.cm_scan.specs.HtmlBlocks.{is_html_end, ends_at_blank_line};
+ghost use Rattle.cm_scan.specs.Lines.{is_blank};
+ghost use Rattle.cm_scan.specs.HtmlBlocks.{ends_at_blank_line};
 ghost use Rattle.cm_scan.specs.HtmlKinds.{kind_of};
-ghost use Rattle.cm_scan.specs.Blocks.{line_feeds, closes_fence};
-ghost use Rattle.cm_block.specs.OpenLeaf.{closed_leaves, blank_lines_behind, is_open_text, stays_open, line_of_leaf};
-ghost use Rattle.cm_block.specs.LeafViews.{leaf_of, code_of};
+ghost use Rattle.cm_block.specs.OpenLeaf.{closed_leaves, blank_lines_behind, is_open_text, line_of_leaf};
+ghost use Rattle.cm_block.specs.LeafViews.{leaf_of};
 ghost use Rattle.cm_block.specs.steps.LeafSteps.{leaves_of_closed, closed_as, taken_of, left_open};
 ghost use Rattle.cm_block.specs.declared.leaf.OpenLeaf.TheVariants.{Nothing};
 ghost use Rattle.cm_block.specs.declared.leaf.LeafLine.TheVariants.{Last, Leaves};
@@ -16,10 +13,9 @@ ghost use Rattle.cm_block.specs.steps.LineTests.{Tested};
 
 use crate::closed_leaf::ClosedLeaf;
 use crate::counted_line::CountedLine;
-use crate::places::is_blank;
-use crate::runs::{NextLine, add_text, content, line_feeds, next_line};
-use cm_scan::{FenceKind, HtmlKind, fence_end, html_end};
-use cm_text::{Rules, View};
+use crate::runs::{NextLine, line_feeds, next_line};
+use cm_scan::{FenceKind, HtmlKind};
+use cm_text::Rules;
 use std::alloc::AllocError;
 use std::mem;
 
@@ -63,68 +59,6 @@ pub(crate) enum LeafLine {
     Leaves,
 }
 
-/// Puts a line at the end of a text.
-pub(crate) fn push_line(text: &mut String, line: &View<'_>) -> Result<(), AllocError>
-    ensures text { OnOk result (string_bytes text.new ≡ string_bytes text.old ++ (line_of line.now).text) }
-    ensures feeds { OnOk result (line_feeds (string_bytes text.new) ≡ line_feeds (string_bytes text.old)) }
-{
-    for _ in 0..line.spaces {
-        text.push_str(" ")?;
-    }
-    text.push_str(line.rest)
-}
-
-/// Puts a line and its line feed at the end of a text.
-fn push_whole_line(text: &mut String, line: &View<'_>) -> Result<(), AllocError>
-    ensures text { OnOk result (string_bytes text.new ≡ string_bytes text.old ++ with_ending (line_of line.now)) }
-    ensures feeds { OnOk result (line_feeds (string_bytes text.new) ≡ suc (line_feeds (string_bytes text.old))) }
-{
-    push_line(text, line)?;
-    text.push_str("\n")
-}
-
-/// Puts a line feed and a line at the end of a text.
-fn push_next_line(text: &mut String, line: &View<'_>) -> Result<(), AllocError>
-    ensures text { OnOk result (string_bytes text.new ≡ string_bytes text.old ++ 10 ∷ (line_of line.now).text) }
-    ensures feeds { OnOk result (line_feeds (string_bytes text.new) ≡ suc (line_feeds (string_bytes text.old))) }
-{
-    text.push_str("\n")?;
-    push_line(text, line)
-}
-
-/// A line behind indented code: whether it is one of the block, which then has it. A blank line waits for a
-/// further line of code (4.4 Indented code blocks).
-fn take_code_line(
-    text: &mut String,
-    blank_lines: &mut String,
-    line: &View<'_>,
-) -> Result<bool, AllocError>
-    ensures taken { (by : all.Rules) → IfOk result (λ taken. given taken (stays_open (code_of (string_bytes text.new) (string_bytes blank_lines.new)))
-        ≡ line_of_leaf by (code_of (string_bytes text.old) (string_bytes blank_lines.old)) (line_of line.now)) }
-    ensures kept { IfOk result (λ taken. taken ≡ false → text.new ≡ text.old) }
-    ensures waiting { IfOk result (λ taken. taken ≡ false → blank_lines.new ≡ blank_lines.old) }
-{
-    if is_blank(line) {
-        push_whole_line(blank_lines, &line.strip(4))?;
-        return Ok(true);
-    }
-    if line.indent() < 4 {
-        return Ok(false);
-    }
-    text.push_str("\n")?;
-    text.push_str(blank_lines)?;
-    push_line(text, &line.strip(4))?;
-    blank_lines.clear();
-    Ok(true)
-}
-
-/// Whether the line is the closing fence: it has up to 3 columns of indentation (4.5 Fenced code blocks).
-fn closes_fence(kind: FenceKind, line: &View<'_>) -> bool
-    ensures { (info : List ℕ) → result ≡ closes_fence (record { marker = kind.marker; count = kind.count; info = info }) (line_of line.now) }
-{
-    line.indent() <= 3 && fence_end(kind, content(line), 0).is_some()
-}
-
 /// Whether a blank line ends an HTML block of this kind (4.6 HTML blocks).
 fn ends_at_blank_line(kind: HtmlKind) -> bool
     ensures { result ≡ ends_at_blank_line (kind_of kind) }
@@ -133,17 +67,12 @@ fn ends_at_blank_line(kind: HtmlKind) -> bool
 }
 
 /// Whether the line is none of an HTML block of this kind: it is blank and ends that.
-fn leaves_html(kind: HtmlKind, line: &View<'_>) -> bool
-    ensures { result ≡ (ends_at_blank_line (kind_of kind) && is_blank (line_of line.now)) }
+fn leaves_html(kind: HtmlKind, line: &mut CountedLine<'_>) -> bool
+    ensures leaves { result ≡ (ends_at_blank_line (kind_of kind) && is_blank (line_of line.old.rest)) }
+    ensures same { line.new.rest ≡ line.old.rest }
+    ensures tests { Tested 0 1 line.old.tests line.new.tests }
 {
-    ends_at_blank_line(kind) && is_blank(line)
-}
-
-/// Whether the line meets the end condition of an HTML block of this kind.
-pub(crate) fn ends_html(kind: HtmlKind, line: &View<'_>) -> bool
-    ensures { result ≡ is_html_end (kind_of kind) (line_of line.now).text }
-{
-    html_end(kind, line.rest, 0).is_some()
+    ends_at_blank_line(kind) && line.is_blank()
 }
 
 impl OpenLeaf {
@@ -204,14 +133,14 @@ impl OpenLeaf {
             OpenLeaf::Nothing => Ok(LeafLine::Leaves),
             OpenLeaf::Run { source } => match next_line(rules, source, line) {
                 NextLine::GoesOn => {
-                    add_text(source, &line.read())?;
+                    line.add_text(source)?;
                     Ok(LeafLine::Stays)
                 }
                 NextLine::Ends => Ok(LeafLine::Leaves),
                 NextLine::Underlines(level) => Ok(self.end(Some(level), false)),
             },
             OpenLeaf::Code { text, blank_lines } => {
-                if take_code_line(text, blank_lines, &line.read())? {
+                if line.add_code(text, blank_lines)? {
                     return Ok(LeafLine::Stays);
                 }
                 Ok(LeafLine::Leaves)
@@ -222,20 +151,18 @@ impl OpenLeaf {
                 text,
                 ..
             } => {
-                let line = line.read();
-                if closes_fence(*kind, &line) {
+                if line.closes_fence(*kind) {
                     return Ok(self.end(None, true));
                 }
-                push_whole_line(text, &line.strip(*columns))?;
+                line.add_fenced(*columns, text)?;
                 Ok(LeafLine::Stays)
             }
             OpenLeaf::Html { kind, text } => {
-                if leaves_html(*kind, &line.read()) {
+                if leaves_html(*kind, line) {
                     return Ok(LeafLine::Leaves);
                 }
-                let line = line.read();
-                let ends = ends_html(*kind, &line);
-                push_next_line(text, &line)?;
+                let ends = line.ends_html(*kind);
+                line.add_html(text)?;
                 if ends {
                     return Ok(self.end(None, false));
                 }

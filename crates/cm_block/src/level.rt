@@ -1,5 +1,5 @@
 //! One level of the stack: what stands closed in the document, in a quote or in an item.
-ghost use Rattle.std.specs.Prelude.{◌≡◌, OnOk, IfOk};
+ghost use Rattle.std.specs.Prelude.{◌≡◌, [], OnOk, IfOk};
 ghost use Rattle.cm_tree.specs.RawBlocks.{Raw, Grows, block_in, blocks_in, item_in, IsPlaced, ArePlaced, IsItem};
 ghost use Rattle.cm_block.specs.Level.{empty_level, closed_blocks, push_blank, block_opens, list_opens, item_opens, block_closes, item_closes};
 ghost use Rattle.cm_block.specs.steps.LevelViews.{level_in, IsLevelPlaced};
@@ -29,12 +29,12 @@ pub(crate) struct Level {
 }
 
 impl Level {
-    /// A level in which nothing stands yet, in the room of other blocks.
-    pub(crate) fn new(mut room: Vec<RawBlock>) -> Level
+    /// A level in which nothing stands yet, with memory for its blocks.
+    pub(crate) fn new(room: Vec<RawBlock>) -> Level
+        requires { room.items ≡ [] }
         ensures level { (raw : Raw) → level_in raw result ≡ empty_level }
         ensures placed { (raw : Raw) → IsLevelPlaced raw result }
     {
-        room.clear();
         Level {
             blocks: room,
             open_list: None,

@@ -5,17 +5,15 @@ mod closed_leaf;
 mod containers;
 mod counted_line;
 mod fault;
-mod first_line;
 pub mod laws;
 mod leaf;
 mod level;
 mod line_owners;
 mod owner_runs;
 mod parser;
-mod places;
+mod rooms;
 mod runs;
 mod stack;
-mod starts;
 
 pub use fault::BlockFault;
 pub use owner_runs::LineOwners;

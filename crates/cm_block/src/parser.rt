@@ -19,14 +19,13 @@ ghost use Rattle.cm_block.specs.steps.LineTests.{Tested};
 ghost use Rattle.cm_block.specs.steps.ParserSteps.{Deep, TakenToLeaf};
 
 use crate::containers::Innermost;
-use crate::counted_line::CountedLine;
+use crate::counted_line::{CountedLine, FirstLine, LeafStart};
 use crate::fault::BlockFault;
-use crate::first_line::{FirstLine, begin_leaf};
 use crate::leaf::{LeafLine, OpenLeaf};
 use crate::line_owners::{Owners, blank_owner};
 use crate::owner_runs::LineOwners;
+use crate::rooms::TextRoom;
 use crate::stack::Stack;
-use crate::starts::Start;
 use cm_text::{Limits, Line, NoMemory, View};
 use cm_tree::{Definitions, RawTree};
 use std::alloc::Global;
@@ -57,9 +56,9 @@ pub struct BlockParser {
     limits: Limits,
     stack: Stack,
     leaf: OpenLeaf,
-    /// Room for the text of the next leaf.
-    spare: String,
     owners: Owners,
+    /// Memory for the texts of leaves to come.
+    leaves: TextRoom,
     tests: u128,
     fault: Option<BlockFault>,
 }
@@ -83,8 +82,8 @@ impl BlockParser {
             limits,
             stack: Stack::new(alloc),
             leaf: OpenLeaf::Nothing,
-            spare: String::new(alloc),
             owners: Owners::new(alloc),
+            leaves: TextRoom::new(alloc),
             tests: 0,
             fault: None,
         }
@@ -104,7 +103,7 @@ impl BlockParser {
         let (leaf, blank_lines) = mem::replace(&mut self.leaf, OpenLeaf::Nothing).close();
         leaf.put(
             self.alloc,
-            &mut self.spare,
+            &mut self.leaves,
             &mut self.stack,
             &mut self.owners,
         )?;
@@ -133,23 +132,27 @@ impl BlockParser {
     }
 
     /// The first line of a leaf block in the innermost container.
-    fn open_leaf(&mut self, start: &Start<'_>, line: &mut CountedLine<'_>) -> Result<(), NoMemory>
+    fn open_leaf(
+        &mut self,
+        start: &LeafStart<'_>,
+        line: &mut CountedLine<'_>,
+    ) -> Result<(), NoMemory>
         requires plain { self.old.stack.bare ≡ false }
         requires leaf { leaf_of self.old.leaf ≡ no_leaf }
-        requires start { begins_container (seen start.now) ≡ false }
-        ensures pushed { OnOk result (LeafBegins start.now (line_of line.old.rest) self.old.stack self.old.owners (stack_of self.new)) }
+        requires start { begins_container (seen start.now.found) ≡ false }
+        ensures pushed { OnOk result (LeafBegins start.now.found (line_of line.old.rest) self.old.stack self.old.owners (stack_of self.new)) }
         ensures tests { OnOk result (Tested 0 1 line.old.tests line.new.tests) }
         ensures frames { self.new.stack.frames ≡ self.old.stack.frames }
         ensures limits { self.new.limits ≡ self.old.limits }
         ensures fault { self.new.fault ≡ self.old.fault }
     {
         self.stack.open_block()?;
-        match begin_leaf(self.alloc, &mut self.spare, start, &line.read())? {
+        match line.begin_leaf(self.alloc, &mut self.leaves, start)? {
             Some(FirstLine::Opens(leaf)) => self.leaf = leaf,
             Some(FirstLine::Whole(leaf)) => {
                 leaf.put(
                     self.alloc,
-                    &mut self.spare,
+                    &mut self.leaves,
                     &mut self.stack,
                     &mut self.owners,
                 )?;
@@ -207,7 +210,7 @@ impl BlockParser {
             LeafLine::Last(leaf) => {
                 leaf.put(
                     self.alloc,
-                    &mut self.spare,
+                    &mut self.leaves,
                     &mut self.stack,
                     &mut self.owners,
                 )?;
@@ -301,11 +304,16 @@ impl BlockParser {
         self.stack.close_to(0)?;
         // So few lines, within so few containers, were read less often than can be counted.
         let _bounds = (self.owners.len(), self.limits.blocks());
+        // These are all that it holds: no line is kept.
         let BlockParser {
+            alloc: _,
+            limits: _,
             stack,
+            leaf: _,
             owners,
+            leaves: _,
             tests,
-            ..
+            fault: _,
         } = self;
         let (owners, definitions) = owners.into_parts();
         Ok(Outline {

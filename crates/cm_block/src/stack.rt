@@ -1,19 +1,23 @@
 //! The open quotes and items.
 ghost use Rattle.std.specs.Prelude.{◌≡◌, ◌<◌, ◌≤◌, ◌∷◌, ◌++◌, ◌+◌, ◌&&◌, [], true, false, suc, List, length, take, drop, OnOk, IfOk};
+ghost use Rattle.cm_text.specs.Rules as all;
 ghost use Rattle.cm_text.specs.Views.{line_of};
 ghost use Rattle.cm_scan.specs.Words.{given};
+ghost use Rattle.cm_scan.specs.Starts.{place_if_lazy};
 ghost use Rattle.cm_block.specs.steps.LineTests.{Tested};
 ghost use Rattle.cm_block.specs.Level.{empty_level, block_opens, block_closes, closed_blocks, item_opens, push_blank};
 ghost use Rattle.cm_block.specs.steps.LevelViews.{level_in, IsLevelPlaced};
 ghost use Rattle.cm_block.specs.Frames.{a_quote, an_item, is_last, Frame as open_frame};
-ghost use Rattle.cm_block.specs.steps.FrameSteps.{inward, matching, quoted_by, close_container, close_frames};
+ghost use Rattle.cm_block.specs.steps.FrameSteps.{place_in, inward, matching, quoted_by, close_container, close_frames};
+ghost use Rattle.cm_block.specs.steps.PlaceViews.{IsInside, stays};
+ghost use Rattle.cm_block.specs.declared.stack.Stays.TheVariants.{Inside, Lazily, Leaves};
 ghost use Rattle.cm_block.specs.steps.FrameViews.{container_of, frames_in, AreFramesPlaced};
 ghost use Rattle.cm_tree.specs.RawBlocks.{Raw, raw_inlines};
 ghost use Rattle.cm_tree.specs.declared.tree.Block.TheVariants as trees;
 
 use crate::counted_line::CountedLine;
 use crate::level::Level;
-use crate::places::{enter_item, enter_quote};
+use crate::rooms::BlockRoom;
 use cm_text::Rules;
 use cm_tree::{Items, ListKind, RawBlock, RawBlocks, RawTree};
 use std::alloc::{AllocError, Global};
@@ -27,19 +31,53 @@ pub(crate) enum Container {
     Item { kind: ListKind, column: usize },
 }
 
+/// How a line stays in an open container, if it does.
+#[derive(Clone, Copy, Debug)]
+pub(crate) enum Stays {
+    /// Behind the container's marker or indentation.
+    Inside,
+    /// As a lazy continuation line, which goes into all containers inside as it is.
+    Lazily,
+    /// It doesn't stay there.
+    Leaves,
+}
+
 impl Container {
-    /// Takes a line in, if it stays in the container, and answers whether it does. `bare` says of an item that
-    /// there is only its marker so far, with nothing on its line, and `open_text` that a paragraph is left open.
-    fn take_in(&self, rules: Rules, bare: bool, open_text: bool, line: &mut CountedLine<'_>) -> bool
-        ensures line { given result (line_of line.new.rest) ≡ inward rules (container_of self.now) bare open_text (line_of line.old.rest) }
+    /// Takes a line in, if it stays in the container by itself, and answers whether it does. `bare` says of an item
+    /// that there is only its marker so far, with nothing on its line.
+    fn has_inside(&self, bare: bool, line: &mut CountedLine<'_>) -> bool
+        ensures place { (by : all.Rules) → IsInside result (place_in by (container_of self.now) bare (line_of line.old.rest)) (place_if_lazy by (line_of line.old.rest)) (line_of line.new.rest) }
         ensures same { result ≡ false → line.new.rest ≡ line.old.rest }
-        ensures tests { Tested 1 2 line.old.tests line.new.tests }
-        ensures once { result ≡ true → line.new.rest.lazy ≡ false → Tested 1 1 line.old.tests line.new.tests }
+        ensures tests { Tested 1 1 line.old.tests line.new.tests }
     {
         match *self {
-            Container::Quote => enter_quote(rules, line, open_text),
-            Container::Item { column, .. } => enter_item(rules, line, column, bare, open_text),
+            Container::Quote => line.stays_in_quote(),
+            Container::Item { column, .. } => line.stays_in_item(column, bare),
         }
+    }
+
+    /// Takes a line in, if it stays in the container, by itself or as a lazy continuation line, and answers how it
+    /// does. `open_text` says that a paragraph is left open.
+    fn take_in(
+        &self,
+        rules: Rules,
+        bare: bool,
+        open_text: bool,
+        line: &mut CountedLine<'_>,
+    ) -> Stays
+        ensures line { given (stays result) (line_of line.new.rest) ≡ inward rules (container_of self.now) bare open_text (line_of line.old.rest) }
+        ensures same { result ≡ Leaves → line.new.rest ≡ line.old.rest }
+        ensures lazy { result ≡ Lazily → line.new.rest.lazy ≡ true }
+        ensures tests { Tested 1 2 line.old.tests line.new.tests }
+        ensures once { result ≡ Inside → Tested 1 1 line.old.tests line.new.tests }
+    {
+        if self.has_inside(bare, line) {
+            return Stays::Inside;
+        }
+        if line.goes_on_lazily(rules, open_text) {
+            return Stays::Lazily;
+        }
+        Stays::Leaves
     }
 }
 
@@ -73,12 +111,10 @@ fn matching(
 {
     for (depth, frame) in frames.iter().enumerate() {
         let is_bare = is_bare_at(frames, depth, bare);
-        if !frame.container.take_in(rules, is_bare, open_text, line) {
-            return depth;
-        }
-        if line.is_lazy() {
-            // It goes into the others as it is.
-            return frames.len();
+        match frame.container.take_in(rules, is_bare, open_text, line) {
+            Stays::Inside => {}
+            Stays::Lazily => return frames.len(),
+            Stays::Leaves => return depth,
         }
     }
     frames.len()
@@ -105,8 +141,8 @@ pub(crate) struct Stack {
     bare: bool,
     level: Level,
     raw: RawBlocks,
-    /// Room for the blocks of the next container.
-    spare: Vec<RawBlock>,
+    /// Memory for the blocks of the next container.
+    room: BlockRoom,
 }
 
 impl Model for Stack {
@@ -138,7 +174,7 @@ impl Stack {
             bare: false,
             level: Level::new(Vec::new(alloc)),
             raw: RawBlocks::new(alloc),
-            spare: Vec::new(alloc),
+            room: BlockRoom::new(alloc),
         }
     }
 
@@ -172,8 +208,8 @@ impl Stack {
         ensures level { OnOk result (self.new.level ≡ empty_level) }
         ensures bare { self.new.bare ≡ self.old.bare }
     {
-        let room = mem::replace(&mut self.spare, Vec::new(alloc));
-        let level = mem::replace(&mut self.level, Level::new(room));
+        let inside = Level::new(self.room.take(alloc));
+        let level = mem::replace(&mut self.level, inside);
         self.frames.push(Frame { level, container })
     }
 
@@ -218,14 +254,14 @@ impl Stack {
             Container::Quote => {
                 let blocks = inside.into_blocks(&mut self.raw)?;
                 let quote = self.raw.quote(&blocks)?;
-                self.spare = blocks;
+                self.room.keep(blocks);
                 self.level.close_block(quote)
             }
             Container::Item { .. } => {
                 let (ends_blank, separated) = (inside.ends_blank, inside.separated);
                 let blocks = inside.into_blocks(&mut self.raw)?;
                 let item = self.raw.item(&blocks)?;
-                self.spare = blocks;
+                self.room.keep(blocks);
                 self.level.close_item(item, ends_blank, separated)
             }
         }

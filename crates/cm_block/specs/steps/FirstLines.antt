@@ -1,10 +1,16 @@
 -- The first line of a leaf block, as the code has it.
-use Rattle.std.specs.Prelude.{Bool, true, false}
+use Rattle.std.specs.Prelude.{◌≡◌, Bool, true, false}
+use Rattle.cm_text.specs.Rules.{Rules}
+use Rattle.cm_text.specs.Lines.{LineView}
+use Rattle.cm_scan.specs.Lines.{is_blank}
 use Rattle.cm_scan.specs.Starts.{Start, QuoteMarker, ItemStart}
-use Rattle.cm_block.specs.declared.first_line.FirstLine.{FirstLine}
-use Rattle.cm_block.specs.declared.first_line.FirstLine.TheVariants.{Opens, Whole}
-use Rattle.cm_block.specs.OpenLeaf.{LeafLine, stays_open, is_last}
+use Rattle.cm_block.specs.declared.counted_line.Begins.{Begins}
+use Rattle.cm_block.specs.declared.counted_line.Begins.TheVariants.{Nothing, Quote, Item, Leaf}
+use Rattle.cm_block.specs.declared.counted_line.first_line.FirstLine.{FirstLine}
+use Rattle.cm_block.specs.declared.counted_line.first_line.FirstLine.TheVariants.{Opens, Whole}
+use Rattle.cm_block.specs.OpenLeaf.{LeafLine, stays_open, is_last, begins_quote, begins_item, begin_of_start, begin_of}
 use Rattle.cm_block.specs.LeafViews.{leaf_of}
+use Rattle.cm_block.specs.steps.StartViews.{seen}
 use Rattle.cm_block.specs.steps.LeafSteps.{leaves_of_closed}
 
 abbrev pub first_of : FirstLine → LeafLine
@@ -16,3 +22,11 @@ abbrev pub begins_container : Start → Bool
 begins_container QuoteMarker = true
 begins_container (ItemStart marker) = true
 begins_container _ = false
+
+-- what the line begins, and how it goes on
+abbrev pub Found : Rules → LineView → Begins → LineView → Type 0
+Found rules line Nothing now = (is_blank line ≡ true) × (now ≡ line)
+Found rules line Quote now = (is_blank line ≡ false) × (begin_of rules line ≡ begins_quote now)
+Found rules line (Item kind column bare) now = (is_blank line ≡ false) × ((begin_of rules line ≡ begins_item kind column now) × (bare ≡ is_blank now))
+Found rules line (Leaf start) now =
+    (is_blank line ≡ false) × ((begin_of rules line ≡ begin_of_start (seen start.found) line) × ((begins_container (seen start.found) ≡ false) × (now ≡ line)))

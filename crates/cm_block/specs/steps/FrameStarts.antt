@@ -3,7 +3,7 @@ use Rattle.std.specs.Prelude.{◌≡◌, ℕ, suc, ◌<◌, ◌≤◌, Bool, tru
 use Rattle.cm_text.specs.Rules.{Rules}
 use Rattle.cm_text.specs.Lines.{LineView}
 use Rattle.cm_tree.specs.declared.tree.Owner.TheVariants.{Marker}
-use Rattle.cm_block.specs.declared.starts.Start.{Start}
+use Rattle.cm_block.specs.declared.counted_line.starts.Start.{Start}
 use Rattle.cm_block.specs.declared.fault.BlockFault.{BlockFault}
 use Rattle.cm_block.specs.declared.fault.BlockFault.TheVariants.{BlocksTooDeep, NoMemory}
 use Rattle.cm_block.specs.declared.containers.Innermost.{Innermost}
@@ -45,8 +45,8 @@ abbrev pub Inside : Rules → ℕ → Row → LineView → Row → LineView → 
 Inside rules limit before line now inner TooDeep = (owned : Owned) → limit < nesting (begun rules before line owned).now
 Inside rules limit before line now inner Blank = (length now.frames ≤ limit) × ((owned : Owned) → begun rules before line owned ≡ with_blank now owned)
 Inside rules limit before line now inner (Leaf start) =
-    (length now.frames ≤ limit) × ((now.bare ≡ false) × ((begins_container (seen start) ≡ false)
-    × ((owned : Owned) (l : LeafLine) → begins_leaf l ≡ begin_of_start (seen start) inner
+    (length now.frames ≤ limit) × ((now.bare ≡ false) × ((begins_container (seen start.found) ≡ false)
+    × ((owned : Owned) (l : LeafLine) → begins_leaf l ≡ begin_of_start (seen start.found) inner
     → begun rules before line owned ≡ within now.frames (push_leaf_line owned (block_opens now.level) l))))
 
 -- the first line of a leaf block, in the innermost container

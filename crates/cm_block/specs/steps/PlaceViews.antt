@@ -1,8 +1,11 @@
--- Starts of containers, as the code has them.
-use Rattle.std.specs.Prelude.{Bool, true, false}
+-- Starts of containers and places in them, as the code has them.
+use Rattle.std.specs.Prelude.{◌≡◌, Bool, true, false}
+use Rattle.cm_text.specs.Lines.{LineView}
+use Rattle.cm_block.specs.declared.stack.Stays as code_stays
+use Rattle.cm_block.specs.declared.stack.Stays.TheVariants as stay
 use Rattle.cm_scan.specs.declared.markers.ItemMarker as code
 use Rattle.cm_scan.specs.LineForms.{ItemMarker}
-use Rattle.cm_scan.specs.Starts.{Start, QuoteMarker}
+use Rattle.cm_scan.specs.Starts.{Start, QuoteMarker, Place, Stays}
 
 -- it is a quote that begins
 abbrev pub begins_quote : Start → Bool
@@ -11,3 +14,13 @@ begins_quote _ = false
 
 abbrev pub seen_marker : code.ItemMarker → ItemMarker
 seen_marker marker = record { kind = marker.kind; digits = marker.digits }
+
+-- the line stays in the container and goes inward so, or stands where it otherwise does
+abbrev pub IsInside : (inside : Bool) → (place otherwise : Place) → (inner : LineView) → Type 0
+IsInside true place otherwise inner = place ≡ Stays inner
+IsInside false place otherwise inner = place ≡ otherwise
+
+abbrev pub stays : code_stays.Stays → Bool
+stays stay.Inside = true
+stays stay.Lazily = true
+stays stay.Leaves = false

@@ -1,8 +1,8 @@
 -- What a line begins, as the code has it.
 use Rattle.cm_scan.specs.HtmlKinds.{kind_of}
 use Rattle.cm_scan.specs.Starts as starts
-use Rattle.cm_block.specs.declared.starts.Start.{Start}
-use Rattle.cm_block.specs.declared.starts.Start.TheVariants.{IndentedCode, QuoteMarker, Atx, Fence as FenceStart, Html, Break, Item, TextLine}
+use Rattle.cm_block.specs.declared.counted_line.starts.Start.{Start}
+use Rattle.cm_block.specs.declared.counted_line.starts.Start.TheVariants.{IndentedCode, QuoteMarker, Atx, Fence as FenceStart, Html, Break, Item, TextLine}
 
 abbrev pub seen : Start → starts.Start
 seen IndentedCode = starts.IndentedCode

@@ -1,49 +1,47 @@
-use Rattle.std.proofs.Common.{◌≡◌, ◌+◌, suc, ◌∙◌, length, sym, ap, arith, drop, add-one}
+use Rattle.std.proofs.Common.{◌≡◌, ◌+◌, suc, ◌∙◌, refl, length, sym, ap, arith, drop, add-one}
 use Rattle.cm_text.specs.Views.{line_of}
 use Rattle.cm_text.specs.declared.view.View.{View}
-use Rattle.cm_scan.specs.Words.{given}
 use Rattle.cm_block.specs.steps.FrameSteps.{matching}
 use Rattle.cm_tree.specs.RawBlocks.{Raw}
 use Rattle.cm_block.specs.steps.FrameViews.{container_of, frame_in, frames_in}
 use Rattle.cm_block.proofs.Matching.{behind, frames_at, frames_end, match_next, match_stop, match_end, match_lazy, behind_all}
 use Rattle.cm_block.proofs.TestLemmas.{tested_then, tested_within}
-use Rattle.cm_block.proofs.stack.matching.Goals.{Else-not-take_in}
 use Rattle.cm_block.proofs.stack.matching.Goals as goal
 
-pub returns-then-not-take_in-clause-line : goal.returns-then-not-take_in-clause-line
-returns-then-not-take_in-clause-line c = λ raw.
+pub returns-in-Leaves-clause-line : goal.returns-in-Leaves-clause-line
+returns-in-Leaves-clause-line c = λ raw.
     let frames = c.args.frames.now in
     let i = c.loop-depth.depth in
-    ap (λ (v : View). (i, line_of v)) (c.take_in.ensures.same c.if-not-take_in.true)
+    ap (λ (v : View). (i, line_of v)) (c.in-Leaves.ensures.same refl)
     ∙ sym (match_stop c.args.rules c.args.bare c.args.open_text i (frame_in raw c.index-frames-depth.result) (drop (suc i) (frames_in raw frames)) (line_of c.loop-depth.line.rest)
     (drop i (frames_in raw frames)) c.is_bare_at-is_bare.result (frames_at raw frames i c.index-frames-depth.result c.loop-depth-test.true c.index-frames-depth.is)
-    (c.is_bare_at-is_bare.ensures raw) (ap (λ b. given b (line_of c.take_in.new.line.rest)) (sym c.if-not-take_in.true) ∙ c.take_in.ensures.line))
+    (c.is_bare_at-is_bare.ensures raw) c.in-Leaves.ensures.line)
     ∙ c.loop-depth.invariant.rest raw
 
--- one container further
-further : (c : Else-not-take_in) (raw : Raw) → behind (suc c.loop-depth.depth) (matching c.args.rules c.args.bare c.args.open_text (drop (suc c.loop-depth.depth) (frames_in raw c.args.frames.now)) (line_of c.take_in.new.line.rest))
-    ≡ matching c.args.rules c.args.bare c.args.open_text (frames_in raw c.args.frames.now) (line_of c.args.line.now.rest)
-further c raw =
+pub returns-in-Lazily-clause-line : goal.returns-in-Lazily-clause-line
+returns-in-Lazily-clause-line c = λ raw.
     let frames = c.args.frames.now in
     let i = c.loop-depth.depth in
-    sym (match_next c.args.rules c.args.bare c.args.open_text i (frame_in raw c.index-frames-depth.result) (drop (suc i) (frames_in raw frames)) (line_of c.loop-depth.line.rest)
+    behind_all raw frames i _ (line_of c.take_in.new.line.rest) c.loop-depth-test.true
+    (match_lazy c.args.rules c.args.bare c.args.open_text (container_of c.index-frames-depth.result.container) c.is_bare_at-is_bare.result (line_of c.loop-depth.line.rest) (line_of c.take_in.new.line.rest)
+    (drop (suc i) (frames_in raw frames)) c.in-Lazily.ensures.line (c.in-Lazily.ensures.lazy refl))
+    ∙ sym (match_next c.args.rules c.args.bare c.args.open_text i (frame_in raw c.index-frames-depth.result) (drop (suc i) (frames_in raw frames)) (line_of c.loop-depth.line.rest)
     (drop i (frames_in raw frames)) c.is_bare_at-is_bare.result (line_of c.take_in.new.line.rest) (frames_at raw frames i c.index-frames-depth.result c.loop-depth-test.true c.index-frames-depth.is)
-    (c.is_bare_at-is_bare.ensures raw) (ap (λ b. given b (line_of c.take_in.new.line.rest)) (sym c.if-not-take_in.false) ∙ c.take_in.ensures.line))
+    (c.is_bare_at-is_bare.ensures raw) c.in-Lazily.ensures.line)
     ∙ c.loop-depth.invariant.rest raw
 
-pub returns-then-is_lazy-clause-line : goal.returns-then-is_lazy-clause-line
-returns-then-is_lazy-clause-line c = λ raw.
-    behind_all raw c.args.frames.now c.loop-depth.depth _ (line_of c.take_in.new.line.rest) c.loop-depth-test.true
-    (match_lazy c.args.rules c.args.bare c.args.open_text (container_of c.index-frames-depth.result.container) c.is_bare_at-is_bare.result (line_of c.loop-depth.line.rest) (line_of c.take_in.new.line.rest)
-    (drop (suc c.loop-depth.depth) (frames_in raw c.args.frames.now)) (ap (λ b. given b (line_of c.take_in.new.line.rest)) (sym c.if-not-take_in.false) ∙ c.take_in.ensures.line) (sym c.is_lazy.ensures ∙ c.if-is_lazy.true))
-    ∙ further (goal.at.returns-then-is_lazy-clause-line c).Else-not-take_in raw
-
 pub loop-depth-preserved : goal.loop-depth-preserved
-loop-depth-preserved c = record {
-  rest = λ raw. rw add-one (further (goal.at.loop-depth-preserved c).Else-not-take_in raw);
-  tests = tested_within 1 (c.loop-depth.depth + 1) 0 (c.loop-depth.depth + 1) _ _ (omega arith) (omega arith)
-      (tested_then 0 c.loop-depth.depth 1 1 _ _ _ c.loop-depth.invariant.tests (c.take_in.ensures.once c.if-not-take_in.false (sym c.is_lazy.ensures ∙ c.if-is_lazy.false)));
-}
+loop-depth-preserved c =
+    let frames = c.args.frames.now in
+    let i = c.loop-depth.depth in
+    record {
+      rest = λ raw. rw add-one (sym (match_next c.args.rules c.args.bare c.args.open_text i (frame_in raw c.index-frames-depth.result) (drop (suc i) (frames_in raw frames)) (line_of c.loop-depth.line.rest)
+          (drop i (frames_in raw frames)) c.is_bare_at-is_bare.result (line_of c.take_in.new.line.rest) (frames_at raw frames i c.index-frames-depth.result c.loop-depth-test.true c.index-frames-depth.is)
+          (c.is_bare_at-is_bare.ensures raw) c.in-Inside.ensures.line)
+          ∙ c.loop-depth.invariant.rest raw);
+      tests = tested_within 1 (i + 1) 0 (i + 1) _ _ (omega arith) (omega arith)
+          (tested_then 0 i 1 1 _ _ _ c.loop-depth.invariant.tests (c.in-Inside.ensures.once refl));
+    }
 
 pub returns-clause-line : goal.returns-clause-line
 returns-clause-line c = λ raw.

@@ -1,9 +1,10 @@
 use Rattle.std.proofs.Common.{[], ◌∷◌, ◌++◌, ◌&&◌, Some, suc, true, false, string_bytes, sym, ap, ap₂, ◌∙◌}
+use Rattle.cm_text.specs.Indentation.{strip_columns}
 use Rattle.cm_text.specs.Views.{line_of}
 use Rattle.cm_text.specs.declared.view.View.{View}
-use Rattle.cm_scan.specs.Lines.{is_blank, with_ending}
+use Rattle.cm_scan.specs.Lines.{with_ending}
 use Rattle.cm_scan.specs.LineForms.{Fence}
-use Rattle.cm_scan.specs.HtmlBlocks.{ends_at_blank_line}
+use Rattle.cm_scan.specs.HtmlBlocks.{is_html_end}
 use Rattle.cm_scan.specs.HtmlKinds.{kind_of}
 use Rattle.cm_scan.specs.Parts.{html}
 use Rattle.cm_scan.specs.Blocks.{line_feeds, add_text, next_line}
@@ -22,7 +23,7 @@ pub returns-in_ok-add_text-in-GoesOn-clause-line : goal.returns-in_ok-add_text-i
 returns-in_ok-add_text-in-GoesOn-clause-line c =
     let line = line_of c.args.line.now.rest in
     let source = string_bytes c.in-Run.source in
-    ap (λ t. Some (stays_open (open_text t))) (c.in_ok-add_text-in-GoesOn.ensures ∙ ap (λ (v : View). add_text source (line_of v)) (c.read.ensures.line ∙ c.in-GoesOn.ensures.same))
+    ap (λ t. Some (stays_open (open_text t))) (c.in_ok-add_text-in-GoesOn.ensures.text ∙ ap (λ (v : View). add_text source (line_of v)) c.in-GoesOn.ensures.same)
     ∙ text_line _ source line _ (c.in-GoesOn.ensures.next ∙ ap (λ t. next_line c.args.rules t line) c.deref.ensures)
     ∙ ap (λ x. line_of_leaf c.args.rules (leaf_of x) line) (sym c.in-Run.is)
 
@@ -41,51 +42,54 @@ returns-in-Underlines-clause-line c =
 
 pub returns-then-closes_fence-clause-line : goal.returns-then-closes_fence-clause-line
 returns-then-closes_fence-clause-line c =
-    let line = line_of c.read-line.result in
+    let line = line_of c.args.line.now.rest in
     let kind = c.in-Fence.kind in
     let info = string_bytes c.in-Fence.info in
     let text = string_bytes c.in-Fence.text in
     ap (λ r. taken_of r (leaf_of c.end-then-closes_fence.new.self)) c.end-then-closes_fence.ensures.leaf
-    ∙ fence_line _ (record { marker = kind.marker; count = kind.count; info = info }) c.in-Fence.columns text (suc (line_feeds text)) line true (c.if-closes_fence.ensures info)
-    ∙ ap₂ (λ x (v : View). line_of_leaf c.args.rules (leaf_of x) (line_of v)) (sym c.in-Fence.is) c.read-line.ensures.line
+    ∙ fence_line _ (record { marker = kind.marker; count = kind.count; info = info }) c.in-Fence.columns text (suc (line_feeds text)) line true (c.if-closes_fence.ensures.closes info)
+    ∙ ap (λ x. line_of_leaf c.args.rules (leaf_of x) line) (sym c.in-Fence.is)
 
-pub returns-in_ok-push_whole_line-in-Fence-clause-line : goal.returns-in_ok-push_whole_line-in-Fence-clause-line
-returns-in_ok-push_whole_line-in-Fence-clause-line c =
-    let line = line_of c.read-line.result in
+pub returns-in_ok-add_fenced-in-Fence-clause-line : goal.returns-in_ok-add_fenced-in-Fence-clause-line
+returns-in_ok-add_fenced-in-Fence-clause-line c =
+    let line = line_of c.args.line.now.rest in
     let info = string_bytes c.in-Fence.info in
     let text = string_bytes c.in-Fence.text in
     let fence : Fence = record { marker = c.in-Fence.kind.marker; count = c.in-Fence.kind.count; info = info } in
-    let pushed = c.in_ok-push_whole_line-in-Fence.ensures in
-    ap₂ (λ t n. Some (stays_open (open_fence fence c.in-Fence.columns t (suc n)))) (pushed.text ∙ ap (λ l. text ++ with_ending l) c.strip.ensures.line) pushed.feeds
-    ∙ fence_line _ fence c.in-Fence.columns text (suc (line_feeds text)) line false (c.if-closes_fence.ensures info)
-    ∙ ap₂ (λ x (v : View). line_of_leaf c.args.rules (leaf_of x) (line_of v)) (sym c.in-Fence.is) c.read-line.ensures.line
+    let added = c.in_ok-add_fenced-in-Fence.ensures in
+    ap₂ (λ t n. Some (stays_open (open_fence fence c.in-Fence.columns t (suc n))))
+    (added.text ∙ ap (λ (v : View). text ++ with_ending (strip_columns c.in-Fence.columns (line_of v))) c.if-closes_fence.ensures.read.same) added.feeds
+    ∙ fence_line _ fence c.in-Fence.columns text (suc (line_feeds text)) line false (c.if-closes_fence.ensures.closes info)
+    ∙ ap (λ x. line_of_leaf c.args.rules (leaf_of x) line) (sym c.in-Fence.is)
 
 pub returns-then-leaves_html-clause-line : goal.returns-then-leaves_html-clause-line
 returns-then-leaves_html-clause-line c =
-    let line = line_of c.read-in-Html.result in
+    let line = line_of c.args.line.now.rest in
     let text = string_bytes c.in-Html.text in
-    html_out _ (kind_of c.in-Html.kind) (ended text) (suc (line_feeds text)) line (sym c.if-leaves_html.ensures)
-    ∙ ap₂ (λ x (v : View). line_of_leaf c.args.rules (leaf_of x) (line_of v)) (sym c.in-Html.is) c.read-in-Html.ensures.line
+    html_out _ (kind_of c.in-Html.kind) (ended text) (suc (line_feeds text)) line (sym c.if-leaves_html.ensures.leaves)
+    ∙ ap (λ x. line_of_leaf c.args.rules (leaf_of x) line) (sym c.in-Html.is)
 
 pub returns-then-ends-clause-line : goal.returns-then-ends-clause-line
 returns-then-ends-clause-line c =
-    let line = line_of c.read-line-in-Html.result in
+    let line = line_of c.args.line.now.rest in
     let text = string_bytes c.in-Html.text in
-    let pushed = c.in_ok-push_next_line-in-Html.ensures in
-    let same = c.read-line-in-Html.ensures.line ∙ c.read-in-Html.ensures.same in
+    let added = c.in_ok-add_html-in-Html.ensures in
+    let left = c.if-leaves_html.ensures.same in
+    let bytes = added.text ∙ ap (λ (v : View). text ++ 10 ∷ (line_of v).text) (c.if-ends.ensures.read.same ∙ left) in
+    let ends = c.if-ends.ensures.ends ∙ ap (λ (v : View). is_html_end (kind_of c.in-Html.kind) (line_of v).text) left in
     ap (λ r. taken_of r (leaf_of c.end-then-ends.new.self)) c.end-then-ends.ensures.leaf
-    ∙ ap₂ (λ t n. Some (is_last ((html t, suc n) ∷ []))) (one_more text _ line.text pushed.text) pushed.feeds
-    ∙ html_line _ (kind_of c.in-Html.kind) (ended text) (suc (line_feeds text)) line true
-    (ap (λ (v : View). ends_at_blank_line (kind_of c.in-Html.kind) && is_blank (line_of v)) (same ∙ sym c.read-in-Html.ensures.line) ∙ sym c.if-leaves_html.ensures) c.if-ends.ensures
-    ∙ ap₂ (λ x (v : View). line_of_leaf c.args.rules (leaf_of x) (line_of v)) (sym c.in-Html.is) same
+    ∙ ap₂ (λ t n. Some (is_last ((html t, suc n) ∷ []))) (one_more text _ line.text bytes) added.feeds
+    ∙ html_line _ (kind_of c.in-Html.kind) (ended text) (suc (line_feeds text)) line true (sym c.if-leaves_html.ensures.leaves) ends
+    ∙ ap (λ x. line_of_leaf c.args.rules (leaf_of x) line) (sym c.in-Html.is)
 
 pub returns-else-ends-clause-line : goal.returns-else-ends-clause-line
 returns-else-ends-clause-line c =
-    let line = line_of c.read-line-in-Html.result in
+    let line = line_of c.args.line.now.rest in
     let text = string_bytes c.in-Html.text in
-    let pushed = c.in_ok-push_next_line-in-Html.ensures in
-    let same = c.read-line-in-Html.ensures.line ∙ c.read-in-Html.ensures.same in
-    ap₂ (λ t n. Some (stays_open (open_html (kind_of c.in-Html.kind) t (suc n)))) (one_more text _ line.text pushed.text) pushed.feeds
-    ∙ html_line _ (kind_of c.in-Html.kind) (ended text) (suc (line_feeds text)) line false
-    (ap (λ (v : View). ends_at_blank_line (kind_of c.in-Html.kind) && is_blank (line_of v)) (same ∙ sym c.read-in-Html.ensures.line) ∙ sym c.if-leaves_html.ensures) c.if-ends.ensures
-    ∙ ap₂ (λ x (v : View). line_of_leaf c.args.rules (leaf_of x) (line_of v)) (sym c.in-Html.is) same
+    let added = c.in_ok-add_html-in-Html.ensures in
+    let left = c.if-leaves_html.ensures.same in
+    let bytes = added.text ∙ ap (λ (v : View). text ++ 10 ∷ (line_of v).text) (c.if-ends.ensures.read.same ∙ left) in
+    let ends = c.if-ends.ensures.ends ∙ ap (λ (v : View). is_html_end (kind_of c.in-Html.kind) (line_of v).text) left in
+    ap₂ (λ t n. Some (stays_open (open_html (kind_of c.in-Html.kind) t (suc n)))) (one_more text _ line.text bytes) added.feeds
+    ∙ html_line _ (kind_of c.in-Html.kind) (ended text) (suc (line_feeds text)) line false (sym c.if-leaves_html.ensures.leaves) ends
+    ∙ ap (λ x. line_of_leaf c.args.rules (leaf_of x) line) (sym c.in-Html.is)

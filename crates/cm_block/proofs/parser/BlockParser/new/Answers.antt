@@ -8,10 +8,10 @@ pub returns-clause-stands : goal.returns-clause-stands
 returns-clause-stands c = record {
   going = refl;
   are_lines = refl;
-  holds = new_holds c.args.limits.rules c.new.result c.new-3.result c.new.ensures.frames c.new.ensures.bare c.new.ensures.level c.new-3.ensures;
+  holds = new_holds c.args.limits.rules c.new.result c.new-2.result c.new.ensures.frames c.new.ensures.bare c.new.ensures.level c.new-2.ensures;
   within = new_within c.args.limits.rules c.args.limits.blocks;
   few = omega (arith, ap length c.new.ensures.frames);
   tests =
-      let none = count_new c.new.result.bare c.new.result.frames c.new.result.level no_leaf c.new-3.result c.new.ensures.frames c.new.ensures.level in
+      let none = count_new c.new.result.bare c.new.result.frames c.new.result.level no_leaf c.new-2.result c.new.ensures.frames c.new.ensures.level in
       (λ below. omega (arith, none), omega arith);
 }

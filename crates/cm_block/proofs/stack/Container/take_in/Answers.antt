@@ -1,15 +1,42 @@
-use Rattle.std.proofs.Common.{◌∙◌, sym, ap}
+use Rattle.std.proofs.Common.{◌≡◌, ◌∙◌, sym, ap, subst}
 use Rattle.cm_text.specs.Views.{line_of}
-use Rattle.cm_block.specs.steps.FrameSteps.{inward}
+use Rattle.cm_text.specs.declared.view.View.{View}
+use Rattle.cm_scan.specs.Words.{given}
+use Rattle.cm_scan.specs.Starts.{place_if_lazy}
+use Rattle.cm_scan.specs.Laws.{goes_inward}
+use Rattle.cm_block.specs.steps.FrameSteps.{place_in, inward}
 use Rattle.cm_block.specs.steps.FrameViews.{container_of}
+use Rattle.cm_block.specs.steps.PlaceViews.{IsInside}
+use Rattle.cm_block.proofs.stack.Container.take_in.Goals.{Else-has_inside}
 use Rattle.cm_block.proofs.stack.Container.take_in.Goals as goal
 
-pub returns-in-Quote-clause-line : goal.returns-in-Quote-clause-line
+pub returns-then-has_inside-clause-line : goal.returns-then-has_inside-clause-line
 unfolding inward
-returns-in-Quote-clause-line c =
-    c.enter_quote.ensures.line ∙ ap (λ k. inward c.args.rules (container_of k) c.args.bare c.args.open_text (line_of c.args.line.now.rest)) (sym c.in-Quote.is)
+returns-then-has_inside-clause-line c =
+    let before = line_of c.args.line.now.rest in
+    let place = place_in c.args.rules (container_of c.args.self.now) c.args.bare before in
+    let inside = subst (λ b. IsInside b place (place_if_lazy c.args.rules before) (line_of c.has_inside.new.line.rest)) c.if-has_inside.true (c.has_inside.ensures.place c.args.rules) in
+    sym (ap (λ p. goes_inward p c.args.open_text) inside)
 
-pub returns-in-Item-clause-line : goal.returns-in-Item-clause-line
+-- the line doesn't stay by itself
+lazily : (c : Else-has_inside) → goes_inward (place_if_lazy c.args.rules (line_of c.has_inside.new.line.rest)) c.args.open_text
+    ≡ inward c.args.rules (container_of c.args.self.now) c.args.bare c.args.open_text (line_of c.args.line.now.rest)
 unfolding inward
-returns-in-Item-clause-line c =
-    c.enter_item.ensures.line ∙ ap (λ k. inward c.args.rules (container_of k) c.args.bare c.args.open_text (line_of c.args.line.now.rest)) (sym c.in-Item.is)
+lazily c =
+    let before = line_of c.args.line.now.rest in
+    let place = place_in c.args.rules (container_of c.args.self.now) c.args.bare before in
+    let outside = subst (λ b. IsInside b place (place_if_lazy c.args.rules before) (line_of c.has_inside.new.line.rest)) c.if-has_inside.false (c.has_inside.ensures.place c.args.rules) in
+    ap (λ (v : View). goes_inward (place_if_lazy c.args.rules (line_of v)) c.args.open_text) (c.has_inside.ensures.same c.if-has_inside.false)
+    ∙ ap (λ p. goes_inward p c.args.open_text) (sym outside)
+
+pub returns-then-goes_on_lazily-clause-line : goal.returns-then-goes_on_lazily-clause-line
+returns-then-goes_on_lazily-clause-line c =
+    subst (λ b. given b (line_of c.goes_on_lazily.new.self.rest) ≡ goes_inward (place_if_lazy c.args.rules (line_of c.has_inside.new.line.rest)) c.args.open_text)
+    c.if-goes_on_lazily.true c.goes_on_lazily.ensures.line
+    ∙ lazily (goal.at.returns-then-goes_on_lazily-clause-line c).Else-has_inside
+
+pub returns-clause-line : goal.returns-clause-line
+returns-clause-line c =
+    subst (λ b. given b (line_of c.goes_on_lazily.new.self.rest) ≡ goes_inward (place_if_lazy c.args.rules (line_of c.has_inside.new.line.rest)) c.args.open_text)
+    c.if-goes_on_lazily.false c.goes_on_lazily.ensures.line
+    ∙ lazily (goal.at.returns-clause-line c).Else-has_inside

@@ -1,0 +1,12 @@
+use Rattle.std.proofs.Common.{◌∙◌, sym, arith}
+use Rattle.cm_text.specs.Views.{line_of}
+use Rattle.cm_block.proofs.StartLemmas.{content_left, letter_content}
+use Rattle.cm_block.proofs.counted_line.starts.content.Goals as goal
+
+pub returns-then-begins_with_letter : goal.returns-then-begins_with_letter
+returns-then-begins_with_letter c = sym (letter_content c.args.line.now (sym c.begins_with_letter.ensures ∙ c.if-begins_with_letter.true))
+
+pub returns : goal.returns
+returns c =
+    content_left (line_of c.args.line.now) c.indent.result c.strip.result c.indent.ensures c.strip.ensures.line
+    (c.strip.ensures.bare (omega (arith, c.indent.ensures)))

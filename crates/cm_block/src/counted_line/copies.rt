@@ -1,0 +1,79 @@
+//! How what is left of a line comes to the end of a text.
+ghost use Rattle.std.specs.Prelude.{◌≡◌, ◌++◌, ◌∷◌, suc, false, string_bytes, IfOk, OnOk};
+ghost use Rattle.cm_text.specs.Rules as all;
+ghost use Rattle.cm_text.specs.Views.{line_of};
+ghost use Rattle.cm_scan.specs.Words.{given};
+ghost use Rattle.cm_scan.specs.Lines.{with_ending};
+ghost use Rattle.cm_scan.specs.Blocks.{line_feeds, add_text};
+ghost use Rattle.cm_block.specs.OpenLeaf.{stays_open, line_of_leaf};
+ghost use Rattle.cm_block.specs.LeafViews.{code_of};
+
+use crate::counted_line::places::is_blank;
+use crate::counted_line::starts::content;
+use cm_text::View;
+use std::alloc::AllocError;
+
+/// Puts a line at the end of a text.
+pub(crate) fn push_line(text: &mut String, line: &View<'_>) -> Result<(), AllocError>
+    ensures text { OnOk result (string_bytes text.new ≡ string_bytes text.old ++ (line_of line.now).text) }
+    ensures feeds { OnOk result (line_feeds (string_bytes text.new) ≡ line_feeds (string_bytes text.old)) }
+{
+    for _ in 0..line.spaces {
+        text.push_str(" ")?;
+    }
+    text.push_str(line.rest)
+}
+
+/// Puts a line and its line feed at the end of a text.
+pub(crate) fn push_whole_line(text: &mut String, line: &View<'_>) -> Result<(), AllocError>
+    ensures text { OnOk result (string_bytes text.new ≡ string_bytes text.old ++ with_ending (line_of line.now)) }
+    ensures feeds { OnOk result (line_feeds (string_bytes text.new) ≡ suc (line_feeds (string_bytes text.old))) }
+{
+    push_line(text, line)?;
+    text.push_str("\n")
+}
+
+/// Puts a line feed and a line at the end of a text.
+pub(crate) fn push_next_line(text: &mut String, line: &View<'_>) -> Result<(), AllocError>
+    ensures text { OnOk result (string_bytes text.new ≡ string_bytes text.old ++ 10 ∷ (line_of line.now).text) }
+    ensures feeds { OnOk result (line_feeds (string_bytes text.new) ≡ suc (line_feeds (string_bytes text.old))) }
+{
+    text.push_str("\n")?;
+    push_line(text, line)
+}
+
+/// Goes on with a run by one more line, whose leading spaces and tabs go (4.8 Paragraphs).
+pub(crate) fn add_text(source: &mut String, line: &View<'_>) -> Result<(), AllocError>
+    ensures { OnOk result (string_bytes source.new ≡ add_text (string_bytes source.old) (line_of line.now)) }
+{
+    if !source.is_empty() {
+        source.push_str("\n")?;
+    }
+    source.push_str(content(line))
+}
+
+/// A line behind indented code: whether it is one of the block, which then has it. A blank line waits for a
+/// further line of code (4.4 Indented code blocks).
+pub(crate) fn take_code_line(
+    text: &mut String,
+    blank_lines: &mut String,
+    line: &View<'_>,
+) -> Result<bool, AllocError>
+    ensures taken { (by : all.Rules) → IfOk result (λ taken. given taken (stays_open (code_of (string_bytes text.new) (string_bytes blank_lines.new)))
+        ≡ line_of_leaf by (code_of (string_bytes text.old) (string_bytes blank_lines.old)) (line_of line.now)) }
+    ensures kept { IfOk result (λ taken. taken ≡ false → text.new ≡ text.old) }
+    ensures waiting { IfOk result (λ taken. taken ≡ false → blank_lines.new ≡ blank_lines.old) }
+{
+    if is_blank(line) {
+        push_whole_line(blank_lines, &line.strip(4))?;
+        return Ok(true);
+    }
+    if line.indent() < 4 {
+        return Ok(false);
+    }
+    text.push_str("\n")?;
+    text.push_str(blank_lines)?;
+    push_line(text, &line.strip(4))?;
+    blank_lines.clear();
+    Ok(true)
+}

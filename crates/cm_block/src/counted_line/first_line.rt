@@ -1,0 +1,125 @@
+//! The first line of a leaf block.
+ghost use Rattle.std.specs.Prelude.{◌≡◌, [], string_bytes, IfOk, IfSome, IfNone, true};
+ghost use Rattle.cm_text.specs.Lines.{LineView};
+ghost use Rattle.cm_block.specs.declared.counted_line.starts.Start.TheVariants.{Atx, Fence};
+ghost use Rattle.cm_text.specs.Views.{line_of};
+ghost use Rattle.cm_scan.specs.HtmlKinds.{kind_of};
+ghost use Rattle.cm_scan.specs.HtmlBlocks.{is_html_end};
+ghost use Rattle.cm_scan.specs.Starts as starts;
+ghost use Rattle.cm_block.specs.OpenLeaf.{begin_of_start, begins_leaf};
+ghost use Rattle.cm_block.specs.steps.StartViews.{seen};
+ghost use Rattle.cm_block.specs.steps.FirstLines.{first_of, begins_container};
+
+use crate::closed_leaf::ClosedLeaf;
+use crate::counted_line::copies::push_line;
+use crate::counted_line::ends::ends_html;
+use crate::counted_line::starts::{LeafStart, Start, content};
+use crate::leaf::OpenLeaf;
+use crate::rooms::TextRoom;
+use cm_scan::{AtxHeading, HtmlKind, OpeningFence};
+use cm_text::View;
+use std::alloc::{AllocError, Global};
+
+/// What the first line of a leaf block makes.
+#[derive(Debug, Drop)]
+pub(crate) enum FirstLine {
+    /// A leaf that further lines may go on with.
+    Opens(OpenLeaf),
+    /// A whole leaf.
+    Whole(ClosedLeaf),
+}
+
+/// Indented code: the line loses 4 columns (4.4 Indented code blocks).
+fn begin_code(
+    alloc: Global,
+    leaves: &mut TextRoom,
+    line: &View<'_>,
+) -> Result<FirstLine, AllocError>
+    ensures { IfOk result (λ first. begins_leaf (first_of first) ≡ begin_of_start starts.IndentedCode (line_of line.now)) }
+{
+    let mut text = leaves.take(alloc);
+    push_line(&mut text, &line.strip(4))?;
+    Ok(FirstLine::Opens(OpenLeaf::Code {
+        text,
+        blank_lines: String::new(alloc),
+    }))
+}
+
+/// An ATX heading (4.2 ATX headings).
+fn begin_heading(alloc: Global, heading: AtxHeading<'_>) -> Result<FirstLine, AllocError>
+    ensures { IfOk result (λ first. (line : LineView) → begins_leaf (first_of first) ≡ begin_of_start (seen (Atx heading.entry)) line) }
+{
+    Ok(FirstLine::Whole(ClosedLeaf::Heading {
+        level: heading.level,
+        content: String::from_str(alloc, heading.content)?,
+    }))
+}
+
+/// A fence: each further line loses as many columns as this one has (4.5 Fenced code blocks).
+fn begin_fence(
+    alloc: Global,
+    leaves: &mut TextRoom,
+    fence: OpeningFence<'_>,
+    line: &View<'_>,
+) -> Result<FirstLine, AllocError>
+    ensures { IfOk result (λ first. begins_leaf (first_of first) ≡ begin_of_start (seen (Fence fence.entry)) (line_of line.now)) }
+{
+    Ok(FirstLine::Opens(OpenLeaf::Fence {
+        kind: fence.kind,
+        info: String::from_str(alloc, fence.info)?,
+        columns: line.indent(),
+        text: leaves.take(alloc),
+    }))
+}
+
+/// HTML, which its first line may end (4.6 HTML blocks).
+fn begin_html(
+    alloc: Global,
+    leaves: &mut TextRoom,
+    kind: HtmlKind,
+    line: &View<'_>,
+) -> Result<FirstLine, AllocError>
+    ensures { IfOk result (λ first. begins_leaf (first_of first) ≡ begin_of_start (starts.HtmlStart (kind_of kind)) (line_of line.now)) }
+{
+    let mut text = leaves.take(alloc);
+    push_line(&mut text, line)?;
+    if ends_html(kind, line) {
+        return Ok(FirstLine::Whole(ClosedLeaf::Html { text }));
+    }
+    Ok(FirstLine::Opens(OpenLeaf::Html { kind, text }))
+}
+
+/// A run of text, whose source begins so.
+fn begin_run(alloc: Global, leaves: &mut TextRoom, text: &str) -> Result<String, AllocError>
+    ensures { IfOk result (λ source. string_bytes source ≡ text.now) }
+{
+    let mut source = leaves.take(alloc);
+    source.push_str(text)?;
+    Ok(source)
+}
+
+/// The first line of a leaf block, by what it begins. A quote's or an item's marker begins none. What is open takes
+/// the room of texts.
+pub(crate) fn begin_leaf(
+    alloc: Global,
+    leaves: &mut TextRoom,
+    start: &LeafStart<'_>,
+    line: &View<'_>,
+) -> Result<Option<FirstLine>, AllocError>
+    ensures leaf { IfOk result (λ first. IfSome first (λ f. begins_leaf (first_of f) ≡ begin_of_start (seen start.now.found) (line_of line.now))) }
+    ensures container { IfOk result (λ first. IfNone first (begins_container (seen start.now.found) ≡ true)) }
+{
+    let found = start.found();
+    match &found {
+        Start::IndentedCode => Ok(Some(begin_code(alloc, leaves, line)?)),
+        Start::Atx(heading) => Ok(Some(begin_heading(alloc, *heading)?)),
+        Start::Fence(fence) => Ok(Some(begin_fence(alloc, leaves, *fence, line)?)),
+        Start::Html(kind) => Ok(Some(begin_html(alloc, leaves, *kind, line)?)),
+        Start::Break => Ok(Some(FirstLine::Whole(ClosedLeaf::Break))),
+        Start::TextLine => {
+            let source = begin_run(alloc, leaves, content(line))?;
+            Ok(Some(FirstLine::Opens(OpenLeaf::Run { source })))
+        }
+        Start::QuoteMarker | Start::Item(_) => Ok(None),
+    }
+}

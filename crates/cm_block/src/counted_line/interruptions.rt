@@ -1,0 +1,77 @@
+//! What can interrupt a paragraph, and what underlines it.
+ghost use Rattle.std.specs.Prelude.{◌≡◌, suc, drop};
+ghost use Rattle.cm_text.specs.Lines.{LineView};
+ghost use Rattle.cm_text.specs.Views.{line_of};
+ghost use Rattle.cm_scan.specs.Words.{is_blank_text};
+ghost use Rattle.cm_scan.specs.Starts.{starts_at_one, can_interrupt, interrupts_paragraph, underline_of};
+ghost use Rattle.cm_block.specs.steps.StartViews.{seen};
+ghost use Rattle.cm_block.specs.declared.counted_line.starts.Start.TheVariants.{Html, Item};
+
+use crate::counted_line::starts::{Start, begins_with_letter, content, start_of};
+use cm_scan::{HtmlKind, ItemMarker, is_blank_text, underline};
+use cm_text::{Rules, View};
+use cm_tree::ListKind;
+
+/// Whether an item with a marker of this kind may interrupt a paragraph: its number, if it has one, is 1.
+fn starts_at_one(kind: ListKind) -> bool
+    ensures { result ≡ starts_at_one kind }
+{
+    match kind {
+        ListKind::Dot { start } | ListKind::Paren { start } => start == 1,
+        ListKind::Dash | ListKind::Plus | ListKind::Star => true,
+    }
+}
+
+/// Whether there are only spaces and tabs behind a marker with so many digits.
+fn is_blank_behind(digits: usize, content: &[u8]) -> bool
+    ensures { result ≡ is_blank_text (drop (suc digits) content.now) }
+{
+    match content.get(digits..) {
+        Some([_, behind @ ..]) => is_blank_text(behind),
+        _ => true,
+    }
+}
+
+/// Whether an item can interrupt a paragraph: it is not empty, and its number is 1 (5.2 List items).
+fn item_interrupts(marker: ItemMarker, line: &View<'_>) -> bool
+    ensures { result ≡ can_interrupt (seen (Item marker)) (line_of line.now) }
+{
+    starts_at_one(marker.kind) && !is_blank_behind(marker.digits, content(line).as_bytes())
+}
+
+/// Whether an HTML block of this kind can interrupt a paragraph (4.6 HTML blocks).
+fn html_interrupts(kind: HtmlKind) -> bool
+    ensures { (line : LineView) → result ≡ can_interrupt (seen (Html kind)) line }
+{
+    !matches!(kind, HtmlKind::AnyTag)
+}
+
+/// Whether the line can interrupt a paragraph.
+pub(crate) fn interrupts_paragraph(rules: Rules, line: &View<'_>) -> bool
+    ensures { result ≡ interrupts_paragraph rules (line_of line.now) }
+{
+    match start_of(rules, line) {
+        Start::QuoteMarker | Start::Atx(_) | Start::Fence(_) | Start::Break => true,
+        Start::Html(kind) => html_interrupts(kind),
+        Start::Item(marker) => item_interrupts(marker, line),
+        Start::IndentedCode | Start::TextLine => false,
+    }
+}
+
+/// The level that the line gives to the text above it, as an underline: it is no lazy continuation line
+/// (4.3 Setext headings).
+pub(crate) fn underline_of(line: &View<'_>) -> Option<u8>
+    ensures { result ≡ underline_of (line_of line.now) }
+{
+    if line.lazy {
+        return None;
+    }
+    if begins_with_letter(line) {
+        return None;
+    }
+    if line.indent() > 3 {
+        return None;
+    }
+    let (level, _) = underline(content(line), 0)?;
+    Some(level)
+}

@@ -1,0 +1,66 @@
+//! Memory that is kept for later, and holds nothing.
+ghost use Rattle.std.specs.Prelude.{◌≡◌, [], string_bytes};
+
+use cm_tree::RawBlock;
+use std::alloc::Global;
+use std::mem;
+
+/// Memory for the text of a leaf to come. It holds no bytes.
+#[derive(Debug, Drop)]
+pub(crate) struct TextRoom {
+    text: String,
+    ghost empty: { string_bytes text ≡ [] },
+}
+
+impl TextRoom {
+    /// No memory.
+    pub(crate) fn new(alloc: Global) -> TextRoom {
+        TextRoom {
+            text: String::new(alloc),
+        }
+    }
+
+    /// A text with nothing in it yet, in this memory, of which none is left.
+    pub(crate) fn take(&mut self, alloc: Global) -> String
+        ensures { string_bytes result ≡ [] }
+    {
+        let TextRoom { text } = mem::replace(self, TextRoom::new(alloc));
+        text
+    }
+
+    /// Keeps the memory of a text that is done with, and none of its bytes.
+    pub(crate) fn keep(&mut self, mut text: String) {
+        text.clear();
+        *self = TextRoom { text };
+    }
+}
+
+/// Memory for the blocks of a container to come. It holds no blocks.
+#[derive(Debug, Drop)]
+pub(crate) struct BlockRoom {
+    blocks: Vec<RawBlock>,
+    ghost empty: { blocks.items ≡ [] },
+}
+
+impl BlockRoom {
+    /// No memory.
+    pub(crate) fn new(alloc: Global) -> BlockRoom {
+        BlockRoom {
+            blocks: Vec::new(alloc),
+        }
+    }
+
+    /// A list of no blocks yet, in this memory, of which none is left.
+    pub(crate) fn take(&mut self, alloc: Global) -> Vec<RawBlock>
+        ensures { result.items ≡ [] }
+    {
+        let BlockRoom { blocks } = mem::replace(self, BlockRoom::new(alloc));
+        blocks
+    }
+
+    /// Keeps the memory of blocks that are done with, and none of them.
+    pub(crate) fn keep(&mut self, mut blocks: Vec<RawBlock>) {
+        blocks.clear();
+        *self = BlockRoom { blocks };
+    }
+}
