@@ -47,9 +47,12 @@ pub ruleset kinds_of_inlines = (outs-Text, outs-Code, outs-Html, outs-Soft, outs
 
 pub ruleset kinds_of_blocks = (outs-Paragraph, outs-Heading, outs-CodeBlock, outs-HtmlBlock, outs-Break, outs-Definition, outs-Quote, outs-List)
 
--- `simp spelling` computes how a tree is spelled, `simp judging` why it is refused, and `simp reading` the tree of a source
+-- `simp spelling` computes how a tree is spelled, `simp judging` why it is refused, `simp reading` the tree of a source, and
+-- `simp sourcing` the blocks with sources
 pub ruleset spelling = (spelled_block, spelled_inline, kinds_of_blocks, kinds_of_inlines)
 
 pub ruleset judging = (judged_block, judged_inline, kinds_of_blocks, kinds_of_inlines)
 
 pub ruleset reading = (read_block, kinds_of_blocks)
+
+pub ruleset sourcing = (sourced_block, spelled_inline, kinds_of_blocks, kinds_of_inlines)
