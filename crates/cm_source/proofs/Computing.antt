@@ -14,6 +14,7 @@ use Rattle.cm_scan.specs.Documents.{read_step, block_read}
 use Rattle.cm_source.specs.Texts.{spelled_byte, spelled_text, longest_run, spelled_code, spelled_target}
 use Rattle.cm_source.specs.Inlines.{Spelled, inline_step, spelled}
 use Rattle.cm_source.specs.InlineRefusals as inlines
+use Rattle.cm_source.specs.ReadingBack.{source_step, sourced}
 use Rattle.cm_source.specs.Refusals as blocks
 use Rattle.cm_source.specs.Spelling.{parted_lines, ended_lines, block_step, lines_of_block}
 
@@ -39,13 +40,19 @@ judged_block rules b = fold_out-Block blocks.JudgedBlock (blocks.block_step rule
 pub read_block : (rules : Rules) (defined : Defined) (b : Block) → block_read rules defined b ≡ read_step rules defined (map-Block Block Block (block_read rules defined) (out-Block b))
 read_block rules defined b = fold_out-Block Block (read_step rules defined) b
 
+pub sourced_block : (b : Block) → sourced b ≡ source_step (map-Block Block Block sourced (out-Block b))
+sourced_block b = fold_out-Block Block source_step b
+
 pub ruleset kinds_of_inlines = (outs-Text, outs-Code, outs-Html, outs-Soft, outs-Hard, outs-Emph, outs-Strong, outs-Strike, outs-Link, outs-Image)
 
 pub ruleset kinds_of_blocks = (outs-Paragraph, outs-Heading, outs-CodeBlock, outs-HtmlBlock, outs-Break, outs-Definition, outs-Quote, outs-List)
 
--- `simp spelling` computes how a tree is spelled, `simp judging` why it is refused, and `simp reading` the tree of a source
+-- `simp spelling` computes how a tree is spelled, `simp judging` why it is refused, `simp reading` the tree of a source, and
+-- `simp sourcing` the blocks with sources
 pub ruleset spelling = (spelled_block, spelled_inline, kinds_of_blocks, kinds_of_inlines)
 
 pub ruleset judging = (judged_block, judged_inline, kinds_of_blocks, kinds_of_inlines)
 
 pub ruleset reading = (read_block, kinds_of_blocks)
+
+pub ruleset sourcing = (sourced_block, spelled_inline, kinds_of_blocks, kinds_of_inlines)

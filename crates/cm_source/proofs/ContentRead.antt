@@ -18,7 +18,7 @@ use Rattle.cm_source.specs.Texts.{spelled_text, spelled_code, spelled_target}
 use Rattle.cm_source.specs.Inlines.{is_line_end, join, spelled, spelled_inlines, spelled_content}
 use Rattle.cm_source.specs.InlineRefusals.{has_nul, is_text, first_face, hold_link, Judged, judged}
 use Rattle.cm_source.specs.InlineRefusals as refusals
-use Rattle.cm_source.specs.steps.ContentBack.{Mark, Star, TwoStars, TwoTildes, character_of, count_of, written, is_known, IsBetween, Fits, FitsText, FitsCode, FitsHtml, FitsSoft, FitsHard, FitsEmphasis, FitsLink, FitsImage, FitsAll, FitsNone, FitsNext, ContentReadsBack}
+use Rattle.cm_source.specs.steps.ContentBack.{Mark, Star, TwoStars, TwoTildes, character_of, count_of, written, is_known, IsBetween, Fits, FitsText, FitsCode, FitsHtml, FitsSoft, FitsHard, FitsEmphasis, FitsLink, FitsImage, FitsAll, FitsNone, FitsNext, FittingReadsBack}
 use Rattle.cm_source.proofs.BytesRead.{ReadsAs, left_with, atom_left, run_none, step_read, atom_step, reads_nothing, reads_then, reads_text}
 use Rattle.cm_source.proofs.CodesRead.{atom_code}
 use Rattle.cm_source.proofs.TagsRead.{some_tag, atom_tag}
@@ -397,9 +397,9 @@ module _ (rules : Rules) (defined : Defined) where
           reads = reads_then rules defined before ((spelled next).spelling first (is_line_end last (map spelled others))) (join (spelled next).begins_line last (map spelled others)) rest one.items all.items one.reads all.reads;
         }
 
-pub content_reads_back : ContentReadsBack
+pub fitting_reads_back : FittingReadsBack
 unfolding inlines_of items_of items_after
-content_reads_back rules defined content fits =
+fitting_reads_back rules defined content fits =
     let source : List ℕ = spelled_content content in
     let all = read_all rules defined fits in
     ap (λ items. emphasis_of (reverse items)) (ap (λ t. items_after rules defined zero [] t []) (sym (append-nil source)) ∙ all.reads [] ∙ append-nil (reverse all.items))

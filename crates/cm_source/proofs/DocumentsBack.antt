@@ -7,21 +7,18 @@ use Rattle.std.specs.Prelude.{IsUtf8, String, string_bytes}
 use Rattle.cm_text.specs.Rules.{Rules}
 use Rattle.cm_text.specs.Lines.{plain_lines_of}
 use Rattle.cm_tree.specs.declared.tree.Inline.{Inline}
-use Rattle.cm_tree.specs.declared.tree.Block.{Block, map-Block, out-Block}
+use Rattle.cm_tree.specs.declared.tree.Block.{Block}
 use Rattle.cm_tree.specs.declared.tree.Block.TheVariants.{Paragraph, Heading, Quote, List as ListBlock}
 use Rattle.cm_tree.specs.declared.tree.Block.TheViews.{outs-Paragraph, outs-Heading, outs-Code, outs-Html, outs-Break, outs-Definition, outs-Quote, outs-List}
-use Rattle.cm_tree.specs.declared.tree.Block.TheFolds.{fold_out-Block}
 use Rattle.cm_scan.specs.Brackets.{Defined}
 use Rattle.cm_scan.specs.Documents.{content_read, block_read, with_inlines, defined_by, tree_of_lines, tree_of}
 use Rattle.cm_scan.specs.Inlines.{inlines_of}
 use Rattle.cm_tree.specs.RawBlocks.{raw_inlines}
 use Rattle.cm_scan.specs.Words.{is_empty}
 use Rattle.cm_source.specs.declared.why.Why.TheVariants as why
-use Rattle.cm_source.specs.steps.BlocksBack.{source_step, sourced, all_sourced}
-use Rattle.cm_source.specs.steps.ContentBack.{FitsAll}
 use Rattle.cm_source.specs.Inlines.{spelled_content}
 use Rattle.cm_source.specs.InlineRefusals.{refused, paragraph_refusal, heading_refusal, of_paragraph, of_heading}
-use Rattle.cm_source.specs.ReadingBack.{TreesReadBack}
+use Rattle.cm_source.specs.ReadingBack.{sourced, all_sourced, TreesReadBack}
 use Rattle.cm_source.specs.Refusals.{IsSpellable, BlockFace, refusal_of_all, refusal_of_items, list_reasons, judged_block}
 use Rattle.cm_source.specs.Spelling.{spelling_of}
 use Rattle.cm_source.specs.steps.Utf8Inlines.{AreTexts, all_of}
@@ -31,12 +28,10 @@ use Rattle.cm_source.proofs.BlockInduction.{AllHold, ItemsHold, Cases, all-by-ca
 use Rattle.cm_source.proofs.BlockRefusals.{seen_items}
 use Rattle.cm_source.proofs.BlockKinds.{paragraph-judged, heading-judged, quote-judged, list-judged, refused-as, paragraph-texts, heading-texts, quote-texts, list-texts}
 use Rattle.cm_source.proofs.ContentEnds.{content-ends}
-use Rattle.cm_source.proofs.ContentRead.{content_reads_back}
-use Rattle.cm_source.proofs.FittingLemmas.{paragraphs_fit, headings_fit}
+use Rattle.cm_source.proofs.ContentsBack.{paragraph-back, heading-back}
 use Rattle.cm_source.proofs.TreesBack.{spellings_have_texts}
 use Rattle.cm_source.proofs.ReadingBack.{blocks_read_back, spelling_is_text}
-use Rattle.cm_source.proofs.SourceLemmas.{contents_give_sources}
-use Rattle.cm_source.proofs.Computing.{read_block}
+use Rattle.cm_source.proofs.Computing.{read_block, sourced_block}
 
 module _ (rules : Rules) (defined : Defined) where
   -- a source that isn't empty is read
@@ -44,19 +39,13 @@ module _ (rules : Rules) (defined : Defined) where
   source-read [] some = absurd (cc some)
   source-read (b ∷ bs) some = refl
 
-  fitting-read : (content : List Inline) → is_empty (spelled_content content) ≡ false → FitsAll rules true true true [] content [] → content_read rules defined (raw_inlines (spelled_content content)) ≡ content
-  fitting-read content some fits = source-read (spelled_content content) some ∙ content_reads_back rules defined content fits
-
   paragraph-read : (content : List Inline) → AreTexts content → paragraph_refusal rules content ≡ None → content_read rules defined (raw_inlines (spelled_content content)) ≡ content
   paragraph-read [] texts e = refl
-  paragraph-read (i ∷ is) texts e = fitting-read (i ∷ is) (content-ends rules i is of_paragraph None e true).some (paragraphs_fit rules (i ∷ is) texts e)
+  paragraph-read (i ∷ is) texts e = source-read (spelled_content (i ∷ is)) (content-ends rules i is of_paragraph None e true).some ∙ paragraph-back rules defined (i ∷ is) e texts
 
   heading-read : (content : List Inline) → AreTexts content → heading_refusal rules content ≡ None → content_read rules defined (raw_inlines (spelled_content content)) ≡ content
   heading-read [] texts e = refl
-  heading-read (i ∷ is) texts e = fitting-read (i ∷ is) (content-ends rules i is of_heading None e true).some (headings_fit rules (i ∷ is) texts e)
-
-  sources : (b : Block) → sourced b ≡ source_step (map-Block Block Block sourced (out-Block b))
-  sources b = fold_out-Block Block source_step b
+  heading-read (i ∷ is) texts e = source-read (spelled_content (i ∷ is)) (content-ends rules i is of_heading None e true).some ∙ heading-back rules defined (i ∷ is) e texts
 
   -- a block that isn't refused is read from its source
   abbrev ReadsBack : Block → Type 0
@@ -84,27 +73,26 @@ module _ (rules : Rules) (defined : Defined) where
   cases = record {
     paragraph = λ content texts before e.
         let accepted = or-none (refused ((not (list_any (λ i. true) content), why.Shape) ∷ [])) (paragraph_refusal rules content) (refused-as (paragraph-judged rules content) before e) in
-        simp (sources, read_block, outs-Paragraph) (ap Paragraph (paragraph-read content (sym (paragraph-texts content) ∙ texts) accepted.1));
+        simp (sourced_block, read_block, outs-Paragraph) (ap Paragraph (paragraph-read content (sym (paragraph-texts content) ∙ texts) accepted.1));
     heading = λ level content texts before e.
         let accepted = or-none (refused ((not (nat_le 1 level && nat_le level 6), why.Shape) ∷ [])) (heading_refusal rules content) (refused-as (heading-judged rules level content) before e) in
-        simp (sources, read_block, outs-Heading) (ap (Heading level) (heading-read content (sym (heading-texts level content) ∙ texts) accepted.1));
-    code = λ info text texts before e. simp (sources, read_block, outs-Code);
-    html = λ text texts before e. simp (sources, read_block, outs-Html);
-    thematic_break = λ texts before e. simp (sources, read_block, outs-Break);
-    definition = λ label dest title texts before e. simp (sources, read_block, outs-Definition);
+        simp (sourced_block, read_block, outs-Heading) (ap (Heading level) (heading-read content (sym (heading-texts level content) ∙ texts) accepted.1));
+    code = λ info text texts before e. simp (sourced_block, read_block, outs-Code);
+    html = λ text texts before e. simp (sourced_block, read_block, outs-Html);
+    thematic_break = λ texts before e. simp (sourced_block, read_block, outs-Break);
+    definition = λ label dest title texts before e. simp (sourced_block, read_block, outs-Definition);
     quote = λ blocks hold texts before e.
-        simp (sources, read_block, outs-Quote) (ap Quote (all-back blocks hold (sym (quote-texts blocks) ∙ texts) None (refused-as (quote-judged rules blocks) before e)));
+        simp (sourced_block, read_block, outs-Quote) (ap Quote (all-back blocks hold (sym (quote-texts blocks) ∙ texts) None (refused-as (quote-judged rules blocks) before e)));
     list = λ kind tight items hold texts before e.
         let accepted = or-none (refused (list_reasons kind tight (seen_items rules items) before)) (refusal_of_items (map (map (judged_block rules)) items)) (refused-as (list-judged rules kind tight items) before e) in
-        simp (sources, read_block, outs-List) (ap (ListBlock kind tight) (items-back items hold (sym (list-texts kind tight items) ∙ texts) accepted.1));
+        simp (sourced_block, read_block, outs-List) (ap (ListBlock kind tight) (items-back items hold (sym (list-texts kind tight items) ∙ texts) accepted.1));
   }
 
 pub trees_read_back : TreesReadBack
 trees_read_back rules blocks e utf8 =
-    let gives = contents_give_sources rules in
     let defined = defined_by rules (plain_lines_of (spelling_of blocks)) in
-    ap (λ t. tree_of_lines rules (plain_lines_of t)) (spelling_is_text rules gives blocks e)
-    ∙ ap (with_inlines rules defined) (blocks_read_back rules gives blocks e)
+    ap (λ t. tree_of_lines rules (plain_lines_of t)) (spelling_is_text rules blocks e)
+    ∙ ap (with_inlines rules defined) (blocks_read_back rules blocks e)
     ∙ all-back rules defined blocks (all-by-cases (ReadsBack rules defined) (cases rules defined) blocks) (spellings_have_texts rules blocks e utf8) None e
 
 -- so what a program has as the spelling of a tree reads back as that tree

@@ -11,6 +11,7 @@ pub mod ContentEnds
 pub mod ContentFronts
 pub mod ContentLabels
 pub mod ContentRead
+pub mod ContentsBack
 pub mod DefinitionLemmas
 pub mod DocumentsBack
 pub mod EdgesOfKinds

@@ -11,14 +11,15 @@ use Rattle.cm_text.proofs.CutLemmas.{text_of-append}
 use Rattle.cm_text.proofs.LinesLemmas.{lines_with_line_feeds}
 use Rattle.cm_tree.specs.declared.tree.Block.{Block}
 use Rattle.cm_scan.specs.Blocks.{blocks_of}
+use Rattle.cm_source.specs.ReadingBack.{BlocksReadBack, SpellingIsText}
 use Rattle.cm_source.specs.Refusals.{IsSpellable}
 use Rattle.cm_source.specs.Spelling.{lines_of_blocks}
-use Rattle.cm_source.specs.steps.BlocksBack.{ContentsGiveSources, BlocksReadBack, SpellingIsText}
 use Rattle.cm_source.specs.steps.Sources.{is_one_line}
 use Rattle.cm_source.specs.steps.Outlines.{outline_of}
 use Rattle.cm_source.proofs.CleanLines.{blocks-clean}
 use Rattle.cm_source.proofs.OutlineBack.{reads-back}
 use Rattle.cm_source.proofs.LeavesBack.{is_inside_line}
+use Rattle.cm_source.proofs.SourceLemmas.{contents_give_sources}
 use Rattle.cm_source.proofs.SpellableBlocks.{tree-stands}
 
 no-ending : (b : ℕ) → is_inside_line b ≡ true → not (is_line_ending b) ≡ true
@@ -55,17 +56,17 @@ text-of-lines (t ∷ lines) h =
     ∙ ap (λ l. l ++ text_of (flat_map with_line_feed lines)) (text_of-append t (10 ∷ []) ∙ ap with_line_feed (text-of-line t first))
     ∙ ap (λ l. with_line_feed t ++ l) (text-of-lines lines more)
 
-spelled-clean : (rules : Rules) → ContentsGiveSources rules → (blocks : List Block) → IsSpellable rules blocks → list_all is_one_line (lines_of_blocks true blocks) ≡ true
-spelled-clean rules gives blocks h =
-    let all = tree-stands rules gives blocks h in
+spelled-clean : (rules : Rules) (blocks : List Block) → IsSpellable rules blocks → list_all is_one_line (lines_of_blocks true blocks) ≡ true
+spelled-clean rules blocks h =
+    let all = tree-stands rules (contents_give_sources rules) blocks h in
     ap (list_all is_one_line) (sym (all.lines true)) ∙ blocks-clean rules true false (outline_of blocks) all.fits
 
 pub blocks_read_back : BlocksReadBack
-blocks_read_back rules gives blocks h =
-    let all = tree-stands rules gives blocks h in
-    ap (λ lines. blocks_of rules (map plain_line lines)) (lines_with_line_feeds (lines_of_blocks true blocks) (lines-of (lines_of_blocks true blocks) (spelled-clean rules gives blocks h)) ∙ sym (all.lines true))
+blocks_read_back rules blocks h =
+    let all = tree-stands rules (contents_give_sources rules) blocks h in
+    ap (λ lines. blocks_of rules (map plain_line lines)) (lines_with_line_feeds (lines_of_blocks true blocks) (lines-of (lines_of_blocks true blocks) (spelled-clean rules blocks h)) ∙ sym (all.lines true))
     ∙ reads-back rules (outline_of blocks) all.fits
     ∙ all.blocks
 
 pub spelling_is_text : SpellingIsText
-spelling_is_text rules gives blocks h = text-of-lines (lines_of_blocks true blocks) (spelled-clean rules gives blocks h)
+spelling_is_text rules blocks h = text-of-lines (lines_of_blocks true blocks) (spelled-clean rules blocks h)

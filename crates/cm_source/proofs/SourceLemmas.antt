@@ -5,11 +5,10 @@ use Rattle.cm_text.specs.Rules.{Rules}
 use Rattle.cm_tree.specs.declared.tree.Inline.{Inline}
 use Rattle.cm_scan.specs.LineForms.{without_closing}
 use Rattle.cm_scan.specs.Words.{skip, trim_end_by, trim, trim_end}
-use Rattle.cm_source.specs.steps.BlocksBack.{ContentsGiveSources}
 use Rattle.cm_source.specs.Inlines.{spelled_content}
 use Rattle.cm_source.specs.InlineRefusals.{paragraph_refusal, heading_refusal, of_paragraph, of_heading}
 use Rattle.cm_source.specs.Texts.{spelled_text}
-use Rattle.cm_source.specs.steps.Sources.{IsParagraphSource, IsHeadingSource, IsInfoSource}
+use Rattle.cm_source.specs.steps.Sources.{IsParagraphSource, IsHeadingSource, IsInfoSource, ContentsGiveSources}
 use Rattle.cm_source.proofs.ContentEnds.{trimmed-start, trimmed-end, unclosed, text-bare, text-well, content-bare, content-ends}
 use Rattle.cm_source.proofs.ContentFronts.{paragraph-lines}
 use Rattle.cm_source.proofs.ContentLabels.{defines-nothing, content-none}

@@ -22,7 +22,8 @@ use Rattle.cm_source.specs.Refusals as refusals
 use Rattle.cm_source.specs.Refusals.{BlockFace, ListFace, JudgedBlock, faces, is_filled, is_list, is_tight_item, is_as_said, has_two, is_html_block, is_code_text, judged_block, refusal_of_all, refusal_of_items, is_behind_same, begins_too_high, list_reasons}
 use Rattle.cm_source.specs.Spelling as spelling
 use Rattle.cm_source.specs.Spelling.{gap, joined, quote_lines, marker, item_lines, list_lines, lines_of_block}
-use Rattle.cm_source.specs.steps.BlocksBack.{source_step, sourced, ContentsGiveSources}
+use Rattle.cm_source.specs.ReadingBack.{source_step, sourced}
+use Rattle.cm_source.specs.steps.Sources.{ContentsGiveSources}
 use Rattle.cm_source.specs.steps.Outlines.{SpelledLeaf, Outline, is_none, no_blocks, leaf_then, quote_then, list_then, tree, items_tree, gap_before, block_lines, lines_of_items, first_inside, fits_tight, can_be_loose, begins_with_list, chain, chain_items, outline_step, in_front_of}
 use Rattle.cm_source.proofs.AcceptedLemmas.{none-holds, or-none}
 use Rattle.cm_source.proofs.BlockInduction.{AllHold, ItemsHold, InsideHold, all-by-layers}

@@ -1,15 +1,21 @@
 -- Worked examples: trees, their spellings, and the trees that are read of these: the same ones, unless they are refused.
-use Rattle.std.specs.Prelude.{◌≡◌, ℕ, true, false, List, [], ◌∷◌, ◌++◌, Some, codes}
+use Rattle.std.specs.Prelude.{◌≡◌, ℕ, true, false, List, [], ◌∷◌, ◌++◌, Some, None, codes}
+use Rattle.cm_text.specs.Lines.{plain_lines_of}
 use Rattle.cm_text.specs.Rules.{Rules, profile, older_rules}
 use Rattle.cm_tree.specs.declared.tree.Inline.{Inline}
 use Rattle.cm_tree.specs.declared.tree.Inline.TheVariants.{Text, Code, Html, Soft, Hard, Emph, Strong, Strike, Link, Image}
 use Rattle.cm_tree.specs.declared.tree.Block.{Block}
 use Rattle.cm_tree.specs.declared.tree.Block.TheVariants as block
 use Rattle.cm_tree.specs.declared.tree.ListKind.TheVariants.{Dash, Plus, Star, Dot, Paren}
+use Rattle.cm_scan.specs.Blocks.{blocks_of}
 use Rattle.cm_scan.specs.Documents.{tree_of}
 use Rattle.cm_scan.specs.InlineExamples.{struck}
+use Rattle.cm_scan.specs.Inlines.{inlines_of}
 use Rattle.cm_source.specs.declared.why.Why.{Why}
 use Rattle.cm_source.specs.declared.why.Why.TheVariants as why
+use Rattle.cm_source.specs.InlineRefusals.{paragraph_refusal, heading_refusal}
+use Rattle.cm_source.specs.Inlines.{spelled_content}
+use Rattle.cm_source.specs.ReadingBack.{all_sourced}
 use Rattle.cm_source.specs.Refusals.{IsSpellable, refusal_of}
 use Rattle.cm_source.specs.Spelling.{spelling_of}
 use Rattle.cm_source.specs.WorkedExamples.{words, a, paragraph, paragraph_a}
@@ -152,3 +158,27 @@ pub record MisreadExamples : Type 0 where
   pub three_lists_in_one_another : Misread (block.List Dash true ((block.List Dash true ((block.List Dash true ([] ∷ []) ∷ []) ∷ []) ∷ []) ∷ []) ∷ []) why.ItemBeginsWithList (codes "- - -\n") (block.Break ∷ [])
   pub loose_item_of_one : Misread (block.List Dash false (paragraph_a ∷ []) ∷ []) why.Looseness (codes "- a\n") (block.List Dash true (paragraph_a ∷ []) ∷ [])
   pub tight_item_of_two : Misread (block.List Dash true ((paragraph_a ++ paragraph_b) ∷ []) ∷ []) why.Looseness (codes "- a\n  b\n") (block.List Dash true (says (a ++ Soft ∷ b) ∷ []) ∷ [])
+
+-- Blocks with the spellings of their contents as sources, which are those that are read of the lines; and a content whose text would
+-- be a link, if it weren't spelled.
+pub record SourceExamples : Type 0 where
+  pub content : all_sourced (says (a ++ Emph b ∷ [])) ≡ paragraph (codes "a*b*")
+  pub content_of_nothing : all_sourced (block.Heading 1 [] ∷ []) ≡ block.Heading 1 [] ∷ []
+  pub code : all_sourced (block.Code (codes "*") (codes "*\n") ∷ []) ≡ block.Code (codes "*") (codes "*\n") ∷ []
+  pub inside : all_sourced (block.Quote (block.List Dash true (says (Strong a ∷ []) ∷ []) ∷ []) ∷ []) ≡ block.Quote (block.List Dash true (paragraph (codes "**a**") ∷ []) ∷ []) ∷ []
+  pub read : blocks_of profile (plain_lines_of (codes "> - **a**\n")) ≡ block.Quote (block.List Dash true (paragraph (codes "**a**") ∷ []) ∷ []) ∷ []
+  pub whatever_is_defined : inlines_of profile (λ folded. Some (codes "/u", [])) (spelled_content (words (codes "[a]"))) ≡ words (codes "[a]")
+
+-- emphasis of a text that isn't UTF-8
+abbrev pub unseen : List Inline
+unseen = Emph (words (0xE3 ∷ [])) ∷ []
+
+-- No character is seen at its edges, so it isn't refused, and neither is a tree of it; but its spelling reads as a text. No program has
+-- such a tree.
+pub record NotUtf8Examples : Type 0 where
+  pub in_a_paragraph : paragraph_refusal profile unseen ≡ None
+  pub in_a_heading : heading_refusal profile unseen ≡ None
+  pub content : inlines_of profile (λ folded. None) (spelled_content unseen) ≡ words (codes "*" ++ 0xE3 ∷ codes "*")
+  pub spellable : IsSpellable profile (says unseen)
+  pub spelled : spelling_of (says unseen) ≡ codes "*" ++ 0xE3 ∷ codes "*\n"
+  pub read : tree_of profile (codes "*" ++ 0xE3 ∷ codes "*\n") ≡ paragraph (codes "*" ++ 0xE3 ∷ codes "*")

@@ -1,5 +1,4 @@
 pub mod BlockFaces
-pub mod BlocksBack
 pub mod Bytes
 pub mod ContentBack
 pub mod Fitting

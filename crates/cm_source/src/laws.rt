@@ -1,5 +1,5 @@
 //! Laws of the definitions, each the contract of a function that does nothing.
-ghost use Rattle.cm_source.specs.ReadingBackExamples.{LeafBlockExamples, ContainerExamples, ContentExamples, RuleExamples, MisreadExamples};
+ghost use Rattle.cm_source.specs.ReadingBackExamples.{LeafBlockExamples, ContainerExamples, ContentExamples, RuleExamples, MisreadExamples, SourceExamples, NotUtf8Examples};
 ghost use Rattle.cm_source.specs.RefusalExamples.{InlineRefusalExamples, RefusalExamples};
 ghost use Rattle.cm_source.specs.WorkedExamples.{TextExamples, InlineExamples, BlockExamples};
 
@@ -16,11 +16,14 @@ pub fn refusal_examples()
     ensures blocks { RefusalExamples }
 {}
 
-/// The same of whole trees that read back, and of some that wouldn't, by the definitions of reading.
+/// The same of whole trees that read back, and of some that wouldn't, by the definitions of reading; of the blocks of
+/// their lines; and of a tree that no program has, which shows why a law speaks of UTF-8.
 pub fn reading_back_examples()
     ensures leaves { LeafBlockExamples }
     ensures containers { ContainerExamples }
     ensures contents { ContentExamples }
     ensures rules { RuleExamples }
     ensures misread { MisreadExamples }
+    ensures sources { SourceExamples }
+    ensures not_utf8 { NotUtf8Examples }
 {}

@@ -13,7 +13,6 @@ mod refusals;
 mod search;
 mod source;
 mod spelling;
-pub mod spelling_laws;
 mod texts;
 mod why;
 

@@ -94,8 +94,8 @@ mutual
         → FitsAll rules emphasis first last before (next ∷ inlines) rest
 
 -- The source of a content that fits is read as that content, whatever is defined.
-abbrev pub ContentReadsBack : Type 0
-ContentReadsBack = (rules : Rules) (defined : Defined) (content : List Inline) → FitsAll rules true true true [] content [] → inlines_of rules defined (spelled_content content) ≡ content
+abbrev pub FittingReadsBack : Type 0
+FittingReadsBack = (rules : Rules) (defined : Defined) (content : List Inline) → FitsAll rules true true true [] content [] → inlines_of rules defined (spelled_content content) ≡ content
 
 -- What is spelled for a text, a destination, a title or an info string stands for it, once escapes and references are resolved.
 abbrev pub TextUnescapes : Type 0

@@ -2,12 +2,17 @@
 use Rattle.std.specs.Prelude.{◌≡◌, ⊤, ℕ, Bool, true, false, not, ◌&&◌, ◌||◌, List, [], ◌∷◌, None, ◌==◌}
 use Rattle.std.specs.List.{list_all, list_any}
 use Rattle.cm_text.specs.Rules.{Rules}
+use Rattle.cm_text.specs.Unescaping.{unescape}
+use Rattle.cm_tree.specs.declared.tree.Inline.{Inline}
 use Rattle.cm_scan.specs.Words.{is_space_or_tab, trim, trim_end}
 use Rattle.cm_scan.specs.LineForms.{without_closing, underline}
 use Rattle.cm_scan.specs.Links.{definitions_of}
 use Rattle.cm_scan.specs.Starts.{TextLine, start_of_content}
 use Rattle.cm_scan.specs.BlockLaws.{is_unindented}
+use Rattle.cm_source.specs.InlineRefusals.{paragraph_refusal, heading_refusal, has_nul}
+use Rattle.cm_source.specs.Inlines.{spelled_content}
 use Rattle.cm_source.specs.Spelling.{parted_lines}
+use Rattle.cm_source.specs.Texts.{spelled_text}
 
 -- nothing but one character, spaces and tabs
 abbrev pub is_only : ℕ → List ℕ → Bool
@@ -55,3 +60,10 @@ pub record IsInfoSource (info : List ℕ) : Type 0 where
   pub clean : is_one_line info ≡ true
   pub trimmed : trim info ≡ info
   pub no_backtick : list_any (λ b. b == 96) info ≡ false
+
+-- The contents and info strings of trees that can be spelled are spelled as such sources.
+pub record ContentsGiveSources (rules : Rules) : Type 0 where
+  pub paragraphs : (content : List Inline) → paragraph_refusal rules content ≡ None → list_any (λ i. true) content ≡ true → IsParagraphSource rules (spelled_content content)
+  pub headings : (content : List Inline) → heading_refusal rules content ≡ None → IsHeadingSource (spelled_content content)
+  pub infos : (info : List ℕ) → has_nul info ≡ false → IsInfoSource (spelled_text true true info)
+  pub infos_back : (info : List ℕ) → has_nul info ≡ false → unescape (spelled_text true true info) ≡ info

@@ -1,8 +1,8 @@
 use Rattle.std.proofs.Common.{refl}
 use Rattle.cm_scan.proofs.Computing.{block_structure}
 use Rattle.cm_scan.proofs.InlineComputing.{inline_structure}
-use Rattle.cm_source.specs.ReadingBackExamples.{LeafBlockExamples, ContainerExamples, ContentExamples, RuleExamples, MisreadExamples}
-use Rattle.cm_source.proofs.Computing.{string_spellings, spelling, judging, reading}
+use Rattle.cm_source.specs.ReadingBackExamples.{LeafBlockExamples, ContainerExamples, ContentExamples, RuleExamples, MisreadExamples, SourceExamples, NotUtf8Examples}
+use Rattle.cm_source.proofs.Computing.{string_spellings, spelling, judging, reading, sourcing}
 use Rattle.cm_source.proofs.laws.reading_back_examples.Goals as goal
 
 leaves : LeafBlockExamples
@@ -126,6 +126,28 @@ misread = record {
   tight_item_of_two = record { refused = simp judging; spelled = simp spelling; read = simp reading };
 }
 
+sources : SourceExamples
+unfolding block_structure inline_structure string_spellings
+sources = record {
+  content = simp sourcing;
+  content_of_nothing = simp sourcing;
+  code = simp sourcing;
+  inside = simp sourcing;
+  read = refl;
+  whatever_is_defined = simp spelling;
+}
+
+not_utf8 : NotUtf8Examples
+unfolding block_structure inline_structure string_spellings
+not_utf8 = record {
+  in_a_paragraph = simp judging;
+  in_a_heading = simp judging;
+  content = simp spelling;
+  spellable = simp judging;
+  spelled = simp spelling;
+  read = simp reading;
+}
+
 pub returns-clause-leaves : goal.returns-clause-leaves
 returns-clause-leaves c = leaves
 
@@ -140,3 +162,9 @@ returns-clause-rules c = rules
 
 pub returns-clause-misread : goal.returns-clause-misread
 returns-clause-misread c = misread
+
+pub returns-clause-sources : goal.returns-clause-sources
+returns-clause-sources c = sources
+
+pub returns-clause-not_utf8 : goal.returns-clause-not_utf8
+returns-clause-not_utf8 c = not_utf8
