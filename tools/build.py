@@ -41,7 +41,7 @@ SECONDS = {
     "cm_tool": 200,
     "cmk": 80,
 }
-# How many jobs may prove a crate: cm_text took 185 seconds by one, 160 by two, 112 by three, 84 by four, and 98 by eight.
+# How many jobs may prove a crate that is the only one: cm_text took 185 seconds by one, 160 by two, 112 by three, 84 by four, and 98 by eight.
 JOBS = 4
 # A crate takes twice as much memory as this, in kB, and once more for each job after the first.
 ROOM = 1536 * 1024
@@ -299,13 +299,13 @@ class Build:
             seconds[name] = max(seconds[name] - (time.monotonic() - it.began), 5)
         return max(*self.chains(seconds).values(), sum(seconds.values()) / self.processors)
 
-    def jobs(self, others):
-        """Returns how many jobs one more crate may have, with a processor left to each of so many others: none where there is no processor
-        or no memory for it. The first has one in any case."""
+    def jobs(self, is_alone):
+        """Returns how many jobs one more crate may have: several where it is the only one that can be proved, else one; none where there is
+        no processor or no memory for it. The first has one in any case."""
         lines = dict(it.split(":", 1) for it in MEMORY.read_text().splitlines())
         room = int(lines["MemAvailable"].split()[0]) // ROOM - 2 * len(self.running)
         free = self.processors - sum(it.jobs for it in self.running.values())
-        found = min(JOBS, max(free - others, min(free, 1)), room - 1)
+        found = min(JOBS if is_alone else 1, free, room - 1)
         return max(found, 0 if self.running else 1)
 
     def start_ready(self, processes, work):
@@ -313,9 +313,10 @@ class Build:
         chains = self.chains({name: 0 if self.is_kept(name) else crate.seconds for name, crate in self.plan.items()})
         ready = [it for it in self.waiting if all(self.is_kept(below) for below in self.plan[it].below)]
         ready.sort(key=chains.get)
+        is_alone = len(ready) + len(self.running) == 1
         while ready:
             name = ready.pop()
-            jobs = self.jobs(len(ready))
+            jobs = self.jobs(is_alone)
             if not jobs:
                 return
             libraries = {it: self.store.place(it, self.sums[it]) for it in self.plan if self.stands_on(name, it)}
