@@ -15,7 +15,7 @@ use crate::rooms::TextRoom;
 use crate::runs::line_feeds;
 use crate::stack::Stack;
 use cm_scan::{LinkDefinition, definition, trim_end};
-use cm_text::{NoMemory, unescape};
+use cm_text::{NoMemory, unescape_or_lend};
 use std::alloc::{AllocError, Global};
 
 /// A leaf block that is closed, or a run of text. Its lines are counted by the line feeds of its text.
@@ -67,8 +67,8 @@ fn put_definition(
     ensures owners { OnOk result (owners.new
         ≡ own_leaf owners.old (definition found.entry.label.now found.entry.dest.now found.entry.title.now) lines) }
 {
-    let dest = unescape(alloc, found.dest)?;
-    let title = unescape(alloc, found.title)?;
+    let dest = unescape_or_lend(alloc, found.dest)?;
+    let title = unescape_or_lend(alloc, found.title)?;
     owners.definition(found.label, &dest, &title, lines)?;
     stack.put_definition(found.label, &dest, &title)?;
     Ok(())
@@ -172,7 +172,7 @@ fn put_code(
     ensures bare { stack.new.bare ≡ stack.old.bare }
     ensures owners { OnOk result (owners.new ≡ own_plain_leaf owners.old lines) }
 {
-    let info = unescape(alloc, info)?;
+    let info = unescape_or_lend(alloc, info)?;
     owners.leaf(lines)?;
     stack.put_code(&info, text)?;
     Ok(())

@@ -17,7 +17,7 @@ pub enum Job {
 }
 
 /// A job, and what it is done on.
-#[derive(Debug, Drop)]
+#[derive(Debug, PartialEq, Eq, Drop)]
 pub struct Task {
     pub job: Job,
     /// The file that is read; standard input if it is left out.
@@ -26,7 +26,7 @@ pub struct Task {
 }
 
 /// Why the words of a command line give no task.
-#[derive(Debug, Drop)]
+#[derive(Debug, PartialEq, Eq, Drop)]
 pub enum Stop {
     /// Help was asked for, and this is its text.
     Help(String),

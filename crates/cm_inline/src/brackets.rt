@@ -182,10 +182,9 @@ impl Reader {
         ensures deep { result ≡ Err InlinesTooDeep → limit < items_depth (link_made source.now (nodes_in self.old.nodes) bracket (cow_str_bytes end.now.dest) (cow_str_bytes end.now.title)) }
     {
         let holds_link = self.holds_link(bracket);
-        // Memory holds fewer nodes than a `usize` counts.
-        let Some(first) = bracket.node.checked_add(1) else {
-            return Err(InlineFault::NoMemory);
-        };
+        // How many nodes there are bounds the place of one.
+        let _nodes = self.nodes.len();
+        let first = bracket.node + 1;
         pair_from(limit, &mut self.nodes, &mut self.openers, first)?;
         let depth = self.nodes.depth_behind(bracket.node);
         if depth >= limit {

@@ -7,7 +7,7 @@ ghost use Rattle.cm_inline.specs.steps.Reads.{Stands};
 ghost use Rattle.cm_inline.specs.steps.Links.{ends_of, leads_to, target_by, behind_brackets};
 
 use cm_scan::{after_gap, destination, is_blank_next, is_next, label, title};
-use cm_text::{NoMemory, unescape};
+use cm_text::{NoMemory, unescape_or_lend};
 use cm_tree::Definitions;
 use std::alloc::Global;
 use std::borrow::CowStr;
@@ -99,8 +99,8 @@ fn closed<'a>(
         return Ok(None);
     }
     Ok(Some(LinkEnd {
-        dest: unescape(alloc, dest)?,
-        title: unescape(alloc, title)?,
+        dest: unescape_or_lend(alloc, dest)?,
+        title: unescape_or_lend(alloc, title)?,
         end: end + 1,
     }))
 }

@@ -57,10 +57,9 @@ fn make_pair(
     ensures fewer { IfOk result (λ rest. IfSome rest (λ run. (run_of run ≡ cut run.left (run_of closer)) × (run.left < closer.left))) }
     ensures spends { OnOk result (Spends openers.old.list openers.old.bottoms openers.new.list openers.new.bottoms (entry_of opener) (without (used (run_of opener.run) (run_of closer)) (run_of opener.run))) }
 {
-    // Memory holds fewer nodes than a `usize` counts.
-    let Some(place) = from.checked_add(opener.item) else {
-        return Err(InlineFault::NoMemory);
-    };
+    // How many nodes there are bounds the place of one.
+    let _nodes = nodes.len();
+    let place = from + opener.item;
     let depth = nodes.depth_behind(place);
     if depth >= limit {
         return Err(InlineFault::InlinesTooDeep);

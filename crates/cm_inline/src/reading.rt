@@ -30,6 +30,7 @@ use crate::tokens::Token;
 use cm_text::{Rules, next_markup};
 use cm_tree::{Block, Definitions, Inline, Items};
 use std::alloc::{AllocError, Global};
+use std::fmt;
 
 /// How many openers the pairing of delimiter runs has looked at: one or more for each emphasis, strong emphasis and
 /// strikethrough that it made, and at most 14 for each character of the runs, or 15 with strikethrough on.
@@ -140,6 +141,13 @@ fn read_nodes(
 pub struct InlineReader {
     reader: Reader,
     spare: Spare,
+}
+
+/// Its name alone: what it holds between leaves is memory.
+impl fmt::Debug for InlineReader {
+    fn fmt<W: fmt::Write>(&self, f: &mut fmt::Formatter<W>) -> fmt::Result {
+        f.write_str("InlineReader")
+    }
 }
 
 impl InlineReader {

@@ -20,6 +20,7 @@ use crate::source::Source;
 use cm_text::{NoMemory, Rules};
 use cm_tree::Block;
 use std::alloc::Global;
+use std::fmt;
 
 /// The source that is spelled for blocks, whether they can be spelled or not.
 fn spelling(alloc: Global, blocks: &[Block]) -> Result<String, NoMemory>
@@ -66,6 +67,13 @@ pub struct Speller {
     source: Source,
     /// What the next block sees of the last one.
     before: Option<Face>,
+}
+
+/// Its name alone.
+impl fmt::Debug for Speller {
+    fn fmt<W: fmt::Write>(&self, f: &mut fmt::Formatter<W>) -> fmt::Result {
+        f.write_str("Speller")
+    }
 }
 
 impl Speller {

@@ -25,7 +25,7 @@ use std::marker::Model;
 ///
 /// After a fault each further `push` and `end` answers that fault, and the lines that ended before
 /// its place can still be taken; after `TextFault::NoMemory`, a beginning of those that have ended.
-#[derive(Drop)]
+#[derive(Debug, Drop)]
 pub struct LineFeed {
     alloc: Global,
     limits: Limits,

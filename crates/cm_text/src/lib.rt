@@ -40,6 +40,6 @@ pub use references::{Chars, reference_at};
 pub use rules::Rules;
 pub use search::{ByteKind, next_markup, next_of};
 pub use texts::text_of;
-pub use unescaping::unescape;
+pub use unescaping::{unescape, unescape_or_lend};
 pub use view::View;
 pub use writing::{WriteFailed, write_all};

@@ -21,7 +21,7 @@ use std::marker::Model;
 ///
 /// After a fault each further `push` and `end` answers that fault, and the lines that ended before
 /// its place can still be seen; after `TextFault::NoMemory`, a beginning of those that have ended.
-#[derive(Drop)]
+#[derive(Debug, Drop)]
 pub struct LineBuffer {
     limits: Limits,
     /// How many bytes have been read as text, and those after them, of which no character is whole yet.

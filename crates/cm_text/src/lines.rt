@@ -5,7 +5,7 @@ ghost use Rattle.cm_text.specs.LineText.{is_line, tabs};
 /// A line, or what is left of it once the markers of containers have been taken from its front.
 ///
 /// Its text has no line feed and no carriage return.
-#[derive(Debug, Drop)]
+#[derive(Debug, Drop, PartialEq, Eq)]
 pub struct Line {
     /// How many columns stand before the text.
     pub column: usize,

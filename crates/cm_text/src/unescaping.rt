@@ -16,22 +16,12 @@ use std::borrow::CowStr;
 /// strings are (CommonMark 0.31.2, 2.4 Backslash escapes and 2.5 Entity and numeric character references).
 ///
 /// From the left, a backslash before ASCII punctuation gives that character, and a reference gives its
-/// characters; all else stays. A text without a backslash or an ampersand is lent as it is.
+/// characters; all else stays.
 ///
 /// # Errors
 ///
 /// `NoMemory` where a request for memory was refused.
-pub fn unescape(alloc: Global, text: &str) -> Result<CowStr<'_, Global>, NoMemory>
-    ensures { IfOk result (λ unescaped. cow_str_bytes unescaped ≡ unescape text.now) }
-{
-    match memchr2(b'\\', b'&', text.as_bytes()) {
-        Some(_) => Ok(CowStr::Owned(resolve(alloc, text)?)),
-        None => Ok(CowStr::Borrowed(text)),
-    }
-}
-
-/// The same, in memory of its own.
-fn resolve(alloc: Global, text: &str) -> Result<String, AllocError>
+pub fn unescape(alloc: Global, text: &str) -> Result<String, NoMemory>
     ensures { IfOk result (λ unescaped. string_bytes unescaped ≡ unescape text.now) }
 {
     // No escape or reference gives more bytes than it takes.
@@ -44,6 +34,20 @@ fn resolve(alloc: Global, text: &str) -> Result<String, AllocError>
     }
     unescaped.push_str(rest)?;
     Ok(unescaped)
+}
+
+/// The same, but a text without a backslash or an ampersand is lent as it is.
+///
+/// # Errors
+///
+/// `NoMemory` where a request for memory was refused.
+pub fn unescape_or_lend(alloc: Global, text: &str) -> Result<CowStr<'_, Global>, NoMemory>
+    ensures { IfOk result (λ unescaped. cow_str_bytes unescaped ≡ unescape text.now) }
+{
+    match memchr2(b'\\', b'&', text.as_bytes()) {
+        Some(_) => Ok(CowStr::Owned(unescape(alloc, text)?)),
+        None => Ok(CowStr::Borrowed(text)),
+    }
 }
 
 /// Writes what the escape or the reference at the front gives, or the one byte there, and answers how many bytes were read.

@@ -11,7 +11,7 @@ use memchr::memchr;
 use std::alloc::Global;
 
 /// The text that has come and hasn't been taken.
-#[derive(Drop)]
+#[derive(Debug, Drop)]
 pub(crate) struct Unread {
     pub(crate) alloc: Global,
     /// Of the text so many bytes have been passed, and so many behind them are the first line.

@@ -6,7 +6,7 @@ ghost use Rattle.cm_text.specs.LineText.{is_line, tabs};
 /// tab left in front, and the rest of its text.
 ///
 /// Its text has no line feed and no carriage return.
-#[derive(Clone, Copy, Debug)]
+#[derive(Clone, Copy, Debug, PartialEq, Eq)]
 pub struct View<'a> {
     /// How many columns stand before the line.
     pub column: usize,

@@ -3,9 +3,11 @@ ghost use Rattle.std.specs.Prelude.{◌≡◌, ℕ, ◌+◌, ◌-◌, ◌^◌, �
 ghost use Rattle.cm_text.specs.Writing.{Wrote, WroteFront};
 
 use crate::device::Sink;
+use thiserror::Error;
 
 /// A sink failed, or took no byte of a nonempty piece, after it had taken so many bytes.
-#[derive(Clone, Copy, Debug, PartialEq, Eq, Drop)]
+#[derive(Clone, Copy, Debug, PartialEq, Eq, Drop, Error)]
+#[error("write failed after {written} bytes")]
 pub struct WriteFailed {
     pub written: usize,
 }

@@ -1,12 +1,14 @@
--- How the faults of a text, of its lines and of a writing are told.
+-- How the faults of a text, of its lines, of a spelling and of a writing are told.
 use Rattle.cm_text.specs.declared.fault.TextFault.{TextFault}
 use Rattle.cm_text.specs.declared.fault.TextFault.TheVariants as text
 use Rattle.cm_block.specs.declared.fault.BlockFault.{BlockFault}
 use Rattle.cm_block.specs.declared.fault.BlockFault.TheVariants as blocks
 use Rattle.cm_html.specs.declared.fault.HtmlFault.{HtmlFault}
 use Rattle.cm_html.specs.declared.fault.HtmlFault.TheVariants as html
+use Rattle.cm_source.specs.declared.fault.SourceFault.{SourceFault}
+use Rattle.cm_source.specs.declared.fault.SourceFault.TheVariants as source
 use Rattle.cm_tool.specs.declared.fault.Fault.{Fault}
-use Rattle.cm_tool.specs.declared.fault.Fault.TheVariants.{NotUtf8, TooLong, BlocksTooDeep, NoMemory, WriteFailed}
+use Rattle.cm_tool.specs.declared.fault.Fault.TheVariants.{NotUtf8, TooLong, BlocksTooDeep, NoMemory, Unspellable, WriteFailed}
 
 -- a text's fault, as the fault of the task that reads it
 abbrev pub told : TextFault → Fault
@@ -23,3 +25,8 @@ refused blocks.NoMemory = NoMemory
 abbrev pub unwritten : HtmlFault → Fault
 unwritten html.NoMemory = NoMemory
 unwritten (html.WriteFailed written) = WriteFailed written
+
+-- why no source is spelled, as the fault of the task that rewrites a text
+abbrev pub unspelled : SourceFault → Fault
+unspelled source.NoMemory = NoMemory
+unspelled (source.Unspellable why) = Unspellable why

@@ -14,7 +14,7 @@ use cm_text::{Limits, Rules};
 use std::alloc::{AllocError, Global};
 
 /// An example whose output isn't the HTML that it wants.
-#[derive(Debug, Drop)]
+#[derive(Debug, PartialEq, Eq, Drop)]
 pub struct Difference {
     /// Its number in the file, counted from 1.
     pub number: usize,
@@ -25,7 +25,7 @@ pub struct Difference {
 }
 
 /// What comes of the examples of a file.
-#[derive(Debug, Drop)]
+#[derive(Debug, PartialEq, Eq, Drop)]
 pub struct Report {
     /// How many examples there are.
     pub total: usize,

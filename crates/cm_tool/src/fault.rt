@@ -3,7 +3,7 @@ ghost use Rattle.std.specs.Prelude.{◌≡◌};
 
 use cm_block::BlockFault;
 use cm_html::HtmlFault;
-use cm_source::Why;
+use cm_source::{SourceFault, Why};
 use cm_text::{NoMemory, TextFault, WriteFailed};
 use std::alloc::AllocError;
 use thiserror::Error;
@@ -117,6 +117,20 @@ impl From<HtmlFault> for Fault {
         match fault {
             HtmlFault::NoMemory => Fault::NoMemory,
             HtmlFault::WriteFailed { written } => Fault::WriteFailed { written },
+        }
+    }
+}
+
+impl From<SourceFault> for Fault {
+    ghost use Rattle.std.specs.Prelude.{◌≡◌};
+    ghost use Rattle.cm_tool.specs.Fault.{unspelled};
+
+    ghost from_gives = { λ fault e. e ≡ unspelled fault };
+
+    fn from(fault: SourceFault) -> Fault {
+        match fault {
+            SourceFault::NoMemory => Fault::NoMemory,
+            SourceFault::Unspellable { why } => Fault::Unspellable { why },
         }
     }
 }

@@ -34,7 +34,7 @@ pub(crate) const PART: usize = 8192;
 ///
 /// Hand over the bytes by `feed`, in whatever pieces they come, and tell by `finish` that they are all.
 /// After a fault each further call answers that fault.
-#[derive(Drop)]
+#[derive(Debug, Drop)]
 pub struct Parser {
     alloc: Global,
     feed: LineBuffer,

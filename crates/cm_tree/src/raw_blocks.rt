@@ -10,7 +10,7 @@ use std::marker::Model;
 
 /// A block whose inlines haven't been read. Its texts lie from one place to the next among the texts of [`RawBlocks`], and the blocks and
 /// items in it from one place to the next among the blocks and items there.
-#[derive(Clone, Copy, Debug)]
+#[derive(Clone, Copy, Debug, PartialEq, Eq)]
 pub enum RawBlock {
     /// A paragraph, and where its source lies.
     Paragraph {
@@ -58,7 +58,7 @@ pub enum RawBlock {
 }
 
 /// A list item, and where its blocks lie.
-#[derive(Clone, Copy, Debug)]
+#[derive(Clone, Copy, Debug, PartialEq, Eq)]
 pub struct RawItem {
     /// The place of the first.
     pub from: usize,

@@ -5,7 +5,7 @@ ghost use Rattle.cm_tree.specs.TargetPlaces.{target_in, places_behind, GoesOn, I
 use std::alloc::AllocError;
 
 /// Where a destination, and a title behind it, lie in a text that holds many.
-#[derive(Clone, Copy, Debug)]
+#[derive(Clone, Copy, Debug, PartialEq, Eq)]
 pub struct TargetPlaces {
     /// Where the destination begins.
     pub dest: usize,

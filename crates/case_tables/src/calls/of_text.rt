@@ -7,7 +7,7 @@ use crate::trouble::{Trouble, wrong};
 use crate::words::{Word, number};
 use cm_text::{
     Limits, Line, LineFeed, Rules, View, cut_at, fold_label, indent, is_ascii_punct, is_punct,
-    is_punct_by, is_space, next_markup, reference_at, strip, unescape,
+    is_punct_by, is_space, next_markup, reference_at, strip, unescape, unescape_or_lend,
 };
 use std::alloc::Global;
 
@@ -155,6 +155,7 @@ fn of_one_text(answer: &mut Answer, name: &str, text: &str) -> Result<bool, Trou
     match name {
         "fold_label" => answer.text(fold_label(alloc, text)?.as_str())?,
         "unescape" => answer.text(unescape(alloc, text)?.as_str())?,
+        "unescape_or_lend" => answer.text(unescape_or_lend(alloc, text)?.as_str())?,
         "is_ascii_punct" => characters(answer, text, &Kind::AsciiPunctuation)?,
         "is_punct" => characters(answer, text, &Kind::Punctuation)?,
         "is_space" => characters(answer, text, &Kind::Space)?,

@@ -6,7 +6,7 @@ use std::io::Read;
 
 /// A reader of std as a source: every error of the reader is a failure. The bytes still to
 /// come are those that the reader tells; a file or a terminal leaves them open.
-#[derive(Drop)]
+#[derive(Debug, Drop)]
 pub struct FromRead<R> {
     reader: R,
     failures: u64,

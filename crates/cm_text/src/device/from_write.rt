@@ -7,7 +7,7 @@ use std::io::Write;
 /// A writer of std as a sink: every error of the writer is a failure, and so is a write that takes
 /// nothing of a nonempty piece. The bytes taken are those that the writer tells; a file or a terminal
 /// leaves them open.
-#[derive(Drop)]
+#[derive(Debug, Drop)]
 pub struct FromWrite<W> {
     writer: W,
     failures: u64,

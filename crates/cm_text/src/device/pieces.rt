@@ -8,7 +8,7 @@ use crate::device::{DeviceFailed, Source};
 
 /// A source in memory, for tests: pieces, of which empty ones are passed over, and then the end or a
 /// failure. No read gives bytes of two pieces.
-#[derive(Drop)]
+#[derive(Debug, Drop)]
 pub struct Pieces {
     pieces: Vec<Vec<u8>>,
     /// The piece that is read, and how much of it has been read.

@@ -7,7 +7,7 @@ use crate::device::{DeviceFailed, NoMemory, Sink};
 use std::alloc::Global;
 
 /// A sink in memory, for tests: it takes so many bytes, at most so many a call, and then fails.
-#[derive(Drop)]
+#[derive(Debug, Drop)]
 pub struct Room {
     bytes: Vec<u8>,
     capacity: usize,

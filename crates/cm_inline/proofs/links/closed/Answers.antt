@@ -18,9 +18,9 @@ returns-clause-ends c =
     let source = c.args.source.now in
     let gap = gap-of source c.as_bytes.result.now c.args.at c.after_gap-end.result c.as_bytes.ensures.value c.after_gap-end.ensures.skipped in
     let next = next-of 41 source c.as_bytes-2.result.now c.after_gap-end.result c.is_next.result c.as_bytes-2.ensures.value c.is_next.ensures in
-    let dest : cow_str_bytes c.in_ok-unescape.field-0 ≡ unescape c.args.dest.now = c.in_ok-unescape.ensures in
-    let title : cow_str_bytes c.in_ok-unescape-2.field-0 ≡ unescape c.args.title.now = c.in_ok-unescape-2.ensures in
-    ap (λ d. Some (record { dest = d; title = cow_str_bytes c.in_ok-unescape-2.field-0; rest = drop (c.after_gap-end.result + 1) source })) dest
+    let dest : cow_str_bytes c.in_ok-unescape_or_lend.field-0 ≡ unescape c.args.dest.now = c.in_ok-unescape_or_lend.ensures in
+    let title : cow_str_bytes c.in_ok-unescape_or_lend-2.field-0 ≡ unescape c.args.title.now = c.in_ok-unescape_or_lend-2.ensures in
+    ap (λ d. Some (record { dest = d; title = cow_str_bytes c.in_ok-unescape_or_lend-2.field-0; rest = drop (c.after_gap-end.result + 1) source })) dest
     ∙ ap (λ t. Some (record { dest = unescape c.args.dest.now; title = t; rest = drop (c.after_gap-end.result + 1) source })) title
     ∙ sym (is-closed c.args.dest.now c.args.title.now source c.args.at c.after_gap-end.result gap (sym next ∙ c.if-not-is_next.false))
 

@@ -10,11 +10,11 @@ use Rattle.cm_inline.proofs.pairing.make_pair.Goals as goal
 pub returns-then-depth-limit-clause-deep : goal.returns-then-depth-limit-clause-deep
 returns-then-depth-limit-clause-deep c = λ _.
     let nodes = nodes_in c.args.nodes.now in
-    omega (arith, c.if-depth-limit.true, c.depth_behind-depth.ensures, ap nodes_depth (ap (λ n. drop (suc n) nodes) c.in-Some.ensures.1 ∙ behind-both c.args.from c.args.opener.item nodes))
+    omega (arith, c.if-depth-limit.true, c.depth_behind-depth.ensures, ap nodes_depth (behind-both c.args.from c.args.opener.item nodes))
 
 -- the nodes at the end
 all-is : (c : goal.After-without) → nodes_in c.wrap.new.self ≡ pair_nodes (c.args.from + c.args.opener.item) (nodes_in c.args.nodes.now) c.without-left.result c.emphasised-making.result.kind (target_of c.emphasised-making.result) (c.depth_behind-depth.result + 1)
-all-is c = c.in_ok-wrap.ensures.nodes ∙ ap (λ n. pair_nodes n (nodes_in c.args.nodes.now) c.without-left.result c.emphasised-making.result.kind (target_of c.emphasised-making.result) (c.depth_behind-depth.result + 1)) c.in-Some.ensures.1
+all-is c = c.in_ok-wrap.ensures.nodes
 
 left-is : (c : goal.After-without) → rest_of c.without-left.result ≡ without (used (run_of c.args.opener.run) (run_of c.args.closer)) (run_of c.args.opener.run)
 left-is c = c.without-left.ensures.rest ∙ ap (λ n. without n (run_of c.args.opener.run)) c.used-count.ensures.used
@@ -29,13 +29,13 @@ returns-clause-stays c =
     let nodes = nodes_in c.args.nodes.now in
     let more = nodes_in c.wrap.new.self in
     let place = c.args.from + c.args.opener.item in
-    let depth : c.depth_behind-depth.result ≡ nodes_depth (drop (suc place) nodes) = c.depth_behind-depth.ensures ∙ ap (λ n. nodes_depth (drop (suc n) nodes)) c.in-Some.ensures.1 in
+    let depth : c.depth_behind-depth.result ≡ nodes_depth (drop (suc place) nodes) = c.depth_behind-depth.ensures in
     record {
       front = pair-front nodes more c.args.from c.args.opener.item c.without-left.result c.emphasised-making.result.kind (target_of c.emphasised-making.result) (c.depth_behind-depth.result + 1) c.requires.within (all-is c);
       long = pair-long nodes more c.args.from c.args.opener.item c.without-left.result c.emphasised-making.result.kind (target_of c.emphasised-making.result) (c.depth_behind-depth.result + 1) c.requires.within (all-is c);
       parts = λ source parts.
           pair-parts source nodes more place (byte_of c.args.closer.marker) c.used-count.result c.without-left.result c.emphasised-making.result.kind (target_of c.emphasised-making.result) c.depth_behind-depth.result c.emphasised-making.ensures depth (all-is c) parts;
-      placed = λ source parts inside. placed-inside source c.args.nodes.now c.wrap.new.self c.in-Some.place c.in_ok-wrap.ensures.inside parts inside;
+      placed = λ source parts inside. placed-inside source c.args.nodes.now c.wrap.new.self place c.in_ok-wrap.ensures.inside parts inside;
     }
 
 pub returns-clause-spends : goal.returns-clause-spends

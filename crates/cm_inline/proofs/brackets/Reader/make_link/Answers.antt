@@ -1,4 +1,4 @@
-use Rattle.std.proofs.Common.{suc, drop, sym, ap, subst, arith}
+use Rattle.std.proofs.Common.{suc, drop, sym, ap, subst, arith, ◌+◌, refl}
 use Rattle.std.specs.Prelude.{Err}
 use Rattle.std.specs.Cow.{cow_str_bytes}
 use Rattle.cm_inline.specs.declared.fault.InlineFault.TheVariants.{InlinesTooDeep}
@@ -10,22 +10,28 @@ use Rattle.cm_inline.proofs.DeeperLemmas.{same-fault}
 use Rattle.cm_inline.proofs.ReaderLemmas.{IsLink, makes, link-items, read-linked, read-other, link-deeper, paired-depth, paired-deeper, inside-pays, inside-looks, made-keeps}
 use Rattle.cm_inline.proofs.brackets.Reader.make_link.Goals as goal
 
+pub overflow_add-first : goal.overflow_add-first
+overflow_add-first c =
+    let nodes = nodes_in c.args.self.now.nodes in
+    let others = c.args.self.now.brackets.items in
+    omega (arith, c.len-nodes.ensures, split-within nodes others c.args.bracket (split-last 0 nodes others c.args.bracket c.requires.read.0.unclosed))
+
 pub pair_from-requires-clause-long : goal.pair_from-requires-clause-long
 pair_from-requires-clause-long c =
     let nodes = nodes_in c.args.self.now.nodes in
     let others = c.args.self.now.brackets.items in
-    omega (arith, c.in-Some.ensures.1, split-within nodes others c.args.bracket (split-last 0 nodes others c.args.bracket c.requires.read.0.unclosed))
+    omega (arith, split-within nodes others c.args.bracket (split-last 0 nodes others c.args.bracket c.requires.read.0.unclosed))
 
 pub pair_from-requires-clause-few : goal.pair_from-requires-clause-few
 pair_from-requires-clause-few c = λ source.
     let nodes = nodes_in c.args.self.now.nodes in
     let others = c.args.self.now.brackets.items in
-    omega (arith, c.requires.few, inside-pays 13 c.args.source.now source nodes others c.args.bracket c.in-Some.first (split-last 0 nodes others c.args.bracket c.requires.read.0.unclosed) c.in-Some.ensures.1)
+    omega (arith, c.requires.few, inside-pays 13 c.args.source.now source nodes others c.args.bracket (c.args.bracket.node + 1) (split-last 0 nodes others c.args.bracket c.requires.read.0.unclosed) refl)
 
 pub returns-in_err-pair_from-clause-deep : goal.returns-in_err-pair_from-clause-deep
 returns-in_err-pair_from-clause-deep c = λ e.
     let told = same-fault c.from_residual.result c.in_err-pair_from.field-0.0 InlinesTooDeep c.from_residual.ensures.1 e in
-    paired-deeper c.args.source.now (nodes_in c.args.self.now.nodes) c.args.bracket (cow_str_bytes c.args.end.now.dest) (cow_str_bytes c.args.end.now.title) c.args.limit c.in-Some.first c.in-Some.ensures.1
+    paired-deeper c.args.source.now (nodes_in c.args.self.now.nodes) c.args.bracket (cow_str_bytes c.args.end.now.dest) (cow_str_bytes c.args.end.now.title) c.args.limit (c.args.bracket.node + 1) refl
     (c.in_err-pair_from.ensures.deep (ap Err told) c.args.source.now c.requires.read.0.parts)
 
 pub returns-then-depth-limit-clause-deep : goal.returns-then-depth-limit-clause-deep
@@ -34,7 +40,7 @@ returns-then-depth-limit-clause-deep c = λ _.
     let nodes = nodes_in c.args.self.now.nodes in
     let paired = nodes_in c.pair_from.new.nodes in
     let parts = c.in_ok-pair_from.ensures.stays.parts source c.requires.read.0.parts in
-    let depth = paired-depth source nodes paired c.args.bracket c.in-Some.first c.in-Some.ensures.1 parts (c.in_ok-pair_from.ensures.pairs source) in
+    let depth = paired-depth source nodes paired c.args.bracket (c.args.bracket.node + 1) refl parts (c.in_ok-pair_from.ensures.pairs source) in
     link-deeper source nodes c.args.bracket (cow_str_bytes c.args.end.now.dest) (cow_str_bytes c.args.end.now.title) c.args.limit (omega (arith, c.if-depth-limit.true, c.depth_behind-depth.ensures, depth))
 
 -- the node of a link
@@ -43,8 +49,8 @@ then-is : (c : goal.After-self-1) → IsLink c.args.source.now (nodes_in c.args.
 then-is c =
     let source = c.args.source.now in
     let parts = c.in_ok-pair_from.ensures.stays.parts source c.requires.read.0.parts in
-    makes source (nodes_in c.args.self.now.nodes) (nodes_in c.pair_from.new.nodes) (nodes_in c.wrap.new.self) c.args.bracket (cow_str_bytes c.args.end.now.dest) (cow_str_bytes c.args.end.now.title) c.making_of-making.result.kind (target_of c.making_of-making.result) c.in-Some.first c.depth_behind-depth.result
-    c.holds_link-holds_link.result c.args.self.now.links_end c.in-Some.ensures.1 parts c.in_ok-pair_from.ensures.stays.front (c.in_ok-pair_from.ensures.pairs source) c.depth_behind-depth.ensures c.making_of-making.ensures
+    makes source (nodes_in c.args.self.now.nodes) (nodes_in c.pair_from.new.nodes) (nodes_in c.wrap.new.self) c.args.bracket (cow_str_bytes c.args.end.now.dest) (cow_str_bytes c.args.end.now.title) c.making_of-making.result.kind (target_of c.making_of-making.result) (c.args.bracket.node + 1) c.depth_behind-depth.result
+    c.holds_link-holds_link.result c.args.self.now.links_end refl parts c.in_ok-pair_from.ensures.stays.front (c.in_ok-pair_from.ensures.pairs source) c.depth_behind-depth.ensures c.making_of-making.ensures
     c.in_ok-wrap.ensures.nodes c.holds_link-holds_link.ensures
 
 pub returns-then-holds_link-clause-items : goal.returns-then-holds_link-clause-items
@@ -73,7 +79,7 @@ returns-then-holds_link-clause-keeps c =
     let now = c.args.self.now in
     made-keeps source (nodes_in now.nodes) (nodes_in c.wrap.new.self) now.brackets.items c.args.bracket (cow_str_bytes c.args.end.now.dest) (cow_str_bytes c.args.end.now.title) now.openers.list.looks c.pair_from.new.openers.list.looks
     (split-last 0 (nodes_in now.nodes) now.brackets.items c.args.bracket c.requires.read.0.unclosed) (returns-then-holds_link-clause-items c)
-    (inside-looks source (nodes_in now.nodes) c.args.bracket c.in-Some.first now.openers.list.looks c.pair_from.new.openers.list.looks c.in-Some.ensures.1 (c.in_ok-pair_from.ensures.looks source))
+    (inside-looks source (nodes_in now.nodes) c.args.bracket (c.args.bracket.node + 1) now.openers.list.looks c.pair_from.new.openers.list.looks refl (c.in_ok-pair_from.ensures.looks source))
 
 -- the node of an image that holds no link
 else-is : (c : goal.Else-holds_link) → IsLink c.args.source.now (nodes_in c.args.self.now.nodes) (nodes_in c.wrap.new.self) c.args.bracket (cow_str_bytes c.args.end.now.dest) (cow_str_bytes c.args.end.now.title)
@@ -81,8 +87,8 @@ else-is : (c : goal.Else-holds_link) → IsLink c.args.source.now (nodes_in c.ar
 else-is c =
     let source = c.args.source.now in
     let parts = c.in_ok-pair_from.ensures.stays.parts source c.requires.read.0.parts in
-    makes source (nodes_in c.args.self.now.nodes) (nodes_in c.pair_from.new.nodes) (nodes_in c.wrap.new.self) c.args.bracket (cow_str_bytes c.args.end.now.dest) (cow_str_bytes c.args.end.now.title) c.making_of-making.result.kind (target_of c.making_of-making.result) c.in-Some.first c.depth_behind-depth.result
-    c.holds_link-holds_link.result c.args.self.now.links_end c.in-Some.ensures.1 parts c.in_ok-pair_from.ensures.stays.front (c.in_ok-pair_from.ensures.pairs source) c.depth_behind-depth.ensures c.making_of-making.ensures
+    makes source (nodes_in c.args.self.now.nodes) (nodes_in c.pair_from.new.nodes) (nodes_in c.wrap.new.self) c.args.bracket (cow_str_bytes c.args.end.now.dest) (cow_str_bytes c.args.end.now.title) c.making_of-making.result.kind (target_of c.making_of-making.result) (c.args.bracket.node + 1) c.depth_behind-depth.result
+    c.holds_link-holds_link.result c.args.self.now.links_end refl parts c.in_ok-pair_from.ensures.stays.front (c.in_ok-pair_from.ensures.pairs source) c.depth_behind-depth.ensures c.making_of-making.ensures
     c.in_ok-wrap.ensures.nodes c.holds_link-holds_link.ensures
 
 pub returns-else-holds_link-clause-items : goal.returns-else-holds_link-clause-items
@@ -109,4 +115,4 @@ returns-else-holds_link-clause-keeps c =
     let now = c.args.self.now in
     made-keeps source (nodes_in now.nodes) (nodes_in c.wrap.new.self) now.brackets.items c.args.bracket (cow_str_bytes c.args.end.now.dest) (cow_str_bytes c.args.end.now.title) now.openers.list.looks c.pair_from.new.openers.list.looks
     (split-last 0 (nodes_in now.nodes) now.brackets.items c.args.bracket c.requires.read.0.unclosed) (returns-else-holds_link-clause-items c)
-    (inside-looks source (nodes_in now.nodes) c.args.bracket c.in-Some.first now.openers.list.looks c.pair_from.new.openers.list.looks c.in-Some.ensures.1 (c.in_ok-pair_from.ensures.looks source))
+    (inside-looks source (nodes_in now.nodes) c.args.bracket (c.args.bracket.node + 1) now.openers.list.looks c.pair_from.new.openers.list.looks refl (c.in_ok-pair_from.ensures.looks source))

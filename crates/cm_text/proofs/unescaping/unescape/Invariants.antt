@@ -2,7 +2,7 @@ use Rattle.std.proofs.Common.{◌≡◌, ◌++◌, length, string_bytes}
 use denote.Text.{Utf8}
 use denote.Shadow.{shadow}
 use Rattle.cm_text.specs.Unescaping.{unescape}
-use Rattle.cm_text.proofs.unescaping.resolve.Given as goal
+use Rattle.cm_text.proofs.unescaping.unescape.Given as goal
 
 -- what was made, and what the rest gives, come to the whole
 abbrev pub invariant-loop-at : goal.invariant-loop-at
