@@ -119,27 +119,33 @@ abbrev pub all_alone : List Written → List ℕ
 all_alone [] = []
 all_alone (w ∷ ws) = alone w ++ all_alone ws
 
-abbrev pub line_feed : Bool → List ℕ
-line_feed true = codes "\n"
-line_feed false = []
+-- the blocks of an item without its definitions
+abbrev pub shown : List Written → List Written
+shown [] = []
+shown (Nothing ∷ ws) = shown ws
+shown (w ∷ ws) = w ∷ shown ws
 
--- the blocks of an item of a tight list; the mark says that a block which is no paragraph begins on a new line
-abbrev pub tight_inside : Bool → List Written → List ℕ
-tight_inside fresh [] = []
-tight_inside fresh (Nothing ∷ ws) = tight_inside fresh ws
-tight_inside fresh (Inlines html ∷ ws) = html ++ tight_inside true ws
-tight_inside fresh (Whole html ∷ ws) = line_feed fresh ++ html ++ tight_inside false ws
+-- what stands before these blocks of an item of a tight list, where they are its first or come directly after a paragraph: a line feed, if a
+-- block other than a paragraph is next
+abbrev pub line_feed_before : List Written → List ℕ
+line_feed_before (Whole html ∷ ws) = codes "\n"
+line_feed_before _ = []
 
--- the blocks of an item of a loose list; the mark says that none was written yet
-abbrev pub loose_inside : Bool → List Written → List ℕ
-loose_inside first [] = []
-loose_inside first (Nothing ∷ ws) = loose_inside first ws
-loose_inside first (Inlines html ∷ ws) = line_feed first ++ paragraph_html html ++ loose_inside false ws
-loose_inside first (Whole html ∷ ws) = line_feed first ++ html ++ loose_inside false ws
+-- the blocks of an item of a tight list, one after another: a paragraph is written as its inlines alone
+abbrev pub tight_blocks : List Written → List ℕ
+tight_blocks [] = []
+tight_blocks (Inlines html ∷ ws) = html ++ line_feed_before ws ++ tight_blocks ws
+tight_blocks (w ∷ ws) = alone w ++ tight_blocks ws
 
-abbrev pub inside : Bool → List Written → List ℕ
-inside true ws = tight_inside true ws
-inside false ws = loose_inside true ws
+-- the blocks of an item of a loose list: a line feed stands before the first, and all are written as anywhere
+abbrev pub loose_blocks : List Written → List ℕ
+loose_blocks [] = []
+loose_blocks (w ∷ ws) = codes "\n" ++ all_alone (w ∷ ws)
+
+-- inside of an item: its blocks in order, definitions left aside
+abbrev pub inside : (tight : Bool) → List Written → List ℕ
+inside true ws = line_feed_before (shown ws) ++ tight_blocks (shown ws)
+inside false ws = loose_blocks (shown ws)
 
 abbrev pub item_html : Bool → List Written → List ℕ
 item_html tight item = codes "<li>" ++ inside tight item ++ codes "</li>\n"

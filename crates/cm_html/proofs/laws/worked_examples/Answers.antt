@@ -61,6 +61,7 @@ containers = record {
   tight_item = simp (fold_out-Block Written block_step, outs-List, outs-Paragraph, outs-Code, fold_out-Inline Spelled inline_step, text);
   first_is_whole = simp (fold_out-Block Written block_step, outs-List, outs-Break);
   only_a_definition = simp (fold_out-Block Written block_step, outs-List, outs-Definition);
+  definition_between = simp (fold_out-Block Written block_step, outs-List, outs-Definition, outs-Paragraph, outs-Break, fold_out-Inline Spelled inline_step, text);
   definition_in_front = simp (fold_out-Block Written block_step, outs-List, outs-Definition, outs-Paragraph, fold_out-Inline Spelled inline_step, text);
   loose = simp (fold_out-Block Written block_step, outs-List, outs-Paragraph, fold_out-Inline Spelled inline_step, text);
   quote_in_item = simp (fold_out-Block Written block_step, outs-List, outs-Quote, outs-Paragraph, fold_out-Inline Spelled inline_step, text);
