@@ -12,16 +12,16 @@ use Rattle.cm_tree.specs.declared.tree.ListKind.TheVariants.{Dash, Plus, Star, D
 use Rattle.cm_html.specs.Escape.{escape, destination_html, class_word}
 
 -- what an inline writes: its HTML, and its part of an image's alternative text
-pub record Spelled : Type 0 where
+pub record Rendered : Type 0 where
   pub html : List ℕ
   pub plain : List ℕ
 
 -- inlines, one after another
-abbrev pub join_html : List Spelled → List ℕ
+abbrev pub join_html : List Rendered → List ℕ
 join_html [] = []
 join_html (inline ∷ inlines) = inline.html ++ join_html inlines
 
-abbrev pub join_plain : List Spelled → List ℕ
+abbrev pub join_plain : List Rendered → List ℕ
 join_plain [] = []
 join_plain (inline ∷ inlines) = inline.plain ++ join_plain inlines
 
@@ -59,7 +59,7 @@ abbrev pub image_html : List ℕ → List ℕ → List ℕ → List ℕ
 image_html dest title plain = image_start dest ++ escape plain ++ codes "\"" ++ title_html title ++ codes " />"
 
 -- one inline, with what each inline of its content writes in its place
-abbrev pub inline_step : Inline-F Spelled → Spelled
+abbrev pub inline_step : Inline-F Rendered → Rendered
 inline_step (inline.Text text) = record { html = escape text; plain = text }
 inline_step (inline.Code text) = record { html = code_span_html text; plain = text }
 inline_step (inline.Html text) = record { html = text; plain = text }
@@ -71,11 +71,11 @@ inline_step (inline.Strike content) = record { html = strike_html (join_html con
 inline_step (inline.Link dest title content) = record { html = link_html dest title (join_html content); plain = join_plain content }
 inline_step (inline.Image dest title content) = record { html = image_html dest title (join_plain content); plain = join_plain content }
 
-abbrev pub spelled : Inline → Spelled
-spelled = fold-Inline Spelled inline_step
+abbrev pub rendered : Inline → Rendered
+rendered = fold-Inline Rendered inline_step
 
 abbrev pub inlines_html : List Inline → List ℕ
-inlines_html inlines = join_html (map spelled inlines)
+inlines_html inlines = join_html (map rendered inlines)
 
 abbrev pub paragraph_html : List ℕ → List ℕ
 paragraph_html html = codes "<p>" ++ html ++ codes "</p>\n"

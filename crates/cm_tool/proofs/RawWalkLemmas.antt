@@ -12,7 +12,7 @@ use Rattle.cm_tree.specs.declared.tree.Block.{Block}
 use Rattle.cm_tree.specs.declared.tree.Block.TheFolds.{fold_out-Block}
 use Rattle.cm_tree.specs.declared.tree.Block.TheVariants.{Paragraph, Heading, Code, Html, Break, Definition, Quote, List as ListBlock, outs-Paragraph, outs-Heading, outs-Code, outs-Html, outs-Break, outs-Definition, outs-Quote, outs-List}
 use Rattle.cm_tree.specs.declared.tree.ListKind.{ListKind}
-use Rattle.cm_html.specs.Html.{Spelled, inline_step, spelled, Written, block_step, written, alone, html_of, inlines_html, heading_html, code_html, quote_html, list_start, list_end, items_html}
+use Rattle.cm_html.specs.Html.{Rendered, inline_step, rendered, Written, block_step, written, alone, html_of, inlines_html, heading_html, code_html, quote_html, list_start, list_end, items_html}
 use Rattle.cm_html.specs.Html.Written.{Nothing, Inlines, Whole}
 use Rattle.cm_html.specs.steps.ItemPass.{line_feed, inside_from}
 use Rattle.cm_html.specs.Escape.{escape}
@@ -250,7 +250,7 @@ whole_inside false fresh w others part old new is more =
 
 -- one text
 pub text_html : (source : List ℕ) → inlines_html (Text source ∷ []) ≡ escape source
-text_html source = append-nil (spelled (Text source)).html ∙ simp (fold_out-Inline Spelled inline_step, outs-Text)
+text_html source = append-nil (rendered (Text source)).html ∙ simp (fold_out-Inline Rendered inline_step, outs-Text)
 
 pub text_depth : (source : List ℕ) → inlines_depth (Text source ∷ []) ≡ 0
 text_depth source = simp (fold_out-Inline ℕ depth_step, outs-Text)
