@@ -13,7 +13,7 @@ use Rattle.cm_tool.specs.Leaves.{leaf_depths}
 use Rattle.cm_tree.specs.RawBlocks.{block_in, blocks_in, items_in, ArePlaced, AreItems}
 use Rattle.cm_tool.specs.steps.Items.{items_read, items_leaf_depths}
 use Rattle.cm_tool.proofs.RawWalkLemmas.{Left}
-use Rattle.cm_tool.proofs.raw_html.+raw.Given as goal
+use Rattle.cm_tool.proofs.outline_html.+raw.Given as goal
 
 -- What stands in a quote or an item nests less deep than the quote or the list.
 abbrev pub decreases-push_items : goal.decreases-push_items
