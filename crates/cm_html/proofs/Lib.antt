@@ -2,6 +2,7 @@ pub mod Pushed
 pub mod ListingLemmas
 pub mod EscapeLemmas
 pub mod Words
+pub mod ItemLemmas
 pub mod Destinations
 pub mod MarkupSteps
 pub mod MarkupTexts

@@ -4,6 +4,7 @@ use Rattle.std.specs.Prelude.{if◌then◌else◌, nat_le}
 use Rattle.std.specs.List.{list_all}
 use Rattle.std.specs.Char.{is_ascii_digit}
 use Rattle.std.specs.Fmt.{decimal, digits, digits_onto, digit_glyph}
+use Rattle.std.proofs.lemmas.List.{append_assoc}
 use Rattle.std.proofs.lemmas.Bool.{and_parts, or_parts, false≢true, leb-true, agree_below_at}
 use Rattle.cm_tree.specs.declared.tree.Block.{Block, Block-F, map-Block}
 use Rattle.cm_tree.specs.declared.tree.Block.TheOpen as block
@@ -12,7 +13,7 @@ use Rattle.cm_tree.specs.declared.tree.Block.TheFolds.{fold-roll-Block, ind-Bloc
 use Rattle.cm_tree.specs.declared.tree.ListKind.{ListKind}
 use Rattle.cm_tree.specs.declared.tree.ListKind.TheVariants.{Dash, Plus, Star, Dot, Paren}
 use Rattle.cm_html.specs.Escape.{escape, class_word}
-use Rattle.cm_html.specs.Html.{inlines_html, Written, block_step, written, alone, all_alone, line_feed, tight_inside, loose_inside, inside, item_html, items_html, paragraph_html, heading_html, code_html, code_start, quote_html, ordered_start, list_start, list_end, html_of}
+use Rattle.cm_html.specs.Html.{inlines_html, Written, block_step, written, alone, all_alone, shown, line_feed_before, tight_blocks, loose_blocks, inside, item_html, items_html, paragraph_html, heading_html, code_html, code_start, quote_html, ordered_start, list_start, list_end, html_of}
 use Rattle.cm_html.specs.Html.Written.{Nothing, Inlines, Whole}
 use Rattle.cm_tree.specs.HeadingLevels.{is_level, all_of, all_of_items, level_step, has_levels, have_levels}
 use Rattle.cm_html.specs.Markup.Place.{InText, InValue}
@@ -185,39 +186,45 @@ all_alone_balanced [] (t ∷ ts) have = absurd have
 all_alone_balanced (w ∷ ws) [] have = absurd have
 all_alone_balanced (w ∷ ws) (t ∷ ts) have = append_balanced (t false) (join_blocks false ts) (alone w) (all_alone ws) (alone_balanced w t have.0) (all_alone_balanced ws ts have.1)
 
--- on a new line or not
-fresh_balanced : (fresh : Bool) (html : List ℕ) (tags : Tags) → Balanced html tags → Balanced (line_feed fresh ++ html) tags
-fresh_balanced true html tags balanced = append_balanced [] tags (codes "\n") html (λ names rest. refl) balanced
-fresh_balanced false html tags balanced = balanced
+feed_balanced : (ws : List Written) → Balanced (line_feed_before ws) []
+feed_balanced [] = empty_balanced
+feed_balanced (Nothing ∷ ws) = empty_balanced
+feed_balanced (Inlines html ∷ ws) = empty_balanced
+feed_balanced (Whole html ∷ ws) = λ names rest. refl
 
-tight_balanced : (fresh : Bool) (ws : List Written) (ts : List (Bool → Tags)) → HaveTags ws ts → Balanced (tight_inside fresh ws) (join_blocks true ts)
-tight_balanced fresh [] [] have = empty_balanced
-tight_balanced fresh [] (t ∷ ts) have = absurd have
-tight_balanced fresh (w ∷ ws) [] have = absurd have
-tight_balanced fresh (Nothing ∷ ws) (t ∷ ts) have =
-    subst (λ tags. Balanced (tight_inside fresh ws) (tags ++ join_blocks true ts)) (sym (have.0 true)) (tight_balanced fresh ws ts have.1)
-tight_balanced fresh (Inlines html ∷ ws) (t ∷ ts) have =
-    append_balanced (t true) (join_blocks true ts) html (tight_inside true ws) have.0.0 (tight_balanced true ws ts have.1)
-tight_balanced fresh (Whole html ∷ ws) (t ∷ ts) have =
-    append_balanced (t true) (join_blocks true ts) (line_feed fresh ++ html) (tight_inside false ws)
-    (fresh_balanced fresh html (t true) (have.0 true)) (tight_balanced false ws ts have.1)
+tight_balanced : (ws : List Written) (ts : List (Bool → Tags)) → HaveTags ws ts → Balanced (tight_blocks (shown ws)) (join_blocks true ts)
+tight_balanced [] [] have = empty_balanced
+tight_balanced [] (t ∷ ts) have = absurd have
+tight_balanced (w ∷ ws) [] have = absurd have
+tight_balanced (Nothing ∷ ws) (t ∷ ts) have =
+    subst (λ tags. Balanced (tight_blocks (shown ws)) (tags ++ join_blocks true ts)) (sym (have.0 true)) (tight_balanced ws ts have.1)
+tight_balanced (Inlines html ∷ ws) (t ∷ ts) have =
+    let left : List Written = shown ws in
+    subst (λ bytes. Balanced bytes (t true ++ join_blocks true ts)) (sym (append_assoc html (line_feed_before left) (tight_blocks left)))
+    (append_balanced (t true) (join_blocks true ts) html (line_feed_before left ++ tight_blocks left) have.0.0
+    (append_balanced [] (join_blocks true ts) (line_feed_before left) (tight_blocks left) (feed_balanced left) (tight_balanced ws ts have.1)))
+tight_balanced (Whole html ∷ ws) (t ∷ ts) have =
+    append_balanced (t true) (join_blocks true ts) html (tight_blocks (shown ws)) (have.0 true) (tight_balanced ws ts have.1)
 
-loose_balanced : (first : Bool) (ws : List Written) (ts : List (Bool → Tags)) → HaveTags ws ts → Balanced (loose_inside first ws) (join_blocks false ts)
-loose_balanced first [] [] have = empty_balanced
-loose_balanced first [] (t ∷ ts) have = absurd have
-loose_balanced first (w ∷ ws) [] have = absurd have
-loose_balanced first (Nothing ∷ ws) (t ∷ ts) have =
-    subst (λ tags. Balanced (loose_inside first ws) (tags ++ join_blocks false ts)) (sym (have.0 false)) (loose_balanced first ws ts have.1)
-loose_balanced first (Inlines html ∷ ws) (t ∷ ts) have =
-    append_balanced (t false) (join_blocks false ts) (line_feed first ++ paragraph_html html) (loose_inside false ws)
-    (fresh_balanced first (paragraph_html html) (t false) (alone_balanced (Inlines html) t have.0)) (loose_balanced false ws ts have.1)
-loose_balanced first (Whole html ∷ ws) (t ∷ ts) have =
-    append_balanced (t false) (join_blocks false ts) (line_feed first ++ html) (loose_inside false ws)
-    (fresh_balanced first html (t false) (have.0 false)) (loose_balanced false ws ts have.1)
+shown_balanced : (ws : List Written) (ts : List (Bool → Tags)) → HaveTags ws ts → Balanced (all_alone (shown ws)) (join_blocks false ts)
+shown_balanced [] [] have = empty_balanced
+shown_balanced [] (t ∷ ts) have = absurd have
+shown_balanced (w ∷ ws) [] have = absurd have
+shown_balanced (Nothing ∷ ws) (t ∷ ts) have =
+    subst (λ tags. Balanced (all_alone (shown ws)) (tags ++ join_blocks false ts)) (sym (have.0 false)) (shown_balanced ws ts have.1)
+shown_balanced (Inlines html ∷ ws) (t ∷ ts) have =
+    append_balanced (t false) (join_blocks false ts) (paragraph_html html) (all_alone (shown ws)) (alone_balanced (Inlines html) t have.0) (shown_balanced ws ts have.1)
+shown_balanced (Whole html ∷ ws) (t ∷ ts) have =
+    append_balanced (t false) (join_blocks false ts) html (all_alone (shown ws)) (have.0 false) (shown_balanced ws ts have.1)
+
+loose_balanced : (ws : List Written) (tags : Tags) → Balanced (all_alone ws) tags → Balanced (loose_blocks ws) tags
+loose_balanced [] tags balanced = balanced
+loose_balanced (w ∷ ws) tags balanced = append_balanced [] tags (codes "\n") (all_alone (w ∷ ws)) (λ names rest. refl) balanced
 
 inside_balanced : (tight : Bool) (ws : List Written) (ts : List (Bool → Tags)) → HaveTags ws ts → Balanced (inside tight ws) (join_blocks tight ts)
-inside_balanced true ws ts have = tight_balanced true ws ts have
-inside_balanced false ws ts have = loose_balanced true ws ts have
+inside_balanced true ws ts have =
+    append_balanced [] (join_blocks true ts) (line_feed_before (shown ws)) (tight_blocks (shown ws)) (feed_balanced (shown ws)) (tight_balanced ws ts have)
+inside_balanced false ws ts have = loose_balanced (shown ws) (join_blocks false ts) (shown_balanced ws ts have)
 
 items_balanced : (tight : Bool) (items : List (List Written)) (ts : List (List (Bool → Tags))) → ItemsHaveTags items ts → Balanced (items_html tight items) (join_items tight ts)
 items_balanced tight [] [] have = empty_balanced

@@ -6,7 +6,7 @@ use Rattle.cm_tree.specs.declared.tree.Inline.TheOpen as inline
 use Rattle.cm_tree.specs.declared.tree.Inline.TheViews.{roll-Inline}
 use Rattle.cm_tree.specs.declared.tree.Inline.TheFolds.{fold-roll-Inline, ind-Inline}
 use Rattle.cm_html.specs.Escape.{escape, destination_html}
-use Rattle.cm_html.specs.Html.{Spelled, inline_step, spelled, join_html, join_plain, inlines_html, title_html, link_start, image_start, image_html}
+use Rattle.cm_html.specs.Html.{Rendered, inline_step, rendered, join_html, join_plain, inlines_html, title_html, link_start, image_start, image_html}
 use Rattle.cm_html.specs.Markup.Place.{InText, InTag, InValue}
 use Rattle.cm_html.specs.Markup.{Place, is_text, may_be_value}
 use Rattle.cm_tree.specs.RawHtml.{any_of, raw_inline_step, inline_has_raw, inlines_have_raw}
@@ -82,7 +82,7 @@ image_balanced dest title plain names =
 -- ---- the tree
 
 abbrev HasItsTags : Inline → Type 0
-HasItsTags i = inline_has_raw i ≡ false → Balanced (spelled i).html (tags_of_inline i)
+HasItsTags i = inline_has_raw i ≡ false → Balanced (rendered i).html (tags_of_inline i)
 
 -- inlines, each with its proof
 abbrev Proved : Type 0
@@ -92,24 +92,24 @@ abbrev inlines_in : List Proved → List Inline
 inlines_in proved = map (λ e. e.0) proved
 
 content_balanced : (es : List Proved) → any_of (map inline_has_raw (inlines_in es)) ≡ false
-    → Balanced (join_html (map spelled (inlines_in es))) (join_tags (map tags_of_inline (inlines_in es)))
+    → Balanced (join_html (map rendered (inlines_in es))) (join_tags (map tags_of_inline (inlines_in es)))
 content_balanced [] free = empty_balanced
 content_balanced (e ∷ es) free =
     let parts = or_parts (inline_has_raw e.0) (any_of (map inline_has_raw (inlines_in es))) free in
-    append_balanced (tags_of_inline e.0) (join_tags (map tags_of_inline (inlines_in es))) (spelled e.0).html (join_html (map spelled (inlines_in es)))
+    append_balanced (tags_of_inline e.0) (join_tags (map tags_of_inline (inlines_in es))) (rendered e.0).html (join_html (map rendered (inlines_in es)))
     (e.1 parts.0) (content_balanced es parts.1)
 
 -- an element round a content
 round_content : (name tag end start close : List ℕ) (es : List Proved) → any_of (map inline_has_raw (inlines_in es)) ≡ false
     → ((names : List (List ℕ)) → Goes (InText names) start (tag ∷ []) (InText (name ∷ names)))
     → ((names : List (List ℕ)) → Goes (InText (name ∷ names)) close (end ∷ []) (InText names))
-    → Balanced (start ++ join_html (map spelled (inlines_in es)) ++ close) (element tag (join_tags (map tags_of_inline (inlines_in es))) end)
+    → Balanced (start ++ join_html (map rendered (inlines_in es)) ++ close) (element tag (join_tags (map tags_of_inline (inlines_in es))) end)
 round_content name tag end start close es free opens closes =
-    element_balanced name tag end start (join_html (map spelled (inlines_in es))) close (join_tags (map tags_of_inline (inlines_in es))) opens (content_balanced es free) closes
+    element_balanced name tag end start (join_html (map rendered (inlines_in es))) close (join_tags (map tags_of_inline (inlines_in es))) opens (content_balanced es free) closes
 
 -- one inline, from the inlines of its content
 layer : (y : Inline-F Proved) → raw_inline_step (map-Inline Inline Bool inline_has_raw (map-Inline Proved Inline (λ e. e.0) y)) ≡ false
-    → Balanced (inline_step (map-Inline Inline Spelled spelled (map-Inline Proved Inline (λ e. e.0) y))).html
+    → Balanced (inline_step (map-Inline Inline Rendered rendered (map-Inline Proved Inline (λ e. e.0) y))).html
     (inline_tags (map-Inline Inline Tags tags_of_inline (map-Inline Proved Inline (λ e. e.0) y)))
 layer (inline.Text text) free = escaped text
 layer (inline.Code text) free = element_balanced (codes "code") (codes "code") (codes "/code") (codes "<code>") (escape text) (codes "</code>") [] (λ names rest. refl) (escaped text) (λ names rest. refl)
@@ -120,14 +120,14 @@ layer (inline.Emph es) free = round_content (codes "em") (codes "em") (codes "/e
 layer (inline.Strong es) free = round_content (codes "strong") (codes "strong") (codes "/strong") (codes "<strong>") (codes "</strong>") es free (λ names rest. refl) (λ names rest. refl)
 layer (inline.Strike es) free = round_content (codes "del") (codes "del") (codes "/del") (codes "<del>") (codes "</del>") es free (λ names rest. refl) (λ names rest. refl)
 layer (inline.Link dest title es) free = round_content (codes "a") (link_tag title) (codes "/a") (link_start dest title) (codes "</a>") es free (link_opens dest title) (λ names rest. refl)
-layer (inline.Image dest title es) free = image_balanced dest title (join_plain (map spelled (inlines_in es)))
+layer (inline.Image dest title es) free = image_balanced dest title (join_plain (map rendered (inlines_in es)))
 
 rolled : (x : Inline-F Inline)
-    → (raw_inline_step (map-Inline Inline Bool inline_has_raw x) ≡ false → Balanced (inline_step (map-Inline Inline Spelled spelled x)).html (inline_tags (map-Inline Inline Tags tags_of_inline x)))
+    → (raw_inline_step (map-Inline Inline Bool inline_has_raw x) ≡ false → Balanced (inline_step (map-Inline Inline Rendered rendered x)).html (inline_tags (map-Inline Inline Tags tags_of_inline x)))
     → HasItsTags (roll-Inline x)
 rolled x of_layer free =
-    subst (λ s. Balanced s.html (tags_of_inline (roll-Inline x))) (sym (fold-roll-Inline Spelled inline_step x))
-    (subst (λ tags. Balanced (inline_step (map-Inline Inline Spelled spelled x)).html tags) (sym (fold-roll-Inline Tags inline_tags x))
+    subst (λ s. Balanced s.html (tags_of_inline (roll-Inline x))) (sym (fold-roll-Inline Rendered inline_step x))
+    (subst (λ tags. Balanced (inline_step (map-Inline Inline Rendered rendered x)).html tags) (sym (fold-roll-Inline Tags inline_tags x))
     (of_layer (sym (fold-roll-Inline Bool raw_inline_step x) ∙ free)))
 
 inline_balanced : (i : Inline) → HasItsTags i
@@ -137,4 +137,4 @@ pub inlines_balanced : (inlines : List Inline) → inlines_have_raw inlines ≡ 
 inlines_balanced [] free = empty_balanced
 inlines_balanced (i ∷ is) free =
     let parts = or_parts (inline_has_raw i) (inlines_have_raw is) free in
-    append_balanced (tags_of_inline i) (tags_of_inlines is) (spelled i).html (inlines_html is) (inline_balanced i parts.0) (inlines_balanced is parts.1)
+    append_balanced (tags_of_inline i) (tags_of_inlines is) (rendered i).html (inlines_html is) (inline_balanced i parts.0) (inlines_balanced is parts.1)

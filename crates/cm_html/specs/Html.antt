@@ -12,16 +12,16 @@ use Rattle.cm_tree.specs.declared.tree.ListKind.TheVariants.{Dash, Plus, Star, D
 use Rattle.cm_html.specs.Escape.{escape, destination_html, class_word}
 
 -- what an inline writes: its HTML, and its part of an image's alternative text
-pub record Spelled : Type 0 where
+pub record Rendered : Type 0 where
   pub html : List ℕ
   pub plain : List ℕ
 
 -- inlines, one after another
-abbrev pub join_html : List Spelled → List ℕ
+abbrev pub join_html : List Rendered → List ℕ
 join_html [] = []
 join_html (inline ∷ inlines) = inline.html ++ join_html inlines
 
-abbrev pub join_plain : List Spelled → List ℕ
+abbrev pub join_plain : List Rendered → List ℕ
 join_plain [] = []
 join_plain (inline ∷ inlines) = inline.plain ++ join_plain inlines
 
@@ -59,7 +59,7 @@ abbrev pub image_html : List ℕ → List ℕ → List ℕ → List ℕ
 image_html dest title plain = image_start dest ++ escape plain ++ codes "\"" ++ title_html title ++ codes " />"
 
 -- one inline, with what each inline of its content writes in its place
-abbrev pub inline_step : Inline-F Spelled → Spelled
+abbrev pub inline_step : Inline-F Rendered → Rendered
 inline_step (inline.Text text) = record { html = escape text; plain = text }
 inline_step (inline.Code text) = record { html = code_span_html text; plain = text }
 inline_step (inline.Html text) = record { html = text; plain = text }
@@ -71,11 +71,11 @@ inline_step (inline.Strike content) = record { html = strike_html (join_html con
 inline_step (inline.Link dest title content) = record { html = link_html dest title (join_html content); plain = join_plain content }
 inline_step (inline.Image dest title content) = record { html = image_html dest title (join_plain content); plain = join_plain content }
 
-abbrev pub spelled : Inline → Spelled
-spelled = fold-Inline Spelled inline_step
+abbrev pub rendered : Inline → Rendered
+rendered = fold-Inline Rendered inline_step
 
 abbrev pub inlines_html : List Inline → List ℕ
-inlines_html inlines = join_html (map spelled inlines)
+inlines_html inlines = join_html (map rendered inlines)
 
 abbrev pub paragraph_html : List ℕ → List ℕ
 paragraph_html html = codes "<p>" ++ html ++ codes "</p>\n"
@@ -119,27 +119,33 @@ abbrev pub all_alone : List Written → List ℕ
 all_alone [] = []
 all_alone (w ∷ ws) = alone w ++ all_alone ws
 
-abbrev pub line_feed : Bool → List ℕ
-line_feed true = codes "\n"
-line_feed false = []
+-- the blocks of an item without its definitions
+abbrev pub shown : List Written → List Written
+shown [] = []
+shown (Nothing ∷ ws) = shown ws
+shown (w ∷ ws) = w ∷ shown ws
 
--- the blocks of an item of a tight list; the mark says that a block which is no paragraph begins on a new line
-abbrev pub tight_inside : Bool → List Written → List ℕ
-tight_inside fresh [] = []
-tight_inside fresh (Nothing ∷ ws) = tight_inside fresh ws
-tight_inside fresh (Inlines html ∷ ws) = html ++ tight_inside true ws
-tight_inside fresh (Whole html ∷ ws) = line_feed fresh ++ html ++ tight_inside false ws
+-- what stands before these blocks of an item of a tight list, where they are its first or come directly after a paragraph: a line feed, if a
+-- block other than a paragraph is next
+abbrev pub line_feed_before : List Written → List ℕ
+line_feed_before (Whole html ∷ ws) = codes "\n"
+line_feed_before _ = []
 
--- the blocks of an item of a loose list; the mark says that none was written yet
-abbrev pub loose_inside : Bool → List Written → List ℕ
-loose_inside first [] = []
-loose_inside first (Nothing ∷ ws) = loose_inside first ws
-loose_inside first (Inlines html ∷ ws) = line_feed first ++ paragraph_html html ++ loose_inside false ws
-loose_inside first (Whole html ∷ ws) = line_feed first ++ html ++ loose_inside false ws
+-- the blocks of an item of a tight list, one after another: a paragraph is written as its inlines alone
+abbrev pub tight_blocks : List Written → List ℕ
+tight_blocks [] = []
+tight_blocks (Inlines html ∷ ws) = html ++ line_feed_before ws ++ tight_blocks ws
+tight_blocks (w ∷ ws) = alone w ++ tight_blocks ws
 
-abbrev pub inside : Bool → List Written → List ℕ
-inside true ws = tight_inside true ws
-inside false ws = loose_inside true ws
+-- the blocks of an item of a loose list: a line feed stands before the first, and all are written as anywhere
+abbrev pub loose_blocks : List Written → List ℕ
+loose_blocks [] = []
+loose_blocks (w ∷ ws) = codes "\n" ++ all_alone (w ∷ ws)
+
+-- inside of an item: its blocks in order, definitions left aside
+abbrev pub inside : (tight : Bool) → List Written → List ℕ
+inside true ws = line_feed_before (shown ws) ++ tight_blocks (shown ws)
+inside false ws = loose_blocks (shown ws)
 
 abbrev pub item_html : Bool → List Written → List ℕ
 item_html tight item = codes "<li>" ++ inside tight item ++ codes "</li>\n"

@@ -50,6 +50,7 @@ pub record ContainerExamples : Type 0 where
   pub tight_item : html_of (ListBlock Dash true ((Paragraph (word (codes "a")) ∷ Code [] (codes "b\n") ∷ Paragraph (word (codes "c")) ∷ []) ∷ []) ∷ []) ≡ codes "<ul>\n<li>a\n<pre><code>b\n</code></pre>\nc</li>\n</ul>\n"
   pub first_is_whole : html_of (ListBlock Dash true ((Break ∷ Break ∷ []) ∷ []) ∷ []) ≡ codes "<ul>\n<li>\n<hr />\n<hr />\n</li>\n</ul>\n"
   pub only_a_definition : html_of (ListBlock Dash true ((Definition (codes "a") (codes "/u") [] ∷ []) ∷ []) ∷ []) ≡ codes "<ul>\n<li></li>\n</ul>\n"
+  pub definition_between : html_of (ListBlock Dash true ((Paragraph (word (codes "a")) ∷ Definition (codes "b") (codes "/u") [] ∷ Break ∷ Paragraph (word (codes "c")) ∷ []) ∷ []) ∷ []) ≡ codes "<ul>\n<li>a\n<hr />\nc</li>\n</ul>\n"
   pub definition_in_front : html_of (ListBlock Dash false ((Definition (codes "a") (codes "/u") [] ∷ Paragraph (word (codes "b")) ∷ []) ∷ []) ∷ []) ≡ codes "<ul>\n<li>\n<p>b</p>\n</li>\n</ul>\n"
   pub loose : html_of (ListBlock Star false ((Paragraph (word (codes "a")) ∷ Paragraph (word (codes "b")) ∷ []) ∷ [] ∷ []) ∷ []) ≡ codes "<ul>\n<li>\n<p>a</p>\n<p>b</p>\n</li>\n<li></li>\n</ul>\n"
   pub quote_in_item : html_of (ListBlock Star true ((Paragraph (word (codes "a")) ∷ Quote (Paragraph (word (codes "b")) ∷ []) ∷ []) ∷ (Paragraph (word (codes "c")) ∷ []) ∷ []) ∷ []) ≡ codes "<ul>\n<li>a\n<blockquote>\n<p>b</p>\n</blockquote>\n</li>\n<li>c</li>\n</ul>\n"

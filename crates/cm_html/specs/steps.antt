@@ -1,3 +1,4 @@
 pub mod AlternativeText
 pub mod Bytes
 pub mod Emitting
+pub mod ItemPass

@@ -1,6 +1,6 @@
 //! The HTML of blocks.
-ghost use Rattle.std.specs.Prelude.{◌≡◌, ◌++◌, true, map, string_bytes, OnOk};
-ghost use Rattle.cm_html.specs.Html.{list_start, list_end, ordered_start, inlines_html, written, alone, html_of, paragraph_html, heading_start, heading_end, heading_html, class_start, code_start, code_html, quote_html, item_html, tight_inside, loose_inside};
+ghost use Rattle.std.specs.Prelude.{◌≡◌, ◌++◌, true, false, map, string_bytes, OnOk};
+ghost use Rattle.cm_html.specs.Html.{list_start, list_end, ordered_start, inlines_html, written, alone, html_of, paragraph_html, heading_start, heading_end, heading_html, class_start, code_start, code_html, quote_html, item_html, inside};
 
 use crate::escape::{class_word, push_escaped};
 use crate::inlines::push_inlines;
@@ -140,7 +140,7 @@ fn push_item(out: &mut String, tight: bool, blocks: &[Block]) -> Result<(), Allo
 /// Writes the blocks of an item of a tight list.
 #[cycle(blocks)]
 fn push_tight(out: &mut String, blocks: &[Block]) -> Result<(), AllocError>
-    ensures { OnOk result (string_bytes out.new ≡ string_bytes out.old ++ tight_inside true (map written blocks.now)) }
+    ensures { OnOk result (string_bytes out.new ≡ string_bytes out.old ++ inside true (map written blocks.now)) }
 {
     let mut fresh = true;
     for block in blocks {
@@ -165,7 +165,7 @@ fn push_tight(out: &mut String, blocks: &[Block]) -> Result<(), AllocError>
 /// Writes the blocks of an item of a loose list.
 #[cycle(blocks)]
 fn push_loose(out: &mut String, blocks: &[Block]) -> Result<(), AllocError>
-    ensures { OnOk result (string_bytes out.new ≡ string_bytes out.old ++ loose_inside true (map written blocks.now)) }
+    ensures { OnOk result (string_bytes out.new ≡ string_bytes out.old ++ inside false (map written blocks.now)) }
 {
     let mut first = true;
     for block in blocks {

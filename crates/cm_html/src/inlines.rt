@@ -1,7 +1,7 @@
 //! The HTML of inlines.
 ghost use Rattle.std.specs.Prelude.{◌≡◌, ◌++◌, string_bytes, OnOk};
 ghost use Rattle.cm_html.specs.Escape.{escape};
-ghost use Rattle.cm_html.specs.Html.{Spelled, spelled, inlines_html, code_span_html, between, title_html, link_start, link_html, image_start, image_html};
+ghost use Rattle.cm_html.specs.Html.{Rendered, rendered, inlines_html, code_span_html, between, title_html, link_start, link_html, image_start, image_html};
 ghost use Rattle.cm_html.specs.steps.AlternativeText.{alternative_text};
 
 use crate::escape::{push_destination, push_escaped};
@@ -26,7 +26,7 @@ pub(crate) fn push_inlines(out: &mut String, inlines: &[Inline]) -> Result<(), A
 /// `AllocError` where a request for memory was refused; a beginning of the HTML may stand behind the string then.
 #[cycle(inlines)]
 pub fn push_inline(out: &mut String, inline: &Inline) -> Result<(), AllocError>
-    ensures { OnOk result (string_bytes out.new ≡ string_bytes out.old ++ (spelled inline.now).html) }
+    ensures { OnOk result (string_bytes out.new ≡ string_bytes out.old ++ (rendered inline.now).html) }
 {
     match inline {
         Inline::Text(text) => push_escaped(out, text.as_str()),
@@ -154,7 +154,7 @@ fn push_alternative_text(out: &mut String, content: &[Inline]) -> Result<(), All
 /// Writes an inline's part of an alternative text.
 #[cycle(alternative_text)]
 fn push_plain(out: &mut String, inline: &Inline) -> Result<(), AllocError>
-    ensures { OnOk result (string_bytes out.new ≡ string_bytes out.old ++ escape (spelled inline.now).plain) }
+    ensures { OnOk result (string_bytes out.new ≡ string_bytes out.old ++ escape (rendered inline.now).plain) }
 {
     match inline {
         Inline::Text(text) => push_escaped(out, text.as_str()),

@@ -12,7 +12,7 @@ use Rattle.cm_tree.specs.declared.tree.Inline.{Inline}
 use Rattle.cm_tree.specs.declared.tree.Inline.TheFolds.{fold_out-Inline}
 use Rattle.cm_tree.specs.declared.tree.Inline.TheVariants.{Text, Emph, Strong, Strike, Link, outs-Text, outs-Code, outs-Html, outs-Link, outs-Soft, outs-Hard, outs-Emph, outs-Strong, outs-Strike}
 use Rattle.cm_html.specs.Escape.{escape_byte, escape}
-use Rattle.cm_html.specs.Html.{Spelled, inline_step, inlines_html, spelled, link_html, emph_html, strong_html, strike_html}
+use Rattle.cm_html.specs.Html.{Rendered, inline_step, inlines_html, rendered, link_html, emph_html, strong_html, strike_html}
 use Rattle.cm_scan.specs.CodeSpans.{one_line}
 use Rattle.cm_scan.specs.Pairing.{bracket_text, text_before, settled_after, settled}
 use Rattle.cm_inline.specs.steps.Nodes.{Node, Piece, Characters, Whole, Finished, Run, Opener, items_of, node_html, nodes_html}
@@ -40,29 +40,29 @@ before-html : (text : List ℕ) (inlines : List Inline) → inlines_html (text_b
 before-html [] inlines = refl
 before-html (b ∷ bs) inlines = ap (λ html. html ++ inlines_html inlines) text-html
   where
-    text-html : (spelled (Text (b ∷ bs))).html ≡ escape (b ∷ bs)
-    text-html = simp (fold_out-Inline Spelled inline_step, outs-Text)
+    text-html : (rendered (Text (b ∷ bs))).html ≡ escape (b ∷ bs)
+    text-html = simp (fold_out-Inline Rendered inline_step, outs-Text)
 
 -- a text that is longer by what comes next
 longer : (before text rest : List ℕ) → escape (before ++ text) ++ rest ≡ escape before ++ (escape text ++ rest)
 longer before text rest = ap (λ t. t ++ rest) (flat_map-append escape_byte before text) ∙ append_assoc (escape before) (escape text) rest
 
 -- an inline that stands by itself in the source
-written-is : (source : List ℕ) (written : Written) → (spelled (inline_in source written)).html ≡ written_html source written
-written-is source (Code from to) = simp (fold_out-Inline Spelled inline_step, outs-Code)
-written-is source (Html from to) = simp (fold_out-Inline Spelled inline_step, outs-Html)
+written-is : (source : List ℕ) (written : Written) → (rendered (inline_in source written)).html ≡ written_html source written
+written-is source (Code from to) = simp (fold_out-Inline Rendered inline_step, outs-Code)
+written-is source (Html from to) = simp (fold_out-Inline Rendered inline_step, outs-Html)
 written-is source (Autolink from to is_address) = linked (if is_address then codes "mailto:" ++ slice_range source from to else slice_range source from to) (slice_range source from to)
   where
-    text-html : (text : List ℕ) → (spelled (Text text)).html ≡ escape text
-    text-html text = simp (fold_out-Inline Spelled inline_step, outs-Text)
+    text-html : (text : List ℕ) → (rendered (Text text)).html ≡ escape text
+    text-html text = simp (fold_out-Inline Rendered inline_step, outs-Text)
 
-    link-is : (dest text : List ℕ) → (spelled (Link dest [] (Text text ∷ []))).html ≡ link_html dest [] (inlines_html (Text text ∷ []))
-    link-is dest text = simp (fold_out-Inline Spelled inline_step, outs-Link)
+    link-is : (dest text : List ℕ) → (rendered (Link dest [] (Text text ∷ []))).html ≡ link_html dest [] (inlines_html (Text text ∷ []))
+    link-is dest text = simp (fold_out-Inline Rendered inline_step, outs-Link)
 
-    linked : (dest text : List ℕ) → (spelled (Link dest [] (Text text ∷ []))).html ≡ link_html dest [] (escape text)
-    linked dest text = link-is dest text ∙ ap (link_html dest []) (append-nil (spelled (Text text)).html ∙ text-html text)
-written-is source Soft = simp (fold_out-Inline Spelled inline_step, outs-Soft)
-written-is source Hard = simp (fold_out-Inline Spelled inline_step, outs-Hard)
+    linked : (dest text : List ℕ) → (rendered (Link dest [] (Text text ∷ []))).html ≡ link_html dest [] (escape text)
+    linked dest text = link-is dest text ∙ ap (link_html dest []) (append-nil (rendered (Text text)).html ∙ text-html text)
+written-is source Soft = simp (fold_out-Inline Rendered inline_step, outs-Soft)
+written-is source Hard = simp (fold_out-Inline Rendered inline_step, outs-Hard)
 
 settled-html-after : (source before : List ℕ) (nodes : List Node) → inlines_html (settled_after before (items_of source nodes)) ≡ escape before ++ nodes_html source nodes
 unfolding settled_after
@@ -83,14 +83,14 @@ settled-html-after source before (Opener false behind ∷ nodes) =
     settled-html-after source (before ++ bracket_text false) nodes ∙ longer before (bracket_text false) (nodes_html source nodes)
 settled-html-after source before (Whole written ∷ nodes) =
     before-html before (inline_in source written ∷ settled (items_of source nodes))
-    ∙ ap (λ t. escape before ++ ((spelled (inline_in source written)).html ++ t)) (settled-html-after source [] nodes)
+    ∙ ap (λ t. escape before ++ ((rendered (inline_in source written)).html ++ t)) (settled-html-after source [] nodes)
     ∙ ap (λ t. escape before ++ (t ++ nodes_html source nodes)) (written-is source written)
 settled-html-after source before (Finished inline depth false ∷ nodes) =
     before-html before (inline source ∷ settled (items_of source nodes))
-    ∙ ap (λ t. escape before ++ ((spelled (inline source)).html ++ t)) (settled-html-after source [] nodes)
+    ∙ ap (λ t. escape before ++ ((rendered (inline source)).html ++ t)) (settled-html-after source [] nodes)
 settled-html-after source before (Finished inline depth true ∷ nodes) =
     before-html before (inline source ∷ settled (items_of source nodes))
-    ∙ ap (λ t. escape before ++ ((spelled (inline source)).html ++ t)) (settled-html-after source [] nodes)
+    ∙ ap (λ t. escape before ++ ((rendered (inline source)).html ++ t)) (settled-html-after source [] nodes)
 
 -- the HTML of the inlines that come of nodes is that of the nodes, one after another
 pub settled-html : (source : List ℕ) (nodes : List Node) → inlines_html (settled (items_of source nodes)) ≡ nodes_html source nodes
@@ -98,20 +98,20 @@ settled-html source nodes = settled-html-after source [] nodes
 
 -- what is made of nodes, and its HTML between the tags of its kind
 
-emph-html : (content : List Inline) → (spelled (Emph content)).html ≡ emph_html (inlines_html content)
-emph-html content = simp (fold_out-Inline Spelled inline_step, outs-Emph)
+emph-html : (content : List Inline) → (rendered (Emph content)).html ≡ emph_html (inlines_html content)
+emph-html content = simp (fold_out-Inline Rendered inline_step, outs-Emph)
 
-strong-html : (content : List Inline) → (spelled (Strong content)).html ≡ strong_html (inlines_html content)
-strong-html content = simp (fold_out-Inline Spelled inline_step, outs-Strong)
+strong-html : (content : List Inline) → (rendered (Strong content)).html ≡ strong_html (inlines_html content)
+strong-html content = simp (fold_out-Inline Rendered inline_step, outs-Strong)
 
-strike-html : (content : List Inline) → (spelled (Strike content)).html ≡ strike_html (inlines_html content)
-strike-html content = simp (fold_out-Inline Spelled inline_step, outs-Strike)
+strike-html : (content : List Inline) → (rendered (Strike content)).html ≡ strike_html (inlines_html content)
+strike-html content = simp (fold_out-Inline Rendered inline_step, outs-Strike)
 
-linked-html : (dest title : List ℕ) (content : List Inline) → (spelled (Link dest title content)).html ≡ link_html dest title (inlines_html content)
-linked-html dest title content = simp (fold_out-Inline Spelled inline_step, outs-Link)
+linked-html : (dest title : List ℕ) (content : List Inline) → (rendered (Link dest title content)).html ≡ link_html dest title (inlines_html content)
+linked-html dest title content = simp (fold_out-Inline Rendered inline_step, outs-Link)
 
 made-html : (source : List ℕ) (kind : Kind) (target : Target) (nodes : List Node) → (kind ≡ kinds.Image → ⊥)
-    → (spelled (made_by kind target nodes source)).html ≡ (start_html kind target ++ nodes_html source nodes) ++ end_html kind
+    → (rendered (made_by kind target nodes source)).html ≡ (start_html kind target ++ nodes_html source nodes) ++ end_html kind
 made-html source kinds.Emph target nodes other = emph-html (settled (items_of source nodes)) ∙ ap emph_html (settled-html source nodes)
 made-html source kinds.Strong target nodes other = strong-html (settled (items_of source nodes)) ∙ ap strong_html (settled-html source nodes)
 made-html source kinds.Strike target nodes other = strike-html (settled (items_of source nodes)) ∙ ap strike_html (settled-html source nodes)
@@ -120,7 +120,7 @@ made-html source kinds.Image target nodes other = absurd (other refl)
 
 -- a group that was written: its start tag, its nodes, and its end tag
 pub group-html : (source old started noded : List ℕ) (kind : Kind) (target : Target) (nodes : List Node) (tag : List ℕ) → (kind ≡ kinds.Image → ⊥)
-    → started ≡ old ++ start_html kind target → noded ≡ started ++ nodes_html source nodes → tag ≡ end_html kind → noded ++ tag ≡ old ++ (spelled (made_by kind target nodes source)).html
+    → started ≡ old ++ start_html kind target → noded ≡ started ++ nodes_html source nodes → tag ≡ end_html kind → noded ++ tag ≡ old ++ (rendered (made_by kind target nodes source)).html
 group-html source old started noded kind target nodes tag other start more end =
     let html = nodes_html source nodes in
     ap (λ t. noded ++ t) end ∙ ap (λ t. t ++ end_html kind) (more ∙ ap (λ t. t ++ html) start ∙ append_assoc old (start_html kind target) html)

@@ -4,7 +4,7 @@ ghost use Rattle.std.specs.List.{slice_range};
 ghost use Rattle.std.specs.Str.{IsCharBoundary};
 ghost use Rattle.cm_text.specs.References.{chars_of};
 ghost use Rattle.cm_html.specs.Escape.{escape};
-ghost use Rattle.cm_html.specs.Html.{code_span_html, inlines_html, spelled};
+ghost use Rattle.cm_html.specs.Html.{code_span_html, inlines_html, rendered};
 ghost use Rattle.cm_scan.specs.CodeSpans.{one_line};
 ghost use Rattle.cm_scan.specs.Pairing.{settled};
 ghost use Rattle.cm_inline.specs.steps.Written.{autolink_html, written_html, IsBetween, IsWithin};
@@ -268,7 +268,7 @@ fn push_group(
     requires placed { ArePlaced source.now inside.now }
     requires groups { AreGroups inside.now 0 groups.now }
     requires group { IsGroup inside.now (length groups.now) (grouped group) }
-    ensures { OnOk result (string_bytes html.new ≡ string_bytes html.old ++ (spelled (group_made inside.now (groups_made inside.now groups.now) (grouped group.entry) source.now)).html) }
+    ensures { OnOk result (string_bytes html.new ≡ string_bytes html.old ++ (rendered (group_made inside.now (groups_made inside.now groups.now) (grouped group.entry) source.now)).html) }
 {
     if let Kind::Image = group.making.kind {
         let image = group_inline(spare, source, inside, groups, group)?;

@@ -12,8 +12,9 @@ use Rattle.cm_tree.specs.declared.tree.Block.{Block}
 use Rattle.cm_tree.specs.declared.tree.Block.TheFolds.{fold_out-Block}
 use Rattle.cm_tree.specs.declared.tree.Block.TheVariants.{Paragraph, Heading, Code, Html, Break, Definition, Quote, List as ListBlock, outs-Paragraph, outs-Heading, outs-Code, outs-Html, outs-Break, outs-Definition, outs-Quote, outs-List}
 use Rattle.cm_tree.specs.declared.tree.ListKind.{ListKind}
-use Rattle.cm_html.specs.Html.{Spelled, inline_step, spelled, Written, block_step, written, alone, html_of, inlines_html, heading_html, code_html, quote_html, inside, line_feed, list_start, list_end, items_html}
+use Rattle.cm_html.specs.Html.{Rendered, inline_step, rendered, Written, block_step, written, alone, html_of, inlines_html, heading_html, code_html, quote_html, list_start, list_end, items_html}
 use Rattle.cm_html.specs.Html.Written.{Nothing, Inlines, Whole}
+use Rattle.cm_html.specs.steps.ItemPass.{line_feed, inside_from}
 use Rattle.cm_html.specs.Escape.{escape}
 use Rattle.cm_scan.specs.Brackets.{Defined}
 use Rattle.cm_scan.specs.Inlines.{inlines_of, items_of, items_after}
@@ -28,7 +29,7 @@ use Rattle.cm_tree.specs.declared.raw_blocks.RawItem.{RawItem}
 use Rattle.cm_tree.specs.RawBlocks.{Raw, block_in, blocks_in, item_in, items_in}
 use Rattle.cm_tool.specs.Leaves.{depths_in, depths_step, first_past, leaf_depths}
 use Rattle.cm_tool.specs.Parsing.{TellsFault}
-use Rattle.cm_tool.specs.steps.Items.{items_read, items_leaf_depths, inside_from}
+use Rattle.cm_tool.specs.steps.Items.{items_read, items_leaf_depths}
 use Rattle.cm_tool.specs.steps.Numbering.{Passes, TellsLeaf}
 
 -- ---- parts one after another
@@ -219,10 +220,6 @@ module _ (rules : Rules) (defined : Defined) where
 
 -- ---- the blocks of an item
 
-pub inside_is : (tight : Bool) (ws : List Written) → inside_from tight true ws ≡ inside tight ws
-inside_is true ws = refl
-inside_is false ws = refl
-
 -- one that writes nothing, a paragraph of a tight list, a paragraph of a loose one, and another block
 pub nothing_inside : (tight fresh : Bool) (w : Written) (others : List Written) (html : List ℕ) → w ≡ Nothing
     → html ++ inside_from tight fresh others ≡ html ++ inside_from tight fresh (w ∷ others)
@@ -253,7 +250,7 @@ whole_inside false fresh w others part old new is more =
 
 -- one text
 pub text_html : (source : List ℕ) → inlines_html (Text source ∷ []) ≡ escape source
-text_html source = append-nil (spelled (Text source)).html ∙ simp (fold_out-Inline Spelled inline_step, outs-Text)
+text_html source = append-nil (rendered (Text source)).html ∙ simp (fold_out-Inline Rendered inline_step, outs-Text)
 
 pub text_depth : (source : List ℕ) → inlines_depth (Text source ∷ []) ≡ 0
 text_depth source = simp (fold_out-Inline ℕ depth_step, outs-Text)

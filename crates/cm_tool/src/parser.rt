@@ -18,7 +18,7 @@ ghost use Rattle.cm_tool.specs.steps.Sources.{Spelled};
 
 use crate::fault::Fault;
 use crate::leaves::read_leaves;
-use crate::raw_html::leaves_html;
+use crate::outline_html::leaves_html;
 use crate::sources::leaves_source;
 use cm_block::{BlockFault, BlockParser, Outline};
 use cm_source::Why;

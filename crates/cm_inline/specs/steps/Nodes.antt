@@ -7,7 +7,7 @@ use Rattle.cm_text.specs.declared.references.Chars.{Chars}
 use Rattle.cm_tree.specs.declared.tree.Inline.{Inline}
 use Rattle.cm_tree.specs.Depth.{depth_of, greatest}
 use Rattle.cm_html.specs.Escape.{escape}
-use Rattle.cm_html.specs.Html.{spelled}
+use Rattle.cm_html.specs.Html.{rendered}
 use Rattle.cm_scan.specs.Pairing as items
 use Rattle.cm_inline.specs.declared.runs.DelimiterRun.{DelimiterRun}
 use Rattle.cm_inline.specs.declared.written.Written.{Written}
@@ -100,7 +100,7 @@ abbrev pub node_html : List ℕ → Node → List ℕ
 node_html source (Piece from to) = escape (slice_range source from to)
 node_html source (Characters chars) = escape (encode_utf8_all (chars_of chars))
 node_html source (Whole written) = written_html source written
-node_html source (Finished inline depth holds_link) = (spelled (inline source)).html
+node_html source (Finished inline depth holds_link) = (rendered (inline source)).html
 node_html source (Run run) = replicate run.left (byte_of run.marker)
 node_html source (Opener image behind) = items.bracket_text image
 

@@ -1,8 +1,7 @@
--- Items while their leaves are read, and what is written of one.
-use Rattle.std.specs.Prelude.{ℕ, Bool, true, false, List, map}
+-- Items while their leaves are read.
+use Rattle.std.specs.Prelude.{ℕ, List, map}
 use Rattle.cm_text.specs.Rules.{Rules}
 use Rattle.cm_tree.specs.declared.tree.Block.{Block}
-use Rattle.cm_html.specs.Html.{Written, tight_inside, loose_inside}
 use Rattle.cm_scan.specs.Brackets.{Defined}
 use Rattle.cm_scan.specs.Documents.{with_inlines}
 use Rattle.cm_tool.specs.Leaves.{concat_items, depths_in}
@@ -14,8 +13,3 @@ items_read rules defined items = map (with_inlines rules defined) items
 -- how deep the inlines of each of their leaves nest
 abbrev pub items_leaf_depths : List (List Block) → List ℕ
 items_leaf_depths items = concat_items (map (map depths_in) items)
-
--- what the other blocks of an item of a tight or a loose list write; the mark says that the next one begins on a new line
-abbrev pub inside_from : (tight mark : Bool) → List Written → List ℕ
-inside_from true mark ws = tight_inside mark ws
-inside_from false mark ws = loose_inside mark ws

@@ -1,7 +1,19 @@
-use Rattle.std.proofs.Common.{codes}
+use Rattle.std.proofs.Common.{ap, codes, false, map, string_bytes, true}
+use Rattle.std.proofs.lemmas.List.{drop_all}
+use Rattle.cm_html.proofs.ItemLemmas.{inside_added}
 use Rattle.cm_html.proofs.Pushed.{enclosed}
-use Rattle.cm_html.specs.Html.{html_of}
+use Rattle.cm_html.specs.Html.{html_of, written}
 use Rattle.cm_html.proofs.blocks.+blocks.Goals as goal
 
 pub push_quote-returns : goal.push_quote-returns
 push_quote-returns t c = enclosed c.push_str-2.result _ (codes "<blockquote>\n") (html_of c.args.blocks.now) (codes "</blockquote>\n") _ _ _ c.in_ok-push_str.ensures.bytes c.in_ok-push_blocks.ensures c.push_str-2.ensures.bytes
+
+pub push_loose-returns : goal.push_loose-returns
+push_loose-returns t c =
+    inside_added false c.loop-block.first (map written c.args.blocks.now) _ (string_bytes c.args.out.now) (string_bytes c.loop-block.out)
+    (ap (map written) (drop_all c.loop-block.block-index c.args.blocks.now c.loop-block-test.false)) c.loop-block.invariant
+
+pub push_tight-returns : goal.push_tight-returns
+push_tight-returns t c =
+    inside_added true c.loop-block.fresh (map written c.args.blocks.now) _ (string_bytes c.args.out.now) (string_bytes c.loop-block.out)
+    (ap (map written) (drop_all c.loop-block.block-index c.args.blocks.now c.loop-block-test.false)) c.loop-block.invariant

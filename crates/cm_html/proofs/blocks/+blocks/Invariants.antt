@@ -1,5 +1,6 @@
 use Rattle.std.proofs.Common.{◌≡◌, ◌++◌, true, string_bytes, map, drop}
-use Rattle.cm_html.specs.Html.{html_of, written, alone, tight_inside, loose_inside, items_html, list_end}
+use Rattle.cm_html.specs.Html.{html_of, written, alone, items_html, list_end}
+use Rattle.cm_html.specs.steps.ItemPass.{tight_inside, loose_inside}
 use Rattle.cm_html.proofs.blocks.+blocks.Given as goal
 
 -- what was written and what is left are all

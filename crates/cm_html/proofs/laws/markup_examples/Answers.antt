@@ -7,7 +7,7 @@ use Rattle.cm_tree.specs.declared.tree.Block.TheVariants.{outs-Paragraph, outs-H
 use Rattle.cm_tree.specs.declared.tree.Block.{Block, map-Block, out-Block}
 use Rattle.cm_tree.specs.declared.tree.Block.TheFolds.{fold_out-Block}
 use Rattle.cm_html.specs.Escape.{is_kept, destination_byte, class_word}
-use Rattle.cm_html.specs.Html.{Spelled, inline_step, Written, block_step}
+use Rattle.cm_html.specs.Html.{Rendered, inline_step, Written, block_step}
 use Rattle.cm_tree.specs.HeadingLevels.{level_step}
 use Rattle.cm_tree.specs.RawHtml.{raw_inline_step, raw_block_step}
 use Rattle.cm_html.specs.Tags.{Tags, inline_tags, block_tags, tags_of_block}
@@ -48,23 +48,23 @@ markup = record {
 texts : TextMarkupExamples
 unfolding is_kept destination_byte class_word percent_encode_byte digits
 texts = record {
-  script = simp (fold_out-Block Written block_step, outs-Paragraph, fold_out-Inline Spelled inline_step, text);
-  reference = simp (fold_out-Block Written block_step, outs-Paragraph, fold_out-Inline Spelled inline_step, text);
-  title = simp (fold_out-Block Written block_step, outs-Paragraph, fold_out-Inline Spelled inline_step, link, text);
-  scheme = simp (fold_out-Block Written block_step, outs-Paragraph, fold_out-Inline Spelled inline_step, link, text);
-  destination = simp (fold_out-Block Written block_step, outs-Paragraph, fold_out-Inline Spelled inline_step, link, text);
-  alternative_text = simp (fold_out-Block Written block_step, outs-Paragraph, fold_out-Inline Spelled inline_step, image, text, raw);
+  script = simp (fold_out-Block Written block_step, outs-Paragraph, fold_out-Inline Rendered inline_step, text);
+  reference = simp (fold_out-Block Written block_step, outs-Paragraph, fold_out-Inline Rendered inline_step, text);
+  title = simp (fold_out-Block Written block_step, outs-Paragraph, fold_out-Inline Rendered inline_step, link, text);
+  scheme = simp (fold_out-Block Written block_step, outs-Paragraph, fold_out-Inline Rendered inline_step, link, text);
+  destination = simp (fold_out-Block Written block_step, outs-Paragraph, fold_out-Inline Rendered inline_step, link, text);
+  alternative_text = simp (fold_out-Block Written block_step, outs-Paragraph, fold_out-Inline Rendered inline_step, image, text, raw);
   info = simp (fold_out-Block Written block_step, outs-Code);
   info_with_a_line_feed = simp (fold_out-Block Written block_step, outs-Code);
   tags_with_a_title = simp (block_at, outs-Paragraph, fold_out-Inline Tags inline_tags, link, text);
   tags_of_a_tight_item = simp (block_at, outs-List, outs-Break, outs-Paragraph, fold_out-Inline Tags inline_tags, strike, text);
-  items_are_markup = simp (fold_out-Block Written block_step, outs-List, outs-Quote, outs-Break, outs-Paragraph, fold_out-Inline Spelled inline_step, text);
+  items_are_markup = simp (fold_out-Block Written block_step, outs-List, outs-Quote, outs-Break, outs-Paragraph, fold_out-Inline Rendered inline_step, text);
 }
 
 raws : RawHtmlExamples
 unfolding digits
 raws = record {
-  raw = simp (fold_out-Block Written block_step, outs-Paragraph, fold_out-Inline Spelled inline_step, raw);
+  raw = simp (fold_out-Block Written block_step, outs-Paragraph, fold_out-Inline Rendered inline_step, raw);
   raw_in_a_quote = simp (fold_out-Block Bool raw_block_step, outs-Quote, outs-Paragraph, fold_out-Inline Bool raw_inline_step, emph, raw);
   raw_in_an_item = simp (fold_out-Block Bool raw_block_step, outs-List, outs-Paragraph, fold_out-Inline Bool raw_inline_step, strike, raw);
   block = simp (fold_out-Block Bool raw_block_step, outs-Html);

@@ -8,7 +8,7 @@ use Rattle.cm_tree.specs.declared.tree.Block.TheVariants.{outs-Paragraph, outs-H
 use Rattle.cm_tree.specs.declared.tree.Block.{Block, map-Block, out-Block}
 use Rattle.cm_tree.specs.declared.tree.Block.TheFolds.{fold-Block, fold_out-Block}
 use Rattle.cm_html.specs.Escape.{is_kept, destination_byte, class_word}
-use Rattle.cm_html.specs.Html.{Spelled, inline_step, Written, block_step}
+use Rattle.cm_html.specs.Html.{Rendered, inline_step, Written, block_step}
 use Rattle.cm_html.specs.Listing.{Listed, listed_inline_step, listed_step}
 use Rattle.cm_html.specs.WorkedExamples.{TextExamples, InlineExamples, LeafExamples, ContainerExamples, ListingExamples}
 use Rattle.cm_html.proofs.laws.worked_examples.Goals as goal
@@ -28,24 +28,24 @@ texts = record {
 inlines : InlineExamples
 unfolding is_kept destination_byte percent_encode_byte
 inlines = record {
-  text = simp (fold_out-Inline Spelled inline_step, text);
-  code_span = simp (fold_out-Inline Spelled inline_step, code_span);
-  raw = simp (fold_out-Inline Spelled inline_step, raw);
-  breaks = simp (fold_out-Inline Spelled inline_step, soft, hard);
-  strike = simp (fold_out-Inline Spelled inline_step, strike, emph, text);
-  emphasis = simp (fold_out-Inline Spelled inline_step, emph, strong, text);
-  link = simp (fold_out-Inline Spelled inline_step, link, text);
-  link_in_link = simp (fold_out-Inline Spelled inline_step, link, text);
-  strike_in_an_image = simp (fold_out-Inline Spelled inline_step, image, strike, text);
-  image = simp (fold_out-Inline Spelled inline_step, image, emph, text);
-  image_in_image = simp (fold_out-Inline Spelled inline_step, image, hard, raw, text);
+  text = simp (fold_out-Inline Rendered inline_step, text);
+  code_span = simp (fold_out-Inline Rendered inline_step, code_span);
+  raw = simp (fold_out-Inline Rendered inline_step, raw);
+  breaks = simp (fold_out-Inline Rendered inline_step, soft, hard);
+  strike = simp (fold_out-Inline Rendered inline_step, strike, emph, text);
+  emphasis = simp (fold_out-Inline Rendered inline_step, emph, strong, text);
+  link = simp (fold_out-Inline Rendered inline_step, link, text);
+  link_in_link = simp (fold_out-Inline Rendered inline_step, link, text);
+  strike_in_an_image = simp (fold_out-Inline Rendered inline_step, image, strike, text);
+  image = simp (fold_out-Inline Rendered inline_step, image, emph, text);
+  image_in_image = simp (fold_out-Inline Rendered inline_step, image, hard, raw, text);
 }
 
 leaves : LeafExamples
 unfolding class_word digits
 leaves = record {
-  paragraph = simp (fold_out-Block Written block_step, outs-Paragraph, fold_out-Inline Spelled inline_step, text);
-  heading = simp (fold_out-Block Written block_step, outs-Heading, fold_out-Inline Spelled inline_step, text);
+  paragraph = simp (fold_out-Block Written block_step, outs-Paragraph, fold_out-Inline Rendered inline_step, text);
+  heading = simp (fold_out-Block Written block_step, outs-Heading, fold_out-Inline Rendered inline_step, text);
   code = simp (fold_out-Block Written block_step, outs-Code);
   code_with_class = simp (fold_out-Block Written block_step, outs-Code);
   raw = simp (fold_out-Block Written block_step, outs-Html);
@@ -56,14 +56,15 @@ leaves = record {
 containers : ContainerExamples
 unfolding class_word digits
 containers = record {
-  quote = simp (fold_out-Block Written block_step, outs-Quote, outs-Paragraph, fold_out-Inline Spelled inline_step, text);
+  quote = simp (fold_out-Block Written block_step, outs-Quote, outs-Paragraph, fold_out-Inline Rendered inline_step, text);
   ordered = simp (fold_out-Block Written block_step, outs-List);
-  tight_item = simp (fold_out-Block Written block_step, outs-List, outs-Paragraph, outs-Code, fold_out-Inline Spelled inline_step, text);
+  tight_item = simp (fold_out-Block Written block_step, outs-List, outs-Paragraph, outs-Code, fold_out-Inline Rendered inline_step, text);
   first_is_whole = simp (fold_out-Block Written block_step, outs-List, outs-Break);
   only_a_definition = simp (fold_out-Block Written block_step, outs-List, outs-Definition);
-  definition_in_front = simp (fold_out-Block Written block_step, outs-List, outs-Definition, outs-Paragraph, fold_out-Inline Spelled inline_step, text);
-  loose = simp (fold_out-Block Written block_step, outs-List, outs-Paragraph, fold_out-Inline Spelled inline_step, text);
-  quote_in_item = simp (fold_out-Block Written block_step, outs-List, outs-Quote, outs-Paragraph, fold_out-Inline Spelled inline_step, text);
+  definition_between = simp (fold_out-Block Written block_step, outs-List, outs-Definition, outs-Paragraph, outs-Break, fold_out-Inline Rendered inline_step, text);
+  definition_in_front = simp (fold_out-Block Written block_step, outs-List, outs-Definition, outs-Paragraph, fold_out-Inline Rendered inline_step, text);
+  loose = simp (fold_out-Block Written block_step, outs-List, outs-Paragraph, fold_out-Inline Rendered inline_step, text);
+  quote_in_item = simp (fold_out-Block Written block_step, outs-List, outs-Quote, outs-Paragraph, fold_out-Inline Rendered inline_step, text);
 }
 
 -- what one step lists at a depth

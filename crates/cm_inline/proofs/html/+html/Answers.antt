@@ -3,7 +3,7 @@ use Rattle.std.specs.Prelude.{OnOk}
 use Rattle.std.specs.List.{slice_range}
 use Rattle.std.proofs.lemmas.List.{drop_more, drop_all, length-take-le}
 use Rattle.cm_html.specs.Escape.{escape}
-use Rattle.cm_html.specs.Html.{spelled}
+use Rattle.cm_html.specs.Html.{rendered}
 use Rattle.cm_inline.specs.steps.Nodes.{node_html, nodes_html}
 use Rattle.cm_inline.specs.steps.Groups.{grouped, target_of, group_made, groups_made, node_of, nodes_of, AreBelow, AreGroups, ArePlaced, IsBelow, IsGroup}
 use Rattle.cm_inline.proofs.GroupLemmas.{made-at, groups-front, placed-range}
@@ -51,7 +51,7 @@ push_token-returns-in-Made t c =
     let low : number < length groups = subst (IsBelow (length groups)) c.in-Made.is c.requires.1.1.1.1.0 in
     let group = grouped c.get.result in
     let same = made-at inside groups number group low c.get.ensures ∙ ap (λ gs. group_made inside (groups_made inside gs) group) (sym c.up_to.ensures) in
-    let whole = sym (ap (λ token. node_html source (node_of (groups_made inside groups) token)) c.in-Made.is ∙ ap (λ made. (spelled (made source)).html) same) in
+    let whole = sym (ap (λ token. node_html source (node_of (groups_made inside groups) token)) c.in-Made.is ∙ ap (λ made. (rendered (made source)).html) same) in
     subst (λ html. OnOk c.push_group.result (string_bytes c.push_group.new.html ≡ string_bytes c.args.html.now ++ html)) whole c.push_group.ensures
 
 pub push_tokens-loop-token-init : goal.push_tokens-loop-token-init

@@ -20,7 +20,7 @@ use Rattle.cm_tree.specs.declared.tree.Block.TheFolds.{fold_out-Block}
 use Rattle.cm_scan.proofs.Computing.{block_structure}
 use Rattle.cm_scan.proofs.InlineComputing.{inline_structure}
 use Rattle.cm_html.specs.Escape.{is_kept, destination_byte, class_word}
-use Rattle.cm_html.specs.Html.{Spelled, inline_step, Written, block_step}
+use Rattle.cm_html.specs.Html.{Rendered, inline_step, Written, block_step}
 use Rattle.cm_tree.specs.Depth.{depth_step}
 use Rattle.cm_tool.specs.Leaves.{depths_step}
 use Rattle.cm_tool.proofs.laws.worked_examples.Goals as goal
@@ -40,7 +40,7 @@ link_made defined is = ap (λ (target : Option Target). inlines_of profile (λ f
 
 link_page : converted profile (codes "[a]\n\n[A]: /u\n") ≡ codes "<p><a href=\"/u\">a</a></p>\n"
 unfolding block_structure is_kept destination_byte
-link_page = simp (fold_out-Block Block, fold_out-Block Written block_step, fold_out-Inline Spelled inline_step, link_made defined_behind its_target, paragraph, definition, text, link)
+link_page = simp (fold_out-Block Block, fold_out-Block Written block_step, fold_out-Inline Rendered inline_step, link_made defined_behind its_target, paragraph, definition, text, link)
 
 pub returns-clause-reading : goal.returns-clause-reading
 unfolding block_structure inline_structure utf8_valid_len utf8_error_len is_utf8 chars encode
@@ -62,34 +62,34 @@ pub returns-clause-html : goal.returns-clause-html
 unfolding block_structure inline_structure class_word digits
 returns-clause-html c = record {
   no_text = refl;
-  paragraph_over_two_lines = simp (fold_out-Block Block, fold_out-Block Written block_step, fold_out-Inline Spelled inline_step, paragraph, text, soft);
-  break_between_paragraphs = simp (fold_out-Block Block, fold_out-Block Written block_step, fold_out-Inline Spelled inline_step, paragraph, thematic, text);
-  heading = simp (fold_out-Block Block, fold_out-Block Written block_step, fold_out-Inline Spelled inline_step, heading, thematic, text);
-  heading_over_two_lines = simp (fold_out-Block Block, fold_out-Block Written block_step, fold_out-Inline Spelled inline_step, heading, text, soft);
-  references = simp (fold_out-Block Block, fold_out-Block Written block_step, fold_out-Inline Spelled inline_step, paragraph, text);
-  carriage_return = simp (fold_out-Block Block, fold_out-Block Written block_step, fold_out-Inline Spelled inline_step, paragraph, text, soft);
-  carriage_return_line_feed = simp (fold_out-Block Block, fold_out-Block Written block_step, fold_out-Inline Spelled inline_step, paragraph, text, soft);
-  nul = simp (fold_out-Block Block, fold_out-Block Written block_step, fold_out-Inline Spelled inline_step, paragraph, text);
-  blank_line = simp (fold_out-Block Block, fold_out-Block Written block_step, fold_out-Inline Spelled inline_step, paragraph, text);
-  emphasis = simp (fold_out-Block Block, fold_out-Block Written block_step, fold_out-Inline Spelled inline_step, paragraph, text, emph, strong);
+  paragraph_over_two_lines = simp (fold_out-Block Block, fold_out-Block Written block_step, fold_out-Inline Rendered inline_step, paragraph, text, soft);
+  break_between_paragraphs = simp (fold_out-Block Block, fold_out-Block Written block_step, fold_out-Inline Rendered inline_step, paragraph, thematic, text);
+  heading = simp (fold_out-Block Block, fold_out-Block Written block_step, fold_out-Inline Rendered inline_step, heading, thematic, text);
+  heading_over_two_lines = simp (fold_out-Block Block, fold_out-Block Written block_step, fold_out-Inline Rendered inline_step, heading, text, soft);
+  references = simp (fold_out-Block Block, fold_out-Block Written block_step, fold_out-Inline Rendered inline_step, paragraph, text);
+  carriage_return = simp (fold_out-Block Block, fold_out-Block Written block_step, fold_out-Inline Rendered inline_step, paragraph, text, soft);
+  carriage_return_line_feed = simp (fold_out-Block Block, fold_out-Block Written block_step, fold_out-Inline Rendered inline_step, paragraph, text, soft);
+  nul = simp (fold_out-Block Block, fold_out-Block Written block_step, fold_out-Inline Rendered inline_step, paragraph, text);
+  blank_line = simp (fold_out-Block Block, fold_out-Block Written block_step, fold_out-Inline Rendered inline_step, paragraph, text);
+  emphasis = simp (fold_out-Block Block, fold_out-Block Written block_step, fold_out-Inline Rendered inline_step, paragraph, text, emph, strong);
   link_before_its_definition = link_page;
-  search_interrupts_a_paragraph = simp (fold_out-Block Block, fold_out-Block Written block_step, fold_out-Inline Spelled inline_step, paragraph, raw, text);
-  source_by_the_older_rules = simp (fold_out-Block Block, fold_out-Block Written block_step, fold_out-Inline Spelled inline_step, paragraph, raw, text);
+  search_interrupts_a_paragraph = simp (fold_out-Block Block, fold_out-Block Written block_step, fold_out-Inline Rendered inline_step, paragraph, raw, text);
+  source_by_the_older_rules = simp (fold_out-Block Block, fold_out-Block Written block_step, fold_out-Inline Rendered inline_step, paragraph, raw, text);
   indented_code = simp (fold_out-Block Block, fold_out-Block Written block_step, code);
-  lazy_line = simp (fold_out-Block Block, fold_out-Block Written block_step, fold_out-Inline Spelled inline_step, quote, paragraph, text, soft);
-  list_in_a_quote = simp (fold_out-Block Block, fold_out-Block Written block_step, fold_out-Inline Spelled inline_step, quote, items, paragraph, text, soft);
-  spaces_behind_a_tab = simp (fold_out-Block Block, fold_out-Block Written block_step, fold_out-Inline Spelled inline_step, paragraph, text, hard);
-  code_and_escape = simp (fold_out-Block Block, fold_out-Block Written block_step, fold_out-Inline Spelled inline_step, paragraph, text, code_span);
+  lazy_line = simp (fold_out-Block Block, fold_out-Block Written block_step, fold_out-Inline Rendered inline_step, quote, paragraph, text, soft);
+  list_in_a_quote = simp (fold_out-Block Block, fold_out-Block Written block_step, fold_out-Inline Rendered inline_step, quote, items, paragraph, text, soft);
+  spaces_behind_a_tab = simp (fold_out-Block Block, fold_out-Block Written block_step, fold_out-Inline Rendered inline_step, paragraph, text, hard);
+  code_and_escape = simp (fold_out-Block Block, fold_out-Block Written block_step, fold_out-Inline Rendered inline_step, paragraph, text, code_span);
 }
 
 pub returns-clause-files : goal.returns-clause-files
 unfolding block_structure inline_structure utf8_valid_len utf8_error_len is_utf8 chars encode class_word digits
 returns-clause-files c = record {
   no_examples = refl;
-  agrees = simp (fold_out-Block Block, fold_out-Block (List ℕ) depths_step, fold_out-Inline ℕ depth_step, fold_out-Block Written block_step, fold_out-Inline Spelled inline_step, paragraph, text);
+  agrees = simp (fold_out-Block Block, fold_out-Block (List ℕ) depths_step, fold_out-Inline ℕ depth_step, fold_out-Block Written block_step, fold_out-Inline Rendered inline_step, paragraph, text);
   empty_source = refl;
-  differs = simp (fold_out-Block Block, fold_out-Block (List ℕ) depths_step, fold_out-Inline ℕ depth_step, fold_out-Block Written block_step, fold_out-Inline Spelled inline_step, paragraph, text);
-  by_the_older_rules = simp (fold_out-Block Block, fold_out-Block (List ℕ) depths_step, fold_out-Inline ℕ depth_step, fold_out-Block Written block_step, fold_out-Inline Spelled inline_step, paragraph, raw, text);
+  differs = simp (fold_out-Block Block, fold_out-Block (List ℕ) depths_step, fold_out-Inline ℕ depth_step, fold_out-Block Written block_step, fold_out-Inline Rendered inline_step, paragraph, text);
+  by_the_older_rules = simp (fold_out-Block Block, fold_out-Block (List ℕ) depths_step, fold_out-Inline ℕ depth_step, fold_out-Block Written block_step, fold_out-Inline Rendered inline_step, paragraph, raw, text);
   arrow_as_a_tab = refl;
   opening_line_in_a_source = refl;
   carriage_returns = refl;

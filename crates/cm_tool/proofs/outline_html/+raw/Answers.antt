@@ -1,9 +1,11 @@
 use Rattle.std.proofs.Common.{◌≡◌, ◌∙◌, ◌++◌, ap, sym, subst, append-nil, arith, codes, string_bytes}
 use Rattle.std.specs.Prelude.{map}
-use Rattle.std.proofs.lemmas.List.{drop_more}
+use Rattle.std.proofs.lemmas.List.{drop_all, drop_more}
 use Rattle.std.proofs.lemmas.Result.{err_from_is_err_and}
 use Rattle.cm_tree.specs.Depth.{blocks_depth, depth_of_block}
-use Rattle.cm_html.specs.Html.{alone, item_html, heading_end, heading_start, html_of, inlines_html, items_html, line_feed, list_end, list_start, written}
+use Rattle.cm_html.specs.Html.{alone, item_html, heading_end, heading_start, html_of, inlines_html, inside, items_html, list_end, list_start, written}
+use Rattle.cm_html.specs.steps.ItemPass.{line_feed}
+use Rattle.cm_html.proofs.ItemLemmas.{inside_added}
 use Rattle.cm_scan.specs.Brackets.{defined_in}
 use Rattle.cm_scan.specs.Documents.{block_read, content_read, with_inlines}
 use Rattle.cm_tree.specs.RawBlocks.{raw_inlines}
@@ -14,7 +16,7 @@ use Rattle.cm_tree.specs.RawBlocks.{block_in, blocks_in, items_in, ArePlaced, Ar
 use Rattle.cm_tool.specs.steps.Items.{items_leaf_depths, items_read}
 use Rattle.cm_tool.specs.steps.Numbering.{Passes, TellsLeaf}
 use Rattle.cm_tool.proofs.RawWalkLemmas.{Left, joined, enclosed, left_next, left_told, counted, block_depth, item_depth, quote_depth, list_depth, paragraph_in, heading_in, code_in, html_in, quote_in, list_in, paragraph_depths, heading_depths, code_depths, html_depths, break_depths, definition_depths, quote_depths, list_depths, paragraph_written, heading_written, code_written, html_written, break_written, definition_written, quote_written, list_written, whole_written, nothing_inside, inlines_inside, loose_inlines_inside, whole_inside}
-use Rattle.cm_tool.proofs.raw_html.+raw.Goals as goal
+use Rattle.cm_tool.proofs.outline_html.+raw.Goals as goal
 
 pub push_block-returns-in_err-push_leaf-in-Paragraph-clause-told : goal.push_block-returns-in_err-push_leaf-in-Paragraph-clause-told
 push_block-returns-in_err-push_leaf-in-Paragraph-clause-told t c =
@@ -319,6 +321,19 @@ push_item-returns-in_err-fresh-clause-told t c =
     let whole = leaf_depths (with_inlines rules defined (blocks_in raw held)) in
     rw (p.1, p.2) (left_told limits.inlines c.in_err-fresh.field-0.0 c.args.next.now c.loop-block.next whole _ _
     (subst (λ held. Left limits.inlines c.args.next.now c.loop-block.next whole (leaf_depths (with_inlines rules defined (blocks_in raw held)))) step c.loop-block.invariant.leaves) c.in_err-fresh.ensures.told)
+
+pub push_item-returns-clause-pushed : goal.push_item-returns-clause-pushed
+push_item-returns-clause-pushed t c =
+    let rules = c.args.limits.rules in
+    let defined = defined_in c.args.definitions.now in
+    let raw = c.args.raw.now in
+    let held = c.args.blocks.now in
+    let tight = c.args.tight in
+    let ws = map written (with_inlines rules defined (blocks_in raw held)) in
+    let none = ap (λ held. map written (with_inlines rules defined (blocks_in raw held))) (drop_all c.loop-block.block-index held c.loop-block-test.false) in
+    let added = inside_added tight c.loop-block.fresh ws _ (string_bytes c.push_str.new.self) (string_bytes c.loop-block.html) none c.loop-block.invariant.html in
+    enclosed (string_bytes c.args.html.now) (string_bytes c.push_str.new.self) (string_bytes c.loop-block.html) (string_bytes c.push_str-2.new.self) (codes "<li>") (inside tight ws) (codes "</li>\n")
+    c.in_ok-push_str.ensures.bytes added c.in_ok-push_str-2.ensures.bytes
 
 pub push_items-push_item-requires : goal.push_items-push_item-requires
 push_items-push_item-requires t c =

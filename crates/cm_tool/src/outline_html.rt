@@ -3,8 +3,9 @@ ghost use Rattle.std.specs.Prelude.{◌≡◌, ◌≤◌, ◌<◌, List, [], ◌
 ghost use Rattle.std.specs.List.{concat};
 ghost use Rattle.cm_tree.specs.Depth.{inlines_depth};
 ghost use Rattle.cm_tree.specs.RawBlocks.{raw_inlines, block_in, blocks_in, items_in, IsPlaced, ArePlaced, AreItems};
-ghost use Rattle.cm_tool.specs.steps.Items.{inside_from, items_read, items_leaf_depths};
-ghost use Rattle.cm_html.specs.Html.{html_of, inlines_html, item_html, items_html, line_feed, Written, written, alone};
+ghost use Rattle.cm_tool.specs.steps.Items.{items_read, items_leaf_depths};
+ghost use Rattle.cm_html.specs.Html.{html_of, inlines_html, item_html, items_html, Written, written, alone};
+ghost use Rattle.cm_html.specs.steps.ItemPass.{inside_from, line_feed};
 ghost use Rattle.cm_scan.specs.Brackets.{defined_in};
 ghost use Rattle.cm_scan.specs.Documents.{content_read, block_read, with_inlines};
 ghost use Rattle.cm_inline.specs.declared.fault.InlineFault.TheVariants as inline_faults;

@@ -8,7 +8,7 @@ use Rattle.cm_tree.specs.declared.raw_blocks.RawBlock.{RawBlock}
 use Rattle.cm_tool.specs.Leaves.{leaf_depths}
 use Rattle.cm_tree.specs.RawBlocks.{blocks_in, ArePlaced}
 use Rattle.cm_tool.proofs.RawWalkLemmas.{Left}
-use Rattle.cm_tool.proofs.raw_html.pages_of.Given as goal
+use Rattle.cm_tool.proofs.outline_html.pages_of.Given as goal
 
 -- what was written and what is left come to the whole
 abbrev pub invariant-loop-block : goal.invariant-loop-block

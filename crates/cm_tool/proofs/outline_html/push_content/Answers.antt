@@ -9,7 +9,7 @@ use Rattle.cm_inline.specs.declared.fault.InlineFault.TheVariants as inline_faul
 use Rattle.cm_inline.specs.Reading.{Refused}
 use Rattle.cm_tool.proofs.LeafLemmas.{leaf_within, leaf_refused}
 use Rattle.cm_tool.proofs.RawWalkLemmas.{source_read, text_html, text_depth}
-use Rattle.cm_tool.proofs.raw_html.push_content.Goals as goal
+use Rattle.cm_tool.proofs.outline_html.push_content.Goals as goal
 
 pub returns-then-is_one_text-clause-pushed : goal.returns-then-is_one_text-clause-pushed
 returns-then-is_one_text-clause-pushed c =

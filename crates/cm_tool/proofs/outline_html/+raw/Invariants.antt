@@ -1,18 +1,19 @@
 use Rattle.std.proofs.Common.{◌≡◌, ◌++◌, ◌+◌, ◌*◌, List, string_bytes, drop}
-use Rattle.std.specs.Prelude.{map}
+use Rattle.std.specs.Prelude.{map, true}
 use Rattle.cm_tree.specs.Depth.{blocks_depth, depth_of_block}
 use Rattle.cm_tree.specs.steps.ItemSteps.{items_depth}
 use Rattle.cm_tree.specs.declared.tree.Block.{Block}
-use Rattle.cm_html.specs.Html.{html_of, inside, items_html, written}
+use Rattle.cm_html.specs.Html.{html_of, items_html, written}
+use Rattle.cm_html.specs.steps.ItemPass.{inside_from}
 use Rattle.cm_scan.specs.Brackets.{defined_in}
 use Rattle.cm_scan.specs.Documents.{with_inlines}
 use Rattle.cm_tree.specs.declared.raw_blocks.RawBlock.{RawBlock}
 use Rattle.cm_tree.specs.declared.raw_blocks.RawItem.{RawItem}
 use Rattle.cm_tool.specs.Leaves.{leaf_depths}
 use Rattle.cm_tree.specs.RawBlocks.{block_in, blocks_in, items_in, ArePlaced, AreItems}
-use Rattle.cm_tool.specs.steps.Items.{inside_from, items_read, items_leaf_depths}
+use Rattle.cm_tool.specs.steps.Items.{items_read, items_leaf_depths}
 use Rattle.cm_tool.proofs.RawWalkLemmas.{Left}
-use Rattle.cm_tool.proofs.raw_html.+raw.Given as goal
+use Rattle.cm_tool.proofs.outline_html.+raw.Given as goal
 
 -- What stands in a quote or an item nests less deep than the quote or the list.
 abbrev pub decreases-push_items : goal.decreases-push_items
@@ -49,7 +50,7 @@ invariant-push_item-loop-block l =
     let read : List RawBlock → List Block = λ held. with_inlines l.limits.rules (defined_in l.definitions) (blocks_in l.raw held) in
     let left = drop l.block-index l.blocks in
     record {
-      html : string_bytes l.html ++ inside_from l.tight l.fresh (map written (read left)) ≡ string_bytes l.initial.html ++ inside l.tight (map written (read l.blocks));
+      html : string_bytes l.html ++ inside_from l.tight l.fresh (map written (read left)) ≡ string_bytes l.initial.html ++ inside_from l.tight true (map written (read l.blocks));
       leaves : Left l.limits.inlines l.initial.next l.next (leaf_depths (read l.blocks)) (leaf_depths (read left));
       placed : ArePlaced l.raw left;
     }
