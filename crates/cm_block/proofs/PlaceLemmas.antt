@@ -11,7 +11,7 @@ use Rattle.cm_scan.specs.Starts.{Start, IndentedCode, QuoteMarker, AtxHeading, O
 use Rattle.cm_scan.specs.LineForms.{ItemMarker}
 use Rattle.cm_scan.specs.Laws.{goes_inward}
 use Rattle.cm_text.specs.Indentation.{indent_of, strip_columns}
-use Rattle.cm_text.specs.Views.{line_of}
+use Rattle.cm_text.specs.Views.{seen_view}
 use Rattle.cm_text.specs.declared.view.View.{View}
 use Rattle.cm_text.proofs.StripLemmas.{strip_takes_columns}
 use Rattle.cm_block.specs.steps.PlaceViews.{begins_quote}
@@ -143,7 +143,7 @@ taken_goes_on column line inner is =
 
 -- a line behind a marker
 
-pub past_content : (line : LineView) (n k : ℕ) (view : View) → n ≡ indent_of line → line_of view ≡ strip_columns n line → view.spaces ≡ 0
+pub past_content : (line : LineView) (n k : ℕ) (view : View) → n ≡ indent_of line → seen_view view ≡ strip_columns n line → view.spaces ≡ 0
     → record { column = view.column + k; text = drop k view.rest.now; lazy = view.lazy } ≡ past k line
 unfolding past
 past_content line n k view all left none =
@@ -170,7 +170,7 @@ pub offset_near : (behind : LineView) → is_blank behind ≡ false → indent_o
 unfolding content_offset
 offset_near behind e n = grind (arith, e, n)
 
-pub behind_quote : (line inner : LineView) (view : View) → line_of view ≡ past 1 line → inner ≡ strip_columns 1 (line_of view) → inner ≡ behind_quote_marker line
+pub behind_quote : (line inner : LineView) (view : View) → seen_view view ≡ past 1 line → inner ≡ strip_columns 1 (seen_view view) → inner ≡ behind_quote_marker line
 unfolding behind_quote_marker
 behind_quote line inner view at is = is ∙ ap (strip_columns 1) at
 

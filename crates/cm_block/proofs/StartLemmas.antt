@@ -2,7 +2,7 @@
 use Rattle.std.proofs.Common.{◌≡◌, ℕ, ◌<◌, ◌≤◌, Bool, true, false, ◌==◌, ◌&&◌, None, List, [], ◌∷◌, ◌++◌, replicate, Option, refl, ◌∙◌, sym, ap, arith}
 use Rattle.cm_text.specs.Lines.{LineView}
 use Rattle.cm_text.specs.Indentation.{indent_from, indent_of, strip_columns, after_indent}
-use Rattle.cm_text.specs.Views.{line_of}
+use Rattle.cm_text.specs.Views.{seen_view}
 use Rattle.cm_text.specs.declared.view.View.{View}
 use Rattle.cm_text.proofs.StripLemmas.{strip_takes_columns}
 use Rattle.cm_scan.specs.Lines.{content_of}
@@ -69,7 +69,7 @@ no_indent : (column : ℕ) (text : List ℕ) → indent_from column text ≡ 0 �
 no_indent column [] e = refl
 no_indent column (b ∷ bs) e = grind (arith, e)
 
-pub content_left : (line : LineView) (n : ℕ) (view : View) → n ≡ indent_of line → line_of view ≡ strip_columns n line → view.spaces ≡ 0 → view.rest.now ≡ content_of line
+pub content_left : (line : LineView) (n : ℕ) (view : View) → n ≡ indent_of line → seen_view view ≡ strip_columns n line → view.spaces ≡ 0 → view.rest.now ≡ content_of line
 content_left line n view all left none =
     let text : replicate view.spaces 32 ++ view.rest.now ≡ (strip_columns n line).text = ap (λ (l : LineView). l.text) left in
     let bare : view.rest.now ≡ (strip_columns n line).text = rw none at text in
@@ -78,25 +78,25 @@ content_left line n view all left none =
     bare ∙ sym (no_indent _ (strip_columns n line).text nothing) ∙ law.2 ∙ content-after line.text
 
 module _ (rules : Rules) where
-  pub starts_near : (line : LineView) (n : ℕ) (view : View) → line.lazy ≡ false → n ≡ indent_of line → n < 4 → line_of view ≡ strip_columns n line → view.spaces ≡ 0
+  pub starts_near : (line : LineView) (n : ℕ) (view : View) → line.lazy ≡ false → n ≡ indent_of line → n < 4 → seen_view view ≡ strip_columns n line → view.spaces ≡ 0
       → start_of_content rules view.rest.now ≡ start_of rules line
   starts_near line n view lazy all near left none =
       ap (start_of_content rules) (content_left line n view all left none) ∙ starts_content _ line lazy (omega (arith, all, near))
 
 -- a line that begins with a letter, without indentation
 
-at_letter : (view : View) → ((view.spaces == 0) && is_at_letter view.rest.now) ≡ true → is_at_letter (line_of view).text ≡ true
+at_letter : (view : View) → ((view.spaces == 0) && is_at_letter view.rest.now) ≡ true → is_at_letter (seen_view view).text ≡ true
 at_letter view begins =
     let parts = and_parts (view.spaces == 0) (is_at_letter view.rest.now) begins in
     ap (λ n. is_at_letter (replicate n 32 ++ view.rest.now)) (eqb-true view.spaces 0 parts.0) ∙ parts.1
 
-pub letter_starts : (rules : Rules) (view : View) → view.lazy ≡ false → ((view.spaces == 0) && is_at_letter view.rest.now) ≡ true → start_of rules (line_of view) ≡ TextLine
-letter_starts rules view eager begins = letter-starts rules (line_of view) eager (at_letter view begins)
+pub letter_starts : (rules : Rules) (view : View) → view.lazy ≡ false → ((view.spaces == 0) && is_at_letter view.rest.now) ≡ true → start_of rules (seen_view view) ≡ TextLine
+letter_starts rules view eager begins = letter-starts rules (seen_view view) eager (at_letter view begins)
 
-pub letter_underlines : (view : View) → view.lazy ≡ false → ((view.spaces == 0) && is_at_letter view.rest.now) ≡ true → underline_of (line_of view) ≡ None
-letter_underlines view eager begins = letter-underlines (line_of view) eager (at_letter view begins)
+pub letter_underlines : (view : View) → view.lazy ≡ false → ((view.spaces == 0) && is_at_letter view.rest.now) ≡ true → underline_of (seen_view view) ≡ None
+letter_underlines view eager begins = letter-underlines (seen_view view) eager (at_letter view begins)
 
-pub letter_content : (view : View) → ((view.spaces == 0) && is_at_letter view.rest.now) ≡ true → content_of (line_of view) ≡ view.rest.now
+pub letter_content : (view : View) → ((view.spaces == 0) && is_at_letter view.rest.now) ≡ true → content_of (seen_view view) ≡ view.rest.now
 letter_content view begins =
     let parts = and_parts (view.spaces == 0) (is_at_letter view.rest.now) begins in
-    letter-content (line_of view).text (at_letter view begins) ∙ ap (λ n. replicate n 32 ++ view.rest.now) (eqb-true view.spaces 0 parts.0)
+    letter-content (seen_view view).text (at_letter view begins) ∙ ap (λ n. replicate n 32 ++ view.rest.now) (eqb-true view.spaces 0 parts.0)

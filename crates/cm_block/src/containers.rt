@@ -1,6 +1,6 @@
 //! The quotes and items that a line begins.
 ghost use Rattle.std.specs.Prelude.{◌≡◌, ◌-◌, ◌≤◌, false, suc, length, IfOk, OnOk};
-ghost use Rattle.cm_text.specs.Views.{line_of};
+ghost use Rattle.cm_text.specs.Views.{seen_view};
 ghost use Rattle.cm_block.specs.steps.LineTests.{Tested};
 ghost use Rattle.cm_block.specs.steps.FrameStarts.{Inside};
 
@@ -31,7 +31,7 @@ impl Stack {
         line: &mut CountedLine<'a>,
     ) -> Result<Innermost<'a>, AllocError>
         requires { self.old.bare ≡ false }
-        ensures inside { IfOk result (λ innermost. Inside rules limit self.old (line_of line.old.rest) self.new (line_of line.new.rest) innermost) }
+        ensures inside { IfOk result (λ innermost. Inside rules limit self.old (seen_view line.old.rest) self.new (seen_view line.new.rest) innermost) }
         ensures deeper { OnOk result (length self.old.frames ≤ length self.new.frames) }
         ensures tests { OnOk result (Tested (length self.new.frames - length self.old.frames) (suc (length self.new.frames - length self.old.frames)) line.old.tests line.new.tests) }
     {

@@ -2,7 +2,7 @@
 ghost use Rattle.std.specs.Prelude.{◌≡◌, ◌++◌, ◌∷◌, ◌&&◌, ℕ, List, suc, true, false, string_bytes, IfOk, IfSome, IfNone, OnOk};
 ghost use Rattle.cm_text.specs.Indentation.{strip_columns};
 ghost use Rattle.cm_text.specs.Rules as all;
-ghost use Rattle.cm_text.specs.Views.{line_of};
+ghost use Rattle.cm_text.specs.Views.{seen_view};
 ghost use Rattle.cm_scan.specs.Words.{given};
 ghost use Rattle.cm_scan.specs.Lines.{is_blank, with_ending};
 ghost use Rattle.cm_scan.specs.HtmlBlocks.{is_html_end};
@@ -110,7 +110,7 @@ impl<'a> CountedLine<'a> {
 
     /// Whether the line stays in an open quote by its marker, behind which it then goes on (5.1 Block quotes).
     pub(crate) fn stays_in_quote(&mut self) -> bool
-        ensures place { (by : all.Rules) → IsInside result (place_in_quote by (line_of self.old.rest)) (place_if_lazy by (line_of self.old.rest)) (line_of self.new.rest) }
+        ensures place { (by : all.Rules) → IsInside result (place_in_quote by (seen_view self.old.rest)) (place_if_lazy by (seen_view self.old.rest)) (seen_view self.new.rest) }
         ensures same { result ≡ false → self.new.rest ≡ self.old.rest }
         ensures tests { Tested 1 1 self.old.tests self.new.tests }
     {
@@ -124,7 +124,7 @@ impl<'a> CountedLine<'a> {
     /// Whether the line stays in an open item whose content begins at a column, into which it then goes: it reaches
     /// the column, or is blank. A blank line ends an item of which there is only the marker (5.2 List items).
     pub(crate) fn stays_in_item(&mut self, column: usize, bare: bool) -> bool
-        ensures place { (by : all.Rules) → IsInside result (place_in_item by column bare (line_of self.old.rest)) (place_if_lazy by (line_of self.old.rest)) (line_of self.new.rest) }
+        ensures place { (by : all.Rules) → IsInside result (place_in_item by column bare (seen_view self.old.rest)) (place_if_lazy by (seen_view self.old.rest)) (seen_view self.new.rest) }
         ensures same { result ≡ false → self.new.rest ≡ self.old.rest }
         ensures tests { Tested 1 1 self.old.tests self.new.tests }
     {
@@ -146,7 +146,7 @@ impl<'a> CountedLine<'a> {
     /// Whether the line goes on a paragraph without the markers of its containers, as which it is then marked:
     /// `open_text` says that the lines so far leave a paragraph open (5.1 Block quotes, 5.2 List items).
     pub(crate) fn goes_on_lazily(&mut self, rules: Rules, open_text: bool) -> bool
-        ensures line { given result (line_of self.new.rest) ≡ goes_inward (place_if_lazy rules (line_of self.old.rest)) open_text }
+        ensures line { given result (seen_view self.new.rest) ≡ goes_inward (place_if_lazy rules (seen_view self.old.rest)) open_text }
         ensures same { result ≡ false → self.new.rest ≡ self.old.rest }
         ensures lazy { result ≡ true → self.new.rest.lazy ≡ true }
         ensures tests { Tested 1 1 self.old.tests self.new.tests }
@@ -161,7 +161,7 @@ impl<'a> CountedLine<'a> {
     /// What the line begins in the innermost container, where no leaf is open. It goes into the quote or the item
     /// that it begins.
     pub(crate) fn begins(&mut self, rules: Rules) -> Begins<'a>
-        ensures found { Found rules (line_of self.old.rest) result (line_of self.new.rest) }
+        ensures found { Found rules (seen_view self.old.rest) result (seen_view self.new.rest) }
         ensures tests { Tested 1 1 self.old.tests self.new.tests }
     {
         let view = self.read();
@@ -187,7 +187,7 @@ impl<'a> CountedLine<'a> {
 
     /// Whether the line is blank (2.1 Characters and lines).
     pub(crate) fn is_blank(&mut self) -> bool
-        ensures blank { result ≡ is_blank (line_of self.old.rest) }
+        ensures blank { result ≡ is_blank (seen_view self.old.rest) }
         ensures read { ReadOnce self.old self.new }
     {
         is_blank(&self.read())
@@ -195,7 +195,7 @@ impl<'a> CountedLine<'a> {
 
     /// The level that the line gives to the text above it, as an underline (4.3 Setext headings).
     pub(crate) fn underline(&mut self) -> Option<u8>
-        ensures level { result ≡ underline_of (line_of self.old.rest) }
+        ensures level { result ≡ underline_of (seen_view self.old.rest) }
         ensures read { ReadOnce self.old self.new }
     {
         underline_of(&self.read())
@@ -203,7 +203,7 @@ impl<'a> CountedLine<'a> {
 
     /// Whether the line can interrupt a paragraph.
     pub(crate) fn interrupts_paragraph(&mut self, rules: Rules) -> bool
-        ensures interrupts { result ≡ interrupts_paragraph rules (line_of self.old.rest) }
+        ensures interrupts { result ≡ interrupts_paragraph rules (seen_view self.old.rest) }
         ensures read { ReadOnce self.old self.new }
     {
         interrupts_paragraph(rules, &self.read())
@@ -211,7 +211,7 @@ impl<'a> CountedLine<'a> {
 
     /// Whether the line is the closing fence of a fence of this kind (4.5 Fenced code blocks).
     pub(crate) fn closes_fence(&mut self, kind: FenceKind) -> bool
-        ensures closes { (info : List ℕ) → result ≡ closes_fence (record { marker = kind.marker; count = kind.count; info = info }) (line_of self.old.rest) }
+        ensures closes { (info : List ℕ) → result ≡ closes_fence (record { marker = kind.marker; count = kind.count; info = info }) (seen_view self.old.rest) }
         ensures read { ReadOnce self.old self.new }
     {
         closes_fence(kind, &self.read())
@@ -219,7 +219,7 @@ impl<'a> CountedLine<'a> {
 
     /// Whether the line meets the end condition of an HTML block of this kind (4.6 HTML blocks).
     pub(crate) fn ends_html(&mut self, kind: HtmlKind) -> bool
-        ensures ends { result ≡ is_html_end (kind_of kind) (line_of self.old.rest).text }
+        ensures ends { result ≡ is_html_end (kind_of kind) (seen_view self.old.rest).text }
         ensures read { ReadOnce self.old self.new }
     {
         ends_html(kind, &self.read())
@@ -227,7 +227,7 @@ impl<'a> CountedLine<'a> {
 
     /// Goes on with a run of text by the line, whose leading spaces and tabs go (4.8 Paragraphs).
     pub(crate) fn add_text(&mut self, source: &mut String) -> Result<(), AllocError>
-        ensures text { OnOk result (string_bytes source.new ≡ add_text (string_bytes source.old) (line_of self.old.rest)) }
+        ensures text { OnOk result (string_bytes source.new ≡ add_text (string_bytes source.old) (seen_view self.old.rest)) }
         ensures read { ReadOnce self.old self.new }
     {
         add_text(source, &self.read())
@@ -241,7 +241,7 @@ impl<'a> CountedLine<'a> {
         blank_lines: &mut String,
     ) -> Result<bool, AllocError>
         ensures taken { (by : all.Rules) → IfOk result (λ taken. given taken (stays_open (code_of (string_bytes text.new) (string_bytes blank_lines.new)))
-            ≡ line_of_leaf by (code_of (string_bytes text.old) (string_bytes blank_lines.old)) (line_of self.old.rest)) }
+            ≡ line_of_leaf by (code_of (string_bytes text.old) (string_bytes blank_lines.old)) (seen_view self.old.rest)) }
         ensures kept { IfOk result (λ taken. taken ≡ false → text.new ≡ text.old) }
         ensures waiting { IfOk result (λ taken. taken ≡ false → blank_lines.new ≡ blank_lines.old) }
         ensures read { ReadOnce self.old self.new }
@@ -251,7 +251,7 @@ impl<'a> CountedLine<'a> {
 
     /// Goes on with fenced code by the line, which loses so many columns (4.5 Fenced code blocks).
     pub(crate) fn add_fenced(&mut self, columns: usize, text: &mut String) -> Result<(), AllocError>
-        ensures text { OnOk result (string_bytes text.new ≡ string_bytes text.old ++ with_ending (strip_columns columns (line_of self.old.rest))) }
+        ensures text { OnOk result (string_bytes text.new ≡ string_bytes text.old ++ with_ending (strip_columns columns (seen_view self.old.rest))) }
         ensures feeds { OnOk result (line_feeds (string_bytes text.new) ≡ suc (line_feeds (string_bytes text.old))) }
         ensures read { ReadOnce self.old self.new }
     {
@@ -260,7 +260,7 @@ impl<'a> CountedLine<'a> {
 
     /// Goes on with HTML by the line (4.6 HTML blocks).
     pub(crate) fn add_html(&mut self, text: &mut String) -> Result<(), AllocError>
-        ensures text { OnOk result (string_bytes text.new ≡ string_bytes text.old ++ 10 ∷ (line_of self.old.rest).text) }
+        ensures text { OnOk result (string_bytes text.new ≡ string_bytes text.old ++ 10 ∷ (seen_view self.old.rest).text) }
         ensures feeds { OnOk result (line_feeds (string_bytes text.new) ≡ suc (line_feeds (string_bytes text.old))) }
         ensures read { ReadOnce self.old self.new }
     {
@@ -275,7 +275,7 @@ impl<'a> CountedLine<'a> {
         leaves: &mut TextRoom,
         start: &LeafStart<'_>,
     ) -> Result<Option<FirstLine>, AllocError>
-        ensures leaf { IfOk result (λ first. IfSome first (λ f. begins_leaf (first_of f) ≡ begin_of_start (seen start.now.found) (line_of self.old.rest))) }
+        ensures leaf { IfOk result (λ first. IfSome first (λ f. begins_leaf (first_of f) ≡ begin_of_start (seen start.now.found) (seen_view self.old.rest))) }
         ensures container { IfOk result (λ first. IfNone first (begins_container (seen start.now.found) ≡ true)) }
         ensures read { ReadOnce self.old self.new }
     {

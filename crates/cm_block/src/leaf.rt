@@ -1,6 +1,6 @@
 //! The leaf block that is open, and what one more line does to it (chapter 4).
 ghost use Rattle.std.specs.Prelude.{◌≡◌, ◌+◌, ◌≤◌, ◌&&◌, Some, true, IfOk};
-ghost use Rattle.cm_text.specs.Views.{line_of};
+ghost use Rattle.cm_text.specs.Views.{seen_view};
 ghost use Rattle.cm_scan.specs.Lines.{is_blank};
 ghost use Rattle.cm_scan.specs.HtmlBlocks.{ends_at_blank_line};
 ghost use Rattle.cm_scan.specs.HtmlKinds.{kind_of};
@@ -68,7 +68,7 @@ fn ends_at_blank_line(kind: HtmlKind) -> bool
 
 /// Whether the line is none of an HTML block of this kind: it is blank and ends that.
 fn leaves_html(kind: HtmlKind, line: &mut CountedLine<'_>) -> bool
-    ensures leaves { result ≡ (ends_at_blank_line (kind_of kind) && is_blank (line_of line.old.rest)) }
+    ensures leaves { result ≡ (ends_at_blank_line (kind_of kind) && is_blank (seen_view line.old.rest)) }
     ensures same { line.new.rest ≡ line.old.rest }
     ensures tests { Tested 0 1 line.old.tests line.new.tests }
 {
@@ -122,7 +122,7 @@ impl OpenLeaf {
         rules: Rules,
         line: &mut CountedLine<'_>,
     ) -> Result<LeafLine, AllocError>
-        ensures line { IfOk result (λ taken. taken_of taken (leaf_of self.new) ≡ line_of_leaf rules (leaf_of self.old) (line_of line.old.rest)) }
+        ensures line { IfOk result (λ taken. taken_of taken (leaf_of self.new) ≡ line_of_leaf rules (leaf_of self.old) (seen_view line.old.rest)) }
         ensures left { IfOk result (λ taken. leaf_of self.new ≡ left_open taken (leaf_of self.old) (leaf_of self.new)) }
         ensures same { line.new.rest ≡ line.old.rest }
         ensures tests { Tested 0 4 line.old.tests line.new.tests }

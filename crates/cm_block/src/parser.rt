@@ -1,8 +1,8 @@
 //! The block structure of a document, line by line.
 ghost use Rattle.std.specs.Prelude.{◌≡◌, ◌≢◌, ◌+◌, ◌-◌, ◌<◌, ◌≤◌, ◌∷◌, ◌++◌, [], List, None, true, false, length, suc, Some, Err, IfOk, IfErr, OnOk};
 ghost use Rattle.cm_text.specs.Answers.{answer_after};
-ghost use Rattle.cm_text.specs.Lines.{LineView, view_of};
-ghost use Rattle.cm_text.specs.Views.{line_of};
+ghost use Rattle.cm_text.specs.Lines.{LineView, seen_line};
+ghost use Rattle.cm_text.specs.Views.{seen_view};
 ghost use Rattle.cm_block.specs.declared.fault.BlockFault as faults;
 ghost use Rattle.cm_block.specs.declared.fault.BlockFault.TheVariants as block_faults;
 ghost use Rattle.cm_block.specs.OpenLeaf.{no_leaf};
@@ -140,7 +140,7 @@ impl BlockParser {
         requires plain { self.old.stack.bare ≡ false }
         requires leaf { leaf_of self.old.leaf ≡ no_leaf }
         requires start { begins_container (seen start.now.found) ≡ false }
-        ensures pushed { OnOk result (LeafBegins start.now.found (line_of line.old.rest) self.old.stack self.old.owners (stack_of self.new)) }
+        ensures pushed { OnOk result (LeafBegins start.now.found (seen_view line.old.rest) self.old.stack self.old.owners (stack_of self.new)) }
         ensures tests { OnOk result (Tested 0 1 line.old.tests line.new.tests) }
         ensures frames { self.new.stack.frames ≡ self.old.stack.frames }
         ensures limits { self.new.limits ≡ self.old.limits }
@@ -166,11 +166,11 @@ impl BlockParser {
     fn begin(&mut self, line: &mut CountedLine<'_>) -> Result<(), BlockFault>
         requires plain { self.old.stack.bare ≡ false }
         requires leaf { leaf_of self.old.leaf ≡ no_leaf }
-        ensures pushed { OnOk result (stack_of self.new ≡ begun self.old.limits.rules self.old.stack (line_of line.old.rest) self.old.owners) }
+        ensures pushed { OnOk result (stack_of self.new ≡ begun self.old.limits.rules self.old.stack (seen_view line.old.rest) self.old.owners) }
         ensures few { OnOk result (length self.new.stack.frames ≤ self.old.limits.blocks) }
         ensures deeper { OnOk result (length self.old.stack.frames ≤ length self.new.stack.frames) }
         ensures tests { OnOk result (Tested (length self.new.stack.frames - length self.old.stack.frames) (length self.new.stack.frames - length self.old.stack.frames + 2) line.old.tests line.new.tests) }
-        ensures deep { IfErr result (λ fault. DeepIn fault self.old.limits.blocks (begun self.old.limits.rules self.old.stack (line_of line.old.rest) self.old.owners) self.old.owners) }
+        ensures deep { IfErr result (λ fault. DeepIn fault self.old.limits.blocks (begun self.old.limits.rules self.old.stack (seen_view line.old.rest) self.old.owners) self.old.owners) }
         ensures limits { self.new.limits ≡ self.old.limits }
         ensures fault { self.new.fault ≡ self.old.fault }
     {
@@ -192,7 +192,7 @@ impl BlockParser {
     /// A line that stays in so many of the open containers, if it is one of the open leaf: whether it is.
     fn take_to_leaf(&mut self, depth: usize, line: &mut CountedLine<'_>) -> Result<bool, NoMemory>
         requires plain { self.old.stack.bare ≡ false }
-        ensures taken { IfOk result (λ taken. TakenToLeaf taken depth self.old (line_of line.old.rest) self.new) }
+        ensures taken { IfOk result (λ taken. TakenToLeaf taken depth self.old (seen_view line.old.rest) self.new) }
         ensures same { line.new.rest ≡ line.old.rest }
         ensures tests { Tested 0 4 line.old.tests line.new.tests }
         ensures leaves { IfOk result (λ taken. taken ≡ false → line.new.tests ≤ line.old.tests + 3) }
@@ -222,11 +222,11 @@ impl BlockParser {
 
     /// One more line.
     fn accept(&mut self, line: &mut CountedLine<'_>) -> Result<(), BlockFault>
-        ensures pushed { OnOk result (stack_of self.new ≡ push_line self.old.limits.rules (stack_of self.old) (line_of line.old.rest)) }
+        ensures pushed { OnOk result (stack_of self.new ≡ push_line self.old.limits.rules (stack_of self.old) (seen_view line.old.rest)) }
         ensures few { OnOk result (length self.old.stack.frames ≤ self.old.limits.blocks → length self.new.stack.frames ≤ self.old.limits.blocks) }
         ensures tests { OnOk result (length self.old.stack.frames ≤ self.old.limits.blocks →
             Tested (count_of (stack_of self.new) - count_of (stack_of self.old)) (self.old.limits.blocks + 5) line.old.tests line.new.tests) }
-        ensures deep { IfErr result (λ fault. Deep fault self.old.limits (stack_of self.old) (line_of line.old.rest)) }
+        ensures deep { IfErr result (λ fault. Deep fault self.old.limits (stack_of self.old) (seen_view line.old.rest)) }
         ensures limits { self.new.limits ≡ self.old.limits }
         ensures fault { self.new.fault ≡ self.old.fault }
     {
@@ -249,8 +249,8 @@ impl BlockParser {
     /// `BlocksTooDeep` in the call that brings the first line with more quotes and items round it than the
     /// limit, `NoMemory` where a request for memory was refused; the same fault from then on.
     pub fn line(&mut self, line: &Line) -> Result<(), BlockFault>
-        ensures stands { OnOk result ((lines : List LineView) → StandsFor self.old lines → StandsFor self.new (lines ++ view_of line.now ∷ [])) }
-        ensures told { IfErr result (λ fault. (lines : List LineView) → StandsFor self.old lines → TellsDepth fault self.old.limits (lines ++ view_of line.now ∷ [])) }
+        ensures stands { OnOk result ((lines : List LineView) → StandsFor self.old lines → StandsFor self.new (lines ++ seen_line line.now ∷ [])) }
+        ensures told { IfErr result (λ fault. (lines : List LineView) → StandsFor self.old lines → TellsDepth fault self.old.limits (lines ++ seen_line line.now ∷ [])) }
         ensures answer { result ≡ answer_after self.new.fault }
         ensures failed { self.old.fault ≢ None → self.new ≡ self.old }
         ensures limits { self.new.limits ≡ self.old.limits }
@@ -265,8 +265,8 @@ impl BlockParser {
     /// `BlocksTooDeep` in the call that brings the first line with more quotes and items round it than the
     /// limit, `NoMemory` where a request for memory was refused; the same fault from then on.
     pub fn line_view(&mut self, line: &View<'_>) -> Result<(), BlockFault>
-        ensures stands { OnOk result ((lines : List LineView) → StandsFor self.old lines → StandsFor self.new (lines ++ line_of line.now ∷ [])) }
-        ensures told { IfErr result (λ fault. (lines : List LineView) → StandsFor self.old lines → TellsDepth fault self.old.limits (lines ++ line_of line.now ∷ [])) }
+        ensures stands { OnOk result ((lines : List LineView) → StandsFor self.old lines → StandsFor self.new (lines ++ seen_view line.now ∷ [])) }
+        ensures told { IfErr result (λ fault. (lines : List LineView) → StandsFor self.old lines → TellsDepth fault self.old.limits (lines ++ seen_view line.now ∷ [])) }
         ensures answer { result ≡ answer_after self.new.fault }
         ensures failed { self.old.fault ≢ None → self.new ≡ self.old }
         ensures limits { self.new.limits ≡ self.old.limits }

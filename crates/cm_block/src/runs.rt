@@ -1,6 +1,6 @@
 //! Runs of text, whose source has link reference definitions at its front.
 ghost use Rattle.std.specs.Prelude.{◌≡◌, ◌+◌, ◌<◌, ◌≤◌, ◌^◌, not, true, IfSome, IfNone};
-ghost use Rattle.cm_text.specs.Views.{line_of};
+ghost use Rattle.cm_text.specs.Views.{seen_view};
 ghost use Rattle.cm_scan.specs.Words.{is_empty};
 ghost use Rattle.cm_scan.specs.Links.{definitions_of};
 ghost use Rattle.cm_scan.specs.Blocks.{line_feeds, rest_of, next_line};
@@ -55,7 +55,7 @@ pub(crate) enum NextLine {
 /// The level of a heading that the line makes of a run with this source. It needs something above the line
 /// that is no definition (4.3 Setext headings).
 fn heading_level(source: &str, line: &mut CountedLine<'_>) -> Option<u8>
-    ensures level { result ≡ heading_level source.now (line_of line.old.rest) }
+    ensures level { result ≡ heading_level source.now (seen_view line.old.rest) }
     ensures read { ReadOnce line.old line.new }
 {
     let level = line.underline()?;
@@ -67,7 +67,7 @@ fn heading_level(source: &str, line: &mut CountedLine<'_>) -> Option<u8>
 
 /// What the next line is to a run with this source. An underline wins over a thematic break and an item.
 pub(crate) fn next_line(rules: Rules, source: &str, line: &mut CountedLine<'_>) -> NextLine
-    ensures next { next_of result ≡ next_line rules source.now (line_of line.old.rest) }
+    ensures next { next_of result ≡ next_line rules source.now (seen_view line.old.rest) }
     ensures same { line.new.rest ≡ line.old.rest }
     ensures tests { Tested 1 3 line.old.tests line.new.tests }
     ensures lazy { result ≡ Ends → line.old.rest.lazy ≡ true → line.new.tests ≤ line.old.tests + 1 }

@@ -1,7 +1,7 @@
 //! The open quotes and items.
 ghost use Rattle.std.specs.Prelude.{◌≡◌, ◌<◌, ◌≤◌, ◌∷◌, ◌++◌, ◌+◌, ◌&&◌, [], true, false, suc, List, length, take, drop, OnOk, IfOk};
 ghost use Rattle.cm_text.specs.Rules as all;
-ghost use Rattle.cm_text.specs.Views.{line_of};
+ghost use Rattle.cm_text.specs.Views.{seen_view};
 ghost use Rattle.cm_scan.specs.Words.{given};
 ghost use Rattle.cm_scan.specs.Starts.{place_if_lazy};
 ghost use Rattle.cm_block.specs.steps.LineTests.{Tested};
@@ -46,7 +46,7 @@ impl Container {
     /// Takes a line in, if it stays in the container by itself, and answers whether it does. `bare` says of an item
     /// that there is only its marker so far, with nothing on its line.
     fn has_inside(&self, bare: bool, line: &mut CountedLine<'_>) -> bool
-        ensures place { (by : all.Rules) → IsInside result (place_in by (container_of self.now) bare (line_of line.old.rest)) (place_if_lazy by (line_of line.old.rest)) (line_of line.new.rest) }
+        ensures place { (by : all.Rules) → IsInside result (place_in by (container_of self.now) bare (seen_view line.old.rest)) (place_if_lazy by (seen_view line.old.rest)) (seen_view line.new.rest) }
         ensures same { result ≡ false → line.new.rest ≡ line.old.rest }
         ensures tests { Tested 1 1 line.old.tests line.new.tests }
     {
@@ -65,7 +65,7 @@ impl Container {
         open_text: bool,
         line: &mut CountedLine<'_>,
     ) -> Stays
-        ensures line { given (stays result) (line_of line.new.rest) ≡ inward rules (container_of self.now) bare open_text (line_of line.old.rest) }
+        ensures line { given (stays result) (seen_view line.new.rest) ≡ inward rules (container_of self.now) bare open_text (seen_view line.old.rest) }
         ensures same { result ≡ Leaves → line.new.rest ≡ line.old.rest }
         ensures lazy { result ≡ Lazily → line.new.rest.lazy ≡ true }
         ensures tests { Tested 1 2 line.old.tests line.new.tests }
@@ -104,7 +104,7 @@ fn matching(
     open_text: bool,
     line: &mut CountedLine<'_>,
 ) -> usize
-    ensures line { (raw : Raw) → (result, line_of line.new.rest) ≡ matching rules bare open_text (frames_in raw frames.now) (line_of line.old.rest) }
+    ensures line { (raw : Raw) → (result, seen_view line.new.rest) ≡ matching rules bare open_text (frames_in raw frames.now) (seen_view line.old.rest) }
     ensures tests { Tested 0 (suc (length frames.now)) line.old.tests line.new.tests }
     ensures stays { line.new.tests ≤ line.old.tests + result + 2 }
     ensures plain { line.new.rest.lazy ≡ false → length frames.now ≤ result → line.new.tests ≤ line.old.tests + result }
@@ -185,8 +185,8 @@ impl Stack {
         line: &mut CountedLine<'_>,
         open_text: bool,
     ) -> usize
-        ensures line { (result, line_of line.new.rest)
-            ≡ matching rules self.now.bare open_text self.now.frames (line_of line.old.rest) }
+        ensures line { (result, seen_view line.new.rest)
+            ≡ matching rules self.now.bare open_text self.now.frames (seen_view line.old.rest) }
         ensures tests { Tested 0 (suc (length self.now.frames)) line.old.tests line.new.tests }
         ensures stays { line.new.tests ≤ line.old.tests + result + 2 }
         ensures plain { line.new.rest.lazy ≡ false → length self.now.frames ≤ result → line.new.tests ≤ line.old.tests + result }

@@ -17,7 +17,7 @@ use Rattle.cm_scan.specs.Links.{Reading}
 use Rattle.cm_scan.specs.Autolinks.{Autolink, autolink}
 use Rattle.cm_scan.specs.RawHtml.{raw_html}
 use Rattle.cm_scan.specs.Angles.{Angled, Addressed, Tagged, before, tagged, at_angle}
-use Rattle.cm_scan.specs.CodeSpans.{content_of, one_line, stripped, code_span}
+use Rattle.cm_scan.specs.CodeSpans.{span_content, one_line, stripped, code_span}
 use Rattle.cm_scan.specs.Scanned.{whole_of}
 use Rattle.cm_scan.specs.Delimiters as delimiters
 use Rattle.cm_scan.specs.Pairing as items
@@ -125,7 +125,7 @@ module _ (rules : Rules) (source : List ℕ) (at : ℕ) where
       here rules source at 96 s ∙ ap (λ t. or_byte 96 (drop (at + 1) source) (backtick_atom t)) (sym (front source at 96 s))
       ∙ ap (λ t. or_byte 96 (drop (at + 1) source) (span_or (drop at source) t)) (sym h)
 
-  pub code-span-is : (inside : List ℕ) (end : ℕ) → Stands source at 96 → content_of (Some (record { text = inside; rest = drop end source })) ≡ code_span (drop at source) → IsCharBoundary source end
+  pub code-span-is : (inside : List ℕ) (end : ℕ) → Stands source at 96 → span_content (Some (record { text = inside; rest = drop end source })) ≡ code_span (drop at source) → IsCharBoundary source end
       → IsAtom rules source at (finished (inline.Code (stripped (one_line inside))) 0) end
   code-span-is inside end s h boundary =
       is-atom _ end (record { atom = Whole (inline.Code (stripped (one_line inside))); rest = drop end source }) s.within

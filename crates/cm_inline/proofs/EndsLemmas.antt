@@ -11,7 +11,7 @@ use Rattle.std.proofs.lemmas.List.{drop_all}
 use Rattle.memchr.specs.Find.{IsFirstByte, is_byte}
 use Rattle.cm_text.specs.Rules.{Rules}
 use Rattle.cm_scan.specs.Words.{run_length, after_run}
-use Rattle.cm_scan.specs.RawHtml.{past, raw_html}
+use Rattle.cm_scan.specs.RawHtml.{behind_word, raw_html}
 use Rattle.cm_scan.specs.CodeSpans.{up_to_run, spanned_as_written}
 use Rattle.cm_scan.specs.SpanLaws.{NeedsEnd}
 use Rattle.cm_scan.proofs.HtmlLemmas.{slice_from, starts_at}
@@ -25,12 +25,12 @@ use Rattle.cm_inline.specs.declared.ends.Ends.{Ends}
 use Rattle.cm_inline.specs.steps.Missing.{start_of, end_of, Missing, missing_from, behind_last, Knows, NoneFrom}
 
 -- at the end of a source stands no word
-past-nothing : (word : List ℕ) → past word [] ≡ None
-unfolding past
+past-nothing : (word : List ℕ) → behind_word word [] ≡ None
+unfolding behind_word
 past-nothing word = refl
 
 missing-at-end : (word source : List ℕ) → Missing source word (length source)
-missing-at-end word source later high = ap (past word) (drop_all later source high) ∙ past-nothing word
+missing-at-end word source later high = ap (behind_word word) (drop_all later source high) ∙ past-nothing word
 
 -- what is said of a source before anything is looked for
 abbrev of_length : ℕ → Ends
@@ -69,14 +69,14 @@ form-begins text form told result there h = subst (λ r. IfSome r (Begins text))
 
 -- so no raw HTML begins where its end is missing
 
-needs-none : (start end : List ℕ) → NeedsEnd start end → (rules : Rules) (text rest : List ℕ) → text ≡ start ++ rest → past end text ≡ None → raw_html rules text ≡ None
-needs-none start end needs rules text rest begins missing = ap (raw_html rules) begins ∙ needs rules rest (ap (past end) (sym begins) ∙ missing)
+needs-none : (start end : List ℕ) → NeedsEnd start end → (rules : Rules) (text rest : List ℕ) → text ≡ start ++ rest → behind_word end text ≡ None → raw_html rules text ≡ None
+needs-none start end needs rules text rest begins missing = ap (raw_html rules) begins ∙ needs rules rest (ap (behind_word end) (sym begins) ∙ missing)
 
 pub no-raw-html : (rules : Rules) (source : List ℕ) (ends : Ends) (form : Form) (at : ℕ) → Knows source ends → missing_from ends form ≤ at
     → ((rest : List ℕ) × (drop at source ≡ start_of form ++ rest)) → raw_html rules (drop at source) ≡ None
 no-raw-html rules source ends form at knows low begins = go form begins (knows.forms form at low)
   where
-    go : (f : Form) → ((rest : List ℕ) × (drop at source ≡ start_of f ++ rest)) → past (end_of f) (drop at source) ≡ None → raw_html rules (drop at source) ≡ None
+    go : (f : Form) → ((rest : List ℕ) × (drop at source ≡ start_of f ++ rest)) → behind_word (end_of f) (drop at source) ≡ None → raw_html rules (drop at source) ≡ None
     go Comment b missing = needs-none (codes "<!--") (codes "-->") comment-needs rules (drop at source) b.0 b.1 missing
     go Instruction b missing = needs-none (codes "<?") (codes "?>") instruction-needs rules (drop at source) b.0 b.1 missing
     go CharacterData b missing = needs-none (codes "<![CDATA[") (codes "]]>") section-needs rules (drop at source) b.0 b.1 missing

@@ -2,14 +2,14 @@
 use Rattle.std.proofs.Common.{◌≡◌, ◌≢◌, ℕ, ◌<◌, ◌==◌, Bool, true, false, List, [], ◌∷◌, ◌++◌, length, Option, Some, None, IfSome, refl, sym, ap, subst, ◌∙◌, arith}
 use Rattle.std.proofs.lemmas.List.{length-append}
 use Rattle.cm_scan.specs.Words.{is_empty, given}
-use Rattle.cm_scan.specs.Links.{Reading, behind, keep_if, escapes_next, closed_by, is_label, label}
+use Rattle.cm_scan.specs.Links.{Reading, behind, keep_if, escapes_next, up_to_closing, is_label, label}
 use Rattle.cm_tree.specs.Definitions.{Target}
 use Rattle.cm_scan.specs.Brackets.{Defined, target_of, target_between}
 use Rattle.cm_scan.proofs.ClosedLemmas.{ahead}
 
 -- up to the first right bracket that nothing escapes
 abbrev inside_of : Bool → List ℕ → Option Reading
-inside_of escaped text = closed_by (λ c. c == 93) (λ c. c == 91) escaped text
+inside_of escaped text = up_to_closing (λ c. c == 93) (λ c. c == 91) escaped text
 
 -- a text with a right bracket behind it, and what follows
 abbrev closing : List ℕ → List ℕ → List ℕ
@@ -40,19 +40,19 @@ passed escaped mark b bs step (nowhere h) = nowhere (λ more. step more ∙ ap (
 passed escaped mark b bs step (beyond h) = beyond (λ more. step more ∙ ap (behind b) (h more) ∙ behind-ahead b (closing bs []) (inside_of false more))
 
 closes-here : (b : ℕ) (bs : List ℕ) → (b == 93) ≡ true → inside_of false (b ∷ bs) ≡ Some (record { text = []; rest = bs })
-unfolding closed_by
+unfolding up_to_closing
 closes-here b bs h = grind (arith, h)
 
 refused-here : (b : ℕ) (bs : List ℕ) → (b == 93) ≡ false → (b == 91) ≡ true → inside_of false (b ∷ bs) ≡ None
-unfolding closed_by
+unfolding up_to_closing
 refused-here b bs h k = grind (arith, h, k)
 
 goes-on : (b : ℕ) (bs : List ℕ) → (b == 93) ≡ false → (b == 91) ≡ false → inside_of false (b ∷ bs) ≡ behind b (inside_of (escapes_next b bs) bs)
-unfolding closed_by
+unfolding up_to_closing
 goes-on b bs h k = grind (arith, h, k)
 
 escaped-here : (b : ℕ) (bs : List ℕ) → inside_of true (b ∷ bs) ≡ behind b (inside_of false bs)
-unfolding closed_by
+unfolding up_to_closing
 escaped-here b bs = refl
 
 behind-one : (b : ℕ) (o : Option Reading) → behind b o ≡ ahead (b ∷ []) o
@@ -77,7 +77,7 @@ less-behind b bs None h = tt
 less-behind b bs (Some r) h = omega (arith, h)
 
 less-left : (escaped : Bool) (text : List ℕ) → IfSome (inside_of escaped text) (λ r. length r.rest < length text)
-unfolding closed_by
+unfolding up_to_closing
 less-left true [] = tt
 less-left false [] = tt
 less-left true (b ∷ bs) = less-behind b bs (inside_of false bs) (less-left false bs)
@@ -145,7 +145,7 @@ label_between defined between rest r read ends = go (where_it_ends false between
         absurd (omega (arith, ends, less))
 
 nothing-inside : inside_of false [] ≡ None
-unfolding closed_by
+unfolding up_to_closing
 nothing-inside = refl
 
 left-empty : (left : List ℕ) → is_empty (closing left []) ≡ false

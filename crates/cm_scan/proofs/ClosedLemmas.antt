@@ -9,7 +9,7 @@ use Rattle.std.proofs.lemmas.Bool.Decides.{nat_tests}
 use Rattle.cm_text.specs.Characters.{is_ascii_punct}
 use Rattle.cm_scan.specs.Words.{is_space_or_tab, skip, trim_start, begins_with}
 use Rattle.cm_scan.specs.Tags.{is_blank_byte}
-use Rattle.cm_scan.specs.Links.{Reading, behind, keep_if, escapes_next, closed_by, characters, has_blank_line}
+use Rattle.cm_scan.specs.Links.{Reading, behind, keep_if, escapes_next, up_to_closing, characters, has_blank_line}
 use Rattle.cm_scan.specs.steps.LinkSteps.{closed_at, begins_character, fits, is_barred, blank_follows, is_plain, is_refused}
 
 -- whether the byte behind this one is escaped
@@ -94,58 +94,58 @@ keep-blank most b (Some r) k = grind (arith, nat_tests, k)
 
 module _ (closes forbidden : ℕ → Bool) where
   closed-more : (escaped : Bool) (b : ℕ) (bs : List ℕ) → (not escaped && closes b) ≡ false → (not escaped && forbidden b) ≡ false
-      → closed_by closes forbidden escaped (b ∷ bs) ≡ behind b (closed_by closes forbidden (mark escaped b bs) bs)
-  unfolding closed_by
+      → up_to_closing closes forbidden escaped (b ∷ bs) ≡ behind b (up_to_closing closes forbidden (mark escaped b bs) bs)
+  unfolding up_to_closing
   closed-more true b bs h k = refl
   closed-more false b bs h k = grind (arith, h, k)
 
-  closed-forbidden : (b : ℕ) (bs : List ℕ) → closes b ≡ false → forbidden b ≡ true → closed_by closes forbidden false (b ∷ bs) ≡ None
-  unfolding closed_by
+  closed-forbidden : (b : ℕ) (bs : List ℕ) → closes b ≡ false → forbidden b ≡ true → up_to_closing closes forbidden false (b ∷ bs) ≡ None
+  unfolding up_to_closing
   closed-forbidden b bs h k = grind (arith, h, k)
 
-  closed-closes : (b : ℕ) (bs : List ℕ) → closes b ≡ true → closed_by closes forbidden false (b ∷ bs) ≡ Some (record { text = []; rest = bs })
-  unfolding closed_by
+  closed-closes : (b : ℕ) (bs : List ℕ) → closes b ≡ true → up_to_closing closes forbidden false (b ∷ bs) ≡ Some (record { text = []; rest = bs })
+  unfolding up_to_closing
   closed-closes b bs h = grind (arith, h)
 
   module _ (c : NoBlanks closes) (f : NoSpaces forbidden) where
     -- the part that is read begins with a blank line where the text does
-    blank-same : (bs : List ℕ) → IfSome (closed_by closes forbidden false bs) (λ r. begins_with 10 (trim_start r.text) ≡ begins_with 10 (trim_start bs))
-    unfolding closed_by skip
+    blank-same : (bs : List ℕ) → IfSome (up_to_closing closes forbidden false bs) (λ r. begins_with 10 (trim_start r.text) ≡ begins_with 10 (trim_start bs))
+    unfolding up_to_closing skip
     blank-same [] = tt
     blank-same (b ∷ bs) = by_byte (is_space_or_tab b) (b == 10) refl refl (blank-same bs)
       where
         by_byte : (blank feed : Bool) → is_space_or_tab b ≡ blank → (b == 10) ≡ feed
-            → IfSome (closed_by closes forbidden false bs) (λ r. begins_with 10 (trim_start r.text) ≡ begins_with 10 (trim_start bs))
-            → IfSome (closed_by closes forbidden false (b ∷ bs)) (λ r. begins_with 10 (trim_start r.text) ≡ begins_with 10 (trim_start (b ∷ bs)))
+            → IfSome (up_to_closing closes forbidden false bs) (λ r. begins_with 10 (trim_start r.text) ≡ begins_with 10 (trim_start bs))
+            → IfSome (up_to_closing closes forbidden false (b ∷ bs)) (λ r. begins_with 10 (trim_start r.text) ≡ begins_with 10 (trim_start (b ∷ bs)))
         by_byte true feed h k l =
             let blank : is_blank_byte b ≡ true = grind (arith, h) in
-            let more = closed-more false b bs (c b blank) (f b h) ∙ ap (λ m. behind b (closed_by closes forbidden m bs)) (no-mark false b bs blank) in
+            let more = closed-more false b bs (c b blank) (f b h) ∙ ap (λ m. behind b (up_to_closing closes forbidden m bs)) (no-mark false b bs blank) in
             subst (λ o. IfSome o (λ r. begins_with 10 (trim_start r.text) ≡ begins_with 10 (trim_start (b ∷ bs)))) (sym more)
             (if-behind (λ r. begins_with 10 (trim_start r.text) ≡ begins_with 10 (trim_start bs)) (λ r. begins_with 10 (trim_start r.text) ≡ begins_with 10 (trim_start (b ∷ bs))) b
-            (closed_by closes forbidden false bs) (λ r e. grind (arith, h, e)) l)
+            (up_to_closing closes forbidden false bs) (λ r e. grind (arith, h, e)) l)
         by_byte false true h k l =
             let blank : is_blank_byte b ≡ true = grind (arith, k) in
             by_feed (forbidden b) refl (c b blank)
           where
             by_feed : (barred : Bool) → forbidden b ≡ barred → closes b ≡ false
-                → IfSome (closed_by closes forbidden false (b ∷ bs)) (λ r. begins_with 10 (trim_start r.text) ≡ begins_with 10 (trim_start (b ∷ bs)))
+                → IfSome (up_to_closing closes forbidden false (b ∷ bs)) (λ r. begins_with 10 (trim_start r.text) ≡ begins_with 10 (trim_start (b ∷ bs)))
             by_feed true q p = subst (λ o. IfSome o (λ r. begins_with 10 (trim_start r.text) ≡ begins_with 10 (trim_start (b ∷ bs)))) (sym (closed-forbidden b bs p q)) tt
             by_feed false q p = subst (λ o. IfSome o (λ r. begins_with 10 (trim_start r.text) ≡ begins_with 10 (trim_start (b ∷ bs)))) (sym (closed-more false b bs p q))
                 (if-behind (λ r. Unit {0}) (λ r. begins_with 10 (trim_start r.text) ≡ begins_with 10 (trim_start (b ∷ bs))) b
-                (closed_by closes forbidden (mark false b bs) bs) (λ r e. grind (arith, h, k)) (if-any _))
+                (up_to_closing closes forbidden (mark false b bs) bs) (λ r e. grind (arith, h, k)) (if-any _))
         by_byte false false h k l = by_test (closes b) (forbidden b) refl refl
           where
             by_test : (closing barred : Bool) → closes b ≡ closing → forbidden b ≡ barred
-                → IfSome (closed_by closes forbidden false (b ∷ bs)) (λ r. begins_with 10 (trim_start r.text) ≡ begins_with 10 (trim_start (b ∷ bs)))
+                → IfSome (up_to_closing closes forbidden false (b ∷ bs)) (λ r. begins_with 10 (trim_start r.text) ≡ begins_with 10 (trim_start (b ∷ bs)))
             by_test true barred p q = subst (λ o. IfSome o (λ r. begins_with 10 (trim_start r.text) ≡ begins_with 10 (trim_start (b ∷ bs)))) (sym (closed-closes b bs p)) (grind (arith, h, k))
             by_test false true p q = subst (λ o. IfSome o (λ r. begins_with 10 (trim_start r.text) ≡ begins_with 10 (trim_start (b ∷ bs)))) (sym (closed-forbidden b bs p q)) tt
             by_test false false p q = subst (λ o. IfSome o (λ r. begins_with 10 (trim_start r.text) ≡ begins_with 10 (trim_start (b ∷ bs)))) (sym (closed-more false b bs p q))
                 (if-behind (λ r. Unit {0}) (λ r. begins_with 10 (trim_start r.text) ≡ begins_with 10 (trim_start (b ∷ bs))) b
-                (closed_by closes forbidden (mark false b bs) bs) (λ r e. grind (arith, h, k)) (if-any _))
+                (up_to_closing closes forbidden (mark false b bs) bs) (λ r e. grind (arith, h, k)) (if-any _))
 
 -- a part with so many characters at most, with or without blank lines
 abbrev pub part : (ℕ → Bool) → (ℕ → Bool) → ℕ → Bool → Bool → List ℕ → Option Reading
-part closes forbidden most blank_lines escaped text = keep_if (fits most blank_lines) (closed_by closes forbidden escaped text)
+part closes forbidden most blank_lines escaped text = keep_if (fits most blank_lines) (up_to_closing closes forbidden escaped text)
 
 -- bytes in front of what was read
 abbrev pub ahead : List ℕ → Option Reading → Option Reading
@@ -173,7 +173,7 @@ slice-more text from at low high =
 -- the end of the text
 pub part-none : (closes forbidden : ℕ → Bool) (most : ℕ) (blank_lines escaped : Bool) (text : List ℕ) (from at : ℕ) → length text ≤ at
     → ahead_from text from at (part closes forbidden most blank_lines escaped (drop at text)) ≡ None
-unfolding closed_by
+unfolding up_to_closing
 part-none closes forbidden most blank_lines escaped text from at past =
     let none : drop at text ≡ [] = drop_all at text past in
     rw none (nothing escaped)
@@ -197,15 +197,15 @@ module _ (closes forbidden : ℕ → Bool) where
 
   module _ (c : NoBlanks closes) (f : NoSpaces forbidden) where
     -- a blank line that follows is read
-    follows-same : (b : ℕ) (bs : List ℕ) (escaped : Bool) → IfSome (closed_by closes forbidden (mark escaped b bs) bs) (λ r. blank_follows b r.text ≡ blank_follows b bs)
+    follows-same : (b : ℕ) (bs : List ℕ) (escaped : Bool) → IfSome (up_to_closing closes forbidden (mark escaped b bs) bs) (λ r. blank_follows b r.text ≡ blank_follows b bs)
     follows-same b bs escaped = by_byte (b == 10) refl
       where
-        by_byte : (feed : Bool) → (b == 10) ≡ feed → IfSome (closed_by closes forbidden (mark escaped b bs) bs) (λ r. blank_follows b r.text ≡ blank_follows b bs)
-        by_byte false h = if-all (λ r. blank_follows b r.text ≡ blank_follows b bs) (closed_by closes forbidden (mark escaped b bs) bs) (λ r. grind (arith, h))
+        by_byte : (feed : Bool) → (b == 10) ≡ feed → IfSome (up_to_closing closes forbidden (mark escaped b bs) bs) (λ r. blank_follows b r.text ≡ blank_follows b bs)
+        by_byte false h = if-all (λ r. blank_follows b r.text ≡ blank_follows b bs) (up_to_closing closes forbidden (mark escaped b bs) bs) (λ r. grind (arith, h))
         by_byte true h =
             let blank : is_blank_byte b ≡ true = grind (arith, h) in
-            subst (λ m. IfSome (closed_by closes forbidden m bs) (λ r. blank_follows b r.text ≡ blank_follows b bs)) (sym (no-mark escaped b bs blank))
-            (if-some (λ r. begins_with 10 (trim_start r.text) ≡ begins_with 10 (trim_start bs)) (λ r. blank_follows b r.text ≡ blank_follows b bs) (closed_by closes forbidden false bs)
+            subst (λ m. IfSome (up_to_closing closes forbidden m bs) (λ r. blank_follows b r.text ≡ blank_follows b bs)) (sym (no-mark escaped b bs blank))
+            (if-some (λ r. begins_with 10 (trim_start r.text) ≡ begins_with 10 (trim_start bs)) (λ r. blank_follows b r.text ≡ blank_follows b bs) (up_to_closing closes forbidden false bs)
             (λ r e. ap (λ t. b == 10 && t) e) (blank-same closes forbidden c f bs))
 
     -- a byte that is passed over
@@ -214,8 +214,8 @@ module _ (closes forbidden : ℕ → Bool) where
         → part closes forbidden most blank_lines escaped (b ∷ bs) ≡ behind b (part closes forbidden (most - cond (begins_character b) 1 0) blank_lines (mark escaped b bs) bs)
     part-more most blank_lines escaped b bs h k l m =
         ap (keep_if (fits most blank_lines)) (closed-more closes forbidden escaped b bs h k)
-        ∙ keep-more most b blank_lines (closed_by closes forbidden (mark escaped b bs) bs) l
-        (if-some (λ r. blank_follows b r.text ≡ blank_follows b bs) (λ r. (not blank_lines && blank_follows b r.text) ≡ false) (closed_by closes forbidden (mark escaped b bs) bs)
+        ∙ keep-more most b blank_lines (up_to_closing closes forbidden (mark escaped b bs) bs) l
+        (if-some (λ r. blank_follows b r.text ≡ blank_follows b bs) (λ r. (not blank_lines && blank_follows b r.text) ≡ false) (up_to_closing closes forbidden (mark escaped b bs) bs)
         (λ r e. ap (λ t. not blank_lines && t) e ∙ m) (follows-same b bs escaped))
 
     pub part-step : (most : ℕ) (blank_lines escaped : Bool) (text : List ℕ) (from at : ℕ) → from ≤ at → at < length text
@@ -236,7 +236,7 @@ module _ (closes forbidden : ℕ → Bool) where
         → part closes forbidden most blank_lines escaped (b ∷ bs) ≡ None
     part-refused most blank_lines escaped b bs h k = by_test (not escaped && forbidden b) (most == 0 && begins_character b) refl refl
       where
-        more : (not escaped && forbidden b) ≡ false → closed_by closes forbidden escaped (b ∷ bs) ≡ behind b (closed_by closes forbidden (mark escaped b bs) bs)
+        more : (not escaped && forbidden b) ≡ false → up_to_closing closes forbidden escaped (b ∷ bs) ≡ behind b (up_to_closing closes forbidden (mark escaped b bs) bs)
         more e = closed-more closes forbidden escaped b bs h e
 
         by_test : (barred long : Bool) → (not escaped && forbidden b) ≡ barred → (most == 0 && begins_character b) ≡ long → part closes forbidden most blank_lines escaped (b ∷ bs) ≡ None
@@ -248,14 +248,14 @@ module _ (closes forbidden : ℕ → Bool) where
         by_test false true e l =
             let none : most ≡ 0 = grind (arith, nat_tests, l) in
             let begins : begins_character b ≡ true = grind (arith, l) in
-            ap (keep_if (fits most blank_lines)) (more e) ∙ ap (λ n. keep_if (fits n blank_lines) (behind b (closed_by closes forbidden (mark escaped b bs) bs))) none
-            ∙ too-long b blank_lines (closed_by closes forbidden (mark escaped b bs) bs) begins
+            ap (keep_if (fits most blank_lines)) (more e) ∙ ap (λ n. keep_if (fits n blank_lines) (behind b (up_to_closing closes forbidden (mark escaped b bs) bs))) none
+            ∙ too-long b blank_lines (up_to_closing closes forbidden (mark escaped b bs) bs) begins
         by_test false false e l =
             let blank : blank_lines ≡ false = grind (arith, e, l, k) in
             let follows : blank_follows b bs ≡ true = right_of (not blank_lines) (blank_follows b bs) (grind (arith, e, l, k)) in
-            ap (keep_if (fits most blank_lines)) (more e) ∙ ap (λ v. keep_if (fits most v) (behind b (closed_by closes forbidden (mark escaped b bs) bs))) blank
-            ∙ keep-blank most b (closed_by closes forbidden (mark escaped b bs) bs)
-            (if-some (λ r. blank_follows b r.text ≡ blank_follows b bs) (λ r. blank_follows b r.text ≡ true) (closed_by closes forbidden (mark escaped b bs) bs)
+            ap (keep_if (fits most blank_lines)) (more e) ∙ ap (λ v. keep_if (fits most v) (behind b (up_to_closing closes forbidden (mark escaped b bs) bs))) blank
+            ∙ keep-blank most b (up_to_closing closes forbidden (mark escaped b bs) bs)
+            (if-some (λ r. blank_follows b r.text ≡ blank_follows b bs) (λ r. blank_follows b r.text ≡ true) (up_to_closing closes forbidden (mark escaped b bs) bs)
             (λ r e. e ∙ follows) (follows-same b bs escaped))
 
     -- a byte that may not stand there

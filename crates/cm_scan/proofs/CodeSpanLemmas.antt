@@ -2,7 +2,7 @@
 use Rattle.std.proofs.Common.{◌≡◌, ℕ, zero, suc, Bool, true, false, not, ◌==◌, ◌&&◌, List, [], ◌∷◌, ◌++◌, Option, Some, None, refl, sym, ap, ◌∙◌}
 use Rattle.cm_scan.specs.Words.{is_empty, run_length, after_run}
 use Rattle.cm_scan.specs.Links.{Reading, behind}
-use Rattle.cm_scan.specs.CodeSpans.{up_to_run, one_line, stripped, content_of, spanned, code_span}
+use Rattle.cm_scan.specs.CodeSpans.{up_to_run, one_line, stripped, span_content, spanned, code_span}
 use Rattle.cm_scan.specs.SpanLaws.{keeps_run, CodeSpanGoesOn}
 use Rattle.cm_scan.proofs.ReadFurther.{longer, false-true, none-some}
 
@@ -124,12 +124,12 @@ code_span_goes_on text x span e h = go (run_length 96 text) refl e
     go zero f e = none-some e
     go (suc n) f e = found (up_to_run (suc n) false (after_run 96 text)) refl e
       where
-        found : (o : Option Reading) → up_to_run (suc n) false (after_run 96 text) ≡ o → content_of o ≡ Some span → spanned (run_length 96 (text ++ x)) (after_run 96 (text ++ x)) ≡ Some (longer span x)
+        found : (o : Option Reading) → up_to_run (suc n) false (after_run 96 text) ≡ o → span_content o ≡ Some span → spanned (run_length 96 (text ++ x)) (after_run 96 (text ++ x)) ≡ Some (longer span x)
         found None g e = none-some e
         found (Some r) g e =
             let same : record { text = stripped (one_line r.text); rest = r.rest } ≡ span = same-reading (record { text = stripped (one_line r.text); rest = r.rest }) span e in
             let keeps : keeps_run (after_run 96 text) x ≡ true = left-keeps (after_run 96 text) x (something-left (suc n) (after_run 96 text) r g) in
             ap (λ m. spanned m (after_run 96 (text ++ x))) (run-grows text x keeps ∙ f)
             ∙ ap (spanned (suc n)) (run-left text x keeps)
-            ∙ ap content_of (up_to_run-extends (suc n) false (after_run 96 text) x r g (ap (λ (t : Reading). keeps_run t.rest x) same ∙ h))
+            ∙ ap span_content (up_to_run-extends (suc n) false (after_run 96 text) x r g (ap (λ (t : Reading). keeps_run t.rest x) same ∙ h))
             ∙ ap (λ (t : Reading). Some (longer t x)) same

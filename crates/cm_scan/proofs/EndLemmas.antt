@@ -3,7 +3,7 @@ use Rattle.std.proofs.Common.{◌≡◌, ℕ, zero, suc, Bool, true, false, ◌=
 use Rattle.cm_text.specs.Rules.{Rules}
 use Rattle.cm_scan.specs.Words.{is_letter, is_letter_or_digit, skip, front_of, after_word, ◌<|>◌}
 use Rattle.cm_scan.specs.Tags.{Named, after_gap, is_blank_next, tag_name, begins_attribute, continues_attribute, is_unquoted, after_quoted, after_unquoted, after_value, after_specification, after_attribute, after_tag_end, after_attributes, with_rest, open_tag, closing_tag}
-use Rattle.cm_scan.specs.RawHtml.{behind_tag, past, from_to, short_end, after_comment, comment, instruction, after_declaration, declaration, character_data, raw_html}
+use Rattle.cm_scan.specs.RawHtml.{behind_tag, behind_word, from_to, short_end, after_comment, comment, instruction, after_declaration, declaration, character_data, raw_html}
 use Rattle.cm_scan.proofs.ReadFurther.{none-some, some-same}
 use Rattle.cm_scan.proofs.TagsFurther.{with_rest-read, enough, closes}
 use Rattle.cm_scan.proofs.RawHtmlLemmas.{word-front}
@@ -132,21 +132,21 @@ closing_tag-ends text tag e = go (after_word (codes "</") text) refl e
 
 -- the other forms
 
-past-ends : (front text rest : List ℕ) → past (front ++ 62 ∷ []) text ≡ Some rest → IsEnd (62 ∷ rest) text
-unfolding past
+past-ends : (front text rest : List ℕ) → behind_word (front ++ 62 ∷ []) text ≡ Some rest → IsEnd (62 ∷ rest) text
+unfolding behind_word
 past-ends front [] rest e = none-some e
 past-ends front (b ∷ bs) rest e = go (after_word (front ++ 62 ∷ []) (b ∷ bs)) refl e (λ g. past-ends front bs rest g)
   where
-    go : (o : Option (List ℕ)) → after_word (front ++ 62 ∷ []) (b ∷ bs) ≡ o → elim o as (λ _. Option (List ℕ)) [ Some r ↦ Some r | None ↦ past (front ++ 62 ∷ []) bs ] ≡ Some rest → (past (front ++ 62 ∷ []) bs ≡ Some rest → IsEnd (62 ∷ rest) bs) → IsEnd (62 ∷ rest) (b ∷ bs)
+    go : (o : Option (List ℕ)) → after_word (front ++ 62 ∷ []) (b ∷ bs) ≡ o → elim o as (λ _. Option (List ℕ)) [ Some r ↦ Some r | None ↦ behind_word (front ++ 62 ∷ []) bs ] ≡ Some rest → (behind_word (front ++ 62 ∷ []) bs ≡ Some rest → IsEnd (62 ∷ rest) bs) → IsEnd (62 ∷ rest) (b ∷ bs)
     go (Some r) f e k = word-ends front (b ∷ bs) rest (f ∙ e)
     go None f e k = behind-byte b bs (k e)
 
-past-end : (word text rest : List ℕ) → past word text ≡ Some rest → IsEnd rest text
-unfolding past
+past-end : (word text rest : List ℕ) → behind_word word text ≡ Some rest → IsEnd rest text
+unfolding behind_word
 past-end word [] rest e = none-some e
 past-end word (b ∷ bs) rest e = go (after_word word (b ∷ bs)) refl e (λ g. past-end word bs rest g)
   where
-    go : (o : Option (List ℕ)) → after_word word (b ∷ bs) ≡ o → elim o as (λ _. Option (List ℕ)) [ Some r ↦ Some r | None ↦ past word bs ] ≡ Some rest → (past word bs ≡ Some rest → IsEnd rest bs) → IsEnd rest (b ∷ bs)
+    go : (o : Option (List ℕ)) → after_word word (b ∷ bs) ≡ o → elim o as (λ _. Option (List ℕ)) [ Some r ↦ Some r | None ↦ behind_word word bs ] ≡ Some rest → (behind_word word bs ≡ Some rest → IsEnd rest bs) → IsEnd rest (b ∷ bs)
     go (Some r) f e k = word-end word (b ∷ bs) rest (f ∙ e)
     go None f e k = behind-byte b bs (k e)
 
@@ -154,7 +154,7 @@ from_to-ends : (start front text rest : List ℕ) → from_to start (front ++ 62
 unfolding from_to
 from_to-ends start front text rest e = go (after_word start text) refl e
   where
-    go : (o : Option (List ℕ)) → after_word start text ≡ o → elim o as (λ _. Option (List ℕ)) [ Some inside ↦ past (front ++ 62 ∷ []) inside | None ↦ None ] ≡ Some rest → IsEnd (62 ∷ rest) text
+    go : (o : Option (List ℕ)) → after_word start text ≡ o → elim o as (λ _. Option (List ℕ)) [ Some inside ↦ behind_word (front ++ 62 ∷ []) inside | None ↦ None ] ≡ Some rest → IsEnd (62 ∷ rest) text
     go (Some inside) f e = end-of-end (word-end start text inside f) (past-ends front inside rest e)
     go None f e = none-some e
 
@@ -170,12 +170,12 @@ after_comment-ends : (older : Bool) (text rest : List ℕ) → after_comment old
 unfolding after_comment
 after_comment-ends false text rest e = go (short_end text) refl e
   where
-    go : (o : Option (List ℕ)) → short_end text ≡ o → o <|> past (codes "-->") text ≡ Some rest → IsEnd (62 ∷ rest) text
+    go : (o : Option (List ℕ)) → short_end text ≡ o → o <|> behind_word (codes "-->") text ≡ Some rest → IsEnd (62 ∷ rest) text
     go (Some r) f e = short-ends text rest (f ∙ e)
     go None f e = past-ends (codes "--") text rest e
-after_comment-ends true text rest e = go (short_end text) (past (codes "--") text) refl e
+after_comment-ends true text rest e = go (short_end text) (behind_word (codes "--") text) refl e
   where
-    go : (short first : Option (List ℕ)) → past (codes "--") text ≡ first → elim short as (λ _. Option (List ℕ)) [
+    go : (short first : Option (List ℕ)) → behind_word (codes "--") text ≡ first → elim short as (λ _. Option (List ℕ)) [
       | Some r ↦ None
       | None ↦ elim first as (λ _. Option (List ℕ)) [ Some r ↦ after_word (codes ">") r | None ↦ None ]
     ] ≡ Some rest → IsEnd (62 ∷ rest) text
@@ -196,7 +196,7 @@ unfolding after_declaration
 after_declaration-ends [] rest e = none-some e
 after_declaration-ends (b ∷ bs) rest e = behind-byte b bs (go (is_letter b) e)
   where
-    go : (c : Bool) → elim c as (λ _. Option (List ℕ)) [ true ↦ past (codes ">") bs | false ↦ None ] ≡ Some rest → IsEnd (62 ∷ rest) bs
+    go : (c : Bool) → elim c as (λ _. Option (List ℕ)) [ true ↦ behind_word (codes ">") bs | false ↦ None ] ≡ Some rest → IsEnd (62 ∷ rest) bs
     go true e = past-ends [] bs rest e
     go false e = none-some e
 

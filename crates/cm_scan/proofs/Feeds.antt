@@ -3,7 +3,7 @@ use Rattle.std.proofs.Common.{ℕ, ◌≤◌, ◌==◌, Bool, true, false, List,
 use Rattle.std.specs.Prelude.{◌||◌, Option, codes}
 use Rattle.cm_scan.specs.Words.{skip, trim_start, after_word, ◌<|>◌}
 use Rattle.cm_scan.specs.Tags.{after_gap, after_line_ending, is_blank_next}
-use Rattle.cm_scan.specs.Links.{Reading, behind, keep_if, escapes_next, closed_by, is_label, label, opened_by, bare_run, is_some, has_no_blank_line, destination, title_in, title, LinkDefinition, at_line_end, after_line, defined, titled, untitled, link_definition}
+use Rattle.cm_scan.specs.Links.{Reading, behind, keep_if, escapes_next, up_to_closing, is_label, label, opened_by, bare_run, is_filled, has_no_blank_line, destination, title_in, title, LinkDefinition, at_line_end, after_line, defined, titled, untitled, link_definition}
 use Rattle.cm_scan.specs.Blocks.{line_feeds, line_count}
 
 pub feeds-skip : (test : ℕ → Bool) (text : List ℕ) → line_feeds (skip test text) ≤ line_feeds text
@@ -37,12 +37,12 @@ unfolding line_feeds
 feeds-behind b bs None h = tt
 feeds-behind b bs (Some r) h = grind (arith, h)
 
-feeds-closed_by : (closes forbidden : ℕ → Bool) (escaped : Bool) (text : List ℕ) → Leaves text (closed_by closes forbidden escaped text)
-unfolding closed_by line_feeds
+feeds-closed_by : (closes forbidden : ℕ → Bool) (escaped : Bool) (text : List ℕ) → Leaves text (up_to_closing closes forbidden escaped text)
+unfolding up_to_closing line_feeds
 feeds-closed_by closes forbidden escaped [] = tt
 feeds-closed_by closes forbidden true (b ∷ bs) = feeds-behind b bs _ (feeds-closed_by closes forbidden false bs)
 feeds-closed_by closes forbidden false (b ∷ bs) =
-    let h : Leaves (b ∷ bs) (behind b (closed_by closes forbidden (escapes_next b bs) bs)) = feeds-behind b bs _ (feeds-closed_by closes forbidden (escapes_next b bs) bs) in
+    let h : Leaves (b ∷ bs) (behind b (up_to_closing closes forbidden (escapes_next b bs) bs)) = feeds-behind b bs _ (feeds-closed_by closes forbidden (escapes_next b bs) bs) in
     grind (arith, h)
 
 feeds-keep_if : (test : Reading → Bool) (text : List ℕ) (r : Option Reading) → Leaves text r → Leaves text (keep_if test r)
@@ -62,7 +62,7 @@ feeds-label : (text : List ℕ) → Leaves text (label text)
 unfolding label line_feeds
 feeds-label [] = tt
 feeds-label (b ∷ bs) =
-    let r = closed_by (λ c. c == 93) (λ c. c == 91) false bs in
+    let r = up_to_closing (λ c. c == 93) (λ c. c == 91) false bs in
     let h : Leaves (b ∷ bs) (keep_if is_label r) = feeds-kept b bs is_label r (feeds-closed_by (λ c. c == 93) (λ c. c == 91) false bs) in
     grind (arith, h)
 
@@ -78,9 +78,9 @@ feeds-destination : (text : List ℕ) → Leaves text (destination text)
 unfolding destination line_feeds
 feeds-destination [] = tt
 feeds-destination (b ∷ bs) =
-    let r = closed_by (λ c. c == 62) (λ c. c == 60 || c == 10) false bs in
+    let r = up_to_closing (λ c. c == 62) (λ c. c == 60 || c == 10) false bs in
     let h : Leaves (b ∷ bs) r = feeds-more b bs r (feeds-closed_by (λ c. c == 62) (λ c. c == 60 || c == 10) false bs) in
-    let k : Leaves (b ∷ bs) (keep_if is_some (bare_run 0 false (b ∷ bs))) = feeds-keep_if is_some (b ∷ bs) _ (feeds-bare_run 0 false (b ∷ bs)) in
+    let k : Leaves (b ∷ bs) (keep_if is_filled (bare_run 0 false (b ∷ bs))) = feeds-keep_if is_filled (b ∷ bs) _ (feeds-bare_run 0 false (b ∷ bs)) in
     grind (arith, h, k)
 
 feeds-title_in : (b : ℕ) (text : List ℕ) → Leaves text (title_in b text)

@@ -8,7 +8,7 @@ use Rattle.cm_text.specs.Rules.{Rules}
 use Rattle.cm_scan.specs.Words.{is_letter, after_word, ◌<|>◌}
 use Rattle.cm_scan.specs.Tags.{tag_name, open_tag, closing_tag}
 use Rattle.cm_scan.specs.Links.{Reading}
-use Rattle.cm_scan.specs.RawHtml.{behind_tag, past, from_to, short_end, after_comment, comment, after_declaration, declaration, raw_html}
+use Rattle.cm_scan.specs.RawHtml.{behind_tag, behind_word, from_to, short_end, after_comment, comment, after_declaration, declaration, raw_html}
 use Rattle.cm_scan.specs.Angles.{before}
 use Rattle.cm_scan.specs.Scanned.{whole_of}
 use Rattle.cm_scan.proofs.RawHtmlLemmas.{word-front}
@@ -35,18 +35,18 @@ module _ (inside : List ℕ) where
 
     pub comment-short : Some rest ≡ after_comment false inside
     unfolding after_comment
-    comment-short = ap (λ o. o <|> past (codes "-->") inside) short
+    comment-short = ap (λ o. o <|> behind_word (codes "-->") inside) short
 
   module _ (long : None ≡ short_end inside) where
-    pub comment-long : past (codes "-->") inside ≡ after_comment false inside
+    pub comment-long : behind_word (codes "-->") inside ≡ after_comment false inside
     unfolding after_comment
-    comment-long = ap (λ o. o <|> past (codes "-->") inside) long
+    comment-long = ap (λ o. o <|> behind_word (codes "-->") inside) long
 
-    pub comment-open : None ≡ past (codes "--") inside → None ≡ after_comment true inside
+    pub comment-open : None ≡ behind_word (codes "--") inside → None ≡ after_comment true inside
     unfolding after_comment
     comment-open h = grind (arith, long, h)
 
-    pub comment-strict : (rest : List ℕ) → Some rest ≡ past (codes "--") inside → after_word (codes ">") rest ≡ after_comment true inside
+    pub comment-strict : (rest : List ℕ) → Some rest ≡ behind_word (codes "--") inside → after_word (codes ">") rest ≡ after_comment true inside
     unfolding after_comment
     comment-strict rest h = grind (arith, long, h)
 
@@ -60,7 +60,7 @@ pub declaration-other : (b : ℕ) (bs : List ℕ) → is_letter b ≡ false → 
 unfolding after_declaration
 declaration-other b bs h = grind (arith, h)
 
-pub declaration-letter : (b : ℕ) (bs : List ℕ) → is_letter b ≡ true → past (codes ">") bs ≡ after_declaration (b ∷ bs)
+pub declaration-letter : (b : ℕ) (bs : List ℕ) → is_letter b ≡ true → behind_word (codes ">") bs ≡ after_declaration (b ∷ bs)
 unfolding after_declaration
 declaration-letter b bs h = grind (arith, h)
 
@@ -75,7 +75,7 @@ module _ (rules : Rules) where
   unfolding raw_html open_tag closing_tag comment from_to declaration after_declaration after_word tag_name
   mark-dashes inside = refl
 
-  mark-bracket : (inside : List ℕ) → raw_html rules (60 ∷ 33 ∷ (codes "[CDATA[" ++ inside)) ≡ past (codes "]]>") inside
+  mark-bracket : (inside : List ℕ) → raw_html rules (60 ∷ 33 ∷ (codes "[CDATA[" ++ inside)) ≡ behind_word (codes "]]>") inside
   unfolding raw_html open_tag closing_tag comment from_to declaration after_declaration after_word tag_name
   mark-bracket inside = refl
 
@@ -84,11 +84,11 @@ module _ (rules : Rules) where
     mark-comment rest h =
         sym (ap (λ t. raw_html rules (60 ∷ 33 ∷ t)) (word-front (codes "--") inside rest (sym h)) ∙ mark-dashes rest ∙ first-alone (after_comment rules.older rest))
 
-    pub mark-section : (rest : List ℕ) → Some rest ≡ after_word (codes "[CDATA[") inside → past (codes "]]>") rest ≡ raw_html rules (60 ∷ 33 ∷ inside)
+    pub mark-section : (rest : List ℕ) → Some rest ≡ after_word (codes "[CDATA[") inside → behind_word (codes "]]>") rest ≡ raw_html rules (60 ∷ 33 ∷ inside)
     mark-section rest h = sym (ap (λ t. raw_html rules (60 ∷ 33 ∷ t)) (word-front (codes "[CDATA[") inside rest (sym h)) ∙ mark-bracket rest)
 
     abbrev ended : Option (List ℕ) → Option (List ℕ)
-    ended o = elim o as (λ _. Option (List ℕ)) [ Some t ↦ past (codes "]]>") t | None ↦ None ]
+    ended o = elim o as (λ _. Option (List ℕ)) [ Some t ↦ behind_word (codes "]]>") t | None ↦ None ]
 
     abbrev commented : Option (List ℕ) → Option (List ℕ)
     commented o = elim o as (λ _. Option (List ℕ)) [ Some t ↦ after_comment rules.older t | None ↦ None ]
@@ -116,9 +116,9 @@ module _ (rules : Rules) where
   unfolding raw_html open_tag closing_tag comment from_to declaration after_word tag_name
   html-end = refl
 
-  pub html-instruction : (behind : List ℕ) → past (codes "?>") behind ≡ raw_html rules (60 ∷ 63 ∷ behind)
+  pub html-instruction : (behind : List ℕ) → behind_word (codes "?>") behind ≡ raw_html rules (60 ∷ 63 ∷ behind)
   unfolding raw_html open_tag closing_tag comment from_to declaration after_word tag_name
-  html-instruction behind = sym (first-alone (past (codes "?>") behind))
+  html-instruction behind = sym (first-alone (behind_word (codes "?>") behind))
 
   pub html-closing : (behind : List ℕ) → behind_tag (closing_tag (60 ∷ 47 ∷ behind)) ≡ raw_html rules (60 ∷ 47 ∷ behind)
   unfolding raw_html open_tag comment from_to declaration after_word tag_name

@@ -13,8 +13,8 @@ use Rattle.cm_tree.specs.Definitions.{Target}
 use Rattle.cm_tree.specs.declared.tree.Inline.TheVariants.{Code, Html, Soft, Hard}
 use Rattle.cm_scan.specs.Words.{is_control, run_length, after_run, skip, front_of, after_word, given}
 use Rattle.cm_scan.specs.Tags.{is_blank_next, after_gap}
-use Rattle.cm_scan.specs.Links.{Reading, behind, keep_if, escapes_next, closed_by, opened_by, bare_run, is_label, label, is_some, destination, has_no_blank_line, title_in, title}
-use Rattle.cm_scan.specs.CodeSpans.{up_to_run, content_of, spanned, code_span}
+use Rattle.cm_scan.specs.Links.{Reading, behind, keep_if, escapes_next, up_to_closing, opened_by, bare_run, is_label, label, is_filled, destination, has_no_blank_line, title_in, title}
+use Rattle.cm_scan.specs.CodeSpans.{up_to_run, span_content, spanned, code_span}
 use Rattle.cm_scan.specs.Autolinks.{Autolink, is_inside, ended, in_angles, is_absolute, is_address, as_autolink, autolink}
 use Rattle.cm_scan.specs.RawHtml.{raw_html}
 use Rattle.cm_scan.specs.Angles.{Angled, Addressed, Tagged, tagged, at_angle}
@@ -47,15 +47,15 @@ kept-is : (test : Reading → Bool) (o : Option Reading) (r : Reading) → keep_
 kept-is test None r e = none-some e
 kept-is test (Some s) r e = ap (λ (t : Reading). Some t) (given-is (test s) s r e)
 
-closed_by-end : (closes forbidden : ℕ → Bool) (escaped : Bool) (text : List ℕ) (r : Reading) → closed_by closes forbidden escaped text ≡ Some r → IsEnd r.rest text
-unfolding closed_by
+closed_by-end : (closes forbidden : ℕ → Bool) (escaped : Bool) (text : List ℕ) (r : Reading) → up_to_closing closes forbidden escaped text ≡ Some r → IsEnd r.rest text
+unfolding up_to_closing
 closed_by-end closes forbidden escaped [] r e = none-some e
-closed_by-end closes forbidden true (b ∷ bs) r e = behind-end b bs (closed_by closes forbidden false bs) r e (λ s h. closed_by-end closes forbidden false bs s h)
+closed_by-end closes forbidden true (b ∷ bs) r e = behind-end b bs (up_to_closing closes forbidden false bs) r e (λ s h. closed_by-end closes forbidden false bs s h)
 closed_by-end closes forbidden false (b ∷ bs) r e =
     go (closes b) (forbidden b) e (λ s h. closed_by-end closes forbidden (escapes_next b bs) bs s h)
   where
     inside : Option Reading
-    inside = closed_by closes forbidden (escapes_next b bs) bs
+    inside = up_to_closing closes forbidden (escapes_next b bs) bs
 
     go : (last barred : Bool) → elim last as (λ _. Option Reading) [ true ↦ Some (record { text = []; rest = bs }) | false ↦ elim barred as (λ _. Option Reading) [ true ↦ None | false ↦ behind b inside ] ] ≡ Some r
         → ((s : Reading) → inside ≡ Some s → IsEnd s.rest bs) → IsEnd r.rest (b ∷ bs)
@@ -87,7 +87,7 @@ label-end [] r e = none-some e
 label-end (b ∷ bs) r e = go (b == 91) e
   where
     inside : Option Reading
-    inside = closed_by (λ c. c == 93) (λ c. c == 91) false bs
+    inside = up_to_closing (λ c. c == 93) (λ c. c == 91) false bs
 
     go : (next : Bool) → elim next as (λ _. Option Reading) [ true ↦ keep_if is_label inside | false ↦ None ] ≡ Some r → IsEnd r.rest (b ∷ bs)
     go true e = behind-byte b bs (closed_by-end (λ c. c == 93) (λ c. c == 91) false bs r (kept-is is_label inside r e))
@@ -99,23 +99,23 @@ destination-end [] r e = none-some e
 destination-end (b ∷ bs) r e = go (b == 60) e
   where
     angled : Option Reading
-    angled = closed_by (λ c. c == 62) (λ c. c == 60 || c == 10) false bs
+    angled = up_to_closing (λ c. c == 62) (λ c. c == 60 || c == 10) false bs
 
     bare : Option Reading
     bare = bare_run 0 false (b ∷ bs)
 
-    go : (next : Bool) → elim next as (λ _. Option Reading) [ true ↦ angled | false ↦ keep_if is_some bare ] ≡ Some r → IsEnd r.rest (b ∷ bs)
+    go : (next : Bool) → elim next as (λ _. Option Reading) [ true ↦ angled | false ↦ keep_if is_filled bare ] ≡ Some r → IsEnd r.rest (b ∷ bs)
     go true e = behind-byte b bs (closed_by-end (λ c. c == 62) (λ c. c == 60 || c == 10) false bs r e)
-    go false e = bare-end 0 false (b ∷ bs) r (kept-is is_some bare r e)
+    go false e = bare-end 0 false (b ∷ bs) r (kept-is is_filled bare r e)
 
 title-end : (text : List ℕ) (r : Reading) → title text ≡ Some r → IsEnd r.rest text
 unfolding title title_in
 title-end [] r e = none-some e
 title-end (b ∷ bs) r e = behind-byte b bs (go (b == 34) (b == 39) (b == 40) (kept-is has_no_blank_line (title_in b bs) r e))
   where
-    go : (double single parenthesis : Bool) → (if double then closed_by (λ c. c == 34) (λ c. false) false bs
-        else (if single then closed_by (λ c. c == 39) (λ c. false) false bs
-        else (if parenthesis then closed_by (λ c. c == 41) (λ c. c == 40) false bs else None))) ≡ Some r → IsEnd r.rest bs
+    go : (double single parenthesis : Bool) → (if double then up_to_closing (λ c. c == 34) (λ c. false) false bs
+        else (if single then up_to_closing (λ c. c == 39) (λ c. false) false bs
+        else (if parenthesis then up_to_closing (λ c. c == 41) (λ c. c == 40) false bs else None))) ≡ Some r → IsEnd r.rest bs
     go true single parenthesis e = closed_by-end (λ c. c == 34) (λ c. false) false bs r e
     go false true parenthesis e = closed_by-end (λ c. c == 39) (λ c. false) false bs r e
     go false false true e = closed_by-end (λ c. c == 41) (λ c. c == 40) false bs r e
@@ -257,7 +257,7 @@ spanned-end : (n : ℕ) (text : List ℕ) (r : Reading) → spanned n text ≡ S
 spanned-end zero text r e = none-some e
 spanned-end (suc n) text r e = go (up_to_run (suc n) false text) refl e
   where
-    go : (o : Option Reading) → up_to_run (suc n) false text ≡ o → content_of o ≡ Some r → IsEnd r.rest text
+    go : (o : Option Reading) → up_to_run (suc n) false text ≡ o → span_content o ≡ Some r → IsEnd r.rest text
     go None f e = none-some e
     go (Some s) f e = same-left s.rest r.rest (ap (λ (t : Reading). t.rest) (some-is e)) (up_to-end (suc n) false text s f)
 

@@ -3,7 +3,7 @@ use Rattle.std.proofs.Common.{◌≡◌, ℕ, Bool, true, false, ◌==◌, List,
 use Rattle.cm_text.specs.Rules.{profile}
 use Rattle.cm_scan.specs.Words.{after_word, ◌<|>◌}
 use Rattle.cm_scan.specs.Tags.{Named, open_tag, closing_tag}
-use Rattle.cm_scan.specs.RawHtml.{behind_tag, past, short_end, after_comment, comment, instruction, declaration, character_data, raw_html}
+use Rattle.cm_scan.specs.RawHtml.{behind_tag, behind_word, short_end, after_comment, comment, instruction, declaration, character_data, raw_html}
 use Rattle.cm_scan.specs.SpanLaws.{OlderIsRead}
 use Rattle.cm_scan.proofs.ReadFurther.{none-some, some-same}
 use Rattle.cm_scan.proofs.RawHtmlLemmas.{word-front, closing-goes-on, comment-goes-on, instruction-goes-on, declaration-goes-on, character_data-goes-on}
@@ -27,33 +27,33 @@ no-hyphens (b ∷ c ∷ bs) e = go (b == 45) (c == 45) e
     go true false e = refl
     go false f e = refl
 
-hyphens-read : (rest : List ℕ) → past (codes "-->") (45 ∷ 45 ∷ 62 ∷ rest) ≡ Some rest
-unfolding past after_word
+hyphens-read : (rest : List ℕ) → behind_word (codes "-->") (45 ∷ 45 ∷ 62 ∷ rest) ≡ Some rest
+unfolding behind_word after_word
 hyphens-read rest = refl
 
-past-both : (text between rest : List ℕ) → past (codes "--") text ≡ Some between → after_word (codes ">") between ≡ Some rest → past (codes "-->") text ≡ Some rest
-unfolding past
+past-both : (text between rest : List ℕ) → behind_word (codes "--") text ≡ Some between → after_word (codes ">") between ≡ Some rest → behind_word (codes "-->") text ≡ Some rest
+unfolding behind_word
 past-both [] between rest e h = none-some e
 past-both (b ∷ bs) between rest e h = go (after_word (codes "--") (b ∷ bs)) refl e (λ g. past-both bs between rest g h)
   where
     by : Option (List ℕ) → Option (List ℕ)
-    by o = elim o as (λ _. Option (List ℕ)) [ Some r ↦ Some r | None ↦ past (codes "-->") bs ]
+    by o = elim o as (λ _. Option (List ℕ)) [ Some r ↦ Some r | None ↦ behind_word (codes "-->") bs ]
 
-    go : (o : Option (List ℕ)) → after_word (codes "--") (b ∷ bs) ≡ o → elim o as (λ _. Option (List ℕ)) [ Some r ↦ Some r | None ↦ past (codes "--") bs ] ≡ Some between
-        → (past (codes "--") bs ≡ Some between → past (codes "-->") bs ≡ Some rest) → by (after_word (codes "-->") (b ∷ bs)) ≡ Some rest
+    go : (o : Option (List ℕ)) → after_word (codes "--") (b ∷ bs) ≡ o → elim o as (λ _. Option (List ℕ)) [ Some r ↦ Some r | None ↦ behind_word (codes "--") bs ] ≡ Some between
+        → (behind_word (codes "--") bs ≡ Some between → behind_word (codes "-->") bs ≡ Some rest) → by (after_word (codes "-->") (b ∷ bs)) ≡ Some rest
     go (Some r) f e k =
-        ap (past (codes "-->")) (word-front (codes "--") (b ∷ bs) r f ∙ ap (λ t. 45 ∷ 45 ∷ t) (some-same e ∙ word-front (codes ">") between rest h))
+        ap (behind_word (codes "-->")) (word-front (codes "--") (b ∷ bs) r f ∙ ap (λ t. 45 ∷ 45 ∷ t) (some-same e ∙ word-front (codes ">") between rest h))
         ∙ hyphens-read rest
     go None f e k = ap by (no-hyphens (b ∷ bs) f) ∙ k e
 
 pub older-inside : (text rest : List ℕ) → after_comment true text ≡ Some rest → after_comment false text ≡ Some rest
 unfolding after_comment
-older-inside text rest e = go (short_end text) (past (codes "--") text) refl e
+older-inside text rest e = go (short_end text) (behind_word (codes "--") text) refl e
   where
-    go : (short first : Option (List ℕ)) → past (codes "--") text ≡ first → elim short as (λ _. Option (List ℕ)) [
+    go : (short first : Option (List ℕ)) → behind_word (codes "--") text ≡ first → elim short as (λ _. Option (List ℕ)) [
       | Some r ↦ None
       | None ↦ elim first as (λ _. Option (List ℕ)) [ Some r ↦ after_word (codes ">") r | None ↦ None ]
-    ] ≡ Some rest → short <|> past (codes "-->") text ≡ Some rest
+    ] ≡ Some rest → short <|> behind_word (codes "-->") text ≡ Some rest
     go (Some r) first f e = none-some e
     go None None f e = none-some e
     go None (Some r) f e = past-both text r rest f e

@@ -4,7 +4,7 @@ use Rattle.std.proofs.lemmas.Bool.{eqb-true}
 use Rattle.cm_text.specs.Rules.{Rules}
 use Rattle.cm_scan.specs.Words.{is_letter, after_word, ◌<|>◌}
 use Rattle.cm_scan.specs.Tags.{Named, tag_name, with_rest, after_gap, open_tag, closing_tag}
-use Rattle.cm_scan.specs.RawHtml.{behind_tag, past, from_to, short_end, after_comment, comment, instruction, after_declaration, declaration, character_data, raw_html}
+use Rattle.cm_scan.specs.RawHtml.{behind_tag, behind_word, from_to, short_end, after_comment, comment, instruction, after_declaration, declaration, character_data, raw_html}
 use Rattle.cm_scan.specs.SpanLaws.{RawHtmlGoesOn, WholeRawHtmlGoesOn}
 use Rattle.cm_scan.proofs.ReadFurther.{false-true, none-some, some-same, word-extends, word-other, word-length, past-length, past-extends, from_to-extends}
 use Rattle.cm_scan.proofs.TagsFurther.{longer, open_tag-extends, closing_tag-extends}
@@ -35,10 +35,10 @@ after_comment-extends : (older : Bool) (text x rest : List ℕ) → after_commen
 unfolding after_comment
 after_comment-extends false text x rest e = go (short_end text) refl e
   where
-    go : (o : Option (List ℕ)) → short_end text ≡ o → o <|> past (codes "-->") text ≡ Some rest → short_end (text ++ x) <|> past (codes "-->") (text ++ x) ≡ Some (rest ++ x)
-    go (Some r) f e = ap (λ o. o <|> past (codes "-->") (text ++ x)) (short-extends text x r f) ∙ ap (λ t. Some (t ++ x)) (some-same e)
+    go : (o : Option (List ℕ)) → short_end text ≡ o → o <|> behind_word (codes "-->") text ≡ Some rest → short_end (text ++ x) <|> behind_word (codes "-->") (text ++ x) ≡ Some (rest ++ x)
+    go (Some r) f e = ap (λ o. o <|> behind_word (codes "-->") (text ++ x)) (short-extends text x r f) ∙ ap (λ t. Some (t ++ x)) (some-same e)
     go None f e =
-        ap (λ o. o <|> past (codes "-->") (text ++ x)) (short-other text x f (let l : 3 ≤ length text = past-length (codes "-->") text rest e in omega (arith, l)))
+        ap (λ o. o <|> behind_word (codes "-->") (text ++ x)) (short-other text x f (let l : 3 ≤ length text = past-length (codes "-->") text rest e in omega (arith, l)))
         ∙ past-extends (codes "-->") text x rest e
 after_comment-extends true text x rest e = go (short_end text) refl e
   where
@@ -46,13 +46,13 @@ after_comment-extends true text x rest e = go (short_end text) refl e
     ended o = elim o as (λ _. Option (List ℕ)) [ Some r ↦ after_word (codes ">") r | None ↦ None ]
 
     by : List ℕ → Option (List ℕ) → Option (List ℕ)
-    by t o = elim o as (λ _. Option (List ℕ)) [ Some r ↦ None | None ↦ ended (past (codes "--") t) ]
+    by t o = elim o as (λ _. Option (List ℕ)) [ Some r ↦ None | None ↦ ended (behind_word (codes "--") t) ]
 
     go : (o : Option (List ℕ)) → short_end text ≡ o → by text o ≡ Some rest → by (text ++ x) (short_end (text ++ x)) ≡ Some (rest ++ x)
     go (Some r) f e = none-some e
-    go None f e = first (past (codes "--") text) refl e
+    go None f e = first (behind_word (codes "--") text) refl e
       where
-        first : (o : Option (List ℕ)) → past (codes "--") text ≡ o → ended o ≡ Some rest → by (text ++ x) (short_end (text ++ x)) ≡ Some (rest ++ x)
+        first : (o : Option (List ℕ)) → behind_word (codes "--") text ≡ o → ended o ≡ Some rest → by (text ++ x) (short_end (text ++ x)) ≡ Some (rest ++ x)
         first None g e = none-some e
         first (Some r) g e =
             ap (by (text ++ x)) (short-other text x f (past-length (codes "--") text r g))
@@ -78,7 +78,7 @@ after_declaration-extends [] x rest e = none-some e
 after_declaration-extends (b ∷ bs) x rest e = go (is_letter b) e
   where
     by : List ℕ → Bool → Option (List ℕ)
-    by t c = elim c as (λ _. Option (List ℕ)) [ true ↦ past (codes ">") t | false ↦ None ]
+    by t c = elim c as (λ _. Option (List ℕ)) [ true ↦ behind_word (codes ">") t | false ↦ None ]
 
     go : (c : Bool) → by bs c ≡ Some rest → by (bs ++ x) c ≡ Some (rest ++ x)
     go true e = past-extends (codes ">") bs x rest e
@@ -132,7 +132,7 @@ declaration-alone rules (b ∷ bs) rest e = go (b == 45) refl
     letter : is_letter b ≡ true
     letter = cases (is_letter b) e
       where
-        cases : (c : Bool) → elim c as (λ _. Option (List ℕ)) [ true ↦ past (codes ">") bs | false ↦ None ] ≡ Some rest → c ≡ true
+        cases : (c : Bool) → elim c as (λ _. Option (List ℕ)) [ true ↦ behind_word (codes ">") bs | false ↦ None ] ≡ Some rest → c ≡ true
         cases true h = refl
         cases false h = none-some h
 
@@ -181,7 +181,7 @@ module _ (rules : Rules) (text x : List ℕ) where
     pub instruction-goes-on : instruction text ≡ Some rest → raw_html rules (text ++ x) ≡ Some (rest ++ x)
     unfolding from_to
     instruction-goes-on e =
-        let front = begun (codes "<?") (past (codes "?>")) text rest e in
+        let front = begun (codes "<?") (behind_word (codes "?>")) text rest e in
         ap (λ t. raw_html rules (t ++ x)) front.1
         ∙ instruction-alone rules (front.0 ++ x) (rest ++ x) (ap (λ t. instruction (t ++ x)) (sym front.1) ∙ from_to-extends (codes "<?") (codes "?>") text x rest e)
 
@@ -195,7 +195,7 @@ module _ (rules : Rules) (text x : List ℕ) where
     pub character_data-goes-on : character_data text ≡ Some rest → raw_html rules (text ++ x) ≡ Some (rest ++ x)
     unfolding from_to
     character_data-goes-on e =
-        let front = begun (codes "<![CDATA[") (past (codes "]]>")) text rest e in
+        let front = begun (codes "<![CDATA[") (behind_word (codes "]]>")) text rest e in
         ap (λ t. raw_html rules (t ++ x)) front.1
         ∙ character_data-alone rules (codes "CDATA[" ++ (front.0 ++ x)) (rest ++ x) (ap (λ t. character_data (t ++ x)) (sym front.1) ∙ from_to-extends (codes "<![CDATA[") (codes "]]>") text x rest e)
 

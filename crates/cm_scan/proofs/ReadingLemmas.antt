@@ -4,7 +4,7 @@ use Rattle.std.specs.List.{slice_range, list_all}
 use Rattle.std.proofs.lemmas.Bool.Decides.{nat_tests}
 use Rattle.cm_scan.specs.Words.{begins_with, given}
 use Rattle.cm_scan.specs.Tags.{is_blank_byte}
-use Rattle.cm_scan.specs.Links.{Reading, keep_if, closed_by, characters, is_label, label}
+use Rattle.cm_scan.specs.Links.{Reading, keep_if, up_to_closing, characters, is_label, label}
 use Rattle.cm_scan.specs.steps.LinkSteps.{fits}
 
 -- a byte that comes next stands at the place
@@ -19,7 +19,7 @@ unfolding label
 label-none [] h = refl
 label-none (b ∷ bs) h = grind (arith, h)
 
-label-inside : (bs : List ℕ) → label (91 ∷ bs) ≡ keep_if is_label (closed_by (λ c. c == 93) (λ c. c == 91) false bs)
+label-inside : (bs : List ℕ) → label (91 ∷ bs) ≡ keep_if is_label (up_to_closing (λ c. c == 93) (λ c. c == 91) false bs)
 unfolding label
 label-inside bs = refl
 
@@ -48,12 +48,12 @@ kept-label (Some r) h = grind (arith, h)
 
 -- the label's cases, by what stands between its brackets
 label-at : (text : List ℕ) (at : ℕ) (next : Bool) → next ≡ begins_with 91 (drop at text) → next ≡ true
-    → label (drop at text) ≡ keep_if is_label (closed_by (λ c. c == 93) (λ c. c == 91) false (drop (suc at) text))
+    → label (drop at text) ≡ keep_if is_label (up_to_closing (λ c. c == 93) (λ c. c == 91) false (drop (suc at) text))
 label-at text at next e h = ap label (begins-at 91 text at (sym e ∙ h)).1 ∙ label-inside (drop (suc at) text)
 
 pub label-absent : (text : List ℕ) (at : ℕ) (next : Bool) → next ≡ begins_with 91 (drop at text) → next ≡ true
-    → None ≡ keep_if (fits 999 true) (closed_by (λ c. c == 93) (λ c. c == 91) false (drop (suc at) text)) → None ≡ label (drop at text)
-label-absent text at next e h none = sym (label-at text at next e h ∙ kept-label (closed_by (λ c. c == 93) (λ c. c == 91) false (drop (suc at) text)) (sym none))
+    → None ≡ keep_if (fits 999 true) (up_to_closing (λ c. c == 93) (λ c. c == 91) false (drop (suc at) text)) → None ≡ label (drop at text)
+label-absent text at next e h none = sym (label-at text at next e h ∙ kept-label (up_to_closing (λ c. c == 93) (λ c. c == 91) false (drop (suc at) text)) (sym none))
 
 kept-blank : (o : Option Reading) (r : Reading) → Some r ≡ keep_if (fits 999 true) o → list_all is_blank_byte r.text ≡ true → None ≡ keep_if is_label o
 kept-blank None r h b = absurd (cc)
@@ -70,14 +70,14 @@ kept-some (Some s) r h b =
     ap Some same ∙ ap (λ v. given v s) (sym passes)
 
 pub label-blank : (text : List ℕ) (at : ℕ) (next blank : Bool) (r : Reading) → next ≡ begins_with 91 (drop at text) → next ≡ true
-    → Some r ≡ keep_if (fits 999 true) (closed_by (λ c. c == 93) (λ c. c == 91) false (drop (suc at) text)) → blank ≡ list_all is_blank_byte r.text → blank ≡ true
+    → Some r ≡ keep_if (fits 999 true) (up_to_closing (λ c. c == 93) (λ c. c == 91) false (drop (suc at) text)) → blank ≡ list_all is_blank_byte r.text → blank ≡ true
     → None ≡ label (drop at text)
-label-blank text at next blank r e h some b t = kept-blank (closed_by (λ c. c == 93) (λ c. c == 91) false (drop (suc at) text)) r some (sym b ∙ t) ∙ sym (label-at text at next e h)
+label-blank text at next blank r e h some b t = kept-blank (up_to_closing (λ c. c == 93) (λ c. c == 91) false (drop (suc at) text)) r some (sym b ∙ t) ∙ sym (label-at text at next e h)
 
 pub label-some : (text : List ℕ) (at : ℕ) (next blank : Bool) (r : Reading) → next ≡ begins_with 91 (drop at text) → next ≡ true
-    → Some r ≡ keep_if (fits 999 true) (closed_by (λ c. c == 93) (λ c. c == 91) false (drop (suc at) text)) → blank ≡ list_all is_blank_byte r.text → blank ≡ false
+    → Some r ≡ keep_if (fits 999 true) (up_to_closing (λ c. c == 93) (λ c. c == 91) false (drop (suc at) text)) → blank ≡ list_all is_blank_byte r.text → blank ≡ false
     → Some r ≡ label (drop at text)
-label-some text at next blank r e h some b t = kept-some (closed_by (λ c. c == 93) (λ c. c == 91) false (drop (suc at) text)) r some (sym b ∙ t) ∙ sym (label-at text at next e h)
+label-some text at next blank r e h some b t = kept-some (up_to_closing (λ c. c == 93) (λ c. c == 91) false (drop (suc at) text)) r some (sym b ∙ t) ∙ sym (label-at text at next e h)
 
 -- the part between a byte and the one that ends it
 pub enclosed-none : (F : List ℕ → Option Reading) (text copy : List ℕ) (at : ℕ) → copy ≡ text → None ≡ F (drop (at + 1) copy) → None ≡ F (drop (suc at) text)

@@ -6,7 +6,7 @@ use Rattle.std.proofs.lemmas.List.{append-nil, drop_all}
 use Rattle.std.proofs.lemmas.Bool.{eqb-true}
 use Rattle.cm_scan.specs.Words.{run_length, after_run}
 use Rattle.cm_scan.specs.Links.{Reading, behind}
-use Rattle.cm_scan.specs.CodeSpans.{up_to_run, content_of, as_written, spanned_as_written, code_span}
+use Rattle.cm_scan.specs.CodeSpans.{up_to_run, span_content, as_written, spanned_as_written, code_span}
 use Rattle.cm_scan.specs.steps.SpanSteps.{run_at}
 use Rattle.cm_scan.proofs.ReadFurther.{none-some}
 use Rattle.cm_scan.proofs.ClosedLemmas.{ahead, ahead_from, slice-none}
@@ -286,6 +286,6 @@ span-is text at start run left other =
     ap (λ m. up_to_run m false (drop start text)) size ∙ ap (up_to_run (run_length 96 (drop at text)) false) left
     ∙ sym (written-some (run_length 96 (drop at text)) (after_run 96 (drop at text)) some)
 
-pub span-content : (text : List ℕ) (o : Option Reading) → o ≡ spanned_as_written text → content_of o ≡ code_span text
+pub span-content : (text : List ℕ) (o : Option Reading) → o ≡ spanned_as_written text → span_content o ≡ code_span text
 unfolding spanned_as_written code_span
-span-content text o h = ap content_of h
+span-content text o h = ap span_content h

@@ -31,9 +31,9 @@ but_ends (b ∷ bs) = but_last bs
 unfoldable pub stripped : List ℕ → List ℕ
 stripped text = if begins_with 32 text && ends_with 32 text && not (list_all (λ b. b == 32) text) then but_ends text else text
 
-abbrev pub content_of : Option Reading → Option Reading
-content_of None = None
-content_of (Some r) = Some (record { text = stripped (one_line r.text); rest = r.rest })
+abbrev pub span_content : Option Reading → Option Reading
+span_content None = None
+span_content (Some r) = Some (record { text = stripped (one_line r.text); rest = r.rest })
 
 -- what stands before the next string of so many, which are one at least, as it is written
 abbrev pub as_written : ℕ → List ℕ → Option Reading
@@ -41,7 +41,7 @@ as_written zero text = None
 as_written (suc n) text = up_to_run (suc n) false text
 
 abbrev pub spanned : ℕ → List ℕ → Option Reading
-spanned n text = content_of (as_written n text)
+spanned n text = span_content (as_written n text)
 
 -- A code span begins with a backtick string and ends with a backtick string of equal length: its content, and what is left
 -- behind it.

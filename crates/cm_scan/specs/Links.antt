@@ -28,12 +28,12 @@ escapes_next b (c ∷ cs) = b == 92 && is_ascii_punct c
 
 -- Up to the first byte that closes, which is taken off; there is none where a forbidden byte stands before it. The mark says
 -- that the first byte is escaped: it neither closes nor is forbidden.
-unfoldable pub closed_by : (ℕ → Bool) → (ℕ → Bool) → (escaped : Bool) → List ℕ → Option Reading
-closed_by closes forbidden escaped [] = None
-closed_by closes forbidden true (b ∷ bs) = behind b (closed_by closes forbidden false bs)
-closed_by closes forbidden false (b ∷ bs) = elim (closes b) [
+unfoldable pub up_to_closing : (ℕ → Bool) → (ℕ → Bool) → (escaped : Bool) → List ℕ → Option Reading
+up_to_closing closes forbidden escaped [] = None
+up_to_closing closes forbidden true (b ∷ bs) = behind b (up_to_closing closes forbidden false bs)
+up_to_closing closes forbidden false (b ∷ bs) = elim (closes b) [
   | true ↦ Some (record { text = []; rest = bs })
-  | false ↦ elim (forbidden b) [ true ↦ None | false ↦ behind b (closed_by closes forbidden (escapes_next b bs) bs) ]
+  | false ↦ elim (forbidden b) [ true ↦ None | false ↦ behind b (up_to_closing closes forbidden (escapes_next b bs) bs) ]
 ]
 
 -- how many characters a text has: each has one byte that continues none
@@ -50,7 +50,7 @@ is_label r = nat_le (characters r.text) 999 && not (list_all is_blank_byte r.tex
 unfoldable pub label : List ℕ → Option Reading
 label [] = None
 label (b ∷ bs) = elim (b == 91) [
-  | true ↦ keep_if is_label (closed_by (λ c. c == 93) (λ c. c == 91) false bs)
+  | true ↦ keep_if is_label (up_to_closing (λ c. c == 93) (λ c. c == 91) false bs)
   | false ↦ None
 ]
 
@@ -68,8 +68,8 @@ bare_run opened false (b ∷ bs) = elim (b == 32 || is_control b || (b == 41 && 
   | false ↦ elim (b == 40 && opened == 32) [ true ↦ None | false ↦ behind b (bare_run (opened_by opened b) (escapes_next b bs) bs) ]
 ]
 
-abbrev pub is_some : Reading → Bool
-is_some r = not (is_empty r.text)
+abbrev pub is_filled : Reading → Bool
+is_filled r = not (is_empty r.text)
 
 -- A link destination is zero or more characters between `<` and `>` without line endings or unescaped `<` or `>`; or a nonempty
 -- sequence of characters that does not start with `<`, does not include ASCII control characters or space character, and includes
@@ -77,8 +77,8 @@ is_some r = not (is_empty r.text)
 unfoldable pub destination : List ℕ → Option Reading
 destination [] = None
 destination (b ∷ bs) = elim (b == 60) [
-  | true ↦ closed_by (λ c. c == 62) (λ c. c == 60 || c == 10) false bs
-  | false ↦ keep_if is_some (bare_run 0 false (b ∷ bs))
+  | true ↦ up_to_closing (λ c. c == 62) (λ c. c == 60 || c == 10) false bs
+  | false ↦ keep_if is_filled (bare_run 0 false (b ∷ bs))
 ]
 
 -- two line endings with nothing but spaces and tabs between
@@ -92,9 +92,9 @@ has_no_blank_line r = not (has_blank_line r.text)
 -- the title that a byte begins: between `"`, between `'`, or between `(` and `)`
 unfoldable pub title_in : ℕ → List ℕ → Option Reading
 title_in b text =
-    if b == 34 then closed_by (λ c. c == 34) (λ c. false) false text
-    else (if b == 39 then closed_by (λ c. c == 39) (λ c. false) false text
-    else (if b == 40 then closed_by (λ c. c == 41) (λ c. c == 40) false text
+    if b == 34 then up_to_closing (λ c. c == 34) (λ c. false) false text
+    else (if b == 39 then up_to_closing (λ c. c == 39) (λ c. false) false text
+    else (if b == 40 then up_to_closing (λ c. c == 41) (λ c. c == 40) false text
     else None))
 
 -- Although link titles may span multiple lines, they may not contain a blank line.

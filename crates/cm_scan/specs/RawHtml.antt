@@ -11,13 +11,13 @@ behind_tag None = None
 behind_tag (Some tag) = Some tag.rest
 
 -- what is left behind the first place where a word of a byte or more stands
-unfoldable pub past : List ℕ → List ℕ → Option (List ℕ)
-past word [] = None
-past word (b ∷ bs) = elim (after_word word (b ∷ bs)) [ Some rest ↦ Some rest | None ↦ past word bs ]
+unfoldable pub behind_word : List ℕ → List ℕ → Option (List ℕ)
+behind_word word [] = None
+behind_word word (b ∷ bs) = elim (after_word word (b ∷ bs)) [ Some rest ↦ Some rest | None ↦ behind_word word bs ]
 
 -- one string, and a text up to another
 unfoldable pub from_to : List ℕ → List ℕ → List ℕ → Option (List ℕ)
-from_to start end text = elim (after_word start text) [ Some inside ↦ past end inside | None ↦ None ]
+from_to start end text = elim (after_word start text) [ Some inside ↦ behind_word end inside | None ↦ None ]
 
 -- behind `>` or `->`
 unfoldable pub short_end : List ℕ → Option (List ℕ)
@@ -26,10 +26,10 @@ short_end inside = after_word (codes ">") inside <|> after_word (codes "->") ins
 -- Behind `<!--`. A comment consists of `<!-->`, `<!--->`, or `<!--`, a string of characters not including the string `-->`, and
 -- `-->`. By the older rules the first `--` belongs to the `-->` at the end, and neither `>` nor `->` comes next.
 unfoldable pub after_comment : Bool → List ℕ → Option (List ℕ)
-after_comment false inside = short_end inside <|> past (codes "-->") inside
+after_comment false inside = short_end inside <|> behind_word (codes "-->") inside
 after_comment true inside = elim (short_end inside) [
   | Some rest ↦ None
-  | None ↦ elim (past (codes "--") inside) [ Some rest ↦ after_word (codes ">") rest | None ↦ None ]
+  | None ↦ elim (behind_word (codes "--") inside) [ Some rest ↦ after_word (codes ">") rest | None ↦ None ]
 ]
 
 unfoldable pub comment : Bool → List ℕ → Option (List ℕ)
@@ -42,7 +42,7 @@ instruction text = from_to (codes "<?") (codes "?>") text
 -- behind `<!`: an ASCII letter, and a text up to `>`
 unfoldable pub after_declaration : List ℕ → Option (List ℕ)
 after_declaration [] = None
-after_declaration (b ∷ bs) = elim (is_letter b) [ true ↦ past (codes ">") bs | false ↦ None ]
+after_declaration (b ∷ bs) = elim (is_letter b) [ true ↦ behind_word (codes ">") bs | false ↦ None ]
 
 -- A declaration consists of the string `<!`, an ASCII letter, zero or more characters not including the character `>`, and the
 -- character `>`.

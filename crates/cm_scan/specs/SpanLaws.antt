@@ -3,7 +3,7 @@ use Rattle.std.specs.Prelude.{◌≡◌, ℕ, Bool, true, not, List, [], ◌∷�
 use Rattle.cm_text.specs.Rules.{Rules, profile, older_rules}
 use Rattle.cm_scan.specs.Words.{begins_with}
 use Rattle.cm_scan.specs.Links.{Reading}
-use Rattle.cm_scan.specs.RawHtml.{past, raw_html}
+use Rattle.cm_scan.specs.RawHtml.{behind_word, raw_html}
 use Rattle.cm_scan.specs.Autolinks.{Autolink, autolink}
 use Rattle.cm_scan.specs.CodeSpans.{code_span}
 use Rattle.cm_scan.specs.Angles.{Angled, Addressed, Tagged, at_angle}
@@ -55,4 +55,4 @@ OlderIsRead = (text rest : List ℕ) → raw_html older_rules text ≡ Some rest
 
 -- what begins with the one word is no raw HTML where the other stands nowhere in it
 abbrev pub NeedsEnd : List ℕ → List ℕ → Type 0
-NeedsEnd start end = (rules : Rules) (behind : List ℕ) → past end (start ++ behind) ≡ None → raw_html rules (start ++ behind) ≡ None
+NeedsEnd start end = (rules : Rules) (behind : List ℕ) → behind_word end (start ++ behind) ≡ None → raw_html rules (start ++ behind) ≡ None

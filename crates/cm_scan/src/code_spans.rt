@@ -2,7 +2,7 @@
 ghost use Rattle.std.specs.Prelude.{◌≡◌, ◌≤◌, ℕ, None, false, length, drop, IfSome, IsUtf8};
 ghost use Rattle.std.specs.Str.{IsCharBoundary};
 ghost use Rattle.cm_scan.specs.Words.{run_length};
-ghost use Rattle.cm_scan.specs.CodeSpans.{up_to_run, content_of, spanned_as_written, code_span};
+ghost use Rattle.cm_scan.specs.CodeSpans.{up_to_run, span_content, spanned_as_written, code_span};
 ghost use Rattle.cm_scan.specs.Scanned.{reading_of};
 ghost use Rattle.cm_scan.specs.steps.SpanSteps.{run_at};
 
@@ -18,7 +18,7 @@ use memchr::memchr;
 pub fn code_span<'a>(text: &'a str, at: usize) -> Option<(&'a str, usize)>
     requires { IsCharBoundary text.now at }
     ensures read { reading_of text.now result ≡ spanned_as_written (drop at text.now) }
-    ensures content { content_of (reading_of text.now result) ≡ code_span (drop at text.now) }
+    ensures content { span_content (reading_of text.now result) ≡ code_span (drop at text.now) }
     ensures none_later { result ≡ None → (later : ℕ) → at ≤ later → run_length 96 (drop later text.now) ≡ run_length 96 (drop at text.now)
         → spanned_as_written (drop later text.now) ≡ None }
     ensures utf8 { IfSome result (λ read. IsUtf8 read.0.now) }

@@ -3,7 +3,7 @@ ghost use Rattle.std.specs.Prelude.{◌≡◌, ◌∷◌, ◌≤◌, ◌<◌, �
 ghost use Rattle.std.specs.Str.{IsCharBoundary};
 ghost use Rattle.cm_text.specs.Rules.{profile};
 ghost use Rattle.cm_scan.specs.Words.{after_word, holds_word};
-ghost use Rattle.cm_scan.specs.RawHtml.{past, short_end, after_comment, after_declaration, raw_html};
+ghost use Rattle.cm_scan.specs.RawHtml.{behind_word, short_end, after_comment, after_declaration, raw_html};
 ghost use Rattle.cm_scan.specs.Scanned.{reading_of, whole_of};
 ghost use Rattle.cm_scan.specs.steps.SpanSteps.{left_of};
 
@@ -45,7 +45,7 @@ pub fn raw_html_by<'a>(rules: Rules, text: &'a str, at: usize) -> Option<(&'a st
 pub fn holds_from(text: &str, from: usize, word: &str) -> bool
     requires { from ≤ length text.now }
     ensures held { result ≡ holds_word word.now (drop from text.now) }
-    ensures none_later { result ≡ false → (later : ℕ) → from ≤ later → past word.now (drop later text.now) ≡ None }
+    ensures none_later { result ≡ false → (later : ℕ) → from ≤ later → behind_word word.now (drop later text.now) ≡ None }
 {
     memmem::find(bytes_from(text, from), word.as_bytes()).is_some()
 }
@@ -128,7 +128,7 @@ fn after_front<'a>(word: &[u8], bytes: &'a [u8]) -> Option<&'a [u8]>
 /// What is left behind the first place where a word stands.
 fn after_end<'a>(word: &[u8], bytes: &'a [u8]) -> Option<&'a [u8]>
     requires some { 0 < length word.now }
-    ensures { left_of result ≡ past word.now bytes.now }
+    ensures { left_of result ≡ behind_word word.now bytes.now }
 {
     let at = memmem::find(bytes, word)?;
     Some(&bytes[at + word.len()..])

@@ -5,7 +5,7 @@ ghost use Rattle.std.specs.List.{list_all};
 ghost use Rattle.std.specs.Str.{IsCharBoundary};
 ghost use Rattle.cm_scan.specs.Tags.{is_blank_byte};
 ghost use Rattle.cm_scan.specs.Words.{begins_with, ◌<|>◌};
-ghost use Rattle.cm_scan.specs.Links.{escapes_next, keep_if, closed_by, label, destination, title, bare_run, is_some, opened_by, titled, untitled, link_definition};
+ghost use Rattle.cm_scan.specs.Links.{escapes_next, keep_if, up_to_closing, label, destination, title, bare_run, is_filled, opened_by, titled, untitled, link_definition};
 ghost use Rattle.cm_scan.specs.Scanned.{reading_of, definition_with};
 ghost use Rattle.cm_scan.specs.steps.LinkSteps.{closed_at, ended_at, title_end, ends_bare, begins_character, is_barred, fits, blank_follows, is_plain, is_refused};
 
@@ -172,7 +172,7 @@ fn enclosed<'a>(text: &'a str, at: usize, bounds: Bounds) -> Option<(&'a str, us
     requires ascii { (slice_index text.now at < 128) × (bounds.close < 128) }
     requires no_blanks { (is_blank_byte bounds.open ≡ false) × (is_blank_byte bounds.close ≡ false) }
     ensures read { reading_of text.now result ≡ keep_if (fits bounds.most bounds.blank_lines)
-        (closed_by (λ c. c == bounds.close) (is_barred bounds.open bounds.one_line) false (drop (suc at) text.now)) }
+        (up_to_closing (λ c. c == bounds.close) (is_barred bounds.open bounds.one_line) false (drop (suc at) text.now)) }
     ensures utf8 { IfSome result (λ read. IsUtf8 read.0.now) }
     ensures boundary { IfSome result (λ read. IsCharBoundary text.now read.1) }
 {
@@ -200,7 +200,7 @@ fn closed(text: &[u8], from: usize, bounds: Bounds) -> Option<usize>
     requires within { from ≤ length text.now }
     requires no_blanks { (is_blank_byte bounds.open ≡ false) × (is_blank_byte bounds.close ≡ false) }
     ensures read { closed_at text.now from result ≡ keep_if (fits bounds.most bounds.blank_lines)
-        (closed_by (λ c. c == bounds.close) (is_barred bounds.open bounds.one_line) false (drop from text.now)) }
+        (up_to_closing (λ c. c == bounds.close) (is_barred bounds.open bounds.one_line) false (drop from text.now)) }
     ensures within { IfSome result (λ end. (from ≤ end) × (end < length text.now)) }
     ensures close { IfSome result (λ end. slice_index text.now end ≡ bounds.close) }
 {
@@ -230,7 +230,7 @@ fn closed(text: &[u8], from: usize, bounds: Bounds) -> Option<usize>
 /// The destination that no `<` begins.
 fn bare<'a>(text: &'a str, at: usize) -> Option<(&'a str, usize)>
     requires { IsCharBoundary text.now at }
-    ensures read { reading_of text.now result ≡ keep_if is_some (bare_run 0 false (drop at text.now)) }
+    ensures read { reading_of text.now result ≡ keep_if is_filled (bare_run 0 false (drop at text.now)) }
     ensures utf8 { IfSome result (λ read. IsUtf8 read.0.now) }
     ensures boundary { IfSome result (λ read. IsCharBoundary text.now read.1) }
 {

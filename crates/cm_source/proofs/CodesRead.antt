@@ -7,7 +7,7 @@ use Rattle.cm_tree.specs.declared.tree.Inline.TheVariants.{Code}
 use Rattle.cm_scan.specs.Words.{is_empty, begins_with, run_length, after_run}
 use Rattle.cm_scan.specs.Links.{Reading, behind}
 use Rattle.cm_scan.specs.Autolinks.{ends_with}
-use Rattle.cm_scan.specs.CodeSpans.{up_to_run, one_line, but_last, stripped, content_of, spanned, code_span}
+use Rattle.cm_scan.specs.CodeSpans.{up_to_run, one_line, but_last, stripped, span_content, spanned, code_span}
 use Rattle.cm_scan.specs.Atoms.{AtomRead, Plain, Whole, read, or_byte, backtick_atom, markup_atom, atom_at}
 use Rattle.cm_source.specs.Texts.{longest_run, is_padded, spelled_code}
 use Rattle.cm_source.specs.InlineRefusals.{has_line_ending}
@@ -103,7 +103,7 @@ unfolding code_span
 span_read n text rest r b e l =
     ap (λ k. spanned k (after_run 96 (replicate (suc n) 96 ++ inside))) (marks_alone (suc n) inside b)
     ∙ ap (spanned (suc n)) (behind_marks (suc n) inside b)
-    ∙ ap content_of (up_to_marks n rest r text false e l)
+    ∙ ap span_content (up_to_marks n rest r text false e l)
   where
     inside : List ℕ
     inside = text ++ (replicate (suc n) 96 ++ rest)

@@ -18,7 +18,7 @@ use Rattle.cm_source.specs.InlineRefusals.{Face, Place, judged, further_in, firs
 use Rattle.cm_source.proofs.InlineKinds.{text-spelled, code-spelled, html-spelled, emph-spelled, strong-spelled, strike-spelled, link-spelled, image-spelled}
 use Rattle.cm_source.proofs.AcceptedLemmas.{or-none, Accepted, text-accepted, html-accepted, soft-accepted, hard-accepted}
 use Rattle.cm_source.proofs.InlineInduction.{by-cases}
-use Rattle.cm_source.proofs.LineFronts.{ends_number, line_of, Front, front-line}
+use Rattle.cm_source.proofs.LineFronts.{ends_number, seen_view, Front, front-line}
 use Rattle.cm_source.proofs.ContentFronts.{text-front}
 use Rattle.cm_source.proofs.TagLemmas.{tag-begins, tag-ends}
 use Rattle.cm_source.proofs.PlacesBack.{bare-front}
@@ -193,12 +193,12 @@ module _ (rules : Rules) where
   abbrev bare-told : (i : Inline) (s : Spelled) → spelled i ≡ s → (last : Bool) → is_unindented (s.spelling true last) ≡ true → is_unindented ((spelled i).spelling true last) ≡ true
   bare-told i s e last bare = ap (λ (z : Spelled). is_unindented (z.spelling true last)) e ∙ bare
 
-  whole-line : (text : List ℕ) → is_unindented (line_of text) ≡ true → is_unindented text ≡ true
-  unfolding line_of
+  whole-line : (text : List ℕ) → is_unindented (seen_view text) ≡ true → is_unindented text ≡ true
+  unfolding seen_view
   whole-line [] e = e
   whole-line (b ∷ bs) e = go (b == 10) e
     where
-      go : (v : Bool) → is_unindented (if v then [] else b ∷ line_of bs) ≡ true → is_unindented (b ∷ bs) ≡ true
+      go : (v : Bool) → is_unindented (if v then [] else b ∷ seen_view bs) ≡ true → is_unindented (b ∷ bs) ≡ true
       go true k = absurd (cc k)
       go false k = k
 

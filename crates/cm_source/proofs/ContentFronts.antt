@@ -20,7 +20,7 @@ use Rattle.cm_source.proofs.AcceptedLemmas.{or-none, Accepted, text-accepted, co
 use Rattle.cm_source.proofs.InlineInduction.{AllHold, Cases, by-cases, all-by-cases}
 use Rattle.cm_source.proofs.KeptBytes.{is_line_byte, one-line, padding-line, text-is-line, code-is-line, target-is-line}
 use Rattle.cm_scan.proofs.QuietStarts.{starters, is_quiet}
-use Rattle.cm_source.proofs.LineFronts.{enders, is_inner, ends_number, ends-digit, ends-other, line_of, Front, quiet, number, one_star, two_stars, two_tildes, backticks, LinesBegin}
+use Rattle.cm_source.proofs.LineFronts.{enders, is_inner, ends_number, ends-digit, ends-other, seen_view, Front, quiet, number, one_star, two_stars, two_tildes, backticks, LinesBegin}
 use Rattle.cm_source.proofs.TagLemmas.{tag-begins}
 use Rattle.cm_source.proofs.Ways.{Way, ByNumber, Escaped, AsItIs, no-control, way, edge_way}
 use Rattle.cm_scan.proofs.Apart.{differs', none-passes}
@@ -121,13 +121,13 @@ line-byte b bs e =
     let some = and_parts (not (b == 0)) (not (b == 10) && not (b == 13)) parts.0 in
     (not-true (b == 10) (and_parts (not (b == 10)) (not (b == 13)) some.1).0, parts.1)
 
-line-has : (inside rest : List ℕ) → list_all is_line_byte inside ≡ true → list_any (λ c. c == 96) (line_of (inside ++ 96 ∷ rest)) ≡ true
-unfolding line_of
+line-has : (inside rest : List ℕ) → list_all is_line_byte inside ≡ true → list_any (λ c. c == 96) (seen_view (inside ++ 96 ∷ rest)) ≡ true
+unfolding seen_view
 line-has [] rest e = refl
 line-has (b ∷ bs) rest e =
     let parts = line-byte b bs e in
-    ap (λ v. list_any (λ c. c == 96) (if v then [] else b ∷ line_of (bs ++ 96 ∷ rest))) parts.0
-    ∙ or_right (b == 96) (list_any (λ c. c == 96) (line_of (bs ++ 96 ∷ rest))) (line-has bs rest parts.1)
+    ap (λ v. list_any (λ c. c == 96) (if v then [] else b ∷ seen_view (bs ++ 96 ∷ rest))) parts.0
+    ∙ or_right (b == 96) (list_any (λ c. c == 96) (seen_view (bs ++ 96 ∷ rest))) (line-has bs rest parts.1)
 
 -- what stands between the backticks
 between_ticks : List ℕ → List ℕ
@@ -165,7 +165,7 @@ code-front text some e more =
     let behind : inside ++ (marks ++ more) ≡ s.byte ∷ (s.rest ++ (marks ++ more)) = ap (λ t. t ++ (marks ++ more)) s.is in
     subst Front (sym (shape ∙ ap (λ t. marks ++ t) behind))
     (backticks n s.byte (s.rest ++ (marks ++ more)) s.no_backtick (line-byte s.byte s.rest (sym (ap (list_all is_line_byte) s.is) ∙ line)).0
-    (sym (ap (λ t. list_any (λ c. c == 96) (line_of t)) behind) ∙ line-has inside (replicate n 96 ++ more) line))
+    (sym (ap (λ t. list_any (λ c. c == 96) (seen_view t)) behind) ∙ line-has inside (replicate n 96 ++ more) line))
 
 -- ---- lines
 

@@ -10,7 +10,7 @@ use Rattle.cm_tree.specs.declared.tree.Inline.{Inline}
 use Rattle.cm_tree.specs.declared.tree.Inline.TheVariants.{Text, Code, Html, Soft, Hard, Emph, Strong, Strike, Link, Image}
 use Rattle.cm_scan.specs.Words.{is_digit, is_empty, begins_with, after_word, is_at_word, holds_word, given, ◌<|>◌}
 use Rattle.cm_scan.specs.Tags.{after_gap}
-use Rattle.cm_scan.specs.Links.{Reading, behind, keep_if, escapes_next, closed_by, is_label, label, LinkDefinition, destination, titled, untitled, link_definition, definitions_within, definitions_of}
+use Rattle.cm_scan.specs.Links.{Reading, behind, keep_if, escapes_next, up_to_closing, is_label, label, LinkDefinition, destination, titled, untitled, link_definition, definitions_within, definitions_of}
 use Rattle.cm_source.specs.Inlines.{Spelled, spelled, join, is_line_end, between}
 use Rattle.cm_source.specs.Texts.{numbered, edge_byte, spelled_text, longest_run, is_padded, spelled_code, spelled_target}
 use Rattle.cm_source.specs.InlineRefusals.{Face, Place, judged, further_in, inside_link, first_face, refusal_of_all, ends_a_label}
@@ -34,7 +34,7 @@ is_no_label false (b ∷ bs) = if b == 93 then not (begins_with 58 bs) else (if 
 
 -- what a text is read as up to its first right bracket
 abbrev bracketed : Bool → List ℕ → Option Reading
-bracketed is_escaped text = closed_by (λ c. c == 93) (λ c. c == 91) is_escaped text
+bracketed is_escaped text = up_to_closing (λ c. c == 93) (λ c. c == 91) is_escaped text
 
 -- no colon follows
 unfoldable NoColon : Option Reading → Type 0
@@ -56,7 +56,7 @@ no-colon-next (b ∷ bs) e = go (b == 58) e
     go true k = absurd (cc k)
 
 no-colon : (is_escaped : Bool) (text : List ℕ) → is_no_label is_escaped text ≡ true → NoColon (bracketed is_escaped text)
-unfolding is_no_label closed_by NoColon
+unfolding is_no_label up_to_closing NoColon
 no-colon is_escaped [] e = tt
 no-colon true (b ∷ bs) e = no-colon-behind b (bracketed false bs) (no-colon false bs e)
 no-colon false (b ∷ bs) e = go (b == 93) (b == 91) e (no-colon (escapes_next b bs) bs)

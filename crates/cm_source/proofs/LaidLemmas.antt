@@ -9,7 +9,7 @@ use Rattle.cm_scan.specs.Words.{keep_byte, trim_end_by, trim_end_spaces}
 use Rattle.cm_source.specs.declared.source.Source.{Source}
 use Rattle.cm_source.specs.Spelling.{in_front, parted_lines}
 use Rattle.cm_source.specs.steps.Laid.{behind, further_lines, all_lines, next_front, next_begun, StandsAt, IsEnded, IsBetween, Place, IsInside, up_to, lay, Writes, BeginsLine, Ends, Lays, Enters, Leaves}
-use Rattle.cm_source.proofs.LineFronts.{line_of, parted-lines}
+use Rattle.cm_source.proofs.LineFronts.{seen_view, parted-lines}
 use Rattle.cm_source.proofs.LineFronts as parted
 
 -- what keeps something of its end keeps all before it
@@ -107,7 +107,7 @@ laid-lines front place (b ∷ bs) = go (b == 10) (laid-lines front (record { don
         ∙ append_assoc place.done (behind place.first place.last) (10 ∷ further_lines front (parted_lines bs))
         ∙ ap (λ t. place.done ++ (behind place.first t ++ 10 ∷ further_lines front (parted_lines bs))) (sym (append-nil place.last))
     go false after further =
-        let line = line_of bs in
+        let line = seen_view bs in
         let lines = parted.further_lines bs in
         let e = parted-lines bs in
         further

@@ -22,7 +22,7 @@ use Rattle.cm_source.specs.steps.Sources.{is_clean, is_one_line, IsTextLine, All
 use Rattle.cm_source.proofs.OutlineLines.{at, Have, no_lines, a_line, have-first}
 use Rattle.cm_source.proofs.PlacesBack.{at_end, before_empty}
 use Rattle.cm_source.proofs.OutlineFits.{Follows, apart_from, interrupted, LeafFits}
-use Rattle.cm_source.proofs.LineFronts.{line_of, further_lines, parted-lines}
+use Rattle.cm_source.proofs.LineFronts.{seen_view, further_lines, parted-lines}
 use Rattle.cm_source.proofs.Tests.{all-both, all-times}
 
 -- a byte that may stand in a line
@@ -126,7 +126,7 @@ join-all (t ∷ ts) = with_lines t ts
 pub parted-joined : (s : List ℕ) → join-all (parted_lines s) ≡ s
 unfolding parted_lines with_lines
 parted-joined [] = refl
-parted-joined (b ∷ bs) = let again : join-all (parted_lines bs) ≡ bs = parted-joined bs in go (b == 10) refl (line_of bs) (further_lines bs) (parted-lines bs) again
+parted-joined (b ∷ bs) = let again : join-all (parted_lines bs) ≡ bs = parted-joined bs in go (b == 10) refl (seen_view bs) (further_lines bs) (parted-lines bs) again
   where
     go : (v : Bool) → (b == 10) ≡ v → (f : List ℕ) (g : List (List ℕ)) → parted_lines bs ≡ f ∷ g → join-all (parted_lines bs) ≡ bs → join-all (if v then [] ∷ parted_lines bs else in_front b (parted_lines bs)) ≡ b ∷ bs
     go true h f g e again = ap (λ l. join-all ([] ∷ l)) e ∙ join-in-front (10 ∷ []) f g ∙ ap (λ l. 10 ∷ join-all l) (sym e) ∙ ap (λ l. 10 ∷ l) again ∙ ap (λ x. x ∷ bs) (sym (eqb-true b 10 h))

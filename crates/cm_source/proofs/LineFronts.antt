@@ -27,9 +27,9 @@ ends_number [] = true
 ends_number (b ∷ bs) = elim (is_digit b) [ true ↦ ends_number bs | false ↦ not (b == 46) && not (b == 41) ]
 
 -- the first line of a text
-unfoldable pub line_of : List ℕ → List ℕ
-line_of [] = []
-line_of (b ∷ bs) = if b == 10 then [] else b ∷ line_of bs
+unfoldable pub seen_view : List ℕ → List ℕ
+seen_view [] = []
+seen_view (b ∷ bs) = if b == 10 then [] else b ∷ seen_view bs
 
 -- how a line begins that is nothing but text
 pub data Front : List ℕ → Type 0 where
@@ -38,7 +38,7 @@ pub data Front : List ℕ → Type 0 where
   one_star : (b : ℕ) (bs : List ℕ) → is_inner b ≡ true → Front (42 ∷ b ∷ bs)
   two_stars : (b : ℕ) (bs : List ℕ) → is_inner b ≡ true → Front (42 ∷ 42 ∷ b ∷ bs)
   two_tildes : (b : ℕ) (bs : List ℕ) → is_inner b ≡ true → Front (126 ∷ 126 ∷ b ∷ bs)
-  backticks : (n b : ℕ) (bs : List ℕ) → (b == 96) ≡ false → (b == 10) ≡ false → list_any (λ c. c == 96) (line_of (b ∷ bs)) ≡ true
+  backticks : (n b : ℕ) (bs : List ℕ) → (b == 96) ≡ false → (b == 10) ≡ false → list_any (λ c. c == 96) (seen_view (b ∷ bs)) ≡ true
       → Front (replicate (suc n) 96 ++ b ∷ bs)
 
 -- a line that is text, the first of its paragraph or not
@@ -51,12 +51,12 @@ pub record IsText (rules : Rules) (line : List ℕ) : Type 0 where
 
 -- ---- lines
 
-line-keeps : (b : ℕ) (bs : List ℕ) → (b == 10) ≡ false → line_of (b ∷ bs) ≡ b ∷ line_of bs
-unfolding line_of
-line-keeps b bs e = cond-false (b == 10) [] (b ∷ line_of bs) e
+line-keeps : (b : ℕ) (bs : List ℕ) → (b == 10) ≡ false → seen_view (b ∷ bs) ≡ b ∷ seen_view bs
+unfolding seen_view
+line-keeps b bs e = cond-false (b == 10) [] (b ∷ seen_view bs) e
 
-line-run : (n : ℕ) (rest : List ℕ) → line_of (replicate n 96 ++ rest) ≡ replicate n 96 ++ line_of rest
-unfolding line_of
+line-run : (n : ℕ) (rest : List ℕ) → seen_view (replicate n 96 ++ rest) ≡ replicate n 96 ++ seen_view rest
+unfolding seen_view
 line-run zero rest = refl
 line-run (suc n) rest = ap (λ l. 96 ∷ l) (line-run n rest)
 
@@ -68,16 +68,16 @@ pub ends-other : (b : ℕ) (bs : List ℕ) → is_digit b ≡ false → ends_num
 unfolding ends_number
 ends-other b bs e = ap (λ v. elim v as (λ _. Bool) [ true ↦ ends_number bs | false ↦ not (b == 46) && not (b == 41) ]) e
 
-line-ends : (bs : List ℕ) → ends_number bs ≡ true → ends_number (line_of bs) ≡ true
-unfolding line_of ends_number
+line-ends : (bs : List ℕ) → ends_number bs ≡ true → ends_number (seen_view bs) ≡ true
+unfolding seen_view ends_number
 line-ends [] e = refl
 line-ends (b ∷ bs) e = go (b == 10) (is_digit b) refl refl (line-ends bs)
   where
     -- the end of a line, a digit, another byte
-    go : (v d : Bool) → (b == 10) ≡ v → is_digit b ≡ d → (ends_number bs ≡ true → ends_number (line_of bs) ≡ true) → ends_number (line_of (b ∷ bs)) ≡ true
-    go true d p q again = ap ends_number (cond-true (b == 10) [] (b ∷ line_of bs) p)
-    go false true p q again = ap ends_number (line-keeps b bs p) ∙ ends-digit b (line_of bs) q ∙ again (sym (ends-digit b bs q) ∙ e)
-    go false false p q again = ap ends_number (line-keeps b bs p) ∙ ends-other b (line_of bs) q ∙ sym (ends-other b bs q) ∙ e
+    go : (v d : Bool) → (b == 10) ≡ v → is_digit b ≡ d → (ends_number bs ≡ true → ends_number (seen_view bs) ≡ true) → ends_number (seen_view (b ∷ bs)) ≡ true
+    go true d p q again = ap ends_number (cond-true (b == 10) [] (b ∷ seen_view bs) p)
+    go false true p q again = ap ends_number (line-keeps b bs p) ∙ ends-digit b (seen_view bs) q ∙ again (sym (ends-digit b bs q) ∙ e)
+    go false false p q again = ap ends_number (line-keeps b bs p) ∙ ends-other b (seen_view bs) q ∙ sym (ends-other b bs q) ∙ e
 
 unmarked-text : (rules : Rules) (b : ℕ) (bs : List ℕ) → is_quiet b ≡ true → ordered_marker (b ∷ bs) ≡ None → IsText rules (b ∷ bs)
 unfolding is_quiet
@@ -227,18 +227,18 @@ ticks-text rules n b bs e holds =
 
 -- ---- the first line of a text with such a front
 
-pub front-line : (rules : Rules) (text : List ℕ) → Front text → IsText rules (line_of text)
-unfolding line_of holds_backtick
-front-line rules text (quiet b bs q d) = subst (IsText rules) (sym (line-keeps b bs (quiet-line b q))) (unmarked-text rules b (line_of bs) q (no-number b (line_of bs) d))
+pub front-line : (rules : Rules) (text : List ℕ) → Front text → IsText rules (seen_view text)
+unfolding seen_view holds_backtick
+front-line rules text (quiet b bs q d) = subst (IsText rules) (sym (line-keeps b bs (quiet-line b q))) (unmarked-text rules b (seen_view bs) q (no-number b (seen_view bs) d))
 front-line rules text (number b bs d e) =
     let kept = line-keeps b bs (quiet-line b (digit-quiet b d)) in
-    subst (IsText rules) (sym kept) (number-text rules b (line_of bs) d (sym (ap ends_number kept) ∙ line-ends (b ∷ bs) e))
-front-line rules text (one_star b bs q) = subst (λ l. IsText rules (42 ∷ l)) (sym (line-keeps b bs (inner-line b q))) (star-text rules b (line_of bs) q)
-front-line rules text (two_stars b bs q) = subst (λ l. IsText rules (42 ∷ 42 ∷ l)) (sym (line-keeps b bs (inner-line b q))) (stars-text rules b (line_of bs) q)
-front-line rules text (two_tildes b bs q) = subst (λ l. IsText rules (126 ∷ 126 ∷ l)) (sym (line-keeps b bs (inner-line b q))) (tildes-text rules b (line_of bs) q)
+    subst (IsText rules) (sym kept) (number-text rules b (seen_view bs) d (sym (ap ends_number kept) ∙ line-ends (b ∷ bs) e))
+front-line rules text (one_star b bs q) = subst (λ l. IsText rules (42 ∷ l)) (sym (line-keeps b bs (inner-line b q))) (star-text rules b (seen_view bs) q)
+front-line rules text (two_stars b bs q) = subst (λ l. IsText rules (42 ∷ 42 ∷ l)) (sym (line-keeps b bs (inner-line b q))) (stars-text rules b (seen_view bs) q)
+front-line rules text (two_tildes b bs q) = subst (λ l. IsText rules (126 ∷ 126 ∷ l)) (sym (line-keeps b bs (inner-line b q))) (tildes-text rules b (seen_view bs) q)
 front-line rules text (backticks n b bs e no_end holds) =
     subst (IsText rules) (sym (line-run (suc n) (b ∷ bs) ∙ ap (λ l. replicate (suc n) 96 ++ l) (line-keeps b bs no_end)))
-    (ticks-text rules n b (line_of bs) e (sym (ap holds_backtick (line-keeps b bs no_end)) ∙ holds))
+    (ticks-text rules n b (seen_view bs) e (sym (ap holds_backtick (line-keeps b bs no_end)) ∙ holds))
 
 -- ---- all lines of a text
 
@@ -252,13 +252,13 @@ unfoldable pub further_lines : List ℕ → List (List ℕ)
 further_lines [] = []
 further_lines (b ∷ bs) = if b == 10 then parted_lines bs else further_lines bs
 
-pub parted-lines : (text : List ℕ) → parted_lines text ≡ line_of text ∷ further_lines text
-unfolding parted_lines line_of further_lines
+pub parted-lines : (text : List ℕ) → parted_lines text ≡ seen_view text ∷ further_lines text
+unfolding parted_lines seen_view further_lines
 parted-lines [] = refl
 parted-lines (b ∷ bs) = go (b == 10) refl (parted-lines bs)
   where
-    go : (v : Bool) → (b == 10) ≡ v → parted_lines bs ≡ line_of bs ∷ further_lines bs
-        → (if v then [] ∷ parted_lines bs else in_front b (parted_lines bs)) ≡ (if v then [] else b ∷ line_of bs) ∷ (if v then parted_lines bs else further_lines bs)
+    go : (v : Bool) → (b == 10) ≡ v → parted_lines bs ≡ seen_view bs ∷ further_lines bs
+        → (if v then [] ∷ parted_lines bs else in_front b (parted_lines bs)) ≡ (if v then [] else b ∷ seen_view bs) ∷ (if v then parted_lines bs else further_lines bs)
     go true p again = refl
     go false p again = ap (in_front b) again
 
@@ -276,5 +276,5 @@ lines-are-text rules at_front [] begin = tt
 lines-are-text rules at_front (b ∷ bs) begin = go (b == 10) refl begin.1 (lines-are-text rules (b == 10) bs begin.1)
   where
     go : (v : Bool) → (b == 10) ≡ v → LinesBegin (b == 10) bs → AllTextLines rules (further_lines bs) → AllTextLines rules (if v then parted_lines bs else further_lines bs)
-    go true p here again = subst (AllTextLines rules) (sym (parted-lines bs)) (is-further rules (line_of bs) (front-line rules bs (first-front bs (subst (λ v. LinesBegin v bs) p here))), again)
+    go true p here again = subst (AllTextLines rules) (sym (parted-lines bs)) (is-further rules (seen_view bs) (front-line rules bs (first-front bs (subst (λ v. LinesBegin v bs) p here))), again)
     go false p here again = again

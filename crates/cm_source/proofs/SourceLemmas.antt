@@ -13,7 +13,7 @@ use Rattle.cm_source.proofs.ContentEnds.{trimmed-start, trimmed-end, unclosed, t
 use Rattle.cm_source.proofs.ContentFronts.{paragraph-lines}
 use Rattle.cm_source.proofs.ContentLabels.{defines-nothing, content-none}
 use Rattle.cm_source.proofs.KeptBytes.{is_kept, contents-keep, text-is-line, is_line_byte}
-use Rattle.cm_source.proofs.LineFronts.{line_of, further_lines, parted-lines, front-line, lines-are-text, first-front}
+use Rattle.cm_source.proofs.LineFronts.{seen_view, further_lines, parted-lines, front-line, lines-are-text, first-front}
 use Rattle.cm_source.proofs.SpelledBytes.{is_tame, text-tame, none-tame}
 use Rattle.cm_source.proofs.UnescapeBack.{unescape_text}
 
@@ -26,7 +26,7 @@ paragraph-source rules (i ∷ is) e some =
     let line = front-line rules source (first-front source begin) in
     record {
       clean = contents-keep rules false (i ∷ is) of_paragraph refl None e true true;
-      first = line_of source;
+      first = seen_view source;
       further = further_lines source;
       lines = parted-lines source;
       bare = line.bare;

@@ -8,7 +8,7 @@ use Rattle.cm_text.specs.Characters.{is_ascii_punct}
 use Rattle.cm_text.specs.Unescaping.{unescape}
 use Rattle.cm_scan.specs.Words.{begins_with, skip, trim_start, after_word, given}
 use Rattle.cm_scan.specs.Tags.{after_gap}
-use Rattle.cm_scan.specs.Links.{Reading, behind, keep_if, escapes_next, closed_by, destination, has_blank_line, has_no_blank_line, title_in, title}
+use Rattle.cm_scan.specs.Links.{Reading, behind, keep_if, escapes_next, up_to_closing, destination, has_blank_line, has_no_blank_line, title_in, title}
 use Rattle.cm_scan.specs.Brackets.{LinkEnd, link_end, closed, after_destination, inline_end, Defined, reference_end, end_at}
 use Rattle.cm_source.specs.Texts.{numbered, spelled_bytes, spelled_title, spelled_target}
 use Rattle.cm_source.specs.InlineRefusals.{has_nul}
@@ -52,18 +52,18 @@ passed_is b e = or_parts (is_stop b) (b == 92) (not-true (is_stop b || b == 92) 
 
 module _ (closes forbidden : ℕ → Bool) (others : PassesOthers closes forbidden) where
   by_tests : ℕ → (rest : List ℕ) → (closing barred escaped : Bool) → Option Reading
-  by_tests b rest closing barred escaped = elim closing [ true ↦ Some (reading [] rest) | false ↦ elim barred [ true ↦ None | false ↦ behind b (closed_by closes forbidden escaped rest) ] ]
+  by_tests b rest closing barred escaped = elim closing [ true ↦ Some (reading [] rest) | false ↦ elim barred [ true ↦ None | false ↦ behind b (up_to_closing closes forbidden escaped rest) ] ]
 
   -- a byte that neither ends the part nor is forbidden
   byte_passed : (b : ℕ) (rest : List ℕ) (escaped : Bool) → is_stop b ≡ false → escapes_next b rest ≡ escaped
-      → closed_by closes forbidden false (b ∷ rest) ≡ behind b (closed_by closes forbidden escaped rest)
-  unfolding closed_by by_tests
+      → up_to_closing closes forbidden false (b ∷ rest) ≡ behind b (up_to_closing closes forbidden escaped rest)
+  unfolding up_to_closing by_tests
   byte_passed b rest escaped e f =
       ap (λ t. by_tests b rest t (forbidden b) (escapes_next b rest)) (others b e).0
       ∙ ap (λ t. by_tests b rest false t (escapes_next b rest)) (others b e).1
       ∙ ap (λ t. by_tests b rest false false t) f
 
-  bytes_passed : (bs rest : List ℕ) → list_all is_passed bs ≡ true → closed_by closes forbidden false (bs ++ rest) ≡ onto bs (closed_by closes forbidden false rest)
+  bytes_passed : (bs rest : List ℕ) → list_all is_passed bs ≡ true → up_to_closing closes forbidden false (bs ++ rest) ≡ onto bs (up_to_closing closes forbidden false rest)
   unfolding onto
   bytes_passed [] rest e = refl
   bytes_passed (b ∷ bs) rest e =
@@ -78,24 +78,24 @@ module _ (closes forbidden : ℕ → Bool) (others : PassesOthers closes forbidd
   plain_passes : (b : ℕ) → is_numbered b ≡ false → is_ascii_punct b ≡ false → is_passed b ≡ true
   plain_passes b e f = grind (arith, nat_tests, e, f)
 
-  way_passed : (b : ℕ) (front rest : List ℕ) → Way b front → closed_by closes forbidden false (front ++ rest) ≡ onto front (closed_by closes forbidden false rest)
-  unfolding closed_by onto
+  way_passed : (b : ℕ) (front rest : List ℕ) → Way b front → up_to_closing closes forbidden false (front ++ rest) ≡ onto front (up_to_closing closes forbidden false rest)
+  unfolding up_to_closing onto
   way_passed b front rest (ByNumber low) = bytes_passed (numbered b) rest (agree_below_at (λ b. list_all is_passed (numbered b)) (λ b. true) 128 b numbers_pass low)
   way_passed b front rest (Escaped punct tick) = byte_passed 92 (b ∷ rest) true refl punct
   way_passed b front rest (AsItIs printed plain) = bytes_passed (b ∷ []) rest (ap (λ t. t && true) (plain_passes b printed plain))
 
-  ways_passed : (text front rest : List ℕ) → Ways text front → closed_by closes forbidden false (front ++ rest) ≡ onto front (closed_by closes forbidden false rest)
+  ways_passed : (text front rest : List ℕ) → Ways text front → up_to_closing closes forbidden false (front ++ rest) ≡ onto front (up_to_closing closes forbidden false rest)
   unfolding onto
   ways_passed text front rest NoByte = refl
   ways_passed text front rest (OneByte {b = b} {bs = bs} {first = first} {others = further} one more) =
-      ap (closed_by closes forbidden false) (append_assoc first further rest)
+      ap (up_to_closing closes forbidden false) (append_assoc first further rest)
       ∙ way_passed b first (further ++ rest) one
       ∙ ap (onto first) (ways_passed bs further rest more)
-      ∙ sym (onto_append first further (closed_by closes forbidden false rest))
+      ∙ sym (onto_append first further (up_to_closing closes forbidden false rest))
 
   -- spelled bytes up to the one that closes
-  closed_read : (close : ℕ) (text rest : List ℕ) → closes close ≡ true → closed_by closes forbidden false (spelled_bytes text ++ close ∷ rest) ≡ Some (reading (spelled_bytes text) rest)
-  unfolding closed_by by_tests
+  closed_read : (close : ℕ) (text rest : List ℕ) → closes close ≡ true → up_to_closing closes forbidden false (spelled_bytes text ++ close ∷ rest) ≡ Some (reading (spelled_bytes text) rest)
+  unfolding up_to_closing by_tests
   closed_read close text rest e =
       ways_passed text (spelled_bytes text) (close ∷ rest) (ways text)
       ∙ ap (λ t. onto (spelled_bytes text) (by_tests close rest t (forbidden close) (escapes_next close rest))) e

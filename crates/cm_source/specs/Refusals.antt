@@ -70,7 +70,7 @@ begins_too_high kind = false
 abbrev pub is_code_text : List ℕ → Bool
 is_code_text text = (is_empty text || ends_with 10 text) && not (list_any (λ b. b == 13) text)
 
--- the last of some lines holds the end that an HTML block of the first line's kind has, if it has one
+-- the last and the first of some lines, or no text where there are none
 abbrev pub last_line : List (List ℕ) → List ℕ
 last_line [] = []
 last_line (line ∷ []) = line
@@ -80,6 +80,7 @@ abbrev pub first_line : List (List ℕ) → List ℕ
 first_line [] = []
 first_line (line ∷ lines) = line
 
+-- the last line of a text holds the end that an HTML block of the first line's kind has, if it has one
 abbrev pub is_html_ended : Rules → List ℕ → Bool
 is_html_ended rules text = elim (html_start rules (first_line (lines_of text))) [
   | Some kind ↦ ends_at_blank_line kind || is_html_end kind (last_line (lines_of text))

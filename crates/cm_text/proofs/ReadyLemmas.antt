@@ -4,7 +4,7 @@ use Rattle.std.specs.Prelude.{Option, Result, Ok, Err, option_to_list}
 use Rattle.std.specs.Str.Lossy.{utf8_valid_len}
 use Rattle.cm_text.specs.declared.fault.TextFault.{TextFault}
 use Rattle.cm_text.specs.declared.fault.TextFault.TheVariants.{NotUtf8, TooLong, NoMemory}
-use Rattle.cm_text.specs.Lines.{LineView, view_of, text_of, plain_line, last_line}
+use Rattle.cm_text.specs.Lines.{LineView, seen_line, text_of, plain_line, last_line}
 use Rattle.cm_text.specs.Cut.{Cut, IsFront}
 use Rattle.cm_text.specs.Faults.{left_of}
 use Rattle.cm_text.specs.Feed.{Feed, StandsFor, with_ready}
@@ -167,11 +167,11 @@ closes_refused r ready more fault old middle new before closes gone none limit =
 
 -- the next line is taken
 pub next_stands : (fault : Option TextFault) (buffer : Feed) (r : Option Line) (items rest : List Line) (bytes : List ℕ) (taken : ℕ) → items ≡ option_to_list r ++ rest
-    → StandsFor (behind_ready (map view_of items) fault buffer) bytes taken
-    → StandsFor (behind_ready (map view_of rest) fault buffer) bytes (cond (is_some r) (taken + 1) taken)
+    → StandsFor (behind_ready (map seen_line items) fault buffer) bytes taken
+    → StandsFor (behind_ready (map seen_line rest) fault buffer) bytes (cond (is_some r) (taken + 1) taken)
 next_stands fault buffer None items rest bytes taken is stands =
-    let P : List Line → Type 0 = λ t. StandsFor (behind_ready (map view_of t) fault buffer) bytes taken in
+    let P : List Line → Type 0 = λ t. StandsFor (behind_ready (map seen_line t) fault buffer) bytes taken in
     subst P is stands
 next_stands fault buffer (Some line) items rest bytes taken is stands =
-    let P : List Line → Type 0 = λ t. StandsFor (behind_ready (map view_of t) fault buffer) bytes taken in
-    pass_stands (behind_ready (map view_of (line ∷ rest)) fault buffer) bytes taken (omega arith) (subst P is stands)
+    let P : List Line → Type 0 = λ t. StandsFor (behind_ready (map seen_line t) fault buffer) bytes taken in
+    pass_stands (behind_ready (map seen_line (line ∷ rest)) fault buffer) bytes taken (omega arith) (subst P is stands)

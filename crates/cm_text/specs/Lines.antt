@@ -62,8 +62,8 @@ pub record LineView : Type 0 where
   pub text : List ℕ
   pub lazy : Bool
 
-abbrev pub view_of : Line → LineView
-view_of line = record { column = line.column; text = string_bytes line.text; lazy = line.lazy }
+abbrev pub seen_line : Line → LineView
+seen_line line = record { column = line.column; text = string_bytes line.text; lazy = line.lazy }
 
 -- a line as it stands in a text
 abbrev pub plain_line : List ℕ → LineView

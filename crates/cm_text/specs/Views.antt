@@ -4,5 +4,5 @@ use Rattle.cm_text.specs.declared.view.View.{View}
 use Rattle.cm_text.specs.Lines.{LineView}
 
 -- the line for which a view stands: its spaces, and then the rest of the text
-abbrev pub line_of : View → LineView
-line_of view = record { column = view.column; text = replicate view.spaces 32 ++ view.rest.now; lazy = view.lazy }
+abbrev pub seen_view : View → LineView
+seen_view view = record { column = view.column; text = replicate view.spaces 32 ++ view.rest.now; lazy = view.lazy }

@@ -3,8 +3,8 @@ ghost use Rattle.std.specs.Prelude.{◌≡◌, ℕ, ◌+◌, ◌-◌, ◌*◌, �
 ghost use Rattle.std.specs.Str.{IsCharBoundary};
 ghost use Rattle.cm_text.specs.Indentation.{indent_of, indent_from, blank_width, strip_from, strip_columns};
 ghost use Rattle.cm_text.specs.LineText.{tabs};
-ghost use Rattle.cm_text.specs.Lines.{view_of};
-ghost use Rattle.cm_text.specs.Views.{line_of};
+ghost use Rattle.cm_text.specs.Lines.{seen_line};
+ghost use Rattle.cm_text.specs.Views.{seen_view};
 
 use crate::lines::Line;
 use crate::view::View;
@@ -12,7 +12,7 @@ use crate::view::View;
 impl Line {
     /// The line, seen whole. It takes no memory.
     pub fn view(&self) -> View<'_>
-        ensures line { line_of result ≡ view_of self.now }
+        ensures line { seen_view result ≡ seen_line self.now }
         ensures bare { result.spaces ≡ 0 }
     {
         View {
@@ -81,7 +81,7 @@ impl<'a> View<'a> {
     /// The columns before the line's first character that is neither space nor tab (2.2 Tabs).
     #[tactic(auto, using(crate::proofs::ViewLemmas::indent_spaces))]
     pub fn indent(&self) -> usize
-        ensures { result ≡ indent_of (line_of self.now) }
+        ensures { result ≡ indent_of (seen_view self.now) }
     {
         self.spaces + indent_from(self.column + self.spaces, self.rest)
     }
@@ -91,7 +91,7 @@ impl<'a> View<'a> {
         requires bare { self.now.spaces ≡ 0 }
         requires boundary { IsCharBoundary self.now.rest.now n }
         requires plain { tabs (take n self.now.rest.now) ≡ 0 }
-        ensures { line_of result ≡ record { column = self.now.column + n; text = drop n self.now.rest.now; lazy = self.now.lazy } }
+        ensures { seen_view result ≡ record { column = self.now.column + n; text = drop n self.now.rest.now; lazy = self.now.lazy } }
     {
         View {
             column: self.column + n,
@@ -105,8 +105,8 @@ impl<'a> View<'a> {
     /// start column moves on by what is taken, and a tab of which some columns are taken leaves the others
     /// as spaces (2.2 Tabs).
     pub fn strip(&self, n: usize) -> View<'a>
-        ensures line { line_of result ≡ strip_columns n (line_of self.now) }
-        ensures bare { indent_of (line_of self.now) ≤ n → result.spaces ≡ 0 }
+        ensures line { seen_view result ≡ strip_columns n (seen_view self.now) }
+        ensures bare { indent_of (seen_view self.now) ≤ n → result.spaces ≡ 0 }
     {
         if n <= self.spaces {
             return View {

@@ -1,8 +1,8 @@
 //! The lines of a text that comes in pieces, as values of their own.
 ghost use Rattle.std.specs.Prelude.{◌≡◌, ◌≢◌, ℕ, ◌+◌, ◌<◌, ◌≤◌, List, [], ◌∷◌, ◌++◌, length, map, OnOk, is_some, is_ok, IfOk, IfSome, IfNone, if◌then◌else◌, None, false, OnErr};
 ghost use Rattle.cm_text.specs.Answers.{answer_after};
-ghost use Rattle.cm_text.specs.Lines.{LineView, view_of};
-ghost use Rattle.cm_text.specs.Views.{line_of};
+ghost use Rattle.cm_text.specs.Lines.{LineView, seen_line};
+ghost use Rattle.cm_text.specs.Views.{seen_view};
 ghost use Rattle.cm_text.specs.Faults.{settled_fault, text_fault};
 ghost use Rattle.cm_text.specs.Feed.{StandsFor, Answers, with_ready, count};
 ghost use Rattle.cm_text.specs.steps.FeedSteps.{Steps, Closes, Moves, LetsGo};
@@ -37,13 +37,13 @@ pub struct LineFeed {
 
 impl Model for LineFeed {
     ghost use Rattle.std.specs.Prelude.{◌≡◌, ◌≤◌, map, []};
-    ghost use Rattle.cm_text.specs.Lines.{view_of};
+    ghost use Rattle.cm_text.specs.Lines.{seen_line};
     ghost use Rattle.cm_text.specs.Feed.{Feed, count};
     ghost use Rattle.cm_text.specs.steps.FeedSteps.{behind_ready};
 
     ghost Value = { Feed };
 
-    ghost view = { λ f. behind_ready (map view_of f.ready.items) f.fault f.buffer };
+    ghost view = { λ f. behind_ready (map seen_line f.ready.items) f.fault f.buffer };
 
     ghost invariant = { λ f. (f.buffer.cut.ended ≡ []) × (count f.buffer ≤ f.buffer.limit) × (f.buffer.limit ≡ f.limits.bytes) };
 }
@@ -51,7 +51,7 @@ impl Model for LineFeed {
 /// A copy of a line.
 fn copied(alloc: Global, line: &View<'_>) -> Result<Line, AllocError>
     requires { line.now.spaces ≡ 0 }
-    ensures { IfOk result (λ copy. view_of copy ≡ line_of line.now) }
+    ensures { IfOk result (λ copy. seen_line copy ≡ seen_view line.now) }
 {
     Ok(Line {
         column: line.column,
@@ -66,7 +66,7 @@ fn move_lines(
     buffer: &mut LineBuffer,
     ready: &mut VecDeque<Line>,
 ) -> Result<(), AllocError>
-    ensures moves { Moves (map view_of ready.old.items) buffer.old (map view_of ready.new.items) buffer.new }
+    ensures moves { Moves (map seen_line ready.old.items) buffer.old (map seen_line ready.new.items) buffer.new }
     ensures all { OnOk result (buffer.new.cut.ended ≡ []) }
     ensures left { OnErr result (0 < length buffer.new.cut.ended) }
 {
@@ -87,8 +87,8 @@ fn copy_lines(
     requires { buffer.old.limit ≡ limits.bytes }
     ensures all { buffer.new.cut.ended ≡ [] }
     ensures limit { buffer.new.limit ≡ limits.bytes }
-    ensures moves { OnOk result (Moves (map view_of ready.old.items) buffer.old (map view_of ready.new.items) buffer.new) }
-    ensures refused { OnErr result (LetsGo (map view_of ready.old.items) buffer.old (map view_of ready.new.items) buffer.new) }
+    ensures moves { OnOk result (Moves (map seen_line ready.old.items) buffer.old (map seen_line ready.new.items) buffer.new) }
+    ensures refused { OnErr result (LetsGo (map seen_line ready.old.items) buffer.old (map seen_line ready.new.items) buffer.new) }
 {
     let moved = move_lines(alloc, buffer, ready);
     if moved.is_err() {
@@ -173,7 +173,7 @@ impl LineFeed {
 
     /// The next line that has ended, or, once the text has, the unended last one.
     pub fn next_line(&mut self) -> Option<Line>
-        ensures line { IfSome result (λ line. self.old.cut.ended ≡ view_of line ∷ self.new.cut.ended) }
+        ensures line { IfSome result (λ line. self.old.cut.ended ≡ seen_line line ∷ self.new.cut.ended) }
         ensures none { IfNone result (self.old.cut.ended ≡ []) }
         ensures unchanged { IfNone result (self.new ≡ self.old) }
         ensures rest { self.new ≡ with_ready self.new.cut.ended self.old }

@@ -2,7 +2,7 @@
 ghost use Rattle.std.specs.Prelude.{◌≡◌, ℕ, ◌+◌, ◌-◌, ◌<◌, ◌≤◌, ◌++◌, drop, replicate, string_bytes, IfOk};
 ghost use Rattle.std.specs.Str.{IsCharBoundary};
 ghost use Rattle.cm_text.specs.Indentation.{indent_of, blank_width, strip_from, strip_columns};
-ghost use Rattle.cm_text.specs.Lines.{view_of};
+ghost use Rattle.cm_text.specs.Lines.{seen_line};
 
 use crate::columns::{indent_from, take_columns};
 use crate::device::NoMemory;
@@ -11,7 +11,7 @@ use std::alloc::Global;
 
 /// The columns before the line's first character that is neither space nor tab (CommonMark 0.31.2, 2.2 Tabs).
 pub fn indent(line: &Line) -> usize
-    ensures { result ≡ indent_of (view_of line.now) }
+    ensures { result ≡ indent_of (seen_line line.now) }
 {
     indent_from(line.column, &line.text)
 }
@@ -26,7 +26,7 @@ pub fn indent(line: &Line) -> usize
 ///
 /// `NoMemory` where a request for memory was refused.
 pub fn strip(alloc: Global, n: usize, line: &Line) -> Result<Line, NoMemory>
-    ensures { IfOk result (λ stripped. view_of stripped ≡ strip_columns n (view_of line.now)) }
+    ensures { IfOk result (λ stripped. seen_line stripped ≡ strip_columns n (seen_line line.now)) }
 {
     let (column, spaces, taken) = take_columns(n, line.column, &line.text);
     let mut text = String::from_str(alloc, &"   "[..spaces])?;

@@ -1,7 +1,7 @@
 //! The lines of a text that comes in pieces, lent from where they are held.
 ghost use Rattle.std.specs.Prelude.{◌≡◌, ◌≢◌, ℕ, ◌+◌, ◌<◌, ◌≤◌, List, [], ◌∷◌, ◌++◌, length, drop, OnOk, is_ok, IfSome, IfNone, None, false};
 ghost use Rattle.cm_text.specs.Answers.{answer_after};
-ghost use Rattle.cm_text.specs.Views.{line_of};
+ghost use Rattle.cm_text.specs.Views.{seen_view};
 ghost use Rattle.cm_text.specs.Faults.{settled_fault, text_fault};
 ghost use Rattle.cm_text.specs.Feed.{StandsFor, Answers, with_ready, count};
 ghost use Rattle.cm_text.specs.steps.FeedSteps.{Steps, Closes};
@@ -142,7 +142,7 @@ impl LineBuffer {
     /// The first line that has ended, or, once the text has, the unended last one: as it is held, without a
     /// copy.
     pub fn first_line(&self) -> Option<View<'_>>
-        ensures line { IfSome result (λ line. self.now.cut.ended ≡ line_of line ∷ drop 1 self.now.cut.ended) }
+        ensures line { IfSome result (λ line. self.now.cut.ended ≡ seen_view line ∷ drop 1 self.now.cut.ended) }
         ensures bare { IfSome result (λ line. line.spaces ≡ 0) }
         ensures none { IfNone result (self.now.cut.ended ≡ []) }
     {

@@ -27,7 +27,7 @@ pub(crate) struct Unread {
 
 impl Unread {
     ghost use Rattle.cm_text.specs.Lines.{text_of, plain_line, last_line};
-    ghost use Rattle.cm_text.specs.Views.{line_of};
+    ghost use Rattle.cm_text.specs.Views.{seen_view};
     ghost use Rattle.cm_text.specs.Cut.{cut_of, cut_more, without, nothing_cut};
 
     pub(crate) fn new(alloc: Global) -> Unread
@@ -53,7 +53,7 @@ impl Unread {
     /// The first line that has ended.
     pub(crate) fn first_line(&self) -> Option<View<'_>>
         requires { string_len self.now.text ≤ 2 ^ 61 }
-        ensures line { IfSome result (λ line. (cut_of self.now).ended ≡ line_of line ∷ drop 1 (cut_of self.now).ended) }
+        ensures line { IfSome result (λ line. (cut_of self.now).ended ≡ seen_view line ∷ drop 1 (cut_of self.now).ended) }
         ensures bare { IfSome result (λ line. line.spaces ≡ 0) }
         ensures none { IfNone result ((cut_of self.now).ended ≡ []) }
     {

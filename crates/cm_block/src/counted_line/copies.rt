@@ -1,7 +1,7 @@
 //! How what is left of a line comes to the end of a text.
 ghost use Rattle.std.specs.Prelude.{◌≡◌, ◌++◌, ◌∷◌, suc, false, string_bytes, IfOk, OnOk};
 ghost use Rattle.cm_text.specs.Rules as all;
-ghost use Rattle.cm_text.specs.Views.{line_of};
+ghost use Rattle.cm_text.specs.Views.{seen_view};
 ghost use Rattle.cm_scan.specs.Words.{given};
 ghost use Rattle.cm_scan.specs.Lines.{with_ending};
 ghost use Rattle.cm_scan.specs.Blocks.{line_feeds, add_text};
@@ -15,7 +15,7 @@ use std::alloc::AllocError;
 
 /// Puts a line at the end of a text.
 pub(crate) fn push_line(text: &mut String, line: &View<'_>) -> Result<(), AllocError>
-    ensures text { OnOk result (string_bytes text.new ≡ string_bytes text.old ++ (line_of line.now).text) }
+    ensures text { OnOk result (string_bytes text.new ≡ string_bytes text.old ++ (seen_view line.now).text) }
     ensures feeds { OnOk result (line_feeds (string_bytes text.new) ≡ line_feeds (string_bytes text.old)) }
 {
     for _ in 0..line.spaces {
@@ -26,7 +26,7 @@ pub(crate) fn push_line(text: &mut String, line: &View<'_>) -> Result<(), AllocE
 
 /// Puts a line and its line feed at the end of a text.
 pub(crate) fn push_whole_line(text: &mut String, line: &View<'_>) -> Result<(), AllocError>
-    ensures text { OnOk result (string_bytes text.new ≡ string_bytes text.old ++ with_ending (line_of line.now)) }
+    ensures text { OnOk result (string_bytes text.new ≡ string_bytes text.old ++ with_ending (seen_view line.now)) }
     ensures feeds { OnOk result (line_feeds (string_bytes text.new) ≡ suc (line_feeds (string_bytes text.old))) }
 {
     push_line(text, line)?;
@@ -35,7 +35,7 @@ pub(crate) fn push_whole_line(text: &mut String, line: &View<'_>) -> Result<(), 
 
 /// Puts a line feed and a line at the end of a text.
 pub(crate) fn push_next_line(text: &mut String, line: &View<'_>) -> Result<(), AllocError>
-    ensures text { OnOk result (string_bytes text.new ≡ string_bytes text.old ++ 10 ∷ (line_of line.now).text) }
+    ensures text { OnOk result (string_bytes text.new ≡ string_bytes text.old ++ 10 ∷ (seen_view line.now).text) }
     ensures feeds { OnOk result (line_feeds (string_bytes text.new) ≡ suc (line_feeds (string_bytes text.old))) }
 {
     text.push_str("\n")?;
@@ -44,7 +44,7 @@ pub(crate) fn push_next_line(text: &mut String, line: &View<'_>) -> Result<(), A
 
 /// Goes on with a run by one more line, whose leading spaces and tabs go (4.8 Paragraphs).
 pub(crate) fn add_text(source: &mut String, line: &View<'_>) -> Result<(), AllocError>
-    ensures { OnOk result (string_bytes source.new ≡ add_text (string_bytes source.old) (line_of line.now)) }
+    ensures { OnOk result (string_bytes source.new ≡ add_text (string_bytes source.old) (seen_view line.now)) }
 {
     if !source.is_empty() {
         source.push_str("\n")?;
@@ -60,7 +60,7 @@ pub(crate) fn take_code_line(
     line: &View<'_>,
 ) -> Result<bool, AllocError>
     ensures taken { (by : all.Rules) → IfOk result (λ taken. given taken (stays_open (code_of (string_bytes text.new) (string_bytes blank_lines.new)))
-        ≡ line_of_leaf by (code_of (string_bytes text.old) (string_bytes blank_lines.old)) (line_of line.now)) }
+        ≡ line_of_leaf by (code_of (string_bytes text.old) (string_bytes blank_lines.old)) (seen_view line.now)) }
     ensures kept { IfOk result (λ taken. taken ≡ false → text.new ≡ text.old) }
     ensures waiting { IfOk result (λ taken. taken ≡ false → blank_lines.new ≡ blank_lines.old) }
 {

@@ -1,6 +1,6 @@
 //! Whether a line ends the open leaf.
 ghost use Rattle.std.specs.Prelude.{◌≡◌, ℕ, List};
-ghost use Rattle.cm_text.specs.Views.{line_of};
+ghost use Rattle.cm_text.specs.Views.{seen_view};
 ghost use Rattle.cm_scan.specs.Blocks.{closes_fence};
 ghost use Rattle.cm_scan.specs.HtmlBlocks.{is_html_end};
 ghost use Rattle.cm_scan.specs.HtmlKinds.{kind_of};
@@ -11,14 +11,14 @@ use cm_text::View;
 
 /// Whether the line is the closing fence: it has up to 3 columns of indentation (4.5 Fenced code blocks).
 pub(crate) fn closes_fence(kind: FenceKind, line: &View<'_>) -> bool
-    ensures { (info : List ℕ) → result ≡ closes_fence (record { marker = kind.marker; count = kind.count; info = info }) (line_of line.now) }
+    ensures { (info : List ℕ) → result ≡ closes_fence (record { marker = kind.marker; count = kind.count; info = info }) (seen_view line.now) }
 {
     line.indent() <= 3 && fence_end(kind, content(line), 0).is_some()
 }
 
 /// Whether the line meets the end condition of an HTML block of this kind.
 pub(crate) fn ends_html(kind: HtmlKind, line: &View<'_>) -> bool
-    ensures { result ≡ is_html_end (kind_of kind) (line_of line.now).text }
+    ensures { result ≡ is_html_end (kind_of kind) (seen_view line.now).text }
 {
     html_end(kind, line.rest, 0).is_some()
 }

@@ -2,7 +2,7 @@
 ghost use Rattle.std.specs.Prelude.{◌≡◌, [], string_bytes, IfOk, IfSome, IfNone, true};
 ghost use Rattle.cm_text.specs.Lines.{LineView};
 ghost use Rattle.cm_block.specs.declared.counted_line.starts.Start.TheVariants.{Atx, Fence};
-ghost use Rattle.cm_text.specs.Views.{line_of};
+ghost use Rattle.cm_text.specs.Views.{seen_view};
 ghost use Rattle.cm_scan.specs.HtmlKinds.{kind_of};
 ghost use Rattle.cm_scan.specs.HtmlBlocks.{is_html_end};
 ghost use Rattle.cm_scan.specs.Starts as starts;
@@ -35,7 +35,7 @@ fn begin_code(
     leaves: &mut TextRoom,
     line: &View<'_>,
 ) -> Result<FirstLine, AllocError>
-    ensures { IfOk result (λ first. begins_leaf (first_of first) ≡ begin_of_start starts.IndentedCode (line_of line.now)) }
+    ensures { IfOk result (λ first. begins_leaf (first_of first) ≡ begin_of_start starts.IndentedCode (seen_view line.now)) }
 {
     let mut text = leaves.take(alloc);
     push_line(&mut text, &line.strip(4))?;
@@ -62,7 +62,7 @@ fn begin_fence(
     fence: OpeningFence<'_>,
     line: &View<'_>,
 ) -> Result<FirstLine, AllocError>
-    ensures { IfOk result (λ first. begins_leaf (first_of first) ≡ begin_of_start (seen (Fence fence.entry)) (line_of line.now)) }
+    ensures { IfOk result (λ first. begins_leaf (first_of first) ≡ begin_of_start (seen (Fence fence.entry)) (seen_view line.now)) }
 {
     Ok(FirstLine::Opens(OpenLeaf::Fence {
         kind: fence.kind,
@@ -79,7 +79,7 @@ fn begin_html(
     kind: HtmlKind,
     line: &View<'_>,
 ) -> Result<FirstLine, AllocError>
-    ensures { IfOk result (λ first. begins_leaf (first_of first) ≡ begin_of_start (starts.HtmlStart (kind_of kind)) (line_of line.now)) }
+    ensures { IfOk result (λ first. begins_leaf (first_of first) ≡ begin_of_start (starts.HtmlStart (kind_of kind)) (seen_view line.now)) }
 {
     let mut text = leaves.take(alloc);
     push_line(&mut text, line)?;
@@ -106,7 +106,7 @@ pub(crate) fn begin_leaf(
     start: &LeafStart<'_>,
     line: &View<'_>,
 ) -> Result<Option<FirstLine>, AllocError>
-    ensures leaf { IfOk result (λ first. IfSome first (λ f. begins_leaf (first_of f) ≡ begin_of_start (seen start.now.found) (line_of line.now))) }
+    ensures leaf { IfOk result (λ first. IfSome first (λ f. begins_leaf (first_of f) ≡ begin_of_start (seen start.now.found) (seen_view line.now))) }
     ensures container { IfOk result (λ first. IfNone first (begins_container (seen start.now.found) ≡ true)) }
 {
     let found = start.found();

@@ -1,7 +1,7 @@
 //! What can interrupt a paragraph, and what underlines it.
 ghost use Rattle.std.specs.Prelude.{◌≡◌, suc, drop};
 ghost use Rattle.cm_text.specs.Lines.{LineView};
-ghost use Rattle.cm_text.specs.Views.{line_of};
+ghost use Rattle.cm_text.specs.Views.{seen_view};
 ghost use Rattle.cm_scan.specs.Words.{is_blank_text};
 ghost use Rattle.cm_scan.specs.Starts.{starts_at_one, can_interrupt, interrupts_paragraph, underline_of};
 ghost use Rattle.cm_block.specs.steps.StartViews.{seen};
@@ -34,7 +34,7 @@ fn is_blank_behind(digits: usize, content: &[u8]) -> bool
 
 /// Whether an item can interrupt a paragraph: it is not empty, and its number is 1 (5.2 List items).
 fn item_interrupts(marker: ItemMarker, line: &View<'_>) -> bool
-    ensures { result ≡ can_interrupt (seen (Item marker)) (line_of line.now) }
+    ensures { result ≡ can_interrupt (seen (Item marker)) (seen_view line.now) }
 {
     starts_at_one(marker.kind) && !is_blank_behind(marker.digits, content(line).as_bytes())
 }
@@ -48,7 +48,7 @@ fn html_interrupts(kind: HtmlKind) -> bool
 
 /// Whether the line can interrupt a paragraph.
 pub(crate) fn interrupts_paragraph(rules: Rules, line: &View<'_>) -> bool
-    ensures { result ≡ interrupts_paragraph rules (line_of line.now) }
+    ensures { result ≡ interrupts_paragraph rules (seen_view line.now) }
 {
     match start_of(rules, line) {
         Start::QuoteMarker | Start::Atx(_) | Start::Fence(_) | Start::Break => true,
@@ -61,7 +61,7 @@ pub(crate) fn interrupts_paragraph(rules: Rules, line: &View<'_>) -> bool
 /// The level that the line gives to the text above it, as an underline: it is no lazy continuation line
 /// (4.3 Setext headings).
 pub(crate) fn underline_of(line: &View<'_>) -> Option<u8>
-    ensures { result ≡ underline_of (line_of line.now) }
+    ensures { result ≡ underline_of (seen_view line.now) }
 {
     if line.lazy {
         return None;

@@ -2,7 +2,7 @@
 ghost use Rattle.std.specs.Prelude.{◌≡◌, ◌≤◌, ◌&&◌, ◌||◌, nat_le, true, false, option_map, IfSome, MatchOption};
 ghost use Rattle.cm_text.specs.Indentation.{indent_of, strip_columns};
 ghost use Rattle.cm_text.specs.Rules as all;
-ghost use Rattle.cm_text.specs.Views.{line_of};
+ghost use Rattle.cm_text.specs.Views.{seen_view};
 ghost use Rattle.cm_scan.specs.Lines.{is_blank};
 ghost use Rattle.cm_scan.specs.Starts.{QuoteMarker, ItemStart, start_of, may_be_lazy, place_if_lazy, behind_quote_marker, place_in_quote, content_offset, content_column, first_content, behind_marker, place_in_item};
 ghost use Rattle.cm_scan.specs.Laws.{goes_inward};
@@ -18,7 +18,7 @@ use cm_text::{Rules, View};
 /// Whether a line is blank (2.1 Characters and lines).
 #[tactic(auto, using(crate::proofs::PlaceLemmas::blank_spaces))]
 pub(crate) fn is_blank(line: &View) -> bool
-    ensures { result ≡ is_blank (line_of line.now) }
+    ensures { result ≡ is_blank (seen_view line.now) }
 {
     is_blank_text(line.rest.as_bytes())
 }
@@ -36,7 +36,7 @@ fn may_be_lazy(start: &Start<'_>) -> bool
 /// The line as a lazy continuation line, if it can be one: `open_text` says whether the lines so far leave
 /// a paragraph open (5.1 Block quotes, 5.2 List items).
 pub(crate) fn if_lazy<'a>(rules: Rules, line: &View<'a>, open_text: bool) -> Option<View<'a>>
-    ensures line { option_map line_of result ≡ goes_inward (place_if_lazy rules (line_of line.now)) open_text }
+    ensures line { option_map seen_view result ≡ goes_inward (place_if_lazy rules (seen_view line.now)) open_text }
     ensures lazy { IfSome result (λ inner. inner.lazy ≡ true) }
 {
     if !open_text {
@@ -59,8 +59,8 @@ pub(crate) fn if_lazy<'a>(rules: Rules, line: &View<'a>, open_text: bool) -> Opt
 /// The line behind the marker of a quote with which it begins, and one column of space, if there is one
 /// (5.1 Block quotes).
 pub(crate) fn quote_content<'a>(line: &View<'a>) -> Option<View<'a>>
-    ensures { (by : all.Rules) → MatchOption result (begins_quote (start_of by (line_of line.now)) ≡ false)
-        (λ inner. (start_of by (line_of line.now) ≡ QuoteMarker) × (line_of inner ≡ behind_quote_marker (line_of line.now))) }
+    ensures { (by : all.Rules) → MatchOption result (begins_quote (start_of by (seen_view line.now)) ≡ false)
+        (λ inner. (start_of by (seen_view line.now) ≡ QuoteMarker) × (seen_view inner ≡ behind_quote_marker (seen_view line.now))) }
 {
     if line.lazy {
         return None;
@@ -78,7 +78,7 @@ pub(crate) fn quote_content<'a>(line: &View<'a>) -> Option<View<'a>>
 
 /// Whether a line ends an item of which there is only the marker: it is blank.
 pub(crate) fn ends_bare_item(bare: bool, line: &View<'_>) -> bool
-    ensures { result ≡ (bare && is_blank (line_of line.now)) }
+    ensures { result ≡ (bare && is_blank (seen_view line.now)) }
 {
     bare && is_blank(line)
 }
@@ -86,16 +86,16 @@ pub(crate) fn ends_bare_item(bare: bool, line: &View<'_>) -> bool
 /// Whether a line reaches a column, of whose columns as many are taken as there are up to that, or is blank.
 /// No more of the line is read.
 pub(crate) fn reaches_or_is_blank(line: &View<'_>, inner: &View<'_>, column: usize) -> bool
-    requires { line_of inner.now ≡ strip_columns column (line_of line.now) }
-    ensures { result ≡ (nat_le column (indent_of (line_of line.now)) || is_blank (line_of line.now)) }
+    requires { seen_view inner.now ≡ strip_columns column (seen_view line.now) }
+    ensures { result ≡ (nat_le column (indent_of (seen_view line.now)) || is_blank (seen_view line.now)) }
 {
     inner.column - line.column == column || is_blank(line)
 }
 
 /// The line behind the marker of the item that it begins.
 fn behind_marker<'a>(line: &View<'a>, marker: &ItemMarker) -> View<'a>
-    requires { (by : all.Rules) × (start_of by (line_of line.now) ≡ ItemStart (seen_marker marker.now)) }
-    ensures { line_of result ≡ behind_marker (seen_marker marker.now) (line_of line.now) }
+    requires { (by : all.Rules) × (start_of by (seen_view line.now) ≡ ItemStart (seen_marker marker.now)) }
+    ensures { seen_view result ≡ behind_marker (seen_marker marker.now) (seen_view line.now) }
 {
     line.strip(line.indent()).past(marker.digits + 1)
 }
@@ -103,7 +103,7 @@ fn behind_marker<'a>(line: &View<'a>, marker: &ItemMarker) -> View<'a>
 /// The columns of space between an item's marker and its content: one to four, or one where there are more
 /// or the rest of the line is blank (5.2 List items).
 fn content_offset(behind: &View<'_>) -> usize
-    ensures value { result ≡ content_offset (line_of behind.now) }
+    ensures value { result ≡ content_offset (seen_view behind.now) }
     ensures few { result ≤ 4 }
 {
     if is_blank(behind) {
@@ -119,9 +119,9 @@ fn content_offset(behind: &View<'_>) -> usize
 /// Of the item that a line begins, the column at which its content begins, and the line as it goes into it
 /// (5.2 List items).
 pub(crate) fn item_content<'a>(line: &View<'a>, marker: &ItemMarker) -> (usize, View<'a>)
-    requires { (by : all.Rules) × (start_of by (line_of line.now) ≡ ItemStart (seen_marker marker.now)) }
-    ensures column { result.0 ≡ content_column (seen_marker marker.now) (line_of line.now) }
-    ensures first { line_of result.1 ≡ first_content (seen_marker marker.now) (line_of line.now) }
+    requires { (by : all.Rules) × (start_of by (seen_view line.now) ≡ ItemStart (seen_marker marker.now)) }
+    ensures column { result.0 ≡ content_column (seen_marker marker.now) (seen_view line.now) }
+    ensures first { seen_view result.1 ≡ first_content (seen_marker marker.now) (seen_view line.now) }
 {
     let behind = behind_marker(line, marker);
     let offset = content_offset(&behind);

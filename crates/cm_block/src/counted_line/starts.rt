@@ -1,6 +1,6 @@
 //! What a line begins.
 ghost use Rattle.std.specs.Prelude.{◌≡◌, ◌==◌, ◌&&◌};
-ghost use Rattle.cm_text.specs.Views.{line_of};
+ghost use Rattle.cm_text.specs.Views.{seen_view};
 ghost use Rattle.cm_scan.specs.HtmlBlocks.{is_at_letter};
 ghost use Rattle.cm_scan.specs.Lines.{content_of};
 ghost use Rattle.cm_scan.specs.Starts.{start_of_content, start_of};
@@ -60,7 +60,7 @@ pub(crate) fn begins_with_letter(line: &View<'_>) -> bool
 
 /// The line behind its indentation.
 pub(crate) fn content<'a>(line: &View<'a>) -> &'a str
-    ensures { result.now ≡ content_of (line_of line.now) }
+    ensures { result.now ≡ content_of (seen_view line.now) }
 {
     if begins_with_letter(line) {
         return line.rest;
@@ -95,7 +95,7 @@ fn start_of_content(rules: Rules, text: &str) -> Start<'_>
 
 /// What a line begins: four columns of indentation make code, and a lazy continuation line is text.
 pub(crate) fn start_of<'a>(rules: Rules, line: &View<'a>) -> Start<'a>
-    ensures { seen result ≡ start_of rules (line_of line.now) }
+    ensures { seen result ≡ start_of rules (seen_view line.now) }
 {
     if line.lazy {
         return Start::TextLine;

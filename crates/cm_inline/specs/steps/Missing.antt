@@ -3,7 +3,7 @@ use Rattle.std.specs.Prelude.{◌≡◌, ℕ, ◌≤◌, false, List, drop, code
 use Rattle.std.specs.Option.{option_map_or}
 use Rattle.std.specs.Ordering.{nat_cmp}
 use Rattle.std.specs.BTreeMap.{BTreeMap, get}
-use Rattle.cm_scan.specs.RawHtml.{past}
+use Rattle.cm_scan.specs.RawHtml.{behind_word}
 use Rattle.cm_scan.specs.CodeSpans.{up_to_run}
 use Rattle.cm_inline.specs.declared.ends.Form.{Form}
 use Rattle.cm_inline.specs.declared.ends.Form.TheVariants.{Comment, Instruction, CharacterData, Declaration}
@@ -24,7 +24,7 @@ end_of Declaration = codes ">"
 
 -- the word stands nowhere from the place on
 abbrev pub Missing : List ℕ → List ℕ → ℕ → Type 0
-Missing source word from = (later : ℕ) → from ≤ later → past word (drop later source) ≡ None
+Missing source word from = (later : ℕ) → from ≤ later → behind_word word (drop later source) ≡ None
 
 -- from where on a form's end is known to be missing
 abbrev pub missing_from : Ends → Form → ℕ

@@ -1,5 +1,5 @@
 use Rattle.std.proofs.Common.{◌≡◌, false, ◌∙◌, sym, ap}
-use Rattle.cm_text.specs.Views.{line_of}
+use Rattle.cm_text.specs.Views.{seen_view}
 use Rattle.cm_text.specs.declared.view.View.{View}
 use Rattle.cm_scan.specs.Lines.{is_blank}
 use Rattle.cm_scan.specs.Starts.{interrupts_paragraph}
@@ -10,27 +10,27 @@ use Rattle.cm_block.proofs.runs.next_line.Goals.{Else-is_blank, In_default}
 use Rattle.cm_block.proofs.runs.next_line.Goals as goal
 
 pub returns-then-is_blank-clause-next : goal.returns-then-is_blank-clause-next
-returns-then-is_blank-clause-next c = ends_blank _ c.args.source.now (line_of c.args.line.now.rest) (sym c.is_blank.ensures.blank ∙ c.if-is_blank.true)
+returns-then-is_blank-clause-next c = ends_blank _ c.args.source.now (seen_view c.args.line.now.rest) (sym c.is_blank.ensures.blank ∙ c.if-is_blank.true)
 
-some : (c : Else-is_blank) → is_blank (line_of c.args.line.now.rest) ≡ false
+some : (c : Else-is_blank) → is_blank (seen_view c.args.line.now.rest) ≡ false
 some c = sym c.is_blank.ensures.blank ∙ c.if-is_blank.false
 
 pub returns-in-Some-clause-next : goal.returns-in-Some-clause-next
 returns-in-Some-clause-next c =
     let at = (goal.at.returns-in-Some-clause-next c).Else-is_blank in
-    underlines _ c.args.source.now (line_of c.args.line.now.rest) c.in-Some.level (some at)
-    (c.in-Some.ensures.level ∙ ap (λ (v : View). heading_level c.args.source.now (line_of v)) c.is_blank.ensures.read.same)
+    underlines _ c.args.source.now (seen_view c.args.line.now.rest) c.in-Some.level (some at)
+    (c.in-Some.ensures.level ∙ ap (λ (v : View). heading_level c.args.source.now (seen_view v)) c.is_blank.ensures.read.same)
 
 -- the line doesn't underline the text above it
-none : (c : In_default) → by_interruption (interrupts_paragraph c.args.rules (line_of c.args.line.now.rest)) ≡ next_line c.args.rules c.args.source.now (line_of c.args.line.now.rest)
+none : (c : In_default) → by_interruption (interrupts_paragraph c.args.rules (seen_view c.args.line.now.rest)) ≡ next_line c.args.rules c.args.source.now (seen_view c.args.line.now.rest)
 none c =
-    interrupted _ c.args.source.now (line_of c.args.line.now.rest) (some (goal.at.In_default c).Else-is_blank)
-    (c.in_default.ensures.level ∙ ap (λ (v : View). heading_level c.args.source.now (line_of v)) c.is_blank.ensures.read.same)
+    interrupted _ c.args.source.now (seen_view c.args.line.now.rest) (some (goal.at.In_default c).Else-is_blank)
+    (c.in_default.ensures.level ∙ ap (λ (v : View). heading_level c.args.source.now (seen_view v)) c.is_blank.ensures.read.same)
 
 pub returns-then-interrupts_paragraph-clause-next : goal.returns-then-interrupts_paragraph-clause-next
 returns-then-interrupts_paragraph-clause-next c =
     ap by_interruption (sym c.if-interrupts_paragraph.true ∙ c.interrupts_paragraph.ensures.interrupts
-    ∙ ap (λ (v : View). interrupts_paragraph c.args.rules (line_of v)) (c.in_default.ensures.read.same ∙ c.is_blank.ensures.read.same))
+    ∙ ap (λ (v : View). interrupts_paragraph c.args.rules (seen_view v)) (c.in_default.ensures.read.same ∙ c.is_blank.ensures.read.same))
     ∙ none (goal.at.returns-then-interrupts_paragraph-clause-next c).In_default
 
 -- a lazy continuation line interrupts nothing
@@ -38,10 +38,10 @@ pub returns-then-interrupts_paragraph-clause-lazy : goal.returns-then-interrupts
 returns-then-interrupts_paragraph-clause-lazy c = λ ends lazy.
     let interrupts = sym c.interrupts_paragraph.ensures.interrupts ∙ c.if-interrupts_paragraph.true in
     let line = c.in_default.ensures.read.same ∙ c.is_blank.ensures.read.same in
-    absurd (cc (interrupts, lazy_interrupts c.args.rules (line_of c.heading_level.new.line.rest) (ap (λ (v : View). v.lazy) line ∙ lazy)))
+    absurd (cc (interrupts, lazy_interrupts c.args.rules (seen_view c.heading_level.new.line.rest) (ap (λ (v : View). v.lazy) line ∙ lazy)))
 
 pub returns-clause-next : goal.returns-clause-next
 returns-clause-next c =
     ap by_interruption (sym c.if-interrupts_paragraph.false ∙ c.interrupts_paragraph.ensures.interrupts
-    ∙ ap (λ (v : View). interrupts_paragraph c.args.rules (line_of v)) (c.in_default.ensures.read.same ∙ c.is_blank.ensures.read.same))
+    ∙ ap (λ (v : View). interrupts_paragraph c.args.rules (seen_view v)) (c.in_default.ensures.read.same ∙ c.is_blank.ensures.read.same))
     ∙ none (goal.at.returns-clause-next c).In_default

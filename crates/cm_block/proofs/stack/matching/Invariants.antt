@@ -1,5 +1,5 @@
 use Rattle.std.proofs.Common.{◌≡◌, drop}
-use Rattle.cm_text.specs.Views.{line_of}
+use Rattle.cm_text.specs.Views.{seen_view}
 use Rattle.cm_block.specs.steps.FrameSteps.{matching}
 use Rattle.cm_tree.specs.RawBlocks.{Raw}
 use Rattle.cm_block.specs.steps.FrameViews.{frames_in}
@@ -10,7 +10,7 @@ use Rattle.cm_block.proofs.stack.matching.Given as goal
 -- behind the containers so far, the rest decide; each was one reading
 abbrev pub invariant-loop-depth : goal.invariant-loop-depth
 invariant-loop-depth l = record {
-  rest : (raw : Raw) → behind l.depth (matching l.rules l.bare l.open_text (drop l.depth (frames_in raw l.frames)) (line_of l.line.rest))
-      ≡ matching l.rules l.bare l.open_text (frames_in raw l.frames) (line_of l.fn.line.rest);
+  rest : (raw : Raw) → behind l.depth (matching l.rules l.bare l.open_text (drop l.depth (frames_in raw l.frames)) (seen_view l.line.rest))
+      ≡ matching l.rules l.bare l.open_text (frames_in raw l.frames) (seen_view l.fn.line.rest);
   tests : Tested 0 l.depth l.fn.line.tests l.line.tests;
 }

@@ -1,6 +1,6 @@
 use Rattle.std.proofs.Common.{◌∙◌, ◌==◌, false, ap, subst, get_or, ◌<◌, arith}
 use Rattle.std.proofs.lemmas.Str.{IsCharBoundary-after_ascii}
-use Rattle.cm_scan.specs.Links.{keep_if, closed_by}
+use Rattle.cm_scan.specs.Links.{keep_if, up_to_closing}
 use Rattle.cm_scan.specs.Scanned.{reading_of}
 use Rattle.cm_scan.specs.steps.LinkSteps.{fits, is_barred}
 use Rattle.cm_scan.proofs.ReadingLemmas.{enclosed-none, enclosed-some}
@@ -9,7 +9,7 @@ use Rattle.cm_scan.proofs.links.enclosed.Goals as goal
 pub returns-in_err-end-clause-read : goal.returns-in_err-end-clause-read
 returns-in_err-end-clause-read c =
     ap (reading_of c.args.text.now) c.from_residual.ensures
-    ∙ enclosed-none (λ t. keep_if (fits c.args.bounds.most c.args.bounds.blank_lines) (closed_by (λ x. x == c.args.bounds.close) (is_barred c.args.bounds.open c.args.bounds.one_line) false t))
+    ∙ enclosed-none (λ t. keep_if (fits c.args.bounds.most c.args.bounds.blank_lines) (up_to_closing (λ x. x == c.args.bounds.close) (is_barred c.args.bounds.open c.args.bounds.one_line) false t))
     c.args.text.now c.as_bytes.result.now c.args.at c.as_bytes.ensures.value c.in_err-end.ensures.read
 
 pub range-requires-clause-start_boundary : goal.range-requires-clause-start_boundary
@@ -17,7 +17,7 @@ range-requires-clause-start_boundary c = λ _. IsCharBoundary-after_ascii c.args
 
 pub returns-clause-read : goal.returns-clause-read
 returns-clause-read c =
-    enclosed-some (λ t. keep_if (fits c.args.bounds.most c.args.bounds.blank_lines) (closed_by (λ x. x == c.args.bounds.close) (is_barred c.args.bounds.open c.args.bounds.one_line) false t))
+    enclosed-some (λ t. keep_if (fits c.args.bounds.most c.args.bounds.blank_lines) (up_to_closing (λ x. x == c.args.bounds.close) (is_barred c.args.bounds.open c.args.bounds.one_line) false t))
     c.args.text.now c.as_bytes.result.now c.range.result.now c.args.at c.in_ok-end.end c.as_bytes.ensures.value c.range.ensures.value c.in_ok-end.ensures.read
 
 pub returns-clause-boundary : goal.returns-clause-boundary

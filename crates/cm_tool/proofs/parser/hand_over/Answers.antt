@@ -1,6 +1,6 @@
 use Rattle.std.proofs.Common.{◌∙◌, [], ◌∷◌, ◌++◌, ap, sym, arith, drop, length, subst, append_assoc}
 use Rattle.std.proofs.lemmas.Result.{err_from_is_err_and}
-use Rattle.cm_text.specs.Views.{line_of}
+use Rattle.cm_text.specs.Views.{seen_view}
 use Rattle.cm_block.specs.Parser.{StandsFor as HasTaken}
 use Rattle.cm_tool.proofs.ParserLemmas.{taken_told}
 use Rattle.cm_tool.proofs.PassedLemmas.{one_passed}
@@ -11,7 +11,7 @@ loop-line-preserved c =
     let i = c.loop-line.invariant in
     let front = i.handed.0 in
     let first = c.in-Some.ensures.line in
-    let line = line_of c.in-Some.line in
+    let line = seen_view c.in-Some.line in
     record {
       limits = c.in_ok-line_view.ensures.limits ∙ i.limits;
       handed = (
@@ -25,5 +25,5 @@ pub returns-in_err-line_view-clause-told : goal.returns-in_err-line_view-clause-
 returns-in_err-line_view-clause-told c =
     let p = err_from_is_err_and c.from_residual.result c.from_residual.ensures.1 in
     let i = c.loop-line.invariant in
-    rw (p.1, p.2) (λ lines h are. taken_told c.in_err-line_view.field-0.0 _ _ lines i.handed.0 (drop 1 c.loop-line.feed.cut.ended) _ (line_of c.in-Some.line) i.limits
+    rw (p.1, p.2) (λ lines h are. taken_told c.in_err-line_view.field-0.0 _ _ lines i.handed.0 (drop 1 c.loop-line.feed.cut.ended) _ (seen_view c.in-Some.line) i.limits
     (ap (λ t. i.handed.0 ++ t) (sym c.in-Some.ensures.line) ∙ i.handed.1.parts) (c.in_err-line_view.ensures.told (lines ++ i.handed.0) (i.handed.2 lines h)) are)

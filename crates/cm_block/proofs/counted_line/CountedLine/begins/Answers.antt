@@ -1,5 +1,5 @@
 use Rattle.std.proofs.Common.{◌≡◌, false, ◌∙◌, sym, ap, ap₂}
-use Rattle.cm_text.specs.Views.{line_of}
+use Rattle.cm_text.specs.Views.{seen_view}
 use Rattle.cm_text.specs.declared.view.View.{View}
 use Rattle.cm_scan.specs.Lines.{is_blank}
 use Rattle.cm_scan.specs.Starts.{QuoteMarker, ItemStart, start_of, content_column, first_content}
@@ -13,22 +13,22 @@ use Rattle.cm_block.proofs.counted_line.CountedLine.begins.Goals as goal
 
 pub returns-then-is_blank-clause-found : goal.returns-then-is_blank-clause-found
 returns-then-is_blank-clause-found c =
-    (ap (λ (v : View). is_blank (line_of v)) (sym c.read-view.ensures.line) ∙ sym c.is_blank.ensures ∙ c.if-is_blank.true, ap line_of c.read-view.ensures.read.same)
+    (ap (λ (v : View). is_blank (seen_view v)) (sym c.read-view.ensures.line) ∙ sym c.is_blank.ensures ∙ c.if-is_blank.true, ap seen_view c.read-view.ensures.read.same)
 
-some : (c : Else-is_blank) → is_blank (line_of c.read-view.result) ≡ false
+some : (c : Else-is_blank) → is_blank (seen_view c.read-view.result) ≡ false
 some c = sym c.is_blank.ensures ∙ c.if-is_blank.false
 
-some-left : (c : Else-is_blank) → is_blank (line_of c.args.self.now.rest) ≡ false
-some-left c = ap (λ (v : View). is_blank (line_of v)) (sym c.read-view.ensures.line) ∙ some c
+some-left : (c : Else-is_blank) → is_blank (seen_view c.args.self.now.rest) ≡ false
+some-left c = ap (λ (v : View). is_blank (seen_view v)) (sym c.read-view.ensures.line) ∙ some c
 
 pub returns-in-Some-clause-found : goal.returns-in-Some-clause-found
 returns-in-Some-clause-found c =
     let at = (goal.at.returns-in-Some-clause-found c).Else-is_blank in
     let h = c.in-Some.ensures c.args.rules in (
       some-left at,
-      ap (λ (v : View). begin_of c.args.rules (line_of v)) (sym c.read-view.ensures.line)
-          ∙ begins-as c.args.rules (line_of c.read-view.result) QuoteMarker (some at) h.0
-          ∙ ap begins_quote (sym h.1 ∙ ap line_of (sym c.enter.ensures.line)),
+      ap (λ (v : View). begin_of c.args.rules (seen_view v)) (sym c.read-view.ensures.line)
+          ∙ begins-as c.args.rules (seen_view c.read-view.result) QuoteMarker (some at) h.0
+          ∙ ap begins_quote (sym h.1 ∙ ap seen_view (sym c.enter.ensures.line)),
     )
 
 pub returns-in_default-start-clause-found : goal.returns-in_default-start-clause-found
@@ -37,13 +37,13 @@ returns-in_default-start-clause-found c =
     let found = c.new.ensures in (
       some-left at,
       (
-        ap (λ (v : View). begin_of c.args.rules (line_of v)) (sym c.read-view.ensures.line)
-            ∙ begins-as c.args.rules (line_of c.read-view.result) (seen c.start_of-start.result) (some at) (sym c.start_of-start.ensures)
-            ∙ ap₂ (λ s (v : View). begin_of_start (seen s) (line_of v)) (sym found) c.read-view.ensures.line,
+        ap (λ (v : View). begin_of c.args.rules (seen_view v)) (sym c.read-view.ensures.line)
+            ∙ begins-as c.args.rules (seen_view c.read-view.result) (seen c.start_of-start.result) (some at) (sym c.start_of-start.ensures)
+            ∙ ap₂ (λ s (v : View). begin_of_start (seen s) (seen_view v)) (sym found) c.read-view.ensures.line,
         (
           ap (λ s. begins_container (seen s)) found
               ∙ no_container c.start_of-start.result (ap is_quote c.start_of-start.ensures ∙ c.in_default.ensures c.args.rules) c.in_default-start.not-Item,
-          ap line_of c.read-view.ensures.read.same,
+          ap seen_view c.read-view.ensures.read.same,
         ),
       ),
     )
@@ -51,13 +51,13 @@ returns-in_default-start-clause-found c =
 pub returns-clause-found : goal.returns-clause-found
 returns-clause-found c =
     let at = (goal.at.returns-clause-found c).Else-is_blank in
-    let line = line_of c.read-view.result in (
+    let line = seen_view c.read-view.result in (
       some-left at,
       (
-        ap (λ (v : View). begin_of c.args.rules (line_of v)) (sym c.read-view.ensures.line)
+        ap (λ (v : View). begin_of c.args.rules (seen_view v)) (sym c.read-view.ensures.line)
             ∙ begins-as c.args.rules line (ItemStart (seen_marker c.in-Item.marker)) (some at) (sym c.start_of-start.ensures ∙ ap seen c.in-Item.is)
             ∙ ap₂ (begins_item c.in-Item.marker.kind) (sym c.item_content-column.ensures.column)
-            (sym c.item_content-column.ensures.first ∙ ap line_of (sym c.enter-2.ensures.line)),
-        c.is_blank-2.ensures ∙ ap (λ (v : View). is_blank (line_of v)) (sym c.enter-2.ensures.line),
+            (sym c.item_content-column.ensures.first ∙ ap seen_view (sym c.enter-2.ensures.line)),
+        c.is_blank-2.ensures ∙ ap (λ (v : View). is_blank (seen_view v)) (sym c.enter-2.ensures.line),
       ),
     )

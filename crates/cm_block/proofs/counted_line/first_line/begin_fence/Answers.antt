@@ -1,9 +1,9 @@
 use Rattle.std.proofs.Common.{string_bytes}
-use Rattle.cm_text.specs.Views.{line_of}
+use Rattle.cm_text.specs.Views.{seen_view}
 use Rattle.cm_block.proofs.LeafLemmas.{fence_begins}
 use Rattle.cm_block.proofs.counted_line.first_line.begin_fence.Goals as goal
 
 pub returns : goal.returns
 returns c =
-    fence_begins c.args.fence.kind.marker c.args.fence.kind.count (string_bytes c.in_ok-from_str.field-0) c.args.fence.info.now c.indent.result (string_bytes c.take.result) (line_of c.args.line.now)
+    fence_begins c.args.fence.kind.marker c.args.fence.kind.count (string_bytes c.in_ok-from_str.field-0) c.args.fence.info.now c.indent.result (string_bytes c.take.result) (seen_view c.args.line.now)
     c.in_ok-from_str.ensures.ok c.indent.ensures c.take.ensures

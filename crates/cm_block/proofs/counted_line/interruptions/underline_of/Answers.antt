@@ -1,23 +1,23 @@
 use Rattle.std.proofs.Common.{◌∙◌, sym, arith}
-use Rattle.cm_text.specs.Views.{line_of}
+use Rattle.cm_text.specs.Views.{seen_view}
 use Rattle.cm_block.proofs.NextLineLemmas.{underline_lazy, underline_far, underline_none, underline_some}
 use Rattle.cm_block.proofs.StartLemmas.{letter_underlines}
 use Rattle.cm_block.proofs.counted_line.interruptions.underline_of.Goals as goal
 
 pub returns-then-line : goal.returns-then-line
-returns-then-line c = underline_lazy (line_of c.args.line.now) c.if-line.true
+returns-then-line c = underline_lazy (seen_view c.args.line.now) c.if-line.true
 
 pub returns-then-begins_with_letter : goal.returns-then-begins_with_letter
 returns-then-begins_with_letter c = sym (letter_underlines c.args.line.now c.if-line.false (sym c.begins_with_letter.ensures ∙ c.if-begins_with_letter.true))
 
 pub returns-then-indent-gt3 : goal.returns-then-indent-gt3
-returns-then-indent-gt3 c = underline_far (line_of c.args.line.now) (omega (arith, c.indent.ensures, c.if-indent-gt3.true))
+returns-then-indent-gt3 c = underline_far (seen_view c.args.line.now) (omega (arith, c.indent.ensures, c.if-indent-gt3.true))
 
 pub returns-in_err-level : goal.returns-in_err-level
 returns-in_err-level c =
     c.from_residual.ensures
-    ∙ underline_none (line_of c.args.line.now) c.content.result.now _ c.if-line.false (omega (arith, c.indent.ensures, c.if-indent-gt3.false)) c.content.ensures c.in_err-level.ensures
+    ∙ underline_none (seen_view c.args.line.now) c.content.result.now _ c.if-line.false (omega (arith, c.indent.ensures, c.if-indent-gt3.false)) c.content.ensures c.in_err-level.ensures
 
 pub returns : goal.returns
 returns c =
-    underline_some (line_of c.args.line.now) c.content.result.now _ c.in_ok-level.level _ c.if-line.false (omega (arith, c.indent.ensures, c.if-indent-gt3.false)) c.content.ensures c.in_ok-level.ensures
+    underline_some (seen_view c.args.line.now) c.content.result.now _ c.in_ok-level.level _ c.if-line.false (omega (arith, c.indent.ensures, c.if-indent-gt3.false)) c.content.ensures c.in_ok-level.ensures

@@ -1,5 +1,5 @@
 use Rattle.std.proofs.Common.{◌∙◌, sym, subst, arith, add-one, ◌+◌, refl}
-use Rattle.cm_text.specs.Views.{line_of}
+use Rattle.cm_text.specs.Views.{seen_view}
 use Rattle.cm_scan.specs.Lines.{content_of}
 use Rattle.cm_block.specs.steps.PlaceViews.{seen_marker}
 use Rattle.cm_block.proofs.StartLemmas.{content_left}
@@ -9,7 +9,7 @@ use Rattle.cm_block.proofs.counted_line.places.behind_marker.Goals as goal
 
 at_marker : (c : goal.After-past-arg-1) → Marked c.strip.result.rest.now (seen_marker c.args.marker.now)
 at_marker c =
-    let line = line_of c.args.line.now in
+    let line = seen_view c.args.line.now in
     let begins = item-begins _ line (seen_marker c.args.marker.now) c.requires.1 in
     let rest = content_left line c.indent.result c.strip.result c.indent.ensures c.strip.ensures.line (c.strip.ensures.bare (omega (arith, c.indent.ensures))) in
     subst (λ t. Marked t (seen_marker c.args.marker.now)) (sym rest) (marked (content_of line) (seen_marker c.args.marker.now) begins.1)
@@ -25,7 +25,7 @@ past-requires-clause-plain c = rw add-one (at_marker c).plain
 
 pub returns : goal.returns
 returns c =
-    let line = line_of c.args.line.now in
+    let line = seen_view c.args.line.now in
     c.past.ensures
     ∙ past_content line c.indent.result (c.args.marker.now.digits + 1) c.strip.result c.indent.ensures c.strip.ensures.line
     (c.strip.ensures.bare (omega (arith, c.indent.ensures)))

@@ -1,5 +1,5 @@
 use Rattle.std.proofs.Common.{◌∙◌, sym, ap}
-use Rattle.cm_text.specs.Views.{line_of}
+use Rattle.cm_text.specs.Views.{seen_view}
 use Rattle.cm_scan.specs.Lines.{as_lazy}
 use Rattle.cm_scan.specs.Starts.{StaysIfOpen, place_if_lazy}
 use Rattle.cm_scan.specs.Laws.{goes_inward}
@@ -9,21 +9,21 @@ use Rattle.cm_block.proofs.counted_line.places.if_lazy.Goals as goal
 
 pub returns-then-not-open_text-clause-line : goal.returns-then-not-open_text-clause-line
 returns-then-not-open_text-clause-line c =
-    lazy_closed _ (line_of c.args.line.now) ∙ ap (goes_inward (place_if_lazy c.args.rules (line_of c.args.line.now))) (sym c.if-not-open_text.true)
+    lazy_closed _ (seen_view c.args.line.now) ∙ ap (goes_inward (place_if_lazy c.args.rules (seen_view c.args.line.now))) (sym c.if-not-open_text.true)
 
 pub returns-then-is_blank-clause-line : goal.returns-then-is_blank-clause-line
 returns-then-is_blank-clause-line c =
-    ap (λ p. goes_inward p c.args.open_text) (lazy_blank _ (line_of c.args.line.now) (sym c.is_blank.ensures ∙ c.if-is_blank.true))
+    ap (λ p. goes_inward p c.args.open_text) (lazy_blank _ (seen_view c.args.line.now) (sym c.is_blank.ensures ∙ c.if-is_blank.true))
 
 pub returns-then-not-may_be_lazy-clause-line : goal.returns-then-not-may_be_lazy-clause-line
 returns-then-not-may_be_lazy-clause-line c =
     ap (λ p. goes_inward p c.args.open_text)
-    (lazy_other _ (line_of c.args.line.now) (seen c.start_of.result) (sym c.is_blank.ensures ∙ c.if-is_blank.false) c.start_of.ensures
+    (lazy_other _ (seen_view c.args.line.now) (seen c.start_of.result) (sym c.is_blank.ensures ∙ c.if-is_blank.false) c.start_of.ensures
     (sym c.may_be_lazy.ensures ∙ c.if-not-may_be_lazy.true))
 
 pub returns-clause-line : goal.returns-clause-line
 returns-clause-line c =
-    ap (goes_inward (StaysIfOpen (as_lazy (line_of c.args.line.now)))) (sym c.if-not-open_text.false)
+    ap (goes_inward (StaysIfOpen (as_lazy (seen_view c.args.line.now)))) (sym c.if-not-open_text.false)
     ∙ ap (λ p. goes_inward p c.args.open_text)
-    (lazy_stays _ (line_of c.args.line.now) (seen c.start_of.result) (sym c.is_blank.ensures ∙ c.if-is_blank.false) c.start_of.ensures
+    (lazy_stays _ (seen_view c.args.line.now) (seen c.start_of.result) (sym c.is_blank.ensures ∙ c.if-is_blank.false) c.start_of.ensures
     (sym c.may_be_lazy.ensures ∙ c.if-not-may_be_lazy.false))

@@ -1,5 +1,5 @@
 use Rattle.std.proofs.Common.{◌∙◌, arith}
-use Rattle.cm_text.specs.Views.{line_of}
+use Rattle.cm_text.specs.Views.{seen_view}
 use Rattle.cm_scan.specs.Lines.{content_of}
 use Rattle.cm_block.specs.steps.PlaceViews.{seen_marker}
 use Rattle.cm_block.proofs.MarkerPlaces.{marked, item-begins}
@@ -8,26 +8,26 @@ use Rattle.cm_block.proofs.counted_line.places.item_content.Goals as goal
 
 pub overflow_add-column : goal.overflow_add-column
 overflow_add-column c =
-    let begins = item-begins _ (line_of c.args.line.now) (seen_marker c.args.marker.now) c.requires.1 in
-    omega (arith, (marked (content_of (line_of c.args.line.now)) (seen_marker c.args.marker.now) begins.1).few)
+    let begins = item-begins _ (seen_view c.args.line.now) (seen_marker c.args.marker.now) c.requires.1 in
+    omega (arith, (marked (content_of (seen_view c.args.line.now)) (seen_marker c.args.marker.now) begins.1).few)
 
 pub overflow_add-column-2 : goal.overflow_add-column-2
 overflow_add-column-2 c =
-    let begins = item-begins _ (line_of c.args.line.now) (seen_marker c.args.marker.now) c.requires.1 in
-    omega (arith, begins.0, c.indent.ensures, (marked (content_of (line_of c.args.line.now)) (seen_marker c.args.marker.now) begins.1).few)
+    let begins = item-begins _ (seen_view c.args.line.now) (seen_marker c.args.marker.now) c.requires.1 in
+    omega (arith, begins.0, c.indent.ensures, (marked (content_of (seen_view c.args.line.now)) (seen_marker c.args.marker.now) begins.1).few)
 
 pub overflow_add-column-3 : goal.overflow_add-column-3
 overflow_add-column-3 c =
-    let begins = item-begins _ (line_of c.args.line.now) (seen_marker c.args.marker.now) c.requires.1 in
-    omega (arith, begins.0, c.indent.ensures, c.content_offset-offset.ensures.few, (marked (content_of (line_of c.args.line.now)) (seen_marker c.args.marker.now) begins.1).few)
+    let begins = item-begins _ (seen_view c.args.line.now) (seen_marker c.args.marker.now) c.requires.1 in
+    omega (arith, begins.0, c.indent.ensures, c.content_offset-offset.ensures.few, (marked (content_of (seen_view c.args.line.now)) (seen_marker c.args.marker.now) begins.1).few)
 
 pub returns-clause-column : goal.returns-clause-column
 returns-clause-column c =
-    column_is (seen_marker c.args.marker.now) (line_of c.args.line.now) (line_of c.behind_marker-behind.result) c.indent.result c.content_offset-offset.result
+    column_is (seen_marker c.args.marker.now) (seen_view c.args.line.now) (seen_view c.behind_marker-behind.result) c.indent.result c.content_offset-offset.result
     c.behind_marker-behind.ensures c.indent.ensures c.content_offset-offset.ensures.value
 
 pub returns-clause-first : goal.returns-clause-first
 returns-clause-first c =
     c.strip.ensures.line
-    ∙ first_is_content (seen_marker c.args.marker.now) (line_of c.args.line.now) (line_of c.behind_marker-behind.result) c.content_offset-offset.result
+    ∙ first_is_content (seen_marker c.args.marker.now) (seen_view c.args.line.now) (seen_view c.behind_marker-behind.result) c.content_offset-offset.result
     c.behind_marker-behind.ensures c.content_offset-offset.ensures.value

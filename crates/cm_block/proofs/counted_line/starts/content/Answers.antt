@@ -1,5 +1,5 @@
 use Rattle.std.proofs.Common.{◌∙◌, sym, arith}
-use Rattle.cm_text.specs.Views.{line_of}
+use Rattle.cm_text.specs.Views.{seen_view}
 use Rattle.cm_block.proofs.StartLemmas.{content_left, letter_content}
 use Rattle.cm_block.proofs.counted_line.starts.content.Goals as goal
 
@@ -8,5 +8,5 @@ returns-then-begins_with_letter c = sym (letter_content c.args.line.now (sym c.b
 
 pub returns : goal.returns
 returns c =
-    content_left (line_of c.args.line.now) c.indent.result c.strip.result c.indent.ensures c.strip.ensures.line
+    content_left (seen_view c.args.line.now) c.indent.result c.strip.result c.indent.ensures c.strip.ensures.line
     (c.strip.ensures.bare (omega (arith, c.indent.ensures)))

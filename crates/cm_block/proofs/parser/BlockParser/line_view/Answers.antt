@@ -1,7 +1,7 @@
 use Rattle.std.proofs.Common.{◌+◌, ◌-◌, ◌++◌, ◌∷◌, [], List, arith, rules, sym, ap, subst}
 use Rattle.std.specs.Result.{OnOk}
 use Rattle.cm_text.specs.Lines.{LineView}
-use Rattle.cm_text.specs.Views.{line_of}
+use Rattle.cm_text.specs.Views.{seen_view}
 use Rattle.cm_text.proofs.IndentationLemmas.{line-spaces}
 use Rattle.cm_block.specs.Parser.{stack_of, StandsFor}
 use Rattle.cm_block.specs.Tests.{count_of}
@@ -11,7 +11,7 @@ use Rattle.cm_block.proofs.parser.BlockParser.line_view.Goals as goal
 
 pub returns-in-Err-clause-told : goal.returns-in-Err-clause-told
 returns-in-Err-clause-told c = λ lines h.
-    tells_deep c.args.self.now.limits (stack_of c.args.self.now) lines (line_of c.args.line.now) (line_of c.new-line.result.rest) (ap line_of c.new-line.ensures.line) h.are_lines (line-spaces c.args.line.now.spaces c.args.line.now.rest.now c.args.line.now.one_line) h.holds h.within
+    tells_deep c.args.self.now.limits (stack_of c.args.self.now) lines (seen_view c.args.line.now) (seen_view c.new-line.result.rest) (ap seen_view c.new-line.ensures.line) h.are_lines (line-spaces c.args.line.now.spaces c.args.line.now.rest.now c.args.line.now.one_line) h.holds h.within
     c.in-Err.fault c.in-Err.ensures.deep
 
 pub returns-in_default-result-clause-stands : goal.returns-in_default-result-clause-stands
@@ -20,8 +20,8 @@ returns-in_default-result-clause-stands c =
     let new = record c.accept-result.new.self { tests = c.saturating_add-self.result } in
     let done = c.in_default-result.ensures in
     let count = count_of (stack_of c.accept-result.new.self) - count_of (stack_of s) in
-    subst (λ r. OnOk r ((lines : List LineView) → StandsFor s lines → StandsFor new (lines ++ line_of c.args.line.now ∷ []))) (sym c.in_default-result.is)
-    (λ lines h. stands_next s new lines (line_of c.args.line.now) (line_of c.new-line.result.rest) c.accept-result.new.line.tests (ap line_of c.new-line.ensures.line) (line-spaces c.args.line.now.spaces c.args.line.now.rest.now c.args.line.now.one_line) h
+    subst (λ r. OnOk r ((lines : List LineView) → StandsFor s lines → StandsFor new (lines ++ seen_view c.args.line.now ∷ []))) (sym c.in_default-result.is)
+    (λ lines h. stands_next s new lines (seen_view c.args.line.now) (seen_view c.new-line.result.rest) c.accept-result.new.line.tests (ap seen_view c.new-line.ensures.line) (line-spaces c.args.line.now.spaces c.args.line.now.rest.now c.args.line.now.one_line) h
     done.pushed (done.few h.few)
     (omega (arith, c.blocks-limit.ensures.value, c.blocks-limit.ensures.bound))
     (subst (λ n. Tested count (s.limits.blocks + 5) n c.accept-result.new.line.tests) c.new-line.ensures.tests (done.tests h.few))

@@ -1,6 +1,6 @@
 use Rattle.std.proofs.Common.{◌≡◌, ◌∙◌, sym, ap, subst}
 use Rattle.std.specs.Option.{IfSome}
-use Rattle.cm_text.specs.Views.{line_of}
+use Rattle.cm_text.specs.Views.{seen_view}
 use Rattle.cm_block.specs.OpenLeaf.{stays_open, is_last, begins_leaf, begin_of_start}
 use Rattle.cm_block.specs.Level.{block_opens}
 use Rattle.cm_block.specs.Stack.{close_leaves}
@@ -16,7 +16,7 @@ returns-in-Some-Opens-clause-pushed c =
     let s = c.args.self.now in
     let x = c.in-Some-Opens in
     let opened = c.in_ok-open_block.ensures in
-    let begins = subst (λ o. IfSome o (λ f. begins_leaf (first_of f) ≡ begin_of_start (seen c.args.start.now.found) (line_of c.args.line.now.rest))) x.is c.in_ok-leaf.ensures.leaf in (
+    let begins = subst (λ o. IfSome o (λ f. begins_leaf (first_of f) ≡ begin_of_start (seen c.args.start.now.found) (seen_view c.args.line.now.rest))) x.is c.in_ok-leaf.ensures.leaf in (
       stays_open (leaf_of x.leaf),
       (
         ap (λ f. begins_leaf (first_of f)) (sym x.field-0-is) ∙ begins,
@@ -31,7 +31,7 @@ returns-in_ok-put-in-Some-Whole-clause-pushed c =
     let x = c.in-Some-Whole in
     let opened = c.in_ok-open_block.ensures in
     let put = c.in_ok-put-in-Some-Whole.ensures in
-    let begins = subst (λ o. IfSome o (λ f. begins_leaf (first_of f) ≡ begin_of_start (seen c.args.start.now.found) (line_of c.args.line.now.rest))) x.is c.in_ok-leaf.ensures.leaf in (
+    let begins = subst (λ o. IfSome o (λ f. begins_leaf (first_of f) ≡ begin_of_start (seen c.args.start.now.found) (seen_view c.args.line.now.rest))) x.is c.in_ok-leaf.ensures.leaf in (
       is_last (leaves_of_closed x.leaf),
       (
         ap (λ f. begins_leaf (first_of f)) (sym x.field-0-is) ∙ begins,

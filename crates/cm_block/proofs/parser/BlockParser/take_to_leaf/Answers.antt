@@ -1,5 +1,5 @@
 use Rattle.std.proofs.Common.{◌∙◌, sym, ap, refl, arith}
-use Rattle.cm_text.specs.Views.{line_of}
+use Rattle.cm_text.specs.Views.{seen_view}
 use Rattle.cm_block.specs.OpenLeaf.{stays_open, is_last, line_of_leaf}
 use Rattle.cm_block.specs.LeafViews.{leaf_of}
 use Rattle.cm_block.specs.steps.LeafSteps.{leaves_of_closed, taken_of, left_open}
@@ -14,7 +14,7 @@ returns-in-Stays-clause-taken c =
       (
         stays_open y,
         (
-          ap (λ r. line_of_leaf r (leaf_of s.leaf) (line_of c.args.line.now.rest)) (sym c.rules.ensures) ∙ sym c.in_ok-take_line.ensures.line ∙ ap (λ t. taken_of t y) c.in-Stays.is,
+          ap (λ r. line_of_leaf r (leaf_of s.leaf) (seen_view c.args.line.now.rest)) (sym c.rules.ensures) ∙ sym c.in_ok-take_line.ensures.line ∙ ap (λ t. taken_of t y) c.in-Stays.is,
           stack_stays s.stack.bare s.stack.frames s.stack.frames s.stack.level s.stack.level y s.owners c.requires.plain refl refl,
         ),
       ),
@@ -29,7 +29,7 @@ returns-in_ok-put-in-Last-clause-taken c =
       (
         is_last (leaves_of_closed leaf),
         (
-          ap (λ r. line_of_leaf r (leaf_of s.leaf) (line_of c.args.line.now.rest)) (sym c.rules.ensures) ∙ sym c.in_ok-take_line.ensures.line ∙ ap (λ t. taken_of t y) c.in-Last.is,
+          ap (λ r. line_of_leaf r (leaf_of s.leaf) (seen_view c.args.line.now.rest)) (sym c.rules.ensures) ∙ sym c.in_ok-take_line.ensures.line ∙ ap (λ t. taken_of t y) c.in-Last.is,
           stack_ends c.put.new.stack.bare s.stack.frames c.put.new.stack.frames s.stack.level c.put.new.stack.level y s.owners c.put.new.owners (leaves_of_closed leaf)
               (c.in_ok-put-in-Last.ensures.bare ∙ c.requires.plain) c.in_ok-put-in-Last.ensures.frames (c.in_ok-take_line.ensures.left ∙ ap (λ t. left_open t (leaf_of s.leaf) y) c.in-Last.is) c.in_ok-put-in-Last.ensures.level c.in_ok-put-in-Last.ensures.owners,
         ),

@@ -1,6 +1,6 @@
 use Rattle.std.proofs.Common.{◌≡◌, false, length, ◌∙◌, sym, ap, arith}
 use Rattle.cm_text.specs.Lines.{LineView}
-use Rattle.cm_text.specs.Views.{line_of}
+use Rattle.cm_text.specs.Views.{seen_view}
 use Rattle.cm_scan.specs.Lines.{is_blank}
 use Rattle.cm_block.specs.steps.StartViews.{seen}
 use Rattle.cm_block.specs.OpenLeaf.{begin_of_start}
@@ -17,13 +17,13 @@ returns-in-Nothing-clause-inside c =
     let found = c.in-Nothing.ensures.found in (
       omega (arith, c.depth.ensures, c.loop-alloc-test.true),
       λ owned. c.loop-alloc.invariant.left owned
-          ∙ left_blank c.args.rules s.bare s.frames s.level (line_of c.loop-alloc.line.rest) owned found.0,
+          ∙ left_blank c.args.rules s.bare s.frames s.level (seen_view c.loop-alloc.line.rest) owned found.0,
     )
 
 pub loop-alloc-preserved-in-Continue-1 : goal.loop-alloc-preserved-in-Continue-1
 loop-alloc-preserved-in-Continue-1 c =
     let s = c.loop-alloc.self in
-    let line = line_of c.loop-alloc.line.rest in
+    let line = seen_view c.loop-alloc.line.rest in
     let found = c.in-Quote.ensures.found in
     let plainly : s.bare ≡ false = not_bare s.bare (is_blank line) c.loop-alloc.invariant.none found.0 in
     let bare = c.open_quote.ensures.bare ∙ plainly in
@@ -33,8 +33,8 @@ loop-alloc-preserved-in-Continue-1 c =
       left = λ owned.
           c.loop-alloc.invariant.left owned
           ∙ left_some c.args.rules s.bare s.frames s.level line owned plainly
-          ∙ quote_next c.args.rules s.frames s.level line owned (line_of c.begins.new.self.rest) found.1
-          ∙ stays_left c.args.rules c.open_quote.new.self.bare _ c.open_quote.new.self.frames _ c.open_quote.new.self.level (line_of c.begins.new.self.rest) owned bare
+          ∙ quote_next c.args.rules s.frames s.level line owned (seen_view c.begins.new.self.rest) found.1
+          ∙ stays_left c.args.rules c.open_quote.new.self.bare _ c.open_quote.new.self.frames _ c.open_quote.new.self.level (seen_view c.begins.new.self.rest) owned bare
           c.in_ok-open_quote-in-Quote.ensures.frames c.in_ok-open_quote-in-Quote.ensures.level;
       deeper = omega (arith, c.loop-alloc.invariant.deeper, next);
       tests = tested_one_deeper (length c.args.self.now.frames) (length s.frames) (length c.open_quote.new.self.frames) c.args.line.now.tests c.loop-alloc.line.tests c.begins.new.self.tests
@@ -44,7 +44,7 @@ loop-alloc-preserved-in-Continue-1 c =
 pub loop-alloc-preserved : goal.loop-alloc-preserved
 loop-alloc-preserved c =
     let s = c.loop-alloc.self in
-    let line = line_of c.loop-alloc.line.rest in
+    let line = seen_view c.loop-alloc.line.rest in
     let found = c.in-Item.ensures.found in
     let plainly : s.bare ≡ false = not_bare s.bare (is_blank line) c.loop-alloc.invariant.none found.0 in
     let frames = c.set_bare.ensures.frames ∙ c.in_ok-open_item-in-Item.ensures.frames in
@@ -56,7 +56,7 @@ loop-alloc-preserved c =
           c.loop-alloc.invariant.left owned
           ∙ left_some c.args.rules s.bare s.frames s.level line owned plainly
           ∙ item_left c.args.rules c.set_bare.new.self.bare s.frames c.set_bare.new.self.frames s.level c.set_bare.new.self.level line owned
-          c.in-Item.kind (line_of c.begins.new.self.rest) c.in-Item.column found.1.0 bare
+          c.in-Item.kind (seen_view c.begins.new.self.rest) c.in-Item.column found.1.0 bare
           frames (c.set_bare.ensures.level ∙ c.in_ok-open_item-in-Item.ensures.level);
       deeper = omega (arith, c.loop-alloc.invariant.deeper, next);
       tests = tested_one_deeper (length c.args.self.now.frames) (length s.frames) (length c.set_bare.new.self.frames) c.args.line.now.tests c.loop-alloc.line.tests c.begins.new.self.tests
@@ -66,7 +66,7 @@ loop-alloc-preserved c =
 pub returns-in-Leaf-clause-inside : goal.returns-in-Leaf-clause-inside
 returns-in-Leaf-clause-inside c =
     let s = c.loop-alloc.self in
-    let line = line_of c.loop-alloc.line.rest in
+    let line = seen_view c.loop-alloc.line.rest in
     let found = c.in-Leaf.ensures.found in
     let plainly : s.bare ≡ false = not_bare s.bare (is_blank line) c.loop-alloc.invariant.none found.0 in (
       omega (arith, c.depth.ensures, c.loop-alloc-test.true),
@@ -89,6 +89,6 @@ returns-clause-inside c = λ owned.
       arith,
       c.depth.ensures,
       c.loop-alloc-test.false,
-      left_deep c.args.rules s.bare s.frames s.level (line_of c.loop-alloc.line.rest) owned,
+      left_deep c.args.rules s.bare s.frames s.level (seen_view c.loop-alloc.line.rest) owned,
       ap (λ (t : Stack). nesting t.now) (c.loop-alloc.invariant.left owned),
     )
