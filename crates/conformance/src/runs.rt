@@ -9,7 +9,7 @@ use std::alloc::Global;
 pub(crate) const SHORT: usize = 200;
 
 /// Readers fail behind each byte of a text that is no longer than this.
-pub(crate) const READ: usize = 600;
+pub(crate) const READ: usize = 1_000;
 
 /// Room for what is written: so many bytes, at most so many a call.
 #[derive(Clone, Copy)]
