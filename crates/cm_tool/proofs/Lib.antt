@@ -1,5 +1,6 @@
 pub mod DepthLemmas
 pub mod EndedLemmas
+pub mod ExampleLawLemmas
 pub mod ExampleLemmas
 pub mod LastingLemmas
 pub mod LeafLemmas

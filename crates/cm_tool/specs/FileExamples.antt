@@ -4,14 +4,11 @@ use Rattle.cm_text.specs.Lines.{with_line_feed}
 use Rattle.cm_text.specs.Rules.{profile, older_rules}
 use Rattle.cm_tool.specs.declared.fault.Fault.TheVariants.{BadExampleFile, ExampleDiffers}
 use Rattle.cm_tool.specs.ExampleFiles.{closing_line, examples_of, middle_line, opening_line, report_on, verdict_of}
+use Rattle.cm_tool.specs.ExampleLaws.{example_lines}
 
 -- a file of these lines
 abbrev pub file : List (List ℕ) → List ℕ
 file lines = flat_map with_line_feed lines
-
--- the lines of an example
-abbrev pub example_lines : (source html : List (List ℕ)) → List (List ℕ)
-example_lines source html = opening_line ∷ source ++ middle_line ∷ html ++ closing_line ∷ []
 
 -- the arrow that stands for a tab
 abbrev pub arrow : List ℕ

@@ -9,6 +9,7 @@ pub mod Parsing
 pub mod Writing
 pub mod Examples
 pub mod ExampleFiles
+pub mod ExampleLaws
 pub mod FileExamples
 pub mod Reporting
 pub mod Rewriting

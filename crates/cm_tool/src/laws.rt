@@ -1,4 +1,5 @@
 //! Laws of the definitions.
+ghost use Rattle.cm_tool.specs.ExampleLaws.{ExamplesAreDetermined, ExamplesAreTold, ExamplesOfText};
 ghost use Rattle.cm_tool.specs.Examples.{Examples};
 ghost use Rattle.cm_tool.specs.Faults.{SettledIsTold};
 ghost use Rattle.cm_tool.specs.FileExamples.{FileExamples};
@@ -49,4 +50,14 @@ pub fn owners_of_lines()
 pub fn text_is_no_markup()
     ensures levels { HeadingLevels }
     ensures tags { TextIsNoMarkup }
+{}
+
+/// The examples of a file are those that stand among its lines. An opening line is 32 backticks, a space and
+/// `example`. Behind it come the lines of the source, a line `.`, the lines of the HTML, and a closing line of
+/// 32 backticks. Lines outside of examples are passed over. An opening line behind which a closing line comes
+/// before the line `.`, or none comes, is the fault of the file: the first one is told.
+pub fn examples_by_lines()
+    ensures text { ExamplesOfText }
+    ensures told { ExamplesAreTold }
+    ensures determined { ExamplesAreDetermined }
 {}

@@ -1,10 +1,11 @@
 //! Command lines, from their words to the exit status.
 
-use crate::runs::{Space, ran, told};
+use crate::devices::Done;
+use crate::runs::{Space, Written, ran, told};
 use case_tables::cases::Case;
 use case_tables::trouble::{Trouble, same, wrong};
 use case_tables::words::{Word, words};
-use cm_tool::task;
+use cm_tool::{Task, task};
 use std::alloc::Global;
 
 /// More than any output.
@@ -62,20 +63,52 @@ fn space(case: &Case, part: &str) -> Result<Space, Trouble> {
     })
 }
 
-/// That a command line is answered as its case wants.
-pub(crate) fn agrees(alloc: Global, case: &Case) -> Result<(), Trouble> {
-    case.has_only(&PARTS)?;
-    let all = words_of(alloc, case.rest("words").unwrap_or(""))?;
-    let input = case.bytes("input")?.unwrap_or(Vec::new(alloc));
-    let spaces = (space(case, "room")?, space(case, "room_for_errors")?);
-    let ran = match task(alloc, &all) {
-        Ok(task) => ran(alloc, &task, (vec![in alloc; input]?, false), spaces)?,
-        Err(stop) => told(alloc, &stop, spaces)?,
-    };
+/// That what was written, and the exit status, are those that the case wants.
+fn is_done(alloc: Global, case: &Case, ran: &Written) -> Result<(), Trouble> {
     is_written(alloc, case, ("output", "output_holds"), ran.output.taken())?;
     is_written(alloc, case, ("errors", "errors_hold"), ran.errors.taken())?;
     if case.number("status")?.unwrap_or(0) != usize::from(ran.status) {
         return Err(wrong(alloc, "the exit status is wrong"));
     }
     Ok(())
+}
+
+/// That a task whose case tells all that is written is done so with readers and writers that fail.
+fn is_done_with_failures(
+    alloc: Global,
+    case: &Case,
+    task: &Task,
+    input: &[u8],
+) -> Result<(), Trouble> {
+    let parts = ["room", "room_for_errors", "output_holds", "errors_hold"];
+    if parts.iter().any(|part| case.has(part)) {
+        return Ok(());
+    }
+    let output = case.bytes("output")?.unwrap_or(Vec::new(alloc));
+    let errors = case.bytes("errors")?.unwrap_or(Vec::new(alloc));
+    Done {
+        alloc,
+        task,
+        input,
+        output: output.as_slice(),
+        errors: errors.as_slice(),
+        status: case.number("status")?.unwrap_or(0),
+    }
+    .agrees()
+}
+
+/// That a command line is answered as its case wants.
+pub(crate) fn agrees(alloc: Global, case: &Case) -> Result<(), Trouble> {
+    case.has_only(&PARTS)?;
+    let all = words_of(alloc, case.rest("words").unwrap_or(""))?;
+    let input = case.bytes("input")?.unwrap_or(Vec::new(alloc));
+    let spaces = (space(case, "room")?, space(case, "room_for_errors")?);
+    match task(alloc, &all) {
+        Ok(task) => {
+            let given = (vec![in alloc; input.clone()?]?, false);
+            is_done(alloc, case, &ran(alloc, &task, given, spaces)?)?;
+            is_done_with_failures(alloc, case, &task, input.as_slice())
+        }
+        Err(stop) => is_done(alloc, case, &told(alloc, &stop, spaces)?),
+    }
 }

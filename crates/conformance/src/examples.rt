@@ -7,7 +7,8 @@ use case_tables::trouble::{Trouble, wrong};
 use cm_text::{Limits, Rules};
 use std::alloc::{AllocError, Global};
 
-const FENCE: &str = "````````````````````````````````";
+/// What an opening line begins with, and what a closing line is.
+pub(crate) const FENCE: &str = "````````````````````````````````";
 
 /// A text and its HTML.
 #[derive(Drop)]

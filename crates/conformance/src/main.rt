@@ -5,6 +5,7 @@
 
 mod calls;
 mod commands;
+mod devices;
 mod examples;
 mod runs;
 mod tally;

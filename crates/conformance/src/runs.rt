@@ -5,6 +5,12 @@ use cm_text::{Limits, NoMemory, Room};
 use cm_tool::{Fault, Job, Stop, Task, convert, read_text, rewrite, run, tell};
 use std::alloc::Global;
 
+/// Writers fail behind each byte of an output that is no longer than this.
+pub(crate) const SHORT: usize = 200;
+
+/// Readers fail behind each byte of a text that is no longer than this.
+pub(crate) const READ: usize = 1_000;
+
 /// Room for what is written: so many bytes, at most so many a call.
 #[derive(Clone, Copy)]
 pub(crate) struct Space {
@@ -12,12 +18,33 @@ pub(crate) struct Space {
     pub(crate) at_most: usize,
 }
 
-/// What was taken, and the exit status.
+impl Space {
+    /// How much of an output of so many bytes it takes.
+    pub(crate) fn taken(self, len: usize) -> usize {
+        if self.at_most == 0 {
+            0
+        } else {
+            self.capacity.min(len)
+        }
+    }
+}
+
+/// More than an output of so many bytes needs.
+pub(crate) fn ample(len: usize) -> Space {
+    let capacity = len.saturating_add(1_000);
+    Space {
+        capacity,
+        at_most: capacity,
+    }
+}
+
+/// What was taken, the exit status, and how many reads were made.
 #[derive(Drop)]
 pub(crate) struct Written {
     pub(crate) output: Room,
     pub(crate) errors: Room,
     pub(crate) status: u8,
+    pub(crate) reads: usize,
 }
 
 /// Does a task on a text that comes in these pieces, behind which the reader may fail.
@@ -31,10 +58,12 @@ pub(crate) fn ran(
     let mut errors = Room::new(alloc, errors.capacity, errors.at_most)?;
     let mut source = Counted::new(pieces, fails);
     let status = run(alloc, task, &mut source, &mut output, &mut errors);
+    let reads = source.reads();
     Ok(Written {
         output,
         errors,
         status,
+        reads,
     })
 }
 
@@ -51,6 +80,7 @@ pub(crate) fn told(
         output,
         errors,
         status,
+        reads: 0,
     })
 }
 

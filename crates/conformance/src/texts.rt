@@ -1,6 +1,7 @@
-//! Whole texts: their HTML, their listing and their fault, in every cut, and with writers that fail.
+//! Whole texts: their HTML, their listing and their fault, in every cut, and with readers and writers that fail.
 
-use crate::runs::{Page, Space, answered, ran, text_read};
+use crate::examples::FENCE;
+use crate::runs::{Page, READ, SHORT, Space, ample, answered, ran, text_read};
 use case_tables::cases::Case;
 use case_tables::cuts::{Cut, cuts, pieces};
 use case_tables::dialects::rules_of;
@@ -11,8 +12,8 @@ use cm_tool::{Fault, Job, Parser, Task};
 use cm_tree::{Doc, block_depth};
 use std::alloc::{AllocError, Global};
 
-/// Writers fail behind each byte of an output that is no longer than this.
-const SHORT: usize = 200;
+/// The report of a file without examples.
+const NO_EXAMPLES: &[u8] = b"0 of 0 agree\n";
 
 /// What a text comes to.
 #[derive(Clone, Copy, Debug)]
@@ -43,26 +44,6 @@ pub(crate) struct Text<'a> {
     pub(crate) outcome: Outcome<'a>,
 }
 
-impl Space {
-    /// How much of an output of so many bytes it takes.
-    fn taken(self, len: usize) -> usize {
-        if self.at_most == 0 {
-            0
-        } else {
-            self.capacity.min(len)
-        }
-    }
-}
-
-/// More than an output of so many bytes needs.
-fn ample(len: usize) -> Space {
-    let capacity = len.saturating_add(1_000);
-    Space {
-        capacity,
-        at_most: capacity,
-    }
-}
-
 /// What the parser answers to a piece.
 fn fed(parser: &mut Parser, piece: &[u8]) -> Result<(), Fault> {
     parser.feed(piece)
@@ -79,12 +60,23 @@ fn is_of_bytes(line: &str) -> bool {
 }
 
 impl Text<'_> {
-    /// The whole output of the job, where the table has it.
+    /// Whether what opens an example stands nowhere in the text.
+    fn has_no_examples(&self) -> bool {
+        let mut windows = self.input.windows(FENCE.len().max(1));
+        !windows.any(|bytes| bytes == FENCE.as_bytes())
+    }
+
+    /// The whole output of the job, where the table has it: a text is a file of examples too.
     fn whole(&self, job: Job) -> Option<&[u8]> {
         match (self.outcome, job) {
             (Outcome::Document { html, .. }, Job::Render) => html,
             (Outcome::Document { listing, .. }, Job::Tree) => Some(listing?.as_bytes()),
-            (Outcome::Document { .. }, Job::Rewrite) | (_, Job::Examples) => None,
+            (Outcome::Document { .. }, Job::Rewrite) => None,
+            (Outcome::Document { .. }, Job::Examples) if self.has_no_examples() => {
+                Some(NO_EXAMPLES)
+            }
+            (Outcome::Document { .. }, Job::Examples) => None,
+            (Outcome::Fault { line, .. }, Job::Examples) if !is_of_bytes(line) => None,
             (Outcome::Fault { .. }, _) => Some(b""),
         }
     }
@@ -100,7 +92,7 @@ impl Text<'_> {
         }
     }
 
-    /// That the job, as the program runs it, gives what is wanted.
+    /// That the job, as the program runs it, gives what is wanted, and makes as many reads.
     fn runs(&self, job: Job, cut: Cut, space: Space) -> Result<(), Trouble> {
         let Some(whole) = self.whole(job) else {
             return Ok(());
@@ -127,7 +119,7 @@ impl Text<'_> {
         if (ran.status == 0) != is_well || ran.status > 1 {
             return Err(wrong(alloc, "the exit status is wrong"));
         }
-        Ok(())
+        self.has_reads(cut, ran.reads)
     }
 
     /// That a call of the library does the job as is wanted, and makes as many reads.
@@ -171,16 +163,28 @@ impl Text<'_> {
         Ok(())
     }
 
+    /// The text of the bytes, where they are UTF-8: U+FFFD stands for U+0000.
+    fn text(&self) -> Result<Vec<u8>, Trouble> {
+        let mut text = Vec::new(self.alloc);
+        for b in self.input {
+            match *b {
+                0 => text.extend_from_slice("\u{FFFD}".as_bytes())?,
+                b => text.push(b)?,
+            }
+        }
+        Ok(text)
+    }
+
     /// That `read_text` answers the text, or its fault, if that is one of the bytes or of the reader.
     fn is_text(&self, cut: Cut) -> Result<(), Trouble> {
         let alloc = self.alloc;
         let input = (pieces(alloc, self.input, cut)?, self.fails);
         let (answer, reads) = text_read(alloc, self.limits, input);
         let told = match &answer {
-            Ok(text) if text.len() < self.input.len() => {
-                return Err(wrong(alloc, "the text that is read is too short"));
+            Ok(text) => {
+                same(alloc, "text", self.text()?.as_slice(), text.as_bytes())?;
+                String::new(alloc)
             }
-            Ok(_) => String::new(alloc),
             Err(fault) => format!(in alloc; "{fault}")?,
         };
         match self.outcome {
@@ -254,7 +258,7 @@ impl Text<'_> {
 
     /// That all calls give what is wanted of the text, cut so.
     fn is_read(&self, cut: Cut) -> Result<(), Trouble> {
-        for job in [Job::Render, Job::Tree, Job::Rewrite] {
+        for job in [Job::Render, Job::Tree, Job::Rewrite, Job::Examples] {
             let len = self.whole(job).map_or(0, |whole| whole.len());
             self.runs(job, cut, ample(len))?;
         }
@@ -285,7 +289,40 @@ impl Text<'_> {
         Ok(())
     }
 
-    /// That it comes to what is wanted, however it is cut and however much of the output is taken.
+    /// Whether the text has no fault, or one that no bytes settle.
+    fn is_unsettled(&self) -> bool {
+        match self.outcome {
+            Outcome::Document { .. } => true,
+            Outcome::Fault { is_late, .. } => is_late,
+        }
+    }
+
+    /// That a failed read is told where the reader fails behind any byte of a text that has no settled fault, and
+    /// that no read is made after it.
+    fn fails_at_each_place(&self) -> Result<(), Trouble> {
+        if self.fails || self.input.len() > READ || !self.is_unsettled() {
+            return Ok(());
+        }
+        for place in 0..self.input.len().saturating_add(1) {
+            Text {
+                alloc: self.alloc,
+                input: self.input.get(..place).unwrap_or(self.input),
+                limits: self.limits,
+                fails: true,
+                reads: Some(place.saturating_add(1)),
+                depth: None,
+                outcome: Outcome::Fault {
+                    line: "F6 read failed",
+                    is_late: false,
+                },
+            }
+            .is_read(Cut::BehindEachByte)?;
+        }
+        Ok(())
+    }
+
+    /// That it comes to what is wanted, however it is cut, however much of the output is taken, and wherever the
+    /// reader fails.
     fn agrees_in_cuts(&self) -> Result<(), Trouble> {
         for cut in &cuts(self.alloc, self.input.len())? {
             match self.is_read(*cut) {
@@ -296,7 +333,9 @@ impl Text<'_> {
             }
         }
         self.is_written(Job::Render)?;
-        self.is_written(Job::Tree)
+        self.is_written(Job::Tree)?;
+        self.is_written(Job::Examples)?;
+        self.fails_at_each_place()
     }
 
     /// The listing of the document, where the text comes whole.
