@@ -28,21 +28,22 @@ MEMORY = pathlib.Path("/proc/meminfo")
 # What `rattle build` takes, and what the kit's folder holds, where libraries can be built without their proofs.
 FLAGS = "--crate-name --extern -L --antt-project --logic-built --links --statements --jobs --backend --toolchain -o".split()
 FILES = "bin/rattle bin/rattle-link rlibs logic_built rattle/logic/antt-project.json toolchain c/libos_c.a c/liblibc_c.a".split()
-# About how many seconds each crate took on the last machine, by as many jobs as it has here.
-SECONDS = {
-    "cm_text": 90,
-    "cm_tree": 90,
-    "cm_command": 150,
-    "cm_scan": 150,
-    "cm_html": 190,
-    "cm_source": 340,
-    "cm_block": 350,
-    "cm_inline": 340,
-    "cm_tool": 200,
-    "cmk": 80,
-}
-# How many jobs may prove a crate that is the only one: cm_text took 185 seconds by one, 160 by two, 112 by three, 84 by four, and 98 by eight.
+# How many jobs may prove a crate.
 JOBS = 4
+# About how many seconds each crate took on the last machine, and by how many jobs at most. Those that others are proved beside have one:
+# a second was hardly faster there.
+TIMES = {
+    "cm_text": (90, JOBS),
+    "cm_tree": (150, JOBS),
+    "cm_command": (120, 1),
+    "cm_html": (150, 1),
+    "cm_scan": (190, 1),
+    "cm_source": (230, 1),
+    "cm_block": (280, 1),
+    "cm_inline": (310, 1),
+    "cm_tool": (120, JOBS),
+    "cmk": (70, JOBS),
+}
 # A crate takes twice as much memory as this, in kB, and once more for each job after the first.
 ROOM = 1536 * 1024
 # How many of each name are kept.
@@ -69,7 +70,7 @@ class Crate:
         self.below = [it for it in named if it in ours]
         self.of_kit = ["std", *(it for it in named if it not in ours)]
         self.folder = TOP / "crates" / name
-        self.seconds = SECONDS.get(name, max(SECONDS.values()))
+        self.seconds, self.jobs = TIMES.get(name, (max(TIMES.values())[0], JOBS))
 
     def sum(self, kit, below):
         """Returns the sum of all that the crate is made from: the kit, the sources, and what it stands on, of which the sums are given."""
@@ -299,13 +300,13 @@ class Build:
             seconds[name] = max(seconds[name] - (time.monotonic() - it.began), 5)
         return max(*self.chains(seconds).values(), sum(seconds.values()) / self.processors)
 
-    def jobs(self, is_alone):
-        """Returns how many jobs one more crate may have: several where it is the only one that can be proved, else one; none where there is
-        no processor or no memory for it. The first has one in any case."""
+    def jobs(self, name, others):
+        """Returns how many jobs one more crate may have, with a processor left to each of so many others: none where there is no processor
+        or no memory for it. The first has one in any case."""
         lines = dict(it.split(":", 1) for it in MEMORY.read_text().splitlines())
         room = int(lines["MemAvailable"].split()[0]) // ROOM - 2 * len(self.running)
         free = self.processors - sum(it.jobs for it in self.running.values())
-        found = min(JOBS if is_alone else 1, free, room - 1)
+        found = min(self.plan[name].jobs, max(free - others, min(free, 1)), room - 1)
         return max(found, 0 if self.running else 1)
 
     def start_ready(self, processes, work):
@@ -313,10 +314,9 @@ class Build:
         chains = self.chains({name: 0 if self.is_kept(name) else crate.seconds for name, crate in self.plan.items()})
         ready = [it for it in self.waiting if all(self.is_kept(below) for below in self.plan[it].below)]
         ready.sort(key=chains.get)
-        is_alone = len(ready) + len(self.running) == 1
         while ready:
             name = ready.pop()
-            jobs = self.jobs(is_alone)
+            jobs = self.jobs(name, len(ready))
             if not jobs:
                 return
             libraries = {it: self.store.place(it, self.sums[it]) for it in self.plan if self.stands_on(name, it)}

@@ -94,8 +94,8 @@ impl LineOwners {
     /// # Errors
     ///
     /// `NoMemory` where a request for memory was refused.
-    pub fn into_items(self, alloc: Global) -> Result<Items<Owner>, NoMemory>
-        ensures { IfOk result (λ owners. owners ≡ self) }
+    pub fn to_items(&self, alloc: Global) -> Result<Items<Owner>, NoMemory>
+        ensures { IfOk result (λ owners. owners ≡ self.now) }
     {
         let mut owners = Vec::with_capacity(alloc, self.count)?;
         for run in self.closed.iter() {

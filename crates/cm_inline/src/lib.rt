@@ -1,4 +1,7 @@
 //! The inlines of a leaf (CommonMark 0.31.2, chapter 6).
+//!
+//! For users: [`inlines`], [`inlines_by`], and [`InlineReader::inlines`] for one leaf after another in the same memory. The rest is
+//! what the crates above use.
 #![tactic(auto)]
 
 mod atoms;

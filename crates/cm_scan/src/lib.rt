@@ -1,4 +1,9 @@
 //! The definitions of CommonMark's block structure and inlines, and the scanners of their forms.
+//!
+//! For users: the scanners of lines, [`thematic`], [`atx`], [`underline`], [`fence`], [`fence_end`], [`html_start`],
+//! [`html_end`], [`quote_marker`] and [`item_marker`]; those of definitions, [`label`], [`destination`], [`title`] and
+//! [`definition`]; and those of inlines, [`autolink`], [`raw_html`] and [`code_span`]; `html_start_by` and `raw_html_by` are the
+//! same by any rules. The rest is what the crates above use.
 #![tactic(auto)]
 
 mod angled;

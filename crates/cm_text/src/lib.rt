@@ -1,5 +1,10 @@
 //! The text of a document: its limits, its lines in whatever pieces it comes, its characters, escapes
 //! and references, and the devices that bytes come from and go to.
+//!
+//! For users: [`Limits`] with [`Rules`]; the devices, [`Source`], [`Sink`], [`FromRead`], [`FromWrite`], [`Pieces`] and
+//! [`Room`]; the lines of a text, [`LineFeed`], [`Line`], [`View`], [`indent`] and [`strip`]; what is read in a text,
+//! [`reference_at`], [`unescape`], [`fold_label`], [`next_markup`], [`is_ascii_punct`], [`is_punct`] and [`is_space`]; and
+//! the faults. The rest is what the crates above use.
 #![tactic(auto)]
 
 mod characters;

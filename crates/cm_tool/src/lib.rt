@@ -1,5 +1,8 @@
 //! `cmk`: from the bytes of a CommonMark text, in whatever pieces they come, to its document and its HTML,
 //! and the program round it.
+//!
+//! For users: [`Parser`], [`read`], [`convert`], [`rewrite`], [`read_text`], [`examples`] and [`examples_by`], and [`Fault`]. The
+//! program itself is made of [`task`], [`run`] and [`tell`].
 #![tactic(auto)]
 
 mod conversion;

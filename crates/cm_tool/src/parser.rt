@@ -210,7 +210,7 @@ fn finish(alloc: Global, feed: LineBuffer, blocks: BlockParser) -> Result<Doc, F
         ..
     } = outline(feed, blocks)?;
     let blocks = read_leaves(alloc, limits, &definitions, blocks)?;
-    let owners = owners.into_items(alloc)?;
+    let owners = owners.to_items(alloc)?;
     Ok(Doc { blocks, owners })
 }
 

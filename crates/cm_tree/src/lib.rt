@@ -1,6 +1,10 @@
 #![tactic(auto)]
 //! The tree of a document, how deep it nests, blocks whose inlines haven't been read, and the table of its definitions.
 //!
+//! For users: [`Doc`] with [`Block`], [`Inline`], [`ListKind`], [`Owner`] and what they are made of, [`block_depth`] and
+//! [`inline_depth`], [`has_raw_html`], and [`Definitions`]. [`RawTree`] with what it is made of and [`TargetPlaces`] are what
+//! the crates above use.
+//!
 //! A tree is made of plain enums over [`Items`], a `Vec` that contracts see as a list, and [`Text`], a
 //! `String` that they see as its bytes, as they see [`BoxedText`], a text on the heap, in links and
 //! images. So two trees are equal exactly where they look alike, a clone is equal to its original, and a

@@ -37,6 +37,14 @@ impl RawTree {
         RawTree { blocks, inside }
     }
 
+    /// The blocks at the top level, and what they are made of, as they stand.
+    pub fn parts(&self) -> (&[RawBlock], &RawBlocks)
+        ensures blocks { blocks_in result.1.now result.0.now ≡ self.now }
+        ensures placed { ArePlaced result.1.now result.0.now }
+    {
+        (&self.blocks, &self.inside)
+    }
+
     /// The blocks at the top level, and what they are made of.
     pub fn into_parts(self) -> (Vec<RawBlock>, RawBlocks)
         ensures blocks { blocks_in result.1 result.0.items ≡ self }

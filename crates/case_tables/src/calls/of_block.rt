@@ -52,7 +52,14 @@ fn blocks(answer: &mut Answer, text: &str) -> Result<(), Trouble> {
     let Outline { blocks, owners, .. } = outline(answer, text)?;
     let (blocks, _inside) = blocks.into_parts();
     answer.shown(&blocks)?;
-    answer.shown(&owners.into_items(answer.alloc)?)
+    answer.shown(&owners.to_items(answer.alloc)?)
+}
+
+/// The blocks of a text's outline as blocks of the tree, and the owners of its lines.
+fn given(answer: &mut Answer, text: &str) -> Result<(), Trouble> {
+    let outline = outline(answer, text)?;
+    answer.shown(&outline.to_blocks(answer.alloc)?)?;
+    answer.shown(&outline.to_owners(answer.alloc)?)
 }
 
 /// What a text defines under a label.
@@ -90,6 +97,7 @@ fn tests(answer: &mut Answer, least: &str, most: &str, text: &str) -> Result<boo
 fn of_text(answer: &mut Answer, name: &str, text: &str) -> Result<bool, Trouble> {
     match name {
         "blocks" => blocks(answer, text)?,
+        "given" => given(answer, text)?,
         "held" => {
             let lines = lines_of(answer.alloc, text)?;
             let parser = behind(answer, Limits::standard(), lines.as_slice())?;

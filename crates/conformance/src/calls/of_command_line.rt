@@ -1,10 +1,10 @@
-//! Calls of `cm_tool`: `task`, `tell`, and the lines of faults.
+//! Calls of `cm_tool`: `task`, `tell`, the lines of faults, and `examples`.
 
 use crate::runs::{Space, told};
 use case_tables::calls::Answer;
 use case_tables::trouble::Trouble;
 use case_tables::words::{Word, number};
-use cm_tool::{Fault, Job, Stop, Task, task};
+use cm_tool::{Fault, Job, Report, Stop, Task, examples, task};
 use std::alloc::Global;
 
 /// The job, the file, the limits and the marks of their rules.
@@ -73,6 +73,23 @@ fn too_long(answer: &mut Answer, at: usize) -> Result<bool, Trouble> {
     Ok(true)
 }
 
+/// The report of a file of examples.
+fn report(alloc: Global, file: &str) -> Result<Report, Fault> {
+    examples(alloc, file)
+}
+
+/// The report of a file of examples and its verdict, or its fault.
+fn examined(answer: &mut Answer, file: &str) -> Result<bool, Trouble> {
+    match report(answer.alloc, file) {
+        Ok(report) => {
+            answer.shown(&report)?;
+            answer.shown(&report.verdict())?;
+        }
+        Err(fault) => answer.shown(&fault)?,
+    }
+    Ok(true)
+}
+
 /// Answers the call, if it is one of `cm_tool`.
 pub(super) fn answers(answer: &mut Answer, name: &str, given: &[Word]) -> Result<bool, Trouble> {
     match given {
@@ -86,6 +103,7 @@ pub(super) fn answers(answer: &mut Answer, name: &str, given: &[Word]) -> Result
             let at = number(answer.alloc, at.as_str())?;
             too_long(answer, at)
         }
+        [Word::Text(file)] if name == "examples" => examined(answer, file.as_str()),
         _ => Ok(false),
     }
 }

@@ -10,7 +10,8 @@ use Rattle.cm_tool.specs.Leaves.{depths_in, leaf_depths}
 use Rattle.cm_tree.specs.RawBlocks.{blocks_in, items_in, ArePlaced, AreItems}
 use Rattle.cm_tool.specs.steps.Items.{items_leaf_depths, items_read}
 use Rattle.cm_tool.specs.steps.Numbering.{Passes, TellsLeaf}
-use Rattle.cm_tool.proofs.RawWalkLemmas.{Left, joined, left_next, left_told, block_depth, item_depth, quote_in, list_in, quote_depths, list_depths}
+use Rattle.cm_tree.proofs.RawWalks.{joined, block_depth, item_depth, quote_in, list_in}
+use Rattle.cm_tool.proofs.RawWalkLemmas.{Left, left_next, left_told, quote_depths, list_depths}
 use Rattle.cm_tool.proofs.leaves.+leaves.Goals as goal
 
 pub read_block-returns-in_err-blocks-in-Quote-clause-told : goal.read_block-returns-in_err-blocks-in-Quote-clause-told

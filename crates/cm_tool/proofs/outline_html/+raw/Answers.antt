@@ -15,7 +15,8 @@ use Rattle.cm_tool.specs.Leaves.{depths_in, leaf_depths}
 use Rattle.cm_tree.specs.RawBlocks.{block_in, blocks_in, items_in, ArePlaced, AreItems}
 use Rattle.cm_tool.specs.steps.Items.{items_leaf_depths, items_read}
 use Rattle.cm_tool.specs.steps.Numbering.{Passes, TellsLeaf}
-use Rattle.cm_tool.proofs.RawWalkLemmas.{Left, joined, enclosed, left_next, left_told, counted, block_depth, item_depth, quote_depth, list_depth, paragraph_in, heading_in, code_in, html_in, quote_in, list_in, paragraph_depths, heading_depths, code_depths, html_depths, break_depths, definition_depths, quote_depths, list_depths, paragraph_written, heading_written, code_written, html_written, break_written, definition_written, quote_written, list_written, whole_written, nothing_inside, inlines_inside, loose_inlines_inside, whole_inside}
+use Rattle.cm_tree.proofs.RawWalks.{joined, block_depth, item_depth, quote_depth, list_depth, paragraph_in, heading_in, code_in, html_in, quote_in, list_in}
+use Rattle.cm_tool.proofs.RawWalkLemmas.{Left, enclosed, left_next, left_told, counted, paragraph_depths, heading_depths, code_depths, html_depths, break_depths, definition_depths, quote_depths, list_depths, paragraph_written, heading_written, code_written, html_written, break_written, definition_written, quote_written, list_written, whole_written, nothing_inside, inlines_inside, loose_inlines_inside, whole_inside}
 use Rattle.cm_tool.proofs.outline_html.+raw.Goals as goal
 
 pub push_block-returns-in_err-push_leaf-in-Paragraph-clause-told : goal.push_block-returns-in_err-push_leaf-in-Paragraph-clause-told

@@ -8,7 +8,8 @@ use Rattle.cm_scan.specs.Documents.{with_inlines}
 use Rattle.cm_tree.specs.declared.raw_blocks.RawBlock.TheVariants as raw_block
 use Rattle.cm_tool.specs.Leaves.{leaf_depths}
 use Rattle.cm_tree.specs.RawBlocks.{blocks_in, ArePlaced}
-use Rattle.cm_tool.proofs.RawWalkLemmas.{Left, joined, all_joined, left_next, left_told, left_none, none_past, first_told}
+use Rattle.cm_tree.proofs.RawWalks.{joined}
+use Rattle.cm_tool.proofs.RawWalkLemmas.{Left, all_joined, left_next, left_told, left_none, none_past, first_told}
 use Rattle.cm_tool.proofs.outline_html.pages_of.Goals as goal
 
 pub loop-block-init : goal.loop-block-init

@@ -1,0 +1,127 @@
+//! What an outline gives as values of the tree.
+ghost use Rattle.std.specs.Prelude.{◌≡◌, IfOk};
+ghost use Rattle.cm_tree.specs.RawBlocks.{raw_inlines, block_in, blocks_in, items_in, IsPlaced, ArePlaced, AreItems};
+
+use crate::parser::Outline;
+use cm_text::NoMemory;
+use cm_tree::{Block, Inline, Items, Owner, RawBlock, RawBlocks, RawItem, Text};
+use std::alloc::{AllocError, Global};
+
+/// The content of a leaf with this source: one text, or nothing if the source is empty.
+fn content(alloc: Global, source: &str) -> Result<Items<Inline>, AllocError>
+    ensures { IfOk result (λ content. content ≡ raw_inlines source.now) }
+{
+    let mut content = Items::new(alloc);
+    if !source.is_empty() {
+        content.push(Inline::Text(Text::from_str(alloc, source)?))?;
+    }
+    Ok(content)
+}
+
+/// Blocks as blocks of the tree.
+#[cycle(blocks)]
+fn made_blocks(
+    alloc: Global,
+    raw: &RawBlocks,
+    blocks: &[RawBlock],
+) -> Result<Items<Block>, AllocError>
+    requires { ArePlaced raw.now blocks.now }
+    ensures { IfOk result (λ made. made ≡ blocks_in raw.now blocks.now) }
+{
+    let mut made = Items::from(Vec::with_capacity(alloc, blocks.len())?);
+    for block in blocks {
+        made.push(made_block(alloc, raw, *block)?)?;
+    }
+    Ok(made)
+}
+
+/// A block as a block of the tree.
+#[cycle(blocks)]
+fn made_block(alloc: Global, raw: &RawBlocks, block: RawBlock) -> Result<Block, AllocError>
+    requires { IsPlaced raw.now block }
+    ensures { IfOk result (λ made. made ≡ block_in raw.now block) }
+{
+    match block {
+        RawBlock::Paragraph { from, to } => {
+            Ok(Block::Paragraph(content(alloc, raw.text(from, to))?))
+        }
+        RawBlock::Heading { level, from, to } => Ok(Block::Heading {
+            level,
+            content: content(alloc, raw.text(from, to))?,
+        }),
+        RawBlock::Code { info, text, to } => Ok(Block::Code {
+            info: Text::from_str(alloc, raw.text(info, text))?,
+            text: Text::from_str(alloc, raw.text(text, to))?,
+        }),
+        RawBlock::Html { from, to } => Ok(Block::Html {
+            text: Text::from_str(alloc, raw.text(from, to))?,
+        }),
+        RawBlock::Break => Ok(Block::Break),
+        RawBlock::Definition {
+            label,
+            dest,
+            title,
+            to,
+        } => Ok(Block::Definition {
+            label: Text::from_str(alloc, raw.text(label, dest))?,
+            dest: Text::from_str(alloc, raw.text(dest, title))?,
+            title: Text::from_str(alloc, raw.text(title, to))?,
+        }),
+        RawBlock::Quote { from, to } => {
+            Ok(Block::Quote(made_blocks(alloc, raw, raw.blocks(from, to))?))
+        }
+        RawBlock::List {
+            kind,
+            tight,
+            from,
+            to,
+        } => Ok(Block::List {
+            kind,
+            tight,
+            items: made_items(alloc, raw, raw.items(from, to))?,
+        }),
+    }
+}
+
+/// Items as items of the tree.
+#[cycle(blocks)]
+fn made_items(
+    alloc: Global,
+    raw: &RawBlocks,
+    items: &[RawItem],
+) -> Result<Items<Items<Block>>, AllocError>
+    requires { AreItems raw.now items.now }
+    ensures { IfOk result (λ made. made ≡ items_in raw.now items.now) }
+{
+    let mut made = Items::from(Vec::with_capacity(alloc, items.len())?);
+    for item in items {
+        made.push(made_blocks(alloc, raw, raw.blocks(item.from, item.to))?)?;
+    }
+    Ok(made)
+}
+
+impl Outline {
+    /// The blocks as blocks of the tree. The content of a paragraph or heading is one text, its source; an empty heading
+    /// has none.
+    ///
+    /// # Errors
+    ///
+    /// `NoMemory` where a request for memory was refused.
+    pub fn to_blocks(&self, alloc: Global) -> Result<Items<Block>, NoMemory>
+        ensures { IfOk result (λ blocks. blocks ≡ self.now.blocks) }
+    {
+        let (blocks, inside) = self.blocks.parts();
+        Ok(made_blocks(alloc, inside, blocks)?)
+    }
+
+    /// The owner of each line.
+    ///
+    /// # Errors
+    ///
+    /// `NoMemory` where a request for memory was refused.
+    pub fn to_owners(&self, alloc: Global) -> Result<Items<Owner>, NoMemory>
+        ensures { IfOk result (λ owners. owners ≡ self.now.owners) }
+    {
+        self.owners.to_items(alloc)
+    }
+}
