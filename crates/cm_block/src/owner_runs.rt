@@ -134,6 +134,7 @@ impl OwnerRuns {
     fn to_items(&self, alloc: Global) -> Result<Items<Owner>, NoMemory>
         ensures { IfOk result (λ owners. owners ≡ self.now.owners) }
     {
+        // There is no room for so many as a `usize` can't count: it is asked for, and refused.
         let count = usize::try_from(self.count).unwrap_or(usize::MAX);
         let mut owners = Vec::with_capacity(alloc, count)?;
         for run in self.closed.iter() {
