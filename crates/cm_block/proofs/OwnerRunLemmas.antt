@@ -1,5 +1,5 @@
 -- Runs of owners that get longer.
-use Rattle.std.proofs.Common.{◌≡◌, ℕ, ◌+◌, List, [], ◌∷◌, ◌++◌, replicate, sym, ap, ◌∙◌, append_assoc, append-nil}
+use Rattle.std.proofs.Common.{◌≡◌, ℕ, ◌+◌, ◌-◌, ◌≤◌, List, [], ◌∷◌, ◌++◌, replicate, sym, ap, ◌∙◌, append_assoc, append-nil, arith}
 use Rattle.std.specs.List.{flat_map}
 use Rattle.std.proofs.lemmas.List.{replicate-append-replicate}
 use Rattle.std.proofs.lemmas.List.Concat.{flat_map-append}
@@ -20,3 +20,10 @@ pub next_run : (closed : List OwnerRun) (last next : OwnerRun) → owners_in (cl
 next_run closed last next =
     ap (λ xs. xs ++ owners_of_run next)
     (flat_map-append owners_of_run closed (last ∷ []) ∙ ap (λ xs. flat_map owners_of_run closed ++ xs) (append-nil (owners_of_run last)))
+
+-- a part of the lines, and the rest
+pub in_parts : (owners : List Owner) (owner : Owner) (part left : ℕ) → part ≤ left → (owners ++ replicate part owner) ++ replicate (left - part) owner ≡ owners ++ replicate left owner
+in_parts owners owner part left within =
+    append_assoc owners (replicate part owner) (replicate (left - part) owner)
+    ∙ ap (λ xs. owners ++ xs) (replicate-append-replicate part (left - part) owner)
+    ∙ ap (λ n. owners ++ replicate n owner) (omega (arith, within))

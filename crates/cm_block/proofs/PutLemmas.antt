@@ -156,7 +156,7 @@ pub nothing_owns : (before : Owned) (text : List ℕ) → None ≡ link_definiti
 unfolding own_leaves definition_leaves
 nothing_owns before text e = ap (λ (r : Definitions). own_leaves before (definition_leaves text r.taken)) (definitions_none text (sym e))
 
--- it takes a line
+-- it takes some of the text
 
 pub some_definition : (text label dest title : List ℕ) (end : ℕ) → Some (read_at label dest title text end) ≡ link_definition text → 1 ≤ length text
 some_definition text label dest title end e = more_lines text (fewer_lines text (read_at label dest title text end) (sym e))
@@ -164,6 +164,3 @@ some_definition text label dest title end e = more_lines text (fewer_lines text 
     more_lines : (t : List ℕ) → line_count (drop end text) < line_count t → 1 ≤ length t
     more_lines [] h = absurd (omega (arith, h))
     more_lines (b ∷ bs) h = omega arith
-
-pub some_taken : (text label dest title : List ℕ) (end lines : ℕ) → Some (read_at label dest title text end) ≡ link_definition text → lines + line_count (drop end text) ≡ line_count text → 1 ≤ lines
-some_taken text label dest title end lines e counted = omega (arith, counted, fewer_lines text (read_at label dest title text end) (sym e))

@@ -72,7 +72,7 @@ tested_lines before now limit lines next x n y is within so_far line sum =
     distributed a n = grind arith
 
 -- the count of so few lines, within so few containers, is below the greatest
-pub tested_all : (count limit lines x : ℕ) → limit ≤ 500 → lines < 2 ^ 64 → AllTested count ((limit + 5) * lines) 0 x → (count ≤ x) × (x ≤ (limit + 5) * lines)
+pub tested_all : (count limit lines x : ℕ) → limit ≤ 500 → lines ≤ 2 ^ 96 → AllTested count ((limit + 5) * lines) 0 x → (count ≤ x) × (x ≤ (limit + 5) * lines)
 tested_all count limit lines x within few h =
     let most : (limit + 5) * lines ≤ 505 * lines = grind (arith, within) in
     let below : x < 2 ^ 128 - 1 = omega (arith, most, few, h.1) in

@@ -59,7 +59,6 @@ fn put_definition(
     stack: &mut Stack,
     owners: &mut Owners,
 ) -> Result<(), NoMemory>
-    requires { 1 ≤ lines }
     ensures level { OnOk result (stack.new.level
         ≡ block_closes stack.old.level (leaf_block (definition found.entry.label.now found.entry.dest.now found.entry.title.now))) }
     ensures frames { stack.new.frames ≡ stack.old.frames }
@@ -166,7 +165,6 @@ fn put_code(
     stack: &mut Stack,
     owners: &mut Owners,
 ) -> Result<(), NoMemory>
-    requires { 1 ≤ lines }
     ensures level { OnOk result (stack.new.level ≡ block_closes stack.old.level (leaf_block (code info.now text.now))) }
     ensures frames { stack.new.frames ≡ stack.old.frames }
     ensures bare { stack.new.bare ≡ stack.old.bare }
@@ -180,8 +178,7 @@ fn put_code(
 
 /// How many lines a fenced code block has with these lines, and with a closing fence or not.
 fn fence_lines(ended: bool, text: &str) -> usize
-    ensures lines { result ≡ fence_lines ended text.now }
-    ensures some { 1 ≤ result }
+    ensures { result ≡ fence_lines ended text.now }
 {
     let lines = line_feeds(text) + 1;
     if ended { lines + 1 } else { lines }

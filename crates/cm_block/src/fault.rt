@@ -10,7 +10,7 @@ use thiserror::Error;
 pub enum BlockFault {
     /// This line is the first with more quotes and items round it than the limit.
     #[error("blocks too deep on line {line}")]
-    BlocksTooDeep { line: usize },
+    BlocksTooDeep { line: u128 },
     /// A request for memory was refused.
     #[error("out of memory")]
     NoMemory,

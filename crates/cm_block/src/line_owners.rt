@@ -1,26 +1,23 @@
 //! What the lines so far belong to.
-ghost use Rattle.std.specs.Prelude.{◌≡◌, ◌≤◌, ◌++◌, [], ◌∷◌, suc, length, replicate, OnOk};
+ghost use Rattle.std.specs.Prelude.{◌≡◌, ◌≤◌, ◌^◌, ◌++◌, [], ◌∷◌, suc, length, OnOk};
 ghost use Rattle.std.specs.FinMap as map;
 ghost use Rattle.cm_block.specs.Stack.{own_lines, own_blanks, blank_owner};
 ghost use Rattle.cm_block.specs.steps.LeafSteps.{own_plain_leaf, own_definition};
 
-use crate::owner_runs::LineOwners;
+use crate::owner_runs::{LineOwners, OwnerRuns};
 use cm_text::NoMemory;
 use cm_tree::{Definitions, Owner};
 use std::alloc::{AllocError, Global};
 use std::marker::Model;
 
-/// The owners of the lines so far, how many leaves they have, and the definitions among these. Each leaf has
-/// a line of its own.
+/// The owners of the lines so far, how many leaves they have, and the definitions among these.
 #[derive(Debug, Drop)]
 pub(crate) struct Owners {
-    lines: LineOwners,
-    leaves: usize,
+    runs: OwnerRuns,
     definitions: Definitions,
 }
 
 impl Model for Owners {
-    ghost use Rattle.std.specs.Prelude.{◌≤◌, length};
     ghost use Rattle.cm_block.specs.Stack.{Owned};
     ghost use Rattle.cm_block.specs.OwnedCode.{owned_code};
 
@@ -28,9 +25,7 @@ impl Model for Owners {
 
     ghost coded = { owned_code };
 
-    ghost view = { λ o. record { owners = o.lines; leaves = o.leaves; table = o.definitions } };
-
-    ghost invariant = { λ o. o.leaves ≤ length o.lines };
+    ghost view = { λ o. record { owners = o.runs.owners; leaves = o.runs.leaves; table = o.definitions } };
 }
 
 /// The owner of a blank line, inside a quote or not.
@@ -50,37 +45,31 @@ impl Owners {
         ensures { result ≡ record { owners = []; leaves = 0; table = map.empty } }
     {
         Owners {
-            lines: LineOwners::new(alloc),
-            leaves: 0,
+            runs: OwnerRuns::new(alloc),
             definitions: Definitions::new(alloc),
         }
     }
 
     /// How many lines there are.
-    pub(crate) fn len(&self) -> usize
-        ensures { result ≡ length self.now.owners }
+    pub(crate) fn len(&self) -> u128
+        ensures len { result ≡ length self.now.owners }
+        ensures bound { result ≤ 2 ^ 96 }
     {
-        self.lines.len()
+        self.runs.len()
     }
 
     /// The number of the next line, counted from 1.
-    pub(crate) fn next_line(&self) -> usize
+    pub(crate) fn next_line(&self) -> u128
         ensures { result ≡ suc (length self.now.owners) }
     {
-        self.lines.len() + 1
+        self.runs.len() + 1
     }
 
     /// The lines of one more leaf, which is no definition.
     pub(crate) fn leaf(&mut self, lines: usize) -> Result<(), AllocError>
-        requires { 1 ≤ lines }
         ensures { OnOk result (self.new ≡ own_plain_leaf self.old lines) }
     {
-        // How many lines there are bounds the leaves.
-        let _lines = self.lines.len();
-        let leaf = self.leaves + 1;
-        self.lines.push_times(Owner::Leaf(leaf), lines)?;
-        self.leaves = leaf;
-        Ok(())
+        self.runs.push_leaf(lines)
     }
 
     /// The lines of a definition. The first of matching labels counts.
@@ -91,7 +80,6 @@ impl Owners {
         title: &str,
         lines: usize,
     ) -> Result<(), NoMemory>
-        requires { 1 ≤ lines }
         ensures { OnOk result (self.new ≡ own_definition self.old label.now (dest.now, title.now) lines) }
     {
         self.leaf(lines)?;
@@ -103,20 +91,20 @@ impl Owners {
         ensures owners { result.0 ≡ self.owners }
         ensures definitions { result.1 ≡ self.table }
     {
-        (self.lines, self.definitions)
+        (LineOwners::new(self.runs), self.definitions)
     }
 
     /// A line that belongs to no leaf.
     pub(crate) fn line(&mut self, owner: Owner) -> Result<(), AllocError>
         ensures { OnOk result (self.new ≡ own_lines self.old (owner ∷ [])) }
     {
-        self.lines.push_times(owner, 1)
+        self.runs.push_times(owner, 1)
     }
 
     /// So many blank lines, inside a quote or not.
     pub(crate) fn blank_lines(&mut self, in_a_quote: bool, lines: usize) -> Result<(), AllocError>
         ensures { OnOk result (self.new ≡ own_blanks in_a_quote lines self.old) }
     {
-        self.lines.push_times(blank_owner(in_a_quote), lines)
+        self.runs.push_times(blank_owner(in_a_quote), lines)
     }
 }

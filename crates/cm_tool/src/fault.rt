@@ -19,7 +19,7 @@ pub enum Fault {
     TooLong { at: usize },
     /// More quotes and items stand round the line, counted from 1, than the limit.
     #[error("F3 blocks too deep on line {line}")]
-    BlocksTooDeep { line: usize },
+    BlocksTooDeep { line: u128 },
     /// The inlines of the leaf, counted from 1, nest deeper than the limit.
     #[error("F4 inlines too deep in leaf {leaf}")]
     InlinesTooDeep { leaf: usize },

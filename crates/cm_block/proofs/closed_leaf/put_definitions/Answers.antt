@@ -1,7 +1,7 @@
 use Rattle.std.proofs.Common.{◌∙◌, sym}
 use Rattle.std.proofs.lemmas.Str.{IsCharBoundary-start}
 use Rattle.cm_block.proofs.RunLemmas.{next_fewer, next_left, none_left}
-use Rattle.cm_block.proofs.PutLemmas.{definition_closes, definition_owns, nothing_closes, nothing_owns, some_definition, some_taken}
+use Rattle.cm_block.proofs.PutLemmas.{definition_closes, definition_owns, nothing_closes, nothing_owns, some_definition}
 use Rattle.cm_block.proofs.closed_leaf.put_definitions.Goals as goal
 
 pub definition-requires : goal.definition-requires
@@ -11,11 +11,6 @@ pub lines_taken-lines-requires-clause-some : goal.lines_taken-lines-requires-cla
 lines_taken-lines-requires-clause-some c =
     let found = c.in-Some.found in
     some_definition c.loop-found.rest.now found.label.now found.dest.now found.title.now c.in-Some.end c.in-Some.ensures.read
-
-pub put_definition-requires : goal.put_definition-requires
-put_definition-requires c =
-    let found = c.in-Some.found in
-    some_taken c.loop-found.rest.now found.label.now found.dest.now found.title.now c.in-Some.end c.lines_taken-lines.result c.in-Some.ensures.read c.lines_taken-lines.ensures
 
 pub loop-found-smaller : goal.loop-found-smaller
 loop-found-smaller c =

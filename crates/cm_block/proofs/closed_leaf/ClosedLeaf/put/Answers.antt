@@ -83,7 +83,7 @@ returns-in_ok-put_code-in-Fenced-clause-owners c =
     let owned = c.args.owners.now in
     let text = string_bytes c.in-Fenced.text in
     c.in_ok-put_code-in-Fenced.ensures.owners
-    ∙ ap (own_plain_leaf owned) (c.fence_lines-lines.ensures.lines ∙ ap (fence_lines c.in-Fenced.ended) c.deref-in-Fenced.ensures)
+    ∙ ap (own_plain_leaf owned) (c.fence_lines-lines.ensures ∙ ap (fence_lines c.in-Fenced.ended) c.deref-in-Fenced.ensures)
     ∙ one_owns owned (code (string_bytes c.in-Fenced.info) text) (fence_lines c.in-Fenced.ended text) refl
     ∙ ap (λ x. own_leaves owned (leaves_of_closed x)) (sym c.in-Fenced.is)
 

@@ -1,4 +1,4 @@
-use Rattle.std.proofs.Common.{◌≡◌, ◌∙◌, ◌<◌, ◌≤◌, ◌^◌, length, ap, ap₂, arith}
+use Rattle.std.proofs.Common.{◌≡◌, ◌∙◌, ◌≤◌, ◌^◌, length, ap, ap₂, arith}
 use Rattle.cm_text.specs.Limits.{LimitsView}
 use Rattle.cm_block.specs.steps.FrameSteps.{close_frames}
 use Rattle.cm_block.specs.LeafViews.{leaf_of}
@@ -33,7 +33,7 @@ returns-clause-tests c = λ lines h.
     let x = leaf_of s.leaf in
     let handed : length c.close_leaf.new.self.owners.owners ≡ length lines = all_lines _ s.stack.bare fs v x s.owners lines h.holds h.are_lines c.close_leaf.new.self.owners closed.owners in
     let blocks : s.limits.blocks ≤ 500 = omega (arith, c.blocks-2.ensures.bound, c.blocks-2.ensures.value, ap (λ (k : LimitsView). k.blocks) closed.limits) in
-    let few : length lines < 2 ^ 64 = omega (arith, c.len.type_inv, c.len.ensures, handed) in
+    let few : length lines ≤ 2 ^ 96 = omega (arith, c.len.ensures.bound, c.len.ensures.len, handed) in
     let all = tested_all (count_of (stack_of s)) s.limits.blocks (length lines) s.tests blocks few h.tests in
     record {
       enough = omega (
