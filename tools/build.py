@@ -31,18 +31,18 @@ FILES = "bin/rattle bin/rattle-link rlibs logic_built rattle/logic/antt-project.
 # How many jobs may prove a crate.
 JOBS = 4
 # About how many seconds each crate took on the last machine, and by how many jobs at most. Those that others are proved beside have one:
-# a second was hardly faster there.
+# a second was hardly faster there. A fourth job on cm_tool costs more than it gives.
 TIMES = {
     "cm_text": (90, JOBS),
-    "cm_tree": (150, JOBS),
-    "cm_command": (120, 1),
-    "cm_html": (150, 1),
-    "cm_scan": (190, 1),
-    "cm_source": (230, 1),
-    "cm_block": (280, 1),
-    "cm_inline": (310, 1),
-    "cm_tool": (120, JOBS),
-    "cmk": (70, JOBS),
+    "cm_tree": (100, JOBS),
+    "cm_command": (130, 1),
+    "cm_html": (160, 1),
+    "cm_scan": (200, 1),
+    "cm_source": (240, 1),
+    "cm_block": (340, 1),
+    "cm_inline": (330, 1),
+    "cm_tool": (160, 3),
+    "cmk": (80, 1),
 }
 # A crate takes twice as much memory as this, in kB, and once more for each job after the first.
 ROOM = 1536 * 1024
