@@ -1,20 +1,24 @@
 //! A text that takes little room in a node.
 ghost use Rattle.std.specs.Cmp.{partial_equiv_from_equiv};
-ghost use Rattle.std.specs.Cmp.Lexicographic.{pointwise, nat_list_eq_equiv};
+ghost use Rattle.std.specs.Cmp.Lexicographic.{pointwise, slice_cmp, nat_list_eq_equiv, nat_list_cmp_total, texts_po, texts_ties};
+ghost use Rattle.std.specs.Ordering.{nat_cmp};
+ghost use Rattle.std.specs.Arc.{arc_value};
 ghost use Rattle.std.specs.Bool.{nat_eq};
-ghost use Rattle.std.specs.Prelude.{◌≡◌, IfOk};
+ghost use Rattle.std.specs.Prelude.{◌≡◌, Some, IfOk, refl};
 ghost use Rattle.cm_tree.specs.BoxedTexts.{boxed_bytes};
 
 use crate::text::Text;
 use std::alloc::{AllocError, Global};
+use std::cmp::Ordering;
 use std::fmt;
 use std::marker::Model;
+use std::sync::Arc;
 
-/// A [`Text`] on the heap, which takes less room in a node, and which contracts see as its bytes too. The
-/// text of no bytes takes no memory.
+/// A [`Text`] on the heap, which takes less room in a node, and which contracts see as its bytes too. Its clones share
+/// one copy of the bytes, which a count keeps. The text of no bytes takes no memory.
 #[derive(Drop)]
 pub struct BoxedText {
-    text: Option<Box<Text>>,
+    text: Option<Arc<Text>>,
 }
 
 impl Model for BoxedText {
@@ -39,16 +43,24 @@ impl BoxedText {
             return Ok(BoxedText { text: None });
         }
         Ok(BoxedText {
-            text: Some(Box::new(alloc, text)?),
+            text: Some(Arc::new(alloc, text)?),
         })
     }
 
-    /// The box inside, without a copy, or None where there is none: then the text has no bytes.
-    pub fn into_box(self) -> Option<Box<Text>>
+    /// The counted text inside, without a copy, or None where there is none: then the text has no bytes.
+    pub fn into_arc(self) -> Option<Arc<Text>>
         ensures { boxed_bytes result ≡ self }
     {
         let BoxedText { text } = self;
         text
+    }
+
+    /// Whether other clones of the text may be left.
+    pub fn is_shared(&self) -> bool {
+        match &self.text {
+            None => false,
+            Some(text) => Arc::strong_count(text) > 1,
+        }
     }
 
     /// The text as a string slice.
@@ -62,11 +74,11 @@ impl BoxedText {
     }
 }
 
-/// The text in a box, without a copy.
-impl From<Box<Text>> for BoxedText {
-    ghost from_gives = { λ text boxed. boxed ≡ text.value };
+/// The counted text, without a copy.
+impl From<Arc<Text>> for BoxedText {
+    ghost from_gives = { λ text boxed. boxed ≡ arc_value text };
 
-    fn from(text: Box<Text>) -> BoxedText {
+    fn from(text: Arc<Text>) -> BoxedText {
         BoxedText { text: Some(text) }
     }
 }
@@ -78,7 +90,7 @@ impl fmt::Debug for BoxedText {
     }
 }
 
-/// A text of the same bytes.
+/// The same text. No bytes are copied.
 impl Clone for BoxedText {
     ghost is_clone = { λ text copy. copy ≡ text };
 
@@ -101,4 +113,29 @@ impl PartialEq for BoxedText {
 
 impl Eq for BoxedText {
     ghost laws = { nat_list_eq_equiv };
+}
+
+impl PartialOrd for BoxedText {
+    ghost partial_cmp = { λ s t. Some (slice_cmp nat_cmp s t) };
+
+    ghost laws = { texts_po };
+
+    fn partial_cmp(&self, other: &Self) -> Option<Ordering> {
+        Some(self.cmp(other))
+    }
+}
+
+/// By their bytes.
+impl Ord for BoxedText {
+    ghost cmp = { λ s t. slice_cmp nat_cmp s t };
+
+    ghost total = { nat_list_cmp_total };
+
+    ghost matches_partial_cmp = { λ s t. refl };
+
+    ghost matches_eq = { texts_ties };
+
+    fn cmp(&self, other: &Self) -> Ordering {
+        self.as_str().cmp(other.as_str())
+    }
 }

@@ -1,6 +1,7 @@
 //! Lists and texts of the tree.
 
 use cm_tree::{BoxedText, Items, Text};
+use std::cmp::Ordering;
 use std::test::Fail;
 
 #[test]
@@ -54,7 +55,10 @@ fn boxed_texts(rt: HostRuntime) -> Result<(), Fail> {
     let boxed = BoxedText::new(alloc, text.clone()?)?;
     let copy = boxed.clone()?;
     assert!(rt; boxed.as_str() == "\u{E9}" && boxed == copy && text.as_str() == boxed.as_str());
-    let again = copy.into_box().map(BoxedText::from);
+    assert!(rt; boxed.is_shared() && boxed.cmp(&copy) == Ordering::Equal);
+    let before = BoxedText::new(alloc, Text::from_str(alloc, "e")?)?;
+    assert!(rt; !before.is_shared() && before < boxed);
+    let again = copy.into_arc().map(BoxedText::from);
     assert!(rt; again.is_some_and(|text| text.as_str() == "\u{E9}"));
     Ok(())
 }
