@@ -2,6 +2,7 @@ pub mod formers
 pub mod BoxedTexts
 pub mod Depth
 pub mod HeadingLevels
+pub mod LinkTargets
 pub mod Definitions
 pub mod RawHtml
 pub mod RawBlocks

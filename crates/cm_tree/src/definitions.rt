@@ -1,12 +1,14 @@
 //! The table of link reference definitions.
-ghost use Rattle.std.specs.Prelude.{◌≡◌, ◌++◌, IsSome, None, OnOk, OnErr, IfOk, option_map, string_bytes};
+ghost use Rattle.std.specs.Prelude.{◌≡◌, IsSome, None, OnOk, OnErr, IfOk, option_map, string_bytes};
 ghost use Rattle.std.specs.FinMap as map;
 ghost use Rattle.cm_text.specs.Labels.{fold_label};
 ghost use Rattle.cm_tree.specs.Definitions.{add_first};
-ghost use Rattle.cm_tree.specs.TargetPlaces.{places_behind, GoesOn};
-ghost use Rattle.cm_tree.specs.steps.LabelNumbers.{IsNumbered, number_of, found_under, with_entry};
+ghost use Rattle.cm_tree.specs.LinkTargets.{led_to};
+ghost use Rattle.cm_tree.specs.TargetPlaces.{GoesOn};
+ghost use Rattle.cm_tree.specs.steps.LabelNumbers.{IsNumbered, number_of, found_under};
+ghost use Rattle.cm_tree.specs.steps.KeptTargets.{GoesIn};
 
-use crate::target_places::TargetPlaces;
+use crate::link_target::{KeptTarget, LinkTarget};
 use cm_text::{NoMemory, fold_label};
 use std::alloc::{AllocError, Global};
 use std::collections::BTreeMap;
@@ -20,10 +22,10 @@ use std::marker::Model;
 #[derive(Debug, Drop)]
 pub struct Definitions {
     alloc: Global,
-    /// Destinations and titles.
+    /// Destinations and titles that are short.
     texts: String,
     /// In the order of the labels' numbers first, which stand in the tree's nodes.
-    targets: BTreeMap<(u64, String), TargetPlaces>,
+    targets: BTreeMap<(u64, String), KeptTarget>,
 }
 
 impl Model for Definitions {
@@ -71,10 +73,12 @@ impl Definitions {
         ensures ok { OnOk result (self.new ≡ add_first self.old (string_bytes folded) (dest.now, title.now)) }
         ensures err { OnErr result (self.new ≡ self.old) }
     {
+        let key = numbered(folded);
         put_first(
+            self.alloc,
             &mut self.targets,
             &mut self.texts,
-            numbered(folded),
+            key,
             dest,
             title,
         )
@@ -89,10 +93,24 @@ impl Definitions {
     pub fn find(&self, label: &str) -> Result<Option<(&str, &str)>, NoMemory>
         ensures { IfOk result (λ found. option_map (λ t. (t.0.now, t.1.now)) found ≡ map.get self.now (fold_label label.now)) }
     {
+        match self.target(label)? {
+            Some(target) => Ok(Some((target.dest(), target.title()))),
+            None => Ok(None),
+        }
+    }
+
+    /// The same, as texts that are shared where they are long: a reference that keeps them copies no bytes.
+    ///
+    /// # Errors
+    ///
+    /// As `find`.
+    pub fn target(&self, label: &str) -> Result<Option<LinkTarget<'_>>, NoMemory>
+        ensures { IfOk result (λ found. option_map led_to found ≡ map.get self.now (fold_label label.now)) }
+    {
         let folded = fold_label(self.alloc, label)?;
         let wanted = numbered(folded);
         match self.targets.get(&wanted) {
-            Some(places) => Ok(Some((places.dest(&self.texts), places.title(&self.texts)))),
+            Some(kept) => Ok(Some(kept.lend(&self.texts))),
             None => Ok(None),
         }
     }
@@ -100,7 +118,8 @@ impl Definitions {
 
 /// Puts a destination and a title under a key, unless others stand there.
 fn put_first(
-    targets: &mut BTreeMap<(u64, String), TargetPlaces>,
+    alloc: Global,
+    targets: &mut BTreeMap<(u64, String), KeptTarget>,
     texts: &mut String,
     key: (u64, String),
     dest: &str,
@@ -108,16 +127,15 @@ fn put_first(
 ) -> Result<(), AllocError>
     ensures there { OnOk result (IsSome (found_under targets.old.entries key) → targets.new.entries ≡ targets.old.entries) }
     ensures absent { OnOk result (found_under targets.old.entries key ≡ None →
-        targets.new.entries ≡ with_entry targets.old.entries key (places_behind (string_bytes texts.old) dest.now title.now)) }
-    ensures texts { OnOk result (found_under targets.old.entries key ≡ None → string_bytes texts.new ≡ string_bytes texts.old ++ dest.now ++ title.now) }
+        GoesIn (string_bytes texts.new) targets.old.entries targets.new.entries key (dest.now, title.now)) }
     ensures err { OnErr result (targets.new.entries ≡ targets.old.entries) }
     ensures goes_on { GoesOn (string_bytes texts.old) (string_bytes texts.new) }
 {
     let len = texts.len();
-    let places = TargetPlaces::push(texts, dest, title)?;
+    let kept = KeptTarget::copy(alloc, texts, dest, title)?;
     match targets.entry(key)? {
         Entry::Vacant(place) => {
-            place.insert(places);
+            place.insert(kept);
         }
         Entry::Occupied(_) => texts.truncate(len),
     }
