@@ -2,7 +2,6 @@
 use Rattle.std.proofs.Common.{◌≡◌, ◌≢◌, ℕ, suc, ◌+◌, ◌<◌, ◌≤◌, ◌==◌, Bool, true, false, List, [], ◌∷◌, ◌++◌, length, drop, get_or, Option, Some, None, Result, Ok, Err, IfOk, IfSome, codes, refl, sym, ap, subst, ◌∙◌, arith, length-append, length-drop}
 use Rattle.std.specs.List.{slice_range}
 use Rattle.std.specs.Str.{IsCharBoundary}
-use Rattle.std.specs.Cow.{cow_str_bytes}
 use Rattle.std.proofs.lemmas.List.{drop_more}
 use Rattle.cm_text.specs.Unescaping.{unescape}
 use Rattle.cm_tree.specs.Definitions.{Target}
@@ -15,7 +14,7 @@ use Rattle.cm_scan.proofs.ReadingLemmas.{begins-at}
 use Rattle.cm_scan.proofs.LeftLemmas.{end_at-end}
 use Rattle.cm_inline.specs.declared.links.LinkEnd.{LinkEnd}
 use Rattle.cm_inline.specs.steps.Reads.{Stands}
-use Rattle.cm_inline.specs.steps.Links.{ends_of, leads_to, behind_brackets}
+use Rattle.cm_inline.specs.steps.Links.{found_target, ends_of, leads_to, behind_brackets}
 use Rattle.cm_inline.proofs.SliceLemmas.{slice-front}
 use Rattle.cm_inline.proofs.LabelLemmas.{label_between, no_label_between}
 
@@ -179,7 +178,7 @@ pub place : (source : List ℕ) (at : ℕ) (defined : Defined) (between : List �
     → IfSome found (λ e. IsCharBoundary source e.end) → IfSome found (λ e. (at < e.end) × (e.end ≤ length source) × IsCharBoundary source e.end)
 place source at defined between None within h boundary = tt
 place source at defined between (Some e) within h boundary =
-    let left = end_at-end defined between (drop (at + 1) source) (record { dest = cow_str_bytes e.dest; title = cow_str_bytes e.title; rest = drop e.end source }) (sym h) in
+    let left = end_at-end defined between (drop (at + 1) source) (record { dest = (found_target e.target).0; title = (found_target e.target).1; rest = drop e.end source }) (sym h) in
     let low : at < e.end = omega (arith, within, boundary.0, ap length left.is, length-append left.front (drop e.end source), length-drop (at + 1) source, length-drop e.end source) in
     (low, boundary.0, boundary)
 

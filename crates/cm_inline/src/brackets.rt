@@ -1,29 +1,29 @@
 //! Links and images by their brackets (CommonMark 0.31.2, 6.3 Links, 6.4 Images).
 ghost use Rattle.std.specs.Prelude.{◌≡◌, ◌+◌, ◌<◌, ◌≤◌, ◌^◌, ◌++◌, List, [], ◌∷◌, drop, length, reverse, not, ◌||◌, nat_lt, IfOk, OnOk, IfSome, Err};
-ghost use Rattle.std.specs.Cow.{cow_str_bytes};
 ghost use Rattle.std.specs.Str.{IsCharBoundary};
 ghost use Rattle.cm_scan.specs.Brackets.{defined_in};
 ghost use Rattle.cm_scan.specs.Pairing.{bracket_text};
 ghost use Rattle.cm_inline.specs.declared.fault.InlineFault.TheVariants.{InlinesTooDeep};
+ghost use Rattle.cm_tree.specs.LinkTargets.{led_to};
 ghost use Rattle.cm_tree.specs.declared.tree.Inline.{Inline};
 ghost use Rattle.cm_inline.specs.steps.Groups.{made_of, target_of, node_of, nodes_in, IsNoGroup};
 ghost use Rattle.cm_inline.specs.steps.Nodes.{items_of, IsOpener};
 ghost use Rattle.cm_inline.specs.steps.Depths.{items_depth};
 ghost use Rattle.cm_inline.specs.steps.Pairs.{Keeps, allowance};
 ghost use Rattle.cm_inline.specs.steps.Reads.{Stands};
-ghost use Rattle.cm_inline.specs.steps.Links.{ends_of};
+ghost use Rattle.cm_inline.specs.steps.Links.{ends_of, found_target};
 ghost use Rattle.cm_inline.specs.steps.Brackets.{IsReadTo, IsReadWith, bracket_in, link_of, link_made, left_as_text, closed_at, end_for};
 
 use crate::ends::Ends;
 use crate::fault::InlineFault;
 use crate::groups::{Kind, Making};
-use crate::links::{LinkEnd, link_end};
+use crate::links::{FoundTarget, LinkEnd, link_end};
 use crate::nodes::Nodes;
 use crate::openers::Openers;
 use crate::pairing::pair_from;
 use crate::tokens::Token;
 use cm_text::NoMemory;
-use cm_tree::Definitions;
+use cm_tree::{Definitions, LinkTarget};
 use std::alloc::{AllocError, Global};
 
 /// A `[` or `![` that nothing was made of yet: the number of its node, and the place behind it.
@@ -178,8 +178,8 @@ impl Reader {
         requires few { self.old.openers.list.looks + allowance 13 (items_of source.now (nodes_in self.old.nodes)) < 2 ^ 127 }
         ensures read { OnOk result (IsReadTo source.now end.now.end self.new) }
         ensures keeps { OnOk result (Keeps self.old.openers.list.looks (items_of source.now (nodes_in self.old.nodes)) self.new.openers.list.looks (items_of source.now (nodes_in self.new.nodes))) }
-        ensures items { OnOk result (items_of source.now (nodes_in self.new.nodes) ≡ link_made source.now (nodes_in self.old.nodes) bracket (cow_str_bytes end.now.dest) (cow_str_bytes end.now.title)) }
-        ensures deep { result ≡ Err InlinesTooDeep → limit < items_depth (link_made source.now (nodes_in self.old.nodes) bracket (cow_str_bytes end.now.dest) (cow_str_bytes end.now.title)) }
+        ensures items { OnOk result (items_of source.now (nodes_in self.new.nodes) ≡ link_made source.now (nodes_in self.old.nodes) bracket (found_target end.now.target).0 (found_target end.now.target).1) }
+        ensures deep { result ≡ Err InlinesTooDeep → limit < items_depth (link_made source.now (nodes_in self.old.nodes) bracket (found_target end.now.target).0 (found_target end.now.target).1) }
     {
         let holds_link = self.holds_link(bracket);
         // How many nodes there are bounds the place of one.
@@ -228,11 +228,20 @@ fn width(image: bool) -> usize
 
 /// What a bracket makes of its content, where that leads there.
 fn making_of<'a>(image: bool, end: &'a LinkEnd<'_>) -> Making<'a>
-    ensures { (content : List Inline) → made_of result.kind (target_of result) content ≡ link_of image (cow_str_bytes end.now.dest) (cow_str_bytes end.now.title) content }
+    ensures { (content : List Inline) → made_of result.kind (target_of result) content ≡ link_of image (found_target end.now.target).0 (found_target end.now.target).1 content }
 {
     Making {
         kind: if image { Kind::Image } else { Kind::Link },
-        dest: &end.dest,
-        title: &end.title,
+        target: target_to(&end.target),
+    }
+}
+
+/// Where a group that is made leads.
+fn target_to<'a>(target: &'a FoundTarget<'_>) -> LinkTarget<'a>
+    ensures { led_to result ≡ found_target target.now }
+{
+    match target {
+        FoundTarget::Inline { dest, title } => LinkTarget::Plain { dest, title },
+        FoundTarget::Defined(target) => *target,
     }
 }

@@ -1,8 +1,9 @@
 //! The groups of a leaf: emphasis, links and images, by what stands in them and where they lead.
 ghost use Rattle.std.specs.Prelude.{◌≡◌, ◌++◌, ◌<◌, ◌≤◌, [], ◌∷◌, length, take, OnOk, OnErr};
+ghost use Rattle.cm_tree.specs.LinkTargets.{led_to};
 ghost use Rattle.cm_inline.specs.steps.Groups.{group_of, grouped, IsAt};
 
-use cm_tree::TargetPlaces;
+use cm_tree::{KeptTarget, LinkTarget};
 use std::alloc::{AllocError, Global};
 use std::marker::Model;
 
@@ -16,12 +17,11 @@ pub(crate) enum Kind {
     Image,
 }
 
-/// What is made of nodes, where it leads and its title, which emphasis has empty.
+/// What is made of nodes, and where it leads, which emphasis has empty.
 #[derive(Clone, Copy)]
 pub(crate) struct Making<'a> {
     pub(crate) kind: Kind,
-    pub(crate) dest: &'a str,
-    pub(crate) title: &'a str,
+    pub(crate) target: LinkTarget<'a>,
 }
 
 /// Emphasis, a link or an image, and the places among the tokens inside of what stands in it.
@@ -32,20 +32,20 @@ pub(crate) struct Group<'a> {
     pub(crate) to: usize,
 }
 
-/// A group as it is kept: by the places of where it leads and of its title.
-#[derive(Clone, Copy)]
+/// A group as it is kept.
+#[derive(Drop)]
 struct PlacedGroup {
     kind: Kind,
-    target: TargetPlaces,
+    target: KeptTarget,
     from: usize,
     to: usize,
 }
 
-/// The groups of a leaf, of which none owns memory.
+/// The groups of a leaf, of which none owns memory, but shares in that of a long target.
 #[derive(Drop)]
 pub(crate) struct Groups {
     groups: Vec<PlacedGroup>,
-    /// Where links and images lead, and their titles.
+    /// Where links and images lead, and their titles, where these aren't shared.
     texts: String,
 }
 
@@ -86,19 +86,18 @@ impl Groups {
         self.groups.len()
     }
 
-    /// Adds a group that leads there, with this title, and in which the tokens between these places stand.
+    /// Adds a group that leads there, and in which the tokens between these places stand.
     pub(crate) fn push(
         &mut self,
         kind: Kind,
-        dest: &str,
-        title: &str,
+        target: LinkTarget<'_>,
         from: usize,
         to: usize,
     ) -> Result<(), AllocError>
-        ensures ok { OnOk result (self.new ≡ self.old ++ group_of kind (dest.now, title.now) from to ∷ []) }
+        ensures ok { OnOk result (self.new ≡ self.old ++ group_of kind (led_to target.entry) from to ∷ []) }
         ensures err { OnErr result (self.new ≡ self.old) }
     {
-        let target = TargetPlaces::push(&mut self.texts, dest, title)?;
+        let target = KeptTarget::keep(&mut self.texts, target)?;
         self.groups.push(PlacedGroup {
             kind,
             target,
@@ -155,17 +154,15 @@ impl<'a> FirstGroups<'a> {
         ensures { IsAt self.now number (grouped result) }
     {
         let groups = self.groups;
-        let PlacedGroup {
-            kind,
-            target,
-            from,
-            to,
-        } = groups[number];
+        let group = &groups[number];
         let making = Making {
-            kind,
-            dest: target.dest(self.texts),
-            title: target.title(self.texts),
+            kind: group.kind,
+            target: group.target.lend(self.texts),
         };
-        Group { making, from, to }
+        Group {
+            making,
+            from: group.from,
+            to: group.to,
+        }
     }
 }

@@ -237,7 +237,7 @@ fn push_start(html: &mut String, making: Making<'_>) -> Result<(), AllocError>
         Kind::Emph => html.push_str("<em>"),
         Kind::Strong => html.push_str("<strong>"),
         Kind::Strike => html.push_str("<del>"),
-        Kind::Link => push_link_start(html, making.dest, making.title),
+        Kind::Link => push_link_start(html, making.target.dest(), making.target.title()),
         Kind::Image => Ok(()),
     }
 }

@@ -8,15 +8,24 @@ ghost use Rattle.cm_inline.specs.steps.Links.{ends_of, leads_to, target_by, behi
 
 use cm_scan::{after_gap, destination, is_blank_next, is_next, label, title};
 use cm_text::{NoMemory, unescape_or_lend};
-use cm_tree::Definitions;
+use cm_tree::{Definitions, LinkTarget};
 use std::alloc::Global;
 use std::borrow::CowStr;
 
-/// Where a link or an image leads, its title, and the place where it ends.
+/// Where a link or an image leads, and its title: as they are written behind it, or a definition's.
+#[derive(Drop)]
+pub(crate) enum FoundTarget<'a> {
+    Inline {
+        dest: CowStr<'a, Global>,
+        title: CowStr<'a, Global>,
+    },
+    Defined(LinkTarget<'a>),
+}
+
+/// Where a link or an image leads, and the place where it ends.
 #[derive(Drop)]
 pub(crate) struct LinkEnd<'a> {
-    pub(crate) dest: CowStr<'a, Global>,
-    pub(crate) title: CowStr<'a, Global>,
+    pub(crate) target: FoundTarget<'a>,
     pub(crate) end: usize,
 }
 
@@ -98,9 +107,12 @@ fn closed<'a>(
     if !is_next(source.as_bytes(), end, b')') {
         return Ok(None);
     }
-    Ok(Some(LinkEnd {
+    let target = FoundTarget::Inline {
         dest: unescape_or_lend(alloc, dest)?,
         title: unescape_or_lend(alloc, title)?,
+    };
+    Ok(Some(LinkEnd {
+        target,
         end: end + 1,
     }))
 }
@@ -140,12 +152,11 @@ fn reference<'a>(
     ensures ends { IfOk result (λ found. (source : List ℕ) → ends_of source found ≡ leads_to (target_of (defined_in definitions.now) label.now) (drop end source)) }
     ensures end { IfOk result (λ found. IfSome found (λ e. e.end ≡ end)) }
 {
-    let Some((dest, title)) = definitions.find(label)? else {
+    let Some(target) = definitions.target(label)? else {
         return Ok(None);
     };
     Ok(Some(LinkEnd {
-        dest: CowStr::Borrowed(dest),
-        title: CowStr::Borrowed(title),
+        target: FoundTarget::Defined(target),
         end,
     }))
 }

@@ -187,8 +187,7 @@ impl Nodes {
             self.before.push(Token::Run(run))?;
         }
         let number = self.groups.len();
-        self.groups
-            .push(making.kind, making.dest, making.title, from, to)?;
+        self.groups.push(making.kind, making.target, from, to)?;
         self.before.push(Token::Made {
             number,
             depth,

@@ -20,6 +20,7 @@ use crate::nodes::Nodes;
 use crate::openers::{Openers, begin, drop_closer, finish, spend, take_opener};
 use crate::runs::{DelimiterRun, Marker, used, without};
 use crate::tokens::Token;
+use cm_tree::LinkTarget;
 
 /// The emphasis that a pair makes of its content.
 fn emphasised(marker: Marker, count: usize) -> Making<'static>
@@ -32,8 +33,10 @@ fn emphasised(marker: Marker, count: usize) -> Making<'static>
     };
     Making {
         kind,
-        dest: "",
-        title: "",
+        target: LinkTarget::Plain {
+            dest: "",
+            title: "",
+        },
     }
 }
 

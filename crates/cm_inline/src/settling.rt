@@ -1,5 +1,6 @@
 //! The inlines that come of nodes of which nothing more is made.
 ghost use Rattle.std.specs.Prelude.{◌≡◌, [], ◌++◌, length, IfOk, OnOk};
+ghost use Rattle.cm_tree.specs.LinkTargets.{led_to};
 ghost use Rattle.cm_scan.specs.Pairing.{settled};
 ghost use Rattle.cm_inline.specs.steps.Groups.{grouped, group_made, groups_made, made_of, target_of, node_of, nodes_of, nodes_in, AreBelow, AreGroups, ArePlaced, IsBelow, IsGroup, IsPlaced};
 ghost use Rattle.cm_inline.specs.steps.Nodes.{inline_of, items_of, AreParts};
@@ -8,7 +9,7 @@ use crate::groups::{FirstGroups, Group, Kind, Making};
 use crate::nodes::Nodes;
 use crate::spare::Spare;
 use crate::tokens::{Token, push_texts};
-use cm_tree::{Inline, Items};
+use cm_tree::{BoxedText, Inline, Items, LinkTarget};
 use std::alloc::AllocError;
 
 /// How many inlines come of the tokens, where texts side by side are one: as many as there is room for.
@@ -35,6 +36,19 @@ fn list_for(spare: &mut Spare, tokens: &[Token]) -> Result<Vec<Inline>, AllocErr
     }
 }
 
+/// Where a link leads, and its title: copies of plain texts, and shared ones themselves.
+fn boxed_target(
+    spare: &mut Spare,
+    target: LinkTarget<'_>,
+) -> Result<(BoxedText, BoxedText), AllocError>
+    ensures { IfOk result (λ made. (made.0, made.1) ≡ led_to target.entry) }
+{
+    match target {
+        LinkTarget::Plain { dest, title } => Ok((spare.boxed(dest)?, spare.boxed(title)?)),
+        LinkTarget::Shared { dest, title } => Ok((dest.clone()?, title.clone()?)),
+    }
+}
+
 /// What is made of a content.
 fn made(spare: &mut Spare, making: Making<'_>, content: Items<Inline>) -> Result<Inline, AllocError>
     ensures { IfOk result (λ inline. inline ≡ made_of making.entry.kind (target_of making.entry) content) }
@@ -43,16 +57,22 @@ fn made(spare: &mut Spare, making: Making<'_>, content: Items<Inline>) -> Result
         Kind::Emph => Ok(Inline::Emph(content)),
         Kind::Strong => Ok(Inline::Strong(content)),
         Kind::Strike => Ok(Inline::Strike(content)),
-        Kind::Link => Ok(Inline::Link {
-            dest: spare.boxed(making.dest)?,
-            title: spare.boxed(making.title)?,
-            content,
-        }),
-        Kind::Image => Ok(Inline::Image {
-            dest: spare.boxed(making.dest)?,
-            title: spare.boxed(making.title)?,
-            content,
-        }),
+        Kind::Link => {
+            let (dest, title) = boxed_target(spare, making.target)?;
+            Ok(Inline::Link {
+                dest,
+                title,
+                content,
+            })
+        }
+        Kind::Image => {
+            let (dest, title) = boxed_target(spare, making.target)?;
+            Ok(Inline::Image {
+                dest,
+                title,
+                content,
+            })
+        }
     }
 }
 

@@ -4,13 +4,14 @@ ghost use Rattle.cm_tree.specs.declared.tree.Inline.TheVariants.{Text as text_in
 
 use cm_tree::{Block, BoxedText, Inline, Items, Text};
 use std::alloc::{AllocError, Global};
+use std::sync::Arc;
 
 /// Texts and lists of inlines that were let go of.
 #[derive(Drop)]
 pub(crate) struct Spare {
     alloc: Global,
     texts: Vec<String>,
-    boxes: Vec<Box<Text>>,
+    counted: Vec<Arc<Text>>,
     lists: Vec<Vec<Inline>>,
 }
 
@@ -20,7 +21,7 @@ impl Spare {
         Spare {
             alloc,
             texts: Vec::new(alloc),
-            boxes: Vec::new(alloc),
+            counted: Vec::new(alloc),
             lists: Vec::new(alloc),
         }
     }
@@ -86,14 +87,14 @@ impl Spare {
         if text.is_empty() {
             return BoxedText::new(self.alloc, Text::new(self.alloc));
         }
-        match self.boxes.pop() {
-            Some(mut copy) => {
+        if let Some(mut counted) = self.counted.pop() {
+            if let Some(copy) = Arc::get_mut(&mut counted) {
                 copy.clear();
                 copy.push_str(text)?;
-                Ok(BoxedText::from(copy))
+                return Ok(BoxedText::from(counted));
             }
-            None => BoxedText::new(self.alloc, Text::from_str(self.alloc, text)?),
         }
+        BoxedText::new(self.alloc, Text::from_str(self.alloc, text)?)
     }
 
     /// A text as the one inline of a list.
@@ -117,11 +118,13 @@ impl Spare {
         }
     }
 
-    /// Keeps the memory of a text on the heap.
+    /// Keeps the memory of a text on the heap, if nothing else holds it.
     #[inline(always)]
     fn keep_boxed(&mut self, text: BoxedText) {
-        if let Some(text) = text.into_box() {
-            let _ = self.boxes.push(text);
+        if let Some(text) = text.into_arc() {
+            if Arc::strong_count(&text) == 1 {
+                let _ = self.counted.push(text);
+            }
         }
     }
 

@@ -4,7 +4,7 @@ use Rattle.std.specs.List.{slice_range, list_any}
 use Rattle.cm_tree.specs.declared.tree.Inline.{Inline}
 use Rattle.cm_tree.specs.declared.tree.Inline.TheVariants as inlines
 use Rattle.cm_tree.specs.Definitions.{Target}
-use Rattle.cm_tree.specs.TargetPlaces.{target_in, IsTarget}
+use Rattle.cm_tree.specs.LinkTargets.{led_to, kept_in, IsKept}
 use Rattle.cm_html.specs.Html.{link_start}
 use Rattle.cm_scan.specs.Pairing.{settled}
 use Rattle.cm_inline.specs.declared.groups.Kind.{Kind}
@@ -57,7 +57,7 @@ pub record Grouped : Type 0 where
   pub to : ℕ
 
 abbrev pub target_of : Making → Target
-target_of making = (making.dest.now, making.title.now)
+target_of making = led_to making.target
 
 abbrev pub group_of : Kind → Target → (from to : ℕ) → Grouped
 group_of kind target from to = record { kind = kind; target = target; from = from; to = to }
@@ -67,7 +67,7 @@ grouped group = group_of group.making.kind (target_of group.making) group.from g
 
 -- the groups as they are kept, where these are the texts
 abbrev pub group_in : List ℕ → PlacedGroup → Grouped
-group_in texts group = group_of group.kind (target_in texts group.target) group.from group.to
+group_in texts group = group_of group.kind (kept_in texts group.target) group.from group.to
 
 abbrev pub groups_in : List ℕ → List PlacedGroup → List Grouped
 groups_in texts groups = map (group_in texts) groups
@@ -75,7 +75,7 @@ groups_in texts groups = map (group_in texts) groups
 -- where they lead lies there
 abbrev pub AreTargets : List ℕ → List PlacedGroup → Type 0
 AreTargets texts [] = ⊤
-AreTargets texts (group ∷ groups) = IsTarget texts group.target × AreTargets texts groups
+AreTargets texts (group ∷ groups) = IsKept texts group.target × AreTargets texts groups
 
 -- the group stands there
 abbrev pub IsAt : List Grouped → ℕ → Grouped → Type 0

@@ -6,12 +6,20 @@ use Rattle.cm_tree.specs.Definitions.{Target}
 use Rattle.cm_scan.specs.Words.{after_word}
 use Rattle.cm_scan.specs.Brackets as brackets
 use Rattle.cm_scan.specs.Brackets.{Defined, target_of}
+use Rattle.cm_tree.specs.LinkTargets.{led_to}
 use Rattle.cm_inline.specs.declared.links.LinkEnd.{LinkEnd}
+use Rattle.cm_inline.specs.declared.links.FoundTarget.{FoundTarget}
+use Rattle.cm_inline.specs.declared.links.FoundTarget.TheVariants as found
+
+-- where it leads, and its title
+abbrev pub found_target : FoundTarget → Target
+found_target (found.Inline dest title) = (cow_str_bytes dest, cow_str_bytes title)
+found_target (found.Defined target) = led_to target
 
 -- what was found in a source, if it was, with what is left behind the place where it ends
 abbrev pub ends_of : List ℕ → Option LinkEnd → Option brackets.LinkEnd
 ends_of source None = None
-ends_of source (Some e) = Some (record { dest = cow_str_bytes e.dest; title = cow_str_bytes e.title; rest = drop e.end source })
+ends_of source (Some e) = Some (record { dest = (found_target e.target).0; title = (found_target e.target).1; rest = drop e.end source })
 
 -- the end of a reference, with what is left behind it, where its label has a target
 abbrev pub leads_to : Option Target → List ℕ → Option brackets.LinkEnd

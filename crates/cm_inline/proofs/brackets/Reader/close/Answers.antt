@@ -1,6 +1,6 @@
 use Rattle.std.proofs.Common.{◌≡◌, ◌-◌, ◌+◌, ◌<◌, ◌≤◌, ◌++◌, [], ◌∷◌, drop, length, reverse, sym, ap, subst, ◌∙◌, arith}
 use Rattle.std.specs.Prelude.{Err, IfSome}
-use Rattle.std.specs.Cow.{cow_str_bytes}
+use Rattle.cm_inline.specs.steps.Links.{found_target}
 use Rattle.std.specs.Str.{IsCharBoundary}
 use Rattle.std.specs.List.{slice_range}
 use Rattle.std.specs.Vec.{vec_len}
@@ -91,7 +91,7 @@ returns-in_err-make_link-in-Some-2-clause-deep c = λ e.
     let deep = c.in_err-make_link-in-Some-2.ensures.deep (ap Err told) in
     let same = closes (defined_in c.args.definitions.now) source nodes c.pop.new.self.items c.in-Some.bracket now.links_end c.args.at now.ends c.in_ok-link.field-0 r c.requires.stands c.in_ok-link.ensures.ends
     ∙ ap (λ o. closed_or source nodes c.in-Some.bracket (drop (c.args.at + 1) source) (ends_of source o)) c.in-Some-2.is in
-    let turned = reverse-depth (link_made source nodes c.in-Some.bracket (cow_str_bytes c.in-Some-2.link.dest) (cow_str_bytes c.in-Some-2.link.title)) in
+    let turned = reverse-depth (link_made source nodes c.in-Some.bracket (found_target c.in-Some-2.link.target).0 (found_target c.in-Some-2.link.target).1) in
     omega (arith, deep, turned, ap (λ (t : Bracketed). items_depth t.items) same)
 
 pub returns-in_ok-make_link-in-Some-2-clause-closed : goal.returns-in_ok-make_link-in-Some-2-clause-closed

@@ -1,6 +1,6 @@
 use Rattle.std.proofs.Common.{suc, drop, sym, ap, subst, arith, ◌+◌, refl}
 use Rattle.std.specs.Prelude.{Err}
-use Rattle.std.specs.Cow.{cow_str_bytes}
+use Rattle.cm_inline.specs.steps.Links.{found_target}
 use Rattle.cm_inline.specs.declared.fault.InlineFault.TheVariants.{InlinesTooDeep}
 use Rattle.cm_inline.specs.steps.Groups.{nodes_in, made_by, target_of}
 use Rattle.cm_inline.specs.steps.Brackets.{IsRead}
@@ -31,7 +31,7 @@ pair_from-requires-clause-few c = λ source.
 pub returns-in_err-pair_from-clause-deep : goal.returns-in_err-pair_from-clause-deep
 returns-in_err-pair_from-clause-deep c = λ e.
     let told = same-fault c.from_residual.result c.in_err-pair_from.field-0.0 InlinesTooDeep c.from_residual.ensures.1 e in
-    paired-deeper c.args.source.now (nodes_in c.args.self.now.nodes) c.args.bracket (cow_str_bytes c.args.end.now.dest) (cow_str_bytes c.args.end.now.title) c.args.limit (c.args.bracket.node + 1) refl
+    paired-deeper c.args.source.now (nodes_in c.args.self.now.nodes) c.args.bracket (found_target c.args.end.now.target).0 (found_target c.args.end.now.target).1 c.args.limit (c.args.bracket.node + 1) refl
     (c.in_err-pair_from.ensures.deep (ap Err told) c.args.source.now c.requires.read.0.parts)
 
 pub returns-then-depth-limit-clause-deep : goal.returns-then-depth-limit-clause-deep
@@ -41,15 +41,15 @@ returns-then-depth-limit-clause-deep c = λ _.
     let paired = nodes_in c.pair_from.new.nodes in
     let parts = c.in_ok-pair_from.ensures.stays.parts source c.requires.read.0.parts in
     let depth = paired-depth source nodes paired c.args.bracket (c.args.bracket.node + 1) refl parts (c.in_ok-pair_from.ensures.pairs source) in
-    link-deeper source nodes c.args.bracket (cow_str_bytes c.args.end.now.dest) (cow_str_bytes c.args.end.now.title) c.args.limit (omega (arith, c.if-depth-limit.true, c.depth_behind-depth.ensures, depth))
+    link-deeper source nodes c.args.bracket (found_target c.args.end.now.target).0 (found_target c.args.end.now.target).1 c.args.limit (omega (arith, c.if-depth-limit.true, c.depth_behind-depth.ensures, depth))
 
 -- the node of a link
-then-is : (c : goal.After-self-1) → IsLink c.args.source.now (nodes_in c.args.self.now.nodes) (nodes_in c.wrap.new.self) c.args.bracket (cow_str_bytes c.args.end.now.dest) (cow_str_bytes c.args.end.now.title)
+then-is : (c : goal.After-self-1) → IsLink c.args.source.now (nodes_in c.args.self.now.nodes) (nodes_in c.wrap.new.self) c.args.bracket (found_target c.args.end.now.target).0 (found_target c.args.end.now.target).1
     (made_by c.making_of-making.result.kind (target_of c.making_of-making.result) (drop (suc c.args.bracket.node) (nodes_in c.pair_from.new.nodes))) c.depth_behind-depth.result c.holds_link-holds_link.result c.args.self.now.links_end
 then-is c =
     let source = c.args.source.now in
     let parts = c.in_ok-pair_from.ensures.stays.parts source c.requires.read.0.parts in
-    makes source (nodes_in c.args.self.now.nodes) (nodes_in c.pair_from.new.nodes) (nodes_in c.wrap.new.self) c.args.bracket (cow_str_bytes c.args.end.now.dest) (cow_str_bytes c.args.end.now.title) c.making_of-making.result.kind (target_of c.making_of-making.result) (c.args.bracket.node + 1) c.depth_behind-depth.result
+    makes source (nodes_in c.args.self.now.nodes) (nodes_in c.pair_from.new.nodes) (nodes_in c.wrap.new.self) c.args.bracket (found_target c.args.end.now.target).0 (found_target c.args.end.now.target).1 c.making_of-making.result.kind (target_of c.making_of-making.result) (c.args.bracket.node + 1) c.depth_behind-depth.result
     c.holds_link-holds_link.result c.args.self.now.links_end refl parts c.in_ok-pair_from.ensures.stays.front (c.in_ok-pair_from.ensures.pairs source) c.depth_behind-depth.ensures c.making_of-making.ensures
     c.in_ok-wrap.ensures.nodes c.holds_link-holds_link.ensures
 
@@ -57,7 +57,7 @@ pub returns-then-holds_link-clause-items : goal.returns-then-holds_link-clause-i
 returns-then-holds_link-clause-items c =
     let now = c.args.self.now in
     let inline = made_by c.making_of-making.result.kind (target_of c.making_of-making.result) (drop (suc c.args.bracket.node) (nodes_in c.pair_from.new.nodes)) in
-    link-items c.args.source.now (nodes_in now.nodes) (nodes_in c.wrap.new.self) now.brackets.items c.args.bracket (cow_str_bytes c.args.end.now.dest) (cow_str_bytes c.args.end.now.title) inline c.depth_behind-depth.result c.holds_link-holds_link.result c.args.end.now.end
+    link-items c.args.source.now (nodes_in now.nodes) (nodes_in c.wrap.new.self) now.brackets.items c.args.bracket (found_target c.args.end.now.target).0 (found_target c.args.end.now.target).1 inline c.depth_behind-depth.result c.holds_link-holds_link.result c.args.end.now.end
     now.links_end now.ends c.requires.read.0 (then-is c)
 
 pub returns-then-holds_link-clause-read : goal.returns-then-holds_link-clause-read
@@ -68,7 +68,7 @@ returns-then-holds_link-clause-read c =
     let inline = made_by c.making_of-making.result.kind (target_of c.making_of-making.result) (drop (suc c.args.bracket.node) (nodes_in c.pair_from.new.nodes)) in
     let parts = c.in_ok-pair_from.ensures.stays.parts source c.requires.read.0.parts in (
       subst (λ n. IsRead source c.args.end.now.end more now.brackets.items n now.ends) (sym c.len-self.ensures)
-          (read-linked source (nodes_in now.nodes) more now.brackets.items c.args.bracket (cow_str_bytes c.args.end.now.dest) (cow_str_bytes c.args.end.now.title) inline c.depth_behind-depth.result c.holds_link-holds_link.result c.args.end.now.end now.links_end now.ends
+          (read-linked source (nodes_in now.nodes) more now.brackets.items c.args.bracket (found_target c.args.end.now.target).0 (found_target c.args.end.now.target).1 inline c.depth_behind-depth.result c.holds_link-holds_link.result c.args.end.now.end now.links_end now.ends
           c.requires.read.0 (then-is c) c.if-holds_link.true),
       placed-inside source c.pair_from.new.nodes c.wrap.new.self c.args.bracket.node c.in_ok-wrap.ensures.inside parts (c.in_ok-pair_from.ensures.stays.placed source c.requires.read.0.parts c.requires.read.1),
     )
@@ -77,17 +77,17 @@ pub returns-then-holds_link-clause-keeps : goal.returns-then-holds_link-clause-k
 returns-then-holds_link-clause-keeps c =
     let source = c.args.source.now in
     let now = c.args.self.now in
-    made-keeps source (nodes_in now.nodes) (nodes_in c.wrap.new.self) now.brackets.items c.args.bracket (cow_str_bytes c.args.end.now.dest) (cow_str_bytes c.args.end.now.title) now.openers.list.looks c.pair_from.new.openers.list.looks
+    made-keeps source (nodes_in now.nodes) (nodes_in c.wrap.new.self) now.brackets.items c.args.bracket (found_target c.args.end.now.target).0 (found_target c.args.end.now.target).1 now.openers.list.looks c.pair_from.new.openers.list.looks
     (split-last 0 (nodes_in now.nodes) now.brackets.items c.args.bracket c.requires.read.0.unclosed) (returns-then-holds_link-clause-items c)
     (inside-looks source (nodes_in now.nodes) c.args.bracket (c.args.bracket.node + 1) now.openers.list.looks c.pair_from.new.openers.list.looks refl (c.in_ok-pair_from.ensures.looks source))
 
 -- the node of an image that holds no link
-else-is : (c : goal.Else-holds_link) → IsLink c.args.source.now (nodes_in c.args.self.now.nodes) (nodes_in c.wrap.new.self) c.args.bracket (cow_str_bytes c.args.end.now.dest) (cow_str_bytes c.args.end.now.title)
+else-is : (c : goal.Else-holds_link) → IsLink c.args.source.now (nodes_in c.args.self.now.nodes) (nodes_in c.wrap.new.self) c.args.bracket (found_target c.args.end.now.target).0 (found_target c.args.end.now.target).1
     (made_by c.making_of-making.result.kind (target_of c.making_of-making.result) (drop (suc c.args.bracket.node) (nodes_in c.pair_from.new.nodes))) c.depth_behind-depth.result c.holds_link-holds_link.result c.args.self.now.links_end
 else-is c =
     let source = c.args.source.now in
     let parts = c.in_ok-pair_from.ensures.stays.parts source c.requires.read.0.parts in
-    makes source (nodes_in c.args.self.now.nodes) (nodes_in c.pair_from.new.nodes) (nodes_in c.wrap.new.self) c.args.bracket (cow_str_bytes c.args.end.now.dest) (cow_str_bytes c.args.end.now.title) c.making_of-making.result.kind (target_of c.making_of-making.result) (c.args.bracket.node + 1) c.depth_behind-depth.result
+    makes source (nodes_in c.args.self.now.nodes) (nodes_in c.pair_from.new.nodes) (nodes_in c.wrap.new.self) c.args.bracket (found_target c.args.end.now.target).0 (found_target c.args.end.now.target).1 c.making_of-making.result.kind (target_of c.making_of-making.result) (c.args.bracket.node + 1) c.depth_behind-depth.result
     c.holds_link-holds_link.result c.args.self.now.links_end refl parts c.in_ok-pair_from.ensures.stays.front (c.in_ok-pair_from.ensures.pairs source) c.depth_behind-depth.ensures c.making_of-making.ensures
     c.in_ok-wrap.ensures.nodes c.holds_link-holds_link.ensures
 
@@ -95,7 +95,7 @@ pub returns-else-holds_link-clause-items : goal.returns-else-holds_link-clause-i
 returns-else-holds_link-clause-items c =
     let now = c.args.self.now in
     let inline = made_by c.making_of-making.result.kind (target_of c.making_of-making.result) (drop (suc c.args.bracket.node) (nodes_in c.pair_from.new.nodes)) in
-    link-items c.args.source.now (nodes_in now.nodes) (nodes_in c.wrap.new.self) now.brackets.items c.args.bracket (cow_str_bytes c.args.end.now.dest) (cow_str_bytes c.args.end.now.title) inline c.depth_behind-depth.result c.holds_link-holds_link.result c.args.end.now.end
+    link-items c.args.source.now (nodes_in now.nodes) (nodes_in c.wrap.new.self) now.brackets.items c.args.bracket (found_target c.args.end.now.target).0 (found_target c.args.end.now.target).1 inline c.depth_behind-depth.result c.holds_link-holds_link.result c.args.end.now.end
     now.links_end now.ends c.requires.read.0 (else-is c)
 
 pub returns-else-holds_link-clause-read : goal.returns-else-holds_link-clause-read
@@ -104,7 +104,7 @@ returns-else-holds_link-clause-read c =
     let now = c.args.self.now in
     let inline = made_by c.making_of-making.result.kind (target_of c.making_of-making.result) (drop (suc c.args.bracket.node) (nodes_in c.pair_from.new.nodes)) in
     let parts = c.in_ok-pair_from.ensures.stays.parts source c.requires.read.0.parts in (
-      read-other source (nodes_in now.nodes) (nodes_in c.wrap.new.self) now.brackets.items c.args.bracket (cow_str_bytes c.args.end.now.dest) (cow_str_bytes c.args.end.now.title) inline c.depth_behind-depth.result c.holds_link-holds_link.result c.args.end.now.end now.links_end
+      read-other source (nodes_in now.nodes) (nodes_in c.wrap.new.self) now.brackets.items c.args.bracket (found_target c.args.end.now.target).0 (found_target c.args.end.now.target).1 inline c.depth_behind-depth.result c.holds_link-holds_link.result c.args.end.now.end now.links_end
           now.ends c.requires.read.0 (else-is c) c.if-holds_link.false,
       placed-inside source c.pair_from.new.nodes c.wrap.new.self c.args.bracket.node c.in_ok-wrap.ensures.inside parts (c.in_ok-pair_from.ensures.stays.placed source c.requires.read.0.parts c.requires.read.1),
     )
@@ -113,6 +113,6 @@ pub returns-else-holds_link-clause-keeps : goal.returns-else-holds_link-clause-k
 returns-else-holds_link-clause-keeps c =
     let source = c.args.source.now in
     let now = c.args.self.now in
-    made-keeps source (nodes_in now.nodes) (nodes_in c.wrap.new.self) now.brackets.items c.args.bracket (cow_str_bytes c.args.end.now.dest) (cow_str_bytes c.args.end.now.title) now.openers.list.looks c.pair_from.new.openers.list.looks
+    made-keeps source (nodes_in now.nodes) (nodes_in c.wrap.new.self) now.brackets.items c.args.bracket (found_target c.args.end.now.target).0 (found_target c.args.end.now.target).1 now.openers.list.looks c.pair_from.new.openers.list.looks
     (split-last 0 (nodes_in now.nodes) now.brackets.items c.args.bracket c.requires.read.0.unclosed) (returns-else-holds_link-clause-items c)
     (inside-looks source (nodes_in now.nodes) c.args.bracket (c.args.bracket.node + 1) now.openers.list.looks c.pair_from.new.openers.list.looks refl (c.in_ok-pair_from.ensures.looks source))
