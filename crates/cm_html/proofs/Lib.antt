@@ -8,3 +8,5 @@ pub mod MarkupSteps
 pub mod MarkupTexts
 pub mod MarkupInlines
 pub mod MarkupBlocks
+pub mod PageLemmas
+pub mod FormedLemmas

@@ -1,4 +1,5 @@
 pub mod Escape
+pub mod Forms
 pub mod Html
 pub mod Listing
 pub mod Markup

@@ -1,4 +1,5 @@
 pub mod AlternativeText
 pub mod Bytes
-pub mod Emitting
+pub mod FormedTexts
 pub mod ItemPass
+pub mod Pages

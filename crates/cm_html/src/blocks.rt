@@ -1,16 +1,17 @@
 //! The HTML of blocks.
-ghost use Rattle.std.specs.Prelude.{◌≡◌, ◌++◌, true, false, map, string_bytes, OnOk};
+ghost use Rattle.std.specs.Prelude.{◌≡◌, ◌++◌, true, false, map, OnOk};
 ghost use Rattle.cm_html.specs.Html.{list_start, list_end, ordered_start, inlines_html, written, alone, html_of, paragraph_html, heading_start, heading_end, heading_html, class_start, code_start, code_html, quote_html, item_html, inside};
 
-use crate::escape::{class_word, push_escaped};
+use crate::escape::class_word;
 use crate::inlines::push_inlines;
+use crate::pages::Pages;
 use cm_tree::{Block, Inline, ListKind};
 use std::alloc::AllocError;
 
 /// Writes blocks, one after another.
 #[cycle(blocks)]
-pub(crate) fn push_blocks(out: &mut String, blocks: &[Block]) -> Result<(), AllocError>
-    ensures { OnOk result (string_bytes out.new ≡ string_bytes out.old ++ html_of blocks.now) }
+pub(crate) fn push_blocks(out: &mut Pages, blocks: &[Block]) -> Result<(), AllocError>
+    ensures { OnOk result (out.new ≡ out.old ++ html_of blocks.now) }
 {
     for block in blocks {
         push_block(out, block)?;
@@ -24,8 +25,8 @@ pub(crate) fn push_blocks(out: &mut String, blocks: &[Block]) -> Result<(), Allo
 ///
 /// `AllocError` where a request for memory was refused; a beginning of the HTML may have been added then.
 #[cycle(blocks)]
-pub fn push_block(out: &mut String, block: &Block) -> Result<(), AllocError>
-    ensures { OnOk result (string_bytes out.new ≡ string_bytes out.old ++ alone (written block.now)) }
+pub fn push_block(out: &mut Pages, block: &Block) -> Result<(), AllocError>
+    ensures { OnOk result (out.new ≡ out.old ++ alone (written block.now)) }
 {
     match block {
         Block::Paragraph(content) => push_paragraph(out, content.as_slice()),
@@ -45,16 +46,16 @@ pub fn push_block(out: &mut String, block: &Block) -> Result<(), AllocError>
     }
 }
 
-fn push_paragraph(out: &mut String, content: &[Inline]) -> Result<(), AllocError>
-    ensures { OnOk result (string_bytes out.new ≡ string_bytes out.old ++ paragraph_html (inlines_html content.now)) }
+fn push_paragraph(out: &mut Pages, content: &[Inline]) -> Result<(), AllocError>
+    ensures { OnOk result (out.new ≡ out.old ++ paragraph_html (inlines_html content.now)) }
 {
     out.push_str("<p>")?;
     push_inlines(out, content)?;
     out.push_str("</p>\n")
 }
 
-fn push_heading(out: &mut String, level: u8, content: &[Inline]) -> Result<(), AllocError>
-    ensures { OnOk result (string_bytes out.new ≡ string_bytes out.old ++ heading_html level (inlines_html content.now)) }
+fn push_heading(out: &mut Pages, level: u8, content: &[Inline]) -> Result<(), AllocError>
+    ensures { OnOk result (out.new ≡ out.old ++ heading_html level (inlines_html content.now)) }
 {
     push_heading_start(out, level)?;
     push_inlines(out, content)?;
@@ -66,10 +67,12 @@ fn push_heading(out: &mut String, level: u8, content: &[Inline]) -> Result<(), A
 /// # Errors
 ///
 /// `AllocError` where a request for memory was refused; a beginning of it may have been added then.
-pub fn push_heading_start(out: &mut String, level: u8) -> Result<(), AllocError>
-    ensures { OnOk result (string_bytes out.new ≡ string_bytes out.old ++ heading_start level) }
+pub fn push_heading_start(out: &mut Pages, level: u8) -> Result<(), AllocError>
+    ensures { OnOk result (out.new ≡ out.old ++ heading_start level) }
 {
-    write!(out, "<h{level}>")
+    out.push_str("<h")?;
+    out.push_number(usize::from(level))?;
+    out.push_str(">")
 }
 
 /// Adds the end tag of a heading, and a line feed.
@@ -77,24 +80,26 @@ pub fn push_heading_start(out: &mut String, level: u8) -> Result<(), AllocError>
 /// # Errors
 ///
 /// As `push_heading_start`.
-pub fn push_heading_end(out: &mut String, level: u8) -> Result<(), AllocError>
-    ensures { OnOk result (string_bytes out.new ≡ string_bytes out.old ++ heading_end level) }
+pub fn push_heading_end(out: &mut Pages, level: u8) -> Result<(), AllocError>
+    ensures { OnOk result (out.new ≡ out.old ++ heading_end level) }
 {
-    write!(out, "</h{level}>\n")
+    out.push_str("</h")?;
+    out.push_number(usize::from(level))?;
+    out.push_str(">\n")
 }
 
 /// Writes the front of a code block with a class.
-fn push_class_start(out: &mut String, word: &str) -> Result<(), AllocError>
-    ensures { OnOk result (string_bytes out.new ≡ string_bytes out.old ++ class_start word.now) }
+fn push_class_start(out: &mut Pages, word: &str) -> Result<(), AllocError>
+    ensures { OnOk result (out.new ≡ out.old ++ class_start word.now) }
 {
     out.push_str("<pre><code class=\"language-")?;
-    push_escaped(out, word)?;
+    out.push_escaped(word)?;
     out.push_str("\">")
 }
 
 /// Writes the front of a code block with this class word, which may be empty.
-fn push_code_start(out: &mut String, word: &str) -> Result<(), AllocError>
-    ensures { OnOk result (string_bytes out.new ≡ string_bytes out.old ++ code_start word.now) }
+fn push_code_start(out: &mut Pages, word: &str) -> Result<(), AllocError>
+    ensures { OnOk result (out.new ≡ out.old ++ code_start word.now) }
 {
     if word.is_empty() {
         return out.push_str("<pre><code>");
@@ -107,17 +112,17 @@ fn push_code_start(out: &mut String, word: &str) -> Result<(), AllocError>
 /// # Errors
 ///
 /// As `push_block`.
-pub fn push_code(out: &mut String, info: &str, text: &str) -> Result<(), AllocError>
-    ensures { OnOk result (string_bytes out.new ≡ string_bytes out.old ++ code_html info.now text.now) }
+pub fn push_code(out: &mut Pages, info: &str, text: &str) -> Result<(), AllocError>
+    ensures { OnOk result (out.new ≡ out.old ++ code_html info.now text.now) }
 {
     push_code_start(out, class_word(info))?;
-    push_escaped(out, text)?;
+    out.push_escaped(text)?;
     out.push_str("</code></pre>\n")
 }
 
 #[cycle(blocks)]
-fn push_quote(out: &mut String, blocks: &[Block]) -> Result<(), AllocError>
-    ensures { OnOk result (string_bytes out.new ≡ string_bytes out.old ++ quote_html (html_of blocks.now)) }
+fn push_quote(out: &mut Pages, blocks: &[Block]) -> Result<(), AllocError>
+    ensures { OnOk result (out.new ≡ out.old ++ quote_html (html_of blocks.now)) }
 {
     out.push_str("<blockquote>\n")?;
     push_blocks(out, blocks)?;
@@ -125,8 +130,8 @@ fn push_quote(out: &mut String, blocks: &[Block]) -> Result<(), AllocError>
 }
 
 #[cycle(blocks)]
-fn push_item(out: &mut String, tight: bool, blocks: &[Block]) -> Result<(), AllocError>
-    ensures { OnOk result (string_bytes out.new ≡ string_bytes out.old ++ item_html tight (map written blocks.now)) }
+fn push_item(out: &mut Pages, tight: bool, blocks: &[Block]) -> Result<(), AllocError>
+    ensures { OnOk result (out.new ≡ out.old ++ item_html tight (map written blocks.now)) }
 {
     out.push_str("<li>")?;
     if tight {
@@ -139,8 +144,8 @@ fn push_item(out: &mut String, tight: bool, blocks: &[Block]) -> Result<(), Allo
 
 /// Writes the blocks of an item of a tight list.
 #[cycle(blocks)]
-fn push_tight(out: &mut String, blocks: &[Block]) -> Result<(), AllocError>
-    ensures { OnOk result (string_bytes out.new ≡ string_bytes out.old ++ inside true (map written blocks.now)) }
+fn push_tight(out: &mut Pages, blocks: &[Block]) -> Result<(), AllocError>
+    ensures { OnOk result (out.new ≡ out.old ++ inside true (map written blocks.now)) }
 {
     let mut fresh = true;
     for block in blocks {
@@ -164,8 +169,8 @@ fn push_tight(out: &mut String, blocks: &[Block]) -> Result<(), AllocError>
 
 /// Writes the blocks of an item of a loose list.
 #[cycle(blocks)]
-fn push_loose(out: &mut String, blocks: &[Block]) -> Result<(), AllocError>
-    ensures { OnOk result (string_bytes out.new ≡ string_bytes out.old ++ inside false (map written blocks.now)) }
+fn push_loose(out: &mut Pages, blocks: &[Block]) -> Result<(), AllocError>
+    ensures { OnOk result (out.new ≡ out.old ++ inside false (map written blocks.now)) }
 {
     let mut first = true;
     for block in blocks {
@@ -188,8 +193,8 @@ fn push_loose(out: &mut String, blocks: &[Block]) -> Result<(), AllocError>
 /// # Errors
 ///
 /// As `push_heading_start`.
-pub fn push_list_start(out: &mut String, kind: ListKind) -> Result<(), AllocError>
-    ensures { OnOk result (string_bytes out.new ≡ string_bytes out.old ++ list_start kind) }
+pub fn push_list_start(out: &mut Pages, kind: ListKind) -> Result<(), AllocError>
+    ensures { OnOk result (out.new ≡ out.old ++ list_start kind) }
 {
     match kind {
         ListKind::Dash | ListKind::Plus | ListKind::Star => out.push_str("<ul>\n"),
@@ -197,14 +202,15 @@ pub fn push_list_start(out: &mut String, kind: ListKind) -> Result<(), AllocErro
     }
 }
 
-fn push_ordered_start(out: &mut String, start: u32) -> Result<(), AllocError>
-    ensures { OnOk result (string_bytes out.new ≡ string_bytes out.old ++ ordered_start start) }
+fn push_ordered_start(out: &mut Pages, start: u32) -> Result<(), AllocError>
+    ensures { OnOk result (out.new ≡ out.old ++ ordered_start start) }
 {
     if start == 1 {
-        out.push_str("<ol>\n")
-    } else {
-        write!(out, "<ol start=\"{start}\">\n")
+        return out.push_str("<ol>\n");
     }
+    out.push_str("<ol start=\"")?;
+    out.push_number(start as usize)?;
+    out.push_str("\">\n")
 }
 
 /// Adds the end tag of a list, and a line feed.
@@ -212,8 +218,8 @@ fn push_ordered_start(out: &mut String, start: u32) -> Result<(), AllocError>
 /// # Errors
 ///
 /// As `push_heading_start`.
-pub fn push_list_end(out: &mut String, kind: ListKind) -> Result<(), AllocError>
-    ensures { OnOk result (string_bytes out.new ≡ string_bytes out.old ++ list_end kind) }
+pub fn push_list_end(out: &mut Pages, kind: ListKind) -> Result<(), AllocError>
+    ensures { OnOk result (out.new ≡ out.old ++ list_end kind) }
 {
     match kind {
         ListKind::Dash | ListKind::Plus | ListKind::Star => out.push_str("</ul>\n"),

@@ -26,7 +26,7 @@ fn push_reference(out: &mut String, b: u8) -> Result<(), AllocError>
 /// # Errors
 ///
 /// `AllocError` where a request for memory was refused; a beginning may stand behind the string then.
-pub fn push_escaped(out: &mut String, text: &str) -> Result<(), AllocError>
+pub(crate) fn push_escaped(out: &mut String, text: &str) -> Result<(), AllocError>
     ensures { OnOk result (string_bytes out.new ≡ string_bytes out.old ++ escape text.now) }
 {
     let mut rest = text;

@@ -1,10 +1,12 @@
 //! The listing of a document.
-ghost use Rattle.std.specs.Prelude.{◌≡◌, ◌<◌, ◌^◌, [], ◌++◌, map, string_bytes, OnOk, IfOk};
+ghost use Rattle.std.specs.Prelude.{◌≡◌, ◌<◌, ◌^◌, [], ◌∷◌, ◌++◌, map, string_bytes, OnOk, IfOk};
+ghost use Rattle.std.specs.Fmt.{decimal};
 ghost use Rattle.cm_html.specs.Listing.{margin, all_quoted, line, holder, heading_line, list_mark, list_line, listed_inline, listed_inlines, listed, listed_blocks, owner_text, owner_line, owners_from, listing_of};
 
-use crate::quoting::push_quoted;
+use crate::forms::Form;
+use crate::pages::Pages;
 use cm_text::NoMemory;
-use cm_tree::{Block, Doc, Inline, ListKind, Owner};
+use cm_tree::{Block, BoxedText, Doc, Inline, ListKind, Owner};
 use std::alloc::{AllocError, Global};
 
 /// The listing of a document: a line for each node of the tree, parents first, with two spaces of
@@ -29,15 +31,33 @@ use std::alloc::{AllocError, Global};
 pub fn listing(alloc: Global, doc: &Doc) -> Result<String, NoMemory>
     ensures { IfOk result (λ listing. string_bytes listing ≡ listing_of doc.now.blocks doc.now.owners) }
 {
-    let mut out = String::new(alloc);
-    push_blocks(&mut out, 0, doc.blocks.as_slice())?;
-    push_owners(&mut out, doc.owners.as_slice())?;
-    Ok(out)
+    let mut out = Pages::unparted(alloc);
+    push_document(&mut out, doc)?;
+    Ok(out.into_string()?)
+}
+
+/// Writes the listing of a document, in pages.
+pub(crate) fn push_document(out: &mut Pages, doc: &Doc) -> Result<(), AllocError>
+    ensures { OnOk result (out.new ≡ out.old ++ listing_of doc.now.blocks doc.now.owners) }
+{
+    push_parted(out, doc.blocks.as_slice())?;
+    push_owners(out, doc.owners.as_slice())
+}
+
+/// Writes blocks that stand in no others, and turns the page between them.
+fn push_parted(out: &mut Pages, blocks: &[Block]) -> Result<(), AllocError>
+    ensures { OnOk result (out.new ≡ out.old ++ listed_blocks 0 blocks.now) }
+{
+    for block in blocks {
+        push_block(out, 0, block)?;
+        out.turn()?;
+    }
+    Ok(())
 }
 
 /// Writes the indentation of a line with so many nodes round it. What a `String` holds keeps their
 /// number small.
-fn push_margin(out: &mut String, depth: usize) -> Result<(), AllocError>
+pub(crate) fn push_margin(out: &mut String, depth: usize) -> Result<(), AllocError>
     ensures written { OnOk result (string_bytes out.new ≡ string_bytes out.old ++ margin depth) }
     ensures small { OnOk result (depth < 2 ^ 63) }
 {
@@ -48,31 +68,51 @@ fn push_margin(out: &mut String, depth: usize) -> Result<(), AllocError>
 }
 
 /// Writes texts between quotes, each behind a space.
-fn push_all_quoted(out: &mut String, texts: &[&str]) -> Result<(), AllocError>
-    ensures { OnOk result (string_bytes out.new ≡ string_bytes out.old ++ all_quoted (map (λ text. text.now) texts.now)) }
+fn push_all_quoted(out: &mut Pages, texts: &[&str]) -> Result<(), AllocError>
+    ensures { OnOk result (out.new ≡ out.old ++ all_quoted (map (λ text. text.now) texts.now)) }
 {
     for text in texts {
         out.push_str(" ")?;
-        push_quoted(out, text)?;
+        out.push_in_form(Form::Quoted, text)?;
     }
     Ok(())
 }
 
 /// Writes the line of a node.
-fn push_line(out: &mut String, depth: usize, word: &str, texts: &[&str]) -> Result<(), AllocError>
-    ensures written { OnOk result (string_bytes out.new ≡ string_bytes out.old ++ line depth word.now (map (λ text. text.now) texts.now)) }
+fn push_line(out: &mut Pages, depth: usize, word: &str, texts: &[&str]) -> Result<(), AllocError>
+    ensures written { OnOk result (out.new ≡ out.old ++ line depth word.now (map (λ text. text.now) texts.now)) }
     ensures small { OnOk result (depth < 2 ^ 63) }
 {
-    push_margin(out, depth)?;
+    out.push_margin(depth)?;
     out.push_str(word)?;
     push_all_quoted(out, texts)?;
     out.push_str("\n")
 }
 
+/// Writes the line of a link or an image. Long texts that have other owners are held once.
+fn push_target_line(
+    out: &mut Pages,
+    depth: usize,
+    word: &str,
+    dest: &BoxedText,
+    title: &BoxedText,
+) -> Result<(), AllocError>
+    ensures written { OnOk result (out.new ≡ out.old ++ line depth word.now (dest.now ∷ title.now ∷ [])) }
+    ensures small { OnOk result (depth < 2 ^ 63) }
+{
+    out.push_margin(depth)?;
+    out.push_str(word)?;
+    out.push_str(" ")?;
+    out.push_formed(Form::Quoted, dest)?;
+    out.push_str(" ")?;
+    out.push_formed(Form::Quoted, title)?;
+    out.push_str("\n")
+}
+
 /// Writes inlines with so many nodes round them, one after another.
 #[cycle(inline_lines)]
-fn push_inlines(out: &mut String, depth: usize, inlines: &[Inline]) -> Result<(), AllocError>
-    ensures { OnOk result (string_bytes out.new ≡ string_bytes out.old ++ listed_inlines depth inlines.now) }
+fn push_inlines(out: &mut Pages, depth: usize, inlines: &[Inline]) -> Result<(), AllocError>
+    ensures { OnOk result (out.new ≡ out.old ++ listed_inlines depth inlines.now) }
 {
     for inline in inlines {
         push_inline(out, depth, inline)?;
@@ -82,8 +122,8 @@ fn push_inlines(out: &mut String, depth: usize, inlines: &[Inline]) -> Result<()
 
 /// Writes an inline and what it holds.
 #[cycle(inline_lines)]
-fn push_inline(out: &mut String, depth: usize, inline: &Inline) -> Result<(), AllocError>
-    ensures { OnOk result (string_bytes out.new ≡ string_bytes out.old ++ listed_inline inline.now depth) }
+fn push_inline(out: &mut Pages, depth: usize, inline: &Inline) -> Result<(), AllocError>
+    ensures { OnOk result (out.new ≡ out.old ++ listed_inline inline.now depth) }
 {
     match inline {
         Inline::Text(text) => push_line(out, depth, "text", &[text.as_str()]),
@@ -91,28 +131,24 @@ fn push_inline(out: &mut String, depth: usize, inline: &Inline) -> Result<(), Al
         Inline::Html(text) => push_line(out, depth, "html", &[text.as_str()]),
         Inline::Soft => push_line(out, depth, "soft", &[]),
         Inline::Hard => push_line(out, depth, "hard", &[]),
-        Inline::Emph(content) => { push_with_inlines(out, depth, "emph", &[], content.as_slice()) }
-        Inline::Strong(content) => {
-            push_with_inlines(out, depth, "strong", &[], content.as_slice())
-        }
-        Inline::Strike(content) => {
-            push_with_inlines(out, depth, "strike", &[], content.as_slice())
-        }
+        Inline::Emph(content) => { push_with_inlines(out, depth, "emph", content.as_slice()) }
+        Inline::Strong(content) => { push_with_inlines(out, depth, "strong", content.as_slice()) }
+        Inline::Strike(content) => { push_with_inlines(out, depth, "strike", content.as_slice()) }
         Inline::Link {
             dest,
             title,
             content,
         } => {
-            let texts = [dest.as_str(), title.as_str()];
-            push_with_inlines(out, depth, "link", &texts, content.as_slice())
+            push_target_line(out, depth, "link", dest, title)?;
+            push_inlines(out, depth + 1, content.as_slice())
         }
         Inline::Image {
             dest,
             title,
             content,
         } => {
-            let texts = [dest.as_str(), title.as_str()];
-            push_with_inlines(out, depth, "image", &texts, content.as_slice())
+            push_target_line(out, depth, "image", dest, title)?;
+            push_inlines(out, depth + 1, content.as_slice())
         }
     }
 }
@@ -120,49 +156,56 @@ fn push_inline(out: &mut String, depth: usize, inline: &Inline) -> Result<(), Al
 /// Writes a node and the inlines that it holds.
 #[cycle(inline_lines)]
 fn push_with_inlines(
-    out: &mut String,
+    out: &mut Pages,
     depth: usize,
     word: &str,
-    texts: &[&str],
     content: &[Inline],
 ) -> Result<(), AllocError>
-    ensures { OnOk result (string_bytes out.new
-        ≡ string_bytes out.old ++ holder depth word.now (map (λ text. text.now) texts.now) (map listed_inline content.now)) }
+    ensures { OnOk result (out.new ≡ out.old ++ holder depth word.now [] (map listed_inline content.now)) }
 {
-    push_line(out, depth, word, texts)?;
+    push_line(out, depth, word, &[])?;
     push_inlines(out, depth + 1, content)
 }
 
-fn push_heading_line(out: &mut String, depth: usize, level: u8) -> Result<(), AllocError>
-    ensures written { OnOk result (string_bytes out.new ≡ string_bytes out.old ++ heading_line depth level) }
-    ensures small { OnOk result (depth < 2 ^ 63) }
+/// Writes a word, and a number behind it.
+fn push_with_number(out: &mut Pages, word: &str, number: usize) -> Result<(), AllocError>
+    ensures { OnOk result (out.new ≡ out.old ++ word.now ++ decimal number) }
 {
-    push_margin(out, depth)?;
-    write!(out, "heading {level}\n")
+    out.push_str(word)?;
+    out.push_number(number)
 }
 
-fn push_marker(out: &mut String, kind: ListKind) -> Result<(), AllocError>
-    ensures { OnOk result (string_bytes out.new ≡ string_bytes out.old ++ list_mark kind) }
+fn push_heading_line(out: &mut Pages, depth: usize, level: u8) -> Result<(), AllocError>
+    ensures written { OnOk result (out.new ≡ out.old ++ heading_line depth level) }
+    ensures small { OnOk result (depth < 2 ^ 63) }
+{
+    out.push_margin(depth)?;
+    push_with_number(out, "heading ", usize::from(level))?;
+    out.push_str("\n")
+}
+
+fn push_marker(out: &mut Pages, kind: ListKind) -> Result<(), AllocError>
+    ensures { OnOk result (out.new ≡ out.old ++ list_mark kind) }
 {
     match kind {
         ListKind::Dash => out.push_str("bullet -"),
         ListKind::Plus => out.push_str("bullet +"),
         ListKind::Star => out.push_str("bullet *"),
-        ListKind::Dot { start } => write!(out, "ordered . {start}"),
-        ListKind::Paren { start } => write!(out, "ordered ) {start}"),
+        ListKind::Dot { start } => push_with_number(out, "ordered . ", start as usize),
+        ListKind::Paren { start } => push_with_number(out, "ordered ) ", start as usize),
     }
 }
 
 fn push_list_line(
-    out: &mut String,
+    out: &mut Pages,
     depth: usize,
     kind: ListKind,
     tight: bool,
 ) -> Result<(), AllocError>
-    ensures written { OnOk result (string_bytes out.new ≡ string_bytes out.old ++ list_line depth kind tight) }
+    ensures written { OnOk result (out.new ≡ out.old ++ list_line depth kind tight) }
     ensures small { OnOk result (depth < 2 ^ 63) }
 {
-    push_margin(out, depth)?;
+    out.push_margin(depth)?;
     out.push_str("list ")?;
     push_marker(out, kind)?;
     out.push_str(if tight { " tight\n" } else { " loose\n" })
@@ -170,8 +213,8 @@ fn push_list_line(
 
 /// Writes blocks with so many nodes round them, one after another.
 #[cycle(block_lines)]
-fn push_blocks(out: &mut String, depth: usize, blocks: &[Block]) -> Result<(), AllocError>
-    ensures { OnOk result (string_bytes out.new ≡ string_bytes out.old ++ listed_blocks depth blocks.now) }
+fn push_blocks(out: &mut Pages, depth: usize, blocks: &[Block]) -> Result<(), AllocError>
+    ensures { OnOk result (out.new ≡ out.old ++ listed_blocks depth blocks.now) }
 {
     for block in blocks {
         push_block(out, depth, block)?;
@@ -181,12 +224,12 @@ fn push_blocks(out: &mut String, depth: usize, blocks: &[Block]) -> Result<(), A
 
 /// Writes a block and what it holds.
 #[cycle(block_lines)]
-fn push_block(out: &mut String, depth: usize, block: &Block) -> Result<(), AllocError>
-    ensures { OnOk result (string_bytes out.new ≡ string_bytes out.old ++ listed block.now depth) }
+fn push_block(out: &mut Pages, depth: usize, block: &Block) -> Result<(), AllocError>
+    ensures { OnOk result (out.new ≡ out.old ++ listed block.now depth) }
 {
     match block {
         Block::Paragraph(content) => {
-            push_with_inlines(out, depth, "paragraph", &[], content.as_slice())
+            push_with_inlines(out, depth, "paragraph", content.as_slice())
         }
         Block::Heading { level, content } => {
             push_heading_line(out, depth, *level)?;
@@ -215,40 +258,42 @@ fn push_block(out: &mut String, depth: usize, block: &Block) -> Result<(), Alloc
 /// Writes a node and the blocks that it holds.
 #[cycle(block_lines)]
 fn push_with_blocks(
-    out: &mut String,
+    out: &mut Pages,
     depth: usize,
     word: &str,
     blocks: &[Block],
 ) -> Result<(), AllocError>
-    ensures { OnOk result (string_bytes out.new ≡ string_bytes out.old ++ holder depth word.now [] (map listed blocks.now)) }
+    ensures { OnOk result (out.new ≡ out.old ++ holder depth word.now [] (map listed blocks.now)) }
 {
     push_line(out, depth, word, &[])?;
     push_blocks(out, depth + 1, blocks)
 }
 
-fn push_owner(out: &mut String, owner: Owner) -> Result<(), AllocError>
-    ensures { OnOk result (string_bytes out.new ≡ string_bytes out.old ++ owner_text owner) }
+fn push_owner(out: &mut Pages, owner: Owner) -> Result<(), AllocError>
+    ensures { OnOk result (out.new ≡ out.old ++ owner_text owner) }
 {
     match owner {
-        Owner::Leaf(leaf) => write!(out, "leaf {leaf}"),
+        Owner::Leaf(leaf) => push_with_number(out, "leaf ", leaf),
         Owner::Marker => out.push_str("marker"),
         Owner::Blank => out.push_str("blank"),
     }
 }
 
-fn push_owner_line(out: &mut String, number: usize, owner: Owner) -> Result<(), AllocError>
-    ensures { OnOk result (string_bytes out.new ≡ string_bytes out.old ++ owner_line number owner) }
+fn push_owner_line(out: &mut Pages, number: usize, owner: Owner) -> Result<(), AllocError>
+    ensures { OnOk result (out.new ≡ out.old ++ owner_line number owner) }
 {
-    write!(out, "owner {number} ")?;
+    push_with_number(out, "owner ", number)?;
+    out.push_str(" ")?;
     push_owner(out, owner)?;
     out.push_str("\n")
 }
 
-fn push_owners(out: &mut String, owners: &[Owner]) -> Result<(), AllocError>
-    ensures { OnOk result (string_bytes out.new ≡ string_bytes out.old ++ owners_from 1 owners.now) }
+fn push_owners(out: &mut Pages, owners: &[Owner]) -> Result<(), AllocError>
+    ensures { OnOk result (out.new ≡ out.old ++ owners_from 1 owners.now) }
 {
     for (index, owner) in owners.iter().enumerate() {
         push_owner_line(out, index + 1, *owner)?;
+        out.turn()?;
     }
     Ok(())
 }

@@ -1,4 +1,4 @@
-use Rattle.std.proofs.Common.{ap, codes, false, map, string_bytes, true}
+use Rattle.std.proofs.Common.{ap, codes, false, map, true}
 use Rattle.std.proofs.lemmas.List.{drop_all}
 use Rattle.cm_html.proofs.ItemLemmas.{inside_added}
 use Rattle.cm_html.proofs.Pushed.{enclosed}
@@ -10,10 +10,10 @@ push_quote-returns t c = enclosed c.push_str-2.result _ (codes "<blockquote>\n")
 
 pub push_loose-returns : goal.push_loose-returns
 push_loose-returns t c =
-    inside_added false c.loop-block.first (map written c.args.blocks.now) _ (string_bytes c.args.out.now) (string_bytes c.loop-block.out)
+    inside_added false c.loop-block.first (map written c.args.blocks.now) _ c.args.out.now c.loop-block.out
     (ap (map written) (drop_all c.loop-block.block-index c.args.blocks.now c.loop-block-test.false)) c.loop-block.invariant
 
 pub push_tight-returns : goal.push_tight-returns
 push_tight-returns t c =
-    inside_added true c.loop-block.fresh (map written c.args.blocks.now) _ (string_bytes c.args.out.now) (string_bytes c.loop-block.out)
+    inside_added true c.loop-block.fresh (map written c.args.blocks.now) _ c.args.out.now c.loop-block.out
     (ap (map written) (drop_all c.loop-block.block-index c.args.blocks.now c.loop-block-test.false)) c.loop-block.invariant

@@ -1,8 +1,8 @@
-use Rattle.std.proofs.Common.{◌≡◌, ◌++◌, ◌+◌, string_bytes, drop}
+use Rattle.std.proofs.Common.{◌≡◌, ◌++◌, ◌+◌, drop}
 use Rattle.cm_html.specs.Listing.{owners_from}
 use Rattle.cm_html.proofs.listings.push_owners.Given as goal
 
 -- what was written and what is left are all
 abbrev pub invariant-loop-index : goal.invariant-loop-index
 invariant-loop-index l =
-    string_bytes l.out ++ owners_from (l.index + 1) (drop l.index l.owners) ≡ string_bytes l.fn.out ++ owners_from 1 l.owners
+    l.out ++ owners_from (l.index + 1) (drop l.index l.owners) ≡ l.fn.out ++ owners_from 1 l.owners

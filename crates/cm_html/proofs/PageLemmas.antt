@@ -1,0 +1,107 @@
+-- What stands on a page, while more is put behind it.
+use Rattle.std.proofs.Common.{◌≡◌, ℕ, suc, ◌+◌, ◌-◌, ◌<◌, ◌≤◌, List, [], ◌∷◌, ◌++◌, length, take, drop, get_or, sym, ap, ap₂, subst, ◌∙◌, inl, inr, arith, string_bytes, append_assoc, append-nil, length-append, length-drop, take_all}
+use Rattle.std.specs.Prelude.{String, Result, Ok, Err, OnOk, OnErr, is_ok, if◌then◌else◌}
+use Rattle.std.specs.List.{slice_range}
+use Rattle.std.specs.Str.{IsUtf8, IsCharBoundary}
+use Rattle.std.proofs.lemmas.Bool.{cases_lt}
+use Rattle.std.proofs.Math.Seq.{drop-cons, drop-append_seam}
+use Rattle.std.proofs.lemmas.List.{take-append-le, drop-append-le, get_or_append_left, take_at}
+use Rattle.std.proofs.lemmas.Str.{IsUtf8-string_bytes, IsCharBoundary-end, IsCharBoundary-start, IsCharBoundary-from_take}
+use Rattle.cm_html.specs.declared.page.Insertion.{Insertion}
+use Rattle.cm_html.specs.steps.Pages.{with_insertions, AreInOrder}
+
+-- ---- places
+
+pub first_place : (from : ℕ) (text : List ℕ) (is : List Insertion) → AreInOrder from text is → IsCharBoundary text from
+first_place from text [] order = order
+first_place from text (i ∷ is) order = order.0
+
+place_grows : (text more grown : List ℕ) (at : ℕ) → grown ≡ text ++ more → IsUtf8 text → IsUtf8 grown → IsCharBoundary text at → IsCharBoundary grown at
+place_grows text more grown at is utf8 later place = elim (cases_lt at (length text)) [
+  | inl low ↦ subst (λ g. IsCharBoundary g at) (sym is) (omega (arith, low, length-append text more), λ _ continues. rw (get_or_append_left text more 0 at low) (place.1 low (rw (get_or_append_left text more 0 at low) at continues)))
+  | inr high ↦
+      let end : length text ≡ at = omega (arith, high, place.0) in
+      let front : text ≡ take at grown = sym (ap (take at) is ∙ take_at text more at end) in
+      IsCharBoundary-from_take grown at later (omega (arith, end, ap length is, length-append text more)) (subst IsUtf8 front utf8)
+]
+
+-- more text behind them
+order_grows : (from : ℕ) (text more grown : List ℕ) (is : List Insertion) → grown ≡ text ++ more → IsUtf8 text → IsUtf8 grown → AreInOrder from text is → AreInOrder from grown is
+order_grows from text more grown [] pushed utf8 later order = place_grows text more grown from pushed utf8 later order
+order_grows from text more grown (i ∷ is) pushed utf8 later order =
+    (place_grows text more grown from pushed utf8 later order.0, order.1, order_grows i.place text more grown is pushed utf8 later order.2)
+
+-- one more at the end
+pub order_behind : (from : ℕ) (text : List ℕ) (is : List Insertion) (i : Insertion) → i.place ≡ length text → AreInOrder from text is → AreInOrder from text (is ++ i ∷ [])
+order_behind from text [] i at order = (order, omega (arith, order.0, at), subst (IsCharBoundary text) (sym at) (IsCharBoundary-end text))
+order_behind from text (j ∷ is) i at order = (order.0, order.1, order_behind j.place text is i at order.2)
+
+-- ---- bytes
+
+slice_same : (from to : ℕ) (text more : List ℕ) → from ≤ to → to ≤ length text → slice_range (text ++ more) from to ≡ slice_range text from to
+slice_same from to text more order within =
+    ap (take (to - from)) (drop-append-le from text more (omega (arith, order, within)))
+    ∙ take-append-le (to - from) (drop from text) more (omega (arith, order, within, length-drop from text))
+
+-- more text behind a page
+text_behind : (from : ℕ) (text more : List ℕ) (is : List Insertion) → AreInOrder from text is → with_insertions from (text ++ more) is ≡ with_insertions from text is ++ more
+text_behind from text more [] order = drop-append-le from text more order.0
+text_behind from text more (i ∷ is) order =
+    ap₂ (λ part rest. (part ++ i.text) ++ rest) (slice_same from i.place text more order.1 (first_place i.place text is order.2).0) (text_behind i.place text more is order.2)
+    ∙ sym (append_assoc (slice_range text from i.place ++ i.text) (with_insertions i.place text is) more)
+
+drop_whole : (text : List ℕ) → drop (length text) text ≡ []
+drop_whole text = ap (drop (length text)) (sym (append-nil text)) ∙ drop-append_seam text []
+
+-- one more insertion behind a page
+pub insertion_behind : (from : ℕ) (text : List ℕ) (is : List Insertion) (i : Insertion) → i.place ≡ length text → AreInOrder from text is
+    → with_insertions from text (is ++ i ∷ []) ≡ with_insertions from text is ++ i.text
+insertion_behind from text [] i at order =
+    ap (λ n. (slice_range text from n ++ i.text) ++ drop n text) at
+    ∙ ap₂ (λ part rest. (part ++ i.text) ++ rest) (take_all (length text - from) (drop from text) (omega (arith, length-drop from text))) (drop_whole text)
+    ∙ append-nil (drop from text ++ i.text)
+insertion_behind from text (j ∷ is) i at order =
+    ap (λ t. (slice_range text from j.place ++ j.text) ++ t) (insertion_behind j.place text is i at order.2)
+    ∙ sym (append_assoc (slice_range text from j.place ++ j.text) (with_insertions j.place text is) i.text)
+
+-- ---- text is put behind a page, unless memory runs out
+
+module _ {Z : Type 0} (old new : String Z) (more : List ℕ) (is : List Insertion) (order : AreInOrder 0 (string_bytes old) is) where
+  in_order : string_bytes new ≡ string_bytes old ++ more → AreInOrder 0 (string_bytes new) is
+  in_order pushed = order_grows 0 (string_bytes old) more (string_bytes new) is pushed (IsUtf8-string_bytes old) (IsUtf8-string_bytes new) order
+
+  stands_behind : string_bytes new ≡ string_bytes old ++ more → (seen : List ℕ) → with_insertions 0 (string_bytes old) is ≡ seen
+      → with_insertions 0 (string_bytes new) is ≡ seen ++ more
+  stands_behind pushed seen view = ap (λ t. with_insertions 0 t is) pushed ∙ text_behind 0 (string_bytes old) more is order ∙ ap (λ t. t ++ more) view
+
+  -- by a call that leaves the text as it is then
+  module _ {T E : Type 0} where
+    pub pushed_in_order : (r : Result T E) → string_bytes new ≡ (if is_ok r then string_bytes old ++ more else string_bytes old) → AreInOrder 0 (string_bytes new) is
+    pushed_in_order (Ok x) pushed = in_order pushed
+    pushed_in_order (Err e) pushed = subst (λ t. AreInOrder 0 t is) (sym pushed) order
+
+    pub pushed_behind : (r : Result T E) → string_bytes new ≡ (if is_ok r then string_bytes old ++ more else string_bytes old)
+        → (seen : List ℕ) → with_insertions 0 (string_bytes old) is ≡ seen → OnOk r (with_insertions 0 (string_bytes new) is ≡ seen ++ more)
+    pushed_behind (Ok x) pushed seen view = stands_behind pushed seen view
+    pushed_behind (Err e) pushed seen view = tt
+
+    -- by one that may have added a beginning, after which no insertion stays
+    settled_by_case : (r : Result T E) (kept : List Insertion) → OnOk r (string_bytes new ≡ string_bytes old ++ more) → OnOk r (kept ≡ is) → OnErr r (kept ≡ [])
+        → AreInOrder 0 (string_bytes new) kept
+    settled_by_case (Ok x) kept pushed same none = subst (AreInOrder 0 (string_bytes new)) (sym same) (in_order pushed)
+    settled_by_case (Err e) kept pushed same none = subst (AreInOrder 0 (string_bytes new)) (sym none) (IsCharBoundary-start (string_bytes new) (IsUtf8-string_bytes new))
+
+    behind_by_case : (r : Result T E) (kept : List Insertion) → OnOk r (string_bytes new ≡ string_bytes old ++ more) → OnOk r (kept ≡ is)
+        → (seen : List ℕ) → with_insertions 0 (string_bytes old) is ≡ seen → OnOk r (with_insertions 0 (string_bytes new) kept ≡ seen ++ more)
+    behind_by_case (Ok x) kept pushed same seen view = ap (with_insertions 0 (string_bytes new)) same ∙ stands_behind pushed seen view
+    behind_by_case (Err e) kept pushed same seen view = tt
+
+    pub settled_in_order : (pushed r : Result T E) (kept : List Insertion) → r ≡ pushed → OnOk pushed (string_bytes new ≡ string_bytes old ++ more) → OnOk r (kept ≡ is)
+        → OnErr r (kept ≡ []) → AreInOrder 0 (string_bytes new) kept
+    settled_in_order pushed r kept handed done same none =
+        settled_by_case r kept (subst (λ q. OnOk q (string_bytes new ≡ string_bytes old ++ more)) (sym handed) done) same none
+
+    pub settled_behind : (pushed r : Result T E) (kept : List Insertion) → r ≡ pushed → OnOk pushed (string_bytes new ≡ string_bytes old ++ more) → OnOk r (kept ≡ is)
+        → (seen : List ℕ) → with_insertions 0 (string_bytes old) is ≡ seen → OnOk r (with_insertions 0 (string_bytes new) kept ≡ seen ++ more)
+    settled_behind pushed r kept handed done same seen view =
+        behind_by_case r kept (subst (λ q. OnOk q (string_bytes new ≡ string_bytes old ++ more)) (sym handed) done) same seen view

@@ -1,0 +1,11 @@
+-- How a text of the tree is written.
+use Rattle.std.specs.Prelude.{ℕ, List}
+use Rattle.cm_html.specs.declared.forms.Form.{Form}
+use Rattle.cm_html.specs.declared.forms.Form.TheVariants.{Destination, Escaped, Quoted}
+use Rattle.cm_html.specs.Escape.{escape, destination_html}
+use Rattle.cm_html.specs.Listing.{quoted}
+
+abbrev pub formed : Form → List ℕ → List ℕ
+formed Destination text = destination_html text
+formed Escaped text = escape text
+formed Quoted text = quoted text

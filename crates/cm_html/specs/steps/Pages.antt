@@ -1,0 +1,22 @@
+-- A text with others put into it.
+use Rattle.std.specs.Prelude.{◌≡◌, ℕ, ◌+◌, ◌≤◌, List, [], ◌∷◌, ◌++◌, length, drop, Result, Ok, Err}
+use Rattle.std.specs.List.{slice_range}
+use Rattle.std.specs.Str.{IsCharBoundary}
+use Rattle.cm_text.specs.Writing.{SinkView, Wrote, WroteFront}
+use Rattle.cm_text.specs.declared.writing.WriteFailed.{WriteFailed}
+use Rattle.cm_html.specs.declared.page.Insertion.{Insertion}
+
+-- what stands from a place of the text on
+abbrev pub with_insertions : (from : ℕ) → List ℕ → List Insertion → List ℕ
+with_insertions from text [] = drop from text
+with_insertions from text (i ∷ is) = (slice_range text from i.place ++ i.text) ++ with_insertions i.place text is
+
+-- from a place of the text on their places follow one another, and at each of them a character begins, or the text ends
+abbrev pub AreInOrder : (from : ℕ) → List ℕ → List Insertion → Type 0
+AreInOrder from text [] = IsCharBoundary text from
+AreInOrder from text (i ∷ is) = IsCharBoundary text from × (from ≤ i.place) × AreInOrder i.place text is
+
+-- A piece went out behind so many bytes, and the answer is how many went out then; or a write failed behind a front of it.
+abbrev pub WritesMore : Result ℕ WriteFailed → (written : ℕ) → (piece : List ℕ) → SinkView → SinkView → Type 0
+WritesMore (Ok n) written piece old new = Wrote old new piece 0 × (n ≡ written + length piece)
+WritesMore (Err failed) written piece old new = (front : ℕ) × WroteFront old new piece front × (failed.written ≡ written + front)

@@ -1,0 +1,258 @@
+//! A text in pages, each of which is a piece of memory by itself.
+ghost use Rattle.std.specs.Prelude.{◌≡◌, ℕ, ◌+◌, ◌-◌, ◌^◌, ◌<◌, [], ◌++◌, length, string_bytes, IfOk, OnOk, IfSome};
+ghost use Rattle.std.specs.List.{concat};
+ghost use Rattle.std.specs.Fmt.{decimal};
+ghost use Rattle.cm_html.specs.Escape.{escape};
+ghost use Rattle.cm_html.specs.Forms.{formed};
+ghost use Rattle.cm_html.specs.Listing.{margin, quoted};
+ghost use Rattle.cm_html.specs.Writing.{WritesText};
+
+use crate::fault::HtmlFault;
+use crate::forms::{Form, FormedTexts};
+use crate::page::Page;
+use crate::writing::write_pages;
+use cm_text::{Sink, WriteFailed};
+use cm_tree::BoxedText;
+use std::alloc::{AllocError, Global};
+use std::marker::Model;
+use std::mem;
+
+/// How many bytes fill a page. What is added at once isn't parted, so a page may have more.
+const PAGE: usize = 32_768;
+
+/// How many bytes a page has room for at first.
+const ROOM: usize = 40_960;
+
+/// How many bytes a text has at least that is inserted and not copied: an insertion takes memory itself, and a shorter
+/// text is copied in less time than it is looked for.
+const INSERTED: usize = 64;
+
+/// A text that is made from its front to its end: HTML, or a listing. It owns its pages, and a long text that other owners
+/// share is held once, as it is written, and inserted wherever it stands.
+///
+/// Contracts see it as its bytes.
+#[derive(Drop)]
+pub struct Pages {
+    alloc: Global,
+    /// How many bytes fill a page of it.
+    page_len: usize,
+    full: Vec<Page>,
+    open: Page,
+    formed: FormedTexts,
+}
+
+impl Model for Pages {
+    ghost use Rattle.std.specs.Prelude.{ℕ, List, ◌++◌};
+    ghost use Rattle.std.specs.List.{concat};
+
+    ghost Value = { List ℕ };
+
+    ghost view = { λ p. concat p.full.items ++ p.open };
+}
+
+impl Pages {
+    /// A text of no bytes, with room for a page.
+    ///
+    /// # Errors
+    ///
+    /// `AllocError` where a request for memory was refused.
+    pub fn new(alloc: Global) -> Result<Pages, AllocError>
+        ensures { IfOk result (λ pages. pages ≡ []) }
+    {
+        Ok(Pages {
+            alloc,
+            page_len: PAGE,
+            full: Vec::new(alloc),
+            open: Page::with_room(alloc, ROOM)?,
+            formed: FormedTexts::new(alloc),
+        })
+    }
+
+    /// A text of no bytes that becomes one page, whatever its length. It takes no memory.
+    pub(crate) fn unparted(alloc: Global) -> Pages
+        ensures { result ≡ [] }
+    {
+        Pages {
+            alloc,
+            page_len: usize::MAX,
+            full: Vec::new(alloc),
+            open: Page::new(alloc),
+            formed: FormedTexts::new(alloc),
+        }
+    }
+
+    /// Adds a copy of a text.
+    ///
+    /// # Errors
+    ///
+    /// `AllocError` where a request for memory was refused; what stands there then isn't said. So it is with all calls that
+    /// add to the text.
+    #[inline(always)]
+    pub fn push_str(&mut self, more: &str) -> Result<(), AllocError>
+        ensures { OnOk result (self.new ≡ self.old ++ more.now) }
+    {
+        self.open.push_str(more)
+    }
+
+    /// Adds a text: `&`, `<`, `>` and `"` as references.
+    ///
+    /// # Errors
+    ///
+    /// As `push_str`.
+    #[inline(always)]
+    pub fn push_escaped(&mut self, text: &str) -> Result<(), AllocError>
+        ensures { OnOk result (self.new ≡ self.old ++ escape text.now) }
+    {
+        self.open.push_in_form(Form::Escaped, text)
+    }
+
+    /// Adds a text in a form.
+    #[inline(always)]
+    pub(crate) fn push_in_form(&mut self, form: Form, text: &str) -> Result<(), AllocError>
+        ensures { OnOk result (self.new ≡ self.old ++ formed form text.now) }
+    {
+        self.open.push_in_form(form, text)
+    }
+
+    /// Adds a number in decimal.
+    pub(crate) fn push_number(&mut self, number: usize) -> Result<(), AllocError>
+        ensures { OnOk result (self.new ≡ self.old ++ decimal number) }
+    {
+        self.open.push_number(number)
+    }
+
+    /// Adds the indentation of a line with so many nodes round it.
+    pub(crate) fn push_margin(&mut self, depth: usize) -> Result<(), AllocError>
+        ensures written { OnOk result (self.new ≡ self.old ++ margin depth) }
+        ensures small { OnOk result (depth < 2 ^ 63) }
+    {
+        self.open.push_margin(depth)
+    }
+
+    /// Adds a text in a form. Where it is long and has other owners, it is formed once, and held once.
+    ///
+    /// # Errors
+    ///
+    /// As `push_str`.
+    pub fn push_formed(&mut self, form: Form, text: &BoxedText) -> Result<(), AllocError>
+        ensures { OnOk result (self.new ≡ self.old ++ formed form text.now) }
+    {
+        let bytes = text.as_str();
+        if bytes.len() < INSERTED || !text.is_shared() {
+            return self.open.push_in_form(form, bytes);
+        }
+        let inserted = self.formed.form(form, text)?;
+        self.open.push_insertion(inserted)
+    }
+
+    /// Goes on with a new page, if the open one is full.
+    ///
+    /// # Errors
+    ///
+    /// As `push_str`.
+    #[inline(always)]
+    pub fn turn(&mut self) -> Result<(), AllocError>
+        ensures { OnOk result (self.new ≡ self.old) }
+    {
+        if self.open.takes(self.page_len) {
+            return self.lay_aside();
+        }
+        Ok(())
+    }
+
+    /// Puts the open page behind the others, and goes on with a new one.
+    fn lay_aside(&mut self) -> Result<(), AllocError>
+        ensures { OnOk result (self.new ≡ self.old) }
+    {
+        let page = Page::with_room(self.alloc, ROOM)?;
+        self.full.push(mem::replace(&mut self.open, page))?;
+        Ok(())
+    }
+
+    /// Writes the text to a sink, and answers how many bytes it has. It takes no memory.
+    ///
+    /// # Errors
+    ///
+    /// `HtmlFault::WriteFailed` where one write failed: what went out is the first `written` bytes.
+    /// `HtmlFault::NoMemory` where the text has more bytes than a `usize` counts, and then nothing went out.
+    pub fn write<W: Sink>(&self, sink: &mut W) -> Result<usize, HtmlFault>
+        requires { W.failed sink.old < 2 ^ 64 - 1 }
+        ensures { WritesText result self.now
+            (record { taken = W.taken sink.old; failed = W.failed sink.old })
+            (record { taken = W.taken sink.new; failed = W.failed sink.new }) }
+    {
+        let full = self.full.as_slice();
+        let Some(_len) = len_of(full, &self.open) else {
+            return Err(HtmlFault::NoMemory);
+        };
+        match write_pages(sink, full, &self.open) {
+            Ok(len) => Ok(len),
+            Err(WriteFailed { written }) => Err(HtmlFault::WriteFailed { written }),
+        }
+    }
+
+    /// The text as one string, without a copy where it is one page without insertions.
+    ///
+    /// # Errors
+    ///
+    /// `AllocError` where a request for memory was refused.
+    pub fn into_string(self) -> Result<String, AllocError>
+        ensures { IfOk result (λ text. string_bytes text ≡ self) }
+    {
+        let Pages {
+            alloc,
+            full,
+            open,
+            ..
+        } = self;
+        let front = full.as_slice();
+        if front.is_empty() {
+            match open.into_text() {
+                Ok(text) => Ok(text),
+                Err(page) => copied(alloc, front, &page),
+            }
+        } else {
+            copied(alloc, front, &open)
+        }
+    }
+}
+/// How many bytes the pages and the open one have.
+fn len_of(full: &[Page], open: &Page) -> Option<usize>
+    ensures { IfSome result (λ n. n ≡ length (concat full.now ++ open.now)) }
+{
+    full_len(full)?.checked_add(open.len()?)
+}
+
+/// A copy of the pages, and of the open one behind them.
+fn copied(alloc: Global, full: &[Page], open: &Page) -> Result<String, AllocError>
+    ensures { IfOk result (λ text. string_bytes text ≡ concat full.now ++ open.now) }
+{
+    let Some(len) = len_of(full, open) else {
+        return Err(AllocError);
+    };
+    let mut text = String::with_capacity(alloc, len)?;
+    push_full(&mut text, full)?;
+    open.push_to(&mut text)?;
+    Ok(text)
+}
+
+/// How many bytes the pages have.
+fn full_len(pages: &[Page]) -> Option<usize>
+    ensures { IfSome result (λ n. n ≡ length (concat pages.now)) }
+{
+    let mut len: usize = 0;
+    for page in pages {
+        len = len.checked_add(page.len()?)?;
+    }
+    Some(len)
+}
+
+/// Adds copies of the pages to a string.
+fn push_full(out: &mut String, pages: &[Page]) -> Result<(), AllocError>
+    ensures { OnOk result (string_bytes out.new ≡ string_bytes out.old ++ concat pages.now) }
+{
+    for page in pages {
+        page.push_to(out)?;
+    }
+    Ok(())
+}
