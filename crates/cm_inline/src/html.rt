@@ -1,5 +1,5 @@
 //! The HTML of nodes of which nothing more is made, from the source.
-ghost use Rattle.std.specs.Prelude.{◌≡◌, ◌++◌, List, [], length, string_bytes, encode_utf8_all, IfOk, IfSome, OnOk};
+ghost use Rattle.std.specs.Prelude.{◌≡◌, ◌++◌, List, [], length, replicate, encode_utf8_all, IfOk, IfSome, OnOk};
 ghost use Rattle.std.specs.List.{slice_range};
 ghost use Rattle.std.specs.Str.{IsCharBoundary};
 ghost use Rattle.cm_text.specs.References.{chars_of};
@@ -7,6 +7,7 @@ ghost use Rattle.cm_html.specs.Escape.{escape};
 ghost use Rattle.cm_html.specs.Html.{code_span_html, inlines_html, rendered};
 ghost use Rattle.cm_scan.specs.CodeSpans.{one_line};
 ghost use Rattle.cm_scan.specs.Pairing.{settled};
+ghost use Rattle.cm_inline.specs.steps.Runs.{byte_of};
 ghost use Rattle.cm_inline.specs.steps.Written.{autolink_html, written_html, IsBetween, IsWithin};
 ghost use Rattle.cm_inline.specs.steps.Nodes.{items_of, node_html, nodes_html, AreParts};
 ghost use Rattle.cm_inline.specs.steps.Groups.{Made, grouped, target_of, end_html, group_made, groups_made, node_of, nodes_of, nodes_in, start_html, AreBelow, AreGroups, ArePlaced, IsBelow, IsGroup, IsPlaced};
@@ -15,29 +16,31 @@ use crate::groups::{FirstGroups, Group, Kind, Making};
 use crate::nodes::Nodes;
 use crate::settling::group_inline;
 use crate::spare::Spare;
-use crate::tokens::{Token, opener_text, push_run};
+use crate::runs::DelimiterRun;
+use crate::tokens::{Token, opener_text};
 use crate::written::{Written, destination_of};
-use cm_html::{push_escaped, push_inline, push_link_start};
+use cm_html::{Pages, push_inline, push_link_start, push_shared_link_start};
 use cm_scan::is_next;
 use cm_text::{Chars, cut_at};
+use cm_tree::LinkTarget;
 use memchr::memchr;
 use std::alloc::{AllocError, Global};
 
 /// Adds the characters of a reference.
-fn push_chars(html: &mut String, chars: Chars) -> Result<(), AllocError>
-    ensures { OnOk result (string_bytes html.new ≡ string_bytes html.old ++ escape (encode_utf8_all (chars_of chars))) }
+fn push_chars(html: &mut Pages, chars: Chars) -> Result<(), AllocError>
+    ensures { OnOk result (html.new ≡ html.old ++ escape (encode_utf8_all (chars_of chars))) }
 {
     let mut bytes = [0; 4];
-    push_escaped(html, chars.first.encode_utf8(&mut bytes))?;
+    html.push_escaped(chars.first.encode_utf8(&mut bytes))?;
     if let Some(second) = chars.second {
-        push_escaped(html, second.encode_utf8(&mut bytes))?;
+        html.push_escaped(second.encode_utf8(&mut bytes))?;
     }
     Ok(())
 }
 
 /// Adds a code span, of whose text the line feeds become spaces.
-fn push_code_span(html: &mut String, text: &str) -> Result<(), AllocError>
-    ensures { OnOk result (string_bytes html.new ≡ string_bytes html.old ++ code_span_html (one_line text.now)) }
+fn push_code_span(html: &mut Pages, text: &str) -> Result<(), AllocError>
+    ensures { OnOk result (html.new ≡ html.old ++ code_span_html (one_line text.now)) }
 {
     html.push_str("<code>")?;
     push_one_line(html, text)?;
@@ -45,27 +48,27 @@ fn push_code_span(html: &mut String, text: &str) -> Result<(), AllocError>
 }
 
 /// Adds a text with its line feeds as spaces.
-fn push_one_line(html: &mut String, text: &str) -> Result<(), AllocError>
-    ensures { OnOk result (string_bytes html.new ≡ string_bytes html.old ++ escape (one_line text.now)) }
+fn push_one_line(html: &mut Pages, text: &str) -> Result<(), AllocError>
+    ensures { OnOk result (html.new ≡ html.old ++ escape (one_line text.now)) }
 {
     let mut rest = text;
     while let Some(at) = memchr(b'\n', rest.as_bytes()) {
         let (before, behind) = cut_at(rest, at);
-        push_escaped(html, before)?;
+        html.push_escaped(before)?;
         html.push_str(" ")?;
         rest = behind;
     }
-    push_escaped(html, rest)
+    html.push_escaped(rest)
 }
 
 /// Adds an autolink.
 fn push_autolink(
     alloc: Global,
-    html: &mut String,
+    html: &mut Pages,
     is_address: bool,
     text: &str,
 ) -> Result<(), AllocError>
-    ensures { OnOk result (string_bytes html.new ≡ string_bytes html.old ++ autolink_html is_address text.now) }
+    ensures { OnOk result (html.new ≡ html.old ++ autolink_html is_address text.now) }
 {
     if is_address {
         let dest = destination_of(alloc, is_address, text)?;
@@ -73,19 +76,19 @@ fn push_autolink(
     } else {
         push_link_start(html, text, "")?;
     }
-    push_escaped(html, text)?;
+    html.push_escaped(text)?;
     html.push_str("</a>")
 }
 
 /// Adds the HTML of an inline that stands by itself in the source.
 fn push_written(
     spare: &mut Spare,
-    html: &mut String,
+    html: &mut Pages,
     source: &str,
     written: Written,
 ) -> Result<(), AllocError>
     requires { IsWithin source.now written }
-    ensures { OnOk result (string_bytes html.new ≡ string_bytes html.old ++ written_html source.now written) }
+    ensures { OnOk result (html.new ≡ html.old ++ written_html source.now written) }
 {
     match written {
         Written::Code { from, to } => push_code_span(html, &source[from..to]),
@@ -100,11 +103,21 @@ fn push_written(
     }
 }
 
+/// Adds what is left of a delimiter run, of whose characters none is escaped.
+fn push_run(html: &mut Pages, run: DelimiterRun) -> Result<(), AllocError>
+    ensures { OnOk result (html.new ≡ html.old ++ replicate run.left (byte_of run.marker)) }
+{
+    for _ in 0..run.left {
+        html.push_str(run.marker.text())?;
+    }
+    Ok(())
+}
+
 /// Adds the HTML of a token.
 #[cycle(html)]
 fn push_token(
     spare: &mut Spare,
-    html: &mut String,
+    html: &mut Pages,
     source: &str,
     inside: &[Token],
     groups: &FirstGroups<'_>,
@@ -114,10 +127,10 @@ fn push_token(
     requires groups { AreGroups inside.now 0 groups.now }
     requires below { IsBelow (length groups.now) token }
     requires token { IsPlaced source.now token }
-    ensures { OnOk result (string_bytes html.new ≡ string_bytes html.old ++ node_html source.now (node_of (groups_made inside.now groups.now) token)) }
+    ensures { OnOk result (html.new ≡ html.old ++ node_html source.now (node_of (groups_made inside.now groups.now) token)) }
 {
     match token {
-        Token::Piece { from, to } => push_escaped(html, &source[from..to]),
+        Token::Piece { from, to } => html.push_escaped(&source[from..to]),
         Token::Characters(chars) => push_chars(html, chars),
         Token::Whole(written) => push_written(spare, html, source, written),
         Token::Made { number, .. } => push_group(
@@ -128,7 +141,6 @@ fn push_token(
             &groups.up_to(number),
             groups.get(number),
         ),
-        // Of the characters of runs and openers none is escaped.
         Token::Run(run) => push_run(html, run),
         Token::Opener { image, .. } => html.push_str(opener_text(image)),
     }
@@ -164,21 +176,21 @@ fn no_text(source: &str) -> (usize, usize)
 
 /// Adds the HTML of a text of the source, if there is any.
 #[inline(always)]
-fn push_text(html: &mut String, source: &str, from: usize, to: usize) -> Result<(), AllocError>
+fn push_text(html: &mut Pages, source: &str, from: usize, to: usize) -> Result<(), AllocError>
     requires { IsBetween source.now from to }
-    ensures { OnOk result (string_bytes html.new ≡ string_bytes html.old ++ escape (slice_range source.now from to)) }
+    ensures { OnOk result (html.new ≡ html.old ++ escape (slice_range source.now from to)) }
 {
     if from == to {
         return Ok(());
     }
-    push_escaped(html, &source[from..to])
+    html.push_escaped(&source[from..to])
 }
 
 /// Adds the HTML of a token. That of a piece of the source waits; its places are answered, or those of no text.
 #[cycle(html)]
 fn push_apart(
     spare: &mut Spare,
-    html: &mut String,
+    html: &mut Pages,
     source: &str,
     inside: &[Token],
     groups: &FirstGroups<'_>,
@@ -189,8 +201,8 @@ fn push_apart(
     requires below { IsBelow (length groups.now) token }
     requires token { IsPlaced source.now token }
     ensures between { IfOk result (λ waits. IsBetween source.now waits.0 waits.1) }
-    ensures html { IfOk result (λ waits. string_bytes html.new ++ escape (slice_range source.now waits.0 waits.1)
-        ≡ string_bytes html.old ++ node_html source.now (node_of (groups_made inside.now groups.now) token)) }
+    ensures html { IfOk result (λ waits. html.new ++ escape (slice_range source.now waits.0 waits.1)
+        ≡ html.old ++ node_html source.now (node_of (groups_made inside.now groups.now) token)) }
 {
     if let Token::Piece { from, to } = token {
         return Ok((from, to));
@@ -203,7 +215,7 @@ fn push_apart(
 #[cycle(html)]
 fn push_tokens(
     spare: &mut Spare,
-    html: &mut String,
+    html: &mut Pages,
     source: &str,
     inside: &[Token],
     groups: &FirstGroups<'_>,
@@ -213,7 +225,7 @@ fn push_tokens(
     requires groups { AreGroups inside.now 0 groups.now }
     requires below { AreBelow (length groups.now) tokens.now }
     requires tokens { ArePlaced source.now tokens.now }
-    ensures { OnOk result (string_bytes html.new ≡ string_bytes html.old ++ nodes_html source.now (nodes_of (groups_made inside.now groups.now) tokens.now)) }
+    ensures { OnOk result (html.new ≡ html.old ++ nodes_html source.now (nodes_of (groups_made inside.now groups.now) tokens.now)) }
 {
     let (mut from, mut to) = no_text(source);
     for token in tokens {
@@ -230,14 +242,17 @@ fn push_tokens(
 }
 
 /// Adds the start tag of emphasis or a link.
-fn push_start(html: &mut String, making: Making<'_>) -> Result<(), AllocError>
-    ensures { OnOk result (string_bytes html.new ≡ string_bytes html.old ++ start_html making.entry.kind (target_of making.entry)) }
+fn push_start(html: &mut Pages, making: Making<'_>) -> Result<(), AllocError>
+    ensures { OnOk result (html.new ≡ html.old ++ start_html making.entry.kind (target_of making.entry)) }
 {
     match making.kind {
         Kind::Emph => html.push_str("<em>"),
         Kind::Strong => html.push_str("<strong>"),
         Kind::Strike => html.push_str("<del>"),
-        Kind::Link => push_link_start(html, making.target.dest(), making.target.title()),
+        Kind::Link => match making.target {
+            LinkTarget::Plain { dest, title } => push_link_start(html, dest, title),
+            LinkTarget::Shared { dest, title } => push_shared_link_start(html, dest, title),
+        },
         Kind::Image => Ok(()),
     }
 }
@@ -259,7 +274,7 @@ fn end_tag(kind: Kind) -> &'static str
 #[cycle(html)]
 fn push_group(
     spare: &mut Spare,
-    html: &mut String,
+    html: &mut Pages,
     source: &str,
     inside: &[Token],
     groups: &FirstGroups<'_>,
@@ -268,7 +283,7 @@ fn push_group(
     requires placed { ArePlaced source.now inside.now }
     requires groups { AreGroups inside.now 0 groups.now }
     requires group { IsGroup inside.now (length groups.now) (grouped group) }
-    ensures { OnOk result (string_bytes html.new ≡ string_bytes html.old ++ (rendered (group_made inside.now (groups_made inside.now groups.now) (grouped group.entry) source.now)).html) }
+    ensures { OnOk result (html.new ≡ html.old ++ (rendered (group_made inside.now (groups_made inside.now groups.now) (grouped group.entry) source.now)).html) }
 {
     if let Kind::Image = group.making.kind {
         let image = group_inline(spare, source, inside, groups, group)?;
@@ -291,13 +306,13 @@ fn push_group(
 /// Adds the HTML of the inlines that come of nodes.
 pub(crate) fn push_nodes(
     spare: &mut Spare,
-    html: &mut String,
+    html: &mut Pages,
     source: &str,
     nodes: &Nodes,
 ) -> Result<(), AllocError>
     requires parts { AreParts source.now (nodes_in nodes.now) }
     requires placed { ArePlaced source.now nodes.now.inside }
-    ensures { OnOk result (string_bytes html.new ≡ string_bytes html.old ++ inlines_html (settled (items_of source.now (nodes_in nodes.now)))) }
+    ensures { OnOk result (html.new ≡ html.old ++ inlines_html (settled (items_of source.now (nodes_in nodes.now)))) }
 {
     push_tokens(
         spare,

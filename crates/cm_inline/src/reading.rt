@@ -27,6 +27,7 @@ use crate::pairing::pair_from;
 use crate::settling::settle;
 use crate::spare::Spare;
 use crate::tokens::Token;
+use cm_html::Pages;
 use cm_text::{Rules, next_markup};
 use cm_tree::{Block, Definitions, Inline, Items};
 use std::alloc::{AllocError, Global};
@@ -203,13 +204,13 @@ impl InlineReader {
     /// As `inlines`; a beginning of the HTML may have been added where a request for memory was refused.
     pub fn push_html(
         &mut self,
-        html: &mut String,
+        html: &mut Pages,
         rules: Rules,
         source: &str,
         definitions: &Definitions,
         limit: usize,
     ) -> Result<(), InlineFault>
-        ensures pushed { OnOk result (string_bytes html.new ≡ string_bytes html.old ++ inlines_html (inlines.inlines_of rules (defined_in definitions.now) source.now)) }
+        ensures pushed { OnOk result (html.new ≡ html.old ++ inlines_html (inlines.inlines_of rules (defined_in definitions.now) source.now)) }
         ensures within { OnOk result (inlines.nests_past rules (defined_in definitions.now) limit source.now ≡ false) }
         ensures refused { IfErr result (λ fault. Refused fault rules definitions.now limit source.now) }
     {

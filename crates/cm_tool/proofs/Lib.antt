@@ -8,7 +8,7 @@ pub mod LineLemmas
 pub mod MarkupLemmas
 pub mod OrderLemmas
 pub mod OwnerLemmas
-pub mod PageLemmas
+pub mod ConversionLemmas
 pub mod ParserLemmas
 pub mod PartLemmas
 pub mod ReadLemmas

@@ -4,7 +4,6 @@ ghost use Rattle.std.specs.Io.KnownBytes.{Consumes};
 ghost use Rattle.cm_tool.specs.Writing.{Converts};
 
 use crate::fault::Fault;
-use crate::pages::write_pages;
 use crate::reading::read_html;
 use cm_text::{Limits, Sink, Source};
 use std::alloc::Global;
@@ -30,5 +29,5 @@ pub fn convert<R: Source, W: Sink>(
         (record { taken = W.taken sink.new; failed = W.failed sink.new }) }
 {
     let html = read_html(alloc, source, limits)?;
-    Ok(write_pages(html.as_slice(), sink)?)
+    Ok(html.write(sink)?)
 }

@@ -13,7 +13,6 @@ pub mod laws;
 mod leaves;
 mod listing;
 mod outline_html;
-mod pages;
 mod parser;
 mod reading;
 mod reporting;

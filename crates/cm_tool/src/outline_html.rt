@@ -1,6 +1,5 @@
 //! The HTML of an outline's blocks, whose inlines are read as it is written.
-ghost use Rattle.std.specs.Prelude.{◌≡◌, ◌≤◌, ◌<◌, List, [], ◌∷◌, ◌++◌, map, option_map, string_bytes, IfOk, IfErr, OnOk, None};
-ghost use Rattle.std.specs.List.{concat};
+ghost use Rattle.std.specs.Prelude.{◌≡◌, ◌≤◌, ◌<◌, List, [], ◌∷◌, ◌++◌, map, option_map, IfOk, IfErr, OnOk, None};
 ghost use Rattle.cm_tree.specs.Depth.{inlines_depth};
 ghost use Rattle.cm_tree.specs.RawBlocks.{raw_inlines, block_in, blocks_in, items_in, IsPlaced, ArePlaced, AreItems};
 ghost use Rattle.cm_tool.specs.steps.Items.{items_read, items_leaf_depths};
@@ -16,13 +15,12 @@ ghost use Rattle.cm_tool.specs.steps.Numbering.{Passes, TellsLeaf};
 
 use crate::fault::Fault;
 use crate::leaves::{count_leaf, leaf_fault};
-use crate::pages::{add_page, new_page, turn_page};
 use cm_html::{
-    push_code, push_escaped, push_heading_end, push_heading_start, push_list_end, push_list_start,
+    Pages, push_code, push_heading_end, push_heading_start, push_list_end, push_list_start,
 };
 use cm_inline::{InlineFault, InlineReader, is_one_text};
 use cm_text::Limits;
-use cm_tree::{Definitions, Items, RawBlock, RawBlocks, RawItem, RawTree, Text};
+use cm_tree::{Definitions, RawBlock, RawBlocks, RawItem, RawTree};
 use std::alloc::Global;
 
 /// Adds the HTML of the inlines of a paragraph or heading with this source.
@@ -30,15 +28,15 @@ fn push_content(
     limits: Limits,
     definitions: &Definitions,
     reader: &mut InlineReader,
-    html: &mut String,
+    html: &mut Pages,
     source: &str,
 ) -> Result<(), InlineFault>
-    ensures pushed { OnOk result (string_bytes html.new ≡ string_bytes html.old ++ inlines_html (content_read limits.rules (defined_in definitions.now) (raw_inlines source.now))) }
+    ensures pushed { OnOk result (html.new ≡ html.old ++ inlines_html (content_read limits.rules (defined_in definitions.now) (raw_inlines source.now))) }
     ensures within { OnOk result (inlines_depth (content_read limits.rules (defined_in definitions.now) (raw_inlines source.now)) ≤ limits.inlines) }
     ensures deep { IfErr result (λ fault. fault ≡ inline_faults.InlinesTooDeep → limits.inlines < inlines_depth (content_read limits.rules (defined_in definitions.now) (raw_inlines source.now))) }
 {
     if is_one_text(source) {
-        push_escaped(html, source)?;
+        html.push_escaped(source)?;
         return Ok(());
     }
     reader.push_html(html, limits.rules(), source, definitions, limits.inlines())
@@ -50,10 +48,10 @@ fn push_leaf(
     definitions: &Definitions,
     reader: &mut InlineReader,
     next: &mut usize,
-    html: &mut String,
+    html: &mut Pages,
     source: &str,
 ) -> Result<(), Fault>
-    ensures pushed { OnOk result (string_bytes html.new ≡ string_bytes html.old ++ inlines_html (content_read limits.rules (defined_in definitions.now) (raw_inlines source.now))) }
+    ensures pushed { OnOk result (html.new ≡ html.old ++ inlines_html (content_read limits.rules (defined_in definitions.now) (raw_inlines source.now))) }
     ensures passes { OnOk result (Passes limits.inlines next.old next.new (inlines_depth (content_read limits.rules (defined_in definitions.now) (raw_inlines source.now)) ∷ [])) }
     ensures told { IfErr result (λ fault. TellsLeaf fault limits.inlines next.old (inlines_depth (content_read limits.rules (defined_in definitions.now) (raw_inlines source.now)) ∷ [])) }
 {
@@ -72,11 +70,11 @@ fn push_blocks(
     raw: &RawBlocks,
     reader: &mut InlineReader,
     next: &mut usize,
-    html: &mut String,
+    html: &mut Pages,
     blocks: &[RawBlock],
 ) -> Result<(), Fault>
     requires { ArePlaced raw.now blocks.now }
-    ensures pushed { OnOk result (string_bytes html.new ≡ string_bytes html.old ++ html_of (with_inlines limits.rules (defined_in definitions.now) (blocks_in raw.now blocks.now))) }
+    ensures pushed { OnOk result (html.new ≡ html.old ++ html_of (with_inlines limits.rules (defined_in definitions.now) (blocks_in raw.now blocks.now))) }
     ensures passes { OnOk result (Passes limits.inlines next.old next.new (leaf_depths (with_inlines limits.rules (defined_in definitions.now) (blocks_in raw.now blocks.now)))) }
     ensures told { IfErr result (λ fault. TellsLeaf fault limits.inlines next.old (leaf_depths (with_inlines limits.rules (defined_in definitions.now) (blocks_in raw.now blocks.now)))) }
 {
@@ -94,11 +92,11 @@ fn push_block(
     raw: &RawBlocks,
     reader: &mut InlineReader,
     next: &mut usize,
-    html: &mut String,
+    html: &mut Pages,
     block: RawBlock,
 ) -> Result<(), Fault>
     requires { IsPlaced raw.now block }
-    ensures pushed { OnOk result (string_bytes html.new ≡ string_bytes html.old ++ alone (written (block_read limits.rules (defined_in definitions.now) (block_in raw.now block)))) }
+    ensures pushed { OnOk result (html.new ≡ html.old ++ alone (written (block_read limits.rules (defined_in definitions.now) (block_in raw.now block)))) }
     ensures passes { OnOk result (Passes limits.inlines next.old next.new (depths_in (block_read limits.rules (defined_in definitions.now) (block_in raw.now block)))) }
     ensures told { IfErr result (λ fault. TellsLeaf fault limits.inlines next.old (depths_in (block_read limits.rules (defined_in definitions.now) (block_in raw.now block)))) }
 {
@@ -179,12 +177,12 @@ fn push_items(
     raw: &RawBlocks,
     reader: &mut InlineReader,
     next: &mut usize,
-    html: &mut String,
+    html: &mut Pages,
     tight: bool,
     items: &[RawItem],
 ) -> Result<(), Fault>
     requires { AreItems raw.now items.now }
-    ensures pushed { OnOk result (string_bytes html.new ≡ string_bytes html.old ++ items_html tight (map (map written) (items_read limits.rules (defined_in definitions.now) (items_in raw.now items.now)))) }
+    ensures pushed { OnOk result (html.new ≡ html.old ++ items_html tight (map (map written) (items_read limits.rules (defined_in definitions.now) (items_in raw.now items.now)))) }
     ensures passes { OnOk result (Passes limits.inlines next.old next.new (items_leaf_depths (items_read limits.rules (defined_in definitions.now) (items_in raw.now items.now)))) }
     ensures told { IfErr result (λ fault. TellsLeaf fault limits.inlines next.old (items_leaf_depths (items_read limits.rules (defined_in definitions.now) (items_in raw.now items.now)))) }
 {
@@ -211,12 +209,12 @@ fn push_item(
     raw: &RawBlocks,
     reader: &mut InlineReader,
     next: &mut usize,
-    html: &mut String,
+    html: &mut Pages,
     tight: bool,
     blocks: &[RawBlock],
 ) -> Result<(), Fault>
     requires { ArePlaced raw.now blocks.now }
-    ensures pushed { OnOk result (string_bytes html.new ≡ string_bytes html.old ++ item_html tight (map written (with_inlines limits.rules (defined_in definitions.now) (blocks_in raw.now blocks.now)))) }
+    ensures pushed { OnOk result (html.new ≡ html.old ++ item_html tight (map written (with_inlines limits.rules (defined_in definitions.now) (blocks_in raw.now blocks.now)))) }
     ensures passes { OnOk result (Passes limits.inlines next.old next.new (leaf_depths (with_inlines limits.rules (defined_in definitions.now) (blocks_in raw.now blocks.now)))) }
     ensures told { IfErr result (λ fault. TellsLeaf fault limits.inlines next.old (leaf_depths (with_inlines limits.rules (defined_in definitions.now) (blocks_in raw.now blocks.now)))) }
 {
@@ -248,14 +246,14 @@ fn push_part(
     raw: &RawBlocks,
     reader: &mut InlineReader,
     next: &mut usize,
-    html: &mut String,
+    html: &mut Pages,
     tight: bool,
     fresh: bool,
     block: RawBlock,
 ) -> Result<bool, Fault>
     requires { IsPlaced raw.now block }
-    ensures pushed { IfOk result (λ mark. (others : List Written) → string_bytes html.new ++ inside_from tight mark others ≡
-        string_bytes html.old ++ inside_from tight fresh (written (block_read limits.rules (defined_in definitions.now) (block_in raw.now block)) ∷ others)) }
+    ensures pushed { IfOk result (λ mark. (others : List Written) → html.new ++ inside_from tight mark others ≡
+        html.old ++ inside_from tight fresh (written (block_read limits.rules (defined_in definitions.now) (block_in raw.now block)) ∷ others)) }
     ensures passes { OnOk result (Passes limits.inlines next.old next.new (depths_in (block_read limits.rules (defined_in definitions.now) (block_in raw.now block)))) }
     ensures told { IfErr result (λ fault. TellsLeaf fault limits.inlines next.old (depths_in (block_read limits.rules (defined_in definitions.now) (block_in raw.now block)))) }
 {
@@ -288,12 +286,12 @@ fn push_apart(
     raw: &RawBlocks,
     reader: &mut InlineReader,
     next: &mut usize,
-    html: &mut String,
+    html: &mut Pages,
     fresh: bool,
     block: RawBlock,
 ) -> Result<(), Fault>
     requires { IsPlaced raw.now block }
-    ensures pushed { OnOk result (string_bytes html.new ≡ string_bytes html.old ++ (line_feed fresh ++ alone (written (block_read limits.rules (defined_in definitions.now) (block_in raw.now block))))) }
+    ensures pushed { OnOk result (html.new ≡ html.old ++ (line_feed fresh ++ alone (written (block_read limits.rules (defined_in definitions.now) (block_in raw.now block))))) }
     ensures passes { OnOk result (Passes limits.inlines next.old next.new (depths_in (block_read limits.rules (defined_in definitions.now) (block_in raw.now block)))) }
     ensures told { IfErr result (λ fault. TellsLeaf fault limits.inlines next.old (depths_in (block_read limits.rules (defined_in definitions.now) (block_in raw.now block)))) }
 {
@@ -310,14 +308,13 @@ fn pages_of(
     definitions: &Definitions,
     raw: &RawBlocks,
     blocks: &[RawBlock],
-) -> Result<Items<Text>, Fault>
+) -> Result<Pages, Fault>
     requires { ArePlaced raw.now blocks.now }
-    ensures html { IfOk result (λ pages. concat pages ≡ html_of (with_inlines limits.rules (defined_in definitions.now) (blocks_in raw.now blocks.now))) }
+    ensures html { IfOk result (λ pages. pages ≡ html_of (with_inlines limits.rules (defined_in definitions.now) (blocks_in raw.now blocks.now))) }
     ensures within { IfOk result (λ _. first_leaf_past limits.inlines (with_inlines limits.rules (defined_in definitions.now) (blocks_in raw.now blocks.now)) ≡ None) }
     ensures told { IfErr result (λ fault. TellsFault fault (option_map faults.InlinesTooDeep (first_leaf_past limits.inlines (with_inlines limits.rules (defined_in definitions.now) (blocks_in raw.now blocks.now))))) }
 {
-    let mut pages = Items::new(alloc);
-    let mut page = new_page(alloc)?;
+    let mut pages = Pages::new(alloc)?;
     let mut reader = InlineReader::new(alloc);
     let mut next = 1;
     for block in blocks {
@@ -327,12 +324,11 @@ fn pages_of(
             raw,
             &mut reader,
             &mut next,
-            &mut page,
+            &mut pages,
             *block,
         )?;
-        turn_page(alloc, &mut pages, &mut page)?;
+        pages.turn()?;
     }
-    add_page(&mut pages, page)?;
     Ok(pages)
 }
 
@@ -347,8 +343,8 @@ pub(crate) fn leaves_html(
     limits: Limits,
     definitions: &Definitions,
     blocks: RawTree,
-) -> Result<Items<Text>, Fault>
-    ensures html { IfOk result (λ pages. concat pages ≡ html_of (with_inlines limits.rules (defined_in definitions.now) blocks)) }
+) -> Result<Pages, Fault>
+    ensures html { IfOk result (λ pages. pages ≡ html_of (with_inlines limits.rules (defined_in definitions.now) blocks)) }
     ensures within { IfOk result (λ _. first_leaf_past limits.inlines (with_inlines limits.rules (defined_in definitions.now) blocks) ≡ None) }
     ensures told { IfErr result (λ fault. TellsFault fault (option_map faults.InlinesTooDeep (first_leaf_past limits.inlines (with_inlines limits.rules (defined_in definitions.now) blocks)))) }
 {

@@ -1,6 +1,5 @@
 //! A document that comes in pieces.
 ghost use Rattle.std.specs.Prelude.{◌≡◌, ◌≢◌, ℕ, ◌+◌, ◌≤◌, List, [], ◌++◌, length, IfOk, IfErr, OnOk, Some, None, Err, false};
-ghost use Rattle.std.specs.List.{concat};
 ghost use Rattle.cm_text.specs.Answers.{answer_after};
 ghost use Rattle.cm_text.specs.Limits.{LimitsView};
 ghost use Rattle.cm_text.specs.Lines.{LineView};
@@ -22,8 +21,9 @@ use crate::outline_html::leaves_html;
 use crate::sources::leaves_source;
 use cm_block::{BlockFault, BlockParser, Outline};
 use cm_source::Why;
+use cm_html::Pages;
 use cm_text::{Limits, LineBuffer, TextFault};
-use cm_tree::{Doc, Items, Text};
+use cm_tree::Doc;
 use std::alloc::Global;
 use std::marker::Model;
 
@@ -100,9 +100,9 @@ impl Parser {
     }
 
     /// The HTML of the document in pages, where the bytes so far are all.
-    pub(crate) fn finish_html(self) -> Result<Items<Text>, Fault>
+    pub(crate) fn finish_html(self) -> Result<Pages, Fault>
         ensures { (limits : LimitsView) (bytes : List ℕ) → StandsFor limits self bytes →
-            Makes (λ pages. concat pages ≡ converted limits.rules bytes) result limits bytes }
+            Makes (λ pages. pages ≡ converted limits.rules bytes) result limits bytes }
     {
         let Parser {
             alloc,
@@ -215,10 +215,10 @@ fn finish(alloc: Global, feed: LineBuffer, blocks: BlockParser) -> Result<Doc, F
 }
 
 /// The HTML of the bytes' document in pages.
-fn finish_html(alloc: Global, feed: LineBuffer, blocks: BlockParser) -> Result<Items<Text>, Fault>
+fn finish_html(alloc: Global, feed: LineBuffer, blocks: BlockParser) -> Result<Pages, Fault>
     requires { feed.ended ≡ false }
     ensures { (limits : LimitsView) (bytes : List ℕ) → Goes limits feed blocks bytes →
-        Makes (λ pages. concat pages ≡ converted limits.rules bytes) result limits bytes }
+        Makes (λ pages. pages ≡ converted limits.rules bytes) result limits bytes }
 {
     let limits = blocks.limits();
     let Outline {

@@ -1,7 +1,6 @@
 //! Reading a source to its end.
 ghost use Rattle.std.specs.Prelude.{◌≡◌, ℕ, ◌-◌, ◌^◌, ◌<◌, List, IfOk, length};
 ghost use Rattle.std.specs.Io.KnownBytes.{Consumes};
-ghost use Rattle.std.specs.List.{concat};
 ghost use Rattle.cm_tool.specs.Reading.{Reads};
 ghost use Rattle.cm_tool.specs.Rewriting.{kept_tree};
 ghost use Rattle.cm_tool.specs.Writing.{converted};
@@ -11,8 +10,9 @@ ghost use Rattle.cm_tool.specs.steps.Sources.{Spelled};
 use crate::fault::Fault;
 use crate::parser::{PART, Parser};
 use cm_source::Why;
+use cm_html::Pages;
 use cm_text::{Limits, Source};
-use cm_tree::{Doc, Items, Text};
+use cm_tree::Doc;
 use std::alloc::{AllocError, Global};
 
 pub(crate) fn zeros(alloc: Global, count: usize) -> Result<Vec<u8>, AllocError>
@@ -41,10 +41,10 @@ pub(crate) fn read_html<R: Source>(
     alloc: Global,
     source: &mut R,
     limits: Limits,
-) -> Result<Items<Text>, Fault>
+) -> Result<Pages, Fault>
     requires { R.failed source.old < 2 ^ 64 - 1 }
     ensures { (bytes : List ℕ) × Consumes (R.remaining source.old) (R.remaining source.new) bytes
-        × ReadsAs (λ pages. concat pages ≡ converted limits.rules bytes) result limits bytes
+        × ReadsAs (λ pages. pages ≡ converted limits.rules bytes) result limits bytes
         (record { remaining = R.remaining source.old; failed = R.failed source.old })
         (record { remaining = R.remaining source.new; failed = R.failed source.new }) }
 {

@@ -1,4 +1,4 @@
-use Rattle.std.proofs.Common.{◌≡◌, ◌++◌, ◌+◌, ◌<◌, length, string_bytes, take, drop, sym, ap, subst, ◌∙◌, arith}
+use Rattle.std.proofs.Common.{◌≡◌, ◌++◌, ◌+◌, ◌<◌, length, take, drop, sym, ap, subst, ◌∙◌, arith}
 use Rattle.std.specs.Prelude.{OnOk}
 use Rattle.std.specs.List.{slice_range}
 use Rattle.std.proofs.lemmas.List.{drop_more, drop_all, length-take-le}
@@ -22,11 +22,11 @@ push_group-returns t c =
     let group = c.args.group in
     let inside = c.args.inside.now in
     let nodes = nodes_of (groups_made inside c.args.groups.now) (slice_range inside group.from group.to) in
-    let html = string_bytes c.args.html.now in
-    let started = string_bytes c.push_start.new.html in
-    let noded = string_bytes c.push_tokens.new.html in
+    let html = c.args.html.now in
+    let started = c.push_start.new.html in
+    let noded = c.push_tokens.new.html in
     let written = group-html c.args.source.now html started noded group.making.kind (target_of group.making) nodes c.end_tag.result.now c.in_default.not-Image (c.in_ok-push_start.ensures) (c.in_ok-push_tokens.ensures) c.end_tag.ensures in
-    grind (arith, written, c.push_str.ensures.bytes)
+    grind (arith, written, c.push_str.ensures)
 
 pub push_token-push_group-requires : goal.push_token-push_group-requires
 push_token-push_group-requires t c =
@@ -52,10 +52,10 @@ push_token-returns-in-Made t c =
     let group = grouped c.get.result in
     let same = made-at inside groups number group low c.get.ensures ∙ ap (λ gs. group_made inside (groups_made inside gs) group) (sym c.up_to.ensures) in
     let whole = sym (ap (λ token. node_html source (node_of (groups_made inside groups) token)) c.in-Made.is ∙ ap (λ made. (rendered (made source)).html) same) in
-    subst (λ html. OnOk c.push_group.result (string_bytes c.push_group.new.html ≡ string_bytes c.args.html.now ++ html)) whole c.push_group.ensures
+    subst (λ html. OnOk c.push_group.result (c.push_group.new.html ≡ c.args.html.now ++ html)) whole c.push_group.ensures
 
 pub push_tokens-loop-token-init : goal.push_tokens-loop-token-init
-push_tokens-loop-token-init t c = record { waits = c.no_text-from.ensures.between; html = ap (λ text. string_bytes c.args.html.now ++ (escape text ++ nodes_html c.args.source.now (nodes_of (groups_made c.args.inside.now c.args.groups.now) c.args.tokens.now))) c.no_text-from.ensures.none; below = c.requires.1.1.1.1.0; placed = c.requires.1.1.1.1.1 }
+push_tokens-loop-token-init t c = record { waits = c.no_text-from.ensures.between; html = ap (λ text. c.args.html.now ++ (escape text ++ nodes_html c.args.source.now (nodes_of (groups_made c.args.inside.now c.args.groups.now) c.args.tokens.now))) c.no_text-from.ensures.none; below = c.requires.1.1.1.1.0; placed = c.requires.1.1.1.1.1 }
 
 pub push_tokens-text_ahead-requires : goal.push_tokens-text_ahead-requires
 push_tokens-text_ahead-requires t c =
@@ -82,7 +82,7 @@ push_tokens-loop-token-preserved-in-Some t c =
     let waits = c.loop-token.invariant.waits in
     record {
       waits = (omega (arith, waits.0, c.in-Some.ensures.between.0), waits.1, c.in-Some.ensures.between.2);
-      html = text-further source (string_bytes c.loop-token.html) c.loop-token.from c.loop-token.to c.in-Some.end made _ (drop at tokens) (drop (at + 1) tokens) _ waits.0 c.in-Some.ensures.between.0 step
+      html = text-further source c.loop-token.html c.loop-token.from c.loop-token.to c.in-Some.end made _ (drop at tokens) (drop (at + 1) tokens) _ waits.0 c.in-Some.ensures.between.0 step
           (c.in-Some.ensures.html made) c.loop-token.invariant.html;
       below = (subst (AreBelow (length c.args.groups.now)) step c.loop-token.invariant.below).1;
       placed = (subst (ArePlaced source) step c.loop-token.invariant.placed).1;
@@ -97,7 +97,7 @@ push_tokens-loop-token-preserved t c =
     let made = groups_made c.args.inside.now c.args.groups.now in
     record {
       waits = c.in_ok-waits.ensures.between;
-      html = text-written source (string_bytes c.loop-token.html) (string_bytes c.push_text.new.html) (string_bytes c.push_apart.new.html) (slice_range source c.loop-token.from c.loop-token.to) (slice_range source c.in_ok-waits.waits.0 c.in_ok-waits.waits.1) made _ (drop at tokens) (drop (at + 1) tokens) _ step
+      html = text-written source c.loop-token.html c.push_text.new.html c.push_apart.new.html (slice_range source c.loop-token.from c.loop-token.to) (slice_range source c.in_ok-waits.waits.0 c.in_ok-waits.waits.1) made _ (drop at tokens) (drop (at + 1) tokens) _ step
           c.in_ok-push_text.ensures c.in_ok-waits.ensures.html c.loop-token.invariant.html;
       below = (subst (AreBelow (length c.args.groups.now)) step c.loop-token.invariant.below).1;
       placed = (subst (ArePlaced source) step c.loop-token.invariant.placed).1;
@@ -108,4 +108,4 @@ push_tokens-returns t c =
     let none = drop_all c.loop-token.token-index c.args.tokens.now c.loop-token-test.false in
     let made = groups_made c.args.inside.now c.args.groups.now in
     on-ok c.push_text-2.result c.push_text-2.ensures
-    (λ written. text-last c.args.source.now (string_bytes c.loop-token.html) (string_bytes c.push_text-2.new.html) (slice_range c.args.source.now c.loop-token.from c.loop-token.to) made _ _ none written c.loop-token.invariant.html)
+    (λ written. text-last c.args.source.now c.loop-token.html c.push_text-2.new.html (slice_range c.args.source.now c.loop-token.from c.loop-token.to) made _ _ none written c.loop-token.invariant.html)

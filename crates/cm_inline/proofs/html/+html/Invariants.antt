@@ -1,4 +1,4 @@
-use Rattle.std.proofs.Common.{◌≡◌, ◌++◌, ◌+◌, ◌*◌, length, string_bytes, drop}
+use Rattle.std.proofs.Common.{◌≡◌, ◌++◌, ◌+◌, ◌*◌, length, drop}
 use Rattle.std.specs.List.{slice_range}
 use Rattle.cm_html.specs.Escape.{escape}
 use Rattle.cm_inline.specs.steps.Nodes.{nodes_html}
@@ -25,7 +25,7 @@ invariant-push_tokens-loop-token l =
     let made = groups_made l.inside l.groups in
     record {
       waits : IsBetween l.source l.from l.to;
-      html : string_bytes l.html ++ (escape (slice_range l.source l.from l.to) ++ nodes_html l.source (nodes_of made (drop l.token-index l.tokens))) ≡ string_bytes l.initial.html ++ nodes_html l.source (nodes_of made l.tokens);
+      html : l.html ++ (escape (slice_range l.source l.from l.to) ++ nodes_html l.source (nodes_of made (drop l.token-index l.tokens))) ≡ l.initial.html ++ nodes_html l.source (nodes_of made l.tokens);
       below : AreBelow (length l.groups) (drop l.token-index l.tokens);
       placed : ArePlaced l.source (drop l.token-index l.tokens);
     }

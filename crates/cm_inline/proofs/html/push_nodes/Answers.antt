@@ -1,4 +1,4 @@
-use Rattle.std.proofs.Common.{◌≡◌, ◌++◌, string_bytes, sym, ap, subst, ◌∙◌}
+use Rattle.std.proofs.Common.{◌≡◌, ◌++◌, sym, ap, subst, ◌∙◌}
 use Rattle.std.specs.Prelude.{OnOk}
 use Rattle.cm_inline.specs.steps.Nodes.{nodes_html, AreParts}
 use Rattle.cm_inline.specs.steps.Groups.{groups_made, nodes_in, nodes_of, ArePlaced}
@@ -17,9 +17,9 @@ pub returns : goal.returns
 returns c =
     let source = c.args.source.now in
     let held = c.args.nodes.now in
-    let before = string_bytes c.args.html.now in
+    let before = c.args.html.now in
     let same = ap (λ inside. nodes_of (groups_made inside c.groups.result) c.tokens.result.now) c.inside.ensures
     ∙ ap (λ groups. nodes_of (groups_made held.inside groups) c.tokens.result.now) c.groups.ensures.groups
     ∙ ap (nodes_of (groups_made held.inside held.groups)) c.tokens.ensures.tokens ∙ sym (nodes-in held) in
     let whole = ap (nodes_html source) same ∙ sym (settled-html source (nodes_in held)) in
-    subst (λ html. OnOk c.push_tokens.result (string_bytes c.push_tokens.new.html ≡ before ++ html)) whole c.push_tokens.ensures
+    subst (λ html. OnOk c.push_tokens.result (c.push_tokens.new.html ≡ before ++ html)) whole c.push_tokens.ensures

@@ -1,4 +1,4 @@
-use Rattle.std.proofs.Common.{◌≡◌, ◌++◌, ◌∷◌, [], string_bytes, sym, ap, subst, ◌∙◌, arith}
+use Rattle.std.proofs.Common.{◌≡◌, ◌++◌, ◌∷◌, [], sym, ap, subst, ◌∙◌, arith}
 use Rattle.std.specs.Prelude.{OnOk}
 use Rattle.cm_html.specs.Escape.{escape}
 use Rattle.cm_scan.specs.CodeSpans.{one_line}
@@ -9,11 +9,11 @@ use Rattle.cm_inline.proofs.html.push_one_line.Goals as goal
 pub loop-at-preserved : goal.loop-at-preserved
 loop-at-preserved c =
     let bytes = c.as_bytes.result.now in
-    let html = string_bytes c.loop-at.html in
+    let html = c.loop-at.html in
     let first = c.in-Some.ensures in
     let cut = line-feed bytes c.in-Some.at first.0.high first.1 first.0.before in (
       c.cut_at.ensures.after_utf8,
-      ap (λ t. t ++ escape (one_line c.cut_at.result.1.now)) (c.in_ok-push_str.ensures.bytes ∙ ap (λ t. t ++ 32 ∷ []) c.in_ok-push_escaped.ensures)
+      ap (λ t. t ++ escape (one_line c.cut_at.result.1.now)) (c.in_ok-push_str.ensures ∙ ap (λ t. t ++ 32 ∷ []) c.in_ok-push_escaped.ensures)
           ∙ line-html html c.cut_at.result.0.now c.cut_at.result.1.now (one_line c.loop-at.rest.now) (grind (arith, cut, c.cut_at.ensures.before, c.cut_at.ensures.after, c.as_bytes.ensures.value))
           ∙ c.loop-at.invariant.1,
     )
@@ -22,4 +22,4 @@ pub returns : goal.returns
 returns c =
     let whole = line-whole c.as_bytes.result.now c.in_default.ensures in
     let rest = sym c.as_bytes.ensures.value ∙ whole ∙ ap one_line c.as_bytes.ensures.value in
-    subst (λ t. OnOk c.push_escaped-2.result (string_bytes c.push_escaped-2.new.out ≡ t)) (ap (λ t. string_bytes c.loop-at.html ++ escape t) rest ∙ c.loop-at.invariant.1) c.push_escaped-2.ensures
+    subst (λ t. OnOk c.push_escaped-2.result (c.push_escaped-2.new.self ≡ t)) (ap (λ t. c.loop-at.html ++ escape t) rest ∙ c.loop-at.invariant.1) c.push_escaped-2.ensures

@@ -1,4 +1,4 @@
-use Rattle.std.proofs.Common.{◌≡◌, ◌++◌, length, string_bytes}
+use Rattle.std.proofs.Common.{◌≡◌, ◌++◌, length}
 use denote.Text.{Utf8}
 use denote.Shadow.{shadow}
 use Rattle.cm_html.specs.Escape.{escape}
@@ -7,7 +7,7 @@ use Rattle.cm_inline.proofs.html.push_one_line.Given as goal
 
 -- what was added, and what the rest adds, come to the whole
 abbrev pub invariant-loop-at : goal.invariant-loop-at
-invariant-loop-at l = shadow (Utf8 l.rest) × (string_bytes l.html ++ escape (one_line l.rest) ≡ string_bytes l.initial.html ++ escape (one_line l.text))
+invariant-loop-at l = shadow (Utf8 l.rest) × (l.html ++ escape (one_line l.rest) ≡ l.initial.html ++ escape (one_line l.text))
 
 abbrev pub decreases-loop-at : goal.decreases-loop-at
 decreases-loop-at l = length l.rest

@@ -1,4 +1,4 @@
-use Rattle.std.proofs.Common.{◌++◌, string_bytes, sym, ap, ◌∙◌}
+use Rattle.std.proofs.Common.{◌++◌, sym, ap, ◌∙◌}
 use Rattle.std.proofs.lemmas.List.{append-nil}
 use Rattle.cm_html.specs.Escape.{escape}
 use Rattle.cm_inline.proofs.HtmlLemmas.{slice-none}
@@ -6,4 +6,4 @@ use Rattle.cm_inline.proofs.html.push_text.Goals as goal
 
 pub returns-then-from-to : goal.returns-then-from-to
 returns-then-from-to c =
-    sym (ap (λ text. string_bytes c.args.html.now ++ escape text) (slice-none c.args.source.now c.args.from c.args.to c.if-from-to.true) ∙ append-nil (string_bytes c.args.html.now))
+    sym (ap (λ text. c.args.html.now ++ escape text) (slice-none c.args.source.now c.args.from c.args.to c.if-from-to.true) ∙ append-nil c.args.html.now)

@@ -1,4 +1,4 @@
-use Rattle.std.proofs.Common.{◌≡◌, ◌∙◌, ◌++◌, ap, sym, subst, append-nil, arith, codes, string_bytes}
+use Rattle.std.proofs.Common.{◌≡◌, ◌∙◌, ◌++◌, ap, sym, subst, append-nil, arith, codes}
 use Rattle.std.specs.Prelude.{map}
 use Rattle.std.proofs.lemmas.List.{drop_all, drop_more}
 use Rattle.std.proofs.lemmas.Result.{err_from_is_err_and}
@@ -103,8 +103,8 @@ push_block-returns-in_ok-push_str-in-Paragraph-2-clause-pushed t c =
     let is = paragraph_in raw block c.in-Paragraph.from c.in-Paragraph.to c.text.result.now c.in-Paragraph.is c.text.ensures in
     let content = raw_inlines c.text.result.now in
     let same = ap (λ b. written (block_read rules defined b)) is ∙ paragraph_written rules defined content in
-    enclosed (string_bytes c.args.html.now) (string_bytes c.push_str.new.self) (string_bytes c.push_leaf.new.html) (string_bytes c.push_str-in-Paragraph.new.self) (codes "<p>") (inlines_html (content_read rules defined content)) (codes "</p>\n")
-    c.in_ok-push_str-in-Paragraph.ensures.bytes c.in_ok-push_leaf-in-Paragraph.ensures.pushed c.in_ok-push_str-in-Paragraph-2.ensures.bytes ∙ ap (λ w. string_bytes c.args.html.now ++ alone w) (sym same)
+    enclosed c.args.html.now c.push_str.new.self c.push_leaf.new.html c.push_str-in-Paragraph.new.self (codes "<p>") (inlines_html (content_read rules defined content)) (codes "</p>\n")
+    c.in_ok-push_str-in-Paragraph.ensures c.in_ok-push_leaf-in-Paragraph.ensures.pushed c.in_ok-push_str-in-Paragraph-2.ensures ∙ ap (λ w. c.args.html.now ++ alone w) (sym same)
 
 pub push_block-returns-in_ok-push_str-in-Paragraph-2-clause-passes : goal.push_block-returns-in_ok-push_str-in-Paragraph-2-clause-passes
 push_block-returns-in_ok-push_str-in-Paragraph-2-clause-passes t c =
@@ -128,8 +128,8 @@ push_block-returns-in_ok-push_heading_end-in-Heading-clause-pushed t c =
     let is = heading_in raw block c.in-Heading.level c.in-Heading.from c.in-Heading.to c.text-in-Heading.result.now c.in-Heading.is c.text-in-Heading.ensures in
     let content = raw_inlines c.text-in-Heading.result.now in
     let same = ap (λ b. written (block_read rules defined b)) is ∙ heading_written rules defined c.in-Heading.level content in
-    enclosed (string_bytes c.args.html.now) (string_bytes c.push_heading_start.new.out) (string_bytes c.push_leaf-in-Heading.new.html) (string_bytes c.push_heading_end.new.out) (heading_start c.in-Heading.level) (inlines_html (content_read rules defined content)) (heading_end c.in-Heading.level)
-    c.in_ok-push_heading_start-in-Heading.ensures c.in_ok-push_leaf-in-Heading.ensures.pushed c.in_ok-push_heading_end-in-Heading.ensures ∙ ap (λ w. string_bytes c.args.html.now ++ alone w) (sym same)
+    enclosed c.args.html.now c.push_heading_start.new.out c.push_leaf-in-Heading.new.html c.push_heading_end.new.out (heading_start c.in-Heading.level) (inlines_html (content_read rules defined content)) (heading_end c.in-Heading.level)
+    c.in_ok-push_heading_start-in-Heading.ensures c.in_ok-push_leaf-in-Heading.ensures.pushed c.in_ok-push_heading_end-in-Heading.ensures ∙ ap (λ w. c.args.html.now ++ alone w) (sym same)
 
 pub push_block-returns-in_ok-push_heading_end-in-Heading-clause-passes : goal.push_block-returns-in_ok-push_heading_end-in-Heading-clause-passes
 push_block-returns-in_ok-push_heading_end-in-Heading-clause-passes t c =
@@ -154,7 +154,7 @@ push_block-returns-in_ok-push_code-in-Code-clause-pushed t c =
     let text = c.text-in-Code-2.result.now in
     let is = code_in raw block c.in-Code.info c.in-Code.text c.in-Code.to info text c.in-Code.is c.text-in-Code.ensures c.text-in-Code-2.ensures in
     let same = ap (λ b. written (block_read rules defined b)) is ∙ code_written rules defined info text in
-    c.in_ok-push_code-in-Code.ensures ∙ ap (λ w. string_bytes c.args.html.now ++ alone w) (sym same)
+    c.in_ok-push_code-in-Code.ensures ∙ ap (λ w. c.args.html.now ++ alone w) (sym same)
 
 pub push_block-returns-in_ok-push_code-in-Code-clause-passes : goal.push_block-returns-in_ok-push_code-in-Code-clause-passes
 push_block-returns-in_ok-push_code-in-Code-clause-passes t c =
@@ -179,7 +179,7 @@ push_block-returns-in_ok-push_str-in-Html-clause-pushed t c =
     let text = c.text-in-Html.result.now in
     let is = html_in raw block c.in-Html.from c.in-Html.to text c.in-Html.is c.text-in-Html.ensures in
     let same = ap (λ b. written (block_read rules defined b)) is ∙ html_written rules defined text in
-    c.in_ok-push_str-in-Html.ensures.bytes ∙ ap (λ w. string_bytes c.args.html.now ++ alone w) (sym same)
+    c.in_ok-push_str-in-Html.ensures ∙ ap (λ w. c.args.html.now ++ alone w) (sym same)
 
 pub push_block-returns-in_ok-push_str-in-Html-clause-passes : goal.push_block-returns-in_ok-push_str-in-Html-clause-passes
 push_block-returns-in_ok-push_str-in-Html-clause-passes t c =
@@ -202,7 +202,7 @@ push_block-returns-in_ok-push_str-in-Break-clause-pushed t c =
     let block = c.args.block in
     let is = ap (block_in raw) c.in-Break.is in
     let same = ap (λ b. written (block_read rules defined b)) is ∙ break_written rules defined in
-    c.in_ok-push_str-in-Break.ensures.bytes ∙ ap (λ w. string_bytes c.args.html.now ++ alone w) (sym same)
+    c.in_ok-push_str-in-Break.ensures ∙ ap (λ w. c.args.html.now ++ alone w) (sym same)
 
 pub push_block-returns-in_ok-push_str-in-Break-clause-passes : goal.push_block-returns-in_ok-push_str-in-Break-clause-passes
 push_block-returns-in_ok-push_str-in-Break-clause-passes t c =
@@ -224,7 +224,7 @@ push_block-returns-in_ok-count_leaf-in-Definition-clause-pushed t c =
     let block = c.args.block in
     let is = ap (block_in raw) c.in-Definition.is in
     let same = ap (λ b. written (block_read rules defined b)) is ∙ definition_written rules defined _ _ _ in
-    sym (append-nil (string_bytes c.args.html.now)) ∙ ap (λ w. string_bytes c.args.html.now ++ alone w) (sym same)
+    sym (append-nil c.args.html.now) ∙ ap (λ w. c.args.html.now ++ alone w) (sym same)
 
 pub push_block-returns-in_ok-count_leaf-in-Definition-clause-passes : goal.push_block-returns-in_ok-count_leaf-in-Definition-clause-passes
 push_block-returns-in_ok-count_leaf-in-Definition-clause-passes t c =
@@ -247,8 +247,8 @@ push_block-returns-in_ok-push_str-in-Quote-2-clause-pushed t c =
     let held = c.blocks-in-Quote.result.now in
     let is = quote_in raw block c.in-Quote.from c.in-Quote.to held c.in-Quote.is c.blocks-in-Quote.ensures.blocks in
     let same = ap (λ b. written (block_read rules defined b)) is ∙ quote_written rules defined (blocks_in raw held) in
-    enclosed (string_bytes c.args.html.now) (string_bytes c.push_str-in-Quote.new.self) (string_bytes c.push_blocks.new.html) (string_bytes c.push_str-in-Quote-2.new.self) (codes "<blockquote>\n") (html_of (with_inlines rules defined (blocks_in raw held))) (codes "</blockquote>\n")
-    c.in_ok-push_str-in-Quote.ensures.bytes c.in_ok-push_blocks-in-Quote.ensures.pushed c.in_ok-push_str-in-Quote-2.ensures.bytes ∙ ap (λ w. string_bytes c.args.html.now ++ alone w) (sym same)
+    enclosed c.args.html.now c.push_str-in-Quote.new.self c.push_blocks.new.html c.push_str-in-Quote-2.new.self (codes "<blockquote>\n") (html_of (with_inlines rules defined (blocks_in raw held))) (codes "</blockquote>\n")
+    c.in_ok-push_str-in-Quote.ensures c.in_ok-push_blocks-in-Quote.ensures.pushed c.in_ok-push_str-in-Quote-2.ensures ∙ ap (λ w. c.args.html.now ++ alone w) (sym same)
 
 pub push_block-returns-in_ok-push_str-in-Quote-2-clause-passes : goal.push_block-returns-in_ok-push_str-in-Quote-2-clause-passes
 push_block-returns-in_ok-push_str-in-Quote-2-clause-passes t c =
@@ -272,8 +272,8 @@ push_block-returns-in_ok-push_list_end-in-List-clause-pushed t c =
     let held = c.items.result.now in
     let is = list_in raw block c.in-List.kind c.in-List.tight c.in-List.from c.in-List.to held c.in-List.is c.items.ensures.items in
     let same = ap (λ b. written (block_read rules defined b)) is ∙ list_written rules defined c.in-List.kind c.in-List.tight (items_in raw held) in
-    enclosed (string_bytes c.args.html.now) (string_bytes c.push_list_start.new.out) (string_bytes c.push_items.new.html) (string_bytes c.push_list_end.new.out) (list_start c.in-List.kind) (items_html c.in-List.tight (map (map written) (items_read rules defined (items_in raw held)))) (list_end c.in-List.kind)
-    c.in_ok-push_list_start-in-List.ensures c.in_ok-push_items-in-List.ensures.pushed c.in_ok-push_list_end-in-List.ensures ∙ ap (λ w. string_bytes c.args.html.now ++ alone w) (sym same)
+    enclosed c.args.html.now c.push_list_start.new.out c.push_items.new.html c.push_list_end.new.out (list_start c.in-List.kind) (items_html c.in-List.tight (map (map written) (items_read rules defined (items_in raw held)))) (list_end c.in-List.kind)
+    c.in_ok-push_list_start-in-List.ensures c.in_ok-push_items-in-List.ensures.pushed c.in_ok-push_list_end-in-List.ensures ∙ ap (λ w. c.args.html.now ++ alone w) (sym same)
 
 pub push_block-returns-in_ok-push_list_end-in-List-clause-passes : goal.push_block-returns-in_ok-push_list_end-in-List-clause-passes
 push_block-returns-in_ok-push_list_end-in-List-clause-passes t c =
@@ -332,9 +332,9 @@ push_item-returns-clause-pushed t c =
     let tight = c.args.tight in
     let ws = map written (with_inlines rules defined (blocks_in raw held)) in
     let none = ap (λ held. map written (with_inlines rules defined (blocks_in raw held))) (drop_all c.loop-block.block-index held c.loop-block-test.false) in
-    let added = inside_added tight c.loop-block.fresh ws _ (string_bytes c.push_str.new.self) (string_bytes c.loop-block.html) none c.loop-block.invariant.html in
-    enclosed (string_bytes c.args.html.now) (string_bytes c.push_str.new.self) (string_bytes c.loop-block.html) (string_bytes c.push_str-2.new.self) (codes "<li>") (inside tight ws) (codes "</li>\n")
-    c.in_ok-push_str.ensures.bytes added c.in_ok-push_str-2.ensures.bytes
+    let added = inside_added tight c.loop-block.fresh ws _ c.push_str.new.self c.loop-block.html none c.loop-block.invariant.html in
+    enclosed c.args.html.now c.push_str.new.self c.loop-block.html c.push_str-2.new.self (codes "<li>") (inside tight ws) (codes "</li>\n")
+    c.in_ok-push_str.ensures added c.in_ok-push_str-2.ensures
 
 pub push_items-push_item-requires : goal.push_items-push_item-requires
 push_items-push_item-requires t c =
@@ -378,12 +378,12 @@ push_items-loop-item-preserved t c =
     let tight = c.args.tight in
     let blocks_are = c.blocks-in-loop-item.ensures.blocks in
     let whole = items_leaf_depths (items_read rules defined (items_in raw held)) in
-    let html = string_bytes c.loop-item.html in
-    let all = string_bytes c.args.html.now ++ items_html tight (map (map written) (items_read rules defined (items_in raw held))) in
+    let html = c.loop-item.html in
+    let all = c.args.html.now ++ items_html tight (map (map written) (items_read rules defined (items_in raw held))) in
     record {
-      html = joined html (string_bytes c.push_item.new.html) _ _ all
+      html = joined html c.push_item.new.html _ _ all
           (subst (λ held. html ++ items_html tight (map (map written) (items_read rules defined (items_in raw held))) ≡ all) step c.loop-item.invariant.html)
-          (subst (λ blocks. string_bytes c.push_item.new.html ≡ html ++ item_html tight (map written (with_inlines rules defined blocks))) blocks_are c.in_ok-push_item.ensures.pushed);
+          (subst (λ blocks. c.push_item.new.html ≡ html ++ item_html tight (map written (with_inlines rules defined blocks))) blocks_are c.in_ok-push_item.ensures.pushed);
       leaves = left_next limits.inlines c.args.next.now c.loop-item.next c.push_item.new.next whole _ _
           (subst (λ held. Left limits.inlines c.args.next.now c.loop-item.next whole (items_leaf_depths (items_read rules defined (items_in raw held)))) step c.loop-item.invariant.leaves)
           (subst (λ blocks. Passes limits.inlines c.loop-item.next c.push_item.new.next (leaf_depths (with_inlines rules defined blocks))) blocks_are c.in_ok-push_item.ensures.passes);
@@ -412,7 +412,7 @@ push_part-returns-in_ok-count_leaf-in-Definition-clause-pushed t c =
     let block = c.args.block in
     let is = ap (block_in raw) c.in-Definition.is in
     let same = ap (λ b. written (block_read rules defined b)) is ∙ definition_written rules defined _ _ _ in
-    λ others. nothing_inside c.args.tight c.args.fresh (written (block_read rules defined (block_in raw block))) others (string_bytes c.args.html.now) same
+    λ others. nothing_inside c.args.tight c.args.fresh (written (block_read rules defined (block_in raw block))) others c.args.html.now same
 
 pub push_part-returns-in_ok-count_leaf-in-Definition-clause-passes : goal.push_part-returns-in_ok-count_leaf-in-Definition-clause-passes
 push_part-returns-in_ok-count_leaf-in-Definition-clause-passes t c =
@@ -435,7 +435,7 @@ push_part-returns-in_ok-push_leaf-in-Paragraph-clause-pushed t c =
     let is = paragraph_in raw block c.in-Paragraph.from c.in-Paragraph.to c.text.result.now c.in-Paragraph.is c.text.ensures in
     let content = raw_inlines c.text.result.now in
     let same = ap (λ b. written (block_read rules defined b)) is ∙ paragraph_written rules defined content in
-    λ others. inlines_inside c.args.tight c.args.fresh (written (block_read rules defined (block_in raw block))) others _ (string_bytes c.args.html.now) (string_bytes c.push_leaf.new.html) c.if-tight.true same c.in_ok-push_leaf-in-Paragraph.ensures.pushed
+    λ others. inlines_inside c.args.tight c.args.fresh (written (block_read rules defined (block_in raw block))) others _ c.args.html.now c.push_leaf.new.html c.if-tight.true same c.in_ok-push_leaf-in-Paragraph.ensures.pushed
 
 pub push_part-returns-in_ok-push_leaf-in-Paragraph-clause-passes : goal.push_part-returns-in_ok-push_leaf-in-Paragraph-clause-passes
 push_part-returns-in_ok-push_leaf-in-Paragraph-clause-passes t c =
@@ -457,8 +457,8 @@ push_part-returns-in_ok-push_apart-in-Paragraph-clause-pushed t c =
     let raw = c.args.raw.now in
     let block = c.args.block in
     let same = ap (λ b. written (block_read rules defined (block_in raw b))) c.in-Paragraph.is ∙ paragraph_written rules defined _ in
-    λ others. loose_inlines_inside c.args.tight c.args.fresh (written (block_read rules defined (block_in raw block))) others _ (string_bytes c.args.html.now) (string_bytes c.push_apart.new.html) c.if-tight.false same
-    (subst (λ b. string_bytes c.push_apart.new.html ≡ string_bytes c.args.html.now ++ (line_feed c.args.fresh ++ alone (written (block_read rules defined (block_in raw b))))) (sym c.in-Paragraph.is) c.in_ok-push_apart-in-Paragraph.ensures.pushed)
+    λ others. loose_inlines_inside c.args.tight c.args.fresh (written (block_read rules defined (block_in raw block))) others _ c.args.html.now c.push_apart.new.html c.if-tight.false same
+    (subst (λ b. c.push_apart.new.html ≡ c.args.html.now ++ (line_feed c.args.fresh ++ alone (written (block_read rules defined (block_in raw b))))) (sym c.in-Paragraph.is) c.in_ok-push_apart-in-Paragraph.ensures.pushed)
 
 pub push_part-returns-in_ok-push_apart-in_default : goal.push_part-returns-in_ok-push_apart-in_default
 push_part-returns-in_ok-push_apart-in_default t c =
@@ -469,7 +469,7 @@ push_part-returns-in_ok-push_apart-in_default t c =
     let block = c.args.block in
     let whole = whole_written rules defined raw block c.in_default.not-Paragraph c.in_default.not-Definition in
     record {
-      pushed = λ others. whole_inside c.args.tight c.args.fresh (written (block_read rules defined (block_in raw block))) others whole.0 (string_bytes c.args.html.now) (string_bytes c.push_apart-in_default.new.html) whole.1 c.in_ok-push_apart-in_default.ensures.pushed;
+      pushed = λ others. whole_inside c.args.tight c.args.fresh (written (block_read rules defined (block_in raw block))) others whole.0 c.args.html.now c.push_apart-in_default.new.html whole.1 c.in_ok-push_apart-in_default.ensures.pushed;
       passes = c.in_ok-push_apart-in_default.ensures.passes;
       told = tt;
     }

@@ -1,4 +1,4 @@
-use Rattle.std.proofs.Common.{◌≡◌, ◌++◌, ◌+◌, ◌*◌, List, string_bytes, drop}
+use Rattle.std.proofs.Common.{◌≡◌, ◌++◌, ◌+◌, ◌*◌, List, drop}
 use Rattle.std.specs.Prelude.{map, true}
 use Rattle.cm_tree.specs.Depth.{blocks_depth, depth_of_block}
 use Rattle.cm_tree.specs.steps.ItemSteps.{items_depth}
@@ -40,7 +40,7 @@ invariant-push_blocks-loop-block l =
     let read : List RawBlock → List Block = λ held. with_inlines l.limits.rules (defined_in l.definitions) (blocks_in l.raw held) in
     let left = drop l.block-index l.blocks in
     record {
-      html : string_bytes l.html ++ html_of (read left) ≡ string_bytes l.initial.html ++ html_of (read l.blocks);
+      html : l.html ++ html_of (read left) ≡ l.initial.html ++ html_of (read l.blocks);
       leaves : Left l.limits.inlines l.initial.next l.next (leaf_depths (read l.blocks)) (leaf_depths (read left));
       placed : ArePlaced l.raw left;
     }
@@ -50,7 +50,7 @@ invariant-push_item-loop-block l =
     let read : List RawBlock → List Block = λ held. with_inlines l.limits.rules (defined_in l.definitions) (blocks_in l.raw held) in
     let left = drop l.block-index l.blocks in
     record {
-      html : string_bytes l.html ++ inside_from l.tight l.fresh (map written (read left)) ≡ string_bytes l.initial.html ++ inside_from l.tight true (map written (read l.blocks));
+      html : l.html ++ inside_from l.tight l.fresh (map written (read left)) ≡ l.initial.html ++ inside_from l.tight true (map written (read l.blocks));
       leaves : Left l.limits.inlines l.initial.next l.next (leaf_depths (read l.blocks)) (leaf_depths (read left));
       placed : ArePlaced l.raw left;
     }
@@ -60,7 +60,7 @@ invariant-push_items-loop-item l =
     let read : List RawItem → List (List Block) = λ held. items_read l.limits.rules (defined_in l.definitions) (items_in l.raw held) in
     let left = drop l.item-index l.items in
     record {
-      html : string_bytes l.html ++ items_html l.tight (map (map written) (read left)) ≡ string_bytes l.initial.html ++ items_html l.tight (map (map written) (read l.items));
+      html : l.html ++ items_html l.tight (map (map written) (read left)) ≡ l.initial.html ++ items_html l.tight (map (map written) (read l.items));
       leaves : Left l.limits.inlines l.initial.next l.next (items_leaf_depths (read l.items)) (items_leaf_depths (read left));
       placed : AreItems l.raw left;
     }

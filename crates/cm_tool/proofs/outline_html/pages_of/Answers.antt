@@ -1,7 +1,6 @@
-use Rattle.std.proofs.Common.{◌≡◌, ◌∙◌, ◌++◌, refl, ap, ap₂, sym, subst, append_assoc, string_bytes}
+use Rattle.std.proofs.Common.{◌≡◌, ◌∙◌, ◌++◌, refl, ap, subst}
 use Rattle.std.proofs.lemmas.List.{drop_more, drop_all}
 use Rattle.std.proofs.lemmas.Result.{err_from_is_err_and}
-use Rattle.std.specs.List.{concat}
 use Rattle.cm_html.specs.Html.{html_of}
 use Rattle.cm_scan.specs.Brackets.{defined_in}
 use Rattle.cm_scan.specs.Documents.{with_inlines}
@@ -16,7 +15,7 @@ pub loop-block-init : goal.loop-block-init
 loop-block-init c =
     let all = html_of (with_inlines c.args.limits.rules (defined_in c.args.definitions.now) (blocks_in c.args.raw.now c.args.blocks.now)) in
     record {
-      html = ap₂ (λ pages page. (concat pages ++ page) ++ all) c.new-pages.ensures c.in_ok-page.ensures;
+      html = ap (λ pages. pages ++ all) c.in_ok-pages.ensures;
       leaves = λ more. refl;
       placed = c.requires;
     }
@@ -47,12 +46,10 @@ loop-block-preserved c =
     let step = drop_more held c.loop-block.block-index (raw_block.Paragraph 0 0) c.loop-block-test.true in
     let whole = leaf_depths (with_inlines limits.rules defined (blocks_in raw held)) in
     let all = html_of (with_inlines limits.rules defined (blocks_in raw held)) in
-    let pages = concat c.loop-block.pages in
-    let page = string_bytes c.loop-block.page in
     record {
-      html = joined (pages ++ page) (concat c.turn_page.new.pages ++ string_bytes c.turn_page.new.page) _ _ all
-          (subst (λ held. (pages ++ page) ++ html_of (with_inlines limits.rules defined (blocks_in raw held)) ≡ all) step c.loop-block.invariant.html)
-          (c.in_ok-turn_page.ensures ∙ ap (λ t. pages ++ t) c.in_ok-push_block.ensures.pushed ∙ sym (append_assoc pages page _));
+      html = joined c.loop-block.pages c.turn.new.self _ _ all
+          (subst (λ held. c.loop-block.pages ++ html_of (with_inlines limits.rules defined (blocks_in raw held)) ≡ all) step c.loop-block.invariant.html)
+          (c.in_ok-turn.ensures ∙ c.in_ok-push_block.ensures.pushed);
       leaves = left_next limits.inlines 1 c.loop-block.next c.push_block.new.next whole _ _
           (subst (λ held. Left limits.inlines 1 c.loop-block.next whole (leaf_depths (with_inlines limits.rules defined (blocks_in raw held)))) step c.loop-block.invariant.leaves)
           c.in_ok-push_block.ensures.passes;
@@ -65,8 +62,7 @@ returns-clause-html c =
     let raw = c.args.raw.now in
     let held = c.args.blocks.now in
     let none = drop_all c.loop-block.block-index held c.loop-block-test.false in
-    c.in_ok-add_page.ensures
-    ∙ all_joined (concat c.loop-block.pages ++ string_bytes c.loop-block.page) _ _ (ap (λ held. html_of (with_inlines limits.rules (defined_in c.args.definitions.now) (blocks_in raw held))) none) c.loop-block.invariant.html
+    all_joined c.loop-block.pages _ _ (ap (λ held. html_of (with_inlines limits.rules (defined_in c.args.definitions.now) (blocks_in raw held))) none) c.loop-block.invariant.html
 
 pub returns-clause-within : goal.returns-clause-within
 returns-clause-within c =

@@ -1,5 +1,4 @@
-use Rattle.std.proofs.Common.{◌≡◌, ◌++◌, List, drop, string_bytes}
-use Rattle.std.specs.List.{concat}
+use Rattle.std.proofs.Common.{◌≡◌, ◌++◌, List, drop}
 use Rattle.cm_tree.specs.declared.tree.Block.{Block}
 use Rattle.cm_html.specs.Html.{html_of}
 use Rattle.cm_scan.specs.Brackets.{defined_in}
@@ -16,7 +15,7 @@ invariant-loop-block l =
     let read : List RawBlock → List Block = λ held. with_inlines l.limits.rules (defined_in l.definitions) (blocks_in l.raw held) in
     let left = drop l.block-index l.blocks in
     record {
-      html : (concat l.pages ++ string_bytes l.page) ++ html_of (read left) ≡ html_of (read l.blocks);
+      html : l.pages ++ html_of (read left) ≡ html_of (read l.blocks);
       leaves : Left l.limits.inlines 1 l.next (leaf_depths (read l.blocks)) (leaf_depths (read left));
       placed : ArePlaced l.raw left;
     }

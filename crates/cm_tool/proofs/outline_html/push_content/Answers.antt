@@ -1,4 +1,4 @@
-use Rattle.std.proofs.Common.{◌≡◌, ◌∙◌, ◌<◌, ◌++◌, ap, sym, arith, string_bytes}
+use Rattle.std.proofs.Common.{◌≡◌, ◌∙◌, ◌<◌, ◌++◌, ap, sym, arith}
 use Rattle.std.proofs.lemmas.Result.{on_ok_weaker, IfErr-weaker}
 use Rattle.cm_tree.specs.Depth.{inlines_depth}
 use Rattle.cm_html.specs.Html.{inlines_html}
@@ -17,7 +17,7 @@ returns-then-is_one_text-clause-pushed c =
     let defined = defined_in c.args.definitions.now in
     let source = c.args.source.now in
     c.in_ok-push_escaped.ensures
-    ∙ ap (λ t. string_bytes c.args.html.now ++ t) (sym (ap inlines_html (source_read rules defined source ∙ c.is_one_text.ensures.text c.if-is_one_text.true rules defined) ∙ text_html source))
+    ∙ ap (λ t. c.args.html.now ++ t) (sym (ap inlines_html (source_read rules defined source ∙ c.is_one_text.ensures.text c.if-is_one_text.true rules defined) ∙ text_html source))
 
 pub returns-then-is_one_text-clause-within : goal.returns-then-is_one_text-clause-within
 returns-then-is_one_text-clause-within c =
