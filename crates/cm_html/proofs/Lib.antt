@@ -10,3 +10,4 @@ pub mod MarkupInlines
 pub mod MarkupBlocks
 pub mod PageLemmas
 pub mod FormedLemmas
+pub mod WritingLemmas

@@ -1,9 +1,10 @@
 -- What stands on a page, while more is put behind it.
-use Rattle.std.proofs.Common.{◌≡◌, ℕ, suc, ◌+◌, ◌-◌, ◌<◌, ◌≤◌, List, [], ◌∷◌, ◌++◌, length, take, drop, get_or, sym, ap, ap₂, subst, ◌∙◌, inl, inr, arith, string_bytes, append_assoc, append-nil, length-append, length-drop, take_all}
+use Rattle.std.proofs.Common.{◌≡◌, ℕ, suc, length-take-le, ◌+◌, ◌-◌, ◌<◌, ◌≤◌, List, [], ◌∷◌, ◌++◌, length, take, drop, get_or, sym, ap, ap₂, subst, ◌∙◌, inl, inr, arith, string_bytes, append_assoc, append-nil, length-append, length-drop, take_all}
 use Rattle.std.specs.Prelude.{String, Result, Ok, Err, OnOk, OnErr, is_ok, if◌then◌else◌}
-use Rattle.std.specs.List.{slice_range}
+use Rattle.std.specs.List.{slice_range, concat}
 use Rattle.std.specs.Str.{IsUtf8, IsCharBoundary}
 use Rattle.std.proofs.lemmas.Bool.{cases_lt}
+use Rattle.std.proofs.lemmas.List.Folds.{concat-append}
 use Rattle.std.proofs.Math.Seq.{drop-cons, drop-append_seam}
 use Rattle.std.proofs.lemmas.List.{take-append-le, drop-append-le, get_or_append_left, take_at}
 use Rattle.std.proofs.lemmas.Str.{IsUtf8-string_bytes, IsCharBoundary-end, IsCharBoundary-start, IsCharBoundary-from_take}
@@ -105,3 +106,29 @@ module _ {Z : Type 0} (old new : String Z) (more : List ℕ) (is : List Insertio
         → (seen : List ℕ) → with_insertions 0 (string_bytes old) is ≡ seen → OnOk r (with_insertions 0 (string_bytes new) kept ≡ seen ++ more)
     settled_behind pushed r kept handed done same seen view =
         behind_by_case r kept (subst (λ q. OnOk q (string_bytes new ≡ string_bytes old ++ more)) (sym handed) done) same seen view
+
+-- ---- lengths
+
+-- those of the insertions together
+abbrev pub lengths : List Insertion → ℕ
+lengths [] = 0
+lengths (i ∷ is) = length i.text + lengths is
+
+length_from : (from : ℕ) (text : List ℕ) (is : List Insertion) → AreInOrder from text is → from + length (with_insertions from text is) ≡ length text + lengths is
+length_from from text [] order = omega (arith, order.0, length-drop from text)
+length_from from text (i ∷ is) order =
+    let within = first_place i.place text is order.2 in
+    let part : length (slice_range text from i.place) ≡ i.place - from = length-take-le (i.place - from) (drop from text) (omega (arith, order.1, within.0, length-drop from text)) in
+    omega (arith, order.1, part, length_from i.place text is order.2, length-append (slice_range text from i.place ++ i.text) (with_insertions i.place text is), length-append (slice_range text from i.place) i.text)
+
+pub length_page : (text : List ℕ) (is : List Insertion) → AreInOrder 0 text is → length (with_insertions 0 text is) ≡ length text + lengths is
+length_page text is order = omega (arith, length_from 0 text is order)
+
+-- ---- pages
+
+-- the open page is put behind the full ones
+pub laid_aside : (pages new : List (List ℕ)) (old full page fresh : List ℕ) → new ≡ pages ++ full ∷ [] → full ≡ old → fresh ≡ page → page ≡ []
+    → (seen : List ℕ) → concat pages ++ old ≡ seen → concat new ++ fresh ≡ seen
+laid_aside pages new old full page fresh pushed same opened empty seen view =
+    ap₂ (λ items last. concat items ++ last) pushed (opened ∙ empty) ∙ append-nil (concat (pages ++ full ∷ []))
+    ∙ concat-append pages (full ∷ []) ∙ ap (λ t. concat pages ++ t) (append-nil full ∙ same) ∙ view

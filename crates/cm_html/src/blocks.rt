@@ -1,5 +1,6 @@
 //! The HTML of blocks.
-ghost use Rattle.std.specs.Prelude.{◌≡◌, ◌++◌, true, false, map, OnOk};
+ghost use Rattle.std.specs.Prelude.{◌≡◌, ◌++◌, true, false, codes, map, OnOk};
+ghost use Rattle.std.specs.Fmt.{decimal};
 ghost use Rattle.cm_html.specs.Html.{list_start, list_end, ordered_start, inlines_html, written, alone, html_of, paragraph_html, heading_start, heading_end, heading_html, class_start, code_start, code_html, quote_html, item_html, inside};
 
 use crate::escape::class_word;
@@ -206,8 +207,15 @@ fn push_ordered_start(out: &mut Pages, start: u32) -> Result<(), AllocError>
     ensures { OnOk result (out.new ≡ out.old ++ ordered_start start) }
 {
     if start == 1 {
-        return out.push_str("<ol>\n");
+        out.push_str("<ol>\n")
+    } else {
+        push_numbered_start(out, start)
     }
+}
+
+fn push_numbered_start(out: &mut Pages, start: u32) -> Result<(), AllocError>
+    ensures { OnOk result (out.new ≡ out.old ++ codes "<ol start=\"" ++ decimal start ++ codes "\">\n") }
+{
     out.push_str("<ol start=\"")?;
     out.push_number(start as usize)?;
     out.push_str("\">\n")
