@@ -126,7 +126,7 @@ length_page text is order = omega (arith, length_from 0 text is order)
 
 -- ---- pages
 
--- the open page is put behind the full ones
+-- the last page is put behind the full ones, and a new one is the last
 pub laid_aside : (pages new : List (List ℕ)) (old full page fresh : List ℕ) → new ≡ pages ++ full ∷ [] → full ≡ old → fresh ≡ page → page ≡ []
     → (seen : List ℕ) → concat pages ++ old ≡ seen → concat new ++ fresh ≡ seen
 laid_aside pages new old full page fresh pushed same opened empty seen view =

@@ -59,9 +59,9 @@ impl Page {
         })
     }
 
-    /// Whether the page and its insertions take so many bytes.
+    /// Whether the page, with its insertions, takes so many bytes.
     #[inline(always)]
-    pub(crate) fn takes(&self, bytes: usize) -> bool {
+    pub(crate) fn takes_at_least(&self, bytes: usize) -> bool {
         let insertions = self.insertions.len().saturating_mul(INSERTION);
         self.text.len().saturating_add(insertions) >= bytes
     }
@@ -161,7 +161,14 @@ fn settled(
     ensures err { OnErr result (insertions.new.items ≡ []) }
 {
     if pushed.is_err() {
-        insertions.clear();
+        take_off(insertions);
     }
     pushed
+}
+
+#[cold]
+fn take_off(insertions: &mut Vec<Insertion>)
+    ensures { insertions.new.items ≡ [] }
+{
+    insertions.clear();
 }
