@@ -5,7 +5,7 @@ ghost use Rattle.cm_html.specs.Forms.{formed};
 ghost use Rattle.cm_html.specs.Listing.{margin};
 
 use crate::forms::{Form, push_in_form};
-use crate::listings::push_margin;
+use crate::quoting::push_margin;
 use cm_tree::BoxedText;
 use std::alloc::{AllocError, Global};
 use std::marker::Model;
