@@ -166,6 +166,7 @@ fn settled(
     pushed
 }
 
+/// Takes all insertions off.
 #[cold]
 fn take_off(insertions: &mut Vec<Insertion>)
     ensures { insertions.new.items ≡ [] }

@@ -4,7 +4,7 @@ ghost use Rattle.std.specs.List.{concat};
 ghost use Rattle.std.specs.Fmt.{decimal};
 ghost use Rattle.cm_html.specs.Escape.{escape};
 ghost use Rattle.cm_html.specs.Forms.{formed};
-ghost use Rattle.cm_html.specs.Listing.{margin, quoted};
+ghost use Rattle.cm_html.specs.Listing.{margin};
 ghost use Rattle.cm_html.specs.Writing.{WritesText};
 
 use crate::fault::HtmlFault;
@@ -23,12 +23,12 @@ const PAGE: usize = 32_768;
 /// How many bytes a page has room for at first.
 const ROOM: usize = 40_960;
 
-/// How many bytes a text has at least that is inserted and not copied: an insertion takes memory itself, and a shorter
-/// text is copied in less time than it is looked for.
+/// How many bytes a text has at least that is inserted. An insertion takes memory too, and a shorter text is copied in less
+/// time than it is looked for.
 const INSERTED: usize = 64;
 
-/// A text that is made from its front to its end: HTML, or a listing. It owns its pages, and a long text that other owners
-/// share is held once, as it is written, and inserted wherever it stands.
+/// A text that is made from its front to its end: HTML, or a listing. A long text that has other owners is held once, as it
+/// is written, and inserted wherever it stands.
 ///
 /// Contracts see it as its bytes.
 #[derive(Drop)]
