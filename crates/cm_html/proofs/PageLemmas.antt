@@ -1,11 +1,11 @@
 -- What stands on a page, while more is put behind it.
-use Rattle.std.proofs.Common.{◌≡◌, ℕ, suc, length-take-le, ◌+◌, ◌-◌, ◌<◌, ◌≤◌, List, [], ◌∷◌, ◌++◌, length, take, drop, get_or, sym, ap, ap₂, subst, ◌∙◌, inl, inr, arith, string_bytes, append_assoc, append-nil, length-append, length-drop, take_all}
+use Rattle.std.proofs.Common.{◌≡◌, ℕ, length-take-le, ◌+◌, ◌-◌, ◌≤◌, List, [], ◌∷◌, ◌++◌, length, take, drop, sym, ap, ap₂, subst, ◌∙◌, inl, inr, arith, string_bytes, append_assoc, append-nil, length-append, length-drop, take_all}
 use Rattle.std.specs.Prelude.{String, Result, Ok, Err, OnOk, OnErr, is_ok, if◌then◌else◌}
 use Rattle.std.specs.List.{slice_range, concat}
 use Rattle.std.specs.Str.{IsUtf8, IsCharBoundary}
 use Rattle.std.proofs.lemmas.Bool.{cases_lt}
 use Rattle.std.proofs.lemmas.List.Folds.{concat-append}
-use Rattle.std.proofs.Math.Seq.{drop-cons, drop-append_seam}
+use Rattle.std.proofs.Math.Seq.{drop-append_seam}
 use Rattle.std.proofs.lemmas.List.{take-append-le, drop-append-le, get_or_append_left, take_at}
 use Rattle.std.proofs.lemmas.Str.{IsUtf8-string_bytes, IsCharBoundary-end, IsCharBoundary-start, IsCharBoundary-from_take}
 use Rattle.cm_html.specs.declared.page.Insertion.{Insertion}
@@ -126,7 +126,7 @@ length_page text is order = omega (arith, length_from 0 text is order)
 
 -- ---- pages
 
--- the open page is put behind the full ones
+-- the last page is put behind the full ones, and a new one is the last
 pub laid_aside : (pages new : List (List ℕ)) (old full page fresh : List ℕ) → new ≡ pages ++ full ∷ [] → full ≡ old → fresh ≡ page → page ≡ []
     → (seen : List ℕ) → concat pages ++ old ≡ seen → concat new ++ fresh ≡ seen
 laid_aside pages new old full page fresh pushed same opened empty seen view =

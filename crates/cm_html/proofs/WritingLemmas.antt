@@ -1,10 +1,10 @@
 -- What has gone out of a text that is written in pieces.
-use Rattle.std.proofs.Common.{◌≡◌, ℕ, ◌+◌, ◌<◌, ◌≤◌, List, [], ◌∷◌, ◌++◌, length, take, drop, get_or, suc, sym, ap, ap₂, subst, ◌∙◌, arith, append_assoc, append-nil, length-append, length-drop, take_all}
+use Rattle.std.proofs.Common.{◌≡◌, ℕ, ◌+◌, ◌<◌, List, [], ◌∷◌, ◌++◌, length, take, drop, get_or, suc, sym, ap, ap₂, subst, ◌∙◌, arith, append_assoc, append-nil, length-append}
 use Rattle.std.specs.Io.KnownBytes.{Appends}
 use Rattle.std.proofs.Math.Seq.{drop-cons, take-append-add}
 use Rattle.std.proofs.lemmas.List.{take-append-le}
 use Rattle.std.specs.Prelude.{Result, Ok, Err, Option, Some, None}
-use Rattle.cm_text.specs.Writing.{SinkView, Wrote, WroteFront}
+use Rattle.cm_text.specs.Writing.{SinkView, Wrote}
 use Rattle.cm_text.specs.declared.writing.WriteFailed.{WriteFailed}
 use Rattle.cm_text.proofs.WriteLemmas.{appends-append}
 use Rattle.cm_html.specs.steps.Pages.{WritesMore}

@@ -1,7 +1,7 @@
 //! The tree of a document as HTML and as a listing.
 //!
-//! For users: [`html`], [`write_html`], [`listing`] and [`write_listing`]. The calls that push a part of the HTML are what
-//! the crates above use.
+//! For users: [`html`], [`write_html`], [`listing`] and [`write_listing`]. [`Pages`], and the calls that add a part of the HTML to
+//! them, are what the crates above use.
 #![tactic(auto)]
 
 mod blocks;

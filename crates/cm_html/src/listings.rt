@@ -1,7 +1,7 @@
 //! The listing of a document.
 ghost use Rattle.std.specs.Prelude.{◌≡◌, ◌<◌, ◌^◌, [], ◌∷◌, ◌++◌, map, string_bytes, OnOk, IfOk};
 ghost use Rattle.std.specs.Fmt.{decimal};
-ghost use Rattle.cm_html.specs.Listing.{margin, all_quoted, line, holder, heading_line, list_mark, list_line, listed_inline, listed_inlines, listed, listed_blocks, owner_text, owner_line, owners_from, listing_of};
+ghost use Rattle.cm_html.specs.Listing.{all_quoted, line, holder, heading_line, list_mark, list_line, listed_inline, listed_inlines, listed, listed_blocks, owner_text, owner_line, owners_from, listing_of};
 
 use crate::forms::Form;
 use crate::pages::Pages;
@@ -55,18 +55,6 @@ fn push_parted(out: &mut Pages, blocks: &[Block]) -> Result<(), AllocError>
     Ok(())
 }
 
-/// Writes the indentation of a line with so many nodes round it. What a `String` holds keeps their
-/// number small.
-pub(crate) fn push_margin(out: &mut String, depth: usize) -> Result<(), AllocError>
-    ensures written { OnOk result (string_bytes out.new ≡ string_bytes out.old ++ margin depth) }
-    ensures small { OnOk result (depth < 2 ^ 63) }
-{
-    for _ in 0..depth {
-        out.push_str("  ")?;
-    }
-    Ok(())
-}
-
 /// Writes texts between quotes, each behind a space.
 fn push_all_quoted(out: &mut Pages, texts: &[&str]) -> Result<(), AllocError>
     ensures { OnOk result (out.new ≡ out.old ++ all_quoted (map (λ text. text.now) texts.now)) }
@@ -89,7 +77,17 @@ fn push_line(out: &mut Pages, depth: usize, word: &str, texts: &[&str]) -> Resul
     out.push_str("\n")
 }
 
-/// Writes the line of a link or an image. Long texts that have other owners are held once.
+/// Writes a destination and a title between quotes, each behind a space. Long texts that have other owners are held once.
+fn push_target(out: &mut Pages, dest: &BoxedText, title: &BoxedText) -> Result<(), AllocError>
+    ensures { OnOk result (out.new ≡ out.old ++ all_quoted (dest.now ∷ title.now ∷ [])) }
+{
+    out.push_str(" ")?;
+    out.push_formed(Form::Quoted, dest)?;
+    out.push_str(" ")?;
+    out.push_formed(Form::Quoted, title)
+}
+
+/// Writes the line of a link or an image.
 fn push_target_line(
     out: &mut Pages,
     depth: usize,
@@ -102,10 +100,7 @@ fn push_target_line(
 {
     out.push_margin(depth)?;
     out.push_str(word)?;
-    out.push_str(" ")?;
-    out.push_formed(Form::Quoted, dest)?;
-    out.push_str(" ")?;
-    out.push_formed(Form::Quoted, title)?;
+    push_target(out, dest, title)?;
     out.push_str("\n")
 }
 

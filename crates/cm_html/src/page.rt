@@ -5,7 +5,7 @@ ghost use Rattle.cm_html.specs.Forms.{formed};
 ghost use Rattle.cm_html.specs.Listing.{margin};
 
 use crate::forms::{Form, push_in_form};
-use crate::listings::push_margin;
+use crate::quoting::push_margin;
 use cm_tree::BoxedText;
 use std::alloc::{AllocError, Global};
 use std::marker::Model;
@@ -59,9 +59,9 @@ impl Page {
         })
     }
 
-    /// Whether the page and its insertions take so many bytes.
+    /// Whether the page, with its insertions, takes so many bytes.
     #[inline(always)]
-    pub(crate) fn takes(&self, bytes: usize) -> bool {
+    pub(crate) fn takes_at_least(&self, bytes: usize) -> bool {
         let insertions = self.insertions.len().saturating_mul(INSERTION);
         self.text.len().saturating_add(insertions) >= bytes
     }
@@ -161,7 +161,15 @@ fn settled(
     ensures err { OnErr result (insertions.new.items ≡ []) }
 {
     if pushed.is_err() {
-        insertions.clear();
+        take_off(insertions);
     }
     pushed
+}
+
+/// Takes all insertions off.
+#[cold]
+fn take_off(insertions: &mut Vec<Insertion>)
+    ensures { insertions.new.items ≡ [] }
+{
+    insertions.clear();
 }

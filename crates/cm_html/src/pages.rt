@@ -4,7 +4,7 @@ ghost use Rattle.std.specs.List.{concat};
 ghost use Rattle.std.specs.Fmt.{decimal};
 ghost use Rattle.cm_html.specs.Escape.{escape};
 ghost use Rattle.cm_html.specs.Forms.{formed};
-ghost use Rattle.cm_html.specs.Listing.{margin, quoted};
+ghost use Rattle.cm_html.specs.Listing.{margin};
 ghost use Rattle.cm_html.specs.Writing.{WritesText};
 
 use crate::fault::HtmlFault;
@@ -23,12 +23,12 @@ const PAGE: usize = 32_768;
 /// How many bytes a page has room for at first.
 const ROOM: usize = 40_960;
 
-/// How many bytes a text has at least that is inserted and not copied: an insertion takes memory itself, and a shorter
-/// text is copied in less time than it is looked for.
+/// How many bytes a text has at least that is inserted. An insertion takes memory too, and a shorter text is copied in less
+/// time than it is looked for.
 const INSERTED: usize = 64;
 
-/// A text that is made from its front to its end: HTML, or a listing. It owns its pages, and a long text that other owners
-/// share is held once, as it is written, and inserted wherever it stands.
+/// A text that is made from its front to its end: HTML, or a listing. A long text that has other owners is held once, as it
+/// is written, and inserted wherever it stands.
 ///
 /// Contracts see it as its bytes.
 #[derive(Drop)]
@@ -37,7 +37,7 @@ pub struct Pages {
     /// How many bytes fill a page of it.
     page_len: usize,
     full: Vec<Page>,
-    open: Page,
+    last: Page,
     formed: FormedTexts,
 }
 
@@ -47,7 +47,7 @@ impl Model for Pages {
 
     ghost Value = { List ℕ };
 
-    ghost view = { λ p. concat p.full.items ++ p.open };
+    ghost view = { λ p. concat p.full.items ++ p.last };
 }
 
 impl Pages {
@@ -63,7 +63,7 @@ impl Pages {
             alloc,
             page_len: PAGE,
             full: Vec::new(alloc),
-            open: Page::with_room(alloc, ROOM)?,
+            last: Page::with_room(alloc, ROOM)?,
             formed: FormedTexts::new(alloc),
         })
     }
@@ -76,7 +76,7 @@ impl Pages {
             alloc,
             page_len: usize::MAX,
             full: Vec::new(alloc),
-            open: Page::new(alloc),
+            last: Page::new(alloc),
             formed: FormedTexts::new(alloc),
         }
     }
@@ -91,7 +91,7 @@ impl Pages {
     pub fn push_str(&mut self, more: &str) -> Result<(), AllocError>
         ensures { OnOk result (self.new ≡ self.old ++ more.now) }
     {
-        self.open.push_str(more)
+        self.last.push_str(more)
     }
 
     /// Adds a text: `&`, `<`, `>` and `"` as references.
@@ -103,7 +103,7 @@ impl Pages {
     pub fn push_escaped(&mut self, text: &str) -> Result<(), AllocError>
         ensures { OnOk result (self.new ≡ self.old ++ escape text.now) }
     {
-        self.open.push_in_form(Form::Escaped, text)
+        self.last.push_in_form(Form::Escaped, text)
     }
 
     /// Adds a text in a form.
@@ -111,14 +111,14 @@ impl Pages {
     pub(crate) fn push_in_form(&mut self, form: Form, text: &str) -> Result<(), AllocError>
         ensures { OnOk result (self.new ≡ self.old ++ formed form text.now) }
     {
-        self.open.push_in_form(form, text)
+        self.last.push_in_form(form, text)
     }
 
     /// Adds a number in decimal.
     pub(crate) fn push_number(&mut self, number: usize) -> Result<(), AllocError>
         ensures { OnOk result (self.new ≡ self.old ++ decimal number) }
     {
-        self.open.push_number(number)
+        self.last.push_number(number)
     }
 
     /// Adds the indentation of a line with so many nodes round it.
@@ -126,7 +126,7 @@ impl Pages {
         ensures written { OnOk result (self.new ≡ self.old ++ margin depth) }
         ensures small { OnOk result (depth < 2 ^ 63) }
     {
-        self.open.push_margin(depth)
+        self.last.push_margin(depth)
     }
 
     /// Adds a text in a form. Where it is long and has other owners, it is formed once, and held once.
@@ -139,13 +139,13 @@ impl Pages {
     {
         let bytes = text.as_str();
         if bytes.len() < INSERTED || !text.is_shared() {
-            return self.open.push_in_form(form, bytes);
+            return self.last.push_in_form(form, bytes);
         }
         let inserted = self.formed.form(form, text)?;
-        self.open.push_insertion(inserted)
+        self.last.push_insertion(inserted)
     }
 
-    /// Goes on with a new page, if the open one is full.
+    /// Goes on with a new page, if the last one is full.
     ///
     /// # Errors
     ///
@@ -154,18 +154,18 @@ impl Pages {
     pub fn turn(&mut self) -> Result<(), AllocError>
         ensures { OnOk result (self.new ≡ self.old) }
     {
-        if self.open.takes(self.page_len) {
+        if self.last.takes_at_least(self.page_len) {
             return self.lay_aside();
         }
         Ok(())
     }
 
-    /// Puts the open page behind the others, and goes on with a new one.
+    /// Puts the last page behind the full ones, and goes on with a new one.
     fn lay_aside(&mut self) -> Result<(), AllocError>
         ensures { OnOk result (self.new ≡ self.old) }
     {
         let page = Page::with_room(self.alloc, ROOM)?;
-        self.full.push(mem::replace(&mut self.open, page))?;
+        self.full.push(mem::replace(&mut self.last, page))?;
         Ok(())
     }
 
@@ -182,11 +182,11 @@ impl Pages {
             (record { taken = W.taken sink.new; failed = W.failed sink.new }) }
     {
         let full = self.full.as_slice();
-        let Some(_len) = len_of(full, &self.open) else {
+        let Some(len) = len_of(full, &self.last) else {
             return Err(HtmlFault::NoMemory);
         };
-        match write_pages(sink, full, &self.open) {
-            Ok(len) => Ok(len),
+        match write_pages(sink, full, &self.last) {
+            Ok(_) => Ok(len),
             Err(WriteFailed { written }) => Err(HtmlFault::WriteFailed { written }),
         }
     }
@@ -202,37 +202,37 @@ impl Pages {
         let Pages {
             alloc,
             full,
-            open,
+            last,
             ..
         } = self;
         let front = full.as_slice();
         if front.is_empty() {
-            match open.into_text() {
+            match last.into_text() {
                 Ok(text) => Ok(text),
                 Err(page) => copied(alloc, front, &page),
             }
         } else {
-            copied(alloc, front, &open)
+            copied(alloc, front, &last)
         }
     }
 }
-/// How many bytes the pages and the open one have.
-fn len_of(full: &[Page], open: &Page) -> Option<usize>
-    ensures { IfSome result (λ n. n ≡ length (concat full.now ++ open.now)) }
+/// How many bytes the full pages and the last one have.
+fn len_of(full: &[Page], last: &Page) -> Option<usize>
+    ensures { IfSome result (λ n. n ≡ length (concat full.now ++ last.now)) }
 {
-    full_len(full)?.checked_add(open.len()?)
+    full_len(full)?.checked_add(last.len()?)
 }
 
-/// A copy of the pages, and of the open one behind them.
-fn copied(alloc: Global, full: &[Page], open: &Page) -> Result<String, AllocError>
-    ensures { IfOk result (λ text. string_bytes text ≡ concat full.now ++ open.now) }
+/// A copy of the full pages, and of the last one behind them.
+fn copied(alloc: Global, full: &[Page], last: &Page) -> Result<String, AllocError>
+    ensures { IfOk result (λ text. string_bytes text ≡ concat full.now ++ last.now) }
 {
-    let Some(len) = len_of(full, open) else {
+    let Some(len) = len_of(full, last) else {
         return Err(AllocError);
     };
     let mut text = String::with_capacity(alloc, len)?;
     push_full(&mut text, full)?;
-    open.push_to(&mut text)?;
+    last.push_to(&mut text)?;
     Ok(text)
 }
 

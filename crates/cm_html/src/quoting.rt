@@ -1,10 +1,22 @@
-//! Texts between quotes in a listing.
-ghost use Rattle.std.specs.Prelude.{◌≡◌, ℕ, ◌==◌, ◌||◌, position, IsTrue, ◌++◌, string_bytes, OnOk, flat_map};
-ghost use Rattle.cm_html.specs.Listing.{quote_byte, quoted};
+//! What stands in the lines of a listing, put to a string.
+ghost use Rattle.std.specs.Prelude.{◌≡◌, ℕ, ◌==◌, ◌||◌, ◌<◌, ◌^◌, position, IsTrue, ◌++◌, string_bytes, OnOk, flat_map};
+ghost use Rattle.cm_html.specs.Listing.{margin, quote_byte, quoted};
 ghost use Rattle.cm_html.specs.steps.Bytes.{has_escape};
 
 use cm_text::cut_at;
 use std::alloc::AllocError;
+
+/// Writes the indentation of a line with so many nodes round it. What a `String` holds keeps their
+/// number small.
+pub(crate) fn push_margin(out: &mut String, depth: usize) -> Result<(), AllocError>
+    ensures written { OnOk result (string_bytes out.new ≡ string_bytes out.old ++ margin depth) }
+    ensures small { OnOk result (depth < 2 ^ 63) }
+{
+    for _ in 0..depth {
+        out.push_str("  ")?;
+    }
+    Ok(())
+}
 
 /// Where the first byte stands that is written by an escape.
 fn find_with_escape(bytes: &[u8]) -> Option<usize>

@@ -81,18 +81,18 @@ fn write_full<W: Sink>(sink: &mut W, pages: &[Page]) -> Result<usize, WriteFaile
     Ok(written)
 }
 
-/// Writes pages, and the open one behind them. They have fewer bytes than a `usize` counts.
+/// Writes the full pages, and the last one behind them.
 pub(crate) fn write_pages<W: Sink>(
     sink: &mut W,
     full: &[Page],
-    open: &Page,
+    last: &Page,
 ) -> Result<usize, WriteFailed>
     requires failed { W.failed sink.old < 2 ^ 64 - 1 }
-    requires counted { length (concat full.now ++ open.now) < 2 ^ 64 }
-    ensures { WritesMore result 0 (concat full.now ++ open.now)
+    requires counted { length (concat full.now ++ last.now) < 2 ^ 64 }
+    ensures { WritesMore result 0 (concat full.now ++ last.now)
         (record { taken = W.taken sink.old; failed = W.failed sink.old })
         (record { taken = W.taken sink.new; failed = W.failed sink.new }) }
 {
     let written = write_full(sink, full)?;
-    write_page(sink, written, open)
+    write_page(sink, written, last)
 }

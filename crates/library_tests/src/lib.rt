@@ -9,6 +9,8 @@ mod deep;
 #[cfg(test)]
 mod example;
 #[cfg(test)]
+mod shared;
+#[cfg(test)]
 mod values;
 #[cfg(test)]
 mod views;

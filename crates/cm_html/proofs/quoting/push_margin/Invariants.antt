@@ -1,6 +1,6 @@
 use Rattle.std.proofs.Common.{◌≡◌, ◌++◌, ◌-◌, string_bytes}
 use Rattle.cm_html.specs.Listing.{margin}
-use Rattle.cm_html.proofs.listings.push_margin.Given as goal
+use Rattle.cm_html.proofs.quoting.push_margin.Given as goal
 
 -- what was written and what is left are all
 abbrev pub invariant-loop : goal.invariant-loop

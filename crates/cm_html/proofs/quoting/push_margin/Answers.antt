@@ -1,7 +1,7 @@
 use Rattle.std.proofs.Common.{arith}
 use Rattle.std.proofs.lemmas.Grind.{common_steps}
 use Rattle.cm_html.proofs.ListingLemmas.{margin-next, length-margin}
-use Rattle.cm_html.proofs.listings.push_margin.Goals as goal
+use Rattle.cm_html.proofs.quoting.push_margin.Goals as goal
 
 pub loop-preserved : goal.loop-preserved
 loop-preserved c = grind (arith, common_steps, c.loop.invariant, margin-next c.args.depth c.loop.counter (omega arith))
