@@ -34,7 +34,6 @@ pub(crate) use first_line::FirstLine;
 use first_line::begin_leaf;
 use interruptions::{interrupts_paragraph, underline_of};
 use places::{ends_bare_item, if_lazy, is_blank, item_content, quote_content, reaches_or_is_blank};
-pub(crate) use starts::LeafStart;
 use starts::{Start, start_of};
 use std::alloc::{AllocError, Global};
 
@@ -46,6 +45,13 @@ use std::alloc::{AllocError, Global};
 pub(crate) struct CountedLine<'a> {
     rest: View<'a>,
     tests: u64,
+}
+
+/// What a leaf block begins with, as it was found in a line. It shows nothing of that: only the line's own call takes
+/// it over.
+#[derive(Clone, Copy, Debug)]
+pub(crate) struct LeafStart<'a> {
+    found: Start<'a>,
 }
 
 /// What a line begins in the innermost container, where no leaf is open.
@@ -174,7 +180,7 @@ impl<'a> CountedLine<'a> {
         }
         let start = start_of(rules, &view);
         let Start::Item(marker) = start else {
-            return Begins::Leaf(LeafStart::new(start));
+            return Begins::Leaf(LeafStart { found: start });
         };
         let (column, inner) = item_content(&view, &marker);
         self.enter(inner);

@@ -13,7 +13,8 @@ ghost use Rattle.cm_block.specs.steps.FirstLines.{first_of, begins_container};
 use crate::closed_leaf::ClosedLeaf;
 use crate::counted_line::copies::push_line;
 use crate::counted_line::ends::ends_html;
-use crate::counted_line::starts::{LeafStart, Start, content};
+use crate::counted_line::LeafStart;
+use crate::counted_line::starts::{Start, content};
 use crate::leaf::OpenLeaf;
 use crate::rooms::TextRoom;
 use cm_scan::{AtxHeading, HtmlKind, OpeningFence};
@@ -109,8 +110,7 @@ pub(crate) fn begin_leaf(
     ensures leaf { IfOk result (λ first. IfSome first (λ f. begins_leaf (first_of f) ≡ begin_of_start (seen start.now.found) (seen_view line.now))) }
     ensures container { IfOk result (λ first. IfNone first (begins_container (seen start.now.found) ≡ true)) }
 {
-    let found = start.found();
-    match &found {
+    match &start.found {
         Start::IndentedCode => Ok(Some(begin_code(alloc, leaves, line)?)),
         Start::Atx(heading) => Ok(Some(begin_heading(alloc, *heading)?)),
         Start::Fence(fence) => Ok(Some(begin_fence(alloc, leaves, *fence, line)?)),

@@ -25,28 +25,6 @@ pub(crate) enum Start<'a> {
     TextLine,
 }
 
-/// What a leaf block begins with, as it was found in a line. Only the line's own call takes it over.
-#[derive(Clone, Copy, Debug)]
-pub(crate) struct LeafStart<'a> {
-    found: Start<'a>,
-}
-
-impl<'a> LeafStart<'a> {
-    /// What was found.
-    pub(crate) fn new(found: Start<'a>) -> LeafStart<'a>
-        ensures { result.found ≡ found.entry }
-    {
-        LeafStart { found }
-    }
-
-    /// What was found.
-    pub(crate) fn found(&self) -> Start<'a>
-        ensures { result ≡ self.now.found }
-    {
-        self.found
-    }
-}
-
 /// Whether a line begins with an ASCII letter, without indentation. It is text then, and all of it is its content.
 #[inline(always)]
 pub(crate) fn begins_with_letter(line: &View<'_>) -> bool

@@ -33,16 +33,14 @@ returns-in-Some-clause-found c =
 
 pub returns-in_default-start-clause-found : goal.returns-in_default-start-clause-found
 returns-in_default-start-clause-found c =
-    let at = (goal.at.returns-in_default-start-clause-found c).Else-is_blank in
-    let found = c.new.ensures in (
+    let at = (goal.at.returns-in_default-start-clause-found c).Else-is_blank in (
       some-left at,
       (
         ap (λ (v : View). begin_of c.args.rules (seen_view v)) (sym c.read-view.ensures.line)
             ∙ begins-as c.args.rules (seen_view c.read-view.result) (seen c.start_of-start.result) (some at) (sym c.start_of-start.ensures)
-            ∙ ap₂ (λ s (v : View). begin_of_start (seen s) (seen_view v)) (sym found) c.read-view.ensures.line,
+            ∙ ap (λ (v : View). begin_of_start (seen c.start_of-start.result) (seen_view v)) c.read-view.ensures.line,
         (
-          ap (λ s. begins_container (seen s)) found
-              ∙ no_container c.start_of-start.result (ap is_quote c.start_of-start.ensures ∙ c.in_default.ensures c.args.rules) c.in_default-start.not-Item,
+          no_container c.start_of-start.result (ap is_quote c.start_of-start.ensures ∙ c.in_default.ensures c.args.rules) c.in_default-start.not-Item,
           ap seen_view c.read-view.ensures.read.same,
         ),
       ),
