@@ -14,9 +14,9 @@ ghost use Rattle.cm_inline.specs.steps.Groups.{Made, grouped, target_of, end_htm
 
 use crate::groups::{FirstGroups, Group, Kind, Making};
 use crate::nodes::Nodes;
+use crate::runs::DelimiterRun;
 use crate::settling::group_inline;
 use crate::spare::Spare;
-use crate::runs::DelimiterRun;
 use crate::tokens::{Token, opener_text};
 use crate::written::{Written, destination_of};
 use cm_html::{Pages, push_inline, push_link_start, push_shared_link_start};

@@ -9,8 +9,8 @@ ghost use Rattle.cm_tool.specs.steps.Sources.{Spelled};
 
 use crate::fault::Fault;
 use crate::parser::{PART, Parser};
-use cm_source::Why;
 use cm_html::Pages;
+use cm_source::Why;
 use cm_text::{Limits, Source};
 use cm_tree::Doc;
 use std::alloc::{AllocError, Global};
