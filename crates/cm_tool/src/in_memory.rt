@@ -54,5 +54,6 @@ pub fn html_of(alloc: Global, bytes: &[u8], limits: Limits) -> Result<Pages, Fau
 pub fn source_of(alloc: Global, bytes: &[u8], limits: Limits) -> Result<String, Fault>
     ensures { MakesSource result limits bytes.now }
 {
-    Ok(parser_of(alloc, bytes, limits)?.finish_source()??)
+    let text = parser_of(alloc, bytes, limits)?.finish_source()??;
+    Ok(text)
 }
