@@ -1,5 +1,5 @@
 -- Faults as numbers.
-use Rattle.std.specs.Prelude.{◌≡◌, ◌==◌, ◌^◌, ◌-◌, ◌<◌, ℕ, min, Option, Some, None, option_map, if◌then◌else◌}
+use Rattle.std.specs.Prelude.{◌≡◌, ◌==◌, ℕ, Option, Some, None, option_map, if◌then◌else◌}
 use Rattle.cm_source.specs.declared.why.Why.{Why}
 use Rattle.cm_source.specs.declared.why.Why.TheVariants as whys
 use Rattle.cm_tool.specs.declared.fault.Fault.{Fault}
@@ -40,15 +40,11 @@ reason_of whys.ItemBeginsWithList = 15
 reason_of whys.Looseness = 16
 reason_of whys.StrikeOff = 17
 
--- a line as a place, which has 64 bits
-abbrev pub line_place : ℕ → ℕ
-line_place line = min line (2 ^ 64 - 1)
-
 -- where a fault is: at a byte, on a line or in a leaf; or the number of a reason
 abbrev pub place_of : Fault → ℕ
 place_of (NotUtf8 at) = at
 place_of (TooLong at) = at
-place_of (BlocksTooDeep line) = line_place line
+place_of (BlocksTooDeep line) = line
 place_of (InlinesTooDeep leaf) = leaf
 place_of NoMemory = 0
 place_of ReadFailed = 0
@@ -101,7 +97,6 @@ message_of number place =
     else if number == 12 then Some NoRoom
     else option_map Refused (fault_numbered number place)
 
--- So each fault has a message whose line has 64 bits.
+-- So each fault has a message.
 abbrev pub FaultsHaveMessages : Type 0
-FaultsHaveMessages = (fault : Fault) → ((line : ℕ) → fault ≡ BlocksTooDeep line → line < 2 ^ 64)
-    → message_of (number_of fault) (place_of fault) ≡ Some (Refused fault)
+FaultsHaveMessages = (fault : Fault) → message_of (number_of fault) (place_of fault) ≡ Some (Refused fault)

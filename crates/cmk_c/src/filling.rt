@@ -1,6 +1,7 @@
 //! Room of the caller's.
-ghost use Rattle.std.specs.Prelude.{◌≡◌, ℕ, List, Option};
+ghost use Rattle.std.specs.Prelude.{◌≡◌, ℕ, List, Option, IfErr};
 ghost use Rattle.cm_tool.specs.declared.fault.Fault as faults;
+ghost use Rattle.cmk_c.specs.steps.Places.{HasPlace};
 ghost use Rattle.cmk_c.specs.Calls.{FillsBy, Gives, IsEmpty, IsPut, ended};
 
 use crate::numbers::{DONE, NO_ROOM, OUT_OF_RANGE, number_of, place_of};
@@ -34,6 +35,7 @@ pub(crate) fn fill_with(bytes: &[u8], room: &mut [u8], filled: &mut Filled) -> u
 
 /// Puts what was made to the front of the room, or tells the fault, and leaves the room as it was.
 pub(crate) fn fill(made: Result<Vec<u8>, Fault>, room: &mut [u8], filled: &mut Filled) -> u32
+    requires { IfErr made HasPlace }
     ensures { (fault : Option faults.Fault) (output : List ℕ) → Gives fault output made → FillsBy fault output room.old
         (record { number = result; place = filled.new.place; count = filled.new.length; bytes = room.new }) }
 {

@@ -1,7 +1,8 @@
 //! Faults as numbers.
 ghost use Rattle.std.specs.Prelude.{◌≡◌, option_map};
 ghost use Rattle.cm_tool.specs.declared.fault.Fault.TheVariants.{Unspellable};
-ghost use Rattle.cmk_c.specs.Numbers.{number_of, place_of, line_place, reason_of, why_numbered, fault_numbered};
+ghost use Rattle.cmk_c.specs.steps.Places.{HasPlace};
+ghost use Rattle.cmk_c.specs.Numbers.{number_of, place_of, reason_of, why_numbered, fault_numbered};
 
 use cm_source::Why;
 use cm_tool::Fault;
@@ -58,21 +59,15 @@ fn reason_of(why: Why) -> usize
     }
 }
 
-/// A line as a place. No text in memory has more lines.
-fn line_place(line: u128) -> usize
-    ensures { result ≡ line_place line }
-{
-    line.min(usize::MAX as u128) as usize
-}
-
 /// The place of a fault: a byte, a line or a leaf, or the number of a reason.
 pub(crate) fn place_of(fault: Fault) -> usize
+    requires { HasPlace fault }
     ensures { result ≡ place_of fault }
 {
     match fault {
         Fault::NotUtf8 { at } => at,
         Fault::TooLong { at } => at,
-        Fault::BlocksTooDeep { line } => line_place(line),
+        Fault::BlocksTooDeep { line } => line as usize,
         Fault::InlinesTooDeep { leaf } => leaf,
         Fault::NoMemory => 0,
         Fault::ReadFailed => 0,

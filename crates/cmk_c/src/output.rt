@@ -1,7 +1,8 @@
 //! What a call gives back.
-ghost use Rattle.std.specs.Prelude.{◌≡◌, ℕ, List, [], Option};
+ghost use Rattle.std.specs.Prelude.{◌≡◌, ℕ, List, [], Option, IfErr};
 ghost use Rattle.cm_tool.specs.declared.fault.Fault as faults;
 ghost use Rattle.cmk_c.specs.Calls.{AnswersBy, Gives, IsEmpty};
+ghost use Rattle.cmk_c.specs.steps.Places.{HasPlace};
 
 use crate::numbers::{DONE, OUT_OF_RANGE, number_of, place_of};
 use cm_tool::Fault;
@@ -19,6 +20,7 @@ pub struct Output {
 
 /// Puts what was made into the output, and answers the number of the fault, or 0.
 pub(crate) fn put(made: Result<Vec<u8>, Fault>, output: &mut Output) -> u32
+    requires { IfErr made HasPlace }
     ensures { (fault : Option faults.Fault) (bytes : List ℕ) → Gives fault bytes made → AnswersBy fault bytes
         (record { number = result; place = output.new.place; count = output.new.length; bytes = output.new.bytes.now }) }
 {

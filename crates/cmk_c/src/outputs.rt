@@ -1,11 +1,12 @@
 //! What is made of a text in memory: the one file that says how a text is read here.
-ghost use Rattle.std.specs.Prelude.{◌≡◌, ◌+◌, [], Some, IfErr, IfOk};
+ghost use Rattle.std.specs.Prelude.{◌≡◌, ◌+◌, ◌≤◌, ◌^◌, [], Some, IfErr, IfOk};
 ghost use Rattle.cm_tool.specs.declared.fault.Fault.TheVariants.{NoMemory};
 ghost use Rattle.cm_tool.specs.Faults.{fault_of};
 ghost use Rattle.cm_tool.specs.Writing.{converted, listed};
 ghost use Rattle.cm_tool.specs.Rewriting.{rewritten};
 ghost use Rattle.cmk_c.specs.Calls.{Gives, ended, rewriting_fault};
 ghost use Rattle.cmk_c.specs.steps.Memory.{in_memory};
+ghost use Rattle.cmk_c.specs.steps.Places.{HasPlace};
 
 use cm_html::listing;
 use cm_text::{DeviceFailed, FromRead, Limits, Sink};
@@ -76,7 +77,9 @@ fn with_nul(mut bytes: Vec<u8>) -> Result<Vec<u8>, Fault>
 
 /// The HTML of the text, with a NUL behind it.
 pub(crate) fn html_of(alloc: Global, text: &[u8], limits: Limits) -> Result<Vec<u8>, Fault>
-    ensures { Gives (fault_of limits text.now) (converted limits.rules text.now) result }
+    requires { limits.bytes ≤ 2 ^ 30 }
+    ensures value { Gives (fault_of limits text.now) (converted limits.rules text.now) result }
+    ensures place { IfErr result HasPlace }
 {
     let mut source = FromRead::new(text);
     let mut sink = Gathered::new(alloc);
@@ -88,7 +91,9 @@ pub(crate) fn html_of(alloc: Global, text: &[u8], limits: Limits) -> Result<Vec<
 
 /// The listing of the text's tree and of the owners of its lines, with a NUL behind it.
 pub(crate) fn tree_of(alloc: Global, text: &[u8], limits: Limits) -> Result<Vec<u8>, Fault>
-    ensures { Gives (fault_of limits text.now) (listed limits.rules text.now) result }
+    requires { limits.bytes ≤ 2 ^ 30 }
+    ensures value { Gives (fault_of limits text.now) (listed limits.rules text.now) result }
+    ensures place { IfErr result HasPlace }
 {
     let mut source = FromRead::new(text);
     let doc = match read(alloc, &mut source, limits) {
@@ -103,7 +108,9 @@ pub(crate) fn tree_of(alloc: Global, text: &[u8], limits: Limits) -> Result<Vec<
 
 /// Plain source of the text's tree without its definitions, with a NUL behind it.
 pub(crate) fn source_of(alloc: Global, text: &[u8], limits: Limits) -> Result<Vec<u8>, Fault>
-    ensures { Gives (rewriting_fault limits text.now) (rewritten limits.rules text.now) result }
+    requires { limits.bytes ≤ 2 ^ 30 }
+    ensures value { Gives (rewriting_fault limits text.now) (rewritten limits.rules text.now) result }
+    ensures place { IfErr result HasPlace }
 {
     let mut source = FromRead::new(text);
     let mut sink = Gathered::new(alloc);

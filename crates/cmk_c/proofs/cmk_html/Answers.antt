@@ -8,4 +8,4 @@ pub returns-in-Some : goal.returns-in-Some
 returns-in-Some c =
     subst (λ limits. Answers fault_of converted limits c.args.text.now
     (record { number = c.put.result; place = c.put.new.output.place; count = c.put.new.output.length; bytes = c.put.new.output.bytes.now }))
-    (sym c.in-Some.is ∙ c.limits_of.ensures) (c.put.ensures _ _ c.html_of.ensures)
+    (sym c.in-Some.is ∙ c.limits_of.ensures.value) (c.put.ensures _ _ c.html_of.ensures.value)

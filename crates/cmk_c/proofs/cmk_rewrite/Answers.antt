@@ -7,4 +7,4 @@ pub returns-in-Some : goal.returns-in-Some
 returns-in-Some c =
     subst (λ limits. Answers rewriting_fault rewritten limits c.args.text.now
     (record { number = c.put.result; place = c.put.new.output.place; count = c.put.new.output.length; bytes = c.put.new.output.bytes.now }))
-    (sym c.in-Some.is ∙ c.limits_of.ensures) (c.put.ensures _ _ c.source_of.ensures)
+    (sym c.in-Some.is ∙ c.limits_of.ensures.value) (c.put.ensures _ _ c.source_of.ensures.value)
