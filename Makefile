@@ -35,17 +35,16 @@ OUT := out
 
 all: program $(OUT)/libcmk.a $(OUT)/$(SHARED) $(OUT)/cmk.pc
 
-# Whether they are current only the build knows, so it is asked each time; it is done at once where nothing has changed.
+# Whether they are current only the build knows, so it is asked each time, and the libraries are linked anew: all is done in a second
+# where nothing has changed.
 program:
 	@$(if $(BUILD),./cmk --version >/dev/null,test -x $(PROGRAM))
 
 library:
 	@$(if $(BUILD),tools/build_library.py,test -r $(CRATE))
 
-$(CRATE): library
-
 # One archive of both.
-$(OUT)/libcmk.a: $(CRATE)
+$(OUT)/libcmk.a: library
 	@mkdir -p $(OUT)/objects
 	cd $(OUT)/objects && rm -f *.o && $(AR) x $(abspath $(CRATE)) && $(AR) x $(HEAP)
 	rm -f $@
@@ -53,7 +52,7 @@ $(OUT)/libcmk.a: $(CRATE)
 	rm -r $(OUT)/objects
 
 # Only the exports are seen from outside.
-$(OUT)/$(SHARED): $(CRATE)
+$(OUT)/$(SHARED): library
 	@mkdir -p $(OUT)
 	$(CC) -shared -o $@ -Wl,-soname,$(SONAME) -Wl,--whole-archive $(CRATE) -Wl,--no-whole-archive \
 		-Wl,--exclude-libs,liblibc_c.a $(HEAP) -Wl,--no-undefined -Wl,-z,relro,-z,now $(LDFLAGS)
