@@ -21,7 +21,12 @@ pub struct Filled {
 /// many stand before the NUL.
 pub(crate) fn fill_with(bytes: &[u8], room: &mut [u8], filled: &mut Filled) -> u32
     ensures { (output : List ℕ) → bytes.now ≡ ended output → IsPut output room.old
-        (record { number = result; place = filled.new.place; count = filled.new.length; bytes = room.new }) }
+        (record {
+          number = result;
+          place = filled.new.place;
+          count = filled.new.length;
+          bytes = room.new;
+        }) }
 {
     let count = bytes.len();
     filled.place = 0;
@@ -36,8 +41,14 @@ pub(crate) fn fill_with(bytes: &[u8], room: &mut [u8], filled: &mut Filled) -> u
 /// Puts what was made to the front of the room, or tells the fault, and leaves the room as it was.
 pub(crate) fn fill(made: Result<Vec<u8>, Fault>, room: &mut [u8], filled: &mut Filled) -> u32
     requires { IfErr made HasPlace }
-    ensures { (fault : Option faults.Fault) (output : List ℕ) → Gives fault output made → FillsBy fault output room.old
-        (record { number = result; place = filled.new.place; count = filled.new.length; bytes = room.new }) }
+    ensures { (fault : Option faults.Fault) (output : List ℕ) → Gives fault output made
+        → FillsBy fault output room.old
+        (record {
+          number = result;
+          place = filled.new.place;
+          count = filled.new.length;
+          bytes = room.new;
+        }) }
 {
     match made {
         Ok(bytes) => fill_with(bytes.as_slice(), room, filled),
@@ -52,7 +63,12 @@ pub(crate) fn fill(made: Result<Vec<u8>, Fault>, room: &mut [u8], filled: &mut F
 /// Tells that a number that was handed over is out of its range.
 pub(crate) fn fill_nothing(filled: &mut Filled) -> u32
     ensures { (room : List ℕ) → IsEmpty 11 room
-        (record { number = result; place = filled.new.place; count = filled.new.length; bytes = room }) }
+        (record {
+          number = result;
+          place = filled.new.place;
+          count = filled.new.length;
+          bytes = room;
+        }) }
 {
     filled.place = 0;
     filled.length = 0;

@@ -1,6 +1,7 @@
 //! CommonMark for C: a text to HTML, to the listing of its tree, or to plain source.
 //!
-//! A call takes the text as a pointer and a length, and has no state of its own. include/cmk.h declares them for C.
+//! A call takes the text as a pointer and a length, and has no state of its own. `include/cmk.h` declares
+//! the calls for C.
 #![tactic(auto)]
 
 ghost use Rattle.std.specs.Prelude.{◌≡◌, ℕ, List};
@@ -38,7 +39,12 @@ pub extern "C" fn cmk_html(
     output: &mut Output,
 ) -> u32
     ensures { Answers fault_of converted (limits_asked options.now) text.now
-        (record { number = result; place = output.new.place; count = output.new.length; bytes = output.new.bytes.now }) }
+        (record {
+          number = result;
+          place = output.new.place;
+          count = output.new.length;
+          bytes = output.new.bytes.now;
+        }) }
 {
     match limits_of(options) {
         Some(limits) => put(html_of(alloc, text, limits), output),
@@ -55,7 +61,12 @@ pub extern "C" fn cmk_tree(
     output: &mut Output,
 ) -> u32
     ensures { Answers fault_of listed (limits_asked options.now) text.now
-        (record { number = result; place = output.new.place; count = output.new.length; bytes = output.new.bytes.now }) }
+        (record {
+          number = result;
+          place = output.new.place;
+          count = output.new.length;
+          bytes = output.new.bytes.now;
+        }) }
 {
     match limits_of(options) {
         Some(limits) => put(tree_of(alloc, text, limits), output),
@@ -72,7 +83,12 @@ pub extern "C" fn cmk_rewrite(
     output: &mut Output,
 ) -> u32
     ensures { Answers rewriting_fault rewritten (limits_asked options.now) text.now
-        (record { number = result; place = output.new.place; count = output.new.length; bytes = output.new.bytes.now }) }
+        (record {
+          number = result;
+          place = output.new.place;
+          count = output.new.length;
+          bytes = output.new.bytes.now;
+        }) }
 {
     match limits_of(options) {
         Some(limits) => put(source_of(alloc, text, limits), output),
@@ -90,7 +106,12 @@ pub extern "C" fn cmk_html_into(
     filled: &mut Filled,
 ) -> u32
     ensures { Fills fault_of converted (limits_asked options.now) text.now room.old
-        (record { number = result; place = filled.new.place; count = filled.new.length; bytes = room.new }) }
+        (record {
+          number = result;
+          place = filled.new.place;
+          count = filled.new.length;
+          bytes = room.new;
+        }) }
 {
     match limits_of(options) {
         Some(limits) => fill(html_of(alloc, text, limits), room, filled),
@@ -108,7 +129,12 @@ pub extern "C" fn cmk_fault_text(
     filled: &mut Filled,
 ) -> u32
     ensures { TellsLine (message_of number place) room.old
-        (record { number = result; place = filled.new.place; count = filled.new.length; bytes = room.new }) }
+        (record {
+          number = result;
+          place = filled.new.place;
+          count = filled.new.length;
+          bytes = room.new;
+        }) }
 {
     match message_of(number, place) {
         Some(message) => fill_line(message, room, filled),

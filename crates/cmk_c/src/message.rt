@@ -55,7 +55,12 @@ fn put(line: &mut [u8], after: usize, bytes: &[u8]) -> usize
 /// Puts the line of the message, with a NUL behind it, to the front of the room. It takes no memory.
 pub(crate) fn fill_line(message: Message, room: &mut [u8], filled: &mut Filled) -> u32
     ensures { (text : List ℕ) × IsPut (line_of text) room.old
-        (record { number = result; place = filled.new.place; count = filled.new.length; bytes = room.new }) }
+        (record {
+          number = result;
+          place = filled.new.place;
+          count = filled.new.length;
+          bytes = room.new;
+        }) }
 {
     let mut text = Cursor::new([0; ROOM]);
     let _ = write!(text, "{message}");

@@ -21,8 +21,14 @@ pub struct Output {
 /// Puts what was made into the output, and answers the number of the fault, or 0.
 pub(crate) fn put(made: Result<Vec<u8>, Fault>, output: &mut Output) -> u32
     requires { IfErr made HasPlace }
-    ensures { (fault : Option faults.Fault) (bytes : List ℕ) → Gives fault bytes made → AnswersBy fault bytes
-        (record { number = result; place = output.new.place; count = output.new.length; bytes = output.new.bytes.now }) }
+    ensures { (fault : Option faults.Fault) (bytes : List ℕ) → Gives fault bytes made
+        → AnswersBy fault bytes
+        (record {
+          number = result;
+          place = output.new.place;
+          count = output.new.length;
+          bytes = output.new.bytes.now;
+        }) }
 {
     match made {
         Ok(bytes) => {
@@ -42,7 +48,12 @@ pub(crate) fn put(made: Result<Vec<u8>, Fault>, output: &mut Output) -> u32
 
 /// Tells that a number among the options is out of its range.
 pub(crate) fn put_wrong_options(output: &mut Output) -> u32
-    ensures { IsEmpty 11 [] (record { number = result; place = output.new.place; count = output.new.length; bytes = output.new.bytes.now }) }
+    ensures { IsEmpty 11 [] (record {
+      number = result;
+      place = output.new.place;
+      count = output.new.length;
+      bytes = output.new.bytes.now;
+    }) }
 {
     output.place = 0;
     output.length = 0;
