@@ -3,6 +3,8 @@
 
   tools/build.py [WORD..]    the words are those of cmk
 
+tools/build_library.py builds the static library of cmk_c in the same way.
+
 Each crate is proved from nothing, and built for those above it without its proofs. What is proved is kept in ~/.cache/cmk, or in
 $XDG_CACHE_HOME/cmk, by the sum of all that it was made from: so another copy of these sources takes it from there, and after an
 interrupt the crates that were whole are there. What is told of it goes to standard error.
@@ -21,8 +23,10 @@ import tempfile
 import time
 
 TOP = pathlib.Path(__file__).resolve().parent.parent
-OUT = TOP / "crates/cmk/out"
-PROGRAM = "cmk"
+PROGRAM, LIBRARY = "cmk", "cmk_c"
+# What is built of each, and what that is called.
+MADE = {PROGRAM: "cmk", LIBRARY: "libcmk_c.a"}
+WHAT = {PROGRAM: "the program", LIBRARY: "the library"}
 PARTS = ("src", "specs", "proofs")
 MEMORY = pathlib.Path("/proc/meminfo")
 # What `rattle build` takes, and what the kit's folder holds, where libraries can be built without their proofs.
@@ -43,11 +47,14 @@ TIMES = {
     "cm_inline": (330, 1),
     "cm_tool": (160, 3),
     "cmk": (80, 1),
+    "cmk_c": (100, 1),
 }
 # A crate takes twice as much memory as this, in kB, and once more for each job after the first.
 ROOM = 1536 * 1024
 # How many of each name are kept.
 KEPT = 2
+# The clock that a file's time is taken from may be so many seconds late.
+TICK = 0.02
 
 
 class Failed(Exception):
@@ -85,8 +92,13 @@ class Crate:
         return kept.is_dir() and any(kept.iterdir())
 
 
-def crates():
-    """Returns by name the crates that cmk stands on, and cmk: each behind those that it stands on."""
+def out_of(target):
+    """Returns the folder for what is built of a crate."""
+    return TOP / "crates" / target / "out"
+
+
+def crates(target):
+    """Returns by name the crates that the target stands on, and the target: each behind those that it stands on."""
     lines = (it.partition("#")[0].replace(",", " ").partition(":") for it in (TOP / "crates.txt").read_text().splitlines())
     named = {head.split()[0]: names.split() for head, colon, names in lines if colon}
     found, entered = {}, set()
@@ -100,9 +112,9 @@ def crates():
                 add(it)
             found[name] = Crate(name, named[name], named)
 
-    add(PROGRAM)
+    add(target)
     if not found:
-        raise Failed(f"{TOP}/crates.txt doesn't name {PROGRAM}")
+        raise Failed(f"{TOP}/crates.txt doesn't name {target}")
     return found
 
 
@@ -119,7 +131,7 @@ class Kit:
     def __init__(self):
         self.prover = shutil.which("rt") or "/opt/rattle/bin/rt"
         if not os.access(self.prover, os.X_OK):
-            raise Failed(f"the program is to be proved, and there is no rt on PATH or at {self.prover}")
+            raise Failed(f"there is something to prove, and there is no rt on PATH or at {self.prover}")
         self.folder = pathlib.Path(self.prover).resolve().parent.parent
         self.identity = ""
         with contextlib.suppress(OSError):
@@ -148,9 +160,11 @@ class Kit:
             words += ["-L", f"dependency={folder}"]
         words += ["--antt-project", self.folder / "rattle/logic/antt-project.json"]
         proving = ["--logic-built", self.folder / "logic_built", "--jobs", str(jobs)]
-        if crate.name != PROGRAM:
+        if crate.name not in MADE:
             return [[rattle, "build", "src/lib.rt", *words, *proving, "--statements", "-o", made / f"{crate.name}.rlib"]]
         toolchain = ["--toolchain", self.folder / "toolchain"]
+        if crate.name == LIBRARY:
+            return [[rattle, "build", "src/lib.rt", *words, *proving, "--crate-type", "staticlib", *toolchain, "-o", made / MADE[LIBRARY]]]
         linked = ["--target", "x86_64-unknown-linux-gnu", *toolchain, "-o", made / PROGRAM, made / "cmk.o"]
         return [
             [rattle, "build", "src/main.rt", *words, *proving, "--backend", "llvm", *toolchain, "-o", made / "cmk.o"],
@@ -161,16 +175,16 @@ class Kit:
 
 
 class Store:
-    """What was proved on this machine: a folder for each library, and for the program, by its name and its sum."""
+    """What was proved on this machine: a folder for each crate, by its name and its sum."""
 
-    def __init__(self):
+    def __init__(self, out):
         cache = os.environ.get("XDG_CACHE_HOME") or os.path.expanduser("~/.cache")
-        for folder in ([pathlib.Path(cache) / "cmk"] if os.path.isabs(cache) else []) + [OUT / "proved"]:
+        for folder in ([pathlib.Path(cache) / "cmk"] if os.path.isabs(cache) else []) + [out / "proved"]:
             with contextlib.suppress(OSError):
                 folder.mkdir(parents=True, exist_ok=True)
                 self.folder, self.lock = folder, (folder / "lock").open("a")
                 return
-        raise Failed(f"nothing can be written to {OUT}")
+        raise Failed(f"nothing can be written to {out}")
 
     def wait(self):
         """Waits until no other run proves anything here. The kernel drops a run's lock when the run ends, however that is."""
@@ -270,9 +284,9 @@ def minutes(seconds):
 class Build:
     """The crates that aren't kept, as far as they are proved."""
 
-    def __init__(self, plan, sums, kit, store):
+    def __init__(self, target, plan, sums, kit, store):
         self.plan, self.sums, self.kit, self.store = plan, sums, kit, store
-        self.waiting = [it for it in plan if not store.has(PROGRAM, sums[PROGRAM]) and not store.has(it, sums[it])]
+        self.waiting = [it for it in plan if not store.has(target, sums[target]) and not store.has(it, sums[it])]
         self.total = len(self.waiting)
         self.running = {}
         self.processors = len(os.sched_getaffinity(0))
@@ -349,10 +363,11 @@ class Build:
             progress.end()
 
 
-def run_rt(kit, processes, work):
-    """Has rt prove what isn't proved, one crate after another, and build the program in its folder."""
+def run_rt(target, kit, processes, work):
+    """Has rt prove what isn't proved, one crate after another, and build the target in its folder."""
     jobs = min(JOBS, len(os.sched_getaffinity(0)))
-    rt = Making(Crate(PROGRAM, [], []), jobs, [[kit.prover, "run", "--jobs", str(jobs), "--", "--help"]], processes, work / PROGRAM)
+    words = ["lib", "--jobs", str(jobs)] if target == LIBRARY else ["run", "--jobs", str(jobs), "--", "--help"]
+    rt = Making(Crate(target, [], []), jobs, [[kit.prover, *words]], processes, work / target)
     progress = Progress()
     try:
         while rt.goes_on():
@@ -362,45 +377,50 @@ def run_rt(kit, processes, work):
         progress.end()
 
 
-def obtain(plan, sums, kit, store):
-    """Puts the program into its folder: the one that is kept, or one that is built once all is proved."""
-    build = Build(plan, sums, kit, store)
-    is_developed = all(it.keeps_work() for it in plan.values() if it.name != PROGRAM)
+def obtain(target, plan, sums, kit, store):
+    """Puts the target into its folder: the one that is kept, or one that is built once all is proved."""
+    build = Build(target, plan, sums, kit, store)
+    is_developed = all(it.keeps_work() for it in plan.values() if it.name != target)
     lacking = None if is_developed or not build.total else kit.lacking()
-    what = "what changed" if (OUT / PROGRAM).exists() else "each function of the program"
+    made = out_of(target) / MADE[target]
+    what = "what changed" if made.exists() else f"each function of {WHAT[target]}"
     processes = Processes()
     with tempfile.TemporaryDirectory(prefix="proving.", dir=store.folder) as work, contextlib.closing(processes):
         if not build.total:
-            tell(f"these sources are proved already, and the program is in {store.folder}")
+            tell(f"these sources are proved already, and {WHAT[target]} is in {store.folder}")
         elif is_developed or lacking:
             why = f"since this kit has no {lacking}" if lacking else "over the work that rt check has left"
-            tell(f"{what} is proved on this machine first, by rt run, {why}")
-            run_rt(kit, processes, pathlib.Path(work))
+            verb = "lib" if target == LIBRARY else "run"
+            tell(f"{what} is proved on this machine first, by rt {verb}, {why}")
+            run_rt(target, kit, processes, pathlib.Path(work))
             return
         else:
             tell(f"{what} is proved on this machine first: about {minutes(build.left())}")
             build.run(processes, pathlib.Path(work))
-    shutil.copy2(store.place(PROGRAM, sums[PROGRAM]) / PROGRAM, OUT / "new")
-    (OUT / "new").replace(OUT / PROGRAM)
+    shutil.copy2(store.place(target, sums[target]) / MADE[target], out_of(target) / "new")
+    (out_of(target) / "new").replace(made)
 
 
-def prove():
-    """Sees to it that the program is there, and is that of these sources and this kit."""
-    OUT.mkdir(parents=True, exist_ok=True)
-    plan, kit, store = crates(), Kit(), Store()
+def prove(target):
+    """Sees to it that the target is there, and is that of these sources and this kit."""
+    out = out_of(target)
+    out.mkdir(parents=True, exist_ok=True)
+    plan, kit, store = crates(target), Kit(), Store(out)
     store.wait()
-    began = time.time()
+    began = time.time() - TICK
     sums = sums_of(plan, kit)
-    built, made_of = OUT / "built", f"{kit.identity}\n{sums[PROGRAM]}\n"
-    if not (OUT / PROGRAM).exists() or not built.exists() or built.read_text() != made_of:
+    made, built, made_of = out / MADE[target], out / "built", f"{kit.identity}\n{sums[target]}\n"
+    if not made.exists() or not built.exists() or built.read_text() != made_of:
         built.unlink(missing_ok=True)
-        obtain(plan, sums, kit, store)
+        obtain(target, plan, sums, kit, store)
         built.write_text(made_of)
     # It is as old as the start of this run, so a source that changed meanwhile is newer.
-    os.utime(OUT / PROGRAM, (began, began))
+    os.utime(made, (began, began))
 
 
-def main():
+def status_of(target):
+    """Proves and builds the target, and returns the exit status: 0 where it is there."""
+
     def stop(number, _):
         raise Stopped(number)
 
@@ -408,7 +428,7 @@ def main():
         if signal.getsignal(number) is not signal.SIG_IGN:
             signal.signal(number, stop)
     try:
-        prove()
+        prove(target)
     except BrokenPipeError:
         return 128 + signal.SIGPIPE
     except (Failed, OSError) as why:
@@ -417,9 +437,17 @@ def main():
     except Stopped as stopped:
         tell("interrupted")
         return 128 + stopped.args[0]
+    return 0
+
+
+def main():
+    status = status_of(PROGRAM)
+    if status:
+        return status
     # Python ignores this signal, and a program keeps what is ignored.
     signal.signal(signal.SIGPIPE, signal.SIG_DFL)
-    os.execv(OUT / PROGRAM, [OUT / PROGRAM, *sys.argv[1:]])
+    program = out_of(PROGRAM) / MADE[PROGRAM]
+    os.execv(program, [program, *sys.argv[1:]])
 
 
 if __name__ == "__main__":

@@ -74,9 +74,9 @@ abbrev pub reads_a_text : Job → Bool
 reads_a_text Examples = false
 reads_a_text _ = true
 
--- the command line of cmk, which needs a subcommand
+-- the command line of cmk, which needs a subcommand, and has a version
 abbrev pub cmk_top : App
-cmk_top = let a = new_app (codes "cmk") in record a { top = record a.top { subcommand_required = true } }
+cmk_top = let a = new_app (codes "cmk") in record a { top = record a.top { has_version = true; subcommand_required = true } }
 
 abbrev pub cmk_app : App
 cmk_app = with_subcommand (with_subcommand (with_subcommand (with_subcommand cmk_top (job_app (name_of Render)).top) (job_app (name_of Tree)).top) (job_app (name_of Rewrite)).top) examples_app.top
@@ -220,11 +220,11 @@ are_limits choices = list_all is_limit (numbers_in choices)
 abbrev pub hold_an_option : List Choice → Bool
 hold_an_option choices = list_any is_option (numbers_in choices)
 
--- the kinds of stop that the words call for: none, a mistake, or a request for help
+-- the kinds of stop that the words call for: none, a mistake, or a request for help or for the version
 abbrev pub stops_of : List Text → Kinds
 stops_of words = fault_of cmk_app words
 
--- help is for a request, and a wrong command line is one with a mistake
+-- help is for a request, of help or of the version, and a wrong command line is one with a mistake
 abbrev pub StopsBy : ErrorKind → Stop → Type 0
 StopsBy kind (Help text) = (kind ≡ DisplayHelp) ⊎ (kind ≡ DisplayVersion)
 StopsBy kind (Wrong text) = (kind ≢ OutOfMemory) × (kind ≢ DisplayHelp) × (kind ≢ DisplayVersion)

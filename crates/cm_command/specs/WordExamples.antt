@@ -1,7 +1,7 @@
--- Worked examples: what the words of `cmk examples` ask for, as clap reads them.
+-- Worked examples: what the words of `cmk examples`, and those for the version, ask for, as clap reads them.
 use Rattle.std.specs.Prelude.{◌≡◌, ◌^◌, false, true, List, [], ◌∷◌, Some, codes}
 use Rattle.clap.specs.Words.{Text}
-use Rattle.clap.specs.declared.error.kind.ErrorKind.TheVariants.{MissingRequiredArgument, UnknownArgument}
+use Rattle.clap.specs.declared.error.kind.ErrorKind.TheVariants.{DisplayVersion, MissingRequiredArgument, UnknownArgument}
 use Rattle.cm_text.specs.Rules.{older_rules, profile}
 use Rattle.cm_command.specs.declared.job.Job.TheVariants.{Examples}
 use Rattle.cm_command.specs.CommandLine.{file_in, found_for, job_in, limits_in, stops_of}
@@ -19,4 +19,7 @@ pub record WordExamples : Type 0 where
       ≡ Some (record { bytes = 2 ^ 28; blocks = 100; inlines = 100; rules = record { older = false; strike = true } })
   pub right : stops_of (examples_with (codes "f" ∷ codes "--older" ∷ codes "--strike" ∷ [])) ≡ []
   pub no_file : stops_of (examples_with (codes "--older" ∷ [])) ≡ MissingRequiredArgument ∷ []
+  pub version : stops_of (codes "cmk" ∷ codes "--version" ∷ []) ≡ DisplayVersion ∷ []
+  pub version_letter : stops_of (codes "cmk" ∷ codes "-V" ∷ []) ≡ DisplayVersion ∷ []
+  pub no_version_of_a_job : stops_of (codes "cmk" ∷ codes "render" ∷ codes "--version" ∷ []) ≡ UnknownArgument ∷ []
   pub no_blocks : stops_of (examples_with (codes "f" ∷ codes "--blocks" ∷ codes "3" ∷ [])) ≡ UnknownArgument ∷ []

@@ -16,6 +16,9 @@ use clap::{Arg, ArgAction, ArgMatches, Command, Error};
 use cm_text::{Limits, Rules};
 use std::alloc::{AllocError, Global};
 
+/// The version of the program.
+const VERSION: &str = "0.1.0";
+
 /// What `--older` does.
 const OLDER: &str = "Reads by older rules: <source> begins an HTML block, <search> does not";
 
@@ -94,6 +97,7 @@ fn command<'a>(alloc: Global) -> Result<Command<'a>, AllocError>
     let rewrite = "Writes a CommonMark text as plain source, without its definitions";
     Command::new(alloc, "cmk")
         .about("CommonMark 0.31.2: to HTML, to a listing of its tree, to plain source")
+        .version(VERSION)
         .subcommand_required(true)
         .subcommand(job_command(alloc, "render", render)?)?
         .subcommand(job_command(alloc, "tree", tree)?)?
@@ -195,8 +199,8 @@ fn task_of(alloc: Global, matches: &ArgMatches<'_>) -> Result<Task, AllocError>
 
 /// The task that the words of a command line ask for, of which the first is the program's name.
 ///
-/// A request for help and words that are no command line of the program are a `Stop`, whose text is
-/// `clap`'s. Memory may run out in any call.
+/// A request for help or for the version, and words that are no command line of the program, are a
+/// `Stop`, whose text is `clap`'s. Memory may run out in any call.
 pub fn task(alloc: Global, words: &[String]) -> Result<Task, Stop>
     // A job on a text by its name, with each option at most once, in any order, and a file or none.
     // Neither a number nor the file begins with a hyphen.

@@ -28,7 +28,7 @@ pub struct Task {
 /// Why the words of a command line give no task.
 #[derive(Debug, PartialEq, Eq, Drop)]
 pub enum Stop {
-    /// Help was asked for, and this is its text.
+    /// Help or the version was asked for, and this is its text.
     Help(String),
     /// The words aren't a command line of the program, as the text says.
     Wrong(String),

@@ -12,5 +12,8 @@ returns c = record {
   strike = refl;
   right = refl;
   no_file = refl;
+  version = refl;
+  version_letter = refl;
+  no_version_of_a_job = refl;
   no_blocks = refl;
 }

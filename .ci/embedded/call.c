@@ -1,0 +1,177 @@
+/* Calls libcmk for .ci/embedding, as C and as C++.
+ *
+ *   call html|tree|rewrite|into BYTES BLOCKS INLINES OLDER STRIKE     on standard input: its output, or the line of its fault and status 1
+ *   call rooms        the HTML of a text into rooms of every size, and a line into each
+ *   call lines        the line of each number at each place up to 20, behind both
+ *   call nothing      a null text of no bytes, with an output that isn't set
+ *   call threads      four threads at once
+ */
+#include <cmk.h>
+#include <pthread.h>
+#include <stdio.h>
+#include <string.h>
+
+typedef uint32_t call(const char *, size_t, const cmk_options *, cmk_output *);
+
+/* Puts the line of a fault to standard error. */
+static int tell(uint32_t number, size_t place) {
+    char line[CMK_LINE_ROOM];
+    cmk_filled filled;
+    if (cmk_fault_text(number, place, line, sizeof line, &filled) != CMK_DONE || strlen(line) != filled.length) {
+        return 3;
+    }
+    fputs(line, stderr);
+    return 1;
+}
+
+static int into(const char *text, size_t length, const cmk_options *options) {
+    size_t size = 4 * length + 4000;
+    char *room = (char *)malloc(size);
+    cmk_filled filled;
+    uint32_t number = cmk_html_into(text, length, options, room, size, &filled);
+    if (number == CMK_DONE) {
+        fwrite(room, 1, filled.length, stdout);
+    }
+    free(room);
+    return number == CMK_DONE ? 0 : tell(number, filled.place);
+}
+
+static int one(call *made_by, const char *text, size_t length, const cmk_options *options) {
+    cmk_output output = CMK_OUTPUT;
+    uint32_t number = made_by(text, length, options, &output);
+    if (number == CMK_DONE) {
+        fwrite(output.bytes, 1, output.length, stdout);
+        if (output.size != output.length + 1 || output.bytes[output.length] != 0 || output.place != 0) {
+            return 3;
+        }
+    } else if (output.size != 0 || output.length != 0) {
+        return 3;
+    }
+    cmk_free(&output);
+    return number == CMK_DONE ? 0 : tell(number, output.place);
+}
+
+/* Returns whether the room has the output with a NUL behind it, and is else as it was; or is as it was where it is too small. */
+static int is_right(uint32_t number, const char *room, size_t size, size_t length, const char *wanted) {
+    size_t behind = 0, at;
+    if (length != strlen(wanted) || number != (uint32_t)(size > length ? CMK_DONE : CMK_NO_ROOM)) {
+        return 0;
+    }
+    if (number == CMK_DONE) {
+        behind = length + 1;
+        if (memcmp(room, wanted, behind) != 0) {
+            return 0;
+        }
+    }
+    for (at = behind; at < 100; at++) {
+        if (room[at] != '.') {
+            return 0;
+        }
+    }
+    return 1;
+}
+
+static int rooms(void) {
+    char room[100];
+    cmk_options options = CMK_OPTIONS;
+    size_t size;
+    for (size = 0; size <= 40; size++) {
+        cmk_filled html, line;
+        uint32_t number;
+        memset(room, '.', sizeof room);
+        number = cmk_html_into("a & b\n", 6, &options, room, size, &html);
+        if (!is_right(number, room, size, html.length, "<p>a &amp; b</p>\n") || html.place != 0) {
+            return 3;
+        }
+        memset(room, '.', sizeof room);
+        number = cmk_fault_text(CMK_NOT_UTF8, 7, room, size, &line);
+        if (!is_right(number, room, size, line.length, "cmk: F1 not UTF-8 at byte 7\n") || line.place != 0) {
+            return 3;
+        }
+    }
+    return 0;
+}
+
+static int lines(void) {
+    uint32_t number;
+    size_t place;
+    for (number = 0; number <= 14; number++) {
+        for (place = 0; place <= 20; place++) {
+            char line[CMK_LINE_ROOM];
+            cmk_filled filled;
+            if (cmk_fault_text(number, place, line, sizeof line, &filled) == CMK_DONE) {
+                printf("%u %u %s", (unsigned)number, (unsigned)place, line);
+            }
+        }
+    }
+    return 0;
+}
+
+static int nothing(void) {
+    cmk_options options = CMK_OPTIONS;
+    cmk_output output;
+    uint32_t number = cmk_html(NULL, 0, &options, &output);
+    int is_empty = number == CMK_DONE && output.length == 0 && output.size == 1;
+    cmk_free(&output);
+    return is_empty ? 0 : 3;
+}
+
+static const char *const texts[] = {"# a\n\n*b*\n", "> - [c]\n\n[c]: /d\n", "```\n&\n```\n", "a\xff"};
+static const char *const wanted[] = {"<h1>a</h1>\n<p><em>b</em></p>\n", "<blockquote>\n<ul>\n<li><a href=\"/d\">c</a></li>\n</ul>\n</blockquote>\n",
+                                     "<pre><code>&amp;\n</code></pre>\n", ""};
+
+static void *work(void *told) {
+    static const cmk_options options = CMK_OPTIONS;
+    size_t first = (size_t)told, turn;
+    for (turn = 0; turn < 4000; turn++) {
+        size_t at = (first + turn) % 4;
+        cmk_output output = CMK_OUTPUT;
+        uint32_t number = cmk_html(texts[at], strlen(texts[at]), &options, &output);
+        int is_as_wanted = number == (uint32_t)(at == 3 ? CMK_NOT_UTF8 : CMK_DONE) && strcmp(at == 3 ? "" : output.bytes, wanted[at]) == 0;
+        cmk_free(&output);
+        if (!is_as_wanted) {
+            return told;
+        }
+    }
+    return NULL;
+}
+
+static int threads(void) {
+    pthread_t started[4];
+    size_t at;
+    int status = 0;
+    for (at = 0; at < 4; at++) {
+        if (pthread_create(&started[at], NULL, work, (void *)(at + 1)) != 0) {
+            return 3;
+        }
+    }
+    for (at = 0; at < 4; at++) {
+        void *wrong;
+        pthread_join(started[at], &wrong);
+        status = wrong == NULL ? status : 3;
+    }
+    return status;
+}
+
+int main(int count, char **words) {
+    static char text[1 << 20];
+    const char *name = count > 1 ? words[1] : "";
+    cmk_options options = CMK_OPTIONS;
+    size_t length;
+    if (count < 7) {
+        return strcmp(name, "rooms") == 0 ? rooms()
+               : strcmp(name, "lines") == 0 ? lines()
+               : strcmp(name, "nothing") == 0 ? nothing()
+               : strcmp(name, "threads") == 0 ? threads() : 2;
+    }
+    options.bytes = strtoul(words[2], NULL, 10);
+    options.blocks = strtoul(words[3], NULL, 10);
+    options.inlines = strtoul(words[4], NULL, 10);
+    options.older = words[5][0] == '1';
+    options.strike = words[6][0] == '1';
+    length = fread(text, 1, sizeof text, stdin);
+    return strcmp(name, "html") == 0 ? one(cmk_html, text, length, &options)
+           : strcmp(name, "tree") == 0 ? one(cmk_tree, text, length, &options)
+           : strcmp(name, "rewrite") == 0 ? one(cmk_rewrite, text, length, &options)
+           : strcmp(name, "into") == 0 ? into(text, length, &options) : 2;
+}

@@ -1,0 +1,92 @@
+# Builds and installs the program cmk and the library libcmk.
+#
+#   make                                    proves and builds the program, libcmk.a and libcmk.so
+#   make check                              runs the merge gate
+#   make install PREFIX=/usr/local DESTDIR= installs them, with the header, the man pages, the completions and cmk.pc
+#   make uninstall PREFIX= DESTDIR=         takes all of these away
+#
+# BUILD= takes the program and libcmk_c.a that are built already, and proves nothing.
+
+PREFIX = /usr/local
+DESTDIR =
+BINDIR = $(PREFIX)/bin
+LIBDIR = $(PREFIX)/lib
+INCLUDEDIR = $(PREFIX)/include
+MANDIR = $(PREFIX)/share/man
+BASHDIR = $(PREFIX)/share/bash-completion/completions
+ZSHDIR = $(PREFIX)/share/zsh/site-functions
+FISHDIR = $(PREFIX)/share/fish/vendor_completions.d
+CC = cc
+AR = ar
+INSTALL = install
+BUILD = all
+
+VERSION := $(shell sed -n 's/^.define CMK_VERSION "\(.*\)"$$/\1/p' include/cmk.h)
+SONAME := libcmk.so.$(firstword $(subst ., ,$(VERSION)))
+SHARED := libcmk.so.$(VERSION)
+# The three calls for memory that the library makes, of the kit that rt is of.
+KIT := $(shell rt=$$(command -v rt || echo /opt/rattle/bin/rt); dirname "$$(dirname "$$(readlink -f "$$rt")")")
+HEAP := $(KIT)/c/liblibc_c.a
+PROGRAM := crates/cmk/out/cmk
+CRATE := crates/cmk_c/out/libcmk_c.a
+OUT := out
+
+.PHONY: all program library check install uninstall clean
+
+all: program $(OUT)/libcmk.a $(OUT)/$(SHARED) $(OUT)/cmk.pc
+
+# Whether they are current only the build knows, so it is asked each time, and the libraries are linked anew: all is done in a second
+# where nothing has changed.
+program:
+	@$(if $(BUILD),./cmk --version >/dev/null,test -x $(PROGRAM))
+
+library:
+	@$(if $(BUILD),tools/build_library.py,test -r $(CRATE))
+
+# One archive of both.
+$(OUT)/libcmk.a: library
+	@mkdir -p $(OUT)/objects
+	cd $(OUT)/objects && rm -f *.o && $(AR) x $(abspath $(CRATE)) && $(AR) x $(HEAP)
+	rm -f $@
+	$(AR) rcs $@ $(OUT)/objects/*.o
+	rm -r $(OUT)/objects
+
+# Only the exports are seen from outside.
+$(OUT)/$(SHARED): library
+	@mkdir -p $(OUT)
+	$(CC) -shared -o $@ -Wl,-soname,$(SONAME) -Wl,--whole-archive $(CRATE) -Wl,--no-whole-archive \
+		-Wl,--exclude-libs,liblibc_c.a $(HEAP) -Wl,--no-undefined -Wl,-z,relro,-z,now $(LDFLAGS)
+
+$(OUT)/cmk.pc: cmk.pc.in include/cmk.h FORCE
+	@mkdir -p $(OUT)
+	@sed 's|@PREFIX@|$(PREFIX)|; s|@LIBDIR@|$(LIBDIR)|; s|@INCLUDEDIR@|$(INCLUDEDIR)|; s|@VERSION@|$(VERSION)|' cmk.pc.in >$@
+
+FORCE:
+
+check:
+	.ci/run
+
+install: all
+	$(INSTALL) -d $(addprefix $(DESTDIR),$(BINDIR) $(INCLUDEDIR) $(LIBDIR)/pkgconfig $(MANDIR)/man1 $(MANDIR)/man3 $(BASHDIR) $(ZSHDIR) $(FISHDIR))
+	$(INSTALL) -m 755 $(PROGRAM) $(DESTDIR)$(BINDIR)/cmk
+	$(INSTALL) -m 644 include/cmk.h $(DESTDIR)$(INCLUDEDIR)/cmk.h
+	$(INSTALL) -m 644 $(OUT)/libcmk.a $(DESTDIR)$(LIBDIR)/libcmk.a
+	$(INSTALL) -m 755 $(OUT)/$(SHARED) $(DESTDIR)$(LIBDIR)/$(SHARED)
+	ln -sf $(SHARED) $(DESTDIR)$(LIBDIR)/$(SONAME)
+	ln -sf $(SONAME) $(DESTDIR)$(LIBDIR)/libcmk.so
+	$(INSTALL) -m 644 $(OUT)/cmk.pc $(DESTDIR)$(LIBDIR)/pkgconfig/cmk.pc
+	$(INSTALL) -m 644 man/cmk.1 $(DESTDIR)$(MANDIR)/man1/cmk.1
+	$(INSTALL) -m 644 man/cmk.3 $(DESTDIR)$(MANDIR)/man3/cmk.3
+	$(INSTALL) -m 644 completions/cmk.bash $(DESTDIR)$(BASHDIR)/cmk
+	$(INSTALL) -m 644 completions/_cmk $(DESTDIR)$(ZSHDIR)/_cmk
+	$(INSTALL) -m 644 completions/cmk.fish $(DESTDIR)$(FISHDIR)/cmk.fish
+
+uninstall:
+	rm -f $(DESTDIR)$(BINDIR)/cmk $(DESTDIR)$(INCLUDEDIR)/cmk.h $(DESTDIR)$(LIBDIR)/libcmk.a $(DESTDIR)$(LIBDIR)/libcmk.so
+	rm -f $(DESTDIR)$(LIBDIR)/$(SONAME) $(DESTDIR)$(LIBDIR)/$(SHARED) $(DESTDIR)$(LIBDIR)/pkgconfig/cmk.pc
+	rm -f $(DESTDIR)$(MANDIR)/man1/cmk.1 $(DESTDIR)$(MANDIR)/man3/cmk.3
+	rm -f $(DESTDIR)$(BASHDIR)/cmk $(DESTDIR)$(ZSHDIR)/_cmk $(DESTDIR)$(FISHDIR)/cmk.fish
+
+# What is proved stays.
+clean:
+	rm -rf $(OUT)

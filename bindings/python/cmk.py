@@ -1,0 +1,155 @@
+"""CommonMark 0.31.2 to HTML, to a listing of its tree, or to plain source, by the proved library libcmk.
+
+    >>> import cmk
+    >>> cmk.html("a & *b*")
+    '<p>a &amp; <em>b</em></p>\\n'
+
+Each call takes a `str`, or the bytes of a text, and gives a `str`; threads may call at once. A text that is refused raises `CmkError`.
+
+The library is looked for, in this order, as the file that the variable CMK_LIBRARY names, in the folder that `pkg-config
+--variable=libdir cmk` tells, and where the system looks for libcmk.so.0. Where it is in none of them, importing this module says so.
+"""
+
+import ctypes
+import os
+import subprocess
+
+__version__ = "0.1.0"
+__all__ = ["CmkError", "html", "rewrite", "tree", "version"]
+
+_NAME = "libcmk.so.0"
+_OUT_OF_RANGE = 11
+_LINE_ROOM = 127
+
+
+class _Options(ctypes.Structure):
+    _fields_ = [
+        ("bytes", ctypes.c_size_t),
+        ("blocks", ctypes.c_size_t),
+        ("inlines", ctypes.c_size_t),
+        ("older", ctypes.c_bool),
+        ("strike", ctypes.c_bool),
+    ]
+
+
+class _Output(ctypes.Structure):
+    _fields_ = [
+        ("bytes", ctypes.c_void_p),
+        ("size", ctypes.c_size_t),
+        ("length", ctypes.c_size_t),
+        ("place", ctypes.c_size_t),
+    ]
+
+
+class _Filled(ctypes.Structure):
+    _fields_ = [("length", ctypes.c_size_t), ("place", ctypes.c_size_t)]
+
+
+def _folder():
+    """Returns the folder that pkg-config tells, or None."""
+    try:
+        words = ["pkg-config", "--variable=libdir", "cmk"]
+        told = subprocess.run(words, stdout=subprocess.PIPE, stderr=subprocess.DEVNULL, text=True, check=False)
+    except OSError:
+        return None
+    return told.stdout.strip() if told.returncode == 0 else None
+
+
+def _loaded():
+    """Returns the library."""
+    named, folder = os.environ.get("CMK_LIBRARY"), None
+    if not named:
+        folder = _folder()
+        named = os.path.join(folder, _NAME) if folder else _NAME
+    try:
+        return ctypes.CDLL(named)
+    except OSError as why:
+        raise ImportError(f"{why}: install libcmk, or let the variable CMK_LIBRARY name {_NAME}") from why
+
+
+_library = _loaded()
+_free = ctypes.CDLL(None).free
+_free.argtypes, _free.restype = [ctypes.c_void_p], None
+for _call in (_library.cmk_html, _library.cmk_tree, _library.cmk_rewrite):
+    _call.argtypes = [ctypes.c_char_p, ctypes.c_size_t, ctypes.POINTER(_Options), ctypes.POINTER(_Output)]
+    _call.restype = ctypes.c_uint32
+_library.cmk_fault_text.argtypes = [
+    ctypes.c_uint32,
+    ctypes.c_size_t,
+    ctypes.c_char_p,
+    ctypes.c_size_t,
+    ctypes.POINTER(_Filled),
+]
+_library.cmk_fault_text.restype = ctypes.c_uint32
+_library.cmk_version.argtypes, _library.cmk_version.restype = [], ctypes.c_uint32
+
+
+class CmkError(Exception):
+    """Why there is no output.
+
+    `number` is what the library answered, as include/cmk.h has it: 1 for bytes that aren't UTF-8, and so on. `place` is the byte, the line
+    or the leaf, or the number of the reason. `line` is the line that the program prints, as 'cmk: F1 not UTF-8 at byte 2'.
+    """
+
+    def __init__(self, number, place):
+        self.number, self.place, self.line = number, place, _line(number, place)
+        super().__init__(self.line)
+
+    def __reduce__(self):
+        return (CmkError, (self.number, self.place))
+
+
+def _line(number, place):
+    """Returns the line that tells an answer, without its line feed."""
+    room, filled = ctypes.create_string_buffer(_LINE_ROOM), _Filled()
+    if _library.cmk_fault_text(number, place, room, _LINE_ROOM, ctypes.byref(filled)):
+        return f"cmk: answer {number} at {place}"
+    return room.raw[: filled.length].decode().rstrip("\n")
+
+
+def _called(call, text, blocks, inlines, older, strike):
+    """Returns what a call gives for a text."""
+    # 0 would stand for the default, and a wide number would be cut.
+    if not (1 <= blocks <= 500 and 1 <= inlines <= 500):
+        raise CmkError(_OUT_OF_RANGE, 0)
+    given = text.encode() if isinstance(text, str) else text if isinstance(text, bytes) else bytes(memoryview(text))
+    options, output, nothing = _Options(0, blocks, inlines, older, strike), _Output(), ctypes.c_char(0)
+    output.bytes = ctypes.addressof(nothing)
+    number = call(given, len(given), ctypes.byref(options), ctypes.byref(output))
+    if number:
+        raise CmkError(number, output.place)
+    try:
+        return ctypes.string_at(output.bytes, output.length).decode()
+    finally:
+        _free(output.bytes)
+
+
+def html(text, *, blocks=100, inlines=100, older=False, strike=False):
+    """Returns the HTML of a text, as `cmk render` writes it.
+
+    `blocks` is how many quotes and list items may stand round a line, and `inlines` how deep emphasis, links and images may nest, each 1 to
+    500. `older` reads by the older rules, and `strike` reads text between two tildes as struck through. Raises `CmkError` where the text
+    has a fault, memory is wanting, or a number is out of its range.
+
+    Raw HTML of the text is let through, and no destination is judged.
+    """
+    return _called(_library.cmk_html, text, blocks, inlines, older, strike)
+
+
+def tree(text, *, blocks=100, inlines=100, older=False, strike=False):
+    """Returns the listing of the tree of a text and of the owners of its lines, as `cmk tree` writes it. Else as `html`."""
+    return _called(_library.cmk_tree, text, blocks, inlines, older, strike)
+
+
+def rewrite(text, *, blocks=100, inlines=100, older=False, strike=False):
+    """Returns plain source of the tree of a text without its definitions, as `cmk rewrite` writes it.
+
+    Raises `CmkError` as `html` does, and where the tree can't be spelled, with the number 8. Else as `html`.
+    """
+    return _called(_library.cmk_rewrite, text, blocks, inlines, older, strike)
+
+
+def version():
+    """Returns the version of the library that is loaded, as '0.1.0'."""
+    number = _library.cmk_version()
+    return f"{number >> 16}.{number >> 8 & 255}.{number & 255}"

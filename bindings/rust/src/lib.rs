@@ -1,0 +1,165 @@
+//! CommonMark 0.31.2 to HTML, to a listing of its tree, or to plain source, by the proved library libcmk.
+//!
+//! ```
+//! use cmk::Options;
+//!
+//! let html = cmk::html("a & *b* ~~c~~", &Options { strike: true, ..Options::default() }).unwrap();
+//! assert_eq!(&*html, "<p>a &amp; <em>b</em> <del>c</del></p>\n");
+//!
+//! let error = cmk::html(b"ab\xff", &Options::default()).unwrap_err();
+//! assert_eq!((error.number, error.place), (1, 2));
+//! assert_eq!(error.to_string(), "cmk: F1 not UTF-8 at byte 2");
+//! ```
+//!
+//! Any number of threads may call at once. Raw HTML of a text is let through, and no destination is judged.
+
+use std::fmt;
+use std::ops::Deref;
+
+/// What is asked of a reading. The default, all zero, has the standard limits and rules.
+#[repr(C)]
+#[derive(Clone, Copy, Debug, Default, PartialEq, Eq)]
+pub struct Options {
+    /// How many bytes a text may have, 1 to 2^30; 0 stands for 2^28.
+    pub bytes: usize,
+    /// How many quotes and list items may stand round a line, 1 to 500; 0 stands for 100.
+    pub blocks: usize,
+    /// How deep emphasis, links and images may nest, 1 to 500; 0 stands for 100.
+    pub inlines: usize,
+    /// Whether the older rules hold, as by `cmk --older`.
+    pub older: bool,
+    /// Whether text between two tildes is struck through.
+    pub strike: bool,
+}
+
+/// What the library gives back.
+#[repr(C)]
+struct Output {
+    bytes: *const u8,
+    size: usize,
+    length: usize,
+    place: usize,
+}
+
+/// What the library tells that fills room of the caller's.
+#[repr(C)]
+struct Filled {
+    length: usize,
+    place: usize,
+}
+
+type Call = unsafe extern "C" fn(*const u8, usize, *const Options, *mut Output) -> u32;
+
+extern "C" {
+    fn cmk_html(text: *const u8, length: usize, options: *const Options, output: *mut Output) -> u32;
+    fn cmk_tree(text: *const u8, length: usize, options: *const Options, output: *mut Output) -> u32;
+    fn cmk_rewrite(text: *const u8, length: usize, options: *const Options, output: *mut Output) -> u32;
+    fn cmk_fault_text(number: u32, place: usize, room: *mut u8, size: usize, filled: *mut Filled) -> u32;
+    fn cmk_version() -> u32;
+    fn free(block: *mut u8);
+}
+
+/// Room for each line that `cmk_fault_text` puts.
+const LINE_ROOM: usize = 127;
+
+/// Why there is no output. Its `Display` is the line that the program prints.
+#[derive(Clone, Copy, Debug, PartialEq, Eq)]
+pub struct Error {
+    /// What the library answered: 1 for bytes that aren't UTF-8, and so on, as include/cmk.h has it.
+    pub number: u32,
+    /// The byte, the line or the leaf of the fault, or the number of the reason why a tree can't be spelled.
+    pub place: usize,
+}
+
+impl fmt::Display for Error {
+    fn fmt(&self, f: &mut fmt::Formatter<'_>) -> fmt::Result {
+        let (mut room, mut filled) = ([0; LINE_ROOM], Filled { length: 0, place: 0 });
+        // SAFETY: the room has that many bytes, and nothing else refers to it.
+        let answer = unsafe { cmk_fault_text(self.number, self.place, room.as_mut_ptr(), room.len(), &mut filled) };
+        match std::str::from_utf8(&room[..filled.length.min(LINE_ROOM)]) {
+            Ok(line) if answer == 0 => f.write_str(line.trim_end()),
+            _ => write!(f, "cmk: answer {} at {}", self.number, self.place),
+        }
+    }
+}
+
+impl std::error::Error for Error {}
+
+/// An output of the library, seen as a string. Its memory is given back when it is dropped.
+pub struct Text(Output);
+
+// SAFETY: an output is a block of memory of its own, which nothing writes.
+unsafe impl Send for Text {}
+// SAFETY: the same.
+unsafe impl Sync for Text {}
+
+impl Text {
+    fn bytes(&self) -> &[u8] {
+        // SAFETY: the library gave so many bytes, which stay until `self` is dropped.
+        unsafe { std::slice::from_raw_parts(self.0.bytes, self.0.length) }
+    }
+}
+
+impl Deref for Text {
+    type Target = str;
+
+    fn deref(&self) -> &str {
+        // SAFETY: `called` has looked.
+        unsafe { std::str::from_utf8_unchecked(self.bytes()) }
+    }
+}
+
+impl fmt::Debug for Text {
+    fn fmt(&self, f: &mut fmt::Formatter<'_>) -> fmt::Result {
+        fmt::Debug::fmt(&**self, f)
+    }
+}
+
+impl fmt::Display for Text {
+    fn fmt(&self, f: &mut fmt::Formatter<'_>) -> fmt::Result {
+        f.write_str(self)
+    }
+}
+
+impl Drop for Text {
+    fn drop(&mut self) {
+        // SAFETY: the bytes are a block of malloc, and nothing refers to them any more.
+        unsafe { free(self.0.bytes.cast_mut()) }
+    }
+}
+
+/// What a call gives for a text.
+fn called(call: Call, text: &[u8], options: &Options) -> Result<Text, Error> {
+    let mut output = Output { bytes: b"".as_ptr(), size: 0, length: 0, place: 0 };
+    // SAFETY: no pointer is null, also that of an empty text, and nothing else refers to the output.
+    match unsafe { call(text.as_ptr(), text.len(), options, &mut output) } {
+        0 => {
+            let text = Text(output);
+            std::str::from_utf8(text.bytes()).expect("an output is UTF-8");
+            Ok(text)
+        }
+        number => Err(Error { number, place: output.place }),
+    }
+}
+
+/// The HTML of a text, as `cmk render` writes it.
+pub fn html(text: impl AsRef<[u8]>, options: &Options) -> Result<Text, Error> {
+    called(cmk_html, text.as_ref(), options)
+}
+
+/// The listing of the tree of a text and of the owners of its lines, as `cmk tree` writes it.
+pub fn tree(text: impl AsRef<[u8]>, options: &Options) -> Result<Text, Error> {
+    called(cmk_tree, text.as_ref(), options)
+}
+
+/// Plain source of the tree of a text without its definitions, as `cmk rewrite` writes it. A tree that can't be spelled is the error 8.
+pub fn rewrite(text: impl AsRef<[u8]>, options: &Options) -> Result<Text, Error> {
+    called(cmk_rewrite, text.as_ref(), options)
+}
+
+/// The three numbers of the version of the library that is linked.
+pub fn version() -> (u32, u32, u32) {
+    // SAFETY: the call asks for nothing.
+    let number = unsafe { cmk_version() };
+    (number >> 16, number >> 8 & 255, number & 255)
+}

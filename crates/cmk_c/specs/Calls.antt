@@ -1,0 +1,125 @@
+-- What a call from C answers.
+use Rattle.std.specs.Prelude.{◌≡◌, ◌⊎◌, ◌==◌, ℕ, suc, ◌^◌, ◌≤◌, List, [], ◌∷◌, ◌++◌, codes, length, drop, Option, Some, None, Result, Ok, Err, ⊤, option_map, if◌then◌else◌, Vec}
+use Rattle.std.specs.Option.{option_or}
+use Rattle.std.specs.declared.alloc.Global.{Global}
+use Rattle.cm_text.specs.Rules.{Rules}
+use Rattle.cm_text.specs.Limits.{LimitsView, limits_for}
+use Rattle.cm_source.specs.Refusals.{refusal_of}
+use Rattle.cm_tool.specs.declared.fault.Fault.{Fault}
+use Rattle.cm_tool.specs.declared.fault.Fault.TheVariants.{NoMemory, Unspellable}
+use Rattle.cm_tool.specs.Faults.{fault_of}
+use Rattle.cm_tool.specs.Rewriting.{kept_tree}
+use Rattle.cmk_c.specs.declared.options.Options.{Options}
+use Rattle.cmk_c.specs.declared.message.Message.{Message}
+use Rattle.cmk_c.specs.Numbers.{number_of, place_of}
+
+-- the number, or the standard one in place of 0
+abbrev pub or_standard : ℕ → ℕ → ℕ
+or_standard number standard = if number == 0 then standard else number
+
+-- the rules that are asked for
+abbrev pub rules_asked : Options → Rules
+rules_asked options = record { older = options.older; strike = options.strike }
+
+-- limits with these rules
+abbrev pub with_rules : Rules → LimitsView → LimitsView
+with_rules rules limits = record { bytes = limits.bytes; blocks = limits.blocks; inlines = limits.inlines; rules = rules }
+
+-- the limits that are asked for: none where a number is out of its range
+abbrev pub limits_asked : Options → Option LimitsView
+limits_asked options =
+    option_map (with_rules (rules_asked options))
+    (limits_for (or_standard options.bytes (2 ^ 28)) (or_standard options.blocks 100) (or_standard options.inlines 100))
+
+-- why a text isn't rewritten: its fault, or else the reason why its tree can't be spelled
+abbrev pub rewriting_fault : LimitsView → List ℕ → Option Fault
+rewriting_fault limits text = option_or (fault_of limits text) (option_map Unspellable (refusal_of limits.rules (kept_tree limits.rules text)))
+
+-- the bytes with a NUL behind them
+abbrev pub ended : List ℕ → List ℕ
+ended bytes = bytes ++ 0 ∷ []
+
+-- the output that was made, with a NUL behind it, or the fault
+abbrev pub Gives : Option Fault → List ℕ → Result (Vec ℕ Global) Fault → Type 0
+Gives fault output (Ok made) = (fault ≡ None) × (made.items ≡ ended output)
+Gives fault output (Err NoMemory) = ⊤
+Gives fault output (Err told) = fault ≡ Some told
+
+-- What a call gives back: its number, the place of a fault, how many bytes the output has, and the bytes that it gives or that then
+-- stand in the caller's room.
+pub record Answer : Type 0 where
+  pub number : ℕ
+  pub place : ℕ
+  pub count : ℕ
+  pub bytes : List ℕ
+
+-- there is no fault, and these are all the bytes
+pub record IsDone (fault : Option Fault) (output : List ℕ) (answer : Answer) : Type 0 where
+  pub sound : fault ≡ None
+  pub number : answer.number ≡ 0
+  pub place : answer.place ≡ 0
+  pub count : answer.count ≡ length output
+  pub bytes : answer.bytes ≡ ended output
+
+-- there is a fault, which is told, and no output
+pub record IsRefused (fault : Option Fault) (left : List ℕ) (answer : Answer) : Type 0 where
+  pub told : Fault
+  pub is : fault ≡ Some told
+  pub number : answer.number ≡ number_of told
+  pub place : answer.place ≡ place_of told
+  pub count : answer.count ≡ 0
+  pub kept : answer.bytes ≡ left
+
+-- there is no output for another cause, which has this number
+pub record IsEmpty (cause : ℕ) (left : List ℕ) (answer : Answer) : Type 0 where
+  pub number : answer.number ≡ cause
+  pub place : answer.place ≡ 0
+  pub count : answer.count ≡ 0
+  pub kept : answer.bytes ≡ left
+
+-- the output, or the fault, or want of memory
+abbrev pub AnswersBy : Option Fault → List ℕ → Answer → Type 0
+AnswersBy fault output answer = IsDone fault output answer ⊎ (IsRefused fault [] answer ⊎ IsEmpty 5 [] answer)
+
+-- What a call answers on a text: this output, or this fault. Where the options are out of their range it is 11.
+abbrev pub Answers : (fault : LimitsView → List ℕ → Option Fault) → (output : Rules → List ℕ → List ℕ) → Option LimitsView → List ℕ → Answer → Type 0
+Answers fault output None text answer = IsEmpty 11 [] answer
+Answers fault output (Some limits) text answer = AnswersBy (fault limits text) (output limits.rules text) answer
+
+-- the output stands at the front of the room with a NUL behind it, and the other bytes of the room are as they were
+pub record IsFilled (output room : List ℕ) (answer : Answer) : Type 0 where
+  pub number : answer.number ≡ 0
+  pub place : answer.place ≡ 0
+  pub count : answer.count ≡ length output
+  pub filled : answer.bytes ≡ ended output ++ drop (suc (length output)) room
+
+-- there is no room for the output and the NUL; its length is told, and the room is as it was
+pub record IsShort (output room : List ℕ) (answer : Answer) : Type 0 where
+  pub short : length room ≤ length output
+  pub number : answer.number ≡ 12
+  pub place : answer.place ≡ 0
+  pub count : answer.count ≡ length output
+  pub kept : answer.bytes ≡ room
+
+-- one of the two
+abbrev pub IsPut : (output room : List ℕ) → Answer → Type 0
+IsPut output room answer = IsFilled output room answer ⊎ IsShort output room answer
+
+-- the output in the room, or its length; or the fault, or want of memory
+abbrev pub FillsBy : Option Fault → List ℕ → (room : List ℕ) → Answer → Type 0
+FillsBy fault output room answer =
+    ((fault ≡ None) × IsPut output room answer) ⊎ (IsRefused fault room answer ⊎ IsEmpty 5 room answer)
+
+-- what a call answers that puts its output into room of the caller's
+abbrev pub Fills : (fault : LimitsView → List ℕ → Option Fault) → (output : Rules → List ℕ → List ℕ) → Option LimitsView → List ℕ → (room : List ℕ) → Answer → Type 0
+Fills fault output None text room answer = IsEmpty 11 room answer
+Fills fault output (Some limits) text room answer = FillsBy (fault limits text) (output limits.rules text) room answer
+
+-- the line with this text, as the program prints it
+abbrev pub line_of : List ℕ → List ℕ
+line_of text = codes "cmk: " ++ text ++ codes "\n"
+
+-- The line of a message stands in the room, or its length is told. Where there is no message it is 11.
+abbrev pub TellsLine : Option Message → (room : List ℕ) → Answer → Type 0
+TellsLine None room answer = IsEmpty 11 room answer
+TellsLine (Some message) room answer = (text : List ℕ) × IsPut (line_of text) room answer
