@@ -13,9 +13,9 @@ MARKDOWN_IT = "import sys, markdown_it; sys.stdout.write(markdown_it.MarkdownIt(
 PEERS = {
     "cmark": ("cmark", ["cmark", "--unsafe"]),
     "md4c": ("libmd4c-dev", [str(OUT / "md4c")]),
-    "md4c, newer": (NEWER / "md4c_*.orig.tar.gz", [str(OUT / "md4c-newer")]),
+    "md4c-newer": (NEWER / "md4c_*.orig.tar.gz", [str(OUT / "md4c-newer")]),
     "pulldown-cmark": ("pulldown-cmark", ["pulldown-cmark"]),
-    "pulldown-cmark, newer": (NEWER / "pulldown-cmark_*.deb", [str(NEWER / "pulldown-cmark/usr/bin/pulldown-cmark")]),
+    "pulldown-cmark-newer": (NEWER / "pulldown-cmark_*.deb", [str(NEWER / "pulldown-cmark/usr/bin/pulldown-cmark")]),
     "lowdown": ("lowdown", ["lowdown", "-thtml"]),
     "discount": ("discount", ["markdown", "-f", "+fencedcode"]),
     "markdown-it-py": ("python3-markdown-it", ["/usr/bin/python3", "-X", "utf8", "-c", MARKDOWN_IT]),
