@@ -1,7 +1,7 @@
 #!/usr/bin/env python3
 """Tells how much a byte of text may become: for each kind of text the output and the memory of a run, by the byte.
 
-  tools/worst_cases.py PROGRAM [SIZE]     texts of about so many bytes (1,000,000)
+  bench/worst_cases.py PROGRAM [SIZE]     texts of about so many bytes (1,000,000)
 
 A line for each kind of text and each job: bytes of output and bytes of memory for a byte of text. Memory is the largest resident set
 of the run, without the 2 MB that a run of an empty text holds. An output that grows as the square of the text isn't counted, and such
@@ -11,6 +11,8 @@ a text isn't rewritten, since its source is held whole.
 import subprocess
 import sys
 import tempfile
+
+from programs import run
 
 DEEP = "> " * 99
 EMPTY = 2_000_000
@@ -70,15 +72,14 @@ KINDS = {
 
 def measured(program, job, file, name, text):
     """The two figures of a job."""
-    is_counted = name != SQUARE
-    out = subprocess.PIPE if is_counted else subprocess.DEVNULL
-    ran = subprocess.run(["/usr/bin/time", "-f", "%M", program, job, file], stdout=out, stderr=subprocess.PIPE, check=False)
-    if ran.returncode:
+    with tempfile.TemporaryFile() as output:
+        used = run([program, job], file, output=subprocess.DEVNULL if name == SQUARE else output)
+        length = output.seek(0, 2)
+    if used.status:
         return "        refused"
     size = len(text.encode())
-    written = f"{len(ran.stdout) / size:7.1f}" if is_counted else "      -"
-    held = int(ran.stderr.split()[-1]) * 1024 - EMPTY
-    return f"{written} {max(0, held) / size:7.1f}"
+    written = "      -" if name == SQUARE else f"{length / size:7.1f}"
+    return f"{written} {max(0, used.memory - EMPTY) / size:7.1f}"
 
 
 def main():

@@ -1,7 +1,7 @@
 #!/usr/bin/env python3
 """Writes a text of blocks of all kinds that can be rewritten, in which one word in so many is marked.
 
-  marked.py MEGABYTES ONE_IN [SEED]
+  bench/marked.py MEGABYTES ONE_IN [SEED]
 
 One megabyte of blocks, made at random, stands in it over and over, behind fifty link reference definitions.
 """
@@ -76,12 +76,18 @@ class Writer:
         return "".join(made)
 
 
-def main():
-    size, one_in = int(float(sys.argv[1]) * 1_000_000), int(sys.argv[2])
-    writer = Writer(one_in, int(sys.argv[3]) if len(sys.argv) > 3 else 1)
+def text(size, one_in, seed=1):
+    """About so many bytes, in which one word in so many is marked."""
+    writer = Writer(one_in, seed)
     definitions = "".join(f"[ref{number}]: /{writer.word()}/{number} '{writer.word()}'\n" for number in range(50))
     blocks = writer.blocks(1_000_000)
-    sys.stdout.write(definitions + "\n" + blocks * -(-size // len(blocks)))
+    return definitions + "\n" + blocks * -(-size // len(blocks))
 
 
-main()
+def main():
+    size, one_in = int(float(sys.argv[1]) * 1_000_000), int(sys.argv[2])
+    sys.stdout.write(text(size, one_in, *map(int, sys.argv[3:])))
+
+
+if __name__ == "__main__":
+    main()

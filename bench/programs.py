@@ -1,0 +1,79 @@
+"""The programs that are measured, and what a run of one takes."""
+
+import pathlib
+import shutil
+import subprocess
+import typing
+
+HERE = pathlib.Path(__file__).resolve().parent
+OUT = HERE / "out"
+NEWER = OUT / "newer"
+MARKDOWN_IT = "import sys, markdown_it; sys.stdout.write(markdown_it.MarkdownIt('commonmark').render(sys.stdin.read()))"
+# Each by the package that has it, and its words. Beside the first five one turn on an input is enough: the others are slow.
+PEERS = {
+    "cmark": ("cmark", ["cmark", "--unsafe"]),
+    "md4c": ("libmd4c-dev", [str(OUT / "md4c")]),
+    "md4c-newer": (NEWER / "md4c_*.orig.tar.gz", [str(OUT / "md4c-newer")]),
+    "pulldown-cmark": ("pulldown-cmark", ["pulldown-cmark"]),
+    "pulldown-cmark-newer": (NEWER / "pulldown-cmark_*.deb", [str(NEWER / "pulldown-cmark/usr/bin/pulldown-cmark")]),
+    "lowdown": ("lowdown", ["lowdown", "-thtml"]),
+    "discount": ("discount", ["markdown", "-f", "+fencedcode"]),
+    "markdown-it-py": ("python3-markdown-it", ["/usr/bin/python3", "-X", "utf8", "-c", MARKDOWN_IT]),
+}
+SLOW = ["lowdown", "discount", "markdown-it-py"]
+
+
+class Used(typing.NamedTuple):
+    """What one run took: seconds of a processor, bytes at the most, and the status with which it ended."""
+
+    seconds: float
+    memory: int
+    status: int
+
+
+def programs(cmk, with_slow=False):
+    """The words of each program that is there, by its name: `cmk` first, if its path is given."""
+    found = {"cmk": [str(pathlib.Path(cmk).resolve()), "render"]} if cmk else {}
+    found |= {name: words for name, (_, words) in PEERS.items() if with_slow or name not in SLOW}
+    return {name: words for name, words in found.items() if shutil.which(words[0])}
+
+
+def version_of(name):
+    """The version of a peer, without what its packager adds to it, or nothing."""
+    package = PEERS.get(name, ("", []))[0]
+    if isinstance(package, pathlib.Path):
+        version = max((file.name.split("_")[1] for file in package.parent.glob(package.name)), default="")
+    else:
+        asked = ["dpkg-query", "--show", "--showformat=${Version}", package]
+        version = subprocess.run(asked, capture_output=True, text=True).stdout if package else ""
+    return version.split("-")[0].split("+")[0].removesuffix(".orig.tar.gz")
+
+
+def run(words, file, seconds=120, output=subprocess.DEVNULL):
+    """Runs a program on a file, with so many seconds of a processor at most."""
+    with open(file, "rb") as given:
+        asked = [str(OUT / "measure"), str(seconds), *words]
+        told = subprocess.run(asked, stdin=given, stdout=output, stderr=subprocess.PIPE, text=True).stderr
+    user, system, memory, status = map(int, told.split())
+    return Used((user + system) / 1e6, memory * 1024, status)
+
+
+def turns(named, file, count, seconds=120):
+    """The runs of all programs on a file, in turns, so that what else the machine does meets all alike.
+
+    A slow program has one turn, and a program that failed no more.
+    """
+    ran = {name: [] for name in named}
+    for turn in range(count):
+        for name, words in named.items():
+            failed = any(used.status for used in ran[name])
+            if not failed and not (turn and name in SLOW):
+                ran[name].append(run(words, file, seconds))
+    return ran
+
+
+def least(runs):
+    """The least time of some runs and their greatest memory, or None where one failed."""
+    if any(used.status for used in runs):
+        return None
+    return Used(min(used.seconds for used in runs), max(used.memory for used in runs), 0)
