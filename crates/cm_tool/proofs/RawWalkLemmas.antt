@@ -1,10 +1,9 @@
 -- Blocks whose inlines haven't been read, as they are walked: their leaves, what is written of them, and how deep they nest.
-use Rattle.std.proofs.Common.{◌≡◌, ◌∙◌, ◌≤◌, ◌<◌, ◌+◌, codes, ℕ, zero, suc, List, [], ◌∷◌, ◌++◌, length, map, get_or, true, false, refl, sym, ap, ap₂, subst, append_assoc, append-nil, arith}
+use Rattle.std.proofs.Common.{◌≡◌, ◌∙◌, ◌+◌, codes, ℕ, List, [], ◌∷◌, ◌++◌, map, true, false, refl, sym, ap, subst, append_assoc, append-nil, arith}
 use Rattle.std.specs.Prelude.{Bool, cond, nat_lt, option_map, Some, None}
 use Rattle.std.specs.List.{slice_range}
 use Rattle.cm_text.specs.Rules.{Rules}
-use Rattle.cm_tree.specs.Depth.{inlines_depth, depth_step, block_depth_step, depth_of_block, blocks_depth}
-use Rattle.cm_tree.specs.steps.ItemSteps.{items_depth}
+use Rattle.cm_tree.specs.Depth.{inlines_depth, depth_step}
 use Rattle.cm_tree.specs.declared.tree.Inline.{Inline}
 use Rattle.cm_tree.specs.declared.tree.Inline.TheFolds.{fold_out-Inline}
 use Rattle.cm_tree.specs.declared.tree.Inline.TheVariants.{Text, outs-Text}
@@ -25,8 +24,7 @@ use Rattle.cm_tool.specs.declared.fault.Fault.{Fault}
 use Rattle.cm_tool.specs.declared.fault.Fault.TheVariants.{InlinesTooDeep}
 use Rattle.cm_tree.specs.declared.raw_blocks.RawBlock.{RawBlock}
 use Rattle.cm_tree.specs.declared.raw_blocks.RawBlock.TheVariants as raw_block
-use Rattle.cm_tree.specs.declared.raw_blocks.RawItem.{RawItem}
-use Rattle.cm_tree.specs.RawBlocks.{Raw, block_in, blocks_in, item_in, items_in}
+use Rattle.cm_tree.specs.RawBlocks.{Raw, block_in}
 use Rattle.cm_tool.specs.Leaves.{depths_in, depths_step, first_past, leaf_depths}
 use Rattle.cm_tool.specs.Parsing.{TellsFault}
 use Rattle.cm_tool.specs.steps.Items.{items_read, items_leaf_depths}

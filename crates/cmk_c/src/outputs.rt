@@ -1,74 +1,26 @@
-//! What is made of a text in memory: the one file that says how a text is read here.
-ghost use Rattle.std.specs.Prelude.{◌≡◌, ◌+◌, ◌≤◌, ◌^◌, [], Some, IfErr, IfOk};
+//! What is made of a text, with a NUL behind it.
+ghost use Rattle.std.specs.Prelude.{◌≡◌, ◌≤◌, ◌^◌, List, ℕ, IfErr, IfOk, IfSome, string_bytes};
 ghost use Rattle.cm_tool.specs.declared.fault.Fault.TheVariants.{NoMemory};
 ghost use Rattle.cm_tool.specs.Faults.{fault_of};
 ghost use Rattle.cm_tool.specs.Writing.{converted, listed};
 ghost use Rattle.cm_tool.specs.Rewriting.{rewritten};
 ghost use Rattle.cmk_c.specs.Calls.{Gives, ended, rewriting_fault};
-ghost use Rattle.cmk_c.specs.steps.Memory.{in_memory};
 ghost use Rattle.cmk_c.specs.steps.Places.{HasPlace};
 
 use cm_html::listing;
-use cm_text::{DeviceFailed, FromRead, Limits, Sink};
-use cm_tool::{Fault, convert, read, rewrite};
+use cm_text::Limits;
+use cm_tool::Fault;
 use std::alloc::Global;
 
-/// Bytes in memory. A write fails where there is no memory for it.
-#[derive(Drop)]
-struct Gathered {
-    bytes: Vec<u8>,
-    failures: u64,
-}
-
-impl Gathered {
-    /// No bytes so far.
-    fn new(alloc: Global) -> Gathered
-        ensures taken { ⟦<Gathered as Sink>⟧.taken result ≡ Some [] }
-        ensures failed { ⟦<Gathered as Sink>⟧.failed result ≡ 0 }
-    {
-        Gathered {
-            bytes: Vec::new(alloc),
-            failures: 0,
-        }
-    }
-}
-
-impl Sink for Gathered {
-    ghost taken = { λ s. Some s.bytes.items };
-
-    ghost failed = { λ s. s.failures };
-
-    fn write(&mut self, bytes: &[u8]) -> Result<usize, DeviceFailed> {
-        match self.bytes.extend_from_slice(bytes) {
-            Ok(()) => Ok(bytes.len()),
-            Err(_) => {
-                self.failures += 1;
-                Err(DeviceFailed)
-            }
-        }
-    }
-
-    fn failures(&self) -> u64 {
-        self.failures
-    }
-}
-
-/// A fault of a reading from memory into memory, where a device fails for want of memory alone.
-fn in_memory(fault: Fault) -> Fault
-    ensures { result ≡ in_memory fault }
-{
-    match fault {
-        Fault::ReadFailed => Fault::NoMemory,
-        Fault::WriteFailed { .. } => Fault::NoMemory,
-        other => other,
-    }
-}
-
-/// The bytes with a NUL behind them.
-fn with_nul(mut bytes: Vec<u8>) -> Result<Vec<u8>, Fault>
-    ensures value { IfOk result (λ made. made.items ≡ ended bytes.items) }
+/// The bytes of a text with a NUL behind them, if there was memory for it.
+fn with_nul(text: Option<String>) -> Result<Vec<u8>, Fault>
+    ensures value { (output : List ℕ) → IfSome text (λ text. string_bytes text ≡ output) → IfOk result (λ made. made.items ≡ ended output) }
     ensures memory { IfErr result (λ fault. fault ≡ NoMemory) }
 {
+    let Some(text) = text else {
+        return Err(Fault::NoMemory);
+    };
+    let mut bytes = text.into_bytes();
     match bytes.push(0) {
         Ok(()) => Ok(bytes),
         Err(_) => Err(Fault::NoMemory),
@@ -81,11 +33,9 @@ pub(crate) fn html_of(alloc: Global, text: &[u8], limits: Limits) -> Result<Vec<
     ensures value { Gives (fault_of limits text.now) (converted limits.rules text.now) result }
     ensures place { IfErr result HasPlace }
 {
-    let mut source = FromRead::new(text);
-    let mut sink = Gathered::new(alloc);
-    match convert(alloc, &mut source, &mut sink, limits) {
-        Ok(_) => with_nul(sink.bytes),
-        Err(fault) => Err(in_memory(fault)),
+    match cm_tool::html_of(alloc, text, limits) {
+        Ok(pages) => with_nul(pages.into_string().ok()),
+        Err(fault) => Err(fault),
     }
 }
 
@@ -95,14 +45,9 @@ pub(crate) fn tree_of(alloc: Global, text: &[u8], limits: Limits) -> Result<Vec<
     ensures value { Gives (fault_of limits text.now) (listed limits.rules text.now) result }
     ensures place { IfErr result HasPlace }
 {
-    let mut source = FromRead::new(text);
-    let doc = match read(alloc, &mut source, limits) {
-        Ok(doc) => doc,
-        Err(fault) => return Err(in_memory(fault)),
-    };
-    match listing(alloc, &doc) {
-        Ok(text) => with_nul(text.into_bytes()),
-        Err(_) => Err(Fault::NoMemory),
+    match cm_tool::doc_of(alloc, text, limits) {
+        Ok(doc) => with_nul(listing(alloc, &doc).ok()),
+        Err(fault) => Err(fault),
     }
 }
 
@@ -112,10 +57,8 @@ pub(crate) fn source_of(alloc: Global, text: &[u8], limits: Limits) -> Result<Ve
     ensures value { Gives (rewriting_fault limits text.now) (rewritten limits.rules text.now) result }
     ensures place { IfErr result HasPlace }
 {
-    let mut source = FromRead::new(text);
-    let mut sink = Gathered::new(alloc);
-    match rewrite(alloc, &mut source, &mut sink, limits) {
-        Ok(_) => with_nul(sink.bytes),
-        Err(fault) => Err(in_memory(fault)),
+    match cm_tool::source_of(alloc, text, limits) {
+        Ok(source) => with_nul(Some(source)),
+        Err(fault) => Err(fault),
     }
 }

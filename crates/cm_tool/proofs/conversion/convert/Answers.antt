@@ -1,4 +1,3 @@
-use Rattle.std.proofs.Common.{◌∙◌}
 use Rattle.std.proofs.lemmas.Result.{err_from_is_err_and}
 use Rattle.cm_tool.proofs.ConversionLemmas.{html_lost}
 use Rattle.cm_tool.proofs.conversion.convert.Goals as goal

@@ -1,30 +1,19 @@
-use Rattle.std.proofs.Common.{sym, refl, subst}
-use Rattle.std.specs.Prelude.{Err}
 use Rattle.cm_tool.specs.Rewriting.{rewritten}
-use Rattle.cmk_c.specs.Calls.{Gives, rewriting_fault}
-use Rattle.cmk_c.proofs.CallLemmas.{are_bytes, given, unrewritten, is_source}
+use Rattle.cmk_c.proofs.CallLemmas.{given, no_fault, unrewritten}
 use Rattle.cmk_c.proofs.PlaceLemmas.{no_memory_has_place, unrewritten_has_place}
 use Rattle.cmk_c.proofs.outputs.source_of.Goals as goal
 
 pub returns-in-Ok-clause-value : goal.returns-in-Ok-clause-value
 returns-in-Ok-clause-value c =
-    let h = c.in-Ok.ensures in
-    given _ _ _ c.with_nul.result
-    (is_source c.args.limits c.args.text.now h.0 _ _ (are_bytes c.args.text.now c.type_inv.text) c.new-source.ensures.remaining h.1
-    _ _ c.in-Ok.field-0 c.rewrite.new.sink.bytes.items c.new-sink.ensures.taken refl h.2)
-    c.with_nul.ensures.value c.with_nul.ensures.memory
+    let made = c.in-Ok.ensures in
+    given _ _ c.with_nul.result (no_fault c.args.limits c.args.text.now made.0 made.1.0) (c.with_nul.ensures.value (rewritten c.args.limits.rules c.args.text.now) made.2) c.with_nul.ensures.memory
 
 pub returns-in-Err-clause-value : goal.returns-in-Err-clause-value
-returns-in-Err-clause-value c =
-    let h = c.in-Err.ensures in
-    subst (λ f. Gives (rewriting_fault c.args.limits c.args.text.now) (rewritten c.args.limits.rules c.args.text.now) (Err f)) (sym c.in_memory.ensures)
-    (unrewritten c.args.limits c.args.text.now h.0 _ _ (are_bytes c.args.text.now c.type_inv.text) c.new-source.ensures.remaining h.1
-    _ _ c.in-Err.fault h.2 (rewritten c.args.limits.rules c.args.text.now))
+returns-in-Err-clause-value c = unrewritten c.args.limits c.args.text.now c.in-Err.fault (rewritten c.args.limits.rules c.args.text.now) c.in-Err.ensures
 
 pub returns-in-Ok-clause-place : goal.returns-in-Ok-clause-place
 returns-in-Ok-clause-place c = no_memory_has_place c.with_nul.result c.with_nul.ensures.memory
 
 pub returns-in-Err-clause-place : goal.returns-in-Err-clause-place
 returns-in-Err-clause-place c =
-    unrewritten_has_place c.args.limits c.args.text.now c.requires c.in_memory.result
-    (rewritten c.args.limits.rules c.args.text.now) (returns-in-Err-clause-value c)
+    unrewritten_has_place c.args.limits c.args.text.now c.requires c.in-Err.fault (rewritten c.args.limits.rules c.args.text.now) (returns-in-Err-clause-value c)
