@@ -1,6 +1,24 @@
-//! One pass over the lines of a document, by a stack of open blocks.
+//! One pass over the lines of a document, by a stack of open blocks. It comes to the blocks, the owner of each line and the
+//! definitions, and reads no inlines.
 //!
-//! For users: [`BlockParser`], and what an [`Outline`] gives by `to_blocks` and `to_owners`. The crates above use its fields.
+//! Begin with [`BlockParser`]: give it each line, and `finish` it. What an [`Outline`] has as values of the tree it gives by
+//! `to_blocks` and `to_owners`. The crates above use its fields.
+//!
+//! ```
+//! use cm_block::{BlockFault, BlockParser};
+//! use cm_text::{Limits, Line};
+//! use cm_tree::{Block, Items};
+//! use std::alloc::Global;
+//!
+//! // The blocks of these lines. Each paragraph and heading has its source as its one inline.
+//! fn blocks(alloc: Global, lines: &[Line]) -> Result<Items<Block>, BlockFault> {
+//!     let mut parser = BlockParser::new(alloc, Limits::standard());
+//!     for line in lines {
+//!         parser.line(line)?;
+//!     }
+//!     Ok(parser.finish()?.to_blocks(alloc)?)
+//! }
+//! ```
 #![tactic(auto)]
 
 mod closed_leaf;

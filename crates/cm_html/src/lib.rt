@@ -1,7 +1,22 @@
 //! The tree of a document as HTML and as a listing.
 //!
-//! For users: [`html`], [`write_html`], [`listing`] and [`write_listing`]. [`Pages`], and the calls that add a part of the HTML to
-//! them, are what the crates above use.
+//! Begin with [`html`], or with [`write_html`] where the HTML goes to a sink. [`listing`] and [`write_listing`] give the listing.
+//! [`Pages`], and the calls that add a part of the HTML to them, are what the crates above use.
+//!
+//! ```
+//! use cm_html::html;
+//! use cm_text::NoMemory;
+//! use cm_tree::{Doc, has_raw_html};
+//! use std::alloc::Global;
+//!
+//! // The HTML of a document that strangers wrote, or None where it has raw HTML.
+//! fn shown(alloc: Global, doc: &Doc) -> Result<Option<String>, NoMemory> {
+//!     if has_raw_html(&doc.blocks) {
+//!         return Ok(None);
+//!     }
+//!     Ok(Some(html(alloc, doc)?))
+//! }
+//! ```
 #![tactic(auto)]
 
 mod blocks;

@@ -1,7 +1,21 @@
 //! The inlines of a leaf (CommonMark 0.31.2, chapter 6).
 //!
-//! For users: [`inlines`], [`inlines_by`], and [`InlineReader::inlines`] for one leaf after another in the same memory. The rest is
-//! what the crates above use.
+//! Begin with [`inlines`], or [`inlines_by`] for other rules. [`InlineReader::inlines`] reads one leaf after another in the same
+//! memory. The rest is what the crates above use.
+//!
+//! ```
+//! use cm_inline::{InlineFault, inlines};
+//! use cm_tree::{Definitions, Inline, Items};
+//! use std::alloc::Global;
+//!
+//! // The inlines of a paragraph's source, where `[home]` leads to `/`.
+//! fn read(alloc: Global, source: &str) -> Result<Items<Inline>, InlineFault> {
+//!     let mut definitions = Definitions::new(alloc);
+//!     definitions.add("home", "/", "")?;
+//!     let (content, _steps) = inlines(alloc, source, &definitions, 100)?;
+//!     Ok(content)
+//! }
+//! ```
 #![tactic(auto)]
 
 mod atoms;

@@ -1,9 +1,32 @@
-//! The definitions of CommonMark's block structure and inlines, and the scanners of their forms.
+//! The definitions of CommonMark's block structure and inlines (`specs/`), and the scanners of their forms. Each scanner takes a
+//! text and a place in it. It answers what it read there and where that ends, or None.
 //!
-//! For users: the scanners of lines, [`thematic`], [`atx`], [`underline`], [`fence`], [`fence_end`], [`html_start`],
-//! [`html_end`], [`quote_marker`] and [`item_marker`]; those of definitions, [`label`], [`destination`], [`title`] and
-//! [`definition`]; and those of inlines, [`autolink`], [`raw_html`] and [`code_span`]; `html_start_by` and `raw_html_by` are the
-//! same by any rules. The rest is what the crates above use.
+//! Begin with the scanner of the form that you look for.
+//!
+//! - Lines: [`thematic`], [`atx`], [`underline`], [`fence`], [`fence_end`], [`html_start`], [`html_end`], [`quote_marker`] and
+//!   [`item_marker`].
+//! - Link reference definitions: [`label`], [`destination`], [`title`] and [`definition`].
+//! - Inlines: [`autolink`], [`raw_html`] and [`code_span`].
+//!
+//! [`html_start_by`] and [`raw_html_by`] are the same by any rules. The rest is what the crates above use.
+//!
+//! ```
+//! use cm_scan::{atx, autolink};
+//!
+//! // What a heading says that stands in this line.
+//! fn heading(line: &str) -> Option<&str> {
+//!     let (heading, _end) = atx(line, 0)?;
+//!     Some(heading.content)
+//! }
+//!
+//! // Whether the text is an autolink from its front to its end.
+//! fn is_autolink(text: &str) -> bool {
+//!     match autolink(text, 0) {
+//!         Some((_link, end)) => end == text.len(),
+//!         None => false,
+//!     }
+//! }
+//! ```
 #![tactic(auto)]
 
 mod angled;

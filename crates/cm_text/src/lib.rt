@@ -1,10 +1,34 @@
-//! The text of a document: its limits, its lines in whatever pieces it comes, its characters, escapes
-//! and references, and the devices that bytes come from and go to.
+//! The text of a document: its limits, its lines in whatever pieces it comes, its characters, escapes and references, and the
+//! devices that bytes come from and go to. It knows nothing of blocks and inlines.
 //!
-//! For users: [`Limits`] with [`Rules`]; the devices, [`Source`], [`Sink`], [`FromRead`], [`FromWrite`], [`Pieces`] and
-//! [`Room`]; the lines of a text, [`LineFeed`], [`Line`], [`View`], [`indent`] and [`strip`]; what is read in a text,
-//! [`reference_at`], [`unescape`], [`fold_label`], [`next_markup`], [`is_ascii_punct`], [`is_punct`] and [`is_space`]; and
-//! the faults. The rest is what the crates above use.
+//! Begin with [`Limits`] and [`Rules`], which each reading takes, and with [`LineFeed`] for the lines of a text.
+//!
+//! - Devices: [`Source`], [`Sink`], [`FromRead`], [`FromWrite`], and in memory [`Pieces`] and [`Room`].
+//! - Lines: [`LineFeed`], [`Line`], [`View`], [`indent`] and [`strip`].
+//! - What is read in a text: [`reference_at`], [`unescape`], [`fold_label`], [`next_markup`], [`is_ascii_punct`], [`is_punct`] and
+//!   [`is_space`].
+//! - Faults: [`TextFault`], [`WriteFailed`], [`DeviceFailed`] and [`NoMemory`].
+//!
+//! The rest is what the crates above use.
+//!
+//! ```
+//! use cm_text::{Limits, Line, LineFeed, Rules, TextFault};
+//! use std::alloc::Global;
+//!
+//! // The standard limits, with strikethrough.
+//! fn with_strikethrough() -> Limits {
+//!     Limits::standard().with_rules(Rules::profile().with_strike(true))
+//! }
+//!
+//! // The first line of a text that comes in two pieces.
+//! fn first_line(alloc: Global, front: &[u8], rest: &[u8]) -> Result<Option<Line>, TextFault> {
+//!     let mut feed = LineFeed::new(alloc, with_strikethrough());
+//!     feed.push(front)?;
+//!     feed.push(rest)?;
+//!     feed.end()?;
+//!     Ok(feed.next_line())
+//! }
+//! ```
 #![tactic(auto)]
 
 mod characters;

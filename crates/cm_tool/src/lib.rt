@@ -1,9 +1,32 @@
-//! `cmk`: from the bytes of a CommonMark text, in whatever pieces they come, to its document and its HTML,
-//! and the program round it.
+//! From the bytes of a CommonMark text, in whatever pieces they come, to its document, its HTML and its plain source; and the
+//! program `cmk` round that.
 //!
-//! For users: [`html_of`], [`doc_of`] and [`source_of`] of a text in memory; [`convert`], [`read`], [`rewrite`] and [`read_text`]
-//! from a source; [`Parser`] for pieces; [`examples`] and [`examples_by`]; and [`Fault`]. The program itself is made of [`task`],
-//! [`run`] and [`tell`].
+//! Begin with [`html_of`], [`doc_of`] or [`source_of`] for a text in memory.
+//!
+//! - From a source to a sink: [`convert`], [`read`], [`rewrite`] and [`read_text`].
+//! - For pieces as they come: [`Parser`].
+//! - For files of examples: [`examples`] and [`examples_by`], whose [`Report`] tells its verdict.
+//! - [`Fault`] has each fault, with the line that the program prints.
+//!
+//! The program itself is made of [`task`], [`run`] and [`tell`].
+//!
+//! ```
+//! use cm_text::Limits;
+//! use cm_tool::{Fault, doc_of, html_of};
+//! use cm_tree::has_raw_html;
+//! use std::alloc::Global;
+//!
+//! // The HTML of a text.
+//! fn html(alloc: Global, text: &[u8]) -> Result<String, Fault> {
+//!     Ok(html_of(alloc, text, Limits::standard())?.into_string()?)
+//! }
+//!
+//! // Whether a text has raw HTML.
+//! fn is_raw(alloc: Global, text: &[u8]) -> Result<bool, Fault> {
+//!     let doc = doc_of(alloc, text, Limits::standard())?;
+//!     Ok(has_raw_html(&doc.blocks))
+//! }
+//! ```
 #![tactic(auto)]
 
 mod conversion;
