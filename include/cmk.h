@@ -67,7 +67,8 @@ typedef struct cmk_filled {
 
 /* Gives the HTML of the text. The output is what `cmk render` writes, and is to be given back by cmk_free.
  * Answers CMK_DONE, or the text's one fault with its place, or CMK_NO_MEMORY, or CMK_OUT_OF_RANGE; with these there are no bytes.
- * Raw HTML of the text is let through, and no destination is judged: the HTML isn't for showing what strangers write as it is. */
+ * Raw HTML of the text goes to the output as it stands, and destinations aren't checked: `javascript:` links stay. So the HTML
+ * isn't for showing what strangers write as it is. */
 uint32_t cmk_html(const char *text, size_t length, const cmk_options *options, cmk_output *output);
 
 /* Gives the listing of the tree of the text and of the owners of its lines, as `cmk tree` writes it. Else as cmk_html. */

@@ -131,7 +131,7 @@ def html(text, *, blocks=100, inlines=100, older=False, strike=False):
     500. `older` reads by the older rules, and `strike` reads text between two tildes as struck through. Raises `CmkError` where the text
     has a fault, memory is wanting, or a number is out of its range.
 
-    Raw HTML of the text is let through, and no destination is judged.
+    Raw HTML of the text goes to the output as it stands. Destinations aren't checked: `javascript:` links stay.
     """
     return _called(_library.cmk_html, text, blocks, inlines, older, strike)
 

@@ -11,7 +11,8 @@
 //! assert_eq!(error.to_string(), "cmk: F1 not UTF-8 at byte 2");
 //! ```
 //!
-//! Any number of threads may call at once. Raw HTML of a text is let through, and no destination is judged.
+//! Any number of threads may call at once. Raw HTML of a text goes to the output as it stands. Destinations aren't checked:
+//! `javascript:` links stay.
 
 use std::fmt;
 use std::ops::Deref;
