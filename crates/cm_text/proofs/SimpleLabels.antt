@@ -1,11 +1,12 @@
 -- Labels of visible ASCII characters and single spaces.
-use Rattle.std.proofs.Common.{◌≡◌, ℕ, zero, suc, ◌<◌, ◌==◌, ◌||◌, Bool, true, false, List, [], ◌∷◌, map, refl, ap, sym, ◌∙◌, arith}
+use Rattle.std.proofs.Common.{◌≡◌, ℕ, zero, suc, ◌<◌, ◌==◌, ◌||◌, Bool, true, false, not, List, [], ◌∷◌, map, refl, ap, sym, ◌∙◌, arith}
 use Rattle.std.specs.Prelude.{IsAscii}
-use Rattle.std.specs.Char.{to_ascii_lowercase, is_ascii_graphic}
+use Rattle.std.specs.Char.{to_ascii_lowercase, is_ascii_graphic, is_ascii_uppercase}
+use Rattle.std.specs.List.{list_all}
 use Rattle.std.proofs.lemmas.Bool.{and_parts}
 use Rattle.std.proofs.lemmas.Bool.Decides.{nat_tests}
 use Rattle.cm_text.specs.Labels.{is_gap, settle_gaps, fold_label}
-use Rattle.cm_text.specs.steps.LabelSteps.{begins_visible, is_single_space, goes_on_simple, is_simple, is_settled, settled_by}
+use Rattle.cm_text.specs.steps.LabelSteps.{begins_visible, is_single_space, goes_on_simple, is_simple, is_plain, is_settled, settled_by}
 use Rattle.cm_text.proofs.FoldLemmas.{ascii_folds}
 use Rattle.cm_text.proofs.LabelLemmas.{settled}
 
@@ -58,3 +59,17 @@ unfolding fold_label
 simple_folds text h =
     let parts = and_parts (begins_visible text) (goes_on_simple text) h in
     sym (ap settle_gaps (ascii_folds text (simple_ascii text parts.1)) ∙ settled (map to_ascii_lowercase text) ((both_settled text parts.1).1 parts.0))
+
+-- without capitals it is lent
+
+lower_same : (b : ℕ) → not (is_ascii_uppercase b) ≡ true → to_ascii_lowercase b ≡ b
+lower_same b h = grind (arith, nat_tests)
+
+all_lower : (text : List ℕ) → list_all (λ b. not (is_ascii_uppercase b)) text ≡ true → map to_ascii_lowercase text ≡ text
+all_lower [] h = refl
+all_lower (b ∷ bs) h = let parts = and_parts (not (is_ascii_uppercase b)) (list_all (λ c. not (is_ascii_uppercase c)) bs) h in
+    λ i. lower_same b parts.0 i ∷ all_lower bs parts.1 i
+
+pub plain_folds : (text : List ℕ) → is_plain text ≡ true → text ≡ fold_label text
+plain_folds text h = let parts = and_parts (is_simple text) (list_all (λ b. not (is_ascii_uppercase b)) text) h in
+    sym (all_lower text parts.1) ∙ simple_folds text parts.0

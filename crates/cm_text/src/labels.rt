@@ -1,11 +1,13 @@
 //! Labels as they are compared.
 ghost use Rattle.std.specs.Prelude.{◌≡◌, ◌<◌, true, ◌++◌, length, drop, string_bytes, encode_utf8, IfOk, OnOk};
+ghost use Rattle.std.specs.Cow.{cow_str_bytes};
 ghost use Rattle.cm_text.specs.Labels.{case_fold, fold_label, is_gap, settle_gaps};
-ghost use Rattle.cm_text.specs.steps.LabelSteps.{begins_visible, is_settled, is_simple, is_single_space, put_after};
+ghost use Rattle.cm_text.specs.steps.LabelSteps.{begins_visible, has_no_capitals, is_plain, is_settled, is_simple, is_single_space, put_after};
 
 use crate::device::NoMemory;
 use caseless::default_case_fold_str;
 use std::alloc::{AllocError, Global};
+use std::borrow::CowStr;
 
 /// A label as it is compared: case folded in full (Unicode), without the spaces, tabs and line endings
 /// at its ends, and with each run of them inside as one space. Two labels match where this is equal.
@@ -28,6 +30,33 @@ pub fn fold_label(alloc: Global, label: &str) -> Result<String, NoMemory>
         return Ok(folded);
     }
     Ok(settle_gaps(alloc, &folded)?)
+}
+
+/// The same, but a label of visible ASCII characters without capitals, and single spaces between them, is lent as it is.
+///
+/// # Errors
+///
+/// As `fold_label`.
+pub fn fold_label_or_lend(alloc: Global, label: &str) -> Result<CowStr<'_, Global>, NoMemory>
+    ensures { IfOk result (λ folded. cow_str_bytes folded ≡ fold_label label.now) }
+{
+    if is_plain(label.as_bytes()) {
+        return Ok(CowStr::Borrowed(label));
+    }
+    Ok(CowStr::Owned(fold_label(alloc, label)?))
+}
+
+/// Whether a text is simple, and has no capitals.
+fn is_plain(text: &[u8]) -> bool
+    ensures { result ≡ is_plain text.now }
+{
+    is_simple(text) && has_no_capitals(text)
+}
+
+fn has_no_capitals(text: &[u8]) -> bool
+    ensures { result ≡ has_no_capitals text.now }
+{
+    text.iter().all(|b| !b.is_ascii_uppercase())
 }
 
 /// Whether a text that isn't empty is visible ASCII characters and single spaces between them, as most labels are.

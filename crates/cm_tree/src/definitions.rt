@@ -10,7 +10,7 @@ ghost use Rattle.cm_tree.specs.steps.LabelIndex.{GoesIn, IsSame};
 use crate::entries::{Entry, entry_under, indexed};
 use crate::label_index::LabelIndex;
 use crate::link_target::LinkTarget;
-use cm_text::{NoMemory, fold_label};
+use cm_text::{NoMemory, fold_label_or_lend};
 use std::alloc::{AllocError, Global};
 use std::marker::Model;
 
@@ -67,8 +67,8 @@ impl Definitions {
         ensures ok { OnOk result (self.new ≡ add_first self.old (fold_label label.now) (dest.now, title.now)) }
         ensures err { OnErr result (self.new ≡ self.old) }
     {
-        let folded = fold_label(self.alloc, label)?;
-        Ok(self.add_folded(&folded, dest, title)?)
+        let folded = fold_label_or_lend(self.alloc, label)?;
+        Ok(self.add_folded(folded.as_str(), dest, title)?)
     }
 
     fn add_folded(&mut self, label: &str, dest: &str, title: &str) -> Result<(), AllocError>
@@ -140,8 +140,9 @@ impl Definitions {
     pub fn target(&self, label: &str) -> Result<Option<LinkTarget<'_>>, NoMemory>
         ensures { IfOk result (λ found. option_map led_to found ≡ map.get self.now (fold_label label.now)) }
     {
-        let folded = fold_label(self.alloc, label)?;
-        Ok(self.look(number_of(folded.as_bytes()), &folded))
+        let folded = fold_label_or_lend(self.alloc, label)?;
+        let folded = folded.as_str();
+        Ok(self.look(number_of(folded.as_bytes()), folded))
     }
 
     /// The same, by a folded label of this number.

@@ -1,6 +1,7 @@
 -- One character more, as a label is settled from the left.
 use Rattle.std.specs.Prelude.{ℕ, Bool, true, false, not, ◌&&◌, ◌||◌, ◌==◌, List, [], ◌∷◌}
-use Rattle.std.specs.Char.{is_ascii_graphic}
+use Rattle.std.specs.Char.{is_ascii_graphic, is_ascii_uppercase}
+use Rattle.std.specs.List.{list_all}
 use Rattle.cm_text.specs.Labels.{is_gap}
 
 -- what a character adds to the text that was made, where a gap stands before it or doesn't
@@ -38,3 +39,10 @@ goes_on_simple (b ∷ bs) = (is_ascii_graphic b || is_single_space (b ∷ bs)) &
 -- that, with such a character first
 abbrev pub is_simple : List ℕ → Bool
 is_simple text = begins_visible text && goes_on_simple text
+
+abbrev pub has_no_capitals : List ℕ → Bool
+has_no_capitals text = list_all (λ b. not (is_ascii_uppercase b)) text
+
+-- a simple text without capitals
+abbrev pub is_plain : List ℕ → Bool
+is_plain text = is_simple text && has_no_capitals text
