@@ -83,11 +83,11 @@ impl Definitions {
         self.add_new(number, label, dest, title)
     }
 
-    /// Keeps at least two slots for each entry.
+    /// Keeps at least two slots for each entry that stands in one.
     fn make_room(&mut self) -> Result<(), AllocError>
         ensures { self.new ≡ self.old }
     {
-        if self.index.is_crowded(self.entries.len()) {
+        if self.index.is_full(self.entries.len()) {
             let slots = self.index.next_slots();
             self.index = indexed(self.alloc, &self.texts, &self.entries, slots)?;
         }

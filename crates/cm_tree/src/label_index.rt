@@ -17,7 +17,7 @@ pub(crate) const NEAR: usize = 16;
 pub(crate) struct LabelIndex {
     /// Entries, counted from 1; 0 is a free slot.
     pub(crate) slots: Vec<u32>,
-    /// Entries by their labels.
+    /// Entries that found no slot, by their labels.
     pub(crate) crowded: BTreeMap<String, usize>,
 }
 
@@ -42,9 +42,10 @@ impl LabelIndex {
         })
     }
 
-    /// Whether one more than so many entries leaves fewer than two slots for each.
-    pub(crate) fn is_crowded(&self, entries: usize) -> bool {
-        entries >= self.slots.len() / 2
+    /// Whether there are fewer than two slots for each of so many entries and one more, but for those in the tree: slots that
+    /// labels were made to miss needn't be more.
+    pub(crate) fn is_full(&self, entries: usize) -> bool {
+        entries.saturating_sub(self.crowded.len()) >= self.slots.len() / 2
     }
 
     /// How many slots come next: a power of two in which labels begin, and those that end behind them.
