@@ -32,8 +32,8 @@ use Rattle.cm_scan.specs.Documents.{with_inlines}
 use Rattle.cm_tool.specs.Document.{doc_of}
 use Rattle.cm_scan.specs.Documents.{tree_of}
 use Rattle.cm_tool.specs.Faults.{fault_of, settled_fault_of}
-use Rattle.cm_tool.specs.Parsing.{Goes, TellsFault}
-use Rattle.cm_tool.specs.steps.Ends.{IsOutline, Makes}
+use Rattle.cm_tool.specs.Parsing.{Goes, TellsFault, Makes}
+use Rattle.cm_tool.specs.steps.Ends.{IsOutline}
 use Rattle.cm_tool.proofs.EndedLemmas.{all_are_lines, ended_are_lines, ended_stay}
 use Rattle.cm_tool.specs.steps.FaultOrder.{leaf_deep, of_four, of_two}
 use Rattle.cm_tool.proofs.OrderLemmas.{faults_in_order}

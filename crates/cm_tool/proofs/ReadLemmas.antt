@@ -7,9 +7,9 @@ use Rattle.cm_tree.specs.declared.tree.Doc.{Doc}
 use Rattle.cm_tool.specs.declared.fault.Fault.{Fault}
 use Rattle.cm_tool.specs.declared.fault.Fault.TheVariants.{NotUtf8, TooLong, BlocksTooDeep, InlinesTooDeep, NoMemory, ReadFailed, WriteFailed, Unspellable, BadExampleFile, ExampleDiffers}
 use Rattle.cm_tool.specs.Faults.{fault_of, settled_fault_of}
-use Rattle.cm_tool.specs.Parsing.{ParserView, TellsFault, Finishes}
+use Rattle.cm_tool.specs.Parsing.{ParserView, TellsFault, Finishes, Makes}
 use Rattle.cm_tool.specs.Reading.{SourceView, HasFailed, RefusesBy, Reads}
-use Rattle.cm_tool.specs.steps.Ends.{Makes, ReadsAs, TakesIn}
+use Rattle.cm_tool.specs.steps.Ends.{ReadsAs, TakesIn}
 use Rattle.cm_tool.proofs.ParserLemmas.{nothing_settled}
 
 -- these bytes have been read so far, and no read has failed

@@ -1,20 +1,26 @@
 -- Rewriting a text.
 use Rattle.std.proofs.Common.{◌≡◌, ◌∙◌, ℕ, List, length, ap, subst}
-use Rattle.std.specs.Prelude.{Ok, Err, String, string_bytes, IsUtf8}
+use Rattle.std.specs.Prelude.{None, Ok, Err, String, string_bytes, IsUtf8}
 use Rattle.std.proofs.lemmas.Str.{IsUtf8-string_bytes}
 use Rattle.std.specs.declared.alloc.Global.{Global}
 use Rattle.cm_text.specs.Limits.{LimitsView}
 use Rattle.cm_text.specs.Writing.{SinkView, Wrote, WroteFront}
 use Rattle.cm_tool.specs.declared.fault.Fault.TheVariants.{WriteFailed}
+use Rattle.cm_tool.specs.Faults.{fault_of}
 use Rattle.cm_tool.specs.Reading.{SourceView, ReadWhole}
 use Rattle.cm_tool.specs.Rewriting.{Rewrites, IsLasting, kept_tree}
 use Rattle.cm_tool.specs.steps.Sources.{Spelled}
 use Rattle.cm_tool.proofs.LastingLemmas.{is_lasting}
 
+-- what is spelled lasts
+pub lasts : (limits : LimitsView) (bytes : List ℕ) → fault_of limits bytes ≡ None → (text : String Global) → Spelled limits.rules (kept_tree limits.rules bytes) (Ok text)
+    → IsLasting limits bytes
+lasts limits bytes sound text spelled = is_lasting limits bytes sound spelled.0 (subst IsUtf8 spelled.1 (IsUtf8-string_bytes text))
+
 module _ (limits : LimitsView) (bytes : List ℕ) (from left : SourceView) (old new : SinkView) (read : ReadWhole limits bytes from left)
     (text : String Global) (spelled : Spelled limits.rules (kept_tree limits.rules bytes) (Ok text)) where
   lasting : IsLasting limits bytes
-  lasting = is_lasting limits bytes read.sound spelled.0 (subst IsUtf8 spelled.1 (IsUtf8-string_bytes text))
+  lasting = lasts limits bytes read.sound text spelled
 
   -- it went out
   pub went_out : (written : List ℕ) (n : ℕ) → written ≡ string_bytes text → n ≡ length (string_bytes text) → Wrote old new written 0

@@ -24,9 +24,10 @@ use Rattle.cm_scan.specs.Blocks.{first_too_deep}
 use Rattle.cm_scan.specs.Laws.{AreLines}
 use Rattle.cm_block.proofs.Depths.{too_deep_stays}
 use Rattle.cm_tool.specs.declared.fault.Fault.{Fault}
-use Rattle.cm_tool.specs.declared.fault.Fault.TheVariants.{BlocksTooDeep, InlinesTooDeep}
+use Rattle.cm_tool.specs.declared.fault.Fault.TheVariants.{NotUtf8, TooLong, BlocksTooDeep, InlinesTooDeep, NoMemory, ReadFailed, WriteFailed, Unspellable, BadExampleFile, ExampleDiffers}
+use Rattle.cm_tool.specs.Parsing.{TellsFault}
 use Rattle.cm_tool.specs.Fault.{told}
-use Rattle.cm_tool.specs.Faults.{SettledIsTold}
+use Rattle.cm_tool.specs.Faults.{SettledIsTold, fault_of, settled_fault_of}
 use Rattle.cm_tool.specs.steps.FaultOrder.{of_two, of_four, fault_met, settled_fault_met, ended_deep, all_deep, leaf_deep}
 use Rattle.cm_tool.proofs.OrderLemmas.{faults_in_order}
 use Rattle.cm_tool.proofs.EndedLemmas.{wider, cut_on, ended_stay, ended_are_lines}
@@ -225,3 +226,22 @@ settled_is_told limits bytes fault = (
   λ is more are. (faults_in_order limits (bytes ++ more)).0 ∙ stays limits bytes more fault are (sym (faults_in_order limits bytes).1 ∙ is),
   λ settles. (faults_in_order limits bytes).1 ∙ comes_back limits bytes fault (λ more are. sym (faults_in_order limits (bytes ++ more)).0 ∙ settles more are),
 )
+
+-- a fault that bytes settle is theirs where they are all
+pub tells_whole : (limits : LimitsView) (bytes : List ℕ) (fault : Fault) → TellsFault fault (settled_fault_of limits bytes) → TellsFault fault (fault_of limits bytes)
+tells_whole limits bytes fault tells = by_fault fault tells
+  where
+    whole : (f : Fault) → settled_fault_of limits bytes ≡ Some f → fault_of limits bytes ≡ Some f
+    whole f e = ap (fault_of limits) (sym (append-nil bytes)) ∙ (settled_is_told limits bytes f).0 e [] (All-nil (λ b. b < 256))
+
+    by_fault : (f : Fault) → TellsFault f (settled_fault_of limits bytes) → TellsFault f (fault_of limits bytes)
+    by_fault (NotUtf8 at) e = whole (NotUtf8 at) e
+    by_fault (TooLong at) e = whole (TooLong at) e
+    by_fault (BlocksTooDeep line) e = whole (BlocksTooDeep line) e
+    by_fault (InlinesTooDeep leaf) e = whole (InlinesTooDeep leaf) e
+    by_fault NoMemory e = tt
+    by_fault ReadFailed e = absurd e
+    by_fault (WriteFailed written) e = absurd e
+    by_fault (Unspellable why) e = absurd e
+    by_fault (BadExampleFile line) e = absurd e
+    by_fault (ExampleDiffers number) e = absurd e

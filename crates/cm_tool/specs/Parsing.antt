@@ -47,3 +47,8 @@ Answers (Err fault) told = TellsFault fault told
 abbrev pub Finishes : Result Doc Fault → LimitsView → List ℕ → Type 0
 Finishes (Ok doc) limits bytes = (fault_of limits bytes ≡ None) × (doc ≡ doc_of limits.rules bytes)
 Finishes (Err fault) limits bytes = TellsFault fault (fault_of limits bytes)
+
+-- the end of the input: what is made of bytes that have no fault, or their fault
+abbrev pub Makes : {A : Type 0} → (Made : A → Type 0) → Result A Fault → LimitsView → List ℕ → Type 0
+Makes Made (Ok made) limits bytes = (fault_of limits bytes ≡ None) × Made made
+Makes Made (Err fault) limits bytes = TellsFault fault (fault_of limits bytes)

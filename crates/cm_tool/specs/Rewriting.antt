@@ -1,5 +1,6 @@
 -- What rewriting a text answers, and what it has written then.
-use Rattle.std.specs.Prelude.{◌≡◌, ℕ, ◌≤◌, List, length, Some, None, Result, Ok, Err, ⊤}
+use Rattle.std.specs.Prelude.{◌≡◌, ℕ, ◌≤◌, List, length, Some, None, Result, Ok, Err, ⊤, String, string_bytes}
+use Rattle.std.specs.declared.alloc.Global.{Global}
 use Rattle.cm_text.specs.Rules.{Rules}
 use Rattle.cm_text.specs.Limits.{LimitsView}
 use Rattle.cm_text.specs.Writing.{SinkView, IsUnwritten}
@@ -11,6 +12,7 @@ use Rattle.cm_tool.specs.declared.fault.Fault.{Fault}
 use Rattle.cm_tool.specs.declared.fault.Fault.TheVariants.{Unspellable, WriteFailed}
 use Rattle.cm_scan.specs.Documents.{tree_of}
 use Rattle.cm_tool.specs.Faults.{fault_of}
+use Rattle.cm_tool.specs.Parsing.{TellsFault}
 use Rattle.cm_tool.specs.Reading.{SourceView, ReadWhole}
 use Rattle.cm_tool.specs.Writing.{Writes}
 
@@ -44,3 +46,11 @@ Rewrites (Err (Unspellable why)) limits bytes from left old new =
     ReadWhole limits bytes from left × (refusal_of limits.rules (kept_tree limits.rules bytes) ≡ Some why) × IsUnwritten old new
 Rewrites answer limits bytes from left old new =
     Writes (λ old new text. IsUnwritten old new) rewritten answer limits bytes from left old new × LastingIfWritten answer limits bytes
+
+-- the end of the input: the spelling of its tree without definitions, or the input's fault, or why the tree can't be spelled
+abbrev pub MakesSource : Result (String Global) Fault → LimitsView → List ℕ → Type 0
+MakesSource (Ok text) limits bytes =
+    (fault_of limits bytes ≡ None) × IsLasting limits bytes × (string_bytes text ≡ rewritten limits.rules bytes)
+MakesSource (Err (Unspellable why)) limits bytes =
+    (fault_of limits bytes ≡ None) × (refusal_of limits.rules (kept_tree limits.rules bytes) ≡ Some why)
+MakesSource (Err fault) limits bytes = TellsFault fault (fault_of limits bytes)

@@ -8,10 +8,10 @@ ghost use Rattle.cm_scan.specs.Laws.{AreLines};
 ghost use Rattle.cm_block.specs.Parser.{StandsFor as HasTaken, TellsDepth};
 ghost use Rattle.cm_tool.specs.declared.fault.Fault as faults;
 ghost use Rattle.cm_tool.specs.Faults.{fault_of, settled_fault_of};
-ghost use Rattle.cm_tool.specs.Parsing.{Goes, StandsFor, Answers, Finishes, TellsFault};
+ghost use Rattle.cm_tool.specs.Parsing.{Goes, StandsFor, Answers, Finishes, TellsFault, Makes};
 ghost use Rattle.cm_tool.specs.Rewriting.{kept_tree};
 ghost use Rattle.cm_tool.specs.Writing.{converted};
-ghost use Rattle.cm_tool.specs.steps.Ends.{IsOutline, Makes};
+ghost use Rattle.cm_tool.specs.steps.Ends.{IsOutline};
 ghost use Rattle.cm_tool.specs.steps.Pushing.{Pushes, Counts};
 ghost use Rattle.cm_tool.specs.steps.Sources.{Spelled};
 
@@ -99,8 +99,12 @@ impl Parser {
         result
     }
 
-    /// The HTML of the document in pages, where the bytes so far are all.
-    pub(crate) fn finish_html(self) -> Result<Pages, Fault>
+    /// The HTML of the document in pages, where the bytes so far are all. No tree is made.
+    ///
+    /// # Errors
+    ///
+    /// As `finish`.
+    pub fn finish_html(self) -> Result<Pages, Fault>
         ensures { (limits : LimitsView) (bytes : List ℕ) → StandsFor limits self bytes →
             Makes (λ pages. pages ≡ converted limits.rules bytes) result limits bytes }
     {

@@ -4,6 +4,7 @@ use crate::calls::answer::Answer;
 use crate::dialects::rules_of;
 use crate::trouble::Trouble;
 use crate::words::{Word, number};
+use cm_html::Pages;
 use cm_inline::{InlineFault, InlineReader, Steps, inlines, inlines_by, is_one_text};
 use cm_text::Rules;
 use cm_tree::{Definitions, Inline, Items};
@@ -23,7 +24,7 @@ fn inlines_of(
 fn html_of(
     reader: &mut InlineReader,
     (rules, limit): (Rules, usize),
-    html: &mut String,
+    html: &mut Pages,
     leaf: &str,
     table: &Definitions,
 ) -> Result<(), InlineFault> {
@@ -39,14 +40,14 @@ fn read(
 ) -> Result<bool, Trouble> {
     let table = Definitions::new(answer.alloc);
     let mut reader = InlineReader::new(answer.alloc);
-    let mut html = String::new(answer.alloc);
+    let mut html = Pages::new(answer.alloc)?;
     for leaf in leaves {
         let (Word::Text(leaf) | Word::Plain(leaf)) = leaf;
         let inlines = inlines_of(&mut reader, (rules, limit), &table, leaf);
         let written = html_of(&mut reader, (rules, limit), &mut html, leaf, &table);
         answer.shown(&(inlines, written))?;
     }
-    answer.text(html.as_str())?;
+    answer.text(html.into_string()?.as_str())?;
     Ok(true)
 }
 

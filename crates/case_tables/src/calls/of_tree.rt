@@ -18,12 +18,19 @@ fn table(alloc: Global, given: &[Word]) -> Result<Definitions, Trouble> {
     Ok(table)
 }
 
-/// Answers the call, if it is one of `cm_tree`: what a table has under a label.
+/// Answers the call, if it is one of `cm_tree`: what a table has under a label, as texts or as they are lent.
 pub fn answers(answer: &mut Answer, name: &str, given: &[Word]) -> Result<bool, Trouble> {
-    let ("find", [Word::Text(label), given @ ..]) = (name, given) else {
+    let [Word::Text(label), given @ ..] = given else {
         return Ok(false);
     };
+    if name != "find" && name != "target" {
+        return Ok(false);
+    }
     let table = table(answer.alloc, given)?;
-    answer.shown(&table.find(label.as_str())?)?;
+    if name == "find" {
+        answer.shown(&table.find(label.as_str())?)?;
+    } else {
+        answer.shown(&table.target(label.as_str())?)?;
+    }
     Ok(true)
 }

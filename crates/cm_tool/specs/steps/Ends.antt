@@ -9,7 +9,7 @@ use Rattle.cm_block.specs.Parser.{OutlineOf}
 use Rattle.cm_tool.specs.declared.fault.Fault.{Fault}
 use Rattle.cm_tool.specs.declared.fault.Fault.TheVariants.{InlinesTooDeep}
 use Rattle.cm_tool.specs.Faults.{fault_of}
-use Rattle.cm_tool.specs.Parsing.{ParserView, StandsFor, TellsFault}
+use Rattle.cm_tool.specs.Parsing.{ParserView, StandsFor}
 use Rattle.cm_tool.specs.Reading.{SourceView, ReadWhole, Refuses}
 use Rattle.cm_tool.specs.steps.FaultOrder.{leaf_deep}
 
@@ -22,11 +22,6 @@ pub record IsOutline (limits : LimitsView) (bytes : List ℕ) (outline : Outline
 abbrev pub TakesIn : Result ParserView Fault → LimitsView → List ℕ → SourceView → SourceView → Type 0
 TakesIn (Ok parser) limits bytes old new = (new.failed ≡ old.failed) × IsAtEnd new.remaining × StandsFor limits parser bytes
 TakesIn (Err fault) limits bytes old new = Refuses fault limits bytes old new
-
--- what is made of bytes that have no fault, or their fault
-abbrev pub Makes : {A : Type 0} → (Made : A → Type 0) → Result A Fault → LimitsView → List ℕ → Type 0
-Makes Made (Ok made) limits bytes = (fault_of limits bytes ≡ None) × Made made
-Makes Made (Err fault) limits bytes = TellsFault fault (fault_of limits bytes)
 
 -- what is made of the bytes of a source, or why it isn't
 abbrev pub ReadsAs : {A : Type 0} → (Made : A → Type 0) → Result A Fault → LimitsView → List ℕ → SourceView → SourceView → Type 0

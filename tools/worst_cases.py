@@ -1,0 +1,98 @@
+#!/usr/bin/env python3
+"""Tells how much a byte of text may become: for each kind of text the output and the memory of a run, by the byte.
+
+  tools/worst_cases.py PROGRAM [SIZE]     texts of about so many bytes (1,000,000)
+
+A line for each kind of text and each job: bytes of output and bytes of memory for a byte of text. Memory is the largest resident set
+of the run, without the 2 MB that a run of an empty text holds. An output that grows as the square of the text isn't counted, and such
+a text isn't rewritten, since its source is held whole.
+"""
+
+import subprocess
+import sys
+import tempfile
+
+DEEP = "> " * 99
+EMPTY = 2_000_000
+SQUARE = "references to an address of half the text"
+
+
+def times(piece):
+    """A text of about a size, of one piece over and over."""
+    return lambda size: piece * max(1, size // len(piece.encode()))
+
+
+def behind(front, piece):
+    """The same behind a front."""
+    return lambda size: front + times(piece)(size - len(front))
+
+
+def numbered(make):
+    """A text of about a size, of pieces that a number tells apart."""
+    return lambda size: "".join(make(n) for n in range(size // len(make(1000))))
+
+
+def each_twice(size):
+    """Short definitions, each of which is referred to twice."""
+    count = size // 24
+    return "".join(f"[{n:x}]:/\n" for n in range(count)) + "\n" + "".join(f"[{n:x}]\n" for n in range(count)) * 2
+
+
+KINDS = {
+    SQUARE: lambda size: f"[x]: {'a' * (size // 2)}\n\n" + "[x]" * (size // 6),
+    "references to an address of 63 bytes": behind(f"[x]: {'a' * 63}\n\n", "[x]"),
+    "the same, each byte percent-encoded, with a title of quotation marks": behind(f"[x]: {'ä' * 31} '{chr(34) * 63}'\n\n", "[x]"),
+    "the same in paragraphs": behind(f"[x]: {'ä' * 31} '{chr(34) * 63}'\n\n", "[x]\n\n"),
+    "an address behind each link, percent-encoded": times("[](ä)"),
+    "definitions": numbered(lambda n: f"[{n:x}]:/\n"),
+    "definitions, each referred to twice": each_twice,
+    "definitions of one label": times("[a]:/\n"),
+    "lines in 99 quotes, lazily": behind(f"{DEEP}a\n", "a\n"),
+    "items nested 99 deep": times("".join("  " * n + "- a\n" for n in range(99))),
+    "quotation marks": times('"'),
+    "blank lines": times("\n"),
+    "lines of a letter": times("a\n"),
+    "paragraphs of a letter": times("a\n\n"),
+    "items of a letter": times("- a\n"),
+    "breaks": times("***\n"),
+    "delimiter runs that open": times("*a "),
+    "emphasis": times("*a*"),
+    "brackets that open": times("["),
+    "brackets and links": times("[](a)"),
+    "code spans": times("`a`"),
+    "character references": times("&lt;"),
+    "escapes": times("\\<"),
+    "autolinks": times("<a:b>"),
+    "raw HTML": times("<b>"),
+    "hard breaks": times("a\\\n"),
+}
+
+
+def measured(program, job, file, name, text):
+    """The two figures of a job."""
+    is_counted = name != SQUARE
+    out = subprocess.PIPE if is_counted else subprocess.DEVNULL
+    ran = subprocess.run(["/usr/bin/time", "-f", "%M", program, job, file], stdout=out, stderr=subprocess.PIPE, check=False)
+    if ran.returncode:
+        return "        refused"
+    size = len(text.encode())
+    written = f"{len(ran.stdout) / size:7.1f}" if is_counted else "      -"
+    held = int(ran.stderr.split()[-1]) * 1024 - EMPTY
+    return f"{written} {max(0, held) / size:7.1f}"
+
+
+def main():
+    program, size = sys.argv[1], int(sys.argv[2]) if len(sys.argv) > 2 else 1_000_000
+    print("render           tree             rewrite          (output and memory for a byte of text)")
+    for name, make in KINDS.items():
+        text = make(size)
+        with tempfile.NamedTemporaryFile("w", encoding="utf-8", suffix=".md") as file:
+            file.write(text)
+            file.flush()
+            jobs = ("render", "tree") if name == SQUARE else ("render", "tree", "rewrite")
+            figures = [measured(program, job, file.name, name, text) for job in jobs]
+            print(f"{'  '.join(figures):50} {name}", flush=True)
+
+
+if __name__ == "__main__":
+    main()
