@@ -21,4 +21,4 @@ pub mod StripLemmas
 pub mod ViewLemmas
 pub mod EndedLines
 pub mod FoldLemmas
-pub mod SimpleLabels
+pub mod PlainLabels

@@ -1,11 +1,13 @@
 //! Labels as they are compared.
 ghost use Rattle.std.specs.Prelude.{◌≡◌, ◌<◌, true, ◌++◌, length, drop, string_bytes, encode_utf8, IfOk, OnOk};
+ghost use Rattle.std.specs.Cow.{cow_str_bytes};
 ghost use Rattle.cm_text.specs.Labels.{case_fold, fold_label, is_gap, settle_gaps};
-ghost use Rattle.cm_text.specs.steps.LabelSteps.{begins_visible, is_settled, is_simple, is_single_space, put_after};
+ghost use Rattle.cm_text.specs.steps.LabelSteps.{begins_plain, is_plain, is_plain_byte, is_settled, is_single_space, put_after};
 
 use crate::device::NoMemory;
 use caseless::default_case_fold_str;
 use std::alloc::{AllocError, Global};
+use std::borrow::CowStr;
 
 /// A label as it is compared: case folded in full (Unicode), without the spaces, tabs and line endings
 /// at its ends, and with each run of them inside as one space. Two labels match where this is equal.
@@ -20,9 +22,6 @@ use std::alloc::{AllocError, Global};
 pub fn fold_label(alloc: Global, label: &str) -> Result<String, NoMemory>
     ensures { IfOk result (λ folded. string_bytes folded ≡ fold_label label.now) }
 {
-    if is_simple(label.as_bytes()) {
-        return Ok(label.to_ascii_lowercase(alloc)?);
-    }
     let folded = case_fold(alloc, label)?;
     if is_settled(folded.as_bytes()) {
         return Ok(folded);
@@ -30,36 +29,58 @@ pub fn fold_label(alloc: Global, label: &str) -> Result<String, NoMemory>
     Ok(settle_gaps(alloc, &folded)?)
 }
 
-/// Whether a text that isn't empty is visible ASCII characters and single spaces between them, as most labels are.
-fn is_simple(text: &[u8]) -> bool
-    ensures { result ≡ is_simple text.now }
+/// The same, but a label of visible ASCII characters without capitals, and single spaces between them, is lent as it is.
+///
+/// # Errors
+///
+/// As `fold_label`.
+pub fn fold_label_or_lend(alloc: Global, label: &str) -> Result<CowStr<'_, Global>, NoMemory>
+    ensures { IfOk result (λ folded. cow_str_bytes folded ≡ fold_label label.now) }
 {
-    if !begins_visible(text, 0) {
+    if is_plain(label.as_bytes()) {
+        return Ok(CowStr::Borrowed(label));
+    }
+    Ok(CowStr::Owned(fold_label(alloc, label)?))
+}
+
+/// Whether a text that isn't empty is visible ASCII characters without capitals, and single spaces between them, as most labels are.
+fn is_plain(text: &[u8]) -> bool
+    ensures { result ≡ is_plain text.now }
+{
+    if !begins_plain(text, 0) {
         return false;
     }
     for at in 0..text.len() {
-        if !text[at].is_ascii_graphic() && !is_single_space(text, at) {
+        if !is_plain_byte(text[at]) && !is_single_space(text, at) {
             return false;
         }
     }
     true
 }
 
-/// Whether a space stands there, and a visible ASCII character behind it. It is a call of its own, so that visible
-/// characters are passed over with as little as that takes.
+/// Whether a byte is a visible ASCII character that is no capital.
+#[inline(always)]
+fn is_plain_byte(b: u8) -> bool
+    ensures { result ≡ is_plain_byte b }
+{
+    b.is_ascii_graphic() && !b.is_ascii_uppercase()
+}
+
+/// Whether a space stands there, and such a character behind it. It is a call of its own, so that such characters are
+/// passed over with as little as that takes.
 #[inline(never)]
 fn is_single_space(text: &[u8], at: usize) -> bool
     requires { at < length text.now }
     ensures { result ≡ is_single_space (drop at text.now) }
 {
-    text[at] == b' ' && begins_visible(text, at + 1)
+    text[at] == b' ' && begins_plain(text, at + 1)
 }
 
-/// Whether a visible ASCII character stands there.
-fn begins_visible(text: &[u8], at: usize) -> bool
-    ensures { result ≡ begins_visible (drop at text.now) }
+/// Whether such a character stands there.
+fn begins_plain(text: &[u8], at: usize) -> bool
+    ensures { result ≡ begins_plain (drop at text.now) }
 {
-    text.get(at).is_some_and(|b| b.is_ascii_graphic())
+    text.get(at).is_some_and(|b| is_plain_byte(*b))
 }
 
 /// A text with its case folded in full. ASCII is folded without the table.

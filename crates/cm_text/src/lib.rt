@@ -60,7 +60,7 @@ pub use device::{DeviceFailed, FromRead, FromWrite, NoMemory, Pieces, Room, Sink
 pub use fault::TextFault;
 pub use feed::LineFeed;
 pub use indentation::{indent, strip};
-pub use labels::fold_label;
+pub use labels::{fold_label, fold_label_or_lend};
 pub use limits::Limits;
 pub use line_buffer::LineBuffer;
 pub use lines::Line;

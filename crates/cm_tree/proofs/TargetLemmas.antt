@@ -15,7 +15,7 @@ goes-on old more new is utf8 = record { more = more; utf8 = utf8; is = is }
 pub same-goes-on : (old new : List ℕ) → new ≡ old → GoesOn old new
 same-goes-on old new same = goes-on old [] new (same ∙ sym (append-nil old)) IsUtf8-nil
 
-between-grows : (old new : List ℕ) (from to : ℕ) → GoesOn old new → IsBetween old from to → IsBetween new from to
+pub between-grows : (old new : List ℕ) (from to : ℕ) → GoesOn old new → IsBetween old from to → IsBetween new from to
 between-grows old new from to grows between =
     (between.0, boundary-grows old grows.more new from grows.is grows.utf8 between.1, boundary-grows old grows.more new to grows.is grows.utf8 between.2)
 

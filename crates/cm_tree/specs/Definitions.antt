@@ -1,10 +1,9 @@
 -- Link reference definitions by their folded labels (CommonMark 0.31.2, 4.7 and 6.3).
-use Rattle.std.specs.Prelude.{◌≡◌, ℕ, List, [], ◌∷◌, map, Option, Some, None, if◌then◌else◌, string_bytes, String}
+use Rattle.std.specs.Prelude.{◌≡◌, ℕ, List, [], ◌∷◌, Option, Some, None, if◌then◌else◌}
 use Rattle.std.specs.Ordering.{nat_cmp}
 use Rattle.std.specs.Cmp.Lexicographic.{slice_cmp}
 use Rattle.std.specs.FinMap.{FinMap, empty, get, insert, from_entries, contains_key}
 use Rattle.std.specs.Str.{bytes_eq}
-use Rattle.std.specs.declared.alloc.Global.{Global}
 use Rattle.cm_text.specs.Labels.{fold_label}
 
 -- a destination and a title
@@ -19,16 +18,9 @@ Targets = FinMap (slice_cmp nat_cmp) Target
 abbrev pub add_first : Targets → List ℕ → Target → Targets
 add_first targets folded target = if contains_key targets folded then targets else insert targets folded target
 
--- a folded label behind a number, which no contract sees
-abbrev pub Key : Type 0
-Key = ℕ × String Global
-
--- the entries, by the bytes of their labels
-abbrev pub by_bytes : List (Key × Target) → List (List ℕ × Target)
-by_bytes entries = map (λ e. (string_bytes e.0.1, e.1)) entries
-
-abbrev pub targets_of : List (Key × Target) → Targets
-targets_of entries = from_entries (by_bytes entries)
+-- labels with targets, of which the first of equal labels counts
+abbrev pub targets_of : List (List ℕ × Target) → Targets
+targets_of entries = from_entries entries
 
 -- a table to which these definitions, a label and a target each, have been added in order
 abbrev pub add_all : Targets → List (List ℕ × Target) → Targets

@@ -1,4 +1,5 @@
 pub mod ItemSteps
 pub mod LabelNumbers
+pub mod LabelIndex
 pub mod RawSteps
-pub mod KeptTargets
+pub mod Entries

@@ -1,18 +1,17 @@
 //! The table of link reference definitions.
-ghost use Rattle.std.specs.Prelude.{◌≡◌, IsSome, None, OnOk, OnErr, IfOk, option_map, string_bytes};
+ghost use Rattle.std.specs.Prelude.{◌≡◌, ◌++◌, [], ◌∷◌, None, length, OnOk, OnErr, IfOk, option_map, string_bytes};
 ghost use Rattle.std.specs.FinMap as map;
 ghost use Rattle.cm_text.specs.Labels.{fold_label};
 ghost use Rattle.cm_tree.specs.Definitions.{add_first};
 ghost use Rattle.cm_tree.specs.LinkTargets.{led_to};
-ghost use Rattle.cm_tree.specs.TargetPlaces.{GoesOn};
-ghost use Rattle.cm_tree.specs.steps.LabelNumbers.{IsNumbered, number_of, found_under};
-ghost use Rattle.cm_tree.specs.steps.KeptTargets.{GoesIn};
+ghost use Rattle.cm_tree.specs.steps.LabelNumbers.{number_of};
+ghost use Rattle.cm_tree.specs.steps.LabelIndex.{GoesIn, IsSame};
 
-use crate::link_target::{KeptTarget, LinkTarget};
-use cm_text::{NoMemory, fold_label};
+use crate::entries::{Entry, entry_under, indexed};
+use crate::label_index::LabelIndex;
+use crate::link_target::LinkTarget;
+use cm_text::{NoMemory, fold_label_or_lend};
 use std::alloc::{AllocError, Global};
-use std::collections::BTreeMap;
-use std::collections::btree_map::Entry;
 use std::marker::Model;
 
 /// Link reference definitions by their labels, of which the first of matching labels counts
@@ -22,10 +21,12 @@ use std::marker::Model;
 #[derive(Debug, Drop)]
 pub struct Definitions {
     alloc: Global,
-    /// Destinations and titles that are short.
+    /// Folded labels, and destinations and titles that are short.
     texts: String,
-    /// In the order of the labels' numbers first, which stand in the tree's nodes.
-    targets: BTreeMap<(u64, String), KeptTarget>,
+    /// In the order in which they came, each label once.
+    entries: Vec<Entry>,
+    /// Where each label's entry stands.
+    index: LabelIndex,
 }
 
 impl Model for Definitions {
@@ -33,15 +34,15 @@ impl Model for Definitions {
     ghost use Rattle.std.specs.Coded.{coded_ℕ, coded_list, coded×};
     ghost use Rattle.std.specs.Prelude.{string_bytes};
     ghost use Rattle.cm_tree.specs.Definitions.{Targets, targets_of};
-    ghost use Rattle.cm_tree.specs.steps.KeptTargets.{kept, AreKept};
+    ghost use Rattle.cm_tree.specs.steps.Entries.{entries_in, AreKept};
 
     ghost Value = { Targets };
 
     ghost coded = { map.code (coded_list coded_ℕ) (coded× (coded_list coded_ℕ) (coded_list coded_ℕ)) };
 
-    ghost view = { λ a. targets_of (kept (string_bytes a.texts) a.targets.entries) };
+    ghost view = { λ a. targets_of (entries_in (string_bytes a.texts) a.entries.items) };
 
-    ghost invariant = { λ a. AreKept (string_bytes a.texts) a.targets.entries };
+    ghost invariant = { λ a. AreKept (string_bytes a.texts) a.entries.items a.index };
 }
 
 impl Definitions {
@@ -52,7 +53,8 @@ impl Definitions {
         Definitions {
             alloc,
             texts: String::new(alloc),
-            targets: BTreeMap::new(alloc),
+            entries: Vec::new(alloc),
+            index: LabelIndex::new(alloc),
         }
     }
 
@@ -65,22 +67,53 @@ impl Definitions {
         ensures ok { OnOk result (self.new ≡ add_first self.old (fold_label label.now) (dest.now, title.now)) }
         ensures err { OnErr result (self.new ≡ self.old) }
     {
-        let folded = fold_label(self.alloc, label)?;
-        Ok(self.add_folded(folded, dest, title)?)
+        let folded = fold_label_or_lend(self.alloc, label)?;
+        Ok(self.add_folded(folded.as_str(), dest, title)?)
     }
 
-    fn add_folded(&mut self, folded: String, dest: &str, title: &str) -> Result<(), AllocError>
-        ensures ok { OnOk result (self.new ≡ add_first self.old (string_bytes folded) (dest.now, title.now)) }
+    fn add_folded(&mut self, label: &str, dest: &str, title: &str) -> Result<(), AllocError>
+        ensures ok { OnOk result (self.new ≡ add_first self.old label.now (dest.now, title.now)) }
         ensures err { OnErr result (self.new ≡ self.old) }
     {
-        let key = numbered(folded);
-        put_first(
+        let number = number_of(label.as_bytes());
+        if self.look(number, label).is_some() {
+            return Ok(());
+        }
+        self.make_room()?;
+        self.add_new(number, label, dest, title)
+    }
+
+    /// Keeps at least two slots for each entry that stands in one.
+    fn make_room(&mut self) -> Result<(), AllocError>
+        ensures { self.new ≡ self.old }
+    {
+        if self.index.is_full(self.entries.len()) {
+            let slots = self.index.next_slots();
+            self.index = indexed(self.alloc, &self.texts, &self.entries, slots)?;
+        }
+        Ok(())
+    }
+
+    fn add_new(
+        &mut self,
+        number: u64,
+        label: &str,
+        dest: &str,
+        title: &str,
+    ) -> Result<(), AllocError>
+        requires number { number ≡ number_of label.now }
+        requires absent { map.get self.old label.now ≡ None }
+        ensures ok { OnOk result (self.new ≡ map.insert self.old label.now (dest.now, title.now)) }
+        ensures err { OnErr result (self.new ≡ self.old) }
+    {
+        let entry = Entry::copy(self.alloc, &mut self.texts, number, label, dest, title)?;
+        put(
             self.alloc,
-            &mut self.targets,
-            &mut self.texts,
-            key,
-            dest,
-            title,
+            &mut self.entries,
+            &mut self.index,
+            number,
+            label,
+            entry,
         )
     }
 
@@ -107,48 +140,44 @@ impl Definitions {
     pub fn target(&self, label: &str) -> Result<Option<LinkTarget<'_>>, NoMemory>
         ensures { IfOk result (λ found. option_map led_to found ≡ map.get self.now (fold_label label.now)) }
     {
-        let folded = fold_label(self.alloc, label)?;
-        let wanted = numbered(folded);
-        match self.targets.get(&wanted) {
-            Some(kept) => Ok(Some(kept.lend(&self.texts))),
-            None => Ok(None),
+        let folded = fold_label_or_lend(self.alloc, label)?;
+        let folded = folded.as_str();
+        Ok(self.look(number_of(folded.as_bytes()), folded))
+    }
+
+    /// The same, by a folded label of this number.
+    fn look(&self, number: u64, label: &str) -> Option<LinkTarget<'_>>
+        requires { number ≡ number_of label.now }
+        ensures { option_map led_to result ≡ map.get self.now label.now }
+    {
+        match entry_under(&self.texts, &self.entries, &self.index, number, label) {
+            Some(entry) => Some(self.entries[entry].target.lend(&self.texts)),
+            None => None,
         }
     }
 }
 
-/// Puts a destination and a title under a key, unless others stand there.
-fn put_first(
+/// Puts an entry behind the others, and into the index.
+fn put(
     alloc: Global,
-    targets: &mut BTreeMap<(u64, String), KeptTarget>,
-    texts: &mut String,
-    key: (u64, String),
-    dest: &str,
-    title: &str,
+    entries: &mut Vec<Entry>,
+    index: &mut LabelIndex,
+    number: u64,
+    label: &str,
+    entry: Entry,
 ) -> Result<(), AllocError>
-    ensures there { OnOk result (IsSome (found_under targets.old.entries key) → targets.new.entries ≡ targets.old.entries) }
-    ensures absent { OnOk result (found_under targets.old.entries key ≡ None →
-        GoesIn (string_bytes texts.new) targets.old.entries targets.new.entries key (dest.now, title.now)) }
-    ensures err { OnErr result (targets.new.entries ≡ targets.old.entries) }
-    ensures goes_on { GoesOn (string_bytes texts.old) (string_bytes texts.new) }
+    requires { number ≡ number_of label.now }
+    ensures entries { OnOk result (entries.new.items ≡ entries.old.items ++ entry ∷ []) }
+    ensures index { OnOk result (GoesIn index.old index.new label.now (length entries.old.items)) }
+    ensures err { OnErr result ((entries.new.items ≡ entries.old.items) × IsSame index.old index.new) }
 {
-    let len = texts.len();
-    let kept = KeptTarget::copy(alloc, texts, dest, title)?;
-    match targets.entry(key)? {
-        Entry::Vacant(place) => {
-            place.insert(kept);
-        }
-        Entry::Occupied(_) => texts.truncate(len),
+    let place = entries.len();
+    entries.push(entry)?;
+    if let Err(refused) = index.put(alloc, number, label, place) {
+        entries.pop();
+        return Err(refused);
     }
     Ok(())
-}
-
-/// A folded label behind its number, as the table keeps it: labels are compared where their numbers
-/// are equal, and elsewhere the numbers alone.
-fn numbered(folded: String) -> (u64, String)
-    ensures label { string_bytes result.1 ≡ string_bytes folded }
-    ensures number { IsNumbered result }
-{
-    (number_of(folded.as_bytes()), folded)
 }
 
 #[tactic(auto, unfolding(crate::specs::steps::LabelNumbers::number_of))]

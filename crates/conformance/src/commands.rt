@@ -1,11 +1,11 @@
 //! Command lines, from their words to the exit status.
 
 use crate::devices::Done;
-use crate::runs::{Space, Written, ran, told};
+use crate::runs::{Space, Written, in_memory, ran, told};
 use case_tables::cases::Case;
 use case_tables::trouble::{Trouble, same, wrong};
 use case_tables::words::{Word, words};
-use cm_tool::{Task, task};
+use cm_tool::{Job, Task, task};
 use std::alloc::Global;
 
 /// More than any output.
@@ -73,6 +73,19 @@ fn is_done(alloc: Global, case: &Case, ran: &Written) -> Result<(), Trouble> {
     Ok(())
 }
 
+/// That plain source is made of a text in memory as the case wants, or that it is refused so.
+fn is_in_memory(alloc: Global, case: &Case, task: &Task, input: &[u8]) -> Result<(), Trouble> {
+    if task.job != Job::Rewrite || case.has("room") || task.file.is_some() {
+        return Ok(());
+    }
+    let (made, line) = match in_memory(alloc, task.job, input, task.limits) {
+        Ok(made) => (made, String::new(alloc)),
+        Err(fault) => (String::new(alloc), format!(in alloc; "cmk: {fault}\n")?),
+    };
+    is_written(alloc, case, ("output", "output_holds"), made.as_bytes())?;
+    is_written(alloc, case, ("errors", "errors_hold"), line.as_bytes())
+}
+
 /// That a task whose case tells all that is written is done so with readers and writers that fail.
 fn is_done_with_failures(
     alloc: Global,
@@ -107,6 +120,7 @@ pub(crate) fn agrees(alloc: Global, case: &Case) -> Result<(), Trouble> {
         Ok(task) => {
             let given = (vec![in alloc; input.clone()?]?, false);
             is_done(alloc, case, &ran(alloc, &task, given, spaces)?)?;
+            is_in_memory(alloc, case, &task, input.as_slice())?;
             is_done_with_failures(alloc, case, &task, input.as_slice())
         }
         Err(stop) => is_done(alloc, case, &told(alloc, &stop, spaces)?),

@@ -1,8 +1,11 @@
 //! What `cm_tool` writes, where only so much of it is taken.
 
 use case_tables::cuts::Counted;
+use cm_html::listing;
 use cm_text::{Limits, NoMemory, Room};
-use cm_tool::{Fault, Job, Stop, Task, convert, read_text, rewrite, run, tell};
+use cm_tool::{
+    Fault, Job, Stop, Task, convert, doc_of, html_of, read_text, rewrite, run, source_of, tell,
+};
 use std::alloc::Global;
 
 /// Writers fail behind each byte of an output that is no longer than this.
@@ -124,4 +127,18 @@ pub(crate) fn text_read(
     let mut source = Counted::new(pieces, fails);
     let answer = read_text(alloc, &mut source, limits);
     (answer, source.reads())
+}
+
+/// The HTML of a text that lies in memory, the listing of its tree, or its plain source.
+pub(crate) fn in_memory(
+    alloc: Global,
+    job: Job,
+    text: &[u8],
+    limits: Limits,
+) -> Result<String, Fault> {
+    match job {
+        Job::Render => Ok(html_of(alloc, text, limits)?.into_string()?),
+        Job::Rewrite => source_of(alloc, text, limits),
+        _ => Ok(listing(alloc, &doc_of(alloc, text, limits)?)?),
+    }
 }

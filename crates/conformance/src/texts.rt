@@ -1,7 +1,7 @@
 //! Whole texts: their HTML, their listing and their fault, in every cut, and with readers and writers that fail.
 
 use crate::examples::FENCE;
-use crate::runs::{Page, READ, SHORT, Space, ample, answered, ran, text_read};
+use crate::runs::{Page, READ, SHORT, Space, ample, answered, in_memory, ran, text_read};
 use case_tables::cases::Case;
 use case_tables::cuts::{Cut, cuts, pieces};
 use case_tables::dialects::rules_of;
@@ -321,6 +321,21 @@ impl Text<'_> {
         Ok(())
     }
 
+    /// That what is made of the text in memory is what the job gives.
+    fn is_in_memory(&self, job: Job) -> Result<(), Trouble> {
+        let Some(whole) = self.whole(job) else {
+            return Ok(());
+        };
+        let alloc = self.alloc;
+        let told = self.told(whole, whole.len())?;
+        let (made, line) = match in_memory(alloc, job, self.input, self.limits) {
+            Ok(made) => (made, String::new(alloc)),
+            Err(fault) => (String::new(alloc), format!(in alloc; "{fault}")?),
+        };
+        same(alloc, "fault in memory", told.as_bytes(), line.as_bytes())?;
+        same(alloc, "output in memory", whole, made.as_bytes())
+    }
+
     /// That it comes to what is wanted, however it is cut, however much of the output is taken, and wherever the
     /// reader fails.
     fn agrees_in_cuts(&self) -> Result<(), Trouble> {
@@ -331,6 +346,10 @@ impl Text<'_> {
                 }
                 answer => answer?,
             }
+        }
+        if !self.fails {
+            self.is_in_memory(Job::Render)?;
+            self.is_in_memory(Job::Tree)?;
         }
         self.is_written(Job::Render)?;
         self.is_written(Job::Tree)?;

@@ -6,8 +6,9 @@ use crate::lines::line_at;
 use crate::trouble::{Trouble, wrong};
 use crate::words::{Word, number};
 use cm_text::{
-    Limits, Line, LineFeed, Rules, View, cut_at, fold_label, indent, is_ascii_punct, is_punct,
-    is_punct_by, is_space, next_markup, reference_at, strip, unescape, unescape_or_lend,
+    Limits, Line, LineFeed, Rules, View, cut_at, fold_label, fold_label_or_lend, indent,
+    is_ascii_punct, is_punct, is_punct_by, is_space, next_markup, reference_at, strip, unescape,
+    unescape_or_lend,
 };
 use std::alloc::Global;
 
@@ -154,6 +155,7 @@ fn of_one_text(answer: &mut Answer, name: &str, text: &str) -> Result<bool, Trou
     let alloc = answer.alloc;
     match name {
         "fold_label" => answer.text(fold_label(alloc, text)?.as_str())?,
+        "fold_label_or_lend" => answer.text(fold_label_or_lend(alloc, text)?.as_str())?,
         "unescape" => answer.text(unescape(alloc, text)?.as_str())?,
         "unescape_or_lend" => answer.text(unescape_or_lend(alloc, text)?.as_str())?,
         "is_ascii_punct" => characters(answer, text, &Kind::AsciiPunctuation)?,

@@ -1,6 +1,6 @@
 -- One character more, as a label is settled from the left.
 use Rattle.std.specs.Prelude.{ℕ, Bool, true, false, not, ◌&&◌, ◌||◌, ◌==◌, List, [], ◌∷◌}
-use Rattle.std.specs.Char.{is_ascii_graphic}
+use Rattle.std.specs.Char.{is_ascii_graphic, is_ascii_uppercase}
 use Rattle.cm_text.specs.Labels.{is_gap}
 
 -- what a character adds to the text that was made, where a gap stands before it or doesn't
@@ -20,21 +20,25 @@ abbrev pub is_settled : (behind_gap : Bool) → List ℕ → Bool
 is_settled behind_gap [] = not behind_gap
 is_settled behind_gap (b ∷ bs) = settled_by (is_gap b) behind_gap (b == 32) (is_settled true bs) (is_settled false bs)
 
--- a visible ASCII character stands at the front
-abbrev pub begins_visible : List ℕ → Bool
-begins_visible [] = false
-begins_visible (b ∷ bs) = is_ascii_graphic b
+-- a visible ASCII character that is no capital
+abbrev pub is_plain_byte : ℕ → Bool
+is_plain_byte b = is_ascii_graphic b && not (is_ascii_uppercase b)
+
+-- such a character stands at the front
+abbrev pub begins_plain : List ℕ → Bool
+begins_plain [] = false
+begins_plain (b ∷ bs) = is_plain_byte b
 
 -- a space does, with such a character behind it
 abbrev pub is_single_space : List ℕ → Bool
 is_single_space [] = false
-is_single_space (b ∷ bs) = b == 32 && begins_visible bs
+is_single_space (b ∷ bs) = b == 32 && begins_plain bs
 
--- visible ASCII characters, and single spaces before them
-abbrev pub goes_on_simple : List ℕ → Bool
-goes_on_simple [] = true
-goes_on_simple (b ∷ bs) = (is_ascii_graphic b || is_single_space (b ∷ bs)) && goes_on_simple bs
+-- such characters, and single spaces before them
+abbrev pub goes_on_plain : List ℕ → Bool
+goes_on_plain [] = true
+goes_on_plain (b ∷ bs) = (is_plain_byte b || is_single_space (b ∷ bs)) && goes_on_plain bs
 
 -- that, with such a character first
-abbrev pub is_simple : List ℕ → Bool
-is_simple text = begins_visible text && goes_on_simple text
+abbrev pub is_plain : List ℕ → Bool
+is_plain text = begins_plain text && goes_on_plain text

@@ -1,18 +1,12 @@
 use Rattle.std.proofs.Common.{◌≡◌, ◌∙◌, true, ap, string_bytes, sym}
 use Rattle.cm_text.specs.Labels.{fold_label, settle_gaps}
-use Rattle.cm_text.specs.steps.LabelSteps.{is_settled, is_simple}
+use Rattle.cm_text.specs.steps.LabelSteps.{is_settled}
 use Rattle.cm_text.proofs.LabelLemmas.{settled}
-use Rattle.cm_text.proofs.SimpleLabels.{simple_folds}
 use Rattle.cm_text.proofs.labels.fold_label.Goals as goal
-
-pub returns-then-is_simple : goal.returns-then-is_simple
-returns-then-is_simple c =
-    let is : is_simple c.args.label.now ≡ true = ap is_simple (sym c.as_bytes.ensures.value) ∙ sym c.is_simple.ensures ∙ c.if-is_simple.true in
-    c.in_ok-to_ascii_lowercase.ensures.ok ∙ simple_folds c.args.label.now is
 
 pub returns-then-is_settled : goal.returns-then-is_settled
 unfolding fold_label
 returns-then-is_settled c =
     let folded = string_bytes c.in_ok-folded.folded in
-    let is : is_settled true folded ≡ true = ap (is_settled true) (sym c.as_bytes-2.ensures.value) ∙ sym c.is_settled.ensures ∙ c.if-is_settled.true in
+    let is : is_settled true folded ≡ true = ap (is_settled true) (sym c.as_bytes.ensures.value) ∙ sym c.is_settled.ensures ∙ c.if-is_settled.true in
     sym (settled folded is) ∙ ap settle_gaps c.in_ok-folded.ensures

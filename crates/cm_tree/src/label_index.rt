@@ -1,0 +1,109 @@
+//! Where an entry of the table of definitions stands, by its label.
+ghost use Rattle.std.specs.Prelude.{◌≡◌, ◌≤◌, [], length, IfOk, IfSome, OnOk, OnErr};
+ghost use Rattle.cm_tree.specs.steps.LabelNumbers.{number_of};
+ghost use Rattle.cm_tree.specs.steps.LabelIndex.{home, IsFree, IsIndex, IsSame, GoesIn};
+
+use std::alloc::{AllocError, Global};
+use std::collections::BTreeMap;
+
+/// A label stands in one of so many slots, from the one on that its number names.
+pub(crate) const NEAR: usize = 16;
+
+/// The entries of a table by their labels.
+///
+/// Nearly all stand in the first slot that was free near the one that their number names. An entry that found none stands in
+/// a tree: so labels that were made to have equal numbers take no longer than by a tree alone.
+#[derive(Debug, Drop)]
+pub(crate) struct LabelIndex {
+    /// Entries, counted from 1; 0 is a free slot.
+    pub(crate) slots: Vec<u32>,
+    /// Entries that found no slot, by their labels.
+    pub(crate) crowded: BTreeMap<String, usize>,
+}
+
+impl LabelIndex {
+    /// An index of no entries. It takes no memory.
+    pub(crate) fn new(alloc: Global) -> LabelIndex
+        ensures { IsIndex result [] }
+    {
+        LabelIndex {
+            slots: Vec::new(alloc),
+            crowded: BTreeMap::new(alloc),
+        }
+    }
+
+    /// An index of no entries, with so many slots.
+    pub(crate) fn with_slots(alloc: Global, count: usize) -> Result<LabelIndex, AllocError>
+        ensures { IfOk result (λ index. IsIndex index []) }
+    {
+        Ok(LabelIndex {
+            slots: vec![in alloc; 0; count]?,
+            crowded: BTreeMap::new(alloc),
+        })
+    }
+
+    /// Whether there are fewer than two slots for each of so many entries and one more, but for those in the tree: slots that
+    /// labels were made to miss needn't be more.
+    pub(crate) fn is_full(&self, entries: usize) -> bool {
+        entries.saturating_sub(self.crowded.len()) >= self.slots.len() / 2
+    }
+
+    /// How many slots come next: a power of two in which labels begin, and those that end behind them.
+    pub(crate) fn next_slots(&self) -> usize {
+        self.slots
+            .len()
+            .saturating_mul(2)
+            .saturating_sub(NEAR - 1)
+            .max(2 * NEAR - 1)
+    }
+
+    /// Puts an entry in, under a label that isn't there.
+    ///
+    /// # Errors
+    ///
+    /// `AllocError` where a request for memory was refused; the index is then as it was.
+    pub(crate) fn put(
+        &mut self,
+        alloc: Global,
+        number: u64,
+        label: &str,
+        entry: usize,
+    ) -> Result<(), AllocError>
+        requires { number ≡ number_of label.now }
+        ensures ok { OnOk result (GoesIn self.old self.new label.now entry) }
+        ensures err { OnErr result (IsSame self.old self.new) }
+    {
+        if entry < u32::MAX as usize {
+            if let Some(slot) = free_slot(&self.slots, number) {
+                self.slots[slot] = entry as u32 + 1;
+                return Ok(());
+            }
+        }
+        let label = String::from_str(alloc, label)?;
+        self.crowded.insert(label, entry)?;
+        Ok(())
+    }
+}
+
+/// The first of the slots for labels of a number.
+pub(crate) fn home(slots: &[u32], number: u64) -> usize
+    ensures is { result ≡ home slots.now number }
+    ensures within { result ≤ length slots.now }
+{
+    (number >> 32) as usize & slots.len().saturating_sub(NEAR)
+}
+
+/// The first free slot for a label of a number.
+fn free_slot(slots: &[u32], number: u64) -> Option<usize>
+    ensures { IfSome result (λ slot. IsFree slots.now (home slots.now number) slot) }
+{
+    let from = home(slots, number);
+    for slot in from..from + NEAR {
+        match slots.get(slot) {
+            Some(0) => return Some(slot),
+            Some(_) => {}
+            None => return None,
+        }
+    }
+    None
+}
