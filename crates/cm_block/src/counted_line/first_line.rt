@@ -11,9 +11,9 @@ ghost use Rattle.cm_block.specs.steps.StartViews.{seen};
 ghost use Rattle.cm_block.specs.steps.FirstLines.{first_of, begins_container};
 
 use crate::closed_leaf::ClosedLeaf;
+use crate::counted_line::LeafStart;
 use crate::counted_line::copies::push_line;
 use crate::counted_line::ends::ends_html;
-use crate::counted_line::LeafStart;
 use crate::counted_line::starts::{Start, content};
 use crate::leaf::OpenLeaf;
 use crate::rooms::TextRoom;
