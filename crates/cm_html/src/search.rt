@@ -5,6 +5,10 @@ ghost use Rattle.cm_html.specs.steps.Bytes.{is_escaped};
 use cm_text::{ByteKind, next_of};
 use std::simd::prelude::*;
 
+/// The bytes of the kind, each at the place of its last four bits, which no two of them share. A byte that isn't at
+/// its own place stands for none.
+const ESCAPED: [u8; 16] = [1, 0, b'"', 0, 0, 0, b'&', 0, 0, 0, 0, 0, b'<', 0, b'>', 0];
+
 /// The bytes that are written as references.
 struct Escaped;
 
@@ -18,10 +22,11 @@ impl ByteKind for Escaped {
 
     #[inline(always)]
     fn lanes(lanes: u8x16) -> u64 {
-        // `"` and `&` differ in one bit, and so do `<` and `>`.
-        let quotes = (lanes & u8x16::splat(0xFB)).simd_eq(u8x16::splat(b'"'));
-        let brackets = (lanes | u8x16::splat(0x02)).simd_eq(u8x16::splat(b'>'));
-        (quotes | brackets).to_bitmask()
+        let places = lanes & u8x16::splat(15);
+        u8x16::from_array(ESCAPED)
+            .swizzle_dyn(places)
+            .simd_eq(lanes)
+            .to_bitmask()
     }
 }
 
