@@ -1,6 +1,7 @@
 -- What a line begins, by what each scanner answers.
-use Rattle.std.proofs.Common.{◌≡◌, ℕ, ◌<◌, ◌≤◌, Bool, true, false, ◌==◌, ◌&&◌, None, List, [], ◌∷◌, ◌++◌, replicate, Option, refl, ◌∙◌, sym, ap, arith}
+use Rattle.std.proofs.Common.{◌≡◌, ℕ, length, drop, get_or, subst, ◌<◌, ◌≤◌, Bool, true, false, ◌==◌, ◌&&◌, ◌||◌, not, None, Some, List, [], ◌∷◌, ◌++◌, replicate, Option, refl, ◌∙◌, sym, ap, arith}
 use Rattle.cm_text.specs.Lines.{LineView}
+use Rattle.cm_block.specs.steps.StartViews.{begins_break, begins_fence}
 use Rattle.cm_text.specs.Indentation.{indent_from, indent_of, strip_columns, after_indent}
 use Rattle.cm_text.specs.Views.{seen_view}
 use Rattle.cm_text.specs.declared.view.View.{View}
@@ -8,11 +9,13 @@ use Rattle.cm_text.proofs.StripLemmas.{strip_takes_columns}
 use Rattle.cm_scan.specs.Lines.{content_of}
 use Rattle.std.specs.Option.{is_some}
 use Rattle.cm_text.specs.Rules.{Rules}
-use Rattle.cm_scan.specs.Words.{begins_with, given, ◌<|>◌, skip, trim_start}
-use Rattle.cm_scan.specs.LineForms.{Heading, Fence, ItemMarker, is_thematic_break, atx_heading, opening_fence, item_marker}
+use Rattle.cm_scan.specs.Words.{is_digit, begins_with, given, ◌<|>◌, skip, front_of, run_length, trim_start}
+use Rattle.cm_scan.specs.LineForms.{Heading, Fence, ItemMarker, is_thematic_break, atx_heading, opening_fence, fence_of, item_marker, bullet_marker, ordered_marker, marker_behind}
 use Rattle.cm_scan.specs.HtmlBlocks.{HtmlKind, html_start, is_at_letter}
-use Rattle.cm_scan.proofs.QuietStarts.{letter-starts, letter-underlines, letter-content}
-use Rattle.std.proofs.lemmas.Bool.{and_parts, eqb-true}
+use Rattle.cm_scan.proofs.Apart.{differs}
+use Rattle.std.proofs.lemmas.Bool.Decides.{nat_tests}
+use Rattle.cm_scan.proofs.QuietStarts.{no-heading, no-fence, no-html-start, no-bullet, no-number, no-break, letter-starts, letter-underlines, letter-content}
+use Rattle.std.proofs.lemmas.Bool.{and_parts, eqb-true, ne_eqb}
 use Rattle.cm_scan.specs.Starts.{Start, IndentedCode, QuoteMarker, AtxHeading, OpeningFence, HtmlStart, BreakLine, ItemStart, TextLine, seen_as, or_text, start_of_content, start_of, underline_of}
 
 -- the first of these that is there
@@ -32,6 +35,84 @@ module _ (rules : Rules) where
   unfolding start_of_content
   first_is text quote heading fence kind break_line marker q h f k b m =
       sym (λ i. first (q i) (h i) (f i) (k i) (b i) (m i))
+
+-- ---- by its first byte
+
+no-item : (b : ℕ) (bs : List ℕ) → (b == 45) ≡ false → (b == 43) ≡ false → (b == 42) ≡ false → is_digit b ≡ false → item_marker (b ∷ bs) ≡ None
+unfolding item_marker
+no-item b bs d p s n = rw (no-bullet b bs d p s, no-number b bs n) refl
+
+-- a byte that begins neither a quote, a heading, a fence, HTML nor a break
+abbrev pub begins_item : ℕ → Bool
+begins_item b = not (b == 62 || b == 35 || b == 60 || begins_break b || begins_fence b)
+
+module _ (rules : Rules) where
+  pub starts-none : TextLine ≡ start_of_content rules []
+  unfolding start_of_content atx_heading opening_fence fence_of html_start item_marker bullet_marker ordered_marker marker_behind is_thematic_break run_length skip front_of
+  starts-none = refl
+
+  pub starts-quote : (bs : List ℕ) → QuoteMarker ≡ start_of_content rules (62 ∷ bs)
+  unfolding start_of_content
+  starts-quote bs = refl
+
+  pub starts-heading : (bs : List ℕ) → or_text (seen_as AtxHeading (atx_heading (35 ∷ bs))) ≡ start_of_content rules (35 ∷ bs)
+  starts-heading bs =
+      let h = atx_heading (35 ∷ bs) in
+      alone h ∙ first_is rules (35 ∷ bs) false h None None false None refl refl (no-fence 35 bs refl refl) (no-html-start rules 35 bs refl)
+      (no-break 35 bs refl refl refl refl refl) (no-item 35 bs refl refl refl refl)
+    where
+      alone : (h : Option Heading) → or_text (seen_as AtxHeading h) ≡ first false h None None false None
+      alone None = refl
+      alone (Some h) = refl
+
+  pub starts-fence : (b : ℕ) (bs : List ℕ) → begins_fence b ≡ true → or_text (seen_as OpeningFence (opening_fence (b ∷ bs))) ≡ start_of_content rules (b ∷ bs)
+  starts-fence b bs is =
+      let other : (c : ℕ) → begins_fence c ≡ false → (b == c) ≡ false = λ c. differs begins_fence b c is in
+      let digit : is_digit b ≡ false = grind (arith, nat_tests, is) in
+      let f = opening_fence (b ∷ bs) in
+      alone f ∙ first_is rules (b ∷ bs) false None f None false None (other 62 refl) (no-heading b bs (other 35 refl)) refl (no-html-start rules b bs (other 60 refl))
+      (no-break b bs (other 45 refl) (other 95 refl) (other 42 refl) (other 32 refl) (other 9 refl)) (no-item b bs (other 45 refl) (other 43 refl) (other 42 refl) digit)
+    where
+      alone : (f : Option Fence) → or_text (seen_as OpeningFence f) ≡ first false None f None false None
+      alone None = refl
+      alone (Some f) = refl
+
+  pub starts-html : (bs : List ℕ) → or_text (seen_as HtmlStart (html_start rules (60 ∷ bs))) ≡ start_of_content rules (60 ∷ bs)
+  starts-html bs =
+      let k = html_start rules (60 ∷ bs) in
+      alone k ∙ first_is rules (60 ∷ bs) false None None k false None refl (no-heading 60 bs refl) (no-fence 60 bs refl refl) refl
+      (no-break 60 bs refl refl refl refl refl) (no-item 60 bs refl refl refl refl)
+    where
+      alone : (k : Option HtmlKind) → or_text (seen_as HtmlStart k) ≡ first false None None k false None
+      alone None = refl
+      alone (Some k) = refl
+
+  pub starts-break : (b : ℕ) (bs : List ℕ) → begins_break b ≡ true
+      → or_text (given (is_thematic_break (b ∷ bs)) BreakLine <|> seen_as ItemStart (item_marker (b ∷ bs))) ≡ start_of_content rules (b ∷ bs)
+  starts-break b bs is =
+      let other : (c : ℕ) → begins_break c ≡ false → (b == c) ≡ false = λ c. differs begins_break b c is in
+      first_is rules (b ∷ bs) false None None None (is_thematic_break (b ∷ bs)) (item_marker (b ∷ bs)) (other 62 refl) (no-heading b bs (other 35 refl))
+      (no-fence b bs (other 96 refl) (other 126 refl)) (no-html-start rules b bs (other 60 refl)) refl refl
+
+  pub starts-item : (b : ℕ) (bs : List ℕ) → begins_item b ≡ true → or_text (seen_as ItemStart (item_marker (b ∷ bs))) ≡ start_of_content rules (b ∷ bs)
+  starts-item b bs is =
+      let other : (c : ℕ) → begins_item c ≡ false → (b == c) ≡ false = λ c. differs begins_item b c is in
+      first_is rules (b ∷ bs) false None None None false (item_marker (b ∷ bs)) (other 62 refl) (no-heading b bs (other 35 refl))
+      (no-fence b bs (other 96 refl) (other 126 refl)) (no-html-start rules b bs (other 60 refl))
+      (no-break b bs (other 45 refl) (other 95 refl) (other 42 refl) (other 32 refl) (other 9 refl)) refl
+
+pub item-byte : (b : ℕ) → (b ≡ 62 → ⊥) → (b ≡ 35 → ⊥) → (b ≡ 60 → ⊥) → begins_break b ≡ false → begins_fence b ≡ false → begins_item b ≡ true
+item-byte b q h l d f = rw (ne_eqb b 62 q, ne_eqb b 35 h, ne_eqb b 60 l, d, f) refl
+
+-- what holds of a text by its first byte
+pub in-front : (P : List ℕ → Type 0) (bytes text : List ℕ) → bytes ≡ text → (length bytes == 0) ≡ false → (b : ℕ) → get_or bytes 0 0 ≡ b → P (b ∷ drop 1 bytes) → P text
+in-front P [] text e some b is holds = absurd (cc (some))
+in-front P (c ∷ cs) text e some b is holds = subst P (ap (λ x. x ∷ cs) (sym is) ∙ e) holds
+
+-- no byte
+pub in-none : (P : List ℕ → Type 0) (bytes text : List ℕ) → bytes ≡ text → (length bytes == 0) ≡ true → P [] → P text
+in-none P [] text e none holds = subst P e holds
+in-none P (c ∷ cs) text e none holds = absurd (omega (arith, eqb-true (length (c ∷ cs)) 0 none))
 
 -- a scanner that answers a place alone
 

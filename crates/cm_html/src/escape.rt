@@ -3,7 +3,7 @@ ghost use Rattle.std.specs.Prelude.{◌≡◌, ℕ, ◌+◌, ◌==◌, ◌||◌,
 ghost use Rattle.cm_html.specs.Escape.{escape_byte, escape, destination_html, is_space_or_tab, class_word};
 ghost use Rattle.cm_html.specs.steps.Bytes.{is_escaped};
 
-use crate::search::find_escaped;
+use crate::search::{find_escaped, is_unchanged};
 use cm_text::cut_at;
 use percent_encoding::{AsciiSet, NON_ALPHANUMERIC, ascii_set, utf8_percent_encode};
 use std::alloc::AllocError;
@@ -71,6 +71,9 @@ const NOT_KEPT: AsciiSet = ascii_set!(
 pub(crate) fn push_destination(out: &mut String, destination: &str) -> Result<(), AllocError>
     ensures { OnOk result (string_bytes out.new ≡ string_bytes out.old ++ destination_html destination.now) }
 {
+    if is_unchanged(destination.as_bytes()) {
+        return out.push_str(destination);
+    }
     for piece in utf8_percent_encode(destination, NOT_KEPT) {
         push_escaped(out, piece)?;
     }

@@ -1,6 +1,7 @@
 //! The search for bytes that are written as references.
-ghost use Rattle.std.specs.Prelude.{◌≡◌, position};
-ghost use Rattle.cm_html.specs.steps.Bytes.{is_escaped};
+ghost use Rattle.std.specs.Prelude.{◌≡◌, not, position};
+ghost use Rattle.std.specs.List.{list_all};
+ghost use Rattle.cm_html.specs.steps.Bytes.{is_escaped, is_changed};
 
 use cm_text::{ByteKind, next_of};
 use std::simd::prelude::*;
@@ -28,6 +29,42 @@ impl ByteKind for Escaped {
             .simd_eq(lanes)
             .to_bitmask()
     }
+}
+
+/// By the last four bits of a byte, and by the four before, a bit for each of the other four with which it is plain:
+/// one that a destination keeps and that isn't `&`.
+const PLAIN_LOW: [u8; 16] = [
+    184, 252, 248, 252, 252, 252, 248, 252, 252, 252, 252, 92, 84, 92, 212, 124,
+];
+
+const PLAIN_HIGH: [u8; 16] = [1, 2, 4, 8, 16, 32, 64, 128, 0, 0, 0, 0, 0, 0, 0, 0];
+
+/// The bytes that HTML doesn't have of a destination as they are.
+struct Changed;
+
+impl ByteKind for Changed {
+    ghost passes = { is_changed };
+
+    #[inline(always)]
+    fn contains(b: u8) -> bool {
+        PLAIN_LOW[usize::from(b & 15)] & PLAIN_HIGH[usize::from(b >> 4)] == 0
+    }
+
+    #[inline(always)]
+    fn lanes(lanes: u8x16) -> u64 {
+        let ends = lanes & u8x16::splat(15);
+        let fronts = lanes >> u8x16::splat(4);
+        let low = u8x16::from_array(PLAIN_LOW).swizzle_dyn(ends);
+        let high = u8x16::from_array(PLAIN_HIGH).swizzle_dyn(fronts);
+        (low & high).simd_eq(u8x16::splat(0)).to_bitmask()
+    }
+}
+
+/// Whether HTML has a destination as it is.
+pub(crate) fn is_unchanged(destination: &[u8]) -> bool
+    ensures { result ≡ list_all (λ b. not (is_changed b)) destination.now }
+{
+    next_of::<Changed>(destination, 0) == destination.len()
 }
 
 /// Where the first byte stands that is written as a reference.

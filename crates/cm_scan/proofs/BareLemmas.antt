@@ -5,8 +5,8 @@ use Rattle.std.proofs.lemmas.List.{append-nil, drop_all}
 use Rattle.std.proofs.lemmas.Bool.Decides.{nat_tests}
 use Rattle.cm_scan.specs.Words.{given}
 use Rattle.cm_scan.specs.Links.{behind, opened_by, bare_run}
-use Rattle.cm_scan.specs.steps.LinkSteps.{ended_at, ends_bare}
-use Rattle.cm_scan.proofs.ClosedLemmas.{mark, ahead, ahead_from, ahead-behind, slice-more}
+use Rattle.cm_scan.specs.steps.LinkSteps.{ended_at, ends_bare, is_plain_in_run}
+use Rattle.cm_scan.proofs.ClosedLemmas.{mark, plain-mark, ahead, ahead_from, ahead-behind, slice-more}
 
 -- how many parentheses are open behind a byte that may be escaped
 abbrev pub opened_behind : ℕ → Bool → ℕ → ℕ
@@ -82,3 +82,27 @@ bare-some opened escaped text from at h none =
 pub few-more : (opened next b : ℕ) (escaped : Bool) → opened ≤ 32 → (not escaped && (b == 40 && opened == 32)) ≡ false → next ≡ opened_behind opened escaped b → next ≤ 32
 few-more opened next b true h k n = omega (arith, h, n)
 few-more opened next b false h k n = grind (arith, nat_tests, h, k, n)
+
+-- a plain byte ends no run, and isn't one parenthesis too many; it opens and escapes nothing
+plain-kept : (opened : ℕ) (escaped : Bool) (b : ℕ) → is_plain_in_run b ≡ true → (not escaped && ends_bare opened b) ≡ false
+plain-kept opened true b h = refl
+plain-kept opened false b h = grind (arith, nat_tests, h)
+
+plain-fits : (opened : ℕ) (escaped : Bool) (b : ℕ) → is_plain_in_run b ≡ true → (not escaped && (b == 40 && opened == 32)) ≡ false
+plain-fits opened true b h = refl
+plain-fits opened false b h = grind (arith, nat_tests, h)
+
+plain-opened : (opened : ℕ) (escaped : Bool) (b : ℕ) → is_plain_in_run b ≡ true → opened ≡ opened_behind opened escaped b
+plain-opened opened true b h = refl
+plain-opened opened false b h = grind (arith, nat_tests, h)
+
+plain-escapes : (b : ℕ) → is_plain_in_run b ≡ true → (b == 92) ≡ false
+plain-escapes b h = grind (arith, nat_tests, h)
+
+-- and is passed over
+pub bare-plain : (opened : ℕ) (escaped : Bool) (text : List ℕ) (from at : ℕ) → from ≤ at → at < length text → is_plain_in_run (get_or text at 0) ≡ true
+    → ahead_from text from (at + 1) (bare_run opened false (drop (at + 1) text)) ≡ ahead_from text from at (bare_run opened escaped (drop at text))
+bare-plain opened escaped text from at low high h =
+    let b = get_or text at 0 in
+    bare-step opened opened escaped false text from at low high (plain-kept opened escaped b h) (plain-fits opened escaped b h)
+    (plain-opened opened escaped b h) (plain-mark escaped b (drop (suc at) text) (plain-escapes b h))

@@ -305,7 +305,7 @@ neither : (escaped test : Bool) → test ≡ false → (not escaped && test) ≡
 neither true test h = refl
 neither false test h = h
 
-plain-mark : (escaped : Bool) (b : ℕ) (bs : List ℕ) → (b == 92) ≡ false → false ≡ mark escaped b bs
+pub plain-mark : (escaped : Bool) (b : ℕ) (bs : List ℕ) → (b == 92) ≡ false → false ≡ mark escaped b bs
 plain-mark true b bs h = refl
 plain-mark false b [] h = refl
 plain-mark false b (c ∷ cs) h = grind (arith, h)

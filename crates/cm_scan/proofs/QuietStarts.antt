@@ -23,7 +23,7 @@ pub no-run : (marker b : ℕ) (bs : List ℕ) → (b == marker) ≡ false → ru
 unfolding run_length
 no-run marker b bs e = ap (λ v. elim v as (λ _. ℕ) [ true ↦ suc (run_length marker bs) | false ↦ 0 ]) e
 
-no-heading : (b : ℕ) (bs : List ℕ) → (b == 35) ≡ false → atx_heading (b ∷ bs) ≡ None
+pub no-heading : (b : ℕ) (bs : List ℕ) → (b == 35) ≡ false → atx_heading (b ∷ bs) ≡ None
 unfolding atx_heading
 no-heading b bs e = rw (no-run 35 b bs e) refl
 
@@ -31,7 +31,7 @@ pub no-fence-of : (marker b : ℕ) (bs : List ℕ) → (b == marker) ≡ false �
 unfolding fence_of
 no-fence-of marker b bs e = rw (no-run marker b bs e) refl
 
-no-fence : (b : ℕ) (bs : List ℕ) → (b == 96) ≡ false → (b == 126) ≡ false → opening_fence (b ∷ bs) ≡ None
+pub no-fence : (b : ℕ) (bs : List ℕ) → (b == 96) ≡ false → (b == 126) ≡ false → opening_fence (b ∷ bs) ≡ None
 unfolding opening_fence
 no-fence b bs e f = rw (no-fence-of 96 b bs e, no-fence-of 126 b bs f) refl
 
@@ -39,7 +39,7 @@ pub no-html-start : (rules : Rules) (b : ℕ) (bs : List ℕ) → (b == 60) ≡ 
 unfolding html_start
 no-html-start rules b bs e = rw (e, html_start) refl
 
-no-bullet : (b : ℕ) (bs : List ℕ) → (b == 45) ≡ false → (b == 43) ≡ false → (b == 42) ≡ false → bullet_marker (b ∷ bs) ≡ None
+pub no-bullet : (b : ℕ) (bs : List ℕ) → (b == 45) ≡ false → (b == 43) ≡ false → (b == 42) ≡ false → bullet_marker (b ∷ bs) ≡ None
 unfolding bullet_marker
 no-bullet b bs e f g = rw (e, f, g) refl
 
@@ -52,7 +52,7 @@ pub no-number : (b : ℕ) (bs : List ℕ) → is_digit b ≡ false → ordered_m
 unfolding ordered_marker front_of
 no-number b bs e = ap (λ v. marker_behind (elim v as (λ _. List ℕ) [ true ↦ b ∷ front_of is_digit bs | false ↦ [] ]) (skip is_digit (b ∷ bs))) e ∙ no-digits (skip is_digit (b ∷ bs))
 
-no-break : (b : ℕ) (bs : List ℕ) → (b == 45) ≡ false → (b == 95) ≡ false → (b == 42) ≡ false → (b == 32) ≡ false → (b == 9) ≡ false → is_thematic_break (b ∷ bs) ≡ false
+pub no-break : (b : ℕ) (bs : List ℕ) → (b == 45) ≡ false → (b == 95) ≡ false → (b == 42) ≡ false → (b == 32) ≡ false → (b == 9) ≡ false → is_thematic_break (b ∷ bs) ≡ false
 unfolding is_thematic_break
 no-break b bs e f g h k = rw (e, f, g, h, k) refl
 

@@ -7,7 +7,7 @@ ghost use Rattle.cm_scan.specs.Tags.{is_blank_byte};
 ghost use Rattle.cm_scan.specs.Words.{begins_with, ◌<|>◌};
 ghost use Rattle.cm_scan.specs.Links.{escapes_next, keep_if, up_to_closing, label, destination, title, bare_run, is_filled, opened_by, titled, untitled, link_definition};
 ghost use Rattle.cm_scan.specs.Scanned.{reading_of, definition_with};
-ghost use Rattle.cm_scan.specs.steps.LinkSteps.{closed_at, ended_at, title_end, ends_bare, begins_character, is_barred, fits, blank_follows, is_plain, is_refused};
+ghost use Rattle.cm_scan.specs.steps.LinkSteps.{closed_at, ended_at, title_end, ends_bare, begins_character, is_barred, fits, blank_follows, is_plain, is_plain_in_run, is_refused};
 
 use crate::gaps::{after_blanks, after_gap, after_line, is_blank_byte, is_blank_next};
 use cm_text::is_ascii_punct;
@@ -251,7 +251,15 @@ fn bare_end(text: &[u8], from: usize) -> Option<usize>
     let mut opened = 0;
     let mut escaped = false;
     let mut at = from;
-    while at < text.len() && !is_bare_end(text[at], opened, escaped) {
+    while at < text.len() {
+        if is_plain_in_run(text[at]) {
+            escaped = false;
+            at += 1;
+            continue;
+        }
+        if is_bare_end(text[at], opened, escaped) {
+            break;
+        }
         if is_too_deep(text[at], opened, escaped) {
             return None;
         }
@@ -263,6 +271,14 @@ fn bare_end(text: &[u8], from: usize) -> Option<usize>
         return None;
     }
     Some(at)
+}
+
+/// Whether a byte is one that means nothing in the run of a destination, escaped or not.
+#[inline(always)]
+fn is_plain_in_run(b: u8) -> bool
+    ensures { result ≡ is_plain_in_run b }
+{
+    b > b' ' && b != b'(' && b != b')' && b != b'\\' && b != 127
 }
 
 /// A space, an ASCII control character, or a right parenthesis that no left one opened.

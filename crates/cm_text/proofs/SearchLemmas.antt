@@ -1,8 +1,8 @@
 -- The next byte that passes a test, found many lanes at a time.
-use Rattle.std.proofs.Common.{◌≡◌, ℕ, ◌+◌, ◌-◌, ◌*◌, ◌/◌, ◌%◌, ◌^◌, ◌<◌, ◌≤◌, bit_and, Bool, true, false, cond, eqb, replicate, List, [], ◌∷◌, map, nat_lt, Option, length, drop, get_or, subst, refl, sym, ap, ap₂, ◌∙◌, arith, w8, Fits, length-drop}
+use Rattle.std.proofs.Common.{◌≡◌, ℕ, zero, suc, ◌+◌, ◌-◌, ◌*◌, ◌/◌, ◌%◌, ◌^◌, ◌<◌, ◌≤◌, bit_and, Bool, true, false, cond, eqb, replicate, List, [], ◌∷◌, map, nat_lt, Option, length, drop, get_or, subst, refl, sym, ap, ap₂, ◌∙◌, arith, w8, Fits, length-drop}
 use Rattle.std.specs.Simd.Lanes.{zip2, mask_l, top, Each1}
 use Rattle.std.proofs.lemmas.Nat.{and_le_r}
-use Rattle.std.proofs.lemmas.Simd.{map-map, mask_l-mod, zip2_splat, length-zip2, swz_l, length-swz_l, get_or-swz_l_below, SwzOk, SwzOk-from_below, Each1-all, Each1-zip2, Each2-splat}
+use Rattle.std.proofs.lemmas.Simd.{map-map, mask_l-mod, zip2_splat, swz_l, length-swz_l, get_or-swz_l_below, SwzOk, SwzOk-from_below}
 use Rattle.std.proofs.lemmas.List.{length-map, map-id, ext_get_or, get_or-drop, get_or-map}
 use Rattle.std.proofs.lemmas.List.Sums.{position_or_len_is, fails_before_first, passes_at_first}
 use Rattle.std.proofs.lemmas.Bool.{agree_below, agree_below_at, ltb-true, ltb-false, true≢false}
@@ -27,38 +27,53 @@ pub hits : (v : List ℕ) (f : ℕ → ℕ) (y n : ℕ) → length v ≡ n → {
 hits v f y n long lanes =
     ap (λ a. zip2 hit a (replicate n y)) lanes ∙ zip2_splat hit (map f v) n y (length-map v f ∙ long) ∙ map-map (λ x. hit x y) f v
 
--- ---- bytes in a table of 16, by their last four bits
+-- ---- a look-up in a table of 16, at places that were computed lane by lane from v
 
-last-bits : (v : List ℕ) → length v ≡ 16 → zip2 bit_and v (replicate 16 15) ≡ map (λ x. bit_and x 15) v
-last-bits v long = zip2_splat {Y = ℕ} bit_and v 16 15 long
+-- it can't fail
+pub looks-up : (g : ℕ → ℕ) → ((x : ℕ) → x < 256 → g x < 16) → (v js : List ℕ) → length v ≡ 16 → Each1 (Fits w8) v → js ≡ map g v → SwzOk w8 16 16 0 js
+looks-up g small v js long fits places =
+    let many : length js ≡ 16 = ap length places ∙ length-map v g ∙ long in
+    SwzOk-from_below w8 16 1 16 0 js refl (omega (arith, many)) (subst (Each1 (λ j. j < 16)) (sym places) (each v fits))
+  where
+    each : (v : List ℕ) → Each1 (Fits w8) v → Each1 (λ j. j < 16) (map g v)
+    each [] fits = tt
+    each (x ∷ xs) fits = (small x fits.0.fits, each xs fits.1)
 
--- `swizzle_dyn` at these places can't fail
-pub places-ok : (v : List ℕ) → length v ≡ 16 → SwzOk w8 16 16 0 (zip2 bit_and v (replicate 16 15))
-places-ok v long =
-    let small = Each1-all (λ a. bit_and a 15 < 16) (λ a. omega (arith, and_le_r a 15)) v in
-    SwzOk-from_below w8 16 1 16 0 (zip2 bit_and v (replicate 16 15)) refl (omega (arith, length-zip2 bit_and v (replicate 16 15) long))
-    (Each1-zip2 bit_and (λ j. j < 16) v (replicate 16 15) (Each2-splat (λ a b. bit_and a b < 16) v 16 15 small))
-
--- `swizzle_dyn`
-picked : (table v : List ℕ) → length v ≡ 16 → swz_l w8 16 table 0 (zip2 bit_and v (replicate 16 15)) ≡ map (λ x. get_or table (bit_and x 15) 0) v
-picked table v long =
-    let js = zip2 bit_and v (replicate 16 15) in
-    let places = last-bits v long in
-    let many : length js ≡ 16 = ap length places ∙ length-map v (λ x. bit_and x 15) ∙ long in
-    ext_get_or 0 _ _ (length-swz_l w8 16 table 0 js ∙ many ∙ sym (length-map v (λ x. get_or table (bit_and x 15) 0) ∙ long)) (λ i h.
+pub looked-up : (g : ℕ → ℕ) → ((x : ℕ) → x < 256 → g x < 16) → (table v js : List ℕ) → length v ≡ 16 → Each1 (Fits w8) v → js ≡ map g v
+    → swz_l w8 16 table 0 js ≡ map (λ x. get_or table (g x) 0) v
+looked-up g small table v js long fits places =
+    let many : length js ≡ 16 = ap length places ∙ length-map v g ∙ long in
+    ext_get_or 0 _ _ (length-swz_l w8 16 table 0 js ∙ many ∙ sym (length-map v (λ x. get_or table (g x) 0) ∙ long)) (λ i h.
     let lt : i < 16 = omega (arith, h, length-swz_l w8 16 table 0 js, many) in
     let within : i < length v = omega (arith, long) in
-    let is : get_or js i 0 ≡ bit_and (get_or v i 0) 15 = ap (λ l. get_or l i 0) places ∙ get_or-map (λ x. bit_and x 15) v i 0 0 within in
-    let below : get_or js i 0 < 16 = omega (arith, is, and_le_r (get_or v i 0) 15) in
+    let is : get_or js i 0 ≡ g (get_or v i 0) = ap (λ l. get_or l i 0) places ∙ get_or-map g v i 0 0 within in
+    let below : get_or js i 0 < 16 = omega (arith, is, small (get_or v i 0) (below_from_Fits-at v i fits)) in
     let place : 16 * ((0 + i) / 16) + get_or js i 0 ≡ get_or js i 0 = omega arith in
     get_or-swz_l_below w8 16 table 0 js i (omega (arith, many)) below
     ∙ ap (λ k. get_or table k 0) (place ∙ is)
-    ∙ sym (get_or-map (λ x. get_or table (bit_and x 15) 0) v i 0 0 within))
+    ∙ sym (get_or-map (λ x. get_or table (g x) 0) v i 0 0 within))
+  where
+    below_from_Fits-at : (v : List ℕ) (i : ℕ) → Each1 (Fits w8) v → get_or v i 0 < 256
+    below_from_Fits-at [] i fits = omega arith
+    below_from_Fits-at (x ∷ xs) zero fits = fits.0.fits
+    below_from_Fits-at (x ∷ xs) (suc i) fits = below_from_Fits-at xs i fits.1
 
--- which lanes stand in the table
-pub in-table : (table v : List ℕ) → length v ≡ 16
+-- the last four bits as places
+pub last-bits : (v : List ℕ) → length v ≡ 16 → zip2 bit_and v (replicate 16 15) ≡ map (λ x. bit_and x 15) v
+last-bits v long = zip2_splat {Y = ℕ} bit_and v 16 15 long
+
+pub last-few : (x : ℕ) → x < 256 → bit_and x 15 < 16
+last-few x small = omega (arith, and_le_r x 15)
+
+-- `swizzle_dyn` at these places can't fail
+pub places-ok : (v : List ℕ) → length v ≡ 16 → Each1 (Fits w8) v → SwzOk w8 16 16 0 (zip2 bit_and v (replicate 16 15))
+places-ok v long fits = looks-up (λ x. bit_and x 15) last-few v _ long fits (last-bits v long)
+
+-- which lanes stand in the table, each at the place of its last four bits
+pub in-table : (table v : List ℕ) → length v ≡ 16 → Each1 (Fits w8) v
     → zip2 hit (swz_l w8 16 table 0 (zip2 bit_and v (replicate 16 15))) v ≡ map (λ x. hit (get_or table (bit_and x 15) 0) x) v
-in-table table v long = joined hit (λ x. get_or table (bit_and x 15) 0) (λ x. x) v (picked table v long) (sym (map-id v))
+in-table table v long fits =
+    joined hit (λ x. get_or table (bit_and x 15) 0) (λ x. x) v (looked-up (λ x. bit_and x 15) last-few table v _ long fits (last-bits v long)) (sym (map-id v))
 
 tops : (f : ℕ → ℕ) (p : ℕ → Bool) → agree_below (λ x. top 7 (f x)) p 256 ≡ true → (v : List ℕ) → Each1 (Fits w8) v → map (top 7) (map f v) ≡ map p v
 tops f p agree [] fits = refl

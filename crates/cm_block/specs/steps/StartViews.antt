@@ -1,4 +1,5 @@
 -- What a line begins, as the code has it.
+use Rattle.std.specs.Prelude.{ℕ, ◌==◌, ◌||◌, Bool}
 use Rattle.cm_scan.specs.HtmlKinds.{kind_of}
 use Rattle.cm_scan.specs.Starts as starts
 use Rattle.cm_block.specs.declared.counted_line.starts.Start.{Start}
@@ -13,3 +14,10 @@ seen (Html kind) = starts.HtmlStart (kind_of kind)
 seen Break = starts.BreakLine
 seen (Item marker) = starts.ItemStart (record { kind = marker.kind; digits = marker.digits })
 seen TextLine = starts.TextLine
+
+-- what a thematic break, and what a fence may begin with, in any text
+abbrev pub begins_break : ℕ → Bool
+begins_break b = b == 45 || b == 95 || b == 42 || b == 32 || b == 9
+
+abbrev pub begins_fence : ℕ → Bool
+begins_fence b = b == 96 || b == 126

@@ -3,12 +3,16 @@ ghost use Rattle.std.specs.Prelude.{◌≡◌, ◌==◌, ◌&&◌};
 ghost use Rattle.cm_text.specs.Views.{seen_view};
 ghost use Rattle.cm_scan.specs.HtmlBlocks.{is_at_letter};
 ghost use Rattle.cm_scan.specs.Lines.{content_of};
-ghost use Rattle.cm_scan.specs.Starts.{start_of_content, start_of};
-ghost use Rattle.cm_block.specs.steps.StartViews.{seen};
+ghost use Rattle.cm_scan.specs.Words.{given, ◌<|>◌};
+ghost use Rattle.cm_scan.specs.LineForms.{is_thematic_break, atx_heading, opening_fence, item_marker};
+ghost use Rattle.cm_scan.specs.HtmlBlocks.{html_start};
+ghost use Rattle.cm_scan.specs.Starts.{HtmlStart, BreakLine, ItemStart, seen_as, or_text, start_of_content, start_of};
+ghost use Rattle.cm_scan.specs.Starts as forms;
+ghost use Rattle.cm_block.specs.steps.StartViews.{seen, begins_break, begins_fence};
 
 use cm_scan::{
     AtxHeading, HtmlKind, ItemMarker, OpeningFence, atx, fence, html_start_by, item_marker,
-    quote_marker, thematic,
+    thematic,
 };
 use cm_text::{Rules, View};
 
@@ -46,28 +50,92 @@ pub(crate) fn content<'a>(line: &View<'a>) -> &'a str
     line.strip(line.indent()).rest
 }
 
-/// The first that fits by these rules, with up to 3 columns of indentation.
-fn start_of_content(rules: Rules, text: &str) -> Start<'_>
-    ensures { seen result ≡ start_of_content rules text.now }
+/// Whether a thematic break may begin with a byte.
+#[inline(always)]
+fn begins_break(b: u8) -> bool
+    ensures { result ≡ begins_break b }
 {
-    if quote_marker(text, 0).is_some() {
-        return Start::QuoteMarker;
+    matches!(b, b'-' | b'_' | b'*' | b' ' | b'\t')
+}
+
+/// Whether a fence may begin with a byte.
+#[inline(always)]
+fn begins_fence(b: u8) -> bool
+    ensures { result ≡ begins_fence b }
+{
+    b == b'`' || b == b'~'
+}
+
+/// A heading, or text.
+fn heading_or_text(text: &str) -> Start<'_>
+    ensures { seen result ≡ or_text (seen_as forms.AtxHeading (atx_heading text.now)) }
+{
+    match atx(text, 0) {
+        Some((heading, _)) => Start::Atx(heading),
+        None => Start::TextLine,
     }
-    if let Some((heading, _)) = atx(text, 0) {
-        return Start::Atx(heading);
+}
+
+/// The fence of a code block, or text.
+fn fence_or_text(text: &str) -> Start<'_>
+    ensures { seen result ≡ or_text (seen_as forms.OpeningFence (opening_fence text.now)) }
+{
+    match fence(text, 0) {
+        Some((fence, _)) => Start::Fence(fence),
+        None => Start::TextLine,
     }
-    if let Some((fence, _)) = fence(text, 0) {
-        return Start::Fence(fence);
+}
+
+/// The start of an HTML block, or text.
+fn html_or_text(rules: Rules, text: &str) -> Start<'_>
+    ensures { seen result ≡ or_text (seen_as HtmlStart (html_start rules text.now)) }
+{
+    match html_start_by(rules, text, 0) {
+        Some(kind) => Start::Html(kind),
+        None => Start::TextLine,
     }
-    if let Some(kind) = html_start_by(rules, text, 0) {
-        return Start::Html(kind);
-    }
-    if thematic(text, 0).is_some() {
-        return Start::Break;
-    }
+}
+
+/// The marker of an item, or text.
+fn item_or_text(text: &str) -> Start<'_>
+    ensures { seen result ≡ or_text (seen_as ItemStart (item_marker text.now)) }
+{
     match item_marker(text, 0) {
         Some((marker, _)) => Start::Item(marker),
         None => Start::TextLine,
+    }
+}
+
+/// A thematic break, the marker of an item, or text.
+fn break_or_item(text: &str) -> Start<'_>
+    ensures { seen result ≡ or_text (given (is_thematic_break text.now) BreakLine <|> seen_as ItemStart (item_marker text.now)) }
+{
+    if thematic(text, 0).is_some() {
+        return Start::Break;
+    }
+    item_or_text(text)
+}
+
+/// The first that fits by these rules, with up to 3 columns of indentation. By its first byte most are left out.
+fn start_of_content(rules: Rules, text: &str) -> Start<'_>
+    ensures { seen result ≡ start_of_content rules text.now }
+{
+    let bytes = text.as_bytes();
+    if bytes.is_empty() {
+        return Start::TextLine;
+    }
+    let b = bytes[0];
+    if begins_break(b) {
+        return break_or_item(text);
+    }
+    if begins_fence(b) {
+        return fence_or_text(text);
+    }
+    match b {
+        b'>' => Start::QuoteMarker,
+        b'#' => heading_or_text(text),
+        b'<' => html_or_text(rules, text),
+        _ => item_or_text(text),
     }
 }
 

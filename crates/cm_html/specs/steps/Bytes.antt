@@ -1,10 +1,15 @@
 -- The bytes that the code looks for, since they aren't written as they are.
-use Rattle.std.specs.Prelude.{ℕ, ◌==◌, Bool, ◌||◌}
+use Rattle.std.specs.Prelude.{ℕ, ◌==◌, Bool, ◌||◌, not}
 use Rattle.std.specs.Char.{is_ascii_control}
+use Rattle.cm_html.specs.Escape.{is_kept}
 
 -- `&`, `<`, `>` and `"`, in HTML
 abbrev pub is_escaped : ℕ → Bool
 is_escaped b = b == 38 || b == 60 || b == 62 || b == 34
+
+-- what HTML doesn't have of a destination as it is: what this doesn't keep, and `&`
+unfoldable pub is_changed : ℕ → Bool
+is_changed b = not (is_kept b) || b == 38
 
 -- `\`, `"` and ASCII control characters, between quotes
 abbrev pub has_escape : ℕ → Bool

@@ -21,6 +21,10 @@ title_end b = if b == 34 then Some 34 else (if b == 39 then Some 39 else (if b =
 abbrev pub ends_bare : ℕ → ℕ → Bool
 ends_bare opened b = b == 32 || is_control b || (b == 41 && opened == 0)
 
+-- a byte that neither ends a bare destination, nor is a parenthesis, nor escapes anything
+abbrev pub is_plain_in_run : ℕ → Bool
+is_plain_in_run b = nat_lt 32 b && not (b == 40) && not (b == 41) && not (b == 92) && not (b == 127)
+
 -- a byte that begins a character
 abbrev pub begins_character : ℕ → Bool
 begins_character b = not (within 128 191 b)

@@ -1,56 +1,49 @@
-use Rattle.std.proofs.Common.{sym, ap, ◌∙◌, refl, length, true, false, None}
-use Rattle.std.specs.Option.{option_map}
-use Rattle.std.proofs.lemmas.Str.{IsCharBoundary-start}
-use Rattle.cm_scan.specs.Words.{begins_with}
-use Rattle.cm_scan.specs.LineForms.{is_thematic_break}
-use Rattle.cm_scan.specs.HtmlKinds.{kind_of}
-use Rattle.cm_block.proofs.StartLemmas.{first_is, is_there, is_not_there}
+use Rattle.std.proofs.Common.{◌≡◌, drop, get_or, refl, sym, ◌∙◌, arith}
+use Rattle.cm_scan.specs.Words.{given, ◌<|>◌}
+use Rattle.cm_scan.specs.LineForms.{is_thematic_break, atx_heading, opening_fence, item_marker}
+use Rattle.cm_scan.specs.HtmlBlocks.{html_start}
+use Rattle.cm_scan.specs.Starts.{QuoteMarker, AtxHeading, OpeningFence, HtmlStart, BreakLine, ItemStart, TextLine, seen_as, or_text, start_of_content}
+use Rattle.cm_block.proofs.StartLemmas.{starts-none, starts-quote, starts-heading, starts-fence, starts-html, starts-break, starts-item, item-byte, in-front, in-none}
 use Rattle.cm_block.proofs.counted_line.starts.start_of_content.Goals as goal
 
-pub returns-then-is_some : goal.returns-then-is_some
-returns-then-is_some c =
-    let quote = is_there (begins_with 62 c.args.text.now) 1 c.quote_marker.result c.quote_marker.ensures.marker c.if-is_some.ensures in
-    first_is _ c.args.text.now true _ _ _ _ _ quote refl refl refl refl refl
+pub returns-then-is_empty : goal.returns-then-is_empty
+returns-then-is_empty c =
+    in-none (λ t. TextLine ≡ start_of_content c.args.rules t) c.as_bytes-bytes.result.now c.args.text.now c.as_bytes-bytes.ensures.value
+    (sym c.is_empty.ensures ∙ c.if-is_empty.true) (starts-none c.args.rules)
 
-pub atx-requires : goal.atx-requires
-atx-requires c = record { boundary = IsCharBoundary-start c.args.text.now c.utf8.text }
+pub returns-in-62 : goal.returns-in-62
+returns-in-62 c =
+    in-front (λ t. QuoteMarker ≡ start_of_content c.args.rules t) c.as_bytes-bytes.result.now c.args.text.now c.as_bytes-bytes.ensures.value
+    (sym c.is_empty.ensures ∙ c.if-is_empty.false) 62 c.in-62.is (starts-quote c.args.rules (drop 1 c.as_bytes-bytes.result.now))
 
-pub returns-in-Some : goal.returns-in-Some
-returns-in-Some c =
-    let quote = is_not_there (begins_with 62 c.args.text.now) 1 c.quote_marker.result c.quote_marker.ensures.marker c.if-is_some.ensures in
-    first_is _ c.args.text.now false _ _ _ _ _ quote c.in-Some.ensures.heading refl refl refl refl
+pub returns-in-35 : goal.returns-in-35
+returns-in-35 c =
+    c.heading_or_text.ensures
+    ∙ in-front (λ t. or_text (seen_as AtxHeading (atx_heading t)) ≡ start_of_content c.args.rules t) c.as_bytes-bytes.result.now c.args.text.now c.as_bytes-bytes.ensures.value
+    (sym c.is_empty.ensures ∙ c.if-is_empty.false) 35 c.in-35.is (starts-heading c.args.rules (drop 1 c.as_bytes-bytes.result.now))
 
-pub fence-requires : goal.fence-requires
-fence-requires c = record { boundary = IsCharBoundary-start c.args.text.now c.utf8.text }
+pub returns-then-begins_fence : goal.returns-then-begins_fence
+returns-then-begins_fence c =
+    c.fence_or_text.ensures
+    ∙ in-front (λ t. or_text (seen_as OpeningFence (opening_fence t)) ≡ start_of_content c.args.rules t) c.as_bytes-bytes.result.now c.args.text.now c.as_bytes-bytes.ensures.value
+    (sym c.is_empty.ensures ∙ c.if-is_empty.false) (get_or c.as_bytes-bytes.result.now 0 0) refl (starts-fence c.args.rules (get_or c.as_bytes-bytes.result.now 0 0) (drop 1 c.as_bytes-bytes.result.now) (sym c.begins_fence.ensures ∙ c.if-begins_fence.true))
 
-pub returns-in-Some-fence : goal.returns-in-Some-fence
-returns-in-Some-fence c =
-    let quote = is_not_there (begins_with 62 c.args.text.now) 1 c.quote_marker.result c.quote_marker.ensures.marker c.if-is_some.ensures in
-    first_is _ c.args.text.now false None _ _ _ _ quote c.in_default.ensures.heading c.in-Some-fence.ensures.fence refl refl refl
+pub returns-in-60 : goal.returns-in-60
+returns-in-60 c =
+    c.html_or_text.ensures
+    ∙ in-front (λ t. or_text (seen_as HtmlStart (html_start c.args.rules t)) ≡ start_of_content c.args.rules t) c.as_bytes-bytes.result.now c.args.text.now c.as_bytes-bytes.ensures.value
+    (sym c.is_empty.ensures ∙ c.if-is_empty.false) 60 c.in-60.is (starts-html c.args.rules (drop 1 c.as_bytes-bytes.result.now))
 
-pub returns-in-Some-html_start_by : goal.returns-in-Some-html_start_by
-returns-in-Some-html_start_by c =
-    let quote = is_not_there (begins_with 62 c.args.text.now) 1 c.quote_marker.result c.quote_marker.ensures.marker c.if-is_some.ensures in
-    first_is _ c.args.text.now false None None _ _ _ quote c.in_default.ensures.heading c.in_default-fence.ensures.fence
-    (sym c.html_start_by.ensures ∙ ap (option_map kind_of) c.in-Some-html_start_by.is) refl refl
+pub returns-then-begins_break : goal.returns-then-begins_break
+returns-then-begins_break c =
+    c.break_or_item.ensures
+    ∙ in-front (λ t. or_text (given (is_thematic_break t) BreakLine <|> seen_as ItemStart (item_marker t)) ≡ start_of_content c.args.rules t) c.as_bytes-bytes.result.now c.args.text.now c.as_bytes-bytes.ensures.value
+    (sym c.is_empty.ensures ∙ c.if-is_empty.false) (get_or c.as_bytes-bytes.result.now 0 0) refl (starts-break c.args.rules (get_or c.as_bytes-bytes.result.now 0 0) (drop 1 c.as_bytes-bytes.result.now) (sym c.begins_break.ensures ∙ c.if-begins_break.true))
 
-pub returns-then-is_some-2 : goal.returns-then-is_some-2
-returns-then-is_some-2 c =
-    let quote = is_not_there (begins_with 62 c.args.text.now) 1 c.quote_marker.result c.quote_marker.ensures.marker c.if-is_some.ensures in
-    let break_line = is_there (is_thematic_break c.args.text.now) (length c.args.text.now) c.thematic.result c.thematic.ensures c.if-is_some-2.ensures in
-    first_is _ c.args.text.now false None None None true _ quote c.in_default.ensures.heading c.in_default-fence.ensures.fence
-    (sym c.html_start_by.ensures ∙ ap (option_map kind_of) c.in_default-html_start_by.is) break_line refl
-
-pub returns-in-Some-item_marker : goal.returns-in-Some-item_marker
-returns-in-Some-item_marker c =
-    let quote = is_not_there (begins_with 62 c.args.text.now) 1 c.quote_marker.result c.quote_marker.ensures.marker c.if-is_some.ensures in
-    let break_line = is_not_there (is_thematic_break c.args.text.now) (length c.args.text.now) c.thematic.result c.thematic.ensures c.if-is_some-2.ensures in
-    first_is _ c.args.text.now false None None None false _ quote c.in_default.ensures.heading c.in_default-fence.ensures.fence
-    (sym c.html_start_by.ensures ∙ ap (option_map kind_of) c.in_default-html_start_by.is) break_line c.in-Some-item_marker.ensures.marker
-
-pub returns-in-None : goal.returns-in-None
-returns-in-None c =
-    let quote = is_not_there (begins_with 62 c.args.text.now) 1 c.quote_marker.result c.quote_marker.ensures.marker c.if-is_some.ensures in
-    let break_line = is_not_there (is_thematic_break c.args.text.now) (length c.args.text.now) c.thematic.result c.thematic.ensures c.if-is_some-2.ensures in
-    first_is _ c.args.text.now false None None None false None quote c.in_default.ensures.heading c.in_default-fence.ensures.fence
-    (sym c.html_start_by.ensures ∙ ap (option_map kind_of) c.in_default-html_start_by.is) break_line c.in-None.ensures.marker
+pub returns-in_default : goal.returns-in_default
+returns-in_default c =
+    c.item_or_text.ensures
+    ∙ in-front (λ t. or_text (seen_as ItemStart (item_marker t)) ≡ start_of_content c.args.rules t) c.as_bytes-bytes.result.now c.args.text.now c.as_bytes-bytes.ensures.value
+    (sym c.is_empty.ensures ∙ c.if-is_empty.false) (get_or c.as_bytes-bytes.result.now 0 0) refl (starts-item c.args.rules (get_or c.as_bytes-bytes.result.now 0 0) (drop 1 c.as_bytes-bytes.result.now)
+    (item-byte (get_or c.as_bytes-bytes.result.now 0 0) (λ e. absurd (omega (arith, e))) (λ e. absurd (omega (arith, e))) (λ e. absurd (omega (arith, e)))
+    (sym c.begins_break.ensures ∙ c.if-begins_break.false) (sym c.begins_fence.ensures ∙ c.if-begins_fence.false)))

@@ -8,7 +8,7 @@ pub returns : goal.returns
 returns c =
     let v = c.args.lanes in
     let long = c.fits-lanes.0 in
-    masked _ is_escaped refl v _ (omega arith) c.fits-lanes.1 (in-table ESCAPED v long)
+    masked _ is_escaped refl v _ (omega arith) c.fits-lanes.1 (in-table ESCAPED v long c.fits-lanes.1)
 
 pub swizzle : goal.swizzle
-swizzle c = places-ok c.args.lanes c.fits-lanes.0
+swizzle c = places-ok c.args.lanes c.fits-lanes.0 c.fits-lanes.1

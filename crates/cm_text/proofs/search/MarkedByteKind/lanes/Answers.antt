@@ -8,10 +8,10 @@ pub returns : goal.returns
 returns c =
     let v = c.args.lanes in
     let long = c.fits-lanes.0 in
-    masked _ is_marked refl v _ (omega arith) c.fits-lanes.1 (joined bit_or _ _ v (in-table MARKED v long) (in-table ALSO_MARKED v long))
+    masked _ is_marked refl v _ (omega arith) c.fits-lanes.1 (joined bit_or _ _ v (in-table MARKED v long c.fits-lanes.1) (in-table ALSO_MARKED v long c.fits-lanes.1))
 
 pub swizzle : goal.swizzle
-swizzle c = places-ok c.args.lanes c.fits-lanes.0
+swizzle c = places-ok c.args.lanes c.fits-lanes.0 c.fits-lanes.1
 
 pub swizzle-2 : goal.swizzle-2
-swizzle-2 c = places-ok c.args.lanes c.fits-lanes.0
+swizzle-2 c = places-ok c.args.lanes c.fits-lanes.0 c.fits-lanes.1
