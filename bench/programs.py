@@ -9,17 +9,19 @@ HERE = pathlib.Path(__file__).resolve().parent
 OUT = HERE / "out"
 NEWER = OUT / "newer"
 MARKDOWN_IT = "import sys, markdown_it; sys.stdout.write(markdown_it.MarkdownIt('commonmark').render(sys.stdin.read()))"
-# Each by the package that has it, and its words. Beside the first five one turn on an input is enough: the others are slow.
+# Each by the package that has it, and its words.
 PEERS = {
     "cmark": ("cmark", ["cmark", "--unsafe"]),
     "md4c": ("libmd4c-dev", [str(OUT / "md4c")]),
     "md4c-newer": (NEWER / "md4c_*.orig.tar.gz", [str(OUT / "md4c-newer")]),
     "pulldown-cmark": ("pulldown-cmark", ["pulldown-cmark"]),
     "pulldown-cmark-newer": (NEWER / "pulldown-cmark_*.deb", [str(NEWER / "pulldown-cmark/usr/bin/pulldown-cmark")]),
+    "comrak": (NEWER / "librust-comrak-dev_*.deb", [str(OUT / "comrak")]),
     "lowdown": ("lowdown", ["lowdown", "-thtml"]),
     "discount": ("discount", ["markdown", "-f", "+fencedcode"]),
     "markdown-it-py": ("python3-markdown-it", ["/usr/bin/python3", "-X", "utf8", "-c", MARKDOWN_IT]),
 }
+# One turn on an input is enough for these.
 SLOW = ["lowdown", "discount", "markdown-it-py"]
 
 
