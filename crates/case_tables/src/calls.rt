@@ -1,4 +1,4 @@
-//! Calls of one line, of the libraries below `cm_tool`.
+//! Tables with a call on each line, for the libraries below `cm_tool`.
 
 mod answer;
 mod of_block;

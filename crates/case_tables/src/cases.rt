@@ -1,4 +1,4 @@
-//! Cases of several lines. A table of them is described at the front of `blocks.cases`.
+//! Cases of several lines. The front of `blocks.cases` says how such a table is written.
 
 use crate::escapes::unescaped;
 use crate::trouble::{Trouble, wrong};

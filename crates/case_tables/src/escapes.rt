@@ -1,4 +1,4 @@
-//! What stands in the tables for bytes that read badly, and for long repetitions.
+//! Escapes in the tables: for bytes that are hard to read, and for long repetitions.
 
 use crate::trouble::{Trouble, wrong};
 use std::alloc::Global;

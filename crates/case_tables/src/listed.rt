@@ -1,4 +1,4 @@
-//! Documents from their listings, also those that no text gives.
+//! Documents that are made from their listings. A listing can also have a tree that no text gives.
 
 use crate::trouble::{Trouble, wrong};
 use crate::words::{Word, number, words};

@@ -1,4 +1,4 @@
-//! Trees, spelled as plain source or refused.
+//! Cases of plain source: what a tree is spelled as, or that it is refused.
 
 use crate::cases::Case;
 use crate::dialects::rules_of;

@@ -1,4 +1,5 @@
--- How deep each line stands, told when the stack takes it in (CommonMark 0.31.2, chapter 5).
+-- How many quotes and items stand round each line. It is known as soon as the stack takes the line in
+-- (CommonMark 0.31.2, chapter 5).
 use Rattle.std.specs.Prelude.{◌≡◌, ℕ, suc, List, [], ◌∷◌, ◌++◌, length, Some, None, nat_lt, if◌then◌else◌}
 use Rattle.std.specs.List.{position}
 use Rattle.std.specs.Option.{option_map}

@@ -1,4 +1,5 @@
--- The open leaf and the closed ones, as the code has them: their lines are counted by the line feeds of their texts.
+-- The open leaf and the closed ones, as the code has them. The code counts the lines of a leaf by the line
+-- feeds in its text.
 use Rattle.std.specs.Prelude.{ℕ, suc, List, [], ◌∷◌, ◌++◌, string_bytes}
 use Rattle.cm_scan.specs.HtmlKinds.{kind_of}
 use Rattle.cm_scan.specs.Blocks.{line_feeds}

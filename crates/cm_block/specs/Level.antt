@@ -1,5 +1,5 @@
--- One level read from the left: the blocks so far, the list that an item may go on with, and what tells whether a list is loose
--- (CommonMark 0.31.2, 5.3 Lists).
+-- One level read from the left: the blocks so far, and the list that an item may go on with. It also has what
+-- tells whether a list is loose (CommonMark 0.31.2, 5.3 Lists).
 use Rattle.std.specs.Prelude.{◌≡◌, Bool, true, false, not, ◌&&◌, ◌||◌, List, [], ◌∷◌, ◌++◌, Option, Some, None}
 use Rattle.cm_tree.specs.declared.tree.ListKind.{ListKind}
 use Rattle.cm_tree.specs.declared.tree.Block.{Block}

@@ -1,5 +1,5 @@
--- The leaf block that is open while lines are read one at a time, and what one more line does to it (CommonMark 0.31.2, chapter 4).
--- It is held as its text so far and how many lines that has.
+-- The leaf block that is open while lines are read one at a time, and what one more line does to it
+-- (CommonMark 0.31.2, chapter 4). Such a leaf is held as its text so far, and how many lines that has.
 use Rattle.std.specs.Prelude.{ℕ, suc, ◌+◌, Bool, true, false, ◌&&◌, List, [], ◌∷◌, ◌++◌, Option, Some, None, nat_le}
 use Rattle.cm_text.specs.Rules.{Rules}
 use Rattle.cm_text.specs.Lines.{LineView}

@@ -1,4 +1,4 @@
--- How what the lines so far belong to is told apart.
+-- `Owned` as a tuple of its fields, by which its values are compared. What a parser is in contracts needs it.
 use Rattle.std.specs.Prelude.{ℕ, List, refl}
 use Rattle.std.specs.FinMap as map
 use Rattle.std.specs.Coded.{Coded, code_by, coded_ℕ, coded_list, coded×}

@@ -1,5 +1,6 @@
--- The stack that a parser holds: the open quotes, lists and items from the outside in, each with what stands closed in it, the text of
--- the open leaf, the owners of the lines so far, and the link reference definitions so far; no line is kept.
+-- The stack that a parser holds, in which no line is kept. It has the open quotes, lists and items from the
+-- outside in, each with what stands closed in it. It has the text of the open leaf, the owners of the lines
+-- so far, and the link reference definitions so far.
 use Rattle.std.specs.FinMap.{empty}
 use Rattle.std.specs.Prelude.{ℕ, zero, suc, Bool, true, false, List, [], ◌∷◌, ◌++◌, replicate, Option, Some, None}
 use Rattle.cm_text.specs.Rules.{Rules}

@@ -1,4 +1,4 @@
-//! Leaf blocks that are closed, and how they are put in place.
+//! Leaf blocks that are closed, and how they are put into the level in which they stand.
 ghost use Rattle.std.specs.Prelude.{◌≡◌, ◌+◌, ◌≤◌, length, drop, IfOk, OnOk};
 ghost use Rattle.std.specs.Str.{IsCharBoundary};
 ghost use Rattle.cm_scan.specs.Words.{trim_end};

@@ -1,4 +1,4 @@
-//! A line that is read by counted calls alone.
+//! A line that can only be read by calls that count. So a contract can say how often a line is read.
 ghost use Rattle.std.specs.Prelude.{◌≡◌, ◌++◌, ◌∷◌, ◌&&◌, ℕ, List, suc, true, false, string_bytes, IfOk, IfSome, IfNone, OnOk};
 ghost use Rattle.cm_text.specs.Indentation.{strip_columns};
 ghost use Rattle.cm_text.specs.Rules as all;

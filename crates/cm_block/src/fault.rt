@@ -1,4 +1,4 @@
-//! What can be wrong with the lines of a document.
+//! Why the lines of a document are refused.
 ghost use Rattle.std.specs.Prelude.{◌≡◌};
 
 use cm_text::NoMemory;

@@ -1,4 +1,4 @@
-//! Laws of the definitions, each the contract of a function that does nothing.
+//! Laws: facts about the definitions alone. Each is the contract of a public function with an empty body.
 ghost use Rattle.cm_block.specs.Laws.{OnePass, FromTheLeft, StackBlocks, StackOwners, StackTable, OneOwnerEach};
 ghost use Rattle.cm_block.specs.Depths.{DepthsOfLines, TooDeepAtOnce, TooDeepStays, TooDeepNext};
 ghost use Rattle.cm_block.specs.Lazy.{LazyLine};

@@ -1,4 +1,5 @@
-//! What the lines so far belong to.
+//! What is kept of the lines so far: the owner of each, how many leaves they have, and the definitions among
+//! these.
 ghost use Rattle.std.specs.Prelude.{◌≡◌, ◌≤◌, ◌^◌, ◌++◌, [], ◌∷◌, suc, length, OnOk};
 ghost use Rattle.std.specs.FinMap as map;
 ghost use Rattle.cm_block.specs.Stack.{own_lines, own_blanks, blank_owner};

@@ -1,4 +1,4 @@
-//! What an outline gives as values of the tree.
+//! An outline as values of the tree: its blocks, and the owners of its lines.
 ghost use Rattle.std.specs.Prelude.{◌≡◌, IfOk};
 ghost use Rattle.cm_tree.specs.RawBlocks.{raw_inlines, block_in, blocks_in, items_in, IsPlaced, ArePlaced, AreItems};
 

@@ -1,4 +1,4 @@
-//! The owner of each line, kept in runs.
+//! The owner of each line, kept in runs: lines one after another that have the same owner are one run.
 ghost use Rattle.std.specs.Prelude.{◌≡◌, ◌≤◌, ◌^◌, ◌++◌, [], suc, length, replicate, IfOk, OnOk};
 ghost use Rattle.cm_tree.specs.declared.tree.Owner.TheVariants as owner;
 

@@ -1,4 +1,4 @@
-//! Memory that is kept for later, and holds nothing.
+//! Memory that is kept for the next leaf or container. It holds nothing until then.
 ghost use Rattle.std.specs.Prelude.{◌≡◌, [], string_bytes};
 
 use cm_tree::RawBlock;

@@ -1,4 +1,5 @@
-//! Runs of text, whose source has link reference definitions at its front.
+//! Runs of text: lines that may become definitions, a paragraph or a heading. The definitions stand at the
+//! front of a run's source.
 ghost use Rattle.std.specs.Prelude.{◌≡◌, ◌+◌, ◌<◌, ◌≤◌, ◌^◌, not, true, IfSome, IfNone};
 ghost use Rattle.cm_text.specs.Views.{seen_view};
 ghost use Rattle.cm_scan.specs.Words.{is_empty};

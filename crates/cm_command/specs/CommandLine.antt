@@ -1,4 +1,5 @@
--- What the words of a command line ask for. How clap reads them is said by its own words, at the command line of cmk.
+-- What the words of a command line ask for. How clap reads the words is said in clap's own terms, by the
+-- command line of cmk.
 use Rattle.std.specs.Prelude.{◌≡◌, ◌≢◌, ◌⊎◌, ◌==◌, ◌^◌, ◌&&◌, ⊤, ℕ, Bool, true, false, not, List, [], ◌∷◌, ◌++◌, Option, Some, Result, Ok, Err, codes, flat_map, string_bytes, find, option_map, option_and_then, unwrap_or}
 use Rattle.std.specs.List.{list_all, list_any}
 use Rattle.std.specs.Option.{option_map_or}

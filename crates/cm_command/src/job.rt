@@ -1,4 +1,4 @@
-//! Tasks, and what there is in place of one.
+//! Tasks, and what is answered in place of one: help, a mistake in the words, or want of memory.
 
 use cm_text::Limits;
 use std::alloc::AllocError;

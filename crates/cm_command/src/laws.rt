@@ -1,4 +1,4 @@
-//! Laws of the definitions.
+//! Laws: facts about the definitions alone. Each is the contract of a public function with an empty body.
 ghost use Rattle.cm_command.specs.WordExamples.{WordExamples};
 
 /// Worked examples of the words of `cmk examples`, and of those for the version, by computation.

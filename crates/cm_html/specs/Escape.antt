@@ -1,4 +1,5 @@
--- Texts in HTML: references for what is markup, and the bytes of a destination.
+-- Texts in HTML: what would be markup is written as references. A destination's bytes are kept or
+-- percent-encoded.
 use Rattle.std.specs.Prelude.{ℕ, ◌==◌, Bool, ◌||◌, List, [], ◌∷◌, codes, if◌then◌else◌, flat_map}
 use Rattle.std.specs.Char.{is_ascii_alphanumeric}
 use Rattle.std.specs.List.{list_any, before_first}

@@ -1,5 +1,5 @@
--- The tags in some bytes, if these are markup: text, and tags of a fixed list, each closed in its place. The bytes are read from the
--- left, with the names of the elements that are open.
+-- What markup is: text, and tags of a fixed list, each closed in its place. The tags in some bytes, if these
+-- are markup, are found from the left, with the names of the elements that are open.
 use Rattle.std.specs.Prelude.{ℕ, ◌==◌, Bool, true, false, not, ◌&&◌, ◌||◌, Option, Some, None, List, [], ◌∷◌, ◌++◌, codes, drop, if◌then◌else◌}
 use Rattle.std.specs.Option.{is_some}
 use Rattle.std.specs.Char.{is_ascii_digit}

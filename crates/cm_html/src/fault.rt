@@ -1,4 +1,4 @@
-//! What can go wrong with a writing.
+//! Why HTML or a listing isn't written whole.
 ghost use Rattle.std.specs.Prelude.{◌≡◌};
 
 use cm_text::NoMemory;

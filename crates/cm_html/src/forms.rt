@@ -1,4 +1,4 @@
-//! Texts as they are written, each made once for all the places where it stands.
+//! Texts in the form in which they are written. Each is made once, however often it stands in the output.
 ghost use Rattle.std.specs.Prelude.{◌≡◌, ◌++◌, string_bytes, IfOk, OnOk};
 ghost use Rattle.cm_html.specs.Forms.{formed};
 ghost use Rattle.cm_html.specs.steps.FormedTexts.{number_of};

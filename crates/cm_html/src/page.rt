@@ -1,4 +1,4 @@
-//! A text into which others are put that it doesn't hold itself.
+//! A text with insertions: other texts that stand at places of it, and that it holds no copy of.
 ghost use Rattle.std.specs.Prelude.{◌≡◌, [], ◌++◌, length, string_bytes, IfOk, OnOk, OnErr, IfSome, MatchResult, ◌<◌, ◌^◌};
 ghost use Rattle.std.specs.Fmt.{decimal};
 ghost use Rattle.cm_html.specs.Forms.{formed};

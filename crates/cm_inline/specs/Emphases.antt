@@ -1,4 +1,5 @@
--- How many of emphasis, strong emphasis and strikethrough inlines hold.
+-- How many inlines of emphasis, strong emphasis and strikethrough there are among some inlines, at every
+-- depth.
 use Rattle.std.specs.Prelude.{ℕ, ◌+◌, List, [], ◌∷◌, map}
 use Rattle.cm_tree.specs.declared.tree.Inline.{Inline, Inline-F}
 use Rattle.cm_tree.specs.declared.tree.Inline.TheOpen.{Emph, Strong, Strike, Link, Image}

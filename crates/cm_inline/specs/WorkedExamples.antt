@@ -1,4 +1,4 @@
--- Worked examples, by computation.
+-- Worked examples of how much emphasis is counted, by computation.
 use Rattle.std.specs.Prelude.{◌≡◌, List, [], ◌∷◌, codes}
 use Rattle.cm_tree.specs.declared.tree.Inline.{Inline}
 use Rattle.cm_tree.specs.declared.tree.Inline.TheVariants.{Text, Emph, Strong, Strike, Link, Image}

@@ -1,4 +1,4 @@
-//! What is known not to follow in a leaf's source, so that no search is made twice.
+//! What is known to stand nowhere in the rest of a leaf's source, so that no search is made twice.
 ghost use Rattle.std.specs.Prelude.{◌≡◌, ℕ, ◌≤◌, ◌++◌, true, List, length, drop, IfOk, OnOk, IfSome};
 ghost use Rattle.cm_inline.specs.steps.Missing.{start_of, end_of, missing_from, AreLast, Knows, NoneFrom};
 

@@ -1,4 +1,4 @@
-//! What can be wrong with the inlines of a leaf.
+//! Why the inlines of a leaf are refused.
 ghost use Rattle.std.specs.Prelude.{◌≡◌};
 
 use cm_text::NoMemory;

@@ -1,4 +1,5 @@
-//! The groups of a leaf: emphasis, links and images, by what stands in them and where they lead.
+//! The groups of a leaf: its emphasis, links and images. A group has the places of what stands in it, and
+//! where it leads.
 ghost use Rattle.std.specs.Prelude.{◌≡◌, ◌++◌, ◌<◌, ◌≤◌, [], ◌∷◌, length, take, OnOk, OnErr};
 ghost use Rattle.cm_tree.specs.LinkTargets.{led_to};
 ghost use Rattle.cm_inline.specs.steps.Groups.{group_of, grouped, IsAt};

@@ -1,4 +1,5 @@
-//! The HTML of nodes of which nothing more is made, from the source.
+//! The HTML of settled nodes, of which nothing more is made. It is written from the source, and no inline is
+//! made for it.
 ghost use Rattle.std.specs.Prelude.{◌≡◌, ◌++◌, List, [], length, replicate, encode_utf8_all, IfOk, IfSome, OnOk};
 ghost use Rattle.std.specs.List.{slice_range};
 ghost use Rattle.std.specs.Str.{IsCharBoundary};

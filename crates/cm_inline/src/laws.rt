@@ -1,4 +1,4 @@
-//! Laws of the definitions, each the contract of a function that does nothing.
+//! Laws: facts about the definitions alone. Each is the contract of a public function with an empty body.
 ghost use Rattle.cm_inline.specs.WorkedExamples.{EmphasisExamples};
 
 /// Worked examples over the definitions, by computation.

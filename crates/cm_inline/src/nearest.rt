@@ -1,4 +1,4 @@
-//! The search for an opener.
+//! The search for the nearest opener of a delimiter run that may close.
 ghost use Rattle.std.specs.Prelude.{◌≡◌, ℕ, ◌+◌, ◌<◌, ◌^◌, true, ◌&&◌, length};
 ghost use Rattle.cm_inline.specs.steps.Entries.{after_place, is_listed, Falling};
 ghost use Rattle.cm_scan.specs.Delimiters.{delimiters_match};

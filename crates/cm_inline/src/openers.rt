@@ -1,4 +1,5 @@
-//! The runs that may open, with a bottom for each kind of closer.
+//! The delimiter runs that may open. Each kind of closer has a bottom: below it no run opens for such a
+//! closer.
 ghost use Rattle.std.specs.Prelude.{◌≡◌, ℕ, ◌+◌, ◌<◌, ◌^◌, true, [], length, Some, get_or, set, Option, IfOk, IfSome, MatchOption};
 ghost use Rattle.cm_inline.specs.steps.Entries.{after_place, first_place, between_gone, is_listed, Falling};
 ghost use Rattle.cm_inline.specs.steps.Searching.{find_opener, looks_for, kind, bottoms_after};

@@ -1,4 +1,4 @@
-//! The inlines of a leaf.
+//! The inlines of a leaf, or their HTML, read from its source.
 ghost use Rattle.std.specs.Prelude.{◌≡◌, ◌<◌, ◌&&◌, not, ℕ, [], ◌∷◌, ◌++◌, true, false, length, string_bytes, IfOk, OnOk, IfErr, IsTrue, Err};
 ghost use Rattle.std.specs.List.{list_any};
 ghost use Rattle.cm_text.specs.Rules.{Rules, profile};

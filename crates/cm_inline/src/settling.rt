@@ -1,4 +1,4 @@
-//! The inlines that come of nodes of which nothing more is made.
+//! The inlines that settled nodes become, of which nothing more is made.
 ghost use Rattle.std.specs.Prelude.{◌≡◌, [], ◌++◌, length, IfOk, OnOk};
 ghost use Rattle.cm_tree.specs.LinkTargets.{led_to};
 ghost use Rattle.cm_scan.specs.Pairing.{settled};

@@ -1,4 +1,4 @@
-//! Spare memory: that of inlines which were let go of, and which serves for the next ones.
+//! Spare memory: that of inlines which a caller let go of. It serves for the next ones.
 ghost use Rattle.std.specs.Prelude.{◌≡◌, [], ◌∷◌, string_bytes, IfOk, IfSome};
 ghost use Rattle.cm_tree.specs.declared.tree.Inline.TheVariants.{Text as text_inline};
 

@@ -1,4 +1,4 @@
-//! Inlines that stand by themselves in a leaf's source.
+//! Inlines in which no other inline nests: code spans, raw HTML, autolinks and breaks.
 ghost use Rattle.std.specs.Prelude.{◌≡◌, ◌++◌, [], ◌∷◌, string_bytes, codes, if◌then◌else◌, IfOk};
 ghost use Rattle.cm_tree.specs.declared.tree.Inline.TheVariants as inlines;
 ghost use Rattle.cm_inline.specs.steps.Written.{inline_in, written_depth, IsWithin};

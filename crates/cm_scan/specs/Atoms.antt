@@ -1,5 +1,5 @@
--- The atoms of a leaf's source (CommonMark 0.31.2, chapter 6). Its lines are parted by line feeds. What is tried at a place is
--- told by the byte there; where nothing fits, that byte is text.
+-- The atoms of a leaf's source (CommonMark 0.31.2, chapter 6). Its lines are parted by line feeds. The byte
+-- at a place tells what is tried there. Where nothing fits, that byte is text.
 use Rattle.std.specs.Prelude.{ℕ, Bool, true, false, ◌&&◌, ◌||◌, ◌==◌, nat_le, if◌then◌else◌, List, [], ◌∷◌, drop, reverse, replicate, slice_get, Option, Some, None, codes, chars, encode_utf8_all}
 use Rattle.cm_text.specs.Rules.{Rules}
 use Rattle.cm_text.specs.References.{reference}

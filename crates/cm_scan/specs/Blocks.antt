@@ -1,5 +1,5 @@
--- The block structure of a list of lines (CommonMark 0.31.2, chapters 3 to 5): by cases on what the first line begins, then on the
--- lines that are left.
+-- The block structure of a list of lines (CommonMark 0.31.2, chapters 3 to 5). It goes by cases on what the
+-- first line begins, and then on the lines that are left.
 use Rattle.std.specs.Prelude.{ℕ, zero, suc, ◌+◌, ◌-◌, Bool, true, false, not, ◌&&◌, List, [], ◌∷◌, ◌++◌, length, Option, Some, None, ◌==◌, nat_lt, nat_le, if◌then◌else◌}
 use Rattle.std.specs.List.{flat_map, position}
 use Rattle.std.specs.Option.{option_map}

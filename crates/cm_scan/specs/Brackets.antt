@@ -1,4 +1,5 @@
--- Links and images by their brackets (CommonMark 0.31.2, 6.3 Links, 6.4 Images). Items so far have the last first.
+-- Links and images by their brackets (CommonMark 0.31.2, 6.3 Links, 6.4 Images). The items so far are given
+-- with the last first.
 use Rattle.std.specs.Prelude.{ℕ, ◌-◌, Bool, true, false, not, ◌&&◌, ◌||◌, List, [], ◌∷◌, ◌++◌, length, take, reverse, Option, Some, None, codes, if◌then◌else◌}
 use Rattle.std.specs.FinMap.{get}
 use Rattle.cm_text.specs.Labels.{fold_label}

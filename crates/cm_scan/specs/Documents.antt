@@ -1,5 +1,5 @@
--- The tree of a text: its blocks, with the inlines of their leaves read where the link reference definitions of the whole document
--- count (CommonMark 0.31.2, Appendix: A parsing strategy).
+-- The tree of a text: its blocks, with the inlines of their leaves. For each leaf the link reference
+-- definitions of the whole document count (CommonMark 0.31.2, Appendix: A parsing strategy).
 use Rattle.std.specs.Prelude.{ℕ, List, [], ◌∷◌, map}
 use Rattle.cm_text.specs.Rules.{Rules}
 use Rattle.cm_text.specs.Lines.{LineView, text_of, plain_lines_of}

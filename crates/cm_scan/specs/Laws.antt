@@ -1,5 +1,5 @@
--- What the parts of lines are, case by case, with no word of the bound by which the definition computes. What is built on the block
--- structure stands on these laws.
+-- What the parts of lines are, case by case. The definition computes up to a bound, of which these laws don't
+-- speak. What is built on the block structure stands on them.
 use Rattle.std.specs.Prelude.{◌≡◌, ℕ, suc, ◌+◌, ◌==◌, Bool, true, false, ◌&&◌, if◌then◌else◌, List, [], ◌∷◌, ◌++◌, length, map, Option, Some, None, ⊤}
 use Rattle.std.specs.List.{list_all}
 use Rattle.std.specs.Option.{option_map}

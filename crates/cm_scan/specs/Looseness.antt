@@ -1,5 +1,5 @@
--- Loose lists by the owners of their lines (5.3 Lists): where each block and each item begins, and whether the line right before it
--- is blank.
+-- Loose lists by the owners of their lines (CommonMark 0.31.2, 5.3 Lists). The owners tell where each block
+-- and each item begins, and whether the line right before it is blank.
 use Rattle.std.specs.Prelude.{◌≡◌, ℕ, zero, suc, ◌+◌, ◌<◌, Bool, true, false, ◌||◌, List, [], ◌∷◌, drop, get_or, ⊤}
 use Rattle.std.specs.List.{list_any}
 use Rattle.cm_text.specs.Rules.{Rules}

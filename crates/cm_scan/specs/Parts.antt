@@ -1,5 +1,6 @@
--- What the lines of a document are parts of, in order; and what follows from it: the tree of blocks, the owner of each line, whether
--- a paragraph is left open, and how deep each line stands (CommonMark 0.31.2, chapters 3 and 5).
+-- What the lines of a document are parts of, in order (CommonMark 0.31.2, chapters 3 and 5). The parts tell
+-- the tree of blocks, the owner of each line, whether a paragraph is left open, and how deep each line
+-- stands.
 use Rattle.std.specs.Prelude.{ℕ, suc, ◌+◌, Bool, true, false, not, ◌&&◌, ◌||◌, List, [], ◌∷◌, ◌++◌, nat_lt, Option, Some, None, map, replicate}
 use Rattle.cm_text.specs.Unescaping.{unescape}
 use Rattle.cm_tree.specs.declared.tree.Block.{Block}

@@ -1,4 +1,4 @@
--- Texts among the items of a leaf may stand in pieces.
+-- A text among the items of a leaf may be cut into pieces: the same inlines come of them.
 use Rattle.std.specs.Prelude.{◌≡◌, ℕ, List, [], ◌∷◌, map, reverse}
 use Rattle.std.specs.List.{flat_map}
 use Rattle.cm_text.specs.Rules.{Rules}

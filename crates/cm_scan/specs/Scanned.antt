@@ -1,4 +1,4 @@
--- What a scanner answers.
+-- How a scanner's answer is compared with the definitions: what it read, and what is left behind that.
 use Rattle.std.specs.Prelude.{List, drop, option_map, ℕ, Option, Some, None, Bool, if◌then◌else◌, ◌++◌, codes}
 use Rattle.std.specs.Borrow.{Bor}
 use Rattle.cm_scan.specs.Links.{Reading, LinkDefinition}

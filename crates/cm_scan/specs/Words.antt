@@ -1,4 +1,4 @@
--- Words on texts that the grammars share. A text is its UTF-8 bytes.
+-- Small definitions on texts, which several grammars share. A text is its UTF-8 bytes.
 use Rattle.std.specs.Prelude.{ℕ, suc, ◌+◌, Bool, true, false, ◌&&◌, ◌||◌, List, [], ◌∷◌, Option, Some, None, ◌==◌, nat_lt, if◌then◌else◌}
 use Rattle.std.specs.List.{list_all, list_any}
 use Rattle.cm_text.specs.Characters.{within}

@@ -1,4 +1,5 @@
-//! Laws of single blocks with any lines behind them, each the contract of a function that does nothing.
+//! Laws of single blocks, with any lines behind them. Each is the contract of a public function with an empty
+//! body.
 ghost use Rattle.cm_scan.specs.BlockLaws.{UnindentedLine, QuoteAndSpace, QuoteAlone, ItemAndSpace, ItemAlone, RunUpToItsEnd, RunUpToItsUnderline};
 ghost use Rattle.cm_scan.specs.BlockLaws.{FencedUpToItsEnd, FencedToTheLast, HtmlUpToItsEnd, HtmlUpToABlankLine, KindOfItself, ItemBeforeItsList, ItemByItself};
 

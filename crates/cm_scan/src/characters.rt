@@ -1,4 +1,4 @@
-//! The characters at the ends of a text.
+//! The first and the last character of a text.
 ghost use Rattle.std.specs.Prelude.{◌≡◌, reverse};
 ghost use Rattle.cm_scan.specs.Atoms.{first_character, last_character};
 

@@ -1,4 +1,4 @@
-//! Laws of the definitions of inlines, each the contract of a function that does nothing.
+//! Laws of the definitions of inlines. Each is the contract of a public function with an empty body.
 ghost use Rattle.cm_scan.specs.InlineLaws.{ReadingGoesOn, StepLeavesAnEnd, BracketStep, UnmarkedIsPlain, PlainIsItself, PlainFrontIsText, SpacesAndLineFeed};
 ghost use Rattle.cm_scan.specs.Pieces.{TextsInPieces, ReadingInPieces};
 ghost use Rattle.cm_scan.specs.Runs.{RunsAreFew};

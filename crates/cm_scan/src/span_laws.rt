@@ -1,4 +1,4 @@
-//! Laws of code spans, autolinks and raw HTML, each the contract of a function that does nothing.
+//! Laws of code spans, autolinks and raw HTML. Each is the contract of a public function with an empty body.
 ghost use Rattle.std.specs.Prelude.{[], codes};
 ghost use Rattle.cm_scan.specs.SpanExamples.{AutolinkExamples, CodeSpanExamples, OlderExamples, RawHtmlExamples};
 ghost use Rattle.cm_scan.specs.SpanLaws.{RawHtmlGoesOn, WholeRawHtmlGoesOn, AutolinkGoesOn, NoAutolinkGoesOn, CodeSpanGoesOn, AngledGoesOn, WholeTagGoesOn, OlderIsRead, NeedsEnd};

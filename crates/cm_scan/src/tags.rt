@@ -1,4 +1,5 @@
-//! Tags of HTML (6.6 Raw HTML). Each reading answers what is left behind what it read.
+//! Tags of HTML (CommonMark 0.31.2, 6.6 Raw HTML). Each call reads a part of a tag, and answers what is left
+//! of the text behind it.
 ghost use Rattle.std.specs.Prelude.{◌≡◌, suc, [], ◌∷◌, Some, None, length, codes, MatchOption};
 ghost use Rattle.cm_scan.specs.Words.{is_letter, skip, after_word};
 ghost use Rattle.cm_scan.specs.Tags.{begins_attribute, continues_attribute, is_unquoted, after_gap, after_quoted, after_value, after_specification, after_attribute, after_tag_end, after_attributes, tag_name, open_tag, closing_tag};

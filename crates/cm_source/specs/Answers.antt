@@ -1,4 +1,4 @@
--- What a call answers that may refuse a tree.
+-- The answers of calls that may refuse a tree.
 use Rattle.std.specs.Prelude.{◌≡◌, List, Option, Some, None, Result, Ok, Err, String, string_bytes}
 use Rattle.std.specs.declared.alloc.Global.{Global}
 use Rattle.cm_text.specs.Rules.{Rules}

@@ -1,4 +1,5 @@
--- Which inlines can't be spelled so that they read back, and why not: the first reason in document order, parents first.
+-- Which inlines can't be spelled so that they read back, and why not. The reason is the first in document
+-- order, parents first.
 use Rattle.std.specs.Prelude.{ℕ, Bool, true, false, not, ◌==◌, ◌&&◌, ◌||◌, if◌then◌else◌, List, [], ◌∷◌, map, reverse, Option, Some, None, codes}
 use Rattle.std.specs.List.{list_any}
 use Rattle.std.specs.Char.{is_ascii_control}

@@ -1,4 +1,5 @@
--- Worked examples: trees, their spellings, and the trees that are read of these: the same ones, unless they are refused.
+-- Worked examples: trees, their spellings, and the trees that are read of these. They are the same trees,
+-- unless one is refused.
 use Rattle.std.specs.Prelude.{◌≡◌, ℕ, true, false, List, [], ◌∷◌, ◌++◌, Some, None, codes}
 use Rattle.cm_text.specs.Lines.{plain_lines_of}
 use Rattle.cm_text.specs.Rules.{Rules, profile, older_rules}

@@ -1,4 +1,5 @@
--- Which trees can't be spelled so that they read back, and why not: the first reason in document order, parents first.
+-- Which trees can't be spelled so that they read back, and why not. The reason is the first in document
+-- order, parents first.
 use Rattle.std.specs.Prelude.{◌≡◌, ℕ, ◌^◌, Bool, true, false, not, ◌==◌, ◌&&◌, ◌||◌, nat_le, List, [], ◌∷◌, map, Option, Some, None}
 use Rattle.std.specs.List.{list_any, list_all}
 use Rattle.cm_text.specs.Rules.{Rules}

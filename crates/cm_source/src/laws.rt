@@ -1,4 +1,4 @@
-//! Laws of the definitions, each the contract of a function that does nothing.
+//! Laws: facts about the definitions alone. Each is the contract of a public function with an empty body.
 ghost use Rattle.cm_source.specs.ReadingBackExamples.{LeafBlockExamples, ContainerExamples, ContentExamples, RuleExamples, MisreadExamples, SourceExamples, NotUtf8Examples};
 ghost use Rattle.cm_source.specs.RefusalExamples.{InlineRefusalExamples, RefusalExamples};
 ghost use Rattle.cm_source.specs.WorkedExamples.{TextExamples, InlineExamples, BlockExamples};

@@ -1,4 +1,4 @@
-//! Laws of reading back what is spelled, each the contract of a function that does nothing.
+//! Laws of reading back what is spelled. Each is the contract of a public function with an empty body.
 ghost use Rattle.cm_source.specs.ReadingBack.{ParagraphsReadBack, HeadingsReadBack, BlocksReadBack, SpellingIsText, TreesReadBack};
 
 /// A content that isn't refused is what its spelling is read as, whatever is defined.

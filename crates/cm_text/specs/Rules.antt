@@ -1,4 +1,4 @@
--- The rules of a reading, where readers of CommonMark differ. Each of the two marks goes with either value of the other.
+-- The rules of a reading, where readers of CommonMark differ. Its two marks don't depend on each other.
 use Rattle.std.specs.Prelude.{Bool, true, false}
 
 pub record Rules : Type 0 where

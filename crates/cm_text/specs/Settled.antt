@@ -1,4 +1,4 @@
--- When the bytes so far settle what is wrong with a text.
+-- When the bytes so far settle a fault of a text: it has this fault however it goes on.
 use Rattle.std.specs.Prelude.{◌≡◌, ◌↔◌, ℕ, ◌<◌, List, ◌++◌, Some, All}
 use Rattle.cm_text.specs.declared.fault.TextFault.{TextFault}
 use Rattle.cm_text.specs.Faults.{settled_fault, text_fault}

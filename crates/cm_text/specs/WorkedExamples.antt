@@ -1,4 +1,5 @@
--- Worked examples, by computation.
+-- Worked examples by computation: of lines, faults, indentation, labels, characters, references, escapes and
+-- limits.
 use Rattle.std.specs.Prelude.{◌≡◌, ◌^◌, true, false, [], ◌∷◌, Some, None, length, codes}
 use Rattle.std.specs.List.{filter, range_with_len}
 use Rattle.cm_text.specs.declared.fault.TextFault.TheVariants.{NotUtf8, TooLong}

@@ -1,4 +1,4 @@
-//! What can be wrong with a text.
+//! Why a text is refused.
 ghost use Rattle.std.specs.Prelude.{◌≡◌};
 
 use std::alloc::AllocError;

@@ -1,4 +1,4 @@
-//! Labels as they are compared.
+//! Labels of links, in the form in which they are compared.
 ghost use Rattle.std.specs.Prelude.{◌≡◌, ◌<◌, true, ◌++◌, length, drop, string_bytes, encode_utf8, IfOk, OnOk};
 ghost use Rattle.std.specs.Cow.{cow_str_bytes};
 ghost use Rattle.cm_text.specs.Labels.{case_fold, fold_label, is_gap, settle_gaps};

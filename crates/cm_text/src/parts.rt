@@ -1,4 +1,4 @@
-//! Parts of a text, without copying.
+//! A text cut in two, without a copy.
 ghost use Rattle.std.specs.Prelude.{◌≡◌, ◌+◌, ◌<◌, length, take, drop, slice_index, IsUtf8};
 
 /// What stands before an ASCII character of a text, and what stands after it.

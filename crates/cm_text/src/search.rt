@@ -1,4 +1,4 @@
-//! The search for bytes of a kind, many lanes at a time.
+//! The search for bytes of a kind, many at a time, each in a lane of a wide register.
 ghost use Rattle.std.specs.Prelude.{◌≡◌, ℕ, ◌+◌, ◌<◌, ◌≤◌, Bool, false, not, length, get_or, map};
 ghost use Rattle.std.specs.List.{prefix_len};
 ghost use Rattle.std.specs.Simd.Lanes.{chunk, mask_l};

@@ -1,4 +1,4 @@
-//! The text of bytes.
+//! The text of UTF-8 bytes, in which U+0000 becomes U+FFFD.
 ghost use Rattle.std.specs.Prelude.{◌≡◌, IfOk, string_bytes};
 ghost use Rattle.cm_text.specs.Lines.{text_of};
 

@@ -1,4 +1,4 @@
-//! The text of which no line has been taken yet.
+//! The text that has come, and of which no line has been taken yet.
 ghost use Rattle.std.specs.Prelude.{◌≡◌, [], ◌∷◌, ◌++◌, map, ◌+◌, ◌*◌, ◌^◌, ◌≤◌, length, drop, OnOk, OnErr, IfSome, IfNone, string_bytes, string_len, true};
 ghost use Rattle.std.specs.Str.{IsCharBoundary};
 ghost use Rattle.cm_text.specs.steps.FirstLine.{IsFirstLine};

@@ -1,4 +1,4 @@
-//! Bytes that are taken as text as far as they are UTF-8.
+//! Bytes that are taken in as text, as far as they are UTF-8.
 ghost use Rattle.std.specs.Prelude.{◌≡◌, ◌+◌, ◌*◌, ◌≤◌, ◌++◌, length, OnOk, OnErr, IfOk, is_some, string_len};
 ghost use Rattle.std.specs.Str.Lossy.{utf8_valid_len, utf8_error_len};
 ghost use Rattle.cm_text.specs.Cut.{cut_of, IsFront};

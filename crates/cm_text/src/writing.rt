@@ -1,4 +1,4 @@
-//! Writing bytes whole.
+//! Writing all of some bytes to a sink.
 ghost use Rattle.std.specs.Prelude.{◌≡◌, ℕ, ◌+◌, ◌-◌, ◌^◌, ◌<◌, MatchResult, IfOk};
 ghost use Rattle.cm_text.specs.Writing.{Wrote, WroteFront};
 

@@ -1,4 +1,4 @@
--- The examples of lines, told by what stands in a file.
+-- Which examples a file has, told by the lines that stand in it.
 use Rattle.std.specs.Prelude.{◌≡◌, ◌≢◌, ℕ, ◌+◌, All, List, [], ◌∷◌, ◌++◌, flat_map, length, Result, Ok, Err}
 use Rattle.cm_text.specs.Lines.{lines_of}
 use Rattle.cm_tool.specs.ExampleFiles.{Example, closing_line, example_line, examples_from, examples_of, middle_line, opening_line, put_example, Outside}

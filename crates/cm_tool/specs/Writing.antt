@@ -1,4 +1,4 @@
--- What a call that reads a text and writes an output of it answers, and what it has written then.
+-- The calls that read a text and write an output of it: what they answer, and what they have written then.
 use Rattle.std.specs.Prelude.{◌≡◌, ℕ, List, length, Result, Ok, Err, ◌⊎◌}
 use Rattle.cm_text.specs.Rules.{Rules}
 use Rattle.cm_text.specs.Limits.{LimitsView}

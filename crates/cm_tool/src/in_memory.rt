@@ -1,4 +1,4 @@
-//! From a text that lies in memory, without a device.
+//! The document, the HTML and the plain source of a text that lies in memory, without a device.
 ghost use Rattle.std.specs.Prelude.{◌≡◌, IfErr, IfOk};
 ghost use Rattle.cm_tool.specs.Faults.{fault_of};
 ghost use Rattle.cm_tool.specs.Parsing.{Finishes, Makes, StandsFor, TellsFault};

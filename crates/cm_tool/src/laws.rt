@@ -1,4 +1,4 @@
-//! Laws of the definitions.
+//! Laws: facts about the definitions alone. Each is the contract of a public function with an empty body.
 ghost use Rattle.cm_tool.specs.ExampleLaws.{ExamplesAreDetermined, ExamplesAreTold, ExamplesOfText};
 ghost use Rattle.cm_tool.specs.Examples.{Examples};
 ghost use Rattle.cm_tool.specs.Faults.{SettledIsTold};

@@ -1,4 +1,4 @@
-//! From a source of a file of examples to the text of their report.
+//! The report of a file of examples, from a source of its bytes to what is written.
 ghost use Rattle.std.specs.Prelude.{◌≡◌, ℕ, ◌-◌, ◌^◌, ◌<◌, ◌++◌, List, IfOk, OnOk, string_bytes};
 ghost use Rattle.std.specs.Io.KnownBytes.{Consumes};
 ghost use Rattle.cm_tool.specs.ExampleFiles.{difference_of, report_view};

@@ -1,4 +1,4 @@
-//! The plain source of an outline, whose blocks are let go of one after another.
+//! The plain source of an outline. Each block is let go of once it is spelled.
 ghost use Rattle.std.specs.Prelude.{◌≡◌, List, [], ◌∷◌, ◌++◌, IfOk, IfErr, OnOk, None, option_map};
 ghost use Rattle.cm_text.specs.Rules as text_rules;
 ghost use Rattle.cm_tree.specs.declared.tree.Block as trees;

@@ -1,4 +1,4 @@
--- Where links lead, lent and kept.
+-- Where a link leads, and its title: as they are lent, and as they are kept.
 use Rattle.std.specs.Prelude.{◌≡◌, ℕ, List, ⊤}
 use Rattle.cm_tree.specs.declared.link_target.LinkTarget.{LinkTarget}
 use Rattle.cm_tree.specs.declared.link_target.LinkTarget.TheVariants as lent

@@ -1,4 +1,4 @@
-//! Copies of trees, each equal to its original. They are written out, since a derived `clone` ensures
+//! Copies of trees, each equal to its original. They are written by hand, since a derived `clone` ensures
 //! nothing of a type that holds itself.
 ghost use Rattle.std.specs.Prelude.{◌≡◌, IfOk};
 

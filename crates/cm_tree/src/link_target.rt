@@ -1,4 +1,4 @@
-//! Where links lead, lent and kept.
+//! Where a link leads, and its title: as they are lent, and as they are kept.
 ghost use Rattle.std.specs.Prelude.{◌≡◌, IfOk, string_bytes};
 ghost use Rattle.cm_tree.specs.TargetPlaces.{GoesOn};
 ghost use Rattle.cm_tree.specs.LinkTargets.{led_to, kept_in, IsKept, Keeps};

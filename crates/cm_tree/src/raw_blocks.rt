@@ -1,4 +1,5 @@
-//! Blocks whose inlines haven't been read. They own no memory: their texts and the blocks in them lie behind one another.
+//! Blocks whose inlines haven't been read. They own no memory: their texts lie behind one another in one
+//! text, and the blocks in them in one list.
 ghost use Rattle.std.specs.Prelude.{◌≡◌, [], ◌++◌, length, IfOk, OnOk};
 ghost use Rattle.std.specs.List.{slice_range};
 ghost use Rattle.cm_tree.specs.RawBlocks.{raw_inlines, block_in, blocks_in, item_in, items_in, IsBetween, IsRange, IsPlaced, ArePlaced, IsItem, AreItems, Grows};

@@ -1,4 +1,4 @@
-//! Room of the caller's.
+//! Calls that fill memory which the caller has set aside.
 ghost use Rattle.std.specs.Prelude.{◌≡◌, ℕ, List, Option, IfErr};
 ghost use Rattle.cm_tool.specs.declared.fault.Fault as faults;
 ghost use Rattle.cmk_c.specs.steps.Places.{HasPlace};

@@ -1,4 +1,4 @@
-//! Laws of the definitions.
+//! Laws: facts about the definitions alone. Each is the contract of a public function with an empty body.
 ghost use Rattle.cmk_c.specs.Numbers.{FaultsHaveMessages};
 
 /// Each fault is told by its number and its place.

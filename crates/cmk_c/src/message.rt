@@ -1,4 +1,4 @@
-//! What a number tells, and its line.
+//! What the number that a call answers tells, and the line for it.
 ghost use Rattle.std.specs.Prelude.{◌≡◌, ℕ, List, ◌+◌, ◌≤◌, ◌++◌, length, take, codes};
 ghost use Rattle.cmk_c.specs.Calls.{IsPut, line_of};
 ghost use Rattle.cmk_c.specs.Numbers.{message_of};

@@ -1,4 +1,4 @@
-//! What is made of a text, with a NUL behind it.
+//! The outputs of the calls, each with a NUL behind it: HTML, a listing, or plain source.
 ghost use Rattle.std.specs.Prelude.{◌≡◌, ◌≤◌, ◌^◌, List, ℕ, IfErr, IfOk, IfSome, string_bytes};
 ghost use Rattle.cm_tool.specs.declared.fault.Fault.TheVariants.{NoMemory};
 ghost use Rattle.cm_tool.specs.Faults.{fault_of};

@@ -1,5 +1,5 @@
-//! Calls of one line: the name of a function, what it is called with, `=`, and its answer. A table of
-//! them is described at the front of `text.calls`.
+//! Calls of one line: the name of a function, what it is called with, `=`, and its answer. The front of
+//! `text.calls` says how such a table is written.
 
 mod of_command_line;
 

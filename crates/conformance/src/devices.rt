@@ -1,4 +1,5 @@
-//! Tasks that are done where the reader fails behind any byte, and where only so much is taken of the output.
+//! Tasks with devices that fail: a reader behind any byte of the text, and a writer that takes only so much
+//! of the output.
 
 use crate::runs::{READ, SHORT, Space, ample, ran};
 use case_tables::cuts::{Cut, pieces};

@@ -1,6 +1,6 @@
-//! Examples in the form of the CommonMark specification: an opening line of 32 backticks and `example`,
-//! the text, a line with a point, its HTML, and a closing line of 32 backticks. → stands for a tab. Lines
-//! outside examples are passed over.
+//! Examples in the form of the CommonMark specification. An opening line of 32 backticks and `example` comes
+//! first. Then come the text, a line with a point, its HTML, and a closing line of 32 backticks. → stands for
+//! a tab. Lines outside of examples are passed over.
 
 use crate::texts::{Outcome, Text};
 use case_tables::trouble::{Trouble, wrong};

@@ -1,4 +1,4 @@
-//! What `cm_tool` writes, where only so much of it is taken.
+//! What `cm_tool` writes to a writer that takes only so much.
 
 use case_tables::cuts::Counted;
 use cm_html::listing;

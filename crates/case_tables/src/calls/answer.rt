@@ -1,4 +1,4 @@
-//! The words of an answer.
+//! The answer of a call, as the words that a table has for it.
 
 use crate::trouble::{Trouble, shown};
 use crate::words::Word;

@@ -1,4 +1,4 @@
-//! How what is left of a line comes to the end of a text.
+//! Calls that copy what is left of a line to the end of a text.
 ghost use Rattle.std.specs.Prelude.{◌≡◌, ◌++◌, ◌∷◌, suc, false, string_bytes, IfOk, OnOk};
 ghost use Rattle.cm_text.specs.Rules as all;
 ghost use Rattle.cm_text.specs.Views.{seen_view};

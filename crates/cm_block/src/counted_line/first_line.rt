@@ -1,4 +1,4 @@
-//! The first line of a leaf block.
+//! What the first line of a leaf block makes: a leaf that further lines may go on with, or a whole one.
 ghost use Rattle.std.specs.Prelude.{◌≡◌, [], string_bytes, IfOk, IfSome, IfNone, true};
 ghost use Rattle.cm_text.specs.Lines.{LineView};
 ghost use Rattle.cm_block.specs.declared.counted_line.starts.Start.TheVariants.{Atx, Fence};

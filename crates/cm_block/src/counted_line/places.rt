@@ -1,4 +1,4 @@
-//! Where a line stands that follows those of an open container, and how it goes inward.
+//! Whether a line stays inside an open container, and what is left of it there.
 ghost use Rattle.std.specs.Prelude.{◌≡◌, ◌≤◌, ◌&&◌, ◌||◌, nat_le, true, false, option_map, IfSome, MatchOption};
 ghost use Rattle.cm_text.specs.Indentation.{indent_of, strip_columns};
 ghost use Rattle.cm_text.specs.Rules as all;

@@ -1,4 +1,4 @@
--- How deep what is finished among the items of a leaf nests.
+-- How deep the finished items of a leaf nest.
 use Rattle.std.specs.Prelude.{ℕ, List, map}
 use Rattle.cm_tree.specs.Depth.{depth_of, greatest}
 use Rattle.cm_scan.specs.Pairing.{Item, Finished, Linked}

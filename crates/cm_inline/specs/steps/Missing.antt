@@ -1,4 +1,4 @@
--- What is known not to follow in a source.
+-- Words that are known to stand nowhere in the rest of a source.
 use Rattle.std.specs.Prelude.{◌≡◌, ℕ, ◌≤◌, false, List, drop, codes, Option, Some, None, ⊤}
 use Rattle.std.specs.Option.{option_map_or}
 use Rattle.std.specs.Ordering.{nat_cmp}

@@ -1,4 +1,4 @@
--- The list of runs beside the items before a place, which are given with the last first.
+-- How the list of runs fits the items before a place. These items are given with the last first.
 use Rattle.std.specs.Prelude.{◌≡◌, ℕ, ◌+◌, ◌<◌, ◌≤◌, true, List, [], ◌∷◌, ◌++◌, length, take, get_or, reverse, Some, None}
 use Rattle.cm_scan.specs.Delimiters.{Run}
 use Rattle.cm_scan.specs.Pairing.{Item, Finished, Delimiters, nearest_opener}

@@ -1,4 +1,4 @@
--- What values of the program stand for.
+-- What the program's delimiter runs and entries stand for in the definitions.
 use Rattle.std.specs.Prelude.{◌≡◌, ℕ, Option, Some, None, List, [], ◌∷◌}
 use Rattle.cm_scan.specs.Delimiters.{Run}
 use Rattle.cm_scan.specs.Delimiters as delimiters

@@ -1,4 +1,4 @@
--- How the code has what stands beside a block.
+-- The faces of blocks, as the code has them: what a block shows to those beside it.
 use Rattle.std.specs.Prelude.{Bool, true, false, Option, option_map}
 use Rattle.cm_source.specs.Refusals as refusals
 use Rattle.cm_source.specs.declared.refusals.Face.{Face}

@@ -1,4 +1,4 @@
--- How the code has what stands beside an inline, and where it stands.
+-- The faces of inlines, as the code has them: what an inline shows to those beside it, and where it stands.
 use Rattle.std.specs.Prelude.{Option, option_map, reverse}
 use Rattle.cm_scan.specs.Atoms.{first_character, last_character}
 use Rattle.cm_source.specs.InlineRefusals as refusals

@@ -1,4 +1,5 @@
--- Source that is written line by line, each line behind what stands in front of it.
+-- Source that is written line by line. What stands in front of a line, as markers and indentation, is written
+-- with it.
 use Rattle.std.specs.Prelude.{◌≡◌, ℕ, ◌==◌, if◌then◌else◌, List, [], ◌∷◌, ◌++◌, length, flat_map, string_bytes, Bool, true, false}
 use Rattle.cm_scan.specs.Words.{trim_end_spaces}
 use Rattle.cm_source.specs.declared.source.Source.{Source}

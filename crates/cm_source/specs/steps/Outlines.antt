@@ -1,5 +1,5 @@
--- A step of the proof that blocks read back, and nothing that has to be believed: the blocks of a tree as an outline, in which each block
--- stands in front of those that follow it.
+-- The blocks of a tree as an outline, in which each block stands in front of those that follow it. This is a
+-- step of the proof that blocks read back: nobody has to believe it.
 use Rattle.std.specs.Prelude.{ℕ, Bool, true, false, not, ◌&&◌, ◌||◌, List, [], ◌∷◌, ◌++◌, map, codes}
 use Rattle.cm_tree.specs.declared.tree.Block.{Block, Block-F}
 use Rattle.cm_tree.specs.declared.tree.Block.TheOpen as block

@@ -1,4 +1,4 @@
--- Trees whose contents are texts in UTF-8, as those of each tree are that a program has.
+-- Trees whose contents are texts in UTF-8. Those of each tree that a program has are.
 use Rattle.std.specs.Prelude.{◌≡◌, Bool, true, List, map}
 use Rattle.cm_tree.specs.declared.tree.Block.{Block, Block-F}
 use Rattle.cm_tree.specs.declared.tree.Block.TheOpen as block

@@ -1,4 +1,4 @@
--- Inlines whose strings are UTF-8, as those of each tree are that a program has.
+-- Inlines whose strings are UTF-8. Those of each tree that a program has are.
 use Rattle.std.specs.Prelude.{◌≡◌, Bool, true, ◌&&◌, List, map}
 use Rattle.std.specs.List.{list_all}
 use Rattle.std.specs.Str.{is_utf8}

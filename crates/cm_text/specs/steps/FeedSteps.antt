@@ -1,4 +1,4 @@
--- One piece more, as it goes from what a feed holds.
+-- What a feed holds after one more piece, told by what it held before.
 use Rattle.std.specs.Prelude.{◌≡◌, ℕ, ◌+◌, ◌-◌, ◌<◌, nat_lt, if◌then◌else◌, true, false, List, [], ◌++◌, length, map, take, Option, Some, None, Result, Ok, Err, is_some}
 use Rattle.std.specs.Str.Lossy.{utf8_valid_len, utf8_error_len}
 use Rattle.cm_text.specs.declared.fault.TextFault.{TextFault}

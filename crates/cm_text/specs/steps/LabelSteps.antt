@@ -1,4 +1,4 @@
--- One character more, as a label is settled from the left.
+-- What one more character does to a label, whose gaps become single spaces from the left.
 use Rattle.std.specs.Prelude.{ℕ, Bool, true, false, not, ◌&&◌, ◌||◌, ◌==◌, List, [], ◌∷◌}
 use Rattle.std.specs.Char.{is_ascii_graphic, is_ascii_uppercase}
 use Rattle.cm_text.specs.Labels.{is_gap}

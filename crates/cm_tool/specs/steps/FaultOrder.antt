@@ -1,5 +1,6 @@
--- The faults of an input in the order in which a parser meets them: a line that has ended and is too deep, what is wrong with the text,
--- the last line, the first leaf. The lines are those that its feed has cut.
+-- The faults of an input in the order in which a parser meets them. First comes a line that has ended and is
+-- too deep. Then come what is wrong with the text, the last line, and the first leaf that nests too deep. The
+-- lines are those that the parser's feed has cut.
 use Rattle.std.specs.Prelude.{◌≡◌, ℕ, List, Option}
 use Rattle.std.specs.Option.{option_map, option_or}
 use Rattle.cm_text.specs.declared.fault.TextFault.{TextFault}

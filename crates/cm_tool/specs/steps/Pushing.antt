@@ -1,4 +1,4 @@
--- What giving one more piece to a feed, and the lines that end in it to the blocks, comes to.
+-- What one more piece does that is given to a feed. The lines that end in it go to the blocks.
 use Rattle.std.specs.Prelude.{◌≡◌, ℕ, ◌+◌, ◌≤◌, false, List, ◌++◌, length, Result, OnOk}
 use Rattle.cm_text.specs.Limits.{LimitsView}
 use Rattle.cm_text.specs.Feed.{Feed, count}

@@ -1,4 +1,4 @@
--- Plain source of blocks that are let go of one after another.
+-- Plain source of blocks, each of which is let go of once it is spelled.
 use Rattle.std.specs.Prelude.{◌≡◌, List, ◌++◌, Option, Some, None, Result, Ok, Err, String, string_bytes}
 use Rattle.std.specs.declared.alloc.Global.{Global}
 use Rattle.cm_text.specs.Rules.{Rules}
