@@ -68,7 +68,7 @@ unfoldable pub line_feeds : List ℕ → ℕ
 line_feeds [] = 0
 line_feeds (b ∷ bs) = if b == 10 then suc (line_feeds bs) else line_feeds bs
 
--- how many lines
+-- how many lines a text has, which line feeds part
 abbrev pub line_count : List ℕ → ℕ
 line_count [] = 0
 line_count (b ∷ bs) = suc (line_feeds (b ∷ bs))
@@ -121,7 +121,7 @@ html_to_end kind text n (line ∷ lines) = elim (is_html_end kind line.text) [
   | false ↦ html_to_end kind (text ++ with_ending line) (suc n) lines
 ]
 
--- or up to a blank line, which doesn't belong to it
+-- the lines of an HTML block up to a blank line, which doesn't belong to it
 unfoldable pub html_to_blank : List ℕ → ℕ → List LineView → Taken
 html_to_blank text n [] = taken text n []
 html_to_blank text n (line ∷ lines) = elim (is_blank line) [

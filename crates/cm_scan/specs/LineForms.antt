@@ -9,7 +9,7 @@ use Rattle.cm_scan.specs.Words.{is_space_or_tab, is_digit, is_blank_text, is_at_
 abbrev pub is_break_of : ℕ → List ℕ → Bool
 is_break_of marker text = list_all (λ b. b == marker || is_space_or_tab b) text && nat_le 3 (count_by (λ b. b == marker) text)
 
--- the character is `-`, `_` or `*`
+-- a thematic break, of `-`, of `_` or of `*`
 unfoldable pub is_thematic_break : List ℕ → Bool
 is_thematic_break text = is_break_of 45 text || is_break_of 95 text || is_break_of 42 text
 
@@ -25,7 +25,7 @@ without_closing after_gap [] = []
 without_closing after_gap (b ∷ bs) =
     if after_gap && list_all (λ c. c == 35) (b ∷ bs) then [] else b ∷ without_closing (is_space_or_tab b) bs
 
--- one to six `#`, and then a space, a tab or the line's end
+-- an ATX heading: one to six `#`, and then a space, a tab or the line's end
 unfoldable pub atx_heading : List ℕ → Option Heading
 atx_heading text =
     let level = run_length 35 text in
@@ -56,11 +56,11 @@ abbrev pub backticks_or : Option Fence → Option Fence → Option Fence
 backticks_or (Some fence) other = given (not (list_any (λ b. b == 96) fence.info)) fence
 backticks_or None other = other
 
--- three or more backticks or tildes
+-- an opening fence: three or more backticks or tildes
 unfoldable pub opening_fence : List ℕ → Option Fence
 opening_fence text = backticks_or (fence_of 96 text) (fence_of 126 text)
 
--- as many of the same character or more, and spaces and tabs after them
+-- a closing fence: as many of the fence's character or more, and spaces and tabs after them
 unfoldable pub is_closing_fence : Fence → List ℕ → Bool
 is_closing_fence fence text = nat_le fence.count (run_length fence.marker text) && is_blank_text (after_run fence.marker text)
 

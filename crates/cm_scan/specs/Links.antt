@@ -128,7 +128,7 @@ titled label dest text = elim (is_blank_next text) [
   | false ↦ None
 ]
 
--- or the end of its line
+-- behind a destination: no title, and the end of its line
 unfoldable pub untitled : List ℕ → List ℕ → List ℕ → Option LinkDefinition
 untitled label dest text = defined label dest [] (after_line text)
 
@@ -152,7 +152,7 @@ pub record Definitions : Type 0 where
   pub taken : List LinkDefinition
   pub left : List ℕ
 
--- there are no more than bytes
+-- at most so many definitions: there are no more than bytes
 unfoldable pub definitions_within : ℕ → List ℕ → Definitions
 definitions_within zero text = record { taken = []; left = text }
 definitions_within (suc n) text = elim (link_definition text) [

@@ -19,7 +19,7 @@ behind_word word (b ∷ bs) = elim (after_word word (b ∷ bs)) [ Some rest ↦ 
 unfoldable pub from_to : List ℕ → List ℕ → List ℕ → Option (List ℕ)
 from_to start end text = elim (after_word start text) [ Some inside ↦ behind_word end inside | None ↦ None ]
 
--- behind `>` or `->`
+-- what is left behind `>` or `->`, which end a comment right behind `<!--`
 unfoldable pub short_end : List ℕ → Option (List ℕ)
 short_end inside = after_word (codes ">") inside <|> after_word (codes "->") inside
 

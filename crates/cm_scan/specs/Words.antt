@@ -24,7 +24,7 @@ unfoldable pub skip : (ℕ → Bool) → List ℕ → List ℕ
 skip test [] = []
 skip test (b ∷ bs) = elim (test b) [ true ↦ skip test bs | false ↦ b ∷ bs ]
 
--- those bytes
+-- the bytes at the front of a text that pass a test
 unfoldable pub front_of : (ℕ → Bool) → List ℕ → List ℕ
 front_of test [] = []
 front_of test (b ∷ bs) = elim (test b) [ true ↦ b ∷ front_of test bs | false ↦ [] ]
@@ -34,7 +34,7 @@ unfoldable pub run_length : ℕ → List ℕ → ℕ
 run_length marker [] = 0
 run_length marker (b ∷ bs) = elim (b == marker) [ true ↦ suc (run_length marker bs) | false ↦ 0 ]
 
--- what is left behind them
+-- what is left of a text behind that run
 unfoldable pub after_run : ℕ → List ℕ → List ℕ
 after_run marker [] = []
 after_run marker (b ∷ bs) = elim (b == marker) [ true ↦ after_run marker bs | false ↦ b ∷ bs ]

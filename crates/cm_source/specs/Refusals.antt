@@ -93,7 +93,7 @@ abbrev pub is_html_part : List ℕ → Parts → Bool
 is_html_part text (leaf (html read) lines none) = same_bytes read text
 is_html_part text parts = false
 
--- it begins with `<`, read alone it is this one block, and its last line holds the end of its kind, if its kind has one
+-- The text begins with `<`. Read alone it is this one block, and its last line holds the end of its kind, if its kind has one.
 abbrev pub is_html_block : Rules → List ℕ → Bool
 is_html_block rules text = begins_with 60 text && is_html_part text (parts_of rules (plain_lines_of text)) && is_html_ended rules text
 
@@ -153,6 +153,6 @@ judged_block rules = fold-Block JudgedBlock (block_step rules)
 abbrev pub refusal_of : Rules → List Block → Option Why
 refusal_of rules blocks = refusal_of_all None (map (judged_block rules) blocks)
 
--- it can be spelled
+-- the tree can be spelled
 abbrev pub IsSpellable : Rules → List Block → Type 0
 IsSpellable rules blocks = refusal_of rules blocks ≡ None
