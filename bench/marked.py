@@ -6,6 +6,7 @@
 One megabyte of blocks, made at random, stands in it over and over, behind fifty link reference definitions.
 """
 
+import argparse
 import random
 import sys
 
@@ -85,8 +86,12 @@ def text(size, one_in, seed=1):
 
 
 def main():
-    size, one_in = int(float(sys.argv[1]) * 1_000_000), int(sys.argv[2])
-    sys.stdout.write(text(size, one_in, *map(int, sys.argv[3:])))
+    words = argparse.ArgumentParser(description=__doc__, formatter_class=argparse.RawDescriptionHelpFormatter)
+    words.add_argument("megabytes", type=float)
+    words.add_argument("one_in", type=int)
+    words.add_argument("seed", type=int, nargs="?", default=1)
+    asked = words.parse_args()
+    sys.stdout.write(text(int(asked.megabytes * 1_000_000), asked.one_in, asked.seed))
 
 
 if __name__ == "__main__":

@@ -8,8 +8,8 @@ of the run, without the 2 MB that a run of an empty text holds. An output that g
 a text isn't rewritten, since its source is held whole.
 """
 
+import argparse
 import subprocess
-import sys
 import tempfile
 
 from programs import run
@@ -83,7 +83,11 @@ def measured(program, job, file, name, text):
 
 
 def main():
-    program, size = sys.argv[1], int(sys.argv[2]) if len(sys.argv) > 2 else 1_000_000
+    words = argparse.ArgumentParser(description=__doc__, formatter_class=argparse.RawDescriptionHelpFormatter)
+    words.add_argument("program")
+    words.add_argument("size", type=int, nargs="?", default=1_000_000)
+    asked = words.parse_args()
+    program, size = asked.program, asked.size
     print("render           tree             rewrite          (output and memory for a byte of text)")
     for name, make in KINDS.items():
         text = make(size)
