@@ -1,11 +1,11 @@
 -- The next byte that passes a test, found many lanes at a time.
-use Rattle.std.proofs.Common.{◌≡◌, ℕ, zero, suc, ◌+◌, ◌-◌, ◌*◌, ◌/◌, ◌%◌, ◌^◌, ◌<◌, ◌≤◌, bit_and, Bool, true, false, cond, eqb, replicate, List, [], ◌∷◌, map, nat_lt, Option, length, drop, get_or, subst, refl, sym, ap, ap₂, ◌∙◌, arith, w8, Fits, length-drop}
+use Rattle.std.proofs.Common.{◌≡◌, ℕ, zero, suc, ◌+◌, ◌-◌, ◌*◌, ◌/◌, ◌%◌, ◌^◌, ◌<◌, ◌≤◌, bit_and, Bool, true, false, cond, eqb, replicate, List, [], ◌∷◌, map, nat_lt, Option, inl, inr, length, drop, get_or, subst, refl, sym, ap, ap₂, ◌∙◌, arith, w8, Fits, length-drop}
 use Rattle.std.specs.Simd.Lanes.{zip2, mask_l, top, Each1}
 use Rattle.std.proofs.lemmas.Nat.{and_le_r}
 use Rattle.std.proofs.lemmas.Simd.{map-map, mask_l-mod, zip2_splat, swz_l, length-swz_l, get_or-swz_l_below, SwzOk, SwzOk-from_below}
 use Rattle.std.proofs.lemmas.List.{length-map, map-id, ext_get_or, get_or-drop, get_or-map}
 use Rattle.std.proofs.lemmas.List.Sums.{position_or_len_is, fails_before_first, passes_at_first}
-use Rattle.std.proofs.lemmas.Bool.{agree_below, agree_below_at, ltb-true, ltb-false, true≢false}
+use Rattle.std.proofs.lemmas.Bool.{cases_lt, agree_below, agree_below_at, ltb-true, ltb-false, true≢false}
 use Rattle.std.specs.Bool.{then_some}
 use Rattle.std.specs.List.{position_or_len}
 use Rattle.memchr.specs.Find.{IsFirstByte}
@@ -96,6 +96,24 @@ place-is p bs from i low within fails passes =
     (λ k below. ap p (get_or-drop from bs k 0) ∙ fails (from + k) (omega arith) (omega (arith, below)))
     (λ below. ap p (get_or-drop from bs (i - from) 0 ∙ ap (λ n. get_or bs n 0) last) ∙ passes (omega (arith, below, size, low))) in
     omega (arith, count, low, within)
+
+-- searching from a place up to which all fail
+pub next-from : (p : ℕ → Bool) (bs : List ℕ) (from at : ℕ) → from ≤ at → at ≤ length bs → ((k : ℕ) → from ≤ k → k < at → p (get_or bs k 0) ≡ false)
+    → next_place p bs at ≡ next_place p bs from
+next-from p bs from at low within fails =
+    place-is p bs from (next_place p bs at) (omega arith) (omega arith)
+    (λ k above below. elim (cases_lt k at) [ inl early ↦ fails k above early | inr late ↦ behind k late (omega arith) ])
+    (λ below.
+    let is : next_place p bs at ≡ at + first = omega arith in
+    ap (λ n. p (get_or bs n 0)) is ∙ ap p (sym (get_or-drop at bs first 0)) ∙ passes_at_first p (drop at bs) 0 (omega (arith, below, length-drop at bs)))
+  where
+    first : ℕ
+    first = position_or_len p (drop at bs)
+
+    behind : (k : ℕ) → at ≤ k → k < at + first → p (get_or bs k 0) ≡ false
+    behind k late below =
+        let place : at + (k - at) ≡ k = omega (arith, late) in
+        ap (λ n. p (get_or bs n 0)) (sym place) ∙ ap p (sym (get_or-drop at bs (k - at) 0)) ∙ fails_before_first p (drop at bs) (k - at) 0 (omega (arith, late, below))
 
 -- the first byte that passes
 pub first-byte : (p : ℕ → Bool) (bs : List ℕ) (at : ℕ) (found : Option ℕ) → at ≡ next_place p bs 0 → found ≡ then_some (nat_lt at (length bs)) at → IsFirstByte p bs found

@@ -6,7 +6,7 @@ ghost use Rattle.cm_text.specs.Lines.{ends_a_line};
 ghost use Rattle.cm_text.specs.Cut.{cut_more, begun};
 ghost use Rattle.cm_text.specs.steps.FirstLine.{IsFirstLine};
 
-use crate::search::{ByteKind, next_of};
+use crate::search::{ByteKind, next_far_of};
 use std::simd::prelude::*;
 
 /// The bytes that end a line.
@@ -33,7 +33,7 @@ pub(crate) fn line_len(text: &str, known: usize) -> usize
     requires plain { is_line (take known text.now) ≡ true }
     ensures { IsFirstLine result text.now }
 {
-    next_of::<LineEnding>(text.as_bytes(), known)
+    next_far_of::<LineEnding>(text.as_bytes(), known)
 }
 
 /// Whether a line feed or a carriage return stands at the end of a text that isn't empty.

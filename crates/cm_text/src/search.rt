@@ -74,6 +74,36 @@ pub fn next_of<K: ByteKind>(bytes: &[u8], from: usize) -> usize
     next_slowly::<K>(bytes, from, at)
 }
 
+/// A place at or after `from` up to which there is none of the kind: all of 32 bytes are passed at a time.
+#[inline(always)]
+fn pass_by_32<K: ByteKind>(bytes: &[u8], from: usize) -> usize
+    requires { from ≤ length bytes.now }
+    ensures low { from ≤ result }
+    ensures within { result ≤ length bytes.now }
+    ensures none { (k : ℕ) → from ≤ k → k < result → K.passes (get_or bytes.now k 0) ≡ false }
+{
+    let mut at = from;
+    while bytes.len() - at >= 32 {
+        let first = run_of_16::<K>(bytes, at);
+        let second = run_of_16::<K>(bytes, at + 16);
+        if first < 16 || second < 16 {
+            return at;
+        }
+        at += 32;
+    }
+    at
+}
+
+/// The same as `next_of`, for bytes that stand far apart.
+#[inline(always)]
+pub(crate) fn next_far_of<K: ByteKind>(bytes: &[u8], from: usize) -> usize
+    requires { from ≤ length bytes.now }
+    ensures { result ≡ next_place K.passes bytes.now from }
+{
+    let at = pass_by_32::<K>(bytes, from);
+    next_of::<K>(bytes, at)
+}
+
 /// Marked bytes, each at the place of its last four bits, which two of them share at most. A byte that isn't at its
 /// own place stands for none.
 const MARKED: [u8; 16] = [
