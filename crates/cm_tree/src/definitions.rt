@@ -146,6 +146,7 @@ impl Definitions {
     }
 
     /// The same, by a folded label of this number.
+    #[inline(always)]
     fn look(&self, number: u64, label: &str) -> Option<LinkTarget<'_>>
         requires { number ≡ number_of label.now }
         ensures { option_map led_to result ≡ map.get self.now label.now }

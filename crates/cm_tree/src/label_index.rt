@@ -7,7 +7,7 @@ use std::alloc::{AllocError, Global};
 use std::collections::BTreeMap;
 
 /// A label stands in one of so many slots, from the one on that its number names.
-pub(crate) const NEAR: usize = 16;
+pub(crate) const NEAR: usize = 8;
 
 /// The entries of a table by their labels.
 ///
