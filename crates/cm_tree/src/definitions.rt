@@ -83,7 +83,7 @@ impl Definitions {
         self.add_new(number, label, dest, title)
     }
 
-    /// Keeps at least two slots for each entry that stands in one.
+    /// Keeps at least four slots for each entry that stands in one.
     fn make_room(&mut self) -> Result<(), AllocError>
         ensures { self.new ≡ self.old }
     {
