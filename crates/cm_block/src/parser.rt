@@ -90,6 +90,7 @@ impl BlockParser {
     }
 
     /// Closes the open leaf.
+    #[inline(always)]
     fn close_leaf(&mut self) -> Result<(), NoMemory>
         ensures level { OnOk result (self.new.stack.level ≡ close_open self.old.stack.level (in_leaf (leaf_of self.old.leaf))) }
         ensures owners { OnOk result (self.new.owners ≡ own_open (quoted_by false self.old.stack.frames) self.old.owners (in_leaf (leaf_of self.old.leaf))) }

@@ -68,6 +68,7 @@ const NOT_KEPT: AsciiSet = ascii_set!(
 );
 
 /// Writes a destination as the value of an attribute. Takes no memory but the text's.
+#[inline(always)]
 pub(crate) fn push_destination(out: &mut String, destination: &str) -> Result<(), AllocError>
     ensures { OnOk result (string_bytes out.new ≡ string_bytes out.old ++ destination_html destination.now) }
 {

@@ -7,10 +7,12 @@ ghost use Rattle.cm_scan.specs.Scanned.{reading_of, whole_of};
 ghost use Rattle.cm_text.specs.Rules.{Rules};
 ghost use Rattle.cm_inline.specs.steps.Missing.{Knows};
 ghost use Rattle.cm_inline.specs.declared.tokens.Token.TheVariants.{Piece, Opener};
+ghost use Rattle.cm_inline.specs.steps.Brackets.{Puts};
 ghost use Rattle.cm_inline.specs.steps.Reads.{Stands, IsTextTo, IsAtom, is_break_byte};
 ghost use Rattle.cm_inline.specs.steps.Groups.{node_of};
 ghost use Rattle.cm_inline.specs.steps.Runs.{byte_of};
 
+use crate::brackets::Reader;
 use crate::code::content_between;
 use crate::ends::{Ends, form_at};
 use crate::flanking::run_between;
@@ -34,37 +36,78 @@ pub(crate) fn text_end(source: &str, at: usize) -> usize
     end
 }
 
-/// What begins at a place where no `]` stands, and where it ends.
-pub(crate) fn atom(
+/// Reads what begins at a place where no `]` stands, and answers where it ends.
+#[inline(always)]
+pub(crate) fn read_atom(
     alloc: Global,
     rules: Rules,
     source: &str,
     at: usize,
-    ends: &mut Ends,
-) -> Result<(Token, usize), AllocError>
+    reader: &mut Reader,
+) -> Result<usize, AllocError>
     requires within { at < length source.now }
     requires boundary { IsCharBoundary source.now at }
     requires ascii { slice_index source.now at < 128 }
     requires other { slice_index source.now at ≢ 93 }
-    requires knows { Knows source.now ends.old }
-    ensures atom { IfOk result (λ read. IsAtom rules source.now at (node_of [] read.0) read.1) }
-    ensures knows { OnOk result (Knows source.now ends.new) }
+    requires knows { Knows source.now reader.old.ends }
+    ensures { IfOk result (λ end. Puts rules source.now at end reader.old reader.new) }
 {
     let b = source.as_bytes()[at];
     match b {
-        b'`' => backticks(alloc, source, at, ends),
-        b'<' => Ok(angle(rules, source, at, ends)),
-        b'\\' => Ok(backslash(source, at)),
-        b'&' => Ok(ampersand(source, at)),
-        b'\n' => Ok(line_break(source, at)),
-        b' ' => Ok(line_break(source, at)),
-        b'!' => Ok(exclamation_mark(source, at)),
-        b'[' => Ok(opener(false, at + 1)),
-        b'*' => Ok(run(rules, source, Marker::Star, at)),
-        b'_' => Ok(run(rules, source, Marker::Underscore, at)),
-        b'~' => Ok(run(rules, source, Marker::Tilde, at)),
-        _ => Ok(text(at, at + 1)),
+        b'`' => {
+            let read = backticks(alloc, source, at, &mut reader.ends)?;
+            put(rules, source, at, reader, read)
+        }
+        b'<' => {
+            let read = angle(rules, source, at, &mut reader.ends);
+            put(rules, source, at, reader, read)
+        }
+        b'\\' => put(rules, source, at, reader, backslash(source, at)),
+        b'&' => put(rules, source, at, reader, ampersand(source, at)),
+        b'\n' => put(rules, source, at, reader, line_break(source, at)),
+        b' ' => put(rules, source, at, reader, line_break(source, at)),
+        b'!' => put(rules, source, at, reader, exclamation_mark(source, at)),
+        b'[' => put(rules, source, at, reader, opener(false, at + 1)),
+        b'*' => put(
+            rules,
+            source,
+            at,
+            reader,
+            run(rules, source, Marker::Star, at),
+        ),
+        b'_' => put(
+            rules,
+            source,
+            at,
+            reader,
+            run(rules, source, Marker::Underscore, at),
+        ),
+        b'~' => put(
+            rules,
+            source,
+            at,
+            reader,
+            run(rules, source, Marker::Tilde, at),
+        ),
+        _ => put(rules, source, at, reader, text(at, at + 1)),
     }
+}
+
+/// Puts an atom that was read, and answers where it ends.
+#[inline(always)]
+fn put(
+    rules: Rules,
+    source: &str,
+    at: usize,
+    reader: &mut Reader,
+    read: (Token, usize),
+) -> Result<usize, AllocError>
+    requires atom { IsAtom rules source.now at (node_of [] read.0) read.1 }
+    requires knows { Knows source.now reader.old.ends }
+    ensures { IfOk result (λ end. Puts rules source.now at end reader.old reader.new) }
+{
+    reader.add(read.0)?;
+    Ok(read.1)
 }
 
 /// The text between two places.
@@ -226,6 +269,7 @@ fn is_run(rules: Rules, marker: Marker, count: usize) -> bool
 }
 
 /// A delimiter run, or its characters as text (6.2 Emphasis and strong emphasis).
+#[inline(always)]
 fn run(rules: Rules, source: &str, marker: Marker, at: usize) -> (Token, usize)
     requires { Stands source.now at (byte_of marker) }
     ensures { IsAtom rules source.now at (node_of [] result.0) result.1 }

@@ -74,6 +74,7 @@ impl Reader {
     }
 
     /// Adds a token that was read.
+    #[inline(always)]
     pub(crate) fn add(&mut self, token: Token) -> Result<(), AllocError>
         requires { IsNoGroup token }
         ensures nodes { OnOk result (nodes_in self.new.nodes ≡ nodes_in self.old.nodes ++ node_of [] token ∷ []) }

@@ -82,6 +82,7 @@ fn push_autolink(
 }
 
 /// Adds the HTML of an inline that stands by itself in the source.
+#[inline(always)]
 fn push_written(
     spare: &mut Spare,
     html: &mut Pages,
@@ -116,6 +117,7 @@ fn push_run(html: &mut Pages, run: DelimiterRun) -> Result<(), AllocError>
 
 /// Adds the HTML of a token.
 #[cycle(html)]
+#[inline(always)]
 fn push_token(
     spare: &mut Spare,
     html: &mut Pages,

@@ -143,6 +143,7 @@ fn reference_end<'a>(
 }
 
 /// Where a reference by a label leads that ends at a place, if the label is defined.
+#[inline(always)]
 fn reference<'a>(
     alloc: Global,
     definitions: &'a Definitions,

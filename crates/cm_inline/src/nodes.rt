@@ -166,6 +166,7 @@ impl Nodes {
     }
 
     /// Makes a group of all nodes behind one, in the place of which what is left of it stands then.
+    #[inline(always)]
     pub(crate) fn wrap(
         &mut self,
         opener: usize,

@@ -18,7 +18,7 @@ ghost use Rattle.cm_inline.specs.steps.Groups.{nodes_in, ArePlaced};
 ghost use Rattle.cm_inline.specs.steps.Nodes.{items_of, text_between, AreParts};
 ghost use Rattle.cm_inline.specs.steps.Reads.{Pays, ahead};
 
-use crate::atoms::{atom, text_end};
+use crate::atoms::{read_atom, text_end};
 use crate::brackets::Reader;
 use crate::fault::InlineFault;
 use crate::html::push_nodes;
@@ -51,6 +51,7 @@ fn push_text(nodes: &mut Nodes, from: usize, to: usize) -> Result<(), AllocError
 }
 
 /// Reads the text at a place and what follows it, and answers where that ends.
+#[inline(always)]
 fn read_on(
     alloc: Global,
     rules: Rules,
@@ -77,9 +78,7 @@ fn read_on(
     if source.as_bytes()[end] == b']' {
         return reader.close(alloc, source, definitions, limit, end);
     }
-    let (token, behind) = atom(alloc, rules, source, end, &mut reader.ends)?;
-    reader.add(token)?;
-    Ok(behind)
+    Ok(read_atom(alloc, rules, source, end, reader)?)
 }
 
 /// Reads a source to its end, in one pass.

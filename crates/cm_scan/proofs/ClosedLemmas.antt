@@ -1,10 +1,11 @@
 -- A part between brackets, read one byte at a time.
-use Rattle.std.proofs.Common.{◌≡◌, ℕ, suc, ◌+◌, ◌-◌, ◌<◌, ◌≤◌, ◌==◌, ◌&&◌, ◌||◌, not, cond, nat_le, Bool, true, false, List, [], ◌∷◌, ◌++◌, length, take, drop, get_or, Option, Some, None, IfSome, refl, sym, ap, subst, ◌∙◌, arith, add-one, drop-cons, append_assoc}
+use Rattle.std.proofs.Common.{◌≡◌, ℕ, zero, suc, ◌+◌, ◌-◌, ◌<◌, ◌≤◌, ◌==◌, ◌&&◌, ◌||◌, not, cond, nat_le, nat_lt, Bool, true, false, List, [], ◌∷◌, ◌++◌, length, take, drop, get_or, Option, Some, None, IfSome, refl, sym, ap, ap₂, subst, ◌∙◌, arith, add-one, drop-cons, append_assoc}
 use mir.Val.{bool_byte}
 use Rattle.std.specs.List.{slice_range}
 use Rattle.std.proofs.Math.Seq.{take-suc}
 use Rattle.std.proofs.lemmas.List.{append-nil, drop_all, get_or-drop, length-drop}
 use Rattle.std.proofs.lemmas.List.Sums.{sum_by-cons}
+use Rattle.std.proofs.lemmas.Bool.{and_parts, eqb-true, true≢false}
 use Rattle.std.proofs.lemmas.Bool.Decides.{nat_tests}
 use Rattle.cm_text.specs.Characters.{is_ascii_punct}
 use Rattle.cm_scan.specs.Words.{is_space_or_tab, skip, trim_start, begins_with}
@@ -288,13 +289,23 @@ pub record IsPlain (open_byte close_byte b : ℕ) : Type 0 where
   pub escapes : (b == 92) ≡ false
   pub feed : (b == 10) ≡ false
 
-pub plain_byte : (open_byte close_byte b : ℕ) → is_plain open_byte close_byte b ≡ true → IsPlain open_byte close_byte b
-plain_byte open_byte close_byte b h = record {
-  unbarred = grind (arith, nat_tests, h);
-  no_end = grind (arith, nat_tests, h);
-  begins = grind (arith, nat_tests, h);
-  escapes = grind (arith, nat_tests, h);
-  feed = grind (arith, nat_tests, h);
+differs : (b c : ℕ) → is_plain b ≡ true → is_plain c ≡ false → (b == c) ≡ false
+differs b c h k = go (b == c) refl
+  where
+    go : (same : Bool) → (b == c) ≡ same → same ≡ false
+    go true e = absurd (true≢false (sym h ∙ ap is_plain (eqb-true b c e) ∙ k))
+    go false e = refl
+
+one-byte : (b : ℕ) → nat_lt b 128 ≡ true → begins_character b ≡ true
+one-byte b h = grind (arith, nat_tests, h)
+
+plain_byte : (open_byte close_byte b : ℕ) → is_plain open_byte ≡ false → is_plain close_byte ≡ false → is_plain b ≡ true → IsPlain open_byte close_byte b
+plain_byte open_byte close_byte b o c h = record {
+  unbarred = differs b open_byte h o;
+  no_end = differs b close_byte h c;
+  begins = one-byte b (and_parts _ _ h).0;
+  escapes = differs b 92 h refl;
+  feed = differs b 10 h refl;
 }
 
 plain-barred : (open_byte : ℕ) (one_line : Bool) (b : ℕ) → (b == open_byte) ≡ false → (b == 10) ≡ false → is_barred open_byte one_line b ≡ false
@@ -317,19 +328,33 @@ plain-allowed most blank_lines escaped barred b bs l h k =
     let here : (not escaped && barred) ≡ false = neither escaped barred h in
     grind (arith, some, here, k)
 
--- a plain byte is passed over
-pub part-plain : (open_byte close_byte : ℕ) (one_line : Bool) → is_blank_byte open_byte ≡ false → is_blank_byte close_byte ≡ false
-    → (most : ℕ) (blank_lines escaped : Bool) (text : List ℕ) (from at : ℕ) → from ≤ at → at < length text
-    → 0 < most → is_plain open_byte close_byte (get_or text at 0) ≡ true
-    → ahead_from text from (at + 1) (part (λ c. c == close_byte) (is_barred open_byte one_line) (most - 1) blank_lines false (drop (at + 1) text))
-    ≡ ahead_from text from at (part (λ c. c == close_byte) (is_barred open_byte one_line) most blank_lines escaped (drop at text))
-part-plain open_byte close_byte one_line o c most blank_lines escaped text from at low high l h =
-    let plain = plain_byte open_byte close_byte (get_or text at 0) h in
-    let barred = plain-barred open_byte one_line (get_or text at 0) plain.unbarred plain.feed in
-    part-kept (λ c. c == close_byte) (is_barred open_byte one_line) (closes-no_blanks close_byte c) (barred-no_spaces open_byte one_line o)
-    most 1 blank_lines escaped false text from at low high
-    (neither escaped _ plain.no_end) (plain-allowed most blank_lines escaped _ (get_or text at 0) (drop (suc at) text) l barred plain.feed)
-    (ap (λ v. cond v 1 0) (sym plain.begins)) (plain-mark escaped (get_or text at 0) (drop (suc at) text) plain.escapes)
+-- plain bytes are passed over
+module _ (open_byte close_byte : ℕ) (one_line : Bool) (o : is_blank_byte open_byte ≡ false) (c : is_blank_byte close_byte ≡ false)
+    (u : is_plain open_byte ≡ false) (e : is_plain close_byte ≡ false) (blank_lines : Bool) (text : List ℕ) (from : ℕ) where
+  -- what is read from a place on, with so many characters at most
+  abbrev from-here : (at most : ℕ) (escaped : Bool) → Option Reading
+  from-here at most escaped = ahead_from text from at (part (λ c. c == close_byte) (is_barred open_byte one_line) most blank_lines escaped (drop at text))
+
+  one-plain : (most at : ℕ) (escaped : Bool) → from ≤ at → at < length text → 0 < most → is_plain (get_or text at 0) ≡ true
+      → from-here (at + 1) (most - 1) false ≡ from-here at most escaped
+  one-plain most at escaped low high l h =
+      let plain = plain_byte open_byte close_byte (get_or text at 0) u e h in
+      let barred = plain-barred open_byte one_line (get_or text at 0) plain.unbarred plain.feed in
+      part-kept (λ c. c == close_byte) (is_barred open_byte one_line) (closes-no_blanks close_byte c) (barred-no_spaces open_byte one_line o)
+      most 1 blank_lines escaped false text from at low high
+      (neither escaped _ plain.no_end) (plain-allowed most blank_lines escaped _ (get_or text at 0) (drop (suc at) text) l barred plain.feed)
+      (ap (λ v. cond v 1 0) (sym plain.begins)) (plain-mark escaped (get_or text at 0) (drop (suc at) text) plain.escapes)
+
+  pub part-plain : (n most left at end : ℕ) (escaped : Bool) → end ≡ at + suc n → left + suc n ≡ most → from ≤ at → end ≤ length text
+      → ((k : ℕ) → at ≤ k → k < end → is_plain (get_or text k 0) ≡ true) → from-here end left false ≡ from-here at most escaped
+  part-plain zero most left at end escaped count few low high plain =
+      let next : end ≡ at + 1 = omega (arith, count) in
+      let fewer : left ≡ most - 1 = omega (arith, few) in
+      ap₂ (λ a m. from-here a m false) next fewer
+      ∙ one-plain most at escaped low (omega (arith, count, high)) (omega (arith, few)) (plain at (omega arith) (omega (arith, count)))
+  part-plain (suc n) most left at end escaped count few low high plain =
+      part-plain n (most - 1) left (at + 1) end false (omega (arith, count)) (omega (arith, few)) (omega (arith, low)) high (λ k from_next under. plain k (omega (arith, from_next)) under)
+      ∙ one-plain most at escaped low (omega (arith, count, high)) (omega (arith, few)) (plain at (omega arith) (omega (arith, count)))
 
 -- an unescaped byte
 pub ended : (escaped closing : Bool) → (not escaped && closing) ≡ true → (escaped ≡ false) × (closing ≡ true)

@@ -1,6 +1,6 @@
 //! Link labels, destinations, titles and reference definitions (CommonMark 0.31.2, 6.3 Links and 4.7 Link
 //! reference definitions).
-ghost use Rattle.std.specs.Prelude.{◌≡◌, ℕ, List, ◌==◌, ◌&&◌, ◌||◌, not, false, ◌≤◌, ◌<◌, suc, length, drop, slice_index, option_map, IfSome, IsUtf8, if◌then◌else◌};
+ghost use Rattle.std.specs.Prelude.{◌≡◌, ℕ, ◌+◌, List, true, ◌==◌, ◌&&◌, ◌||◌, not, false, ◌≤◌, ◌<◌, suc, length, drop, slice_index, option_map, IfSome, IsUtf8, if◌then◌else◌};
 ghost use Rattle.std.specs.List.{list_all};
 ghost use Rattle.std.specs.Str.{IsCharBoundary};
 ghost use Rattle.cm_scan.specs.Tags.{is_blank_byte};
@@ -18,6 +18,7 @@ use cm_text::is_ascii_punct;
 /// It ends at the first right bracket that no backslash escapes, no such left one stands before it, it has
 /// at most 999 characters, and not all of them are spaces, tabs and line feeds. No more than 999 characters
 /// are read where there is none.
+#[inline(always)]
 pub fn label<'a>(text: &'a str, at: usize) -> Option<(&'a str, usize)>
     requires { IsCharBoundary text.now at }
     ensures read { reading_of text.now result ≡ label (drop at text.now) }
@@ -46,6 +47,7 @@ pub fn label<'a>(text: &'a str, at: usize) -> Option<(&'a str, usize)>
 /// (CommonMark 0.31.2, 6.3 Links).
 ///
 /// In a run no more than 32 parentheses are open at once.
+#[inline(always)]
 pub fn destination<'a>(text: &'a str, at: usize) -> Option<(&'a str, usize)>
     requires { IsCharBoundary text.now at }
     ensures read { reading_of text.now result ≡ destination (drop at text.now) }
@@ -101,6 +103,7 @@ pub struct LinkDefinition<'a> {
 /// The link reference definition at a place in a text, which is the boundary of a character, and the place
 /// behind its last line: behind the line feed, or the text's end (CommonMark 0.31.2, 4.7 Link reference
 /// definitions).
+#[inline(always)]
 pub fn definition<'a>(text: &'a str, at: usize) -> Option<(LinkDefinition<'a>, usize)>
     requires { IsCharBoundary text.now at }
     ensures read { option_map (λ r. definition_with r.0.label.now r.0.dest.now r.0.title.now (drop r.1 text.now)) result ≡ link_definition (drop at text.now) }
@@ -167,10 +170,12 @@ fn is_blank(text: &str) -> bool
 }
 
 /// The part between the byte there and the one that ends it, and the place behind that.
+#[inline(always)]
 fn enclosed<'a>(text: &'a str, at: usize, bounds: Bounds) -> Option<(&'a str, usize)>
     requires within { at < length text.now }
     requires ascii { (slice_index text.now at < 128) × (bounds.close < 128) }
     requires no_blanks { (is_blank_byte bounds.open ≡ false) × (is_blank_byte bounds.close ≡ false) }
+    requires marks { (is_plain bounds.open ≡ false) × (is_plain bounds.close ≡ false) }
     ensures read { reading_of text.now result ≡ keep_if (fits bounds.most bounds.blank_lines)
         (up_to_closing (λ c. c == bounds.close) (is_barred bounds.open bounds.one_line) false (drop (suc at) text.now)) }
     ensures utf8 { IfSome result (λ read. IsUtf8 read.0.now) }
@@ -196,9 +201,11 @@ struct Bounds {
 }
 
 /// The place of the byte that ends a part.
+#[inline(always)]
 fn closed(text: &[u8], from: usize, bounds: Bounds) -> Option<usize>
     requires within { from ≤ length text.now }
     requires no_blanks { (is_blank_byte bounds.open ≡ false) × (is_blank_byte bounds.close ≡ false) }
+    requires marks { (is_plain bounds.open ≡ false) × (is_plain bounds.close ≡ false) }
     ensures read { closed_at text.now from result ≡ keep_if (fits bounds.most bounds.blank_lines)
         (up_to_closing (λ c. c == bounds.close) (is_barred bounds.open bounds.one_line) false (drop from text.now)) }
     ensures within { IfSome result (λ end. (from ≤ end) × (end < length text.now)) }
@@ -208,10 +215,11 @@ fn closed(text: &[u8], from: usize, bounds: Bounds) -> Option<usize>
     let mut escaped = false;
     let mut at = from;
     while at < text.len() {
-        if left > 0 && is_plain(text[at], bounds) {
-            left -= 1;
+        if left > 0 && is_plain(text[at]) {
+            let behind = plain_end(text, at + 1, left - 1);
+            left -= behind - at;
             escaped = false;
-            at += 1;
+            at = behind;
             continue;
         }
         if is_end(text[at], escaped, bounds) {
@@ -225,6 +233,33 @@ fn closed(text: &[u8], from: usize, bounds: Bounds) -> Option<usize>
         at += 1;
     }
     None
+}
+
+/// For each byte a digit, of whose last two bits the lower is set where the byte means nothing in a part, and the higher where it
+/// means nothing in the run of a destination.
+static PLAIN: [u8; 256] = *b"\
+    11111111110111111111111111111111\
+    13233332003333333333333333332323\
+    33333333333333333333333333320233\
+    33333333333333333333333333333331\
+    22222222222222222222222222222222\
+    22222222222222222222222222222222\
+    22222222222222222222222222222222\
+    22222222222222222222222222222222";
+
+/// The place behind the bytes from a place on that mean nothing in a part, so many at most.
+#[inline(always)]
+fn plain_end(text: &[u8], from: usize, most: usize) -> usize
+    requires { from ≤ length text.now }
+    ensures within { (from ≤ result) × (result ≤ length text.now) × (result ≤ from + most) }
+    ensures plain { (k : ℕ) → from ≤ k → k < result → is_plain (slice_index text.now k) ≡ true }
+{
+    let end = text.len().min(from.saturating_add(most));
+    let mut at = from;
+    while at < end && is_plain(text[at]) {
+        at += 1;
+    }
+    at
 }
 
 /// The destination that no `<` begins.
@@ -278,7 +313,7 @@ fn bare_end(text: &[u8], from: usize) -> Option<usize>
 fn is_plain_in_run(b: u8) -> bool
     ensures { result ≡ is_plain_in_run b }
 {
-    b > b' ' && b != b'(' && b != b')' && b != b'\\' && b != 127
+    PLAIN[usize::from(b)] & 2 != 0
 }
 
 /// A space, an ASCII control character, or a right parenthesis that no left one opened.
@@ -307,10 +342,11 @@ fn opened_by(b: u8, opened: usize, escaped: bool) -> usize
 }
 
 /// Whether a byte is one that means nothing in a part, escaped or not.
-fn is_plain(b: u8, bounds: Bounds) -> bool
-    ensures { result ≡ is_plain bounds.open bounds.close b }
+#[inline(always)]
+fn is_plain(b: u8) -> bool
+    ensures { result ≡ is_plain b }
 {
-    b != bounds.close && b != bounds.open && b != b'\\' && b != b'\n' && b < 128
+    PLAIN[usize::from(b)] & 1 != 0
 }
 
 fn is_end(b: u8, escaped: bool, bounds: Bounds) -> bool

@@ -53,6 +53,13 @@ pub(crate) fn take_columns(n: usize, column: usize, text: &str) -> (usize, usize
     let mut left = n;
     let mut taken = 0;
     for b in text.as_bytes() {
+        // Most indentation is spaces.
+        if *b == b' ' && left > 0 {
+            column += 1;
+            left -= 1;
+            taken += 1;
+            continue;
+        }
         let width = blank_width(column, *b);
         if left == 0 || width == 0 {
             break;

@@ -18,6 +18,8 @@ use std::borrow::CowStr;
 /// # Errors
 ///
 /// `NoMemory` where a request for memory was refused.
+// It is a call of its own, so that a label which is lent pays nothing for it.
+#[inline(never)]
 #[tactic(auto, unfolding(crate::specs::Labels::fold_label))]
 pub fn fold_label(alloc: Global, label: &str) -> Result<String, NoMemory>
     ensures { IfOk result (λ folded. string_bytes folded ≡ fold_label label.now) }
@@ -58,12 +60,23 @@ fn is_plain(text: &[u8]) -> bool
     true
 }
 
+/// For each byte 1, where it is a visible ASCII character that is no capital, or 0.
+static PLAIN: [u8; 256] = *b"\
+    00000000000000000000000000000000\
+    01111111111111111111111111111111\
+    10000000000000000000000000011111\
+    11111111111111111111111111111110\
+    00000000000000000000000000000000\
+    00000000000000000000000000000000\
+    00000000000000000000000000000000\
+    00000000000000000000000000000000";
+
 /// Whether a byte is a visible ASCII character that is no capital.
 #[inline(always)]
 fn is_plain_byte(b: u8) -> bool
     ensures { result ≡ is_plain_byte b }
 {
-    b.is_ascii_graphic() && !b.is_ascii_uppercase()
+    PLAIN[usize::from(b)] == b'1'
 }
 
 /// Whether a space stands there, and such a character behind it. It is a call of its own, so that such characters are
@@ -100,6 +113,10 @@ fn is_settled(text: &[u8]) -> bool
 {
     let mut behind_gap = true;
     for b in text {
+        if *b > b' ' {
+            behind_gap = false;
+            continue;
+        }
         let gap = is_gap(*b as char);
         if gap && (behind_gap || *b != b' ') {
             return false;

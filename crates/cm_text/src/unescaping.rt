@@ -41,6 +41,7 @@ pub fn unescape(alloc: Global, text: &str) -> Result<String, NoMemory>
 /// # Errors
 ///
 /// `NoMemory` where a request for memory was refused.
+#[inline(always)]
 pub fn unescape_or_lend(alloc: Global, text: &str) -> Result<CowStr<'_, Global>, NoMemory>
     ensures { IfOk result (λ unescaped. cow_str_bytes unescaped ≡ unescape text.now) }
 {

@@ -83,7 +83,7 @@ impl Definitions {
         self.add_new(number, label, dest, title)
     }
 
-    /// Keeps at least two slots for each entry that stands in one.
+    /// Keeps at least four slots for each entry that stands in one.
     fn make_room(&mut self) -> Result<(), AllocError>
         ensures { self.new ≡ self.old }
     {
@@ -146,6 +146,7 @@ impl Definitions {
     }
 
     /// The same, by a folded label of this number.
+    #[inline(always)]
     fn look(&self, number: u64, label: &str) -> Option<LinkTarget<'_>>
         requires { number ≡ number_of label.now }
         ensures { option_map led_to result ≡ map.get self.now label.now }

@@ -7,7 +7,7 @@ use std::alloc::{AllocError, Global};
 use std::collections::BTreeMap;
 
 /// A label stands in one of so many slots, from the one on that its number names.
-pub(crate) const NEAR: usize = 16;
+pub(crate) const NEAR: usize = 8;
 
 /// The entries of a table by their labels.
 ///
@@ -42,10 +42,10 @@ impl LabelIndex {
         })
     }
 
-    /// Whether there are fewer than two slots for each of so many entries and one more, but for those in the tree: slots that
+    /// Whether there are fewer than four slots for each of so many entries and one more, but for those in the tree: slots that
     /// labels were made to miss needn't be more.
     pub(crate) fn is_full(&self, entries: usize) -> bool {
-        entries.saturating_sub(self.crowded.len()) >= self.slots.len() / 2
+        entries.saturating_sub(self.crowded.len()) >= self.slots.len() / 4
     }
 
     /// How many slots come next: a power of two in which labels begin, and those that end behind them.

@@ -58,6 +58,7 @@ pub(crate) fn if_lazy<'a>(rules: Rules, line: &View<'a>, open_text: bool) -> Opt
 
 /// The line behind the marker of a quote with which it begins, and one column of space, if there is one
 /// (5.1 Block quotes).
+#[inline(always)]
 pub(crate) fn quote_content<'a>(line: &View<'a>) -> Option<View<'a>>
     ensures { (by : all.Rules) → MatchOption result (begins_quote (start_of by (seen_view line.now)) ≡ false)
         (λ inner. (start_of by (seen_view line.now) ≡ QuoteMarker) × (seen_view inner ≡ behind_quote_marker (seen_view line.now))) }

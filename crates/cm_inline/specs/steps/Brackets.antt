@@ -2,6 +2,7 @@
 use Rattle.std.specs.Prelude.{◌≡◌, ℕ, suc, ◌+◌, ◌≤◌, Bool, true, false, nat_lt, not, ◌&&◌, List, [], ◌∷◌, ◌++◌, length, take, drop, reverse, Option, None, ⊤}
 use Rattle.std.specs.List.{slice_range}
 use Rattle.std.specs.Str.{IsCharBoundary}
+use Rattle.cm_text.specs.Rules.{Rules}
 use Rattle.cm_tree.specs.declared.tree.Inline.{Inline}
 use Rattle.cm_tree.specs.declared.tree.Inline.TheVariants.{Link, Image}
 use Rattle.cm_scan.specs.Pairing as items
@@ -12,6 +13,7 @@ use Rattle.cm_inline.specs.declared.ends.Ends.{Ends}
 use Rattle.cm_inline.specs.steps.Nodes.{Node, Piece, Characters, Whole, Finished, Run, Opener, items_of, AreParts}
 use Rattle.cm_inline.specs.steps.Groups.{nodes_in, ArePlaced}
 use Rattle.cm_inline.specs.steps.Missing.{Knows}
+use Rattle.cm_inline.specs.steps.Reads.{IsAtom}
 
 -- the bracket that a node is, which has this number
 abbrev pub bracket_in : ℕ → Node → List Bracket
@@ -53,6 +55,18 @@ IsReadTo source at reader = IsRead source at (nodes_in reader.nodes) reader.brac
 -- the same with one bracket more, which a `]` closes
 abbrev pub IsReadWith : List ℕ → ℕ → Reader → Bracket → Type 0
 IsReadWith source at reader bracket = IsRead source at (nodes_in reader.nodes) (reader.brackets.items ++ bracket ∷ []) reader.links_end reader.ends × ArePlaced source reader.nodes.inside
+
+-- An atom at a place, which ends at the other, was put behind the nodes, and among the brackets if it is one. What is known of the source
+-- may be more, and all else is as it was.
+pub record Puts (rules : Rules) (source : List ℕ) (at end : ℕ) (old new : Reader) : Type 0 where
+  pub node : Node
+  pub atom : IsAtom rules source at node end
+  pub nodes : nodes_in new.nodes ≡ nodes_in old.nodes ++ node ∷ []
+  pub brackets : new.brackets.items ≡ old.brackets.items ++ bracket_in (length (nodes_in old.nodes)) node
+  pub inside : new.nodes.inside ≡ old.nodes.inside
+  pub links : new.links_end ≡ old.links_end
+  pub openers : new.openers ≡ old.openers
+  pub knows : Knows source new.ends
 
 -- what a `]` at a place makes of the nodes, and what it leaves of the source
 abbrev pub closed_at : Defined → List ℕ → List Node → ℕ → Bracketed

@@ -1,6 +1,6 @@
 -- The steps that the scanners of link reference definitions take.
-use Rattle.std.specs.Prelude.{ℕ, suc, Bool, true, false, not, ◌&&◌, ◌||◌, List, drop, Option, Some, None, if◌then◌else◌, option_map, ◌==◌, nat_le, nat_lt}
-use Rattle.std.specs.List.{slice_range}
+use Rattle.std.specs.Prelude.{ℕ, suc, Bool, true, false, not, ◌&&◌, ◌||◌, List, drop, Option, Some, None, if◌then◌else◌, option_map, ◌==◌, nat_le, nat_lt, codes}
+use Rattle.std.specs.List.{slice_range, list_any}
 use Rattle.cm_text.specs.Characters.{within}
 use Rattle.cm_scan.specs.Words.{is_control, begins_with, trim_start}
 use Rattle.cm_scan.specs.Links.{Reading, characters, has_no_blank_line}
@@ -34,9 +34,9 @@ abbrev pub is_barred : ℕ → (one_line : Bool) → ℕ → Bool
 is_barred open_byte true b = b == open_byte || b == 10
 is_barred open_byte false b = b == open_byte
 
--- an ASCII byte that neither ends a part between brackets, nor is barred from it, nor escapes anything, nor ends a line
-abbrev pub is_plain : (open_byte close_byte : ℕ) → ℕ → Bool
-is_plain open_byte close_byte b = not (b == close_byte) && not (b == open_byte) && not (b == 92) && not (b == 10) && nat_lt b 128
+-- an ASCII byte that means nothing in a part: it neither begins nor ends one, escapes nothing, and ends no line
+abbrev pub is_plain : ℕ → Bool
+is_plain b = nat_lt b 128 && not (list_any (λ c. c == b) (codes "\n\"'()<>[\\]"))
 
 -- at most so many characters, and no blank line save where those may stand
 abbrev pub fits : ℕ → (blank_lines : Bool) → Reading → Bool

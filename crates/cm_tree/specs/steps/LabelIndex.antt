@@ -7,7 +7,7 @@ use Rattle.cm_tree.specs.steps.LabelNumbers.{number_of}
 
 -- in how many slots a label may stand
 abbrev pub near : ℕ
-near = 16
+near = 8
 
 -- the first of the slots for labels of a number
 abbrev pub home : List ℕ → ℕ → ℕ

@@ -1,15 +1,14 @@
-use Rattle.std.proofs.Common.{◌≡◌, ◌<◌, ◌++◌, [], ◌∷◌, length, get_or, sym, ap, subst, ◌∙◌, arith}
+use Rattle.std.proofs.Common.{◌≡◌, ◌<◌, ◌++◌, [], ◌∷◌, length, get_or, refl, sym, ap, subst, ◌∙◌, arith}
 use Rattle.cm_scan.specs.Brackets.{defined_in}
 use Rattle.cm_scan.specs.Pairing.{emphasis_of}
 use Rattle.cm_tree.specs.Depth.{inlines_depth}
 use Rattle.cm_inline.specs.declared.openers.Openers.{Openers}
 use Rattle.cm_inline.specs.steps.Brackets.{IsRead, bracket_in}
-use Rattle.cm_inline.specs.steps.Groups.{node_of, nodes_in, ArePlaced}
+use Rattle.cm_inline.specs.steps.Groups.{nodes_in, ArePlaced}
 use Rattle.cm_inline.specs.steps.Reads.{Pays, ahead}
 use Rattle.cm_inline.specs.steps.Nodes.{items_of, text_between}
 use Rattle.cm_inline.specs.steps.Pairs.{allowance}
 use Rattle.cm_inline.proofs.PaysLemmas.{text-pays, atom-more-pays, closed-pays, pays-few}
-use Rattle.cm_inline.proofs.AtomLemmas.{token-read}
 use Rattle.cm_inline.proofs.ReaderLemmas.{text-more, atom-read, same-read}
 use Rattle.cm_inline.proofs.WholeLemmas.{ahead-text, ahead-atom, ahead-closed, closed-deeper}
 use Rattle.cm_inline.proofs.reading.read_on.Goals as goal
@@ -58,22 +57,20 @@ returns-then-as_bytes-end-eq93-clause-deep c = λ e.
     ap (λ t. ahead c.args.rules defined source t end) c.in_ok-push_text.ensures.nodes ∙ ahead-text c.args.rules defined source nodes c.args.at end c.text_end-end.ensures in
     subst (λ t. c.args.limit < inlines_depth (emphasis_of t)) text (closed-deeper c.args.rules defined source (nodes_in c.push_text.new.nodes) end c.args.limit (record { within = omega (arith, c.text_end-end.ensures.boundary.0, c.if-end-source.false); boundary = c.text_end-end.ensures.boundary; byte = ap (λ t. get_or t end 0) (sym c.as_bytes.ensures.value) ∙ c.if-as_bytes-end-eq93.true }) (c.close.ensures.deep e))
 
-pub add-requires : goal.add-requires
-add-requires c = token-read c.args.rules c.args.source.now c.text_end-end.result c.in_ok-token.token c.in_ok-token.behind c.in_ok-token.ensures.atom
-
 pub returns-clause-read : goal.returns-clause-read
 returns-clause-read c =
     let source = c.args.source.now in
     let reader = c.args.reader.now in
     let text = c.text_end-end.ensures in
     let end = c.text_end-end.result in
+    let put = c.in_ok-read_atom.ensures in
+    let behind = c.in_ok-read_atom.field-0 in
     let r = text-more source (nodes_in reader.nodes) reader.brackets.items c.args.at end reader.links_end reader.ends text.low text.boundary c.requires.read.0 in
     let t = subst (λ t. IsRead source end t reader.brackets.items reader.links_end reader.ends) (sym c.in_ok-push_text.ensures.nodes) r in
-    let a = atom-read c.args.rules source (nodes_in c.push_text.new.nodes) reader.brackets.items end (node_of [] c.in_ok-token.token) c.in_ok-token.behind reader.links_end reader.ends c.atom.new.ends c.in_ok-token.ensures.atom c.in_ok-token.ensures.knows t in
-    let add = c.in_ok-add.ensures in (
-      same-read source c.in_ok-token.behind (nodes_in c.push_text.new.nodes ++ node_of [] c.in_ok-token.token ∷ []) (nodes_in c.add.new.self.nodes) (reader.brackets.items ++ bracket_in (length (nodes_in c.push_text.new.nodes)) (node_of [] c.in_ok-token.token)) c.add.new.self.brackets.items reader.links_end c.add.new.self.links_end
-          c.atom.new.ends c.add.new.self.ends add.nodes add.brackets add.same.0 add.same.2 a,
-      subst (ArePlaced source) (sym (add.inside ∙ c.in_ok-push_text.ensures.inside)) c.requires.read.1,
+    let a = atom-read c.args.rules source (nodes_in c.push_text.new.nodes) reader.brackets.items end put.node behind reader.links_end reader.ends c.read_atom.new.reader.ends put.atom put.knows t in (
+      same-read source behind (nodes_in c.push_text.new.nodes ++ put.node ∷ []) (nodes_in c.read_atom.new.reader.nodes) (reader.brackets.items ++ bracket_in (length (nodes_in c.push_text.new.nodes)) put.node) c.read_atom.new.reader.brackets.items reader.links_end c.read_atom.new.reader.links_end
+          c.read_atom.new.reader.ends c.read_atom.new.reader.ends put.nodes put.brackets put.links refl a,
+      subst (ArePlaced source) (sym (put.inside ∙ c.in_ok-push_text.ensures.inside)) c.requires.read.1,
     )
 
 pub returns-clause-ahead : goal.returns-clause-ahead
@@ -82,8 +79,9 @@ returns-clause-ahead c =
     let source = c.args.source.now in
     let end = c.text_end-end.result in
     let nodes = nodes_in c.args.reader.now.nodes in
-    ap (λ t. ahead c.args.rules defined source t c.in_ok-token.behind) c.in_ok-add.ensures.nodes
-    ∙ ahead-atom c.args.rules defined source (nodes_in c.push_text.new.nodes) end (node_of [] c.in_ok-token.token) c.in_ok-token.behind (omega (arith, c.text_end-end.ensures.boundary.0, c.if-end-source.false)) c.in_ok-token.ensures.atom
+    let put = c.in_ok-read_atom.ensures in
+    ap (λ t. ahead c.args.rules defined source t c.in_ok-read_atom.field-0) put.nodes
+    ∙ ahead-atom c.args.rules defined source (nodes_in c.push_text.new.nodes) end put.node c.in_ok-read_atom.field-0 (omega (arith, c.text_end-end.ensures.boundary.0, c.if-end-source.false)) put.atom
     ∙ ap (λ t. ahead c.args.rules defined source t end) c.in_ok-push_text.ensures.nodes ∙ ahead-text c.args.rules defined source nodes c.args.at end c.text_end-end.ensures
 
 -- the text more, as it was pushed
@@ -124,6 +122,8 @@ returns-clause-pays c =
     let end = c.text_end-end.result in
     let pays = subst (λ t. Pays rules defined source t end reader.openers.list.looks) (sym c.in_ok-push_text.ensures.nodes)
     (text-pays rules defined source (nodes_in reader.nodes) c.args.at end reader.openers.list.looks c.text_end-end.ensures c.requires.pays) in
-    let more = atom-more-pays rules defined source (nodes_in c.push_text.new.nodes) end (node_of [] c.in_ok-token.token) c.in_ok-token.behind reader.openers.list.looks (omega (arith, c.text_end-end.ensures.boundary.0, c.if-end-source.false)) c.in_ok-token.ensures.atom pays in
-    subst (λ t. Pays rules defined source t c.in_ok-token.behind c.add.new.self.openers.list.looks) (sym c.in_ok-add.ensures.nodes)
-    (subst (Pays rules defined source (nodes_in c.push_text.new.nodes ++ node_of [] c.in_ok-token.token ∷ []) c.in_ok-token.behind) (sym (ap (λ (o : Openers). o.list.looks) c.in_ok-add.ensures.same.1)) more)
+    let put = c.in_ok-read_atom.ensures in
+    let behind = c.in_ok-read_atom.field-0 in
+    let more = atom-more-pays rules defined source (nodes_in c.push_text.new.nodes) end put.node behind reader.openers.list.looks (omega (arith, c.text_end-end.ensures.boundary.0, c.if-end-source.false)) put.atom pays in
+    subst (λ t. Pays rules defined source t behind c.read_atom.new.reader.openers.list.looks) (sym put.nodes)
+    (subst (Pays rules defined source (nodes_in c.push_text.new.nodes ++ put.node ∷ []) behind) (sym (ap (λ (o : Openers). o.list.looks) put.openers)) more)

@@ -1,4 +1,5 @@
-use Rattle.std.proofs.Common.{refl, sym, ap, ◌≡◌, ◌<◌, ◌+◌, ◌∙◌, ◌≢◌, ℕ, arith}
+use Rattle.std.proofs.Common.{refl, sym, ap, ◌≡◌, ◌<◌, ◌+◌, ◌-◌, ◌∙◌, ◌≢◌, ℕ, drop, get_or, arith}
+use Rattle.cm_text.specs.Indentation.{blank_width, strip_from}
 use Rattle.std.proofs.lemmas.Str.{IsCharBoundary-start}
 use Rattle.cm_text.proofs.IndentationLemmas.{after_blank, strip-step, room-step}
 use Rattle.cm_text.proofs.columns.take_columns.Goals as goal
@@ -30,4 +31,19 @@ loop-b-preserved c =
       counted = ap (λ k. k + 1) c.loop-b.invariant.counted;
       boundary = rw (c.loop-b.invariant.counted) next;
       fits = omega (arith, c.blank_width-width.ensures, room-step c.loop-b.column c.loop-b.b-index bytes c.loop-b-test.true, c.loop-b.invariant.fits);
+    }
+
+pub loop-b-preserved-then-left-gt0 : goal.loop-b-preserved-then-left-gt0
+loop-b-preserved-then-left-gt0 c =
+    let bytes = c.as_bytes-b-items.result.now in
+    let at = c.loop-b.b-index in
+    let column = c.loop-b.column in
+    let one : blank_width column (get_or bytes at 0) ≡ 1 = ap (blank_width column) c.if-b-eq32.true in
+    let next = after_blank bytes at column (rw (c.as_bytes-b-items.ensures.value) (c.utf8.text)) c.loop-b-test.true (omega (arith, one)) in
+    record {
+      stripped = ap (λ w. strip_from (c.loop-b.left - w) (column + w) (drop (at + 1) bytes)) (sym one)
+          ∙ sym (strip-step c.loop-b.left column at bytes c.loop-b-test.true c.if-left-gt0.true (omega (arith, one)) (omega (arith, one, c.if-left-gt0.true))) ∙ c.loop-b.invariant.stripped;
+      counted = ap (λ k. k + 1) c.loop-b.invariant.counted;
+      boundary = rw (c.loop-b.invariant.counted) next;
+      fits = omega (arith, one, room-step column at bytes c.loop-b-test.true, c.loop-b.invariant.fits);
     }
