@@ -24,3 +24,4 @@ pub mod LineOwnerLemmas
 pub mod LeafLemmas
 pub mod NextLineLemmas
 pub mod OwnerRunLemmas
+pub mod FrontLemmas

@@ -1,5 +1,6 @@
 pub mod LevelViews
 pub mod FrameViews
+pub mod FrontViews
 pub mod FirstLines
 pub mod PlaceViews
 pub mod StartViews

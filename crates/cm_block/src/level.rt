@@ -91,7 +91,7 @@ impl Level {
     }
 
     /// Whether an item of this kind goes on with the list.
-    fn has_list_of(&self, kind: ListKind) -> bool
+    pub(crate) fn has_list_of(&self, kind: ListKind) -> bool
         ensures { (raw : Raw) → result ≡ has_list_of (level_in raw self.now) kind }
     {
         match &self.open_list {

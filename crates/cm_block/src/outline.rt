@@ -1,10 +1,10 @@
 //! An outline as values of the tree: its blocks, and the owners of its lines.
-ghost use Rattle.std.specs.Prelude.{◌≡◌, IfOk};
+ghost use Rattle.std.specs.Prelude.{◌≡◌, ◌++◌, IfOk, OnOk};
 ghost use Rattle.cm_tree.specs.RawBlocks.{raw_inlines, block_in, blocks_in, items_in, IsPlaced, ArePlaced, AreItems};
 
 use crate::parser::Outline;
 use cm_text::NoMemory;
-use cm_tree::{Block, Inline, Items, Owner, RawBlock, RawBlocks, RawItem, Text};
+use cm_tree::{Block, Inline, Items, Owner, RawBlock, RawBlocks, RawItem, RawPart, Text};
 use std::alloc::{AllocError, Global};
 
 /// The content of a leaf with this source: one text, or nothing if the source is empty.
@@ -100,6 +100,17 @@ fn made_items(
     Ok(made)
 }
 
+/// Puts the blocks of a part behind others.
+fn push_part(alloc: Global, made: &mut Items<Block>, part: &RawPart) -> Result<(), AllocError>
+    ensures { OnOk result (made.new ≡ made.old ++ part.now) }
+{
+    let (top, inside) = part.contents();
+    for block in top {
+        made.push(made_block(alloc, inside, *block)?)?;
+    }
+    Ok(())
+}
+
 impl Outline {
     /// The blocks as blocks of the tree. The content of a paragraph or heading is one text, its source; an empty heading
     /// has none.
@@ -110,8 +121,12 @@ impl Outline {
     pub fn to_blocks(&self, alloc: Global) -> Result<Items<Block>, NoMemory>
         ensures { IfOk result (λ blocks. blocks ≡ self.now.blocks) }
     {
-        let (blocks, inside) = self.blocks.parts();
-        Ok(made_blocks(alloc, inside, blocks)?)
+        let parts = self.blocks.parts();
+        let mut made = Items::new(alloc);
+        for part in parts {
+            push_part(alloc, &mut made, part)?;
+        }
+        Ok(made)
     }
 
     /// The owner of each line.

@@ -1,5 +1,5 @@
 //! The open quotes and items.
-ghost use Rattle.std.specs.Prelude.{◌≡◌, ◌<◌, ◌≤◌, ◌∷◌, ◌++◌, ◌+◌, ◌&&◌, [], true, false, suc, List, length, take, drop, OnOk, IfOk};
+ghost use Rattle.std.specs.Prelude.{◌≡◌, ◌<◌, ◌≤◌, ◌∷◌, ◌++◌, ◌+◌, ◌&&◌, [], true, false, suc, List, length, take, drop, None, OnOk, IfOk};
 ghost use Rattle.cm_text.specs.Rules as all;
 ghost use Rattle.cm_text.specs.Views.{seen_view};
 ghost use Rattle.cm_scan.specs.Words.{given};
@@ -19,7 +19,7 @@ use crate::counted_line::CountedLine;
 use crate::level::Level;
 use crate::rooms::BlockRoom;
 use cm_text::Rules;
-use cm_tree::{Items, ListKind, RawBlock, RawBlocks, RawTree};
+use cm_tree::{Items, ListKind, RawBlock, RawBlocks, RawPart, RawTree};
 use std::alloc::{AllocError, Global};
 use std::marker::Model;
 use std::mem;
@@ -137,6 +137,9 @@ fn has_quote(frames: &[Frame]) -> bool
 /// `bare` says that the innermost container is an item of which there is only the marker so far.
 #[derive(Debug, Drop)]
 pub(crate) struct Stack {
+    alloc: Global,
+    /// The parts that are finished.
+    parts: RawTree,
     frames: Items<Frame>,
     bare: bool,
     level: Level,
@@ -152,12 +155,13 @@ impl Model for Stack {
     ghost use Rattle.cm_tree.specs.contracts.tree.ListKind as list_kind;
     ghost use Rattle.cm_block.specs.steps.FrameViews.{frames_in, AreFramesPlaced};
     ghost use Rattle.cm_block.specs.steps.LevelViews.{level_in, IsLevelPlaced};
+    ghost use Rattle.cm_block.specs.steps.FrontViews.{frames_behind, innermost};
 
     ghost Value = { Row };
 
     ghost coded = { Prim.hlevel (codes, block.the_row.coded, list_kind.the_row.coded) };
 
-    ghost view = { λ s. record { frames = frames_in s.raw s.frames; bare = s.bare; level = level_in s.raw s.level } };
+    ghost view = { λ s. record { frames = frames_behind s.parts (frames_in s.raw s.frames); bare = s.bare; level = innermost s.parts (frames_in s.raw s.frames) (level_in s.raw s.level) } };
 
     ghost invariant = { λ s. AreFramesPlaced s.raw s.frames × IsLevelPlaced s.raw s.level };
 }
@@ -170,6 +174,8 @@ impl Stack {
         ensures level { result.level ≡ empty_level }
     {
         Stack {
+            alloc,
+            parts: RawTree::new(alloc),
             frames: Items::new(alloc),
             bare: false,
             level: Level::new(Vec::new(alloc)),
@@ -221,7 +227,20 @@ impl Stack {
         ensures bare { self.new.bare ≡ self.old.bare }
     {
         self.level.open_block(&mut self.raw)?;
+        self.finish_part()?;
         self.open(alloc, Container::Quote)
+    }
+
+    /// Closes the list with which an item of this kind doesn't go on, and finishes a part there.
+    fn begin_list(&mut self, kind: ListKind) -> Result<(), AllocError>
+        ensures level { OnOk result (item_opens self.new.level kind ≡ item_opens self.old.level kind) }
+        ensures frames { self.new.frames ≡ self.old.frames }
+        ensures bare { self.new.bare ≡ self.old.bare }
+    {
+        if self.level.has_list_of(kind) {
+            return Ok(());
+        }
+        self.open_block()
     }
 
     /// Opens an item.
@@ -236,6 +255,7 @@ impl Stack {
         ensures level { OnOk result (self.new.level ≡ empty_level) }
         ensures bare { self.new.bare ≡ self.old.bare }
     {
+        self.begin_list(kind)?;
         self.level.open_item(alloc, &mut self.raw, kind)?;
         self.open(alloc, Container::Item { kind, column })
     }
@@ -318,7 +338,32 @@ impl Stack {
         ensures frames { self.new.frames ≡ self.old.frames }
         ensures bare { self.new.bare ≡ self.old.bare }
     {
-        self.level.open_block(&mut self.raw)
+        self.level.open_block(&mut self.raw)?;
+        self.finish_part()
+    }
+
+    /// Whether no container is open, and no list at the top level.
+    fn is_closed(&self) -> bool
+        ensures frames { result ≡ true → self.now.frames ≡ [] }
+        ensures list { result ≡ true → self.now.level.open_list ≡ None }
+    {
+        self.frames.is_empty() && self.level.open_list.is_none()
+    }
+
+    /// Finishes a part of the document, where its texts are enough for one and no container and no list is open. All blocks stay what
+    /// they are.
+    fn finish_part(&mut self) -> Result<(), AllocError>
+        ensures same { OnOk result (self.new ≡ self.old) }
+        ensures frames { self.new.frames ≡ self.old.frames }
+        ensures bare { self.new.bare ≡ self.old.bare }
+    {
+        if !self.raw.is_full() || !self.is_closed() {
+            return Ok(());
+        }
+        let room = RawBlocks::with_room(self.alloc)?;
+        let raw = mem::replace(&mut self.raw, room);
+        let blocks = mem::replace(&mut self.level.blocks, Vec::new(self.alloc));
+        self.parts.push(RawPart::new(blocks, raw))
     }
 
     /// Puts a paragraph that was opened, with this source.
@@ -387,10 +432,17 @@ impl Stack {
 
     /// The blocks of the document, where no container is open.
     pub(crate) fn into_tree(self) -> Result<RawTree, AllocError>
+        requires { self.frames ≡ [] }
         ensures { IfOk result (λ blocks. blocks ≡ closed_blocks self.level) }
     {
-        let Stack { level, mut raw, .. } = self;
+        let Stack {
+            mut parts,
+            level,
+            mut raw,
+            ..
+        } = self;
         let blocks = level.into_blocks(&mut raw)?;
-        Ok(RawTree::new(blocks, raw))
+        parts.push(RawPart::new(blocks, raw))?;
+        Ok(parts)
     }
 }

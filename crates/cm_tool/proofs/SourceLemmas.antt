@@ -2,6 +2,7 @@
 use Rattle.std.proofs.Common.{◌≡◌, ◌∙◌, List, [], ◌∷◌, ◌++◌, Bool, true, false, not, cond, refl, sym, ap, subst, append_assoc, append-nil, Some, None}
 use Rattle.std.specs.Prelude.{Option, map}
 use Rattle.std.specs.Option.{is_some}
+use Rattle.std.proofs.lemmas.List.{map-append}
 use Rattle.cm_text.specs.Rules.{Rules}
 use Rattle.cm_tree.specs.declared.tree.Block.{Block}
 use Rattle.cm_scan.specs.Brackets.{Defined}
@@ -36,7 +37,21 @@ kept-parts block blocks = go (is_definition block)
     go true = refl
     go false = refl
 
+kept-append : (xs ys : List Block) → kept (xs ++ ys) ≡ kept xs ++ kept ys
+kept-append [] ys = refl
+kept-append (x ∷ xs) ys =
+    kept-parts x (xs ++ ys)
+    ∙ ap (λ t. kept (x ∷ []) ++ t) (kept-append xs ys)
+    ∙ sym (append_assoc (kept (x ∷ [])) (kept xs) (kept ys))
+    ∙ ap (λ t. t ++ kept ys) (sym (kept-parts x xs))
+
 module _ (rules : Rules) (defined : Defined) where
+  pub cleared-append : (xs ys : List Block) → without_definitions (with_inlines rules defined (xs ++ ys)) ≡ without_definitions (with_inlines rules defined xs) ++ without_definitions (with_inlines rules defined ys)
+  cleared-append xs ys =
+      ap without_definitions (map-append (block_read rules defined) xs ys)
+      ∙ ap kept (map-append cleared (with_inlines rules defined xs) (with_inlines rules defined ys))
+      ∙ kept-append (map cleared (with_inlines rules defined xs)) (map cleared (with_inlines rules defined ys))
+
   -- A source has taken blocks which, with the blocks that are left, once these are read and without their definitions, are a whole.
   abbrev pub Takes : List Block → code.PlainSource → List Block → Type 0
   Takes left source whole = (taken : List Block) × HasTaken rules source taken × (taken ++ without_definitions (with_inlines rules defined left) ≡ whole)

@@ -1,5 +1,5 @@
 //! The inlines of an outline's leaves.
-ghost use Rattle.std.specs.Prelude.{◌≡◌, ◌+◌, ◌≤◌, ◌<◌, ℕ, [], ◌∷◌, option_map, IfOk, IfErr, OnOk, None};
+ghost use Rattle.std.specs.Prelude.{◌≡◌, ◌++◌, ◌+◌, ◌≤◌, ◌<◌, ℕ, [], ◌∷◌, option_map, IfOk, IfErr, OnOk, None};
 ghost use Rattle.cm_tree.specs.Depth.{inlines_depth};
 ghost use Rattle.cm_tree.specs.RawBlocks.{raw_inlines, block_in, blocks_in, items_in, IsPlaced, ArePlaced, AreItems};
 ghost use Rattle.cm_tool.specs.steps.Items.{items_read, items_leaf_depths};
@@ -14,7 +14,9 @@ ghost use Rattle.cm_tool.specs.steps.Numbering.{Passes, TellsLeaf};
 use crate::fault::Fault;
 use cm_inline::{InlineFault, InlineReader, is_one_text};
 use cm_text::Limits;
-use cm_tree::{Block, Definitions, Inline, Items, RawBlock, RawBlocks, RawItem, RawTree, Text};
+use cm_tree::{
+    Block, Definitions, Inline, Items, RawBlock, RawBlocks, RawItem, RawPart, RawTree, Text,
+};
 use std::alloc::Global;
 
 /// The inlines of a paragraph or heading with this source.
@@ -224,7 +226,29 @@ fn read_items(
     Ok(read)
 }
 
-/// The blocks with the inlines of their leaves, at every depth.
+/// Puts the blocks of a part of the document, with the inlines of their leaves, behind others, and lets go of it.
+fn read_part(
+    alloc: Global,
+    limits: Limits,
+    definitions: &Definitions,
+    reader: &mut InlineReader,
+    next: &mut usize,
+    read: &mut Items<Block>,
+    part: RawPart,
+) -> Result<(), Fault>
+    ensures read { OnOk result (read.new ≡ read.old ++ with_inlines limits.rules (defined_in definitions.now) part) }
+    ensures passes { OnOk result (Passes limits.inlines next.old next.new (leaf_depths (with_inlines limits.rules (defined_in definitions.now) part))) }
+    ensures told { IfErr result (λ fault. TellsLeaf fault limits.inlines next.old (leaf_depths (with_inlines limits.rules (defined_in definitions.now) part))) }
+{
+    let (top, raw) = part.contents();
+    for block in top {
+        let block = read_block(alloc, limits, definitions, raw, reader, next, *block)?;
+        read.push(block)?;
+    }
+    Ok(())
+}
+
+/// The blocks with the inlines of their leaves, at every depth. Each part is let go of before the next one is read.
 ///
 /// # Errors
 ///
@@ -240,16 +264,19 @@ pub(crate) fn read_leaves(
     ensures within { IfOk result (λ read. first_leaf_past limits.inlines read ≡ None) }
     ensures told { IfErr result (λ fault. TellsFault fault (option_map faults.InlinesTooDeep (first_leaf_past limits.inlines (with_inlines limits.rules (defined_in definitions.now) blocks)))) }
 {
-    let (top, inside) = blocks.into_parts();
-    let mut next = 1;
+    let mut read = Items::new(alloc);
     let mut reader = InlineReader::new(alloc);
-    read_blocks(
-        alloc,
-        limits,
-        definitions,
-        &inside,
-        &mut reader,
-        &mut next,
-        &top,
-    )
+    let mut next = 1;
+    for part in blocks.into_parts() {
+        read_part(
+            alloc,
+            limits,
+            definitions,
+            &mut reader,
+            &mut next,
+            &mut read,
+            part,
+        )?;
+    }
+    Ok(read)
 }

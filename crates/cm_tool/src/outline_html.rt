@@ -20,7 +20,7 @@ use cm_html::{
 };
 use cm_inline::{InlineFault, InlineReader, is_one_text};
 use cm_text::Limits;
-use cm_tree::{Definitions, RawBlock, RawBlocks, RawItem, RawTree};
+use cm_tree::{Definitions, RawBlock, RawBlocks, RawItem, RawPart, RawTree};
 use std::alloc::Global;
 
 /// Adds the HTML of the inlines of a paragraph or heading with this source.
@@ -301,39 +301,29 @@ fn push_apart(
     push_block(limits, definitions, raw, reader, next, html, block)
 }
 
-/// The HTML of the blocks at the top level, in pages.
-fn pages_of(
-    alloc: Global,
+/// Adds the HTML of the blocks of a part of the document, and lets go of it.
+fn push_pages(
     limits: Limits,
     definitions: &Definitions,
-    raw: &RawBlocks,
-    blocks: &[RawBlock],
-) -> Result<Pages, Fault>
-    requires { ArePlaced raw.now blocks.now }
-    ensures html { IfOk result (λ pages. pages ≡ html_of (with_inlines limits.rules (defined_in definitions.now) (blocks_in raw.now blocks.now))) }
-    ensures within { IfOk result (λ _. first_leaf_past limits.inlines (with_inlines limits.rules (defined_in definitions.now) (blocks_in raw.now blocks.now)) ≡ None) }
-    ensures told { IfErr result (λ fault. TellsFault fault (option_map faults.InlinesTooDeep (first_leaf_past limits.inlines (with_inlines limits.rules (defined_in definitions.now) (blocks_in raw.now blocks.now))))) }
+    reader: &mut InlineReader,
+    next: &mut usize,
+    html: &mut Pages,
+    part: RawPart,
+) -> Result<(), Fault>
+    ensures pushed { OnOk result (html.new ≡ html.old ++ html_of (with_inlines limits.rules (defined_in definitions.now) part)) }
+    ensures passes { OnOk result (Passes limits.inlines next.old next.new (leaf_depths (with_inlines limits.rules (defined_in definitions.now) part))) }
+    ensures told { IfErr result (λ fault. TellsLeaf fault limits.inlines next.old (leaf_depths (with_inlines limits.rules (defined_in definitions.now) part))) }
 {
-    let mut pages = Pages::new(alloc)?;
-    let mut reader = InlineReader::new(alloc);
-    let mut next = 1;
-    for block in blocks {
-        push_block(
-            limits,
-            definitions,
-            raw,
-            &mut reader,
-            &mut next,
-            &mut pages,
-            *block,
-        )?;
-        pages.turn()?;
+    let (top, raw) = part.contents();
+    for block in top {
+        push_block(limits, definitions, raw, reader, next, html, *block)?;
+        html.turn()?;
     }
-    Ok(pages)
+    Ok(())
 }
 
 /// The HTML of the blocks with the inlines of their leaves, in pages. The inlines of a leaf are let go of before those of the next one
-/// are read.
+/// are read, and each part of the document before the next one is.
 ///
 /// # Errors
 ///
@@ -348,6 +338,18 @@ pub(crate) fn leaves_html(
     ensures within { IfOk result (λ _. first_leaf_past limits.inlines (with_inlines limits.rules (defined_in definitions.now) blocks) ≡ None) }
     ensures told { IfErr result (λ fault. TellsFault fault (option_map faults.InlinesTooDeep (first_leaf_past limits.inlines (with_inlines limits.rules (defined_in definitions.now) blocks)))) }
 {
-    let (top, inside) = blocks.into_parts();
-    pages_of(alloc, limits, definitions, &inside, &top)
+    let mut pages = Pages::new(alloc)?;
+    let mut reader = InlineReader::new(alloc);
+    let mut next = 1;
+    for part in blocks.into_parts() {
+        push_pages(
+            limits,
+            definitions,
+            &mut reader,
+            &mut next,
+            &mut pages,
+            part,
+        )?;
+    }
+    Ok(pages)
 }

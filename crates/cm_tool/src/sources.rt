@@ -7,7 +7,7 @@ ghost use Rattle.cm_scan.specs.Brackets.{defined_in};
 ghost use Rattle.cm_scan.specs.Documents.{block_read, with_inlines};
 ghost use Rattle.cm_source.specs.Definitions.{without_definitions};
 ghost use Rattle.cm_tool.specs.declared.fault.Fault.TheVariants as faults;
-ghost use Rattle.cm_tool.specs.Leaves.{depths_in, first_leaf_past};
+ghost use Rattle.cm_tool.specs.Leaves.{depths_in, first_leaf_past, leaf_depths};
 ghost use Rattle.cm_tool.specs.Parsing.{TellsFault};
 ghost use Rattle.cm_tool.specs.steps.Numbering.{Passes, TellsLeaf};
 ghost use Rattle.cm_tool.specs.steps.Sources.{HasTaken, Spelled};
@@ -17,7 +17,7 @@ use crate::leaves::read_block;
 use cm_inline::InlineReader;
 use cm_source::{SourceFault, Speller, Why, block_without_definitions};
 use cm_text::{Limits, NoMemory, Rules};
-use cm_tree::{Block, Definitions, RawBlock, RawBlocks, RawTree};
+use cm_tree::{Block, Definitions, RawBlock, RawBlocks, RawPart, RawTree};
 use std::alloc::Global;
 
 /// The source of the blocks so far, or why they can't be spelled.
@@ -109,36 +109,36 @@ fn push_spelled(
     Ok(())
 }
 
-/// The source of the blocks at the top level.
-fn source_of(
+/// Goes on with the blocks of a part of the document, and lets go of it.
+fn push_part(
     alloc: Global,
     limits: Limits,
     definitions: &Definitions,
-    raw: &RawBlocks,
-    blocks: &[RawBlock],
-) -> Result<Result<String, Why>, Fault>
-    requires { ArePlaced raw.now blocks.now }
-    ensures source { IfOk result (λ source. Spelled limits.rules (without_definitions (with_inlines limits.rules (defined_in definitions.now) (blocks_in raw.now blocks.now))) source) }
-    ensures within { IfOk result (λ _. first_leaf_past limits.inlines (with_inlines limits.rules (defined_in definitions.now) (blocks_in raw.now blocks.now)) ≡ None) }
-    ensures told { IfErr result (λ fault. TellsFault fault (option_map faults.InlinesTooDeep
-        (first_leaf_past limits.inlines (with_inlines limits.rules (defined_in definitions.now) (blocks_in raw.now blocks.now))))) }
+    reader: &mut InlineReader,
+    next: &mut usize,
+    source: &mut PlainSource,
+    part: RawPart,
+) -> Result<(), Fault>
+    ensures pushed { OnOk result ((taken : List trees.Block) → HasTaken limits.rules source.old taken →
+        HasTaken limits.rules source.new (taken ++ without_definitions (with_inlines limits.rules (defined_in definitions.now) part))) }
+    ensures passes { OnOk result (Passes limits.inlines next.old next.new (leaf_depths (with_inlines limits.rules (defined_in definitions.now) part))) }
+    ensures told { IfErr result (λ fault. TellsLeaf fault limits.inlines next.old
+        (leaf_depths (with_inlines limits.rules (defined_in definitions.now) part))) }
 {
-    let mut source = PlainSource::new(alloc, limits.rules());
-    let mut reader = InlineReader::new(alloc);
-    let mut next = 1;
-    for block in blocks {
+    let (top, raw) = part.contents();
+    for block in top {
         push_spelled(
             alloc,
             limits,
             definitions,
             raw,
-            &mut reader,
-            &mut next,
-            &mut source,
+            reader,
+            next,
+            source,
             *block,
         )?;
     }
-    Ok(source.finish())
+    Ok(())
 }
 
 /// The source of the blocks with the inlines of their leaves and without their definitions, or why they can't be spelled. The inlines of
@@ -159,6 +159,19 @@ pub(crate) fn leaves_source(
     ensures told { IfErr result (λ fault. TellsFault fault (option_map faults.InlinesTooDeep
         (first_leaf_past limits.inlines (with_inlines limits.rules (defined_in definitions.now) blocks)))) }
 {
-    let (top, inside) = blocks.into_parts();
-    source_of(alloc, limits, definitions, &inside, &top)
+    let mut source = PlainSource::new(alloc, limits.rules());
+    let mut reader = InlineReader::new(alloc);
+    let mut next = 1;
+    for part in blocks.into_parts() {
+        push_part(
+            alloc,
+            limits,
+            definitions,
+            &mut reader,
+            &mut next,
+            &mut source,
+            part,
+        )?;
+    }
+    Ok(source.finish())
 }

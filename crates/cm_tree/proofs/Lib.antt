@@ -5,3 +5,4 @@ pub mod KeptLemmas
 pub mod IndexLemmas
 pub mod EntryLemmas
 pub mod RawWalks
+pub mod RawTreeLemmas

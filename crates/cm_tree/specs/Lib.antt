@@ -6,6 +6,7 @@ pub mod LinkTargets
 pub mod Definitions
 pub mod RawHtml
 pub mod RawBlocks
+pub mod RawTrees
 pub mod TargetPlaces
 pub mod WorkedExamples
 pub mod steps

@@ -76,7 +76,7 @@ pub use items::Items;
 pub use link_target::{KeptTarget, LinkTarget};
 pub use raw_blocks::{RawBlock, RawBlocks, RawItem};
 pub use raw_html::has_raw_html;
-pub use raw_tree::RawTree;
+pub use raw_tree::{RawPart, RawTree};
 pub use target_places::TargetPlaces;
 pub use text::Text;
 pub use tree::{Block, Doc, Inline, ListKind, Owner};

@@ -1,6 +1,6 @@
 //! Blocks whose inlines haven't been read. They own no memory: their texts lie behind one another in one
 //! text, and the blocks in them in one list.
-ghost use Rattle.std.specs.Prelude.{◌≡◌, [], ◌++◌, length, IfOk, OnOk};
+ghost use Rattle.std.specs.Prelude.{◌≡◌, [], ◌++◌, length, nat_le, IfOk, OnOk};
 ghost use Rattle.std.specs.List.{slice_range};
 ghost use Rattle.cm_tree.specs.RawBlocks.{raw_inlines, block_in, blocks_in, item_in, items_in, IsBetween, IsRange, IsPlaced, ArePlaced, IsItem, AreItems, Grows};
 ghost use Rattle.cm_tree.specs.declared.tree.Block.TheVariants as trees;
@@ -8,6 +8,12 @@ ghost use Rattle.cm_tree.specs.declared.tree.Block.TheVariants as trees;
 use crate::tree::ListKind;
 use std::alloc::{AllocError, Global};
 use std::marker::Model;
+
+/// How many bytes of texts fill a part of a document.
+const FULL: usize = 32_768;
+
+/// How many bytes of texts there is room for at first, where more than a few are to come.
+const ROOM: usize = 40_960;
 
 /// A block whose inlines haven't been read. Its texts lie from one place to the next among the texts of [`RawBlocks`], and the blocks and
 /// items in it from one place to the next among the blocks and items there.
@@ -104,6 +110,30 @@ impl RawBlocks {
             blocks: Vec::new(alloc),
             items: Vec::new(alloc),
         }
+    }
+
+    /// Nothing yet, with room for texts that fill a part of a document.
+    ///
+    /// # Errors
+    ///
+    /// `AllocError` where a request for memory was refused.
+    pub fn with_room(alloc: Global) -> Result<RawBlocks, AllocError>
+        ensures text { IfOk result (λ raw. raw.text ≡ []) }
+        ensures blocks { IfOk result (λ raw. raw.blocks ≡ []) }
+        ensures items { IfOk result (λ raw. raw.items ≡ []) }
+    {
+        Ok(RawBlocks {
+            text: String::with_capacity(alloc, ROOM)?,
+            blocks: Vec::new(alloc),
+            items: Vec::new(alloc),
+        })
+    }
+
+    /// Whether the texts are so many bytes that they fill a part of a document: 32 KiB.
+    pub fn is_full(&self) -> bool
+        ensures { result ≡ nat_le 32768 (length self.now.text) }
+    {
+        self.text.len() >= FULL
     }
 
     /// Puts a text behind the others, and answers where it ends.

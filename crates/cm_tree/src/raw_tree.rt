@@ -1,18 +1,20 @@
-//! The blocks of a document whose inlines haven't been read.
-ghost use Rattle.std.specs.Prelude.{◌≡◌};
+//! The blocks of a document whose inlines haven't been read, in parts that may be let go of one after another.
+ghost use Rattle.std.specs.Prelude.{◌≡◌, [], ◌++◌, OnOk, OnErr};
 ghost use Rattle.cm_tree.specs.RawBlocks.{blocks_in, ArePlaced};
+ghost use Rattle.cm_tree.specs.RawTrees.{all_blocks};
 
 use crate::raw_blocks::{RawBlock, RawBlocks};
+use std::alloc::{AllocError, Global};
 use std::marker::Model;
 
-/// The blocks of a document whose inlines haven't been read. The source of a paragraph or heading stands as one text.
+/// A part of a document: blocks at the top level that follow one another, with all that they are made of.
 #[derive(Debug, Drop)]
-pub struct RawTree {
+pub struct RawPart {
     blocks: Vec<RawBlock>,
     inside: RawBlocks,
 }
 
-impl Model for RawTree {
+impl Model for RawPart {
     ghost use Rattle.std.specs.Prelude.{List};
     ghost use Rattle.std.specs.Coded.{coded_list};
     ghost use Rattle.cm_tree.specs.contracts.tree.Block as block;
@@ -23,34 +25,85 @@ impl Model for RawTree {
 
     ghost coded = { coded_list block.the_row.coded };
 
-    ghost view = { λ t. blocks_in t.inside t.blocks.items };
+    ghost view = { λ p. blocks_in p.inside p.blocks.items };
 
-    ghost invariant = { λ t. ArePlaced t.inside t.blocks.items };
+    ghost invariant = { λ p. ArePlaced p.inside p.blocks.items };
 }
 
-impl RawTree {
+impl RawPart {
     /// Blocks, of which all that they are made of is inside.
-    pub fn new(blocks: Vec<RawBlock>, inside: RawBlocks) -> RawTree
+    pub fn new(blocks: Vec<RawBlock>, inside: RawBlocks) -> RawPart
         requires { ArePlaced inside blocks.items }
         ensures { result ≡ blocks_in inside blocks.items }
     {
-        RawTree { blocks, inside }
+        RawPart { blocks, inside }
     }
 
     /// The blocks at the top level, and what they are made of, as they stand.
-    pub fn parts(&self) -> (&[RawBlock], &RawBlocks)
+    pub fn contents(&self) -> (&[RawBlock], &RawBlocks)
         ensures blocks { blocks_in result.1.now result.0.now ≡ self.now }
         ensures placed { ArePlaced result.1.now result.0.now }
     {
         (&self.blocks, &self.inside)
     }
+}
 
-    /// The blocks at the top level, and what they are made of.
-    pub fn into_parts(self) -> (Vec<RawBlock>, RawBlocks)
-        ensures blocks { blocks_in result.1 result.0.items ≡ self }
-        ensures placed { ArePlaced result.1 result.0.items }
+/// The blocks of a document whose inlines haven't been read: those of its parts, one after another. The source of a paragraph or heading
+/// stands as one text.
+#[derive(Debug, Drop)]
+pub struct RawTree {
+    parts: Vec<RawPart>,
+}
+
+impl Model for RawTree {
+    ghost use Rattle.std.specs.Prelude.{List};
+    ghost use Rattle.std.specs.Coded.{coded_list};
+    ghost use Rattle.cm_tree.specs.contracts.tree.Block as block;
+    ghost use Rattle.cm_tree.specs.declared.tree.Block.{Block};
+    ghost use Rattle.cm_tree.specs.RawTrees.{all_blocks};
+
+    ghost Value = { List Block };
+
+    ghost coded = { coded_list block.the_row.coded };
+
+    ghost view = { λ t. all_blocks t.parts.items };
+}
+
+impl RawTree {
+    /// No blocks. It takes no memory.
+    pub fn new(alloc: Global) -> RawTree
+        ensures { result ≡ [] }
     {
-        let RawTree { blocks, inside } = self;
-        (blocks, inside)
+        RawTree {
+            parts: Vec::new(alloc),
+        }
+    }
+
+    /// Puts the blocks of a part behind the others.
+    ///
+    /// # Errors
+    ///
+    /// `AllocError` where a request for memory was refused; the part is let go of then.
+    pub fn push(&mut self, part: RawPart) -> Result<(), AllocError>
+        ensures ok { OnOk result (self.new ≡ self.old ++ part) }
+        ensures err { OnErr result (self.new ≡ self.old) }
+    {
+        self.parts.push(part)?;
+        Ok(())
+    }
+
+    /// The parts, as they stand.
+    pub fn parts(&self) -> &[RawPart]
+        ensures { all_blocks result.now ≡ self.now }
+    {
+        &self.parts
+    }
+
+    /// The parts, each of which may be let go of by itself.
+    pub fn into_parts(self) -> Vec<RawPart>
+        ensures { all_blocks result.items ≡ self }
+    {
+        let RawTree { parts } = self;
+        parts
     }
 }

@@ -47,11 +47,13 @@ fn outline(answer: &mut Answer, text: &str) -> Result<Outline, Trouble> {
     }
 }
 
-/// The blocks at the top level of a text, and the owners of its lines.
+/// The blocks at the top level of a text, part by part, and the owners of its lines.
 fn blocks(answer: &mut Answer, text: &str) -> Result<(), Trouble> {
     let Outline { blocks, owners, .. } = outline(answer, text)?;
-    let (blocks, _inside) = blocks.into_parts();
-    answer.shown(&blocks)?;
+    for part in blocks.into_parts() {
+        let (top, _inside) = part.contents();
+        answer.shown(&top)?;
+    }
     answer.shown(&owners.to_items(answer.alloc)?)
 }
 

@@ -19,7 +19,7 @@ without_list level = record {
 abbrev pub item_with : List Block → Bool → Bool → Item
 item_with blocks ends_blank separated = record { blocks = blocks; ends_blank = ends_blank; separated = separated }
 
-abbrev is_list_of : Option OpenList → ListKind → Bool
+abbrev pub is_list_of : Option OpenList → ListKind → Bool
 is_list_of None kind = false
 is_list_of (Some list) kind = is_same_kind list.kind kind
 

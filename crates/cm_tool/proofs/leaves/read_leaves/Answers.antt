@@ -1,35 +1,54 @@
-use Rattle.std.proofs.Common.{◌≡◌, ◌∙◌, ap, subst, ℕ, List}
-use Rattle.std.proofs.lemmas.Result.{IfErr-weaker}
-use Rattle.std.specs.Prelude.{Result, Ok, Err, IfOk, OnOk, None}
-use Rattle.cm_text.specs.declared.limits.Limits.{Limits}
-use Rattle.cm_tree.specs.declared.tree.Block.{Block}
+use Rattle.std.proofs.Common.{◌≡◌, ◌∙◌, ◌++◌, refl, ap}
+use Rattle.std.proofs.lemmas.Result.{err_from_is_err_and}
+use Rattle.std.proofs.lemmas.Iterator.Consumers.{YieldsList-so_far, YieldsList-turn, YieldsList-end}
+use Rattle.cm_tree.specs.RawTrees.{all_blocks}
 use Rattle.cm_scan.specs.Brackets.{defined_in}
 use Rattle.cm_scan.specs.Documents.{with_inlines}
-use Rattle.cm_tool.specs.declared.fault.Fault.{Fault}
 use Rattle.cm_tool.specs.Leaves.{first_leaf_past, leaf_depths}
-use Rattle.cm_tree.specs.RawBlocks.{blocks_in}
-use Rattle.cm_tool.specs.steps.Numbering.{Passes, TellsLeaf}
-use Rattle.cm_tool.proofs.RawWalkLemmas.{none_past, first_told}
+use Rattle.cm_tool.proofs.RawWalkLemmas.{none_past}
+use Rattle.cm_tool.proofs.PartWalkLemmas.{parts-road, all-parts, read-more, passes-more, part-told}
 use Rattle.cm_tool.proofs.leaves.read_leaves.Goals as goal
 
-pub returns-clause-within : goal.returns-clause-within
-returns-clause-within c = go c.read_blocks.result c.read_blocks.ensures.read c.read_blocks.ensures.passes
-  where
-    limits : Limits
-    limits = c.args.limits
+pub loop-part-init : goal.loop-part-init
+loop-part-init c = record {
+  read = c.new-read.ensures;
+  leaves = λ more. refl;
+}
 
-    read : List Block
-    read = with_inlines limits.rules (defined_in c.args.definitions.now) (blocks_in c.into_parts-top.result.1 c.deref.result.now)
-
-    go : (r : Result (List Block) Fault) → IfOk r (λ made. made ≡ read) → OnOk r (Passes limits.inlines 1 c.read_blocks.new.next (leaf_depths read))
-        → IfOk r (λ made. first_leaf_past limits.inlines made ≡ None)
-    go (Ok made) is passes = ap (first_leaf_past limits.inlines) is ∙ none_past limits.inlines c.read_blocks.new.next (leaf_depths read) passes
-    go (Err fault) is passes = tt
-
-pub returns-clause-told : goal.returns-clause-told
-returns-clause-told c =
+pub loop-part-preserved : goal.loop-part-preserved
+loop-part-preserved c =
     let limits = c.args.limits in
-    let depths : List Block → List ℕ = λ blocks. leaf_depths (with_inlines limits.rules (defined_in c.args.definitions.now) blocks) in
-    let blocks_are = ap (blocks_in c.into_parts-top.result.1) c.deref.ensures.value ∙ c.into_parts-top.ensures.blocks in
-    IfErr-weaker c.read_blocks.result _ _
-    (λ fault told. first_told limits.inlines fault (depths c.args.blocks) (subst (λ blocks. TellsLeaf fault limits.inlines 1 (depths blocks)) blocks_are told)) c.read_blocks.ensures.told
+    let defined = defined_in c.args.definitions.now in
+    record {
+      read = read-more limits.rules defined c.loop-part.yielded c.in-Some.part c.read_part.new.read
+          (c.in_ok-read_part.ensures.read ∙ ap (λ read. read ++ with_inlines limits.rules defined c.in-Some.part) c.loop-part.invariant.read);
+      leaves = passes-more limits.rules defined limits.inlines c.loop-part.yielded c.in-Some.part c.loop-part.next c.read_part.new.next c.loop-part.invariant.leaves c.in_ok-read_part.ensures.passes;
+    }
+
+pub returns-in_err-read_part-clause-told : goal.returns-in_err-read_part-clause-told
+returns-in_err-read_part-clause-told c =
+    let p = err_from_is_err_and c.from_residual.result c.from_residual.ensures.1 in
+    let limits = c.args.limits in
+    let gives = c.into_iter-part-iterator.ensures.into_iter_gives in
+    let road = parts-road {s = c.into_iter-part-iterator.result} c.into_parts-part-items.result gives.0 gives.1 in
+    let first = YieldsList-so_far road c.loop-part.yielded c.loop-part.part-iterator c.loop-part.yielded_by in
+    let at = YieldsList-turn road c.loop-part.yielded c.loop-part.part-iterator c.loop-part.yielded_by c.next.result c.next.new.self c.in-Some.part c.in-Some.is c.next.ensures.steps in
+    rw (p.1, p.2) (part-told limits.rules (defined_in c.args.definitions.now) limits.inlines c.in_err-read_part.field-0.0 c.loop-part.yielded c.into_parts-part-items.result.items c.in-Some.part c.args.blocks c.loop-part.next
+    c.loop-part.invariant.leaves c.in_err-read_part.ensures.told first at c.into_parts-part-items.ensures)
+
+-- all parts were taken
+all-taken : (c : goal.After-drop-reader-12) → all_blocks c.loop-part.yielded ≡ c.args.blocks
+all-taken c =
+    let gives = c.into_iter-part-iterator.ensures.into_iter_gives in
+    let road = parts-road {s = c.into_iter-part-iterator.result} c.into_parts-part-items.result gives.0 gives.1 in
+    let end = YieldsList-end road c.loop-part.yielded c.loop-part.part-iterator c.loop-part.yielded_by c.next.result c.next.new.self c.in-None.is c.next.ensures.steps in
+    all-parts c.loop-part.yielded c.into_parts-part-items.result.items c.args.blocks end.0 c.into_parts-part-items.ensures
+
+pub returns-clause-read : goal.returns-clause-read
+returns-clause-read c = c.loop-part.invariant.read ∙ ap (λ blocks. with_inlines c.args.limits.rules (defined_in c.args.definitions.now) blocks) (all-taken c)
+
+pub returns-clause-within : goal.returns-clause-within
+returns-clause-within c =
+    let limits = c.args.limits in
+    ap (first_leaf_past limits.inlines) c.loop-part.invariant.read
+    ∙ none_past limits.inlines c.loop-part.next (leaf_depths (with_inlines limits.rules (defined_in c.args.definitions.now) (all_blocks c.loop-part.yielded))) c.loop-part.invariant.leaves

@@ -1,12 +1,33 @@
-use Rattle.std.proofs.Common.{ap}
+use Rattle.std.proofs.Common.{ap, ◌∙◌}
+use Rattle.std.proofs.lemmas.Result.{on_ok_weaker}
 use Rattle.cm_block.specs.Frames.{Row}
+use Rattle.cm_block.specs.Level.{block_opens}
 use Rattle.cm_block.proofs.LevelViewLemmas.{frames-placed-grow}
-use Rattle.cm_block.proofs.RowLemmas.{same-frames}
+use Rattle.cm_block.proofs.RowLemmas.{same-frames, inner-done}
+use Rattle.cm_block.proofs.FrontLemmas.{opens-behind}
 use Rattle.cm_block.proofs.stack.Stack.open_block.Goals as goal
 
 pub invariant_of-self : goal.invariant_of-self
-invariant_of-self c = (frames-placed-grow c.self.inside.raw c.open_block.new.raw c.self.inside.frames c.open_block.ensures.grows c.self.invariant.0, c.open_block.ensures.placed)
+invariant_of-self c =
+    (frames-placed-grow c.self.inside.raw c.open_block.new.raw c.self.inside.frames c.in_err-open_block.ensures.grows c.self.invariant.0, c.in_err-open_block.ensures.placed)
+
+pub returns-in_err-open_block-clause-frames : goal.returns-in_err-open_block-clause-frames
+returns-in_err-open_block-clause-frames c =
+    same-frames c.self.inside.parts c.self.inside.raw c.open_block.new.raw c.self.inside.frames c.self.inside.level c.in_err-open_block.ensures.grows c.self.invariant c.args.self.now.frames
+    (ap (λ (r : Row). r.frames) c.self.view_is)
+
+pub invariant_of-self-2 : goal.invariant_of-self-2
+invariant_of-self-2 c =
+    (frames-placed-grow c.self.inside.raw c.open_block.new.raw c.self.inside.frames c.in_ok-open_block.ensures.grows c.self.invariant.0, c.in_ok-open_block.ensures.placed)
+
+pub returns-clause-level : goal.returns-clause-level
+returns-clause-level c = on_ok_weaker c.finish_part.result (λ h.
+    ap (λ (r : Row). r.level) h
+    ∙ inner-done c.self.inside.parts c.self.inside.raw c.open_block.new.raw c.self.inside.frames c.self.inside.level c.in_ok-open_block.ensures.grows c.self.invariant c.open_block.new.self c.args.self.now.level block_opens
+    (opens-behind c.self.inside.parts) (ap (λ (r : Row). r.level) c.self.view_is) c.in_ok-open_block.ensures.level) c.finish_part.ensures.same
 
 pub returns-clause-frames : goal.returns-clause-frames
 returns-clause-frames c =
-    same-frames c.self.inside.raw c.open_block.new.raw c.self.inside.frames c.self.inside.level c.open_block.ensures.grows c.self.invariant c.args.self.now.frames (ap (λ (r : Row). r.frames) c.self.view_is)
+    c.finish_part.ensures.frames
+    ∙ same-frames c.self.inside.parts c.self.inside.raw c.open_block.new.raw c.self.inside.frames c.self.inside.level c.in_ok-open_block.ensures.grows c.self.invariant c.args.self.now.frames
+    (ap (λ (r : Row). r.frames) c.self.view_is)

@@ -1,9 +1,11 @@
-use Rattle.std.proofs.Common.{ap, ◌∙◌}
+use Rattle.std.proofs.Common.{ap, ap₂, ◌∙◌, ◌∷◌, ◌++◌, []}
 use Rattle.std.proofs.lemmas.Result.{on_ok_weaker}
 use Rattle.cm_block.specs.Level.{item_opens}
 use Rattle.cm_block.specs.Frames.{an_item, Row}
 use Rattle.cm_block.proofs.LevelViewLemmas.{frames-placed-grow}
-use Rattle.cm_block.proofs.RowLemmas.{frames-open}
+use Rattle.cm_block.proofs.RowLemmas.{frames-open, inner-done}
+use Rattle.cm_block.proofs.FrameStartLemmas.{frame}
+use Rattle.cm_block.proofs.FrontLemmas.{item-opens-behind}
 use Rattle.cm_block.proofs.stack.Stack.open_item.Goals as goal
 
 pub invariant_of-self : goal.invariant_of-self
@@ -16,5 +18,11 @@ invariant_of-self-2 c =
 
 pub returns-clause-frames : goal.returns-clause-frames
 returns-clause-frames c = on_ok_weaker c.open.result (λ h.
-    frames-open c.self.inside.raw c.open_item.new.raw c.self.inside.frames c.self.inside.level c.in_ok-open_item.ensures.grows c.self.invariant c.args.self.now.frames c.open.new.self.frames c.open_item.new.self _ (an_item c.args.kind c.args.column)
-    (ap (λ (r : Row). r.frames) c.self.view_is) (c.in_ok-open_item.ensures.level ∙ ap (λ (r : Row). item_opens r.level c.args.kind) c.self.view_is) h) c.open.ensures.frames
+    let inside = c.self.inside in
+    let before = c.begin_list.new.self in
+    let container = an_item c.args.kind c.args.column in
+    frames-open inside.parts inside.raw c.open_item.new.raw inside.frames inside.level c.in_ok-open_item.ensures.grows c.self.invariant before.frames c.open.new.self.frames _ _ container
+    (ap (λ (r : Row). r.frames) c.self.view_is)
+    (inner-done inside.parts inside.raw c.open_item.new.raw inside.frames inside.level c.in_ok-open_item.ensures.grows c.self.invariant c.open_item.new.self before.level (λ l. item_opens l c.args.kind)
+    (item-opens-behind inside.parts c.args.kind) (ap (λ (r : Row). r.level) c.self.view_is) c.in_ok-open_item.ensures.level) h
+    ∙ ap₂ (λ fs level. fs ++ frame level container ∷ []) c.begin_list.ensures.frames c.in_ok-begin_list.ensures.level) c.open.ensures.frames

@@ -1,9 +1,11 @@
-use Rattle.std.proofs.Common.{ap, ◌∙◌}
+use Rattle.std.proofs.Common.{ap, ◌∙◌, ◌∷◌, ◌++◌, []}
 use Rattle.std.proofs.lemmas.Result.{on_ok_weaker}
 use Rattle.cm_block.specs.Level.{block_opens}
 use Rattle.cm_block.specs.Frames.{a_quote, Row}
 use Rattle.cm_block.proofs.LevelViewLemmas.{frames-placed-grow}
-use Rattle.cm_block.proofs.RowLemmas.{frames-open}
+use Rattle.cm_block.proofs.RowLemmas.{frames-open, inner-done}
+use Rattle.cm_block.proofs.FrontLemmas.{opens-behind}
+use Rattle.cm_block.proofs.FrameStartLemmas.{frame}
 use Rattle.cm_block.proofs.stack.Stack.open_quote.Goals as goal
 
 pub invariant_of-self : goal.invariant_of-self
@@ -16,5 +18,7 @@ invariant_of-self-2 c =
 
 pub returns-clause-frames : goal.returns-clause-frames
 returns-clause-frames c = on_ok_weaker c.open.result (λ h.
-    frames-open c.self.inside.raw c.open_block.new.raw c.self.inside.frames c.self.inside.level c.in_ok-open_block.ensures.grows c.self.invariant c.args.self.now.frames c.open.new.self.frames c.open_block.new.self _ a_quote
-    (ap (λ (r : Row). r.frames) c.self.view_is) (c.in_ok-open_block.ensures.level ∙ ap (λ (r : Row). block_opens r.level) c.self.view_is) h) c.open.ensures.frames
+    frames-open c.self.inside.parts c.self.inside.raw c.open_block.new.raw c.self.inside.frames c.self.inside.level c.in_ok-open_block.ensures.grows c.self.invariant c.args.self.now.frames c.open.new.self.frames _ _ a_quote
+    (ap (λ (r : Row). r.frames) c.self.view_is) (inner-done c.self.inside.parts c.self.inside.raw c.open_block.new.raw c.self.inside.frames c.self.inside.level c.in_ok-open_block.ensures.grows c.self.invariant c.open_block.new.self c.args.self.now.level block_opens
+    (opens-behind c.self.inside.parts) (ap (λ (r : Row). r.level) c.self.view_is) c.in_ok-open_block.ensures.level)
+    (h ∙ ap (λ (r : Row). r.frames ++ frame r.level a_quote ∷ []) c.in_ok-finish_part.ensures.same)) c.open.ensures.frames

@@ -1,0 +1,14 @@
+use Rattle.std.proofs.Common.{◌∙◌, sym, ap}
+use Rattle.cm_text.specs.Views.{seen_view}
+use Rattle.cm_block.specs.Frames.{Row}
+use Rattle.cm_block.specs.steps.FrameSteps.{matching}
+use Rattle.cm_block.specs.steps.FrameViews.{frames_in}
+use Rattle.cm_block.proofs.FrontLemmas.{matching-behind}
+use Rattle.cm_block.proofs.stack.Stack.matching.Goals as goal
+
+pub returns-clause-line : goal.returns-clause-line
+returns-clause-line c =
+    c.matching.ensures.line c.self.inside.raw
+    ∙ ap (λ fs. matching c.args.rules c.self.inside.bare c.args.open_text (frames_in c.self.inside.raw fs) (seen_view c.args.line.now.rest)) c.as_slice.ensures
+    ∙ sym (matching-behind c.self.inside.parts c.args.rules c.self.inside.bare c.args.open_text (frames_in c.self.inside.raw c.self.inside.frames) (seen_view c.args.line.now.rest))
+    ∙ ap (λ (r : Row). matching c.args.rules r.bare c.args.open_text r.frames (seen_view c.args.line.now.rest)) c.self.view_is

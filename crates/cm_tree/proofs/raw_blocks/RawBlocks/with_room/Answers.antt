@@ -1,0 +1,5 @@
+use Rattle.cm_tree.proofs.RawLemmas.{nothing-made}
+use Rattle.cm_tree.proofs.raw_blocks.RawBlocks.with_room.Goals as goal
+
+pub returns-clause-blocks : goal.returns-clause-blocks
+returns-clause-blocks c = nothing-made _ c.new-2.result.items c.new.result.items c.new.ensures.items
