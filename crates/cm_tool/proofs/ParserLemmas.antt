@@ -6,7 +6,6 @@ use Rattle.std.specs.Option.{option_map, option_or}
 use Rattle.cm_text.specs.declared.fault.TextFault.{TextFault}
 use Rattle.cm_text.specs.declared.fault.TextFault.TheVariants as text
 use Rattle.cm_text.specs.Limits.{LimitsView}
-use Rattle.cm_text.specs.Rules.{Rules}
 use Rattle.cm_text.specs.Lines.{LineView, plain_line, last_line, plain_lines_of, text_of}
 use Rattle.cm_text.specs.Cut.{Cut, IsFront}
 use Rattle.cm_text.specs.Faults.{settled_fault, text_fault}
@@ -22,7 +21,7 @@ use Rattle.cm_block.specs.declared.fault.BlockFault.{BlockFault}
 use Rattle.cm_block.specs.declared.fault.BlockFault.TheVariants as blocks
 use Rattle.cm_block.specs.declared.parser.BlockParser.{BlockParser}
 use Rattle.cm_block.specs.declared.parser.Outline.{Outline}
-use Rattle.cm_block.specs.Parser.{OutlineOf, StandsFor as HasTaken, TellsDepth}
+use Rattle.cm_block.specs.Parser.{StandsFor as HasTaken, TellsDepth}
 use Rattle.cm_block.proofs.Depths.{too_deep_stays}
 use Rattle.cm_tool.specs.declared.fault.Fault.{Fault}
 use Rattle.cm_tool.specs.declared.fault.Fault.TheVariants.{BlocksTooDeep, InlinesTooDeep}
@@ -221,43 +220,28 @@ module _ (limits : LimitsView) where
       let all = subst (HasTaken after) end.whole taken in
       (fault_by_lines feed before bytes None g end.sound (none_deep after (plain_lines_of (text_of bytes)) (same ∙ g.same_limits) all), all)
 
-  -- An outline with its leaves read is the tree of the text. The limits are the parser's, as they are handed on.
-  tree_read : (now held : LimitsView) (outline : Outline) (bytes : List ℕ) → now ≡ limits → held ≡ limits → OutlineOf outline held.rules (plain_lines_of (text_of bytes))
-      → with_inlines now.rules (defined_in outline.definitions) outline.blocks ≡ tree_of limits.rules bytes
-  tree_read now held outline bytes same was is =
-      let o = subst (λ (l : LimitsView). OutlineOf outline l.rules (plain_lines_of (text_of bytes))) was is in
-      ap (λ (l : LimitsView). with_inlines l.rules (defined_in outline.definitions) outline.blocks) same
-      ∙ ap₂ (λ table blocks. with_inlines limits.rules (defined_in table) blocks) o.definitions o.blocks
+  -- An outline with its leaves read is the tree of the text.
+  module _ (outline : Outline) (bytes : List ℕ) (is : IsOutline limits bytes outline) where
+    abbrev read : List Block
+    read = with_inlines limits.rules (defined_in outline.definitions) outline.blocks
 
-  pub leaf_told : (fault : Fault) (now held : LimitsView) (outline : Outline) (bytes : List ℕ) → now ≡ limits → held ≡ limits
-      → OutlineOf outline held.rules (plain_lines_of (text_of bytes)) → fault_of limits bytes ≡ option_map InlinesTooDeep (leaf_deep limits bytes)
-      → TellsFault fault (option_map InlinesTooDeep (first_leaf_past now.inlines (with_inlines now.rules (defined_in outline.definitions) outline.blocks)))
-      → TellsFault fault (fault_of limits bytes)
-  leaf_told fault now held outline bytes same was is left told =
-      subst (TellsFault fault)
-      (ap₂ (λ (l : LimitsView) tree. option_map InlinesTooDeep (first_leaf_past l.inlines tree)) same (tree_read now held outline bytes same was is) ∙ sym left) told
+    tree_read : read ≡ tree_of limits.rules bytes
+    tree_read = ap₂ (λ table blocks. with_inlines limits.rules (defined_in table) blocks) is.same.definitions is.same.blocks
 
-  pub all_read : (now held : LimitsView) (outline : Outline) (read : List Block) (owners : List Owner) (bytes : List ℕ) → now ≡ limits → held ≡ limits
-      → OutlineOf outline held.rules (plain_lines_of (text_of bytes)) → fault_of limits bytes ≡ option_map InlinesTooDeep (leaf_deep limits bytes)
-      → read ≡ with_inlines now.rules (defined_in outline.definitions) outline.blocks → first_leaf_past now.inlines read ≡ None
-      → owners ≡ outline.owners → (fault_of limits bytes ≡ None) × (doc_with read owners ≡ doc_of limits.rules bytes)
-  all_read now held outline read owners bytes same was is left read_is within owners_are =
-      let tree = read_is ∙ tree_read now held outline bytes same was is in
-      let none = sym (ap₂ (λ (l : LimitsView) t. first_leaf_past l.inlines t) same tree) ∙ within in
-      let o = subst (λ (l : LimitsView). OutlineOf outline l.rules (plain_lines_of (text_of bytes))) was is in
-      (left ∙ ap (option_map InlinesTooDeep) none, ap₂ doc_with tree (owners_are ∙ o.owners))
+    whole : first_leaf_past limits.inlines read ≡ None → fault_of limits bytes ≡ None
+    whole within = is.left ∙ ap (option_map InlinesTooDeep) (sym (ap (first_leaf_past limits.inlines) tree_read) ∙ within)
 
-  -- What is made of the tree that an outline's blocks are with their leaves read, is made of the tree of the text.
-  pub tree_made : {A : Type 0} (Made : Rules → List Block → A → Type 0) (now : LimitsView) (outline : Outline) (r : Result A Fault) (bytes : List ℕ) → now ≡ limits
-      → IsOutline limits bytes outline
-      → IfOk r (Made now.rules (with_inlines now.rules (defined_in outline.definitions) outline.blocks))
-      → IfOk r (λ _. first_leaf_past now.inlines (with_inlines now.rules (defined_in outline.definitions) outline.blocks) ≡ None)
-      → IfErr r (λ fault. TellsFault fault (option_map InlinesTooDeep (first_leaf_past now.inlines (with_inlines now.rules (defined_in outline.definitions) outline.blocks))))
-      → Makes (Made limits.rules (tree_of limits.rules bytes)) r limits bytes
-  tree_made Made now outline (Ok made) bytes same is done within told =
-      let read = with_inlines now.rules (defined_in outline.definitions) outline.blocks in
-      let tree = tree_read now limits outline bytes same refl is.same in
-      let none = sym (ap₂ (λ (l : LimitsView) t. first_leaf_past l.inlines t) same tree) ∙ within in
-      (is.left ∙ ap (option_map InlinesTooDeep) none, subst (λ t. Made limits.rules t made) tree (subst (λ (l : LimitsView). Made l.rules read made) same done))
-  tree_made Made now outline (Err fault) bytes same is done within told =
-      leaf_told fault now limits outline bytes same refl is.same is.left told
+    -- a leaf is too deep
+    pub leaf_told : (fault : Fault) → TellsFault fault (option_map InlinesTooDeep (first_leaf_past limits.inlines read)) → TellsFault fault (fault_of limits bytes)
+    leaf_told fault told = subst (TellsFault fault) (ap (λ tree. option_map InlinesTooDeep (first_leaf_past limits.inlines tree)) tree_read ∙ sym is.left) told
+
+    pub all_read : (blocks : List Block) (owners : List Owner) → blocks ≡ read → first_leaf_past limits.inlines blocks ≡ None → owners ≡ outline.owners
+        → (fault_of limits bytes ≡ None) × (doc_with blocks owners ≡ doc_of limits.rules bytes)
+    all_read blocks owners same within owners_are =
+        (whole (ap (first_leaf_past limits.inlines) (sym same) ∙ within), ap₂ doc_with (same ∙ tree_read) (owners_are ∙ is.same.owners))
+
+    -- what is made of the tree
+    pub tree_made : {A : Type 0} (Made : List Block → A → Type 0) (r : Result A Fault) → IfOk r (Made read) → IfOk r (λ _. first_leaf_past limits.inlines read ≡ None)
+        → IfErr r (λ fault. TellsFault fault (option_map InlinesTooDeep (first_leaf_past limits.inlines read))) → Makes (Made (tree_of limits.rules bytes)) r limits bytes
+    tree_made Made (Ok made) done within told = (whole within, subst (λ t. Made t made) tree_read done)
+    tree_made Made (Err fault) done within told = leaf_told fault told

@@ -1,16 +1,16 @@
 -- A reading, piece by piece.
 use Rattle.std.proofs.Common.{◌≡◌, ℕ, ◌+◌, List, [], ◌++◌, take, refl, sym, ap, subst, ◌∙◌, append_assoc, append-nil, Some, None, inl, inr}
-use Rattle.std.specs.Prelude.{Option, Result, Ok, Err}
+use Rattle.std.specs.Prelude.{Option, Result, Ok, Err, IfOk, IfErr}
 use Rattle.std.specs.Io.KnownBytes.{Consumes, Keeps, IsAtEnd}
 use Rattle.cm_text.specs.Limits.{LimitsView}
 use Rattle.cm_tree.specs.declared.tree.Doc.{Doc}
 use Rattle.cm_tool.specs.declared.fault.Fault.{Fault}
 use Rattle.cm_tool.specs.declared.fault.Fault.TheVariants.{NotUtf8, TooLong, BlocksTooDeep, InlinesTooDeep, NoMemory, ReadFailed, WriteFailed, Unspellable, BadExampleFile, ExampleDiffers}
 use Rattle.cm_tool.specs.Faults.{fault_of, settled_fault_of}
-use Rattle.cm_tool.specs.Parsing.{ParserView, TellsFault, Finishes, Makes}
-use Rattle.cm_tool.specs.Reading.{SourceView, HasFailed, RefusesBy, Reads}
-use Rattle.cm_tool.specs.steps.Ends.{ReadsAs, TakesIn}
-use Rattle.cm_tool.proofs.ParserLemmas.{nothing_settled}
+use Rattle.cm_block.specs.declared.parser.Outline.{Outline}
+use Rattle.cm_tool.specs.Parsing.{ParserView, StandsFor, TellsFault, Finishes}
+use Rattle.cm_tool.specs.Reading.{SourceView, HasFailed, RefusesBy, Refuses, Reads, ReadWhole}
+use Rattle.cm_tool.specs.steps.Ends.{IsOutline, ReadsOutline}
 
 -- these bytes have been read so far, and no read has failed
 pub record SoFar (source now : SourceView) (read : List ℕ) : Type 0 where
@@ -57,22 +57,28 @@ end_told settled whole (Unspellable why) source later same at_end sound h = absu
 end_told settled whole (BadExampleFile line) source later same at_end sound h = absurd h
 end_told settled whole (ExampleDiffers number) source later same at_end sound h = absurd h
 
--- all bytes have been given to the parser
-module _ (limits : LimitsView) (parser : ParserView) (source later : SourceView) (read : List ℕ) (taken : TakesIn (Ok parser) limits read source later) where
-  refused_at_end : (fault : Fault) → TellsFault fault (fault_of limits read)
-      → RefusesBy (settled_fault_of limits read) (fault_of limits read) fault source later
-  refused_at_end fault told =
-      end_told (settled_fault_of limits read) (fault_of limits read) fault source later taken.0 taken.1
-      (nothing_settled limits parser.feed parser.blocks read taken.2.goes) told
+-- a parser that has been given all the bytes answers their outline
+pub outline_read : (limits : LimitsView) (source later : SourceView) (read : List ℕ) (parser : ParserView)
+    → (later.failed ≡ source.failed) × IsAtEnd later.remaining × StandsFor limits parser read × (settled_fault_of limits read ≡ None) → (r : Result Outline Fault)
+    → IfOk r (λ outline. (limits : LimitsView) (bytes : List ℕ) → StandsFor limits parser bytes → IsOutline limits bytes outline)
+    → IfErr r (λ fault. (limits : LimitsView) (bytes : List ℕ) → StandsFor limits parser bytes → TellsFault fault (fault_of limits bytes))
+    → ReadsOutline r limits read source later
+outline_read limits source later read parser taken (Ok outline) made told = (taken.0, taken.1, made limits read taken.2)
+outline_read limits source later read parser taken (Err fault) made told =
+    end_told (settled_fault_of limits read) (fault_of limits read) fault source later taken.0 taken.1 taken.3 (told limits read taken.2)
 
-  -- what is made of them
-  pub made_read : {A : Type 0} (Made : A → Type 0) (r : Result A Fault) → Makes Made r limits read → ReadsAs Made r limits read source later
-  made_read Made (Ok made) h = (record { same = taken.0; at_end = taken.1; sound = h.0 }, h.1)
-  made_read Made (Err fault) h = refused_at_end fault h
+-- The outline of all the bytes is there.
+module _ (limits : LimitsView) (outline : Outline) (source later : SourceView) (read : List ℕ) (whole : ReadsOutline (Ok outline) limits read source later) where
+  -- what is made of it, or why it isn't
+  pub refused_at_end : (fault : Fault) → TellsFault fault (fault_of limits read) → Refuses fault limits read source later
+  refused_at_end fault told = end_told (settled_fault_of limits read) (fault_of limits read) fault source later whole.0 whole.1 whole.2.sound told
+
+  pub read_whole : fault_of limits read ≡ None → ReadWhole limits read source later
+  read_whole sound = record { same = whole.0; at_end = whole.1; sound = sound }
 
   -- their document
   pub doc_read : (r : Result Doc Fault) → Finishes r limits read → Reads r limits read source later
-  doc_read (Ok doc) h = (record { same = taken.0; at_end = taken.1; sound = h.0 }, h.1)
+  doc_read (Ok doc) h = (read_whole h.0, h.1)
   doc_read (Err fault) h = refused_at_end fault h
 
 -- what was read settles a fault
@@ -109,13 +115,13 @@ last_read source now later read buffer n so_far none consumed =
     let Q : List ℕ → Type 0 = λ t. Consumes source.remaining later t in
     subst Q (append-nil read) (more_read source now later read [] so_far (subst P none consumed))
 
--- a read that failed
-pub read_lost : (settled : List ℕ → Option Fault) (source now later : SourceView) (read : List ℕ) → SoFar source now read
-    → Keeps now.remaining later.remaining → later.failed ≡ now.failed + 1 → settled read ≡ None
-    → (bytes : List ℕ) × Consumes source.remaining later.remaining bytes × HasFailed (settled bytes) source later
-read_lost settled source now later read so_far keeps failed sound =
-    let P : List ℕ → Type 0 = λ t. Consumes source.remaining later.remaining t in (
-      read,
-      subst P (append-nil read) (consumes-append source.remaining now.remaining later.remaining read [] so_far.next (consumes-keeps now.remaining later.remaining keeps)),
-      record { failed = failed ∙ ap (λ n. n + 1) so_far.failed; sound = sound },
-    )
+-- a read that failed gave no bytes
+pub nothing_more : (source now : SourceView) (later : Option (List ℕ)) (read : List ℕ) → SoFar source now read → Keeps now.remaining later
+    → Consumes source.remaining later read
+nothing_more source now later read so_far keeps =
+    let Q : List ℕ → Type 0 = λ t. Consumes source.remaining later t in
+    subst Q (append-nil read) (more_read source now later read [] so_far (consumes-keeps now.remaining later keeps))
+
+pub failed_so_far : (settled : Option Fault) (source now later : SourceView) (read : List ℕ) → SoFar source now read → later.failed ≡ now.failed + 1
+    → settled ≡ None → HasFailed settled source later
+failed_so_far settled source now later read so_far failed sound = record { failed = failed ∙ ap (λ n. n + 1) so_far.failed; sound = sound }

@@ -1,12 +1,13 @@
 -- Reading a source as a text.
-use Rattle.std.proofs.Common.{◌≡◌, ◌∙◌, ◌≤◌, ℕ, Bool, true, false, cond, List, length, take, IsUtf8, Some, None, refl, ap, subst, arith, nat_lt, is_some, take_all, length-take}
+use Rattle.std.proofs.Common.{◌≡◌, ◌≢◌, ◌∙◌, ◌≤◌, ℕ, Bool, true, false, cond, List, length, take, IsUtf8, Some, None, refl, sym, ap, subst, arith, nat_lt, is_some, take_all, length-take}
 use Rattle.std.specs.Prelude.{Option, Err, option_map}
 use Rattle.cm_text.specs.declared.fault.TextFault.{TextFault}
 use Rattle.cm_text.specs.declared.fault.TextFault.TheVariants as text
 use Rattle.cm_text.specs.Faults.{text_fault, valid_len, settled_fault}
-use Rattle.cm_text.specs.Feed.{Answers as FeedAnswers}
+use Rattle.cm_text.specs.Feed.{Feed, Goes, StandsFor as FeedStandsFor, Answers as FeedAnswers}
 use Rattle.std.proofs.lemmas.Bool.{ltb-false}
 use Rattle.std.proofs.lemmas.Str.{utf8_valid_len_le}
+use Rattle.cm_text.proofs.FeedLemmas.{goes_on}
 use Rattle.cm_text.proofs.Utf8Lemmas.{valid_front-IsUtf8}
 use Rattle.cm_tool.specs.Fault.{told}
 use Rattle.cm_tool.specs.Parsing.{TellsFault}
@@ -31,3 +32,17 @@ sound_is_utf8 limit bytes sound =
     not_short (Some other) short fault is = cc
     not_short None true fault is = cc
     not_short None false fault is = refl
+
+-- a feed that has no fault had none
+pub had_none : (old new : Feed) → (old.fault ≢ None → new ≡ old) → new.fault ≡ None → old.fault ≡ None
+had_none old new failed sound = go old.fault refl
+  where
+    go : (fault : Option TextFault) → old.fault ≡ fault → old.fault ≡ None
+    go None is = is
+    go (Some fault) is =
+        let stays = failed (λ none. let both : None ≡ Some fault = sym none ∙ is in cc) in
+        ap (λ (f : Feed). f.fault) (sym stays) ∙ sound
+
+-- a feed that stands for bytes and has no fault goes on
+pub feed_goes : (feed : Feed) (bytes : List ℕ) → feed.ended ≡ false → (feed.fault ≡ None → Goes feed bytes 0) → feed.fault ≡ None → FeedStandsFor feed bytes 0
+feed_goes feed bytes going goes sound = goes_on feed bytes 0 sound going (goes sound)

@@ -5,3 +5,4 @@ pub mod Items
 pub mod Ends
 pub mod ExampleSteps
 pub mod Sources
+pub mod Texts

@@ -4,7 +4,8 @@ ghost use Rattle.std.specs.Io.KnownBytes.{Consumes};
 ghost use Rattle.cm_tool.specs.Writing.{Converts};
 
 use crate::fault::Fault;
-use crate::reading::read_html;
+use crate::outlines::html_of_outline;
+use crate::reading::outline_of;
 use cm_text::{Limits, Sink, Source};
 use std::alloc::Global;
 
@@ -28,6 +29,7 @@ pub fn convert<R: Source, W: Sink>(
         (record { taken = W.taken sink.old; failed = W.failed sink.old })
         (record { taken = W.taken sink.new; failed = W.failed sink.new }) }
 {
-    let html = read_html(alloc, source, limits)?;
+    let outline = outline_of(alloc, source, limits)?;
+    let html = html_of_outline(alloc, limits, outline)?;
     Ok(html.write(sink)?)
 }

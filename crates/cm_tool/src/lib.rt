@@ -38,12 +38,14 @@ pub mod laws;
 mod leaves;
 mod listing;
 mod outline_html;
+mod outlines;
 mod parser;
 mod reading;
 mod reporting;
 mod rewriting;
 mod running;
 mod sources;
+mod taking_in;
 mod texts;
 
 pub use cm_command::{Job, Stop, Task, task};

@@ -1,5 +1,5 @@
 //! A document that comes in pieces.
-ghost use Rattle.std.specs.Prelude.{◌≡◌, ◌≢◌, ℕ, ◌+◌, ◌≤◌, List, [], ◌++◌, length, IfOk, IfErr, OnOk, Some, None, Err, false};
+ghost use Rattle.std.specs.Prelude.{◌≡◌, ◌≢◌, ℕ, ◌+◌, ◌-◌, ◌≤◌, List, [], ◌++◌, length, IfOk, IfErr, OnOk, Some, None, Err, false};
 ghost use Rattle.cm_text.specs.Answers.{answer_after};
 ghost use Rattle.cm_text.specs.Limits.{LimitsView};
 ghost use Rattle.cm_text.specs.Lines.{LineView};
@@ -9,19 +9,15 @@ ghost use Rattle.cm_block.specs.Parser.{StandsFor as HasTaken, TellsDepth};
 ghost use Rattle.cm_tool.specs.declared.fault.Fault as faults;
 ghost use Rattle.cm_tool.specs.Faults.{fault_of, settled_fault_of};
 ghost use Rattle.cm_tool.specs.Parsing.{Goes, StandsFor, Answers, Finishes, TellsFault, Makes};
-ghost use Rattle.cm_tool.specs.Rewriting.{kept_tree};
 ghost use Rattle.cm_tool.specs.Writing.{converted};
 ghost use Rattle.cm_tool.specs.steps.Ends.{IsOutline};
 ghost use Rattle.cm_tool.specs.steps.Pushing.{Pushes, Counts};
-ghost use Rattle.cm_tool.specs.steps.Sources.{Spelled};
 
 use crate::fault::Fault;
-use crate::leaves::read_leaves;
-use crate::outline_html::leaves_html;
-use crate::sources::leaves_source;
+use crate::outlines::{doc_of_outline, html_of_outline};
+use crate::taking_in::TakesBytes;
 use cm_block::{BlockFault, BlockParser, Outline};
 use cm_html::Pages;
-use cm_source::Why;
 use cm_text::{Limits, LineBuffer, TextFault};
 use cm_tree::Doc;
 use std::alloc::Global;
@@ -99,6 +95,26 @@ impl Parser {
         result
     }
 
+    /// The outline of the document, where the bytes so far are all.
+    pub(crate) fn outline(self) -> Result<Outline, Fault>
+        ensures outline { IfOk result (λ outline. (limits : LimitsView) (bytes : List ℕ) → StandsFor limits self bytes →
+            IsOutline limits bytes outline) }
+        ensures told { IfErr result (λ fault. (limits : LimitsView) (bytes : List ℕ) → StandsFor limits self bytes →
+            TellsFault fault (fault_of limits bytes)) }
+        ensures failed { (fault : faults.Fault) → self.fault ≡ Some fault → result ≡ Err fault }
+    {
+        let Parser {
+            feed,
+            blocks,
+            fault,
+            ..
+        } = self;
+        match fault {
+            Some(fault) => Err(fault),
+            None => outline(feed, blocks),
+        }
+    }
+
     /// The HTML of the document in pages, where the bytes so far are all. No tree is made.
     ///
     /// # Errors
@@ -108,33 +124,8 @@ impl Parser {
         ensures { (limits : LimitsView) (bytes : List ℕ) → StandsFor limits self bytes →
             Makes (λ pages. pages ≡ converted limits.rules bytes) result limits bytes }
     {
-        let Parser {
-            alloc,
-            feed,
-            blocks,
-            fault,
-        } = self;
-        match fault {
-            Some(fault) => Err(fault),
-            None => finish_html(alloc, feed, blocks),
-        }
-    }
-
-    /// The plain source of the document without its definitions, where the bytes so far are all; or why it can't be spelled.
-    pub(crate) fn finish_source(self) -> Result<Result<String, Why>, Fault>
-        ensures { (limits : LimitsView) (bytes : List ℕ) → StandsFor limits self bytes →
-            Makes (Spelled limits.rules (kept_tree limits.rules bytes)) result limits bytes }
-    {
-        let Parser {
-            alloc,
-            feed,
-            blocks,
-            fault,
-        } = self;
-        match fault {
-            Some(fault) => Err(fault),
-            None => finish_source(alloc, feed, blocks),
-        }
+        let (alloc, limits) = (self.alloc, self.blocks.limits());
+        html_of_outline(alloc, limits, self.outline()?)
     }
 
     /// The document, where the bytes so far are all.
@@ -143,16 +134,20 @@ impl Parser {
             Finishes result limits bytes }
         ensures failed { (fault : faults.Fault) → self.fault ≡ Some fault → result ≡ Err fault }
     {
-        let Parser {
-            alloc,
-            feed,
-            blocks,
-            fault,
-        } = self;
-        match fault {
-            Some(fault) => Err(fault),
-            None => finish(alloc, feed, blocks),
-        }
+        let (alloc, limits) = (self.alloc, self.blocks.limits());
+        doc_of_outline(alloc, limits, self.outline()?)
+    }
+}
+
+impl TakesBytes for Parser {
+    ghost stands = { λ limits parser bytes. StandsFor limits parser bytes };
+
+    ghost settled = { settled_fault_of };
+
+    ghost left = { λ parser. parser.feed.limit - count parser.feed };
+
+    fn take(&mut self, piece: &[u8]) -> Result<(), Fault> {
+        self.feed(piece)
     }
 }
 
@@ -198,58 +193,6 @@ fn outline(mut feed: LineBuffer, mut blocks: BlockParser) -> Result<Outline, Fau
     hand_over(&mut feed, &mut blocks)?;
     let outline = blocks.finish()?;
     Ok(outline)
-}
-
-/// The document of the bytes.
-fn finish(alloc: Global, feed: LineBuffer, blocks: BlockParser) -> Result<Doc, Fault>
-    requires { feed.ended ≡ false }
-    ensures { (limits : LimitsView) (bytes : List ℕ) → Goes limits feed blocks bytes →
-        Finishes result limits bytes }
-{
-    let limits = blocks.limits();
-    let Outline {
-        blocks,
-        owners,
-        definitions,
-        ..
-    } = outline(feed, blocks)?;
-    let blocks = read_leaves(alloc, limits, &definitions, blocks)?;
-    let owners = owners.to_items(alloc)?;
-    Ok(Doc { blocks, owners })
-}
-
-/// The HTML of the bytes' document in pages.
-fn finish_html(alloc: Global, feed: LineBuffer, blocks: BlockParser) -> Result<Pages, Fault>
-    requires { feed.ended ≡ false }
-    ensures { (limits : LimitsView) (bytes : List ℕ) → Goes limits feed blocks bytes →
-        Makes (λ pages. pages ≡ converted limits.rules bytes) result limits bytes }
-{
-    let limits = blocks.limits();
-    let Outline {
-        blocks,
-        definitions,
-        ..
-    } = outline(feed, blocks)?;
-    leaves_html(alloc, limits, &definitions, blocks)
-}
-
-/// The plain source of the bytes' document without its definitions, or why it can't be spelled.
-fn finish_source(
-    alloc: Global,
-    feed: LineBuffer,
-    blocks: BlockParser,
-) -> Result<Result<String, Why>, Fault>
-    requires { feed.ended ≡ false }
-    ensures { (limits : LimitsView) (bytes : List ℕ) → Goes limits feed blocks bytes →
-        Makes (Spelled limits.rules (kept_tree limits.rules bytes)) result limits bytes }
-{
-    let limits = blocks.limits();
-    let Outline {
-        blocks,
-        definitions,
-        ..
-    } = outline(feed, blocks)?;
-    leaves_source(alloc, limits, &definitions, blocks)
 }
 
 /// Lends the lines that have ended to the blocks, one after another.

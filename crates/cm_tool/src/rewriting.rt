@@ -4,7 +4,8 @@ ghost use Rattle.std.specs.Io.KnownBytes.{Consumes};
 ghost use Rattle.cm_tool.specs.Rewriting.{Rewrites};
 
 use crate::fault::Fault;
-use crate::reading::read_source;
+use crate::outlines::source_of_outline;
+use crate::reading::outline_of;
 use cm_text::{Limits, Sink, Source, write_all};
 use std::alloc::Global;
 
@@ -29,7 +30,8 @@ pub fn rewrite<R: Source, W: Sink>(
         (record { taken = W.taken sink.old; failed = W.failed sink.old })
         (record { taken = W.taken sink.new; failed = W.failed sink.new }) }
 {
-    let text = read_source(alloc, source, limits)??;
+    let outline = outline_of(alloc, source, limits)?;
+    let text = source_of_outline(alloc, limits, outline)??;
     write_all(sink, text.as_bytes())?;
     Ok(text.len())
 }

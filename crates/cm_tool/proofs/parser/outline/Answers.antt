@@ -3,7 +3,7 @@ use Rattle.std.proofs.lemmas.Result.{err_from_is_err_and}
 use Rattle.cm_text.specs.Limits.{LimitsView}
 use Rattle.cm_text.specs.Lines.{plain_lines_of, text_of}
 use Rattle.cm_block.specs.Parser.{OutlineOf}
-use Rattle.cm_tool.proofs.ParserLemmas.{no_fault, stands, end_told, has_ended, last_line_told, whole_taken, count_of, ended_of}
+use Rattle.cm_tool.proofs.ParserLemmas.{nothing_settled, no_fault, stands, end_told, has_ended, last_line_told, whole_taken, count_of, ended_of}
 use Rattle.cm_tool.proofs.parser.outline.Goals as goal
 
 pub returns-in_err-end-clause-told : goal.returns-in_err-end-clause-told
@@ -29,5 +29,6 @@ returns-clause-outline c = λ limits bytes g.
     record {
       same = subst (λ (l : LimitsView). OutlineOf c.in_ok-outline.outline l.rules (plain_lines_of (text_of bytes))) (c.in_ok-hand_over.ensures.limits ∙ g.same_limits)
           (c.in_ok-outline.ensures.outline _ both.1);
+      sound = nothing_settled limits c.args.feed c.args.blocks bytes g;
       left = both.0;
     }

@@ -3,5 +3,5 @@ use Rattle.cm_tool.proofs.reading.read.Goals as goal
 
 pub returns : goal.returns
 returns g c =
-    let taken = c.in_ok-parser.ensures in
-    (taken.0, taken.1, doc_read c.args.limits c.in_ok-parser.parser _ _ taken.0 taken.2 c.finish.result (c.finish.ensures.finishes c.args.limits taken.0 taken.2.2))
+    let read = c.in_ok-outline.ensures in
+    (read.0, read.1, doc_read c.args.limits c.in_ok-outline.outline _ _ read.0 read.2 c.doc_of_outline.result (c.doc_of_outline.ensures read.0 read.2.2))

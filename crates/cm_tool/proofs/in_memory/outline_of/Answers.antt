@@ -1,7 +1,7 @@
 use Rattle.std.proofs.Common.{[]}
 use Rattle.std.proofs.lemmas.Result.{err_from_is_err_and}
 use Rattle.cm_tool.proofs.SettledLemmas.{tells_whole}
-use Rattle.cm_tool.proofs.in_memory.parser_of.Goals as goal
+use Rattle.cm_tool.proofs.in_memory.outline_of.Goals as goal
 
 pub returns-in_err-feed-clause-told : goal.returns-in_err-feed-clause-told
 returns-in_err-feed-clause-told c =

@@ -1,7 +1,0 @@
-use Rattle.cm_tool.proofs.ReadLemmas.{made_read}
-use Rattle.cm_tool.proofs.reading.read_html.Goals as goal
-
-pub returns : goal.returns
-returns g c =
-    let taken = c.in_ok-parser.ensures in
-    (taken.0, taken.1, made_read c.args.limits c.in_ok-parser.parser _ _ taken.0 taken.2 _ c.finish_html.result (c.finish_html.ensures c.args.limits taken.0 taken.2.2))

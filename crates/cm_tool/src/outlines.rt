@@ -1,0 +1,67 @@
+//! What is made of an outline: the document, its HTML, or its plain source.
+ghost use Rattle.std.specs.Prelude.{◌≡◌, ℕ, List};
+ghost use Rattle.cm_tool.specs.Parsing.{Finishes, Makes};
+ghost use Rattle.cm_tool.specs.Rewriting.{kept_tree};
+ghost use Rattle.cm_tool.specs.Writing.{converted};
+ghost use Rattle.cm_tool.specs.steps.Ends.{IsOutline};
+ghost use Rattle.cm_tool.specs.steps.Sources.{Spelled};
+
+use crate::fault::Fault;
+use crate::leaves::read_leaves;
+use crate::outline_html::leaves_html;
+use crate::sources::leaves_source;
+use cm_block::Outline;
+use cm_html::Pages;
+use cm_source::Why;
+use cm_text::Limits;
+use cm_tree::Doc;
+use std::alloc::Global;
+
+/// The document of an outline.
+pub(crate) fn doc_of_outline(alloc: Global, limits: Limits, outline: Outline) -> Result<Doc, Fault>
+    ensures { (bytes : List ℕ) → IsOutline limits bytes outline → Finishes result limits bytes }
+{
+    let Outline {
+        blocks,
+        owners,
+        definitions,
+        ..
+    } = outline;
+    let blocks = read_leaves(alloc, limits, &definitions, blocks)?;
+    let owners = owners.to_items(alloc)?;
+    Ok(Doc { blocks, owners })
+}
+
+/// The HTML of an outline's document in pages.
+pub(crate) fn html_of_outline(
+    alloc: Global,
+    limits: Limits,
+    outline: Outline,
+) -> Result<Pages, Fault>
+    ensures { (bytes : List ℕ) → IsOutline limits bytes outline →
+        Makes (λ pages. pages ≡ converted limits.rules bytes) result limits bytes }
+{
+    let Outline {
+        blocks,
+        definitions,
+        ..
+    } = outline;
+    leaves_html(alloc, limits, &definitions, blocks)
+}
+
+/// The plain source of an outline's document without its definitions, or why it can't be spelled.
+pub(crate) fn source_of_outline(
+    alloc: Global,
+    limits: Limits,
+    outline: Outline,
+) -> Result<Result<String, Why>, Fault>
+    ensures { (bytes : List ℕ) → IsOutline limits bytes outline →
+        Makes (Spelled limits.rules (kept_tree limits.rules bytes)) result limits bytes }
+{
+    let Outline {
+        blocks,
+        definitions,
+        ..
+    } = outline;
+    leaves_source(alloc, limits, &definitions, blocks)
+}
