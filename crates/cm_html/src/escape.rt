@@ -26,7 +26,19 @@ fn push_reference(out: &mut String, b: u8) -> Result<(), AllocError>
 /// # Errors
 ///
 /// `AllocError` where a request for memory was refused; a beginning may stand behind the string then.
+#[inline(always)]
 pub(crate) fn push_escaped(out: &mut String, text: &str) -> Result<(), AllocError>
+    ensures { OnOk result (string_bytes out.new ≡ string_bytes out.old ++ escape text.now) }
+{
+    match find_escaped(text.as_bytes()) {
+        Some(_) => push_with_references(out, text),
+        None => out.push_str(text),
+    }
+}
+
+/// The same of a text that has such bytes. It is a call of its own, since few texts have them.
+#[inline(never)]
+fn push_with_references(out: &mut String, text: &str) -> Result<(), AllocError>
     ensures { OnOk result (string_bytes out.new ≡ string_bytes out.old ++ escape text.now) }
 {
     let mut rest = text;

@@ -1,5 +1,5 @@
 //! What a line begins: a quote, an item, or a leaf block (CommonMark 0.31.2, chapters 4 and 5).
-ghost use Rattle.std.specs.Prelude.{◌≡◌, ◌==◌, ◌&&◌};
+ghost use Rattle.std.specs.Prelude.{◌≡◌, ◌==◌, ◌&&◌, false};
 ghost use Rattle.cm_text.specs.Views.{seen_view};
 ghost use Rattle.cm_scan.specs.HtmlBlocks.{is_at_letter};
 ghost use Rattle.cm_scan.specs.Lines.{content_of};
@@ -139,7 +139,21 @@ fn start_of_content(rules: Rules, text: &str) -> Start<'_>
     }
 }
 
-/// What a line begins: four columns of indentation make code, and a lazy continuation line is text.
+/// What a line that isn't lazy begins: four columns of indentation make code.
+#[inline(never)]
+fn start_behind_indentation<'a>(rules: Rules, line: &View<'a>) -> Start<'a>
+    requires { line.now.lazy ≡ false }
+    ensures { seen result ≡ start_of rules (seen_view line.now) }
+{
+    let indent = line.indent();
+    if indent >= 4 {
+        return Start::IndentedCode;
+    }
+    start_of_content(rules, line.strip(indent).rest)
+}
+
+/// What a line begins. A lazy continuation line is text, and so is one that begins with a letter, as most do.
+#[inline(always)]
 pub(crate) fn start_of<'a>(rules: Rules, line: &View<'a>) -> Start<'a>
     ensures { seen result ≡ start_of rules (seen_view line.now) }
 {
@@ -149,9 +163,5 @@ pub(crate) fn start_of<'a>(rules: Rules, line: &View<'a>) -> Start<'a>
     if begins_with_letter(line) {
         return Start::TextLine;
     }
-    let indent = line.indent();
-    if indent >= 4 {
-        return Start::IndentedCode;
-    }
-    start_of_content(rules, line.strip(indent).rest)
+    start_behind_indentation(rules, line)
 }
