@@ -253,7 +253,7 @@ fn is_block_tag_start(rules: Rules, behind: &[u8]) -> bool
     let Some(tag) = tag_name(name_of_tag(behind)) else {
         return false;
     };
-    is_block_name(rules, tag.name) && is_at_tag_end(tag.rest)
+    is_at_tag_end(tag.rest) && is_block_name(rules, tag.name)
 }
 
 /// Start condition 7, behind the `<`.

@@ -253,6 +253,7 @@ fn plain_end(text: &[u8], from: usize, most: usize) -> usize
     requires { from ≤ length text.now }
     ensures within { (from ≤ result) × (result ≤ length text.now) × (result ≤ from + most) }
     ensures plain { (k : ℕ) → from ≤ k → k < result → is_plain (slice_index text.now k) ≡ true }
+    ensures next { result < length text.now → result < from + most → is_plain (slice_index text.now result) ≡ false }
 {
     let end = text.len().min(from.saturating_add(most));
     let mut at = from;
