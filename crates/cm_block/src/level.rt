@@ -52,8 +52,23 @@ impl Level {
         self.ends_blank = true;
     }
 
-    /// Puts the list at the end of the blocks, if there is one.
+    /// Puts the list at the end of the blocks, if there is one. Mostly there is none.
+    #[inline(always)]
     fn close_list(&mut self, raw: &mut RawBlocks) -> Result<(), AllocError>
+        requires { IsLevelPlaced raw.old self.old }
+        ensures level { OnOk result (level_in raw.new self.new ≡ without_list (level_in raw.old self.old)) }
+        ensures placed { IsLevelPlaced raw.new self.new }
+        ensures grows { Grows raw.old raw.new }
+    {
+        if self.open_list.is_none() {
+            return Ok(());
+        }
+        self.put_list(raw)
+    }
+
+    /// Puts the list at the end of the blocks, if there is one.
+    #[inline(never)]
+    fn put_list(&mut self, raw: &mut RawBlocks) -> Result<(), AllocError>
         requires { IsLevelPlaced raw.old self.old }
         ensures level { OnOk result (level_in raw.new self.new ≡ without_list (level_in raw.old self.old)) }
         ensures placed { IsLevelPlaced raw.new self.new }

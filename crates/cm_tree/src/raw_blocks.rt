@@ -21,46 +21,46 @@ const ROOM: usize = 40_960;
 pub enum RawBlock {
     /// A paragraph, and where its source lies.
     Paragraph {
-        from: usize,
-        to: usize,
+        from: u32,
+        to: u32,
     },
     /// A heading, and where its source lies.
     Heading {
         level: u8,
-        from: usize,
-        to: usize,
+        from: u32,
+        to: u32,
     },
     /// A code block, and where its info string and then its text lie.
     Code {
-        info: usize,
-        text: usize,
-        to: usize,
+        info: u32,
+        text: u32,
+        to: u32,
     },
     /// An HTML block, and where its text lies.
     Html {
-        from: usize,
-        to: usize,
+        from: u32,
+        to: u32,
     },
     /// A thematic break.
     Break,
     /// A link reference definition, and where its label, destination and title lie.
     Definition {
-        label: usize,
-        dest: usize,
-        title: usize,
-        to: usize,
+        label: u32,
+        dest: u32,
+        title: u32,
+        to: u32,
     },
     /// A block quote, and where its blocks lie.
     Quote {
-        from: usize,
-        to: usize,
+        from: u32,
+        to: u32,
     },
     /// A list, and where its items lie.
     List {
         kind: ListKind,
         tight: bool,
-        from: usize,
-        to: usize,
+        from: u32,
+        to: u32,
     },
 }
 
@@ -68,15 +68,16 @@ pub enum RawBlock {
 #[derive(Clone, Copy, Debug, PartialEq, Eq)]
 pub struct RawItem {
     /// The place of the first.
-    pub from: usize,
+    pub from: u32,
     /// The place behind the last.
-    pub to: usize,
+    pub to: u32,
 }
 
 /// What [`RawBlock`]s are made of: the texts of all, the blocks that stand in others, each behind those in it, and the items.
 ///
 /// All that was made stays what it is when more is made. A call that makes something answers `AllocError` where a request for memory
-/// was refused; a beginning of what it would have put behind the others may stand there then, which is part of no block.
+/// was refused, or where a place would need more than 32 bits, to which no text within the limits comes. A beginning of what it would
+/// have put behind the others may stand there then, which is part of no block.
 #[derive(Debug, Drop)]
 pub struct RawBlocks {
     text: String,
@@ -96,6 +97,16 @@ impl Model for RawBlocks {
     ghost view = { λ r. raw_held (string_bytes r.text) r.blocks.items r.items.items };
 
     ghost invariant = { λ r. IsHeld (string_bytes r.text) r.blocks.items r.items.items };
+}
+
+/// A place as a block has it, or `AllocError` where it needs more than 32 bits.
+fn place(at: usize) -> Result<u32, AllocError>
+    ensures { IfOk result (λ place. place ≡ at) }
+{
+    match u32::try_from(at) {
+        Ok(place) => Ok(place),
+        Err(_) => Err(AllocError),
+    }
 }
 
 impl RawBlocks {
@@ -136,17 +147,30 @@ impl RawBlocks {
         self.text.len() >= FULL
     }
 
-    /// Puts a text behind the others, and answers where it ends.
-    fn push_text(&mut self, text: &str) -> Result<usize, AllocError>
+    /// Puts a text behind the others.
+    fn put_text(&mut self, text: &str) -> Result<(), AllocError>
         ensures text { OnOk result (self.new.text ≡ self.old.text ++ text.now) }
-        ensures end { IfOk result (λ end. end ≡ length self.new.text) }
-        ensures between { IfOk result (λ end. IsBetween self.new.text (length self.old.text) end) }
+        ensures between { OnOk result (IsBetween self.new.text (length self.old.text) (length self.new.text)) }
         ensures blocks { self.new.blocks ≡ self.old.blocks }
         ensures items { self.new.items ≡ self.old.items }
         ensures grows { Grows self.old self.new }
     {
         self.text.push_str(text)?;
-        Ok(self.text.len())
+        Ok(())
+    }
+
+    /// Puts a text behind the others, and answers where it begins and where it ends.
+    fn push_text(&mut self, text: &str) -> Result<(u32, u32), AllocError>
+        ensures text { OnOk result (self.new.text ≡ self.old.text ++ text.now) }
+        ensures from { IfOk result (λ places. places.0 ≡ length self.old.text) }
+        ensures end { IfOk result (λ places. places.1 ≡ length self.new.text) }
+        ensures between { IfOk result (λ places. IsBetween self.new.text places.0 places.1) }
+        ensures grows { Grows self.old self.new }
+    {
+        let from = place(self.text.len())?;
+        self.put_text(text)?;
+        let to = place(self.text.len())?;
+        Ok((from, to))
     }
 
     /// Makes a paragraph with this source (CommonMark 0.31.2, 4.8 Paragraphs).
@@ -159,8 +183,7 @@ impl RawBlocks {
         ensures placed { IfOk result (λ block. IsPlaced self.new block) }
         ensures grows { Grows self.old self.new }
     {
-        let from = self.text.len();
-        let to = self.push_text(source)?;
+        let (from, to) = self.push_text(source)?;
         Ok(RawBlock::Paragraph { from, to })
     }
 
@@ -174,8 +197,7 @@ impl RawBlocks {
         ensures placed { IfOk result (λ block. IsPlaced self.new block) }
         ensures grows { Grows self.old self.new }
     {
-        let from = self.text.len();
-        let to = self.push_text(source)?;
+        let (from, to) = self.push_text(source)?;
         Ok(RawBlock::Heading { level, from, to })
     }
 
@@ -189,9 +211,8 @@ impl RawBlocks {
         ensures placed { IfOk result (λ block. IsPlaced self.new block) }
         ensures grows { Grows self.old self.new }
     {
-        let at = self.text.len();
-        let behind = self.push_text(info)?;
-        let to = self.push_text(text)?;
+        let (at, _) = self.push_text(info)?;
+        let (behind, to) = self.push_text(text)?;
         Ok(RawBlock::Code {
             info: at,
             text: behind,
@@ -209,8 +230,7 @@ impl RawBlocks {
         ensures placed { IfOk result (λ block. IsPlaced self.new block) }
         ensures grows { Grows self.old self.new }
     {
-        let from = self.text.len();
-        let to = self.push_text(text)?;
+        let (from, to) = self.push_text(text)?;
         Ok(RawBlock::Html { from, to })
     }
 
@@ -230,10 +250,9 @@ impl RawBlocks {
         ensures placed { IfOk result (λ block. IsPlaced self.new block) }
         ensures grows { Grows self.old self.new }
     {
-        let first = self.text.len();
-        let second = self.push_text(label)?;
-        let third = self.push_text(dest)?;
-        let to = self.push_text(title)?;
+        let (first, _) = self.push_text(label)?;
+        let (second, _) = self.push_text(dest)?;
+        let (third, to) = self.push_text(title)?;
         Ok(RawBlock::Definition {
             label: first,
             dest: second,
@@ -253,9 +272,9 @@ impl RawBlocks {
         ensures placed { IfOk result (λ item. IsItem self.new item) }
         ensures grows { Grows self.old self.new }
     {
-        let from = self.blocks.len();
+        let from = place(self.blocks.len())?;
         self.blocks.extend_from_slice(blocks)?;
-        let to = self.blocks.len();
+        let to = place(self.blocks.len())?;
         Ok(RawItem { from, to })
     }
 
@@ -290,9 +309,9 @@ impl RawBlocks {
         ensures placed { IfOk result (λ block. IsPlaced self.new block) }
         ensures grows { Grows self.old self.new }
     {
-        let from = self.items.len();
+        let from = place(self.items.len())?;
         self.items.extend_from_slice(items)?;
-        let to = self.items.len();
+        let to = place(self.items.len())?;
         Ok(RawBlock::List {
             kind,
             tight,
@@ -302,28 +321,28 @@ impl RawBlocks {
     }
 
     /// The text between two places.
-    pub fn text(&self, from: usize, to: usize) -> &str
+    pub fn text(&self, from: u32, to: u32) -> &str
         requires { IsBetween self.now.text from to }
         ensures { result.now ≡ slice_range self.now.text from to }
     {
-        &self.text[from..to]
+        &self.text[from as usize..to as usize]
     }
 
     /// The blocks between two places.
-    pub fn blocks(&self, from: usize, to: usize) -> &[RawBlock]
+    pub fn blocks(&self, from: u32, to: u32) -> &[RawBlock]
         requires { IsRange (length self.now.blocks) from to }
         ensures blocks { blocks_in self.now result.now ≡ slice_range self.now.blocks from to }
         ensures placed { ArePlaced self.now result.now }
     {
-        &self.blocks[from..to]
+        &self.blocks[from as usize..to as usize]
     }
 
     /// The items between two places.
-    pub fn items(&self, from: usize, to: usize) -> &[RawItem]
+    pub fn items(&self, from: u32, to: u32) -> &[RawItem]
         requires { IsRange (length self.now.items) from to }
         ensures items { items_in self.now result.now ≡ slice_range self.now.items from to }
         ensures placed { AreItems self.now result.now }
     {
-        &self.items[from..to]
+        &self.items[from as usize..to as usize]
     }
 }

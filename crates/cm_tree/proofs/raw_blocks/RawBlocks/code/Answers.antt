@@ -1,17 +1,8 @@
-use Rattle.std.proofs.Common.{length, ap, sym, arith}
-use Rattle.cm_tree.specs.RawBlocks.{Raw}
-use Rattle.cm_tree.proofs.RawLemmas.{grows-more, between-grows, between-from}
+use Rattle.cm_tree.proofs.RawLemmas.{grows-more}
 use Rattle.cm_tree.proofs.raw_blocks.RawBlocks.code.Goals as goal
 
-pub returns-in_err-to-clause-grows : goal.returns-in_err-to-clause-grows
-returns-in_err-to-clause-grows c = grows-more _ _ _ c.in_ok-behind.ensures.grows c.in_err-to.ensures.grows
-
-pub returns-clause-placed : goal.returns-clause-placed
-returns-clause-placed c = (
-  between-grows _ _ c.len-at.result c.in_ok-behind.behind c.in_ok-to.ensures.grows
-      (between-from c.args.self.now.text _ c.len-at.result c.in_ok-behind.behind (omega (arith, ap (λ (r : Raw). length r.text) c.self.view_is)) c.in_ok-behind.ensures.between),
-  between-from c.push_text.new.self.text _ c.in_ok-behind.behind c.in_ok-to.to (sym c.in_ok-behind.ensures.end) c.in_ok-to.ensures.between,
-)
+pub returns-in_err-behind-clause-grows : goal.returns-in_err-behind-clause-grows
+returns-in_err-behind-clause-grows c = grows-more _ _ _ c.in_ok-at.ensures.grows c.in_err-behind.ensures.grows
 
 pub returns-clause-grows : goal.returns-clause-grows
-returns-clause-grows c = grows-more _ _ _ c.in_ok-behind.ensures.grows c.in_ok-to.ensures.grows
+returns-clause-grows c = grows-more _ _ _ c.in_ok-at.ensures.grows c.in_ok-behind.ensures.grows

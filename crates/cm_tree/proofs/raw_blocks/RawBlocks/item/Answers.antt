@@ -1,19 +1,28 @@
 use Rattle.std.proofs.Common.{[], ap, sym, arith, ◌∙◌}
 use Rattle.std.proofs.lemmas.List.{append-nil}
 use Rattle.cm_tree.specs.RawBlocks.{Raw, blocks_in}
-use Rattle.cm_tree.proofs.RawLemmas.{made-length, blocks-behind, blocks-held, blocks-last}
+use Rattle.cm_tree.proofs.RawLemmas.{grows-same, made-length, blocks-behind, blocks-held, blocks-last}
 use Rattle.cm_tree.proofs.raw_blocks.RawBlocks.item.Goals as goal
 
 pub returns-in_err-extend_from_slice-clause-grows : goal.returns-in_err-extend_from_slice-clause-grows
 returns-in_err-extend_from_slice-clause-grows c =
     rw c.self.view_is at (blocks-behind _ _ _ c.self.invariant [] _ (c.in_err-extend_from_slice.ensures.items ∙ sym (append-nil _)) tt)
 
+pub returns-in_err-from-clause-grows : goal.returns-in_err-from-clause-grows
+returns-in_err-from-clause-grows c = grows-same c.args.self.now
+
+pub invariant_of-self-in_err-to : goal.invariant_of-self-in_err-to
+invariant_of-self-in_err-to c = blocks-held _ _ _ c.self.invariant c.args.blocks.now _ c.in_ok-extend_from_slice.ensures.items (rw c.self.view_is c.requires)
+
+pub returns-in_err-to-clause-grows : goal.returns-in_err-to-clause-grows
+returns-in_err-to-clause-grows c = rw c.self.view_is at (blocks-behind _ _ _ c.self.invariant c.args.blocks.now _ c.in_ok-extend_from_slice.ensures.items (rw c.self.view_is c.requires))
+
 pub invariant_of-self-2 : goal.invariant_of-self-2
 invariant_of-self-2 c = blocks-held _ _ _ c.self.invariant c.args.blocks.now _ c.in_ok-extend_from_slice.ensures.items (rw c.self.view_is c.requires)
 
 pub returns-clause-item : goal.returns-clause-item
 returns-clause-item c =
-    blocks-last _ _ _ c.self.invariant c.args.blocks.now _ c.in_ok-extend_from_slice.ensures.items (rw c.self.view_is c.requires) c.len-from.result c.len-to.result (omega arith) (omega arith)
+    blocks-last _ _ _ c.self.invariant c.args.blocks.now _ c.in_ok-extend_from_slice.ensures.items (rw c.self.view_is c.requires) c.in_ok-from.from c.in_ok-to.to (omega arith) (omega arith)
     ∙ ap (λ (r : Raw). blocks_in r c.args.blocks.now) c.self.view_is
 
 pub returns-clause-placed : goal.returns-clause-placed

@@ -2,12 +2,21 @@ use Rattle.std.proofs.Common.{[], ap, sym, arith, ◌∙◌}
 use Rattle.std.proofs.lemmas.List.{append-nil}
 use Rattle.cm_tree.specs.RawBlocks.{Raw, items_in}
 use Rattle.cm_tree.specs.declared.tree.Block.TheVariants as trees
-use Rattle.cm_tree.proofs.RawLemmas.{items-behind, items-held, items-last}
+use Rattle.cm_tree.proofs.RawLemmas.{grows-same, items-behind, items-held, items-last}
 use Rattle.cm_tree.proofs.raw_blocks.RawBlocks.list.Goals as goal
 
 pub returns-in_err-extend_from_slice-clause-grows : goal.returns-in_err-extend_from_slice-clause-grows
 returns-in_err-extend_from_slice-clause-grows c =
     rw c.self.view_is at (items-behind _ _ _ c.self.invariant [] _ (c.in_err-extend_from_slice.ensures.items ∙ sym (append-nil _)) tt)
+
+pub returns-in_err-from-clause-grows : goal.returns-in_err-from-clause-grows
+returns-in_err-from-clause-grows c = grows-same c.args.self.now
+
+pub invariant_of-self-in_err-to : goal.invariant_of-self-in_err-to
+invariant_of-self-in_err-to c = items-held _ _ _ c.self.invariant c.args.items.now _ c.in_ok-extend_from_slice.ensures.items (rw c.self.view_is c.requires)
+
+pub returns-in_err-to-clause-grows : goal.returns-in_err-to-clause-grows
+returns-in_err-to-clause-grows c = rw c.self.view_is at (items-behind _ _ _ c.self.invariant c.args.items.now _ c.in_ok-extend_from_slice.ensures.items (rw c.self.view_is c.requires))
 
 pub invariant_of-self-2 : goal.invariant_of-self-2
 invariant_of-self-2 c = items-held _ _ _ c.self.invariant c.args.items.now _ c.in_ok-extend_from_slice.ensures.items (rw c.self.view_is c.requires)
@@ -15,7 +24,7 @@ invariant_of-self-2 c = items-held _ _ _ c.self.invariant c.args.items.now _ c.i
 pub returns-clause-block : goal.returns-clause-block
 returns-clause-block c =
     ap (trees.List c.args.kind c.args.tight)
-    (items-last _ _ _ c.self.invariant c.args.items.now _ c.in_ok-extend_from_slice.ensures.items (rw c.self.view_is c.requires) c.len-from.result c.len-to.result (omega arith) (omega arith)
+    (items-last _ _ _ c.self.invariant c.args.items.now _ c.in_ok-extend_from_slice.ensures.items (rw c.self.view_is c.requires) c.in_ok-from.from c.in_ok-to.to (omega arith) (omega arith)
     ∙ ap (λ (r : Raw). items_in r c.args.items.now) c.self.view_is)
 
 pub returns-clause-grows : goal.returns-clause-grows
