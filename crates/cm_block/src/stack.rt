@@ -350,8 +350,8 @@ impl Stack {
         self.frames.is_empty() && self.level.open_list.is_none()
     }
 
-    /// Finishes a part of the document, where its texts are enough for one and no container and no list is open. All blocks stay what
-    /// they are.
+    /// Finishes a part of the document, where its texts are enough for one and no container and no list
+    /// is open. All blocks stay what they are.
     fn finish_part(&mut self) -> Result<(), AllocError>
         ensures same { OnOk result (self.new ≡ self.old) }
         ensures frames { self.new.frames ≡ self.old.frames }

@@ -226,7 +226,8 @@ fn read_items(
     Ok(read)
 }
 
-/// Puts the blocks of a part of the document, with the inlines of their leaves, behind others, and lets go of it.
+/// Puts the blocks of a part of the document, with the inlines of their leaves, behind others, and lets go
+/// of the part.
 fn read_part(
     alloc: Global,
     limits: Limits,
@@ -248,7 +249,8 @@ fn read_part(
     Ok(())
 }
 
-/// The blocks with the inlines of their leaves, at every depth. Each part is let go of before the next one is read.
+/// The blocks with the inlines of their leaves, at every depth. Each part of the document is let go of
+/// before the next one is read.
 ///
 /// # Errors
 ///

@@ -75,9 +75,10 @@ pub struct RawItem {
 
 /// What [`RawBlock`]s are made of: the texts of all, the blocks that stand in others, each behind those in it, and the items.
 ///
-/// All that was made stays what it is when more is made. A call that makes something answers `AllocError` where a request for memory
-/// was refused, or where a place would need more than 32 bits, to which no text within the limits comes. A beginning of what it would
-/// have put behind the others may stand there then, which is part of no block.
+/// All that was made stays what it is when more is made. A call that makes something answers `AllocError`
+/// where a request for memory was refused, or where a place would need more than 32 bits, to which no text
+/// within the limits comes. A beginning of what it would have put behind the others may stand there then,
+/// which is part of no block.
 #[derive(Debug, Drop)]
 pub struct RawBlocks {
     text: String,

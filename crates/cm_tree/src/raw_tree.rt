@@ -1,4 +1,4 @@
-//! The blocks of a document whose inlines haven't been read, in parts that may be let go of one after another.
+//! The blocks of a document whose inlines haven't been read, in parts that may be let go of one by one.
 ghost use Rattle.std.specs.Prelude.{◌≡◌, [], ◌++◌, OnOk, OnErr};
 ghost use Rattle.cm_tree.specs.RawBlocks.{blocks_in, ArePlaced};
 ghost use Rattle.cm_tree.specs.RawTrees.{all_blocks};
@@ -48,8 +48,8 @@ impl RawPart {
     }
 }
 
-/// The blocks of a document whose inlines haven't been read: those of its parts, one after another. The source of a paragraph or heading
-/// stands as one text.
+/// The blocks of a document whose inlines haven't been read: those of its parts, one after another. The
+/// source of a paragraph or heading stands as one text.
 #[derive(Debug, Drop)]
 pub struct RawTree {
     parts: Vec<RawPart>,
