@@ -2,7 +2,7 @@
 use Rattle.std.proofs.Common.{◌≡◌, ℕ, zero, suc, ◌+◌, ◌-◌, ◌<◌, ◌≤◌, Bool, false, List, [], ◌∷◌, ◌++◌, length, take, drop, set, get_or, Option, Some, None, refl, sym, ap, subst, ◌∙◌, arith, append_assoc}
 use Rattle.std.specs.List.{slice_range, list_any}
 use Rattle.std.specs.Prelude.{◌||◌}
-use Rattle.std.proofs.lemmas.List.{append-nil, get_or_append_left, get_or_at, length_push, length-append, map-append, drop-map, take-map, map-set, drop_more, take_rest}
+use Rattle.std.proofs.lemmas.List.{append-nil, get_or_append_left, get_or_at, length_push, length-append, map-append, drop-map, take-map, map-set, drop_more, take_more, get_or-drop, length-drop, take_rest}
 use Rattle.std.proofs.lemmas.List.Folds.{list_any-append}
 use Rattle.cm_tree.specs.Definitions.{Target}
 use Rattle.cm_tree.proofs.RawLemmas.{slice-same, slice-last}
@@ -177,6 +177,26 @@ passes-more old now before rest token passes front back other =
       nodes = ap (nodes_of made) front ∙ map-append (node_of made) now.before (token ∷ []) ∙ ap (λ ns. ns ++ node ∷ []) passes.nodes ∙ append_assoc (nodes_in old) passes.others (node ∷ []);
       waiting = passes.waiting ∙ ap (λ ts. passes.others ++ nodes_of made ts) back ∙ sym (append_assoc passes.others (node ∷ []) (nodes_of made rest));
     }
+
+-- those before some that wait, with these up to a place behind them
+abbrev pub over : (before rest : List Token) (passed end : ℕ) → List Token
+over before rest passed end = before ++ slice_range rest passed end
+
+pub over-start : (before rest : List Token) (passed : ℕ) → over before rest passed passed ≡ before
+over-start before rest passed =
+    let none : passed - passed ≡ 0 = omega arith in
+    ap (λ n. before ++ take n (drop passed rest)) none ∙ append-nil before
+
+pub over-next : (before rest : List Token) (passed end : ℕ) (token : Token) → passed ≤ end → end < length rest → token ≡ get_or rest end token
+    → over before rest passed (end + 1) ≡ over before rest passed end ++ token ∷ []
+over-next before rest passed end token low within is =
+    let waits = drop passed rest in
+    let so_far : end + 1 - passed ≡ (end - passed) + 1 = omega (arith, low) in
+    let place : passed + (end - passed) ≡ end = omega (arith, low) in
+    let there : get_or waits (end - passed) token ≡ token = get_or-drop passed rest (end - passed) token ∙ ap (λ k. get_or rest k token) place ∙ sym is in
+    ap (λ n. before ++ take n waits) so_far
+    ∙ ap (λ ts. before ++ ts) (take_more waits (end - passed) token (omega (arith, low, within, length-drop passed rest)) ∙ ap (λ t. take (end - passed) waits ++ t ∷ []) there)
+    ∙ sym (append_assoc before (take (end - passed) waits) (token ∷ []))
 
 -- the next run
 pub takes-run : (old now : Held) (rest : List Token) (run : DelimiterRun) → Passes old now → now.rest ≡ tokens.Run run ∷ rest

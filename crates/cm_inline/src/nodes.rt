@@ -154,14 +154,20 @@ impl Nodes {
         ensures takes { IfOk result (λ run. Takes self.old self.new run) }
         ensures inside { self.new.inside ≡ self.old.inside }
     {
-        while self.passed < self.rest.len() {
-            let token = self.rest[self.passed];
-            self.passed += 1;
-            if let Token::Run(run) = token {
+        if self.passed >= self.rest.len() {
+            return Ok(None);
+        }
+        let mut end = self.passed;
+        while end < self.rest.len() {
+            if let Token::Run(run) = self.rest[end] {
+                self.before.extend_from_slice(&self.rest[self.passed..end])?;
+                self.passed = end + 1;
                 return Ok(Some(run));
             }
-            self.before.push(token)?;
+            end += 1;
         }
+        self.before.extend_from_slice(&self.rest[self.passed..end])?;
+        self.passed = end;
         Ok(None)
     }
 
