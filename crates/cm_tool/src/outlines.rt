@@ -43,9 +43,12 @@ pub(crate) fn html_of_outline(
 {
     let Outline {
         blocks,
+        owners,
         definitions,
         ..
     } = outline;
+    // The HTML goes into the memory of the owners, which it doesn't show.
+    drop(owners);
     leaves_html(alloc, limits, &definitions, blocks)
 }
 
@@ -60,8 +63,10 @@ pub(crate) fn source_of_outline(
 {
     let Outline {
         blocks,
+        owners,
         definitions,
         ..
     } = outline;
+    drop(owners);
     leaves_source(alloc, limits, &definitions, blocks)
 }
