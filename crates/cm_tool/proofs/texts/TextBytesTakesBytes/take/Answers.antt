@@ -1,10 +1,10 @@
-use Rattle.std.proofs.Common.{◌∙◌, ◌++◌, ap}
+use Rattle.std.proofs.Common.{◌++◌, ap, subst, sym}
 use Rattle.std.specs.Prelude.{option_map}
 use Rattle.std.proofs.lemmas.Result.{err_from_is_err_and}
 use Rattle.cm_text.specs.Faults.{settled_fault}
 use Rattle.cm_text.proofs.FeedLemmas.{goes}
 use Rattle.cm_tool.specs.Fault.{told}
-use Rattle.cm_tool.specs.steps.Texts.{TextSoFar}
+use Rattle.cm_tool.specs.steps.Texts.{TextSoFar, StandsFor}
 use Rattle.cm_tool.proofs.TextLemmas.{feed_told, feed_goes, had_none}
 use Rattle.cm_tool.proofs.texts.TextBytesTakesBytes.take.Goals as goal
 
@@ -13,12 +13,10 @@ returns-in_err-push-clause-settled c =
     let p = err_from_is_err_and c.from_residual-in_err-push.result c.from_residual-in_err-push.ensures.1 in
     let t = c.self.inside in
     let fault = c.in_err-push.field-0.0 in
-    rw (p.1, p.2) (λ limits bytes s.
-    let sound = ap (λ (t : TextSoFar). t.feed.fault) c.self.view_is ∙ s.sound in
-    let limit = ap (λ (t : TextSoFar). t.feed.limit) c.self.view_is ∙ s.limit in
-    let same = ap (λ (t : TextSoFar). t.bytes) c.self.view_is ∙ s.same in
-    rw (← same, ← limit) (feed_told fault (settled_fault t.feed.limit (t.bytes.items ++ c.args.piece.now))
-    (c.in_err-push.ensures.settled sound t.bytes.items 0 (feed_goes t.feed t.bytes.items c.self.invariant.0 c.self.invariant.1 sound))))
+    rw (p.1, p.2) (λ limits bytes stands.
+    let s = subst (λ (t : TextSoFar). StandsFor limits t bytes) (sym c.self.view_is) stands in
+    rw (← s.same, ← s.limit) (feed_told fault (settled_fault t.feed.limit (t.bytes.items ++ c.args.piece.now))
+    (c.in_err-push.ensures.settled s.sound t.bytes.items 0 (feed_goes t.feed t.bytes.items c.self.invariant.0 c.self.invariant.1 s.sound))))
 
 pub invariant_of-self-2 : goal.invariant_of-self-2
 invariant_of-self-2 c =
@@ -33,10 +31,8 @@ invariant_of-self-2 c =
     )
 
 pub returns-clause-settled : goal.returns-clause-settled
-returns-clause-settled c = λ limits bytes s.
+returns-clause-settled c = λ limits bytes stands.
     let t = c.self.inside in
-    let sound = ap (λ (t : TextSoFar). t.feed.fault) c.self.view_is ∙ s.sound in
-    let limit = ap (λ (t : TextSoFar). t.feed.limit) c.self.view_is ∙ s.limit in
-    let same = ap (λ (t : TextSoFar). t.bytes) c.self.view_is ∙ s.same in
-    rw (← same, ← limit) (ap (option_map told) (c.in_ok-push.ensures.settled sound t.bytes.items 0
-    (feed_goes t.feed t.bytes.items c.self.invariant.0 c.self.invariant.1 sound)))
+    let s = subst (λ (t : TextSoFar). StandsFor limits t bytes) (sym c.self.view_is) stands in
+    rw (← s.same, ← s.limit) (ap (option_map told) (c.in_ok-push.ensures.settled s.sound t.bytes.items 0
+    (feed_goes t.feed t.bytes.items c.self.invariant.0 c.self.invariant.1 s.sound)))
