@@ -161,7 +161,11 @@ impl Model for Stack {
 
     ghost coded = { Prim.hlevel (codes, block.the_row.coded, list_kind.the_row.coded) };
 
-    ghost view = { λ s. record { frames = frames_behind s.parts (frames_in s.raw s.frames); bare = s.bare; level = innermost s.parts (frames_in s.raw s.frames) (level_in s.raw s.level) } };
+    ghost view = { λ s. record {
+      frames = frames_behind s.parts (frames_in s.raw s.frames);
+      bare = s.bare;
+      level = innermost s.parts (frames_in s.raw s.frames) (level_in s.raw s.level);
+    } };
 
     ghost invariant = { λ s. AreFramesPlaced s.raw s.frames × IsLevelPlaced s.raw s.level };
 }

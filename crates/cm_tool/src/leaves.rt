@@ -238,8 +238,10 @@ fn read_part(
     part: RawPart,
 ) -> Result<(), Fault>
     ensures read { OnOk result (read.new ≡ read.old ++ with_inlines limits.rules (defined_in definitions.now) part) }
-    ensures passes { OnOk result (Passes limits.inlines next.old next.new (leaf_depths (with_inlines limits.rules (defined_in definitions.now) part))) }
-    ensures told { IfErr result (λ fault. TellsLeaf fault limits.inlines next.old (leaf_depths (with_inlines limits.rules (defined_in definitions.now) part))) }
+    ensures passes { OnOk result (Passes limits.inlines next.old next.new
+        (leaf_depths (with_inlines limits.rules (defined_in definitions.now) part))) }
+    ensures told { IfErr result (λ fault. TellsLeaf fault limits.inlines next.old
+        (leaf_depths (with_inlines limits.rules (defined_in definitions.now) part))) }
 {
     let (top, raw) = part.contents();
     for block in top {

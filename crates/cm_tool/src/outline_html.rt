@@ -311,8 +311,10 @@ fn push_pages(
     part: RawPart,
 ) -> Result<(), Fault>
     ensures pushed { OnOk result (html.new ≡ html.old ++ html_of (with_inlines limits.rules (defined_in definitions.now) part)) }
-    ensures passes { OnOk result (Passes limits.inlines next.old next.new (leaf_depths (with_inlines limits.rules (defined_in definitions.now) part))) }
-    ensures told { IfErr result (λ fault. TellsLeaf fault limits.inlines next.old (leaf_depths (with_inlines limits.rules (defined_in definitions.now) part))) }
+    ensures passes { OnOk result (Passes limits.inlines next.old next.new
+        (leaf_depths (with_inlines limits.rules (defined_in definitions.now) part))) }
+    ensures told { IfErr result (λ fault. TellsLeaf fault limits.inlines next.old
+        (leaf_depths (with_inlines limits.rules (defined_in definitions.now) part))) }
 {
     let (top, raw) = part.contents();
     for block in top {

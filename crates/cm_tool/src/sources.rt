@@ -121,7 +121,8 @@ fn push_part(
 ) -> Result<(), Fault>
     ensures pushed { OnOk result ((taken : List trees.Block) → HasTaken limits.rules source.old taken →
         HasTaken limits.rules source.new (taken ++ without_definitions (with_inlines limits.rules (defined_in definitions.now) part))) }
-    ensures passes { OnOk result (Passes limits.inlines next.old next.new (leaf_depths (with_inlines limits.rules (defined_in definitions.now) part))) }
+    ensures passes { OnOk result (Passes limits.inlines next.old next.new
+        (leaf_depths (with_inlines limits.rules (defined_in definitions.now) part))) }
     ensures told { IfErr result (λ fault. TellsLeaf fault limits.inlines next.old
         (leaf_depths (with_inlines limits.rules (defined_in definitions.now) part))) }
 {
