@@ -15,47 +15,12 @@ use Rattle.cm_scan.specs.LineForms.{Fence}
 use Rattle.cm_scan.specs.Starts.{IndentedCode, OpeningFence, HtmlStart}
 use Rattle.cm_scan.specs.Parts.{html}
 use Rattle.cm_scan.specs.Blocks.{line_feeds, NextLine, next_line, closes_fence, code_line}
+use Rattle.cm_block.proofs.FeedLemmas.{feeds_append, feeds_ended}
 use Rattle.cm_block.specs.declared.leaf.OpenLeaf.{OpenLeaf}
 use Rattle.cm_block.specs.declared.leaf.OpenLeaf.TheVariants as leaf
 use Rattle.cm_block.specs.OpenLeaf.{no_leaf, open_text, open_code, open_fence, open_html, closed_leaves, LeafLine, stays_open, is_last, begins_leaf, begin_of_start, line_of_text, line_of_code, line_of_fence, line_of_html, line_of_leaf}
 use Rattle.cm_block.specs.LeafViews.{ended, code_of, leaf_of}
 use Rattle.cm_block.specs.steps.LeafSteps.{leaves_of_closed, closed_as}
-
--- line feeds
-
-pub feeds_append : (bs cs : List ℕ) → line_feeds (bs ++ cs) ≡ line_feeds bs + line_feeds cs
-unfolding line_feeds
-feeds_append [] cs = omega arith
-feeds_append (b ∷ bs) cs = let h : line_feeds (bs ++ cs) ≡ line_feeds bs + line_feeds cs = feeds_append bs cs in grind (arith, h)
-
-feeds-spaces : (n : ℕ) → line_feeds (replicate n 32) ≡ 0
-unfolding line_feeds
-feeds-spaces zero = refl
-feeds-spaces (suc n) = feeds-spaces n
-
-feeds-line : (text : List ℕ) → is_line text ≡ true → line_feeds text ≡ 0
-unfolding line_feeds
-feeds-line [] e = refl
-feeds-line (b ∷ bs) e = let h : is_line bs ≡ true → line_feeds bs ≡ 0 = feeds-line bs in grind (arith, e, h)
-
-pub no_feeds : line_feeds [] ≡ 0
-unfolding line_feeds
-no_feeds = refl
-
--- a line brings none
-pub feeds_same : (text rest : List ℕ) (n : ℕ) → is_line rest ≡ true → line_feeds ((text ++ replicate n 32) ++ rest) ≡ line_feeds text
-feeds_same text rest n e =
-    omega (arith, feeds_append (text ++ replicate n 32) rest, feeds_append text (replicate n 32), feeds-spaces n, feeds-line rest e)
-
--- a line feed is one more
-pub feeds_ended : (text : List ℕ) → line_feeds (text ++ 10 ∷ []) ≡ suc (line_feeds text)
-unfolding line_feeds
-feeds_ended text = let h : line_feeds (text ++ 10 ∷ []) ≡ line_feeds text + line_feeds (10 ∷ []) = feeds_append text (10 ∷ []) in grind (arith, h)
-
--- what a call that puts bytes at the end leaves, where it answers Ok
-pub on_ok_bytes : {T E : Type 0} (r : Result T E) (new old added : List ℕ) (P : List ℕ → Type 0) → new ≡ (if is_ok r then old ++ added else old) → P (old ++ added) → OnOk r (P new)
-on_ok_bytes (Ok x) new old added P e h = subst P (sym e) h
-on_ok_bytes (Err x) new old added P e h = tt
 
 -- spaces in front of a line don't matter to the end of an HTML block
 

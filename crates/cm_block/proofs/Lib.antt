@@ -22,6 +22,7 @@ pub mod RunLemmas
 pub mod PutLemmas
 pub mod LineOwnerLemmas
 pub mod LeafLemmas
+pub mod FeedLemmas
 pub mod NextLineLemmas
 pub mod OwnerRunLemmas
 pub mod FrontLemmas

@@ -12,7 +12,7 @@ use Rattle.cm_block.specs.Level.{Level, block_closes}
 use Rattle.cm_block.specs.OpenLeaf.{run_leaves}
 use Rattle.cm_block.specs.Stack.{Owned, table_with, close_leaves, own_leaf, own_leaves}
 use Rattle.cm_block.specs.steps.LeafSteps.{own_plain_leaf}
-use Rattle.cm_block.proofs.LeafLemmas.{feeds_append}
+use Rattle.cm_block.proofs.FeedLemmas.{feeds_append}
 use Rattle.cm_block.proofs.RunLemmas.{read_at, definitions_some, definitions_none, fewer_lines}
 
 -- one leaf
@@ -106,20 +106,25 @@ feeds-parted text end =
     ∙ sym (feeds_append (take end text) (drop end text))
     ∙ ap line_feeds (take-append-drop end text)
 
-pub all_lines : (text front : List ℕ) (end n : ℕ) → 1 ≤ length text → front ≡ slice_range text 0 end → n ≡ line_feeds front → end ≡ length text
+-- those of the front of a text, and those behind it
+pub feeds_parted : (text front : List ℕ) (end n : ℕ) → front ≡ slice_range text 0 end → n ≡ line_feeds front
+    → n + line_feeds (drop end text) ≡ line_feeds text
+feeds_parted text front end n e k = ap (λ m. m + line_feeds (drop end text)) (k ∙ ap line_feeds e) ∙ feeds-parted text end
+
+pub all_lines : (text : List ℕ) (end n : ℕ) → 1 ≤ length text → n + line_feeds (drop end text) ≡ line_feeds text → end ≡ length text
     → (n + 1) + line_count (drop end text) ≡ line_count text
 unfolding line_feeds
-all_lines text front end n some e k whole =
+all_lines text end n some parted whole =
     let none : drop end text ≡ [] = drop_all end text (omega (arith, whole)) in
     let lines : line_count (drop end text) ≡ 0 = ap line_count none in
     let feeds : line_feeds (drop end text) ≡ 0 = ap line_feeds none in
-    omega (arith, lines, feeds, k, ap line_feeds e, feeds-parted text end, count-some text some)
+    omega (arith, lines, feeds, parted, count-some text some)
 
-pub some_lines : (text front : List ℕ) (end n : ℕ) → 1 ≤ length text → front ≡ slice_range text 0 end → n ≡ line_feeds front → end < length text
+pub some_lines : (text : List ℕ) (end n : ℕ) → 1 ≤ length text → n + line_feeds (drop end text) ≡ line_feeds text → end < length text
     → n + line_count (drop end text) ≡ line_count text
-some_lines text front end n some e k part =
+some_lines text end n some parted part =
     let left : 0 < length (drop end text) = omega (arith, length-drop end text) in
-    omega (arith, k, ap line_feeds e, feeds-parted text end, count-some text some, count-some (drop end text) left)
+    omega (arith, parted, count-some text some, count-some (drop end text) left)
 
 -- one definition more
 

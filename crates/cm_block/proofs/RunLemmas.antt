@@ -8,6 +8,7 @@ use Rattle.cm_scan.specs.Links.{LinkDefinition, label, link_definition, Definiti
 use Rattle.cm_scan.specs.Blocks.{line_feeds, line_count}
 use Rattle.cm_scan.specs.Scanned.{definition_with}
 use Rattle.cm_scan.proofs.Feeds.{takes_a_line}
+use Rattle.cm_block.proofs.FeedLemmas.{feeds_within}
 
 -- the places of line feeds are as many as these
 
@@ -29,12 +30,6 @@ pub one_counted : (count bound place : ℕ) (before after : List ℕ) → before
 one_counted count bound place before after is sum =
     let sum' : count + length (place ∷ after) ≡ bound = subst (λ xs. count + length xs ≡ bound) is sum in
     omega (arith, sum')
-
--- no text has more line feeds than bytes
-feeds-within : (text : List ℕ) → line_feeds text ≤ length text
-unfolding line_feeds
-feeds-within [] = omega arith
-feeds-within (b ∷ bs) = let h : line_feeds bs ≤ length bs = feeds-within bs in grind (arith, h)
 
 -- Definitions are read one after the other: how far they may be counted doesn't matter, where it is far enough.
 
@@ -101,7 +96,7 @@ enough-length (b ∷ bs) = go (b == 91) refl
   where
     go : (v : Bool) → (b == 91) ≡ v → Enough (suc (length bs)) (b ∷ bs)
     go true e =
-        let h : line_feeds bs ≤ length bs = feeds-within bs in
+        let h : line_feeds bs ≤ length bs = feeds_within bs in
         let k : b ≡ 91 = grind (arith, nat_tests, e) in
         inr (rw k (omega (arith, h)))
     go false e = inl (grind (arith, e))

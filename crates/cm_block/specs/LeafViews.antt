@@ -18,8 +18,8 @@ code_of text blank_lines = open_code (ended text) (suc (line_feeds text)) blank_
 
 abbrev pub leaf_of : OpenLeaf → spec.OpenLeaf
 leaf_of Nothing = no_leaf
-leaf_of (Run source) = open_text (string_bytes source)
-leaf_of (Code text blank_lines) = code_of (string_bytes text) (string_bytes blank_lines)
+leaf_of (Run source) = open_text source
+leaf_of (Code text blank_lines) = code_of text blank_lines
 leaf_of (Fence kind info columns text) =
-    open_fence (record { marker = kind.marker; count = kind.count; info = string_bytes info }) columns (string_bytes text) (suc (line_feeds (string_bytes text)))
-leaf_of (Html kind text) = open_html (kind_of kind) (ended (string_bytes text)) (suc (line_feeds (string_bytes text)))
+    open_fence (record { marker = kind.marker; count = kind.count; info = string_bytes info }) columns text (suc (line_feeds text))
+leaf_of (Html kind text) = open_html (kind_of kind) (ended text) (suc (line_feeds text))

@@ -1,16 +1,43 @@
--- Lines one after another that have the same owner.
-use Rattle.std.specs.Prelude.{ℕ, List, ◌++◌, replicate}
-use Rattle.std.specs.List.{flat_map}
+-- Lines one after another that have the same owner. A run tells whether they have one more leaf, the last one or none, so the leaves are
+-- counted from run to run.
+use Rattle.std.specs.Prelude.{ℕ, suc, List, [], ◌∷◌, ◌++◌, replicate}
 use Rattle.cm_tree.specs.declared.tree.Owner.{Owner}
+use Rattle.cm_tree.specs.declared.tree.Owner.TheVariants as owner
 use Rattle.cm_block.specs.declared.owner_runs.OwnerRun.{OwnerRun}
+use Rattle.cm_block.specs.declared.owner_runs.RunOwner.{RunOwner}
+use Rattle.cm_block.specs.declared.owner_runs.RunOwner.TheVariants.{Blank, Marker, NextLeaf, SameLeaf}
 
--- the owner of each line of a run
-abbrev pub owners_of_run : OwnerRun → List Owner
-owners_of_run run = replicate run.lines run.owner
+-- how many leaves there are with a run, behind so many
+abbrev pub leaves_with : ℕ → RunOwner → ℕ
+leaves_with leaves Blank = leaves
+leaves_with leaves Marker = leaves
+leaves_with leaves NextLeaf = suc leaves
+leaves_with leaves SameLeaf = leaves
+
+-- the owner of a run's lines, with which there are so many leaves
+abbrev pub owner_of : ℕ → RunOwner → Owner
+owner_of leaves Blank = owner.Blank
+owner_of leaves Marker = owner.Marker
+owner_of leaves NextLeaf = owner.Leaf leaves
+owner_of leaves SameLeaf = owner.Leaf leaves
+
+-- the leaves with runs, behind so many
+abbrev pub leaves_in : ℕ → List OwnerRun → ℕ
+leaves_in leaves [] = leaves
+leaves_in leaves (run ∷ runs) = leaves_in (leaves_with leaves run.owner) runs
+
+-- the owners of a run's lines, behind so many leaves
+abbrev pub owners_of_run : ℕ → OwnerRun → List Owner
+owners_of_run leaves run = replicate run.lines (owner_of (leaves_with leaves run.owner) run.owner)
+
+-- the owner of each line of runs, behind so many leaves
+abbrev pub owners_of : ℕ → List OwnerRun → List Owner
+owners_of leaves [] = []
+owners_of leaves (run ∷ runs) = owners_of_run leaves run ++ owners_of (leaves_with leaves run.owner) runs
 
 -- of closed runs, and the last one
 abbrev pub owners_in : List OwnerRun → OwnerRun → List Owner
-owners_in closed last = flat_map owners_of_run closed ++ owners_of_run last
+owners_in closed last = owners_of 0 closed ++ owners_of_run (leaves_in 0 closed) last
 
 -- the owner of each line so far, and how many leaves there are
 pub record OwnedLines : Type 0 where

@@ -1,15 +1,15 @@
 //! Leaf blocks that are closed, and how they are put into the level in which they stand.
-ghost use Rattle.std.specs.Prelude.{◌≡◌, ◌+◌, ◌≤◌, length, drop, IfOk, OnOk};
-ghost use Rattle.std.specs.Str.{IsCharBoundary};
+ghost use Rattle.std.specs.Prelude.{◌≡◌, ◌+◌, ◌<◌, ◌≤◌, ◌^◌, length, drop, IfOk, OnOk};
 ghost use Rattle.cm_scan.specs.Words.{trim_end};
 ghost use Rattle.cm_scan.specs.Links.{definitions_of};
 ghost use Rattle.cm_scan.specs.Parts.{leaf_block, definition, code};
-ghost use Rattle.cm_scan.specs.Blocks.{line_count, definition_leaves, content_leaf};
+ghost use Rattle.cm_scan.specs.Blocks.{line_feeds, line_count, definition_leaves, content_leaf};
 ghost use Rattle.cm_block.specs.Level.{block_closes};
 ghost use Rattle.cm_block.specs.OpenLeaf.{run_leaves};
 ghost use Rattle.cm_block.specs.Stack.{close_leaves, own_leaf, own_leaves};
 ghost use Rattle.cm_block.specs.steps.LeafSteps.{fence_lines, leaves_of_closed, own_plain_leaf};
 
+use crate::leaf_text::LeafText;
 use crate::line_owners::Owners;
 use crate::rooms::TextRoom;
 use crate::runs::line_feeds;
@@ -25,7 +25,7 @@ pub(crate) enum ClosedLeaf {
     Nothing,
     /// A run of text, which an underline may have ended: definitions, and then a paragraph or a heading.
     Run {
-        source: String,
+        source: LeafText,
         heading: Option<u8>,
     },
     /// An ATX heading.
@@ -37,18 +37,26 @@ pub(crate) enum ClosedLeaf {
     Break,
     /// Indented code: its lines, parted by line feeds.
     Code {
-        text: String,
+        text: LeafText,
     },
     /// Fenced code: its lines, each with a line feed, and whether it has a closing fence.
     Fenced {
         info: String,
-        text: String,
+        text: LeafText,
         ended: bool,
     },
     /// HTML: its lines, parted by line feeds.
     Html {
-        text: String,
+        text: LeafText,
     },
+}
+
+/// How many lines so many line feeds end, with so many more.
+fn count_lines(feeds: usize, more: usize) -> Result<usize, AllocError>
+    ensures { IfOk result (λ lines. lines ≡ feeds + more) }
+{
+    // Memory holds fewer lines than a `usize` counts.
+    feeds.checked_add(more).ok_or(AllocError)
 }
 
 /// Puts a definition. Its destination and title are resolved, and its label is its source (4.7).
@@ -73,27 +81,32 @@ fn put_definition(
     Ok(())
 }
 
-/// How many lines a definition has that takes so many bytes of a text.
-fn lines_taken(text: &str, end: usize) -> usize
+/// How many lines a definition has that takes so many bytes of a text, with so many line feeds.
+fn lines_taken(text: &str, end: usize, feeds: usize) -> usize
     requires some { 1 ≤ length text.now }
-    requires boundary { IsCharBoundary text.now end }
+    requires within { end ≤ length text.now }
+    requires feeds { feeds + line_feeds (drop end text.now) ≡ line_feeds text.now }
+    requires few { feeds < 2 ^ 63 }
     ensures { result + line_count (drop end text.now) ≡ line_count text.now }
 {
-    let feeds = line_feeds(&text[..end]);
     if end == text.len() {
         return feeds + 1;
     }
     feeds
 }
 
-/// Puts the definitions at the front of a text, and answers what is left of it.
+/// Puts the definitions at the front of a text with so many line feeds, and answers what is left of it, and how many
+/// line feeds that has.
 fn put_definitions<'a>(
     alloc: Global,
     text: &'a str,
+    feeds: usize,
     stack: &mut Stack,
     owners: &mut Owners,
-) -> Result<&'a str, NoMemory>
-    ensures left { IfOk result (λ left. left.now ≡ (definitions_of text.now).left) }
+) -> Result<(&'a str, usize), NoMemory>
+    requires { feeds ≡ line_feeds text.now }
+    ensures left { IfOk result (λ left. left.0.now ≡ (definitions_of text.now).left) }
+    ensures feeds { IfOk result (λ left. left.1 ≡ line_feeds left.0.now) }
     ensures level { OnOk result (stack.new.level
         ≡ close_leaves stack.old.level (definition_leaves text.now (definitions_of text.now).taken)) }
     ensures frames { stack.new.frames ≡ stack.old.frames }
@@ -102,21 +115,26 @@ fn put_definitions<'a>(
         ≡ own_leaves owners.old (definition_leaves text.now (definitions_of text.now).taken)) }
 {
     let mut rest = text;
+    let mut left = feeds;
     while let Some((found, end)) = definition(rest, 0) {
-        let lines = lines_taken(rest, end);
+        let taken = line_feeds(&rest[..end]);
+        let lines = lines_taken(rest, end, taken);
         put_definition(alloc, found, lines, stack, owners)?;
         rest = &rest[end..];
+        left -= taken;
     }
-    Ok(rest)
+    Ok((rest, left))
 }
 
-/// Puts what is left of a run: a paragraph, or with an underline a heading.
+/// Puts what is left of a run, with so many line feeds: a paragraph, or with an underline a heading.
 fn put_content(
     source: &str,
+    feeds: usize,
     heading: Option<u8>,
     stack: &mut Stack,
     owners: &mut Owners,
 ) -> Result<(), AllocError>
+    requires { feeds ≡ line_feeds source.now }
     ensures level { OnOk result (stack.new.level ≡ close_leaves stack.old.level (content_leaf heading source.now)) }
     ensures frames { stack.new.frames ≡ stack.old.frames }
     ensures bare { stack.new.bare ≡ stack.old.bare }
@@ -125,14 +143,13 @@ fn put_content(
     if source.is_empty() {
         return Ok(());
     }
-    let lines = line_feeds(source) + 1;
     match heading {
         Some(number) => {
-            owners.leaf(lines + 1)?;
+            owners.leaf(count_lines(feeds, 2)?)?;
             stack.put_heading(number, source)
         }
         None => {
-            owners.leaf(lines)?;
+            owners.leaf(count_lines(feeds, 1)?)?;
             stack.put_paragraph(source)
         }
     }
@@ -141,7 +158,7 @@ fn put_content(
 /// Puts the leaves of a run: the definitions at its front, and what is left.
 fn put_run(
     alloc: Global,
-    source: &str,
+    source: &LeafText,
     heading: Option<u8>,
     stack: &mut Stack,
     owners: &mut Owners,
@@ -151,8 +168,14 @@ fn put_run(
     ensures bare { stack.new.bare ≡ stack.old.bare }
     ensures owners { OnOk result (owners.new ≡ own_leaves owners.old (run_leaves heading source.now)) }
 {
-    let left = put_definitions(alloc, trim_end(source), stack, owners)?;
-    put_content(left, heading, stack, owners)?;
+    let (left, feeds) = put_definitions(
+        alloc,
+        trim_end(source.as_str()),
+        source.feeds(),
+        stack,
+        owners,
+    )?;
+    put_content(left, feeds, heading, stack, owners)?;
     Ok(())
 }
 
@@ -177,11 +200,10 @@ fn put_code(
 }
 
 /// How many lines a fenced code block has with these lines, and with a closing fence or not.
-fn fence_lines(ended: bool, text: &str) -> usize
-    ensures { result ≡ fence_lines ended text.now }
+fn fence_lines(ended: bool, text: &LeafText) -> Result<usize, AllocError>
+    ensures { IfOk result (λ lines. lines ≡ fence_lines ended text.now) }
 {
-    let lines = line_feeds(text) + 1;
-    if ended { lines + 1 } else { lines }
+    count_lines(text.feeds(), if ended { 2 } else { 1 })
 }
 
 impl ClosedLeaf {
@@ -215,23 +237,23 @@ impl ClosedLeaf {
                 Ok(stack.put_break()?)
             }
             ClosedLeaf::Code { mut text } => {
-                let lines = line_feeds(&text) + 1;
-                text.push_str("\n")?;
-                put_code(alloc, "", &text, lines, stack, owners)?;
+                let lines = count_lines(text.feeds(), 1)?;
+                text.end_line()?;
+                put_code(alloc, "", text.as_str(), lines, stack, owners)?;
                 leaves.keep(text);
                 Ok(())
             }
             ClosedLeaf::Fenced { info, text, ended } => {
-                let lines = fence_lines(ended, &text);
-                put_code(alloc, &info, &text, lines, stack, owners)?;
+                let lines = fence_lines(ended, &text)?;
+                put_code(alloc, &info, text.as_str(), lines, stack, owners)?;
                 leaves.keep(text);
                 Ok(())
             }
             ClosedLeaf::Html { mut text } => {
-                let lines = line_feeds(&text) + 1;
-                text.push_str("\n")?;
+                let lines = count_lines(text.feeds(), 1)?;
+                text.end_line()?;
                 owners.leaf(lines)?;
-                stack.put_html(&text)?;
+                stack.put_html(text.as_str())?;
                 leaves.keep(text);
                 Ok(())
             }

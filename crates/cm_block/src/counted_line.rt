@@ -24,6 +24,7 @@ mod interruptions;
 mod places;
 mod starts;
 
+use crate::leaf_text::LeafText;
 use crate::rooms::TextRoom;
 use cm_scan::{FenceKind, HtmlKind};
 use cm_text::{Rules, View};
@@ -232,8 +233,8 @@ impl<'a> CountedLine<'a> {
     }
 
     /// Goes on with a run of text by the line, whose leading spaces and tabs go (4.8 Paragraphs).
-    pub(crate) fn add_text(&mut self, source: &mut String) -> Result<(), AllocError>
-        ensures text { OnOk result (string_bytes source.new ≡ add_text (string_bytes source.old) (seen_view self.old.rest)) }
+    pub(crate) fn add_text(&mut self, source: &mut LeafText) -> Result<(), AllocError>
+        ensures text { OnOk result (source.new ≡ add_text source.old (seen_view self.old.rest)) }
         ensures read { ReadOnce self.old self.new }
     {
         add_text(source, &self.read())
@@ -243,11 +244,11 @@ impl<'a> CountedLine<'a> {
     /// waits for a further line of code (4.4 Indented code blocks).
     pub(crate) fn add_code(
         &mut self,
-        text: &mut String,
-        blank_lines: &mut String,
+        text: &mut LeafText,
+        blank_lines: &mut LeafText,
     ) -> Result<bool, AllocError>
-        ensures taken { (by : all.Rules) → IfOk result (λ taken. given taken (stays_open (code_of (string_bytes text.new) (string_bytes blank_lines.new)))
-            ≡ line_of_leaf by (code_of (string_bytes text.old) (string_bytes blank_lines.old)) (seen_view self.old.rest)) }
+        ensures taken { (by : all.Rules) → IfOk result (λ taken. given taken (stays_open (code_of text.new blank_lines.new))
+            ≡ line_of_leaf by (code_of text.old blank_lines.old) (seen_view self.old.rest)) }
         ensures kept { IfOk result (λ taken. taken ≡ false → text.new ≡ text.old) }
         ensures waiting { IfOk result (λ taken. taken ≡ false → blank_lines.new ≡ blank_lines.old) }
         ensures read { ReadOnce self.old self.new }
@@ -256,18 +257,22 @@ impl<'a> CountedLine<'a> {
     }
 
     /// Goes on with fenced code by the line, which loses so many columns (4.5 Fenced code blocks).
-    pub(crate) fn add_fenced(&mut self, columns: usize, text: &mut String) -> Result<(), AllocError>
-        ensures text { OnOk result (string_bytes text.new ≡ string_bytes text.old ++ with_ending (strip_columns columns (seen_view self.old.rest))) }
-        ensures feeds { OnOk result (line_feeds (string_bytes text.new) ≡ suc (line_feeds (string_bytes text.old))) }
+    pub(crate) fn add_fenced(
+        &mut self,
+        columns: usize,
+        text: &mut LeafText,
+    ) -> Result<(), AllocError>
+        ensures text { OnOk result (text.new ≡ text.old ++ with_ending (strip_columns columns (seen_view self.old.rest))) }
+        ensures feeds { OnOk result (line_feeds text.new ≡ suc (line_feeds text.old)) }
         ensures read { ReadOnce self.old self.new }
     {
         push_whole_line(text, &self.read().strip(columns))
     }
 
     /// Goes on with HTML by the line (4.6 HTML blocks).
-    pub(crate) fn add_html(&mut self, text: &mut String) -> Result<(), AllocError>
-        ensures text { OnOk result (string_bytes text.new ≡ string_bytes text.old ++ 10 ∷ (seen_view self.old.rest).text) }
-        ensures feeds { OnOk result (line_feeds (string_bytes text.new) ≡ suc (line_feeds (string_bytes text.old))) }
+    pub(crate) fn add_html(&mut self, text: &mut LeafText) -> Result<(), AllocError>
+        ensures text { OnOk result (text.new ≡ text.old ++ 10 ∷ (seen_view self.old.rest).text) }
+        ensures feeds { OnOk result (line_feeds text.new ≡ suc (line_feeds text.old)) }
         ensures read { ReadOnce self.old self.new }
     {
         push_next_line(text, &self.read())

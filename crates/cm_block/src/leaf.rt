@@ -13,7 +13,8 @@ ghost use Rattle.cm_block.specs.steps.LineTests.{Tested};
 
 use crate::closed_leaf::ClosedLeaf;
 use crate::counted_line::CountedLine;
-use crate::runs::{NextLine, line_feeds, next_line};
+use crate::leaf_text::LeafText;
+use crate::runs::{NextLine, next_line};
 use cm_scan::{FenceKind, HtmlKind};
 use cm_text::Rules;
 use std::alloc::AllocError;
@@ -26,25 +27,25 @@ pub(crate) enum OpenLeaf {
     Nothing,
     /// A run of text: definitions, and then a paragraph or a heading.
     Run {
-        source: String,
+        source: LeafText,
     },
     /// Indented code: its lines, parted by line feeds, and the blank lines that wait for a further line of
     /// code, each with a line feed.
     Code {
-        text: String,
-        blank_lines: String,
+        text: LeafText,
+        blank_lines: LeafText,
     },
     /// Fenced code: what closes it, the columns that each line loses, and its lines, each with a line feed.
     Fence {
         kind: FenceKind,
         info: String,
         columns: usize,
-        text: String,
+        text: LeafText,
     },
     /// HTML: its lines, parted by line feeds.
     Html {
         kind: HtmlKind,
-        text: String,
+        text: LeafText,
     },
 }
 
@@ -102,7 +103,7 @@ impl OpenLeaf {
         ensures blank_lines { result.1 ≡ blank_lines_behind (leaf_of self) }
     {
         let blank_lines = match &self {
-            OpenLeaf::Code { blank_lines, .. } => line_feeds(blank_lines),
+            OpenLeaf::Code { blank_lines, .. } => blank_lines.feeds(),
             _ => 0,
         };
         (self.closed(None, false), blank_lines)
@@ -131,7 +132,7 @@ impl OpenLeaf {
     {
         match self {
             OpenLeaf::Nothing => Ok(LeafLine::Leaves),
-            OpenLeaf::Run { source } => match next_line(rules, source, line) {
+            OpenLeaf::Run { source } => match next_line(rules, source.as_str(), line) {
                 NextLine::GoesOn => {
                     line.add_text(source)?;
                     Ok(LeafLine::Stays)

@@ -7,7 +7,7 @@ ghost use Rattle.cm_block.specs.steps.LeafSteps.{own_plain_leaf, own_definition}
 
 use crate::owner_runs::{LineOwners, OwnerRuns};
 use cm_text::NoMemory;
-use cm_tree::{Definitions, Owner};
+use cm_tree::Definitions;
 use std::alloc::{AllocError, Global};
 use std::marker::Model;
 
@@ -27,17 +27,6 @@ impl Model for Owners {
     ghost coded = { owned_code };
 
     ghost view = { λ o. record { owners = o.runs.owners; leaves = o.runs.leaves; table = o.definitions } };
-}
-
-/// The owner of a blank line, inside a quote or not.
-pub(crate) fn blank_owner(in_a_quote: bool) -> Owner
-    ensures { result ≡ blank_owner in_a_quote }
-{
-    if in_a_quote {
-        Owner::Marker
-    } else {
-        Owner::Blank
-    }
 }
 
 impl Owners {
@@ -95,17 +84,17 @@ impl Owners {
         (LineOwners::new(self.runs), self.definitions)
     }
 
-    /// A line that belongs to no leaf.
-    pub(crate) fn line(&mut self, owner: Owner) -> Result<(), AllocError>
-        ensures { OnOk result (self.new ≡ own_lines self.old (owner ∷ [])) }
+    /// A blank line, from which markers were taken or not.
+    pub(crate) fn blank_line(&mut self, marked: bool) -> Result<(), AllocError>
+        ensures { OnOk result (self.new ≡ own_lines self.old (blank_owner marked ∷ [])) }
     {
-        self.runs.push_times(owner, 1)
+        self.runs.push_blank(marked, 1)
     }
 
     /// So many blank lines, inside a quote or not.
     pub(crate) fn blank_lines(&mut self, in_a_quote: bool, lines: usize) -> Result<(), AllocError>
         ensures { OnOk result (self.new ≡ own_blanks in_a_quote lines self.old) }
     {
-        self.runs.push_times(blank_owner(in_a_quote), lines)
+        self.runs.push_blank(in_a_quote, lines)
     }
 }

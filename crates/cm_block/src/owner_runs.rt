@@ -1,5 +1,7 @@
 //! The owner of each line, kept in runs: lines one after another that have the same owner are one run.
-ghost use Rattle.std.specs.Prelude.{◌≡◌, ◌≤◌, ◌^◌, ◌++◌, [], suc, length, replicate, IfOk, OnOk};
+ghost use Rattle.std.specs.Prelude.{◌≡◌, ◌≤◌, ◌<◌, ◌^◌, ◌++◌, ℕ, [], suc, length, replicate, IfOk, OnOk};
+ghost use Rattle.cm_block.specs.OwnerRuns.{leaves_with, owner_of};
+ghost use Rattle.cm_block.specs.Stack.{blank_owner};
 ghost use Rattle.cm_tree.specs.declared.tree.Owner.TheVariants as owner;
 
 use cm_text::NoMemory;
@@ -8,13 +10,26 @@ use std::alloc::{AllocError, Global};
 use std::marker::Model;
 
 /// How many lines a run has at most.
-const MOST: usize = 1 << 32;
+const MOST: usize = u32::MAX as usize;
+
+/// Whose lines a run has. Leaves are counted in the order of the runs, so that no run holds a number.
+#[derive(Clone, Copy, Debug, PartialEq, Eq)]
+pub(crate) enum RunOwner {
+    /// No leaf: the lines are blank.
+    Blank,
+    /// No leaf: markers were taken from the lines, and what was left of them is blank.
+    Marker,
+    /// One more leaf.
+    NextLeaf,
+    /// The last leaf, which has more lines than one run.
+    SameLeaf,
+}
 
 /// Lines one after another that have the same owner, `MOST` of them at most.
 #[derive(Clone, Copy, Debug)]
 pub(crate) struct OwnerRun {
-    pub(crate) owner: Owner,
-    pub(crate) lines: usize,
+    pub(crate) owner: RunOwner,
+    pub(crate) lines: u32,
 }
 
 /// The owner of each line so far, and how many leaves they have. Lines one after another that have the same owner take
@@ -28,22 +43,60 @@ pub(crate) struct OwnerRuns {
 }
 
 impl Model for OwnerRuns {
-    ghost use Rattle.std.specs.Prelude.{◌≡◌, ◌≤◌, ◌^◌, ◌*◌, ◌+◌, length};
-    ghost use Rattle.cm_block.specs.OwnerRuns.{OwnedLines, owners_in};
+    ghost use Rattle.std.specs.Prelude.{◌≡◌, ◌<◌, ◌≤◌, ◌^◌, ◌*◌, ◌+◌, length};
+    ghost use Rattle.cm_block.specs.OwnerRuns.{OwnedLines, leaves_with, leaves_in, owners_in};
 
     ghost Value = { OwnedLines };
 
     ghost view = { λ o. record { owners = owners_in o.closed.items o.last; leaves = o.leaves } };
 
-    ghost invariant = { λ o. (o.count ≡ length (owners_in o.closed.items o.last)) × (o.last.lines ≤ 2 ^ 32) × (o.count ≤ length o.closed.items * 2 ^ 32 + o.last.lines) × (o.leaves ≤ length o.closed.items) };
+    ghost invariant = { λ o. (o.count ≡ length (owners_in o.closed.items o.last))
+        × (o.count ≤ length o.closed.items * 2 ^ 32 + o.last.lines)
+        × (o.leaves ≡ leaves_with (leaves_in 0 o.closed.items) o.last.owner)
+        × (o.leaves ≤ length o.closed.items)
+        × (o.last.lines < 2 ^ 32) };
 }
 
-/// Puts the owners of a run at the end.
-fn push_run(owners: &mut Vec<Owner>, run: OwnerRun) -> Result<(), AllocError>
-    ensures { OnOk result (owners.new.items ≡ owners.old.items ++ replicate run.lines run.owner) }
+/// How many leaves there are with a run of this owner, behind so many.
+fn leaves_with(leaves: usize, owner: RunOwner) -> usize
+    requires { leaves < 2 ^ 63 }
+    ensures { result ≡ leaves_with leaves owner }
 {
-    for _ in 0..run.lines {
-        owners.push(run.owner)?;
+    match owner {
+        RunOwner::NextLeaf => leaves + 1,
+        RunOwner::Blank | RunOwner::Marker | RunOwner::SameLeaf => leaves,
+    }
+}
+
+/// The owner of a run of blank lines, from which markers were taken or not.
+fn blank_run(marked: bool) -> RunOwner
+    ensures owner { (leaves : ℕ) → owner_of leaves result ≡ blank_owner marked }
+    ensures leaves { (leaves : ℕ) → leaves_with leaves result ≡ leaves }
+{
+    if marked {
+        RunOwner::Marker
+    } else {
+        RunOwner::Blank
+    }
+}
+
+/// The owner of a run's lines, with which there are so many leaves.
+fn owner_of(leaves: usize, owner: RunOwner) -> Owner
+    ensures { result ≡ owner_of leaves owner }
+{
+    match owner {
+        RunOwner::Blank => Owner::Blank,
+        RunOwner::Marker => Owner::Marker,
+        RunOwner::NextLeaf | RunOwner::SameLeaf => Owner::Leaf(leaves),
+    }
+}
+
+/// Puts so many lines of an owner at the end.
+fn push_run(owners: &mut Vec<Owner>, owner: Owner, lines: u32) -> Result<(), AllocError>
+    ensures { OnOk result (owners.new.items ≡ owners.old.items ++ replicate lines owner) }
+{
+    for _ in 0..lines {
+        owners.push(owner)?;
     }
     Ok(())
 }
@@ -56,7 +109,7 @@ impl OwnerRuns {
         OwnerRuns {
             closed: Vec::new(alloc),
             last: OwnerRun {
-                owner: Owner::Blank,
+                owner: RunOwner::Blank,
                 lines: 0,
             },
             count: 0,
@@ -74,60 +127,71 @@ impl OwnerRuns {
         self.count
     }
 
-    /// Adds so many lines of one owner, `MOST` at most.
-    #[tactic(auto, using(crate::proofs::OwnerRunLemmas::longer_run, crate::proofs::OwnerRunLemmas::next_run))]
-    fn push_few(&mut self, owner: Owner, lines: usize) -> Result<(), AllocError>
-        requires { lines ≤ 2 ^ 32 }
-        ensures { OnOk result (self.new ≡ record { owners = self.old.owners ++ replicate lines owner; leaves = self.old.leaves }) }
+    /// Begins a run of so many lines, `MOST` at most.
+    fn begin(&mut self, owner: RunOwner, lines: usize) -> Result<(), AllocError>
+        requires { lines < 2 ^ 32 }
+        ensures { OnOk result (self.new ≡ record {
+          owners = self.old.owners ++ replicate lines (owner_of (leaves_with self.old.leaves owner) owner);
+          leaves = leaves_with self.old.leaves owner;
+        }) }
     {
-        // How many runs there are bounds the lines.
-        let _runs = self.closed.len();
-        if owner == self.last.owner && self.last.lines + lines <= MOST {
-            self.last.lines += lines;
-            self.count += lines as u128;
-            return Ok(());
-        }
         self.closed.push(self.last)?;
-        self.last = OwnerRun { owner, lines };
+        // How many runs there are bounds the lines and the leaves.
+        let _runs = self.closed.len();
+        self.leaves = leaves_with(self.leaves, owner);
+        self.last = OwnerRun {
+            owner,
+            lines: lines as u32,
+        };
         self.count += lines as u128;
         Ok(())
     }
 
-    /// Adds so many lines of one owner.
-    pub(crate) fn push_times(&mut self, owner: Owner, times: usize) -> Result<(), AllocError>
-        ensures { OnOk result (self.new ≡ record { owners = self.old.owners ++ replicate times owner; leaves = self.old.leaves }) }
+    /// Adds runs of so many lines in all, which have no leaf or the last one.
+    fn push_times(&mut self, owner: RunOwner, times: usize) -> Result<(), AllocError>
+        requires { leaves_with self.old.leaves owner ≡ self.old.leaves }
+        ensures { OnOk result (self.new ≡ record {
+          owners = self.old.owners ++ replicate times (owner_of self.old.leaves owner);
+          leaves = self.old.leaves;
+        }) }
     {
         let mut left = times;
         while left > 0 {
             let lines = left.min(MOST);
-            self.push_few(owner, lines)?;
+            self.begin(owner, lines)?;
             left -= lines;
         }
         Ok(())
     }
 
-    /// Begins one more leaf, with a run of no lines: the leaf's number, counted from 1.
-    fn begin_leaf(&mut self) -> Result<usize, AllocError>
-        ensures begun { OnOk result (self.new ≡ record { owners = self.old.owners; leaves = suc self.old.leaves }) }
-        ensures number { IfOk result (λ leaf. leaf ≡ suc self.old.leaves) }
+    /// Adds so many blank lines, from which markers were taken or not.
+    pub(crate) fn push_blank(&mut self, marked: bool, lines: usize) -> Result<(), AllocError>
+        ensures { OnOk result (self.new ≡ record {
+          owners = self.old.owners ++ replicate lines (blank_owner marked);
+          leaves = self.old.leaves;
+        }) }
     {
-        self.closed.push(self.last)?;
-        // How many runs there are bounds the leaves.
+        let owner = blank_run(marked);
+        // How many runs there are bounds the lines.
         let _runs = self.closed.len();
-        self.leaves += 1;
-        self.last = OwnerRun {
-            owner: Owner::Leaf(self.leaves),
-            lines: 0,
-        };
-        Ok(self.leaves)
+        if owner == self.last.owner && lines <= MOST - self.last.lines as usize {
+            self.last.lines += lines as u32;
+            self.count += lines as u128;
+            return Ok(());
+        }
+        self.push_times(owner, lines)
     }
 
     /// Adds the lines of one more leaf.
     pub(crate) fn push_leaf(&mut self, lines: usize) -> Result<(), AllocError>
-        ensures { OnOk result (self.new ≡ record { owners = self.old.owners ++ replicate lines (owner.Leaf (suc self.old.leaves)); leaves = suc self.old.leaves }) }
+        ensures { OnOk result (self.new ≡ record {
+          owners = self.old.owners ++ replicate lines (owner.Leaf (suc self.old.leaves));
+          leaves = suc self.old.leaves;
+        }) }
     {
-        let leaf = self.begin_leaf()?;
-        self.push_times(Owner::Leaf(leaf), lines)
+        let first = lines.min(MOST);
+        self.begin(RunOwner::NextLeaf, first)?;
+        self.push_times(RunOwner::SameLeaf, lines - first)
     }
 
     /// The owners one by one.
@@ -137,10 +201,16 @@ impl OwnerRuns {
         // There is no room for so many as a `usize` can't count: it is asked for, and refused.
         let count = usize::try_from(self.count).unwrap_or(usize::MAX);
         let mut owners = Vec::with_capacity(alloc, count)?;
+        let mut leaves: usize = 0;
         for run in self.closed.iter() {
-            push_run(&mut owners, *run)?;
+            leaves = leaves_with(leaves, run.owner);
+            push_run(&mut owners, owner_of(leaves, run.owner), run.lines)?;
         }
-        push_run(&mut owners, self.last)?;
+        push_run(
+            &mut owners,
+            owner_of(self.leaves, self.last.owner),
+            self.last.lines,
+        )?;
         Ok(Items::from(owners))
     }
 }

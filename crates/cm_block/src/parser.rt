@@ -22,7 +22,7 @@ use crate::containers::Innermost;
 use crate::counted_line::{CountedLine, FirstLine, LeafStart};
 use crate::fault::BlockFault;
 use crate::leaf::{LeafLine, OpenLeaf};
-use crate::line_owners::{Owners, blank_owner};
+use crate::line_owners::Owners;
 use crate::owner_runs::LineOwners;
 use crate::rooms::TextRoom;
 use crate::stack::Stack;
@@ -128,7 +128,7 @@ impl BlockParser {
         if !self.stack.is_bare() {
             self.stack.push_blank();
         }
-        self.owners.line(blank_owner(marked))?;
+        self.owners.blank_line(marked)?;
         Ok(())
     }
 

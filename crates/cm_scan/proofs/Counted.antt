@@ -356,11 +356,11 @@ unfolding line_feeds
 feeds-keep_byte b [] = grind arith
 feeds-keep_byte b (c ∷ cs) = refl
 
-feeds-trim_end : (text : List ℕ) → line_feeds (trim_end text) ≡ line_feeds text
+pub feeds_trimmed : (text : List ℕ) → line_feeds (trim_end text) ≡ line_feeds text
 unfolding trim_end_by line_feeds
-feeds-trim_end [] = refl
-feeds-trim_end (b ∷ bs) =
-    let h : line_feeds (trim_end bs) ≡ line_feeds bs = feeds-trim_end bs in
+feeds_trimmed [] = refl
+feeds_trimmed (b ∷ bs) =
+    let h : line_feeds (trim_end bs) ≡ line_feeds bs = feeds_trimmed bs in
     let k : line_feeds (keep_byte true b (trim_end bs)) ≡ line_feeds (b ∷ trim_end bs) = feeds-keep_byte b (trim_end bs) in
     grind (arith, h, k)
 
@@ -456,7 +456,7 @@ run-count n run r =
       d.counted,
       content-count run.level found.left r.content,
       count-firm source (firm-trim_end run.source r.firm),
-      feeds-trim_end run.source,
+      feeds_trimmed run.source,
       r.counted,
     )
 

@@ -43,12 +43,12 @@ fence_lines false text = suc (line_feeds text)
 -- the leaves that a closed one stands for, each with how many lines it has
 abbrev pub leaves_of_closed : ClosedLeaf → List (LeafPart × ℕ)
 leaves_of_closed closed.Nothing = []
-leaves_of_closed (closed.Run source level) = run_leaves level (string_bytes source)
+leaves_of_closed (closed.Run source level) = run_leaves level source
 leaves_of_closed (closed.Heading level content) = (heading level (string_bytes content), 1) ∷ []
 leaves_of_closed closed.Break = (thematic_break, 1) ∷ []
-leaves_of_closed (closed.Code text) = (code [] (ended (string_bytes text)), suc (line_feeds (string_bytes text))) ∷ []
-leaves_of_closed (closed.Fenced info text has_end) = (code (string_bytes info) (string_bytes text), fence_lines has_end (string_bytes text)) ∷ []
-leaves_of_closed (closed.Html text) = (html (ended (string_bytes text)), suc (line_feeds (string_bytes text))) ∷ []
+leaves_of_closed (closed.Code text) = (code [] (ended text), suc (line_feeds text)) ∷ []
+leaves_of_closed (closed.Fenced info text has_end) = (code (string_bytes info) text, fence_lines has_end text) ∷ []
+leaves_of_closed (closed.Html text) = (html (ended text), suc (line_feeds text)) ∷ []
 
 -- an open leaf, closed: a run by an underline or not, and a fence by a closing fence or not
 abbrev pub closed_as : Option ℕ → Bool → OpenLeaf → ClosedLeaf

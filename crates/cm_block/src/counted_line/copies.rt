@@ -10,57 +10,57 @@ ghost use Rattle.cm_block.specs.LeafViews.{code_of};
 
 use crate::counted_line::places::is_blank;
 use crate::counted_line::starts::content;
+use crate::leaf_text::LeafText;
 use cm_text::View;
 use std::alloc::AllocError;
 
 /// Puts a line at the end of a text.
-pub(crate) fn push_line(text: &mut String, line: &View<'_>) -> Result<(), AllocError>
-    ensures text { OnOk result (string_bytes text.new ≡ string_bytes text.old ++ (seen_view line.now).text) }
-    ensures feeds { OnOk result (line_feeds (string_bytes text.new) ≡ line_feeds (string_bytes text.old)) }
+pub(crate) fn push_line(text: &mut LeafText, line: &View<'_>) -> Result<(), AllocError>
+    ensures { OnOk result (text.new ≡ text.old ++ (seen_view line.now).text) }
 {
     for _ in 0..line.spaces {
-        text.push_str(" ")?;
+        text.push(" ")?;
     }
-    text.push_str(line.rest)
+    text.push(line.rest)
 }
 
 /// Puts a line and its line feed at the end of a text.
-pub(crate) fn push_whole_line(text: &mut String, line: &View<'_>) -> Result<(), AllocError>
-    ensures text { OnOk result (string_bytes text.new ≡ string_bytes text.old ++ with_ending (seen_view line.now)) }
-    ensures feeds { OnOk result (line_feeds (string_bytes text.new) ≡ suc (line_feeds (string_bytes text.old))) }
+pub(crate) fn push_whole_line(text: &mut LeafText, line: &View<'_>) -> Result<(), AllocError>
+    ensures text { OnOk result (text.new ≡ text.old ++ with_ending (seen_view line.now)) }
+    ensures feeds { OnOk result (line_feeds text.new ≡ suc (line_feeds text.old)) }
 {
     push_line(text, line)?;
-    text.push_str("\n")
+    text.end_line()
 }
 
 /// Puts a line feed and a line at the end of a text.
-pub(crate) fn push_next_line(text: &mut String, line: &View<'_>) -> Result<(), AllocError>
-    ensures text { OnOk result (string_bytes text.new ≡ string_bytes text.old ++ 10 ∷ (seen_view line.now).text) }
-    ensures feeds { OnOk result (line_feeds (string_bytes text.new) ≡ suc (line_feeds (string_bytes text.old))) }
+pub(crate) fn push_next_line(text: &mut LeafText, line: &View<'_>) -> Result<(), AllocError>
+    ensures text { OnOk result (text.new ≡ text.old ++ 10 ∷ (seen_view line.now).text) }
+    ensures feeds { OnOk result (line_feeds text.new ≡ suc (line_feeds text.old)) }
 {
-    text.push_str("\n")?;
+    text.end_line()?;
     push_line(text, line)
 }
 
 /// Goes on with a run by one more line, whose leading spaces and tabs go (4.8 Paragraphs).
-pub(crate) fn add_text(source: &mut String, line: &View<'_>) -> Result<(), AllocError>
-    ensures { OnOk result (string_bytes source.new ≡ add_text (string_bytes source.old) (seen_view line.now)) }
+pub(crate) fn add_text(source: &mut LeafText, line: &View<'_>) -> Result<(), AllocError>
+    ensures { OnOk result (source.new ≡ add_text source.old (seen_view line.now)) }
 {
-    if !source.is_empty() {
-        source.push_str("\n")?;
+    if !source.as_str().is_empty() {
+        source.end_line()?;
     }
-    source.push_str(content(line))
+    source.push(content(line))
 }
 
 /// A line behind indented code: whether it is one of the block, which then has it. A blank line waits for a
 /// further line of code (4.4 Indented code blocks).
 pub(crate) fn take_code_line(
-    text: &mut String,
-    blank_lines: &mut String,
+    text: &mut LeafText,
+    blank_lines: &mut LeafText,
     line: &View<'_>,
 ) -> Result<bool, AllocError>
-    ensures taken { (by : all.Rules) → IfOk result (λ taken. given taken (stays_open (code_of (string_bytes text.new) (string_bytes blank_lines.new)))
-        ≡ line_of_leaf by (code_of (string_bytes text.old) (string_bytes blank_lines.old)) (seen_view line.now)) }
+    ensures taken { (by : all.Rules) → IfOk result (λ taken. given taken (stays_open (code_of text.new blank_lines.new))
+        ≡ line_of_leaf by (code_of text.old blank_lines.old) (seen_view line.now)) }
     ensures kept { IfOk result (λ taken. taken ≡ false → text.new ≡ text.old) }
     ensures waiting { IfOk result (λ taken. taken ≡ false → blank_lines.new ≡ blank_lines.old) }
 {
@@ -71,8 +71,8 @@ pub(crate) fn take_code_line(
     if line.indent() < 4 {
         return Ok(false);
     }
-    text.push_str("\n")?;
-    text.push_str(blank_lines)?;
+    text.end_line()?;
+    text.push_text(blank_lines)?;
     push_line(text, &line.strip(4))?;
     blank_lines.clear();
     Ok(true)

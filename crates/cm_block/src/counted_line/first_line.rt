@@ -5,6 +5,7 @@ ghost use Rattle.cm_block.specs.declared.counted_line.starts.Start.TheVariants.{
 ghost use Rattle.cm_text.specs.Views.{seen_view};
 ghost use Rattle.cm_scan.specs.HtmlKinds.{kind_of};
 ghost use Rattle.cm_scan.specs.HtmlBlocks.{is_html_end};
+ghost use Rattle.cm_scan.specs.Lines.{content_of};
 ghost use Rattle.cm_scan.specs.Starts as starts;
 ghost use Rattle.cm_block.specs.OpenLeaf.{begin_of_start, begins_leaf};
 ghost use Rattle.cm_block.specs.steps.StartViews.{seen};
@@ -16,6 +17,7 @@ use crate::counted_line::copies::push_line;
 use crate::counted_line::ends::ends_html;
 use crate::counted_line::starts::{Start, content};
 use crate::leaf::OpenLeaf;
+use crate::leaf_text::LeafText;
 use crate::rooms::TextRoom;
 use cm_scan::{AtxHeading, HtmlKind, OpeningFence};
 use cm_text::View;
@@ -42,7 +44,7 @@ fn begin_code(
     push_line(&mut text, &line.strip(4))?;
     Ok(FirstLine::Opens(OpenLeaf::Code {
         text,
-        blank_lines: String::new(alloc),
+        blank_lines: LeafText::new(alloc),
     }))
 }
 
@@ -90,12 +92,12 @@ fn begin_html(
     Ok(FirstLine::Opens(OpenLeaf::Html { kind, text }))
 }
 
-/// A run of text, whose source begins so.
-fn begin_run(alloc: Global, leaves: &mut TextRoom, text: &str) -> Result<String, AllocError>
-    ensures { IfOk result (λ source. string_bytes source ≡ text.now) }
+/// A run of text, which begins with the line behind its indentation.
+fn begin_run(alloc: Global, leaves: &mut TextRoom, line: &View<'_>) -> Result<LeafText, AllocError>
+    ensures { IfOk result (λ source. source ≡ content_of (seen_view line.now)) }
 {
     let mut source = leaves.take(alloc);
-    source.push_str(text)?;
+    source.push(content(line))?;
     Ok(source)
 }
 
@@ -117,7 +119,7 @@ pub(crate) fn begin_leaf(
         Start::Html(kind) => Ok(Some(begin_html(alloc, leaves, *kind, line)?)),
         Start::Break => Ok(Some(FirstLine::Whole(ClosedLeaf::Break))),
         Start::TextLine => {
-            let source = begin_run(alloc, leaves, content(line))?;
+            let source = begin_run(alloc, leaves, line)?;
             Ok(Some(FirstLine::Opens(OpenLeaf::Run { source })))
         }
         Start::QuoteMarker | Start::Item(_) => Ok(None),

@@ -1,5 +1,6 @@
 //! What a line begins: a quote, an item, or a leaf block (CommonMark 0.31.2, chapters 4 and 5).
-ghost use Rattle.std.specs.Prelude.{◌≡◌, ◌==◌, ◌&&◌, false};
+ghost use Rattle.std.specs.Prelude.{◌≡◌, ◌==◌, ◌&&◌, false, true};
+ghost use Rattle.cm_text.specs.LineText.{is_line};
 ghost use Rattle.cm_text.specs.Views.{seen_view};
 ghost use Rattle.cm_scan.specs.HtmlBlocks.{is_at_letter};
 ghost use Rattle.cm_scan.specs.Lines.{content_of};
@@ -42,7 +43,8 @@ pub(crate) fn begins_with_letter(line: &View<'_>) -> bool
 
 /// The line behind its indentation.
 pub(crate) fn content<'a>(line: &View<'a>) -> &'a str
-    ensures { result.now ≡ content_of (seen_view line.now) }
+    ensures content { result.now ≡ content_of (seen_view line.now) }
+    ensures line { is_line result.now ≡ true }
 {
     if begins_with_letter(line) {
         return line.rest;

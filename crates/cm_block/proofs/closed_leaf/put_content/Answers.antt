@@ -32,7 +32,7 @@ returns-in_ok-leaf-in-Some-clause-owners c =
     let some : c.args.source.now ≡ [] → ⊥ = λ e. grind (arith, common_steps, e) in
     on_ok_weaker c.put_heading.result (λ closed.
     c.in_ok-leaf-in-Some.ensures
-    ∙ heading_owns owned c.in-Some.number c.args.source.now _ some (omega (arith, c.line_feeds-lines.ensures.count))
+    ∙ heading_owns owned c.in-Some.number c.args.source.now _ some (omega (arith, c.requires, c.in_ok-count_lines-in-Some.ensures))
     ∙ ap (λ h. own_leaves owned (content_leaf h c.args.source.now)) (sym c.in-Some.is)) c.put_heading.ensures.level
 
 pub returns-in_ok-leaf-in-None-clause-level : goal.returns-in_ok-leaf-in-None-clause-level
@@ -50,5 +50,5 @@ returns-in_ok-leaf-in-None-clause-owners c =
     let some : c.args.source.now ≡ [] → ⊥ = λ e. grind (arith, common_steps, e) in
     on_ok_weaker c.put_paragraph.result (λ closed.
     c.in_ok-leaf-in-None.ensures
-    ∙ content_owns owned c.args.source.now _ some (omega (arith, c.line_feeds-lines.ensures.count))
+    ∙ content_owns owned c.args.source.now _ some (omega (arith, c.requires, c.in_ok-count_lines-in-None.ensures))
     ∙ ap (λ h. own_leaves owned (content_leaf h c.args.source.now)) (sym c.in-None.is)) c.put_paragraph.ensures.level

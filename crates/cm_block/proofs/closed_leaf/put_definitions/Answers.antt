@@ -1,7 +1,8 @@
-use Rattle.std.proofs.Common.{◌∙◌, sym}
+use Rattle.std.proofs.Common.{◌∙◌, sym, ap, arith}
+use Rattle.cm_scan.specs.Blocks.{line_feeds}
 use Rattle.std.proofs.lemmas.Str.{IsCharBoundary-start}
 use Rattle.cm_block.proofs.RunLemmas.{next_fewer, next_left, none_left}
-use Rattle.cm_block.proofs.PutLemmas.{definition_closes, definition_owns, nothing_closes, nothing_owns, some_definition}
+use Rattle.cm_block.proofs.PutLemmas.{feeds_parted, definition_closes, definition_owns, nothing_closes, nothing_owns, some_definition}
 use Rattle.cm_block.proofs.closed_leaf.put_definitions.Goals as goal
 
 pub definition-requires : goal.definition-requires
@@ -11,6 +12,18 @@ pub lines_taken-lines-requires-clause-some : goal.lines_taken-lines-requires-cla
 lines_taken-lines-requires-clause-some c =
     let found = c.in-Some.found in
     some_definition c.loop-found.rest.now found.label.now found.dest.now found.title.now c.in-Some.end c.in-Some.ensures.read
+
+pub lines_taken-lines-requires-clause-feeds : goal.lines_taken-lines-requires-clause-feeds
+lines_taken-lines-requires-clause-feeds c =
+    feeds_parted c.loop-found.rest.now c.range.result.now c.in-Some.end c.line_feeds-taken.result c.range.ensures.value c.line_feeds-taken.ensures.count
+
+pub overflow_sub-left : goal.overflow_sub-left
+overflow_sub-left c =
+    omega (
+      arith,
+      c.loop-found.invariant.feeds,
+      feeds_parted c.loop-found.rest.now c.range.result.now c.in-Some.end c.line_feeds-taken.result c.range.ensures.value c.line_feeds-taken.ensures.count,
+    )
 
 pub loop-found-smaller : goal.loop-found-smaller
 loop-found-smaller c =
@@ -26,6 +39,12 @@ loop-found-preserved c =
     let put = c.in_ok-put_definition.ensures in
     record {
       utf8 = c.range_from-rest.utf8;
+      feeds = omega (
+        arith,
+        kept.feeds,
+        feeds_parted rest c.range.result.now c.in-Some.end c.line_feeds-taken.result c.range.ensures.value c.line_feeds-taken.ensures.count,
+        ap line_feeds c.range_from-rest.ensures.value,
+      );
       left = next_left rest left found.label.now found.dest.now found.title.now c.in-Some.end c.in-Some.ensures.read c.range_from-rest.ensures.value ∙ kept.left;
       level = definition_closes c.loop-found.stack.level c.put_definition.new.stack.level rest left found.label.now found.dest.now found.title.now c.in-Some.end c.in-Some.ensures.read
           c.range_from-rest.ensures.value put.level

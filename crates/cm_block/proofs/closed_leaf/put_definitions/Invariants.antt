@@ -2,7 +2,7 @@ use Rattle.std.proofs.Common.{◌≡◌}
 use denote.Text.{Utf8}
 use denote.Shadow.{shadow}
 use Rattle.cm_scan.specs.Links.{definitions_of}
-use Rattle.cm_scan.specs.Blocks.{line_count, definition_leaves}
+use Rattle.cm_scan.specs.Blocks.{line_feeds, line_count, definition_leaves}
 use Rattle.cm_block.specs.Stack.{close_leaves, own_leaves}
 use Rattle.cm_block.proofs.closed_leaf.put_definitions.Given as goal
 
@@ -10,6 +10,7 @@ use Rattle.cm_block.proofs.closed_leaf.put_definitions.Given as goal
 abbrev pub invariant-loop-found : goal.invariant-loop-found
 invariant-loop-found l = record {
   utf8 : shadow (Utf8 l.rest);
+  feeds : l.left ≡ line_feeds l.rest;
   left : (definitions_of l.rest).left ≡ (definitions_of l.text).left;
   level : close_leaves l.stack.level (definition_leaves l.rest (definitions_of l.rest).taken)
       ≡ close_leaves l.fn.stack.level (definition_leaves l.text (definitions_of l.text).taken);

@@ -2,4 +2,4 @@ use Rattle.std.proofs.Common.{◌≡◌, ◌++◌, replicate}
 use Rattle.cm_block.proofs.owner_runs.push_run.Given as goal
 
 abbrev pub invariant-loop : goal.invariant-loop
-invariant-loop l = l.owners.items ≡ l.fn.owners.items ++ replicate l.counter l.run.owner
+invariant-loop l = l.owners.items ≡ l.fn.owners.items ++ replicate l.counter l.owner

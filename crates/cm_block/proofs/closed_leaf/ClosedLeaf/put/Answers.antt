@@ -24,7 +24,7 @@ pub returns-in_ok-put_heading-in-Heading-clause-level : goal.returns-in_ok-put_h
 returns-in_ok-put_heading-in-Heading-clause-level c =
     let level = c.args.stack.now.level in
     c.in_ok-put_heading-in-Heading.ensures.level
-    ∙ ap (λ t. block_closes level (Heading c.in-Heading.level (raw_inlines t))) c.deref-in-Heading.ensures
+    ∙ ap (λ t. block_closes level (Heading c.in-Heading.level (raw_inlines t))) c.deref.ensures
     ∙ one_closes level (heading c.in-Heading.level (string_bytes c.in-Heading.content)) 1
     ∙ ap (λ x. close_leaves level (leaves_of_closed x)) (sym c.in-Heading.is)
 
@@ -52,17 +52,17 @@ returns-in_ok-put_break-in-Break-clause-owners c =
 pub returns-in_ok-put_code-in-Code-clause-level : goal.returns-in_ok-put_code-in-Code-clause-level
 returns-in_ok-put_code-in-Code-clause-level c =
     let level = c.args.stack.now.level in
-    let text = string_bytes c.in-Code.text in
+    let text = c.in-Code.text in
     c.in_ok-put_code-in-Code.ensures.level
-    ∙ ap (λ t. block_closes level (leaf_block (code [] t))) (c.deref-in-Code-2.ensures ∙ c.in_ok-push_str-in-Code.ensures.bytes)
+    ∙ ap (λ t. block_closes level (leaf_block (code [] t))) (c.as_str.ensures ∙ c.in_ok-end_line-in-Code.ensures)
     ∙ one_closes level (code [] (ended text)) (suc (line_feeds text))
     ∙ ap (λ x. close_leaves level (leaves_of_closed x)) (sym c.in-Code.is)
 
 pub returns-in_ok-put_code-in-Code-clause-owners : goal.returns-in_ok-put_code-in-Code-clause-owners
 returns-in_ok-put_code-in-Code-clause-owners c =
     let owned = c.args.owners.now in
-    let text = string_bytes c.in-Code.text in
-    let lines : c.line_feeds-lines.result + 1 ≡ suc (line_feeds text) = omega (arith, c.line_feeds-lines.ensures.count, ap line_feeds c.deref-in-Code.ensures) in
+    let text = c.in-Code.text in
+    let lines : c.in_ok-lines-in-Code.lines ≡ suc (line_feeds text) = omega (arith, c.feeds.ensures, c.in_ok-lines-in-Code.ensures) in
     c.in_ok-put_code-in-Code.ensures.owners
     ∙ ap (own_plain_leaf owned) lines
     ∙ one_owns owned (code [] (ended text)) (suc (line_feeds text)) refl
@@ -71,36 +71,36 @@ returns-in_ok-put_code-in-Code-clause-owners c =
 pub returns-in_ok-put_code-in-Fenced-clause-level : goal.returns-in_ok-put_code-in-Fenced-clause-level
 returns-in_ok-put_code-in-Fenced-clause-level c =
     let level = c.args.stack.now.level in
-    let text = string_bytes c.in-Fenced.text in
+    let text = c.in-Fenced.text in
     c.in_ok-put_code-in-Fenced.ensures.level
-    ∙ ap (λ i. block_closes level (leaf_block (code i c.deref-in-Fenced-3.result.now))) c.deref-in-Fenced-2.ensures
-    ∙ ap (λ t. block_closes level (leaf_block (code (string_bytes c.in-Fenced.info) t))) c.deref-in-Fenced-3.ensures
+    ∙ ap (λ i. block_closes level (leaf_block (code i c.as_str-in-Fenced.result.now))) c.deref-in-Fenced.ensures
+    ∙ ap (λ t. block_closes level (leaf_block (code (string_bytes c.in-Fenced.info) t))) c.as_str-in-Fenced.ensures
     ∙ one_closes level (code (string_bytes c.in-Fenced.info) text) (fence_lines c.in-Fenced.ended text)
     ∙ ap (λ x. close_leaves level (leaves_of_closed x)) (sym c.in-Fenced.is)
 
 pub returns-in_ok-put_code-in-Fenced-clause-owners : goal.returns-in_ok-put_code-in-Fenced-clause-owners
 returns-in_ok-put_code-in-Fenced-clause-owners c =
     let owned = c.args.owners.now in
-    let text = string_bytes c.in-Fenced.text in
+    let text = c.in-Fenced.text in
     c.in_ok-put_code-in-Fenced.ensures.owners
-    ∙ ap (own_plain_leaf owned) (c.fence_lines-lines.ensures ∙ ap (fence_lines c.in-Fenced.ended) c.deref-in-Fenced.ensures)
+    ∙ ap (own_plain_leaf owned) c.in_ok-lines-in-Fenced.ensures
     ∙ one_owns owned (code (string_bytes c.in-Fenced.info) text) (fence_lines c.in-Fenced.ended text) refl
     ∙ ap (λ x. own_leaves owned (leaves_of_closed x)) (sym c.in-Fenced.is)
 
 pub returns-in_ok-put_html-in-Html-clause-level : goal.returns-in_ok-put_html-in-Html-clause-level
 returns-in_ok-put_html-in-Html-clause-level c =
     let level = c.args.stack.now.level in
-    let text = string_bytes c.in-Html.text in
+    let text = c.in-Html.text in
     c.in_ok-put_html-in-Html.ensures.level
-    ∙ ap (λ t. block_closes level (Html t)) (c.deref-in-Html-2.ensures ∙ c.in_ok-push_str-in-Html.ensures.bytes)
+    ∙ ap (λ t. block_closes level (Html t)) (c.as_str-in-Html.ensures ∙ c.in_ok-end_line-in-Html.ensures)
     ∙ one_closes level (html (ended text)) (suc (line_feeds text))
     ∙ ap (λ x. close_leaves level (leaves_of_closed x)) (sym c.in-Html.is)
 
 pub returns-in_ok-put_html-in-Html-clause-owners : goal.returns-in_ok-put_html-in-Html-clause-owners
 returns-in_ok-put_html-in-Html-clause-owners c =
     let owned = c.args.owners.now in
-    let text = string_bytes c.in-Html.text in
-    let lines : c.line_feeds-lines-in-Html.result + 1 ≡ suc (line_feeds text) = omega (arith, c.line_feeds-lines-in-Html.ensures.count, ap line_feeds c.deref-in-Html.ensures) in
+    let text = c.in-Html.text in
+    let lines : c.in_ok-lines-in-Html.lines ≡ suc (line_feeds text) = omega (arith, c.feeds-in-Html.ensures, c.in_ok-lines-in-Html.ensures) in
     c.in_ok-leaf-in-Html.ensures
     ∙ ap (own_plain_leaf owned) lines
     ∙ one_owns owned (html (ended text)) (suc (line_feeds text)) refl

@@ -1,5 +1,5 @@
-use Rattle.std.proofs.Common.{◌≡◌, ◌++◌, replicate, string_bytes}
+use Rattle.std.proofs.Common.{◌≡◌, ◌++◌, replicate}
 use Rattle.cm_block.proofs.counted_line.copies.push_line.Given as goal
 
 abbrev pub invariant-loop : goal.invariant-loop
-invariant-loop l = string_bytes l.text ≡ string_bytes l.fn.text ++ replicate l.counter 32
+invariant-loop l = l.text ≡ l.fn.text ++ replicate l.counter 32

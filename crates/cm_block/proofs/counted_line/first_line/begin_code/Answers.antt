@@ -2,11 +2,14 @@ use Rattle.std.proofs.Common.{◌++◌, string_bytes, ap, ap₂, ◌∙◌}
 use Rattle.cm_text.specs.Lines.{LineView}
 use Rattle.cm_text.specs.Views.{seen_view}
 use Rattle.cm_scan.specs.Blocks.{line_feeds}
-use Rattle.cm_block.proofs.LeafLemmas.{code_begins, no_feeds}
+use Rattle.cm_block.proofs.FeedLemmas.{feeds_of_first}
+use Rattle.cm_block.proofs.LeafLemmas.{code_begins}
 use Rattle.cm_block.proofs.counted_line.first_line.begin_code.Goals as goal
 
 pub returns : goal.returns
 returns c =
-    code_begins (string_bytes c.push_line.new.text) (string_bytes c.new.result) (seen_view c.args.line.now)
-    (c.in_ok-push_line.ensures.text ∙ ap₂ (λ t (l : LineView). t ++ l.text) c.take-text.ensures c.strip.ensures.line)
-    (c.in_ok-push_line.ensures.feeds ∙ ap line_feeds c.take-text.ensures ∙ no_feeds) c.new.ensures.bytes
+    code_begins c.push_line.new.text c.new.result (seen_view c.args.line.now)
+    (c.in_ok-push_line.ensures ∙ ap₂ (λ t (l : LineView). t ++ l.text) c.take-text.ensures c.strip.ensures.line)
+    (feeds_of_first c.push_line.new.text c.take-text.result c.strip.result.spaces c.strip.result.rest.now
+    c.take-text.ensures c.in_ok-push_line.ensures c.strip.result.one_line)
+    c.new.ensures

@@ -16,8 +16,8 @@ returns-then-indent-gt3 c = underline_far (seen_view c.args.line.now) (omega (ar
 pub returns-in_err-level : goal.returns-in_err-level
 returns-in_err-level c =
     c.from_residual.ensures
-    ∙ underline_none (seen_view c.args.line.now) c.content.result.now _ c.if-line.false (omega (arith, c.indent.ensures, c.if-indent-gt3.false)) c.content.ensures c.in_err-level.ensures
+    ∙ underline_none (seen_view c.args.line.now) c.content.result.now _ c.if-line.false (omega (arith, c.indent.ensures, c.if-indent-gt3.false)) c.content.ensures.content c.in_err-level.ensures
 
 pub returns : goal.returns
 returns c =
-    underline_some (seen_view c.args.line.now) c.content.result.now _ c.in_ok-level.level _ c.if-line.false (omega (arith, c.indent.ensures, c.if-indent-gt3.false)) c.content.ensures c.in_ok-level.ensures
+    underline_some (seen_view c.args.line.now) c.content.result.now _ c.in_ok-level.level _ c.if-line.false (omega (arith, c.indent.ensures, c.if-indent-gt3.false)) c.content.ensures.content c.in_ok-level.ensures

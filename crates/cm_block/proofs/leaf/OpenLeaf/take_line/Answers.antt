@@ -22,22 +22,22 @@ returns-in-Nothing-clause-line c =
 pub returns-in_ok-add_text-in-GoesOn-clause-line : goal.returns-in_ok-add_text-in-GoesOn-clause-line
 returns-in_ok-add_text-in-GoesOn-clause-line c =
     let line = seen_view c.args.line.now.rest in
-    let source = string_bytes c.in-Run.source in
+    let source = c.in-Run.source in
     ap (λ t. Some (stays_open (open_text t))) (c.in_ok-add_text-in-GoesOn.ensures.text ∙ ap (λ (v : View). add_text source (seen_view v)) c.in-GoesOn.ensures.same)
-    ∙ text_line _ source line _ (c.in-GoesOn.ensures.next ∙ ap (λ t. next_line c.args.rules t line) c.deref.ensures)
+    ∙ text_line _ source line _ (c.in-GoesOn.ensures.next ∙ ap (λ t. next_line c.args.rules t line) c.as_str.ensures)
     ∙ ap (λ x. line_of_leaf c.args.rules (leaf_of x) line) (sym c.in-Run.is)
 
 pub returns-in-Ends-clause-line : goal.returns-in-Ends-clause-line
 returns-in-Ends-clause-line c =
     let line = seen_view c.args.line.now.rest in
-    text_line _ (string_bytes c.in-Run.source) line _ (c.in-Ends.ensures.next ∙ ap (λ t. next_line c.args.rules t line) c.deref.ensures)
+    text_line _ (c.in-Run.source) line _ (c.in-Ends.ensures.next ∙ ap (λ t. next_line c.args.rules t line) c.as_str.ensures)
     ∙ ap (λ x. line_of_leaf c.args.rules (leaf_of x) line) (sym c.in-Run.is)
 
 pub returns-in-Underlines-clause-line : goal.returns-in-Underlines-clause-line
 returns-in-Underlines-clause-line c =
     let line = seen_view c.args.line.now.rest in
     ap (λ r. taken_of r (leaf_of c.end.new.self)) c.end.ensures.leaf
-    ∙ text_line _ (string_bytes c.in-Run.source) line _ (c.in-Underlines.ensures.next ∙ ap (λ t. next_line c.args.rules t line) c.deref.ensures)
+    ∙ text_line _ (c.in-Run.source) line _ (c.in-Underlines.ensures.next ∙ ap (λ t. next_line c.args.rules t line) c.as_str.ensures)
     ∙ ap (λ x. line_of_leaf c.args.rules (leaf_of x) line) (sym c.in-Run.is)
 
 pub returns-then-closes_fence-clause-line : goal.returns-then-closes_fence-clause-line
@@ -45,7 +45,7 @@ returns-then-closes_fence-clause-line c =
     let line = seen_view c.args.line.now.rest in
     let kind = c.in-Fence.kind in
     let info = string_bytes c.in-Fence.info in
-    let text = string_bytes c.in-Fence.text in
+    let text = c.in-Fence.text in
     ap (λ r. taken_of r (leaf_of c.end-then-closes_fence.new.self)) c.end-then-closes_fence.ensures.leaf
     ∙ fence_line _ (record { marker = kind.marker; count = kind.count; info = info }) c.in-Fence.columns text (suc (line_feeds text)) line true (c.if-closes_fence.ensures.closes info)
     ∙ ap (λ x. line_of_leaf c.args.rules (leaf_of x) line) (sym c.in-Fence.is)
@@ -54,7 +54,7 @@ pub returns-in_ok-add_fenced-in-Fence-clause-line : goal.returns-in_ok-add_fence
 returns-in_ok-add_fenced-in-Fence-clause-line c =
     let line = seen_view c.args.line.now.rest in
     let info = string_bytes c.in-Fence.info in
-    let text = string_bytes c.in-Fence.text in
+    let text = c.in-Fence.text in
     let fence : Fence = record { marker = c.in-Fence.kind.marker; count = c.in-Fence.kind.count; info = info } in
     let added = c.in_ok-add_fenced-in-Fence.ensures in
     ap₂ (λ t n. Some (stays_open (open_fence fence c.in-Fence.columns t (suc n))))
@@ -65,14 +65,14 @@ returns-in_ok-add_fenced-in-Fence-clause-line c =
 pub returns-then-leaves_html-clause-line : goal.returns-then-leaves_html-clause-line
 returns-then-leaves_html-clause-line c =
     let line = seen_view c.args.line.now.rest in
-    let text = string_bytes c.in-Html.text in
+    let text = c.in-Html.text in
     html_out _ (kind_of c.in-Html.kind) (ended text) (suc (line_feeds text)) line (sym c.if-leaves_html.ensures.leaves)
     ∙ ap (λ x. line_of_leaf c.args.rules (leaf_of x) line) (sym c.in-Html.is)
 
 pub returns-then-ends-clause-line : goal.returns-then-ends-clause-line
 returns-then-ends-clause-line c =
     let line = seen_view c.args.line.now.rest in
-    let text = string_bytes c.in-Html.text in
+    let text = c.in-Html.text in
     let added = c.in_ok-add_html-in-Html.ensures in
     let left = c.if-leaves_html.ensures.same in
     let bytes = added.text ∙ ap (λ (v : View). text ++ 10 ∷ (seen_view v).text) (c.if-ends.ensures.read.same ∙ left) in
@@ -85,7 +85,7 @@ returns-then-ends-clause-line c =
 pub returns-else-ends-clause-line : goal.returns-else-ends-clause-line
 returns-else-ends-clause-line c =
     let line = seen_view c.args.line.now.rest in
-    let text = string_bytes c.in-Html.text in
+    let text = c.in-Html.text in
     let added = c.in_ok-add_html-in-Html.ensures in
     let left = c.if-leaves_html.ensures.same in
     let bytes = added.text ∙ ap (λ (v : View). text ++ 10 ∷ (seen_view v).text) (c.if-ends.ensures.read.same ∙ left) in

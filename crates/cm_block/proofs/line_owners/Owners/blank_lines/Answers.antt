@@ -8,10 +8,8 @@ use Rattle.cm_block.proofs.line_owners.Owners.blank_lines.Goals as goal
 pub returns : goal.returns
 returns c =
     let owned = c.args.self.now in
-    let runs = c.self.inside.runs in
     let with_table : OwnedLines → Owned = λ o. record { owners = o.owners; leaves = o.leaves; table = c.self.inside.definitions } in
-    on_ok_weaker c.push_times.result (λ pushed.
+    on_ok_weaker c.push_blank.result (λ pushed.
     ap with_table pushed
-    ∙ ap (λ o. with_table (record { owners = runs.owners ++ replicate c.args.lines o; leaves = runs.leaves })) c.blank_owner.ensures
     ∙ ap (λ w. own_lines w (replicate c.args.lines (blank_owner c.args.in_a_quote))) c.self.view_is
-    ∙ blanks_at_once c.args.in_a_quote c.args.lines owned) c.push_times.ensures
+    ∙ blanks_at_once c.args.in_a_quote c.args.lines owned) c.push_blank.ensures

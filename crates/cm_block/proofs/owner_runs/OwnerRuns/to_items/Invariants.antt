@@ -1,7 +1,11 @@
-use Rattle.std.proofs.Common.{◌≡◌, ◌++◌, drop}
-use Rattle.std.specs.List.{flat_map}
-use Rattle.cm_block.specs.OwnerRuns.{owners_of_run}
+use Rattle.std.proofs.Common.{◌≡◌, ◌≤◌, ◌++◌, drop}
+use Rattle.cm_block.specs.OwnerRuns.{leaves_in, owners_of}
 use Rattle.cm_block.proofs.owner_runs.OwnerRuns.to_items.Given as goal
 
+-- the owners so far, with those of the runs that are left, and the leaves alike
 abbrev pub invariant-loop-run : goal.invariant-loop-run
-invariant-loop-run l = l.owners.items ++ flat_map owners_of_run (drop l.run-index l.run-items) ≡ flat_map owners_of_run l.run-items
+invariant-loop-run l = record {
+  owners : l.owners.items ++ owners_of l.leaves (drop l.run-index l.run-items) ≡ owners_of 0 l.run-items;
+  leaves : leaves_in l.leaves (drop l.run-index l.run-items) ≡ leaves_in 0 l.run-items;
+  few : l.leaves ≤ l.run-index;
+}

@@ -1,0 +1,29 @@
+use Rattle.std.proofs.Common.{string_bytes, length, ◌++◌, sym, ap, ◌∙◌, arith}
+use Rattle.cm_scan.specs.Blocks.{line_feeds}
+use Rattle.cm_block.proofs.FeedLemmas.{feeds_append, feeds_within}
+use Rattle.cm_block.proofs.leaf_text.LeafText.push_text.Goals as goal
+
+pub overflow_add-self : goal.overflow_add-self
+overflow_add-self c =
+    let old = string_bytes c.self.inside.text in
+    let more = string_bytes c.more.inside.text in
+    let feeds = ap line_feeds (c.in_ok-push_str.ensures.bytes ∙ ap (λ xs. old ++ xs) c.deref.ensures) in
+    omega (
+      arith,
+      c.self.invariant,
+      c.more.invariant,
+      feeds,
+      feeds_append old more,
+      feeds_within (string_bytes c.push_str.new.self),
+      ap length c.as_bytes-bytes.ensures.value,
+      c.as_bytes-bytes.ensures.len,
+      c.len-len.ensures,
+      c.len-len.type_inv,
+    )
+
+pub invariant_of-self-2 : goal.invariant_of-self-2
+invariant_of-self-2 c =
+    let old = string_bytes c.self.inside.text in
+    let more = string_bytes c.more.inside.text in
+    let feeds = ap line_feeds (c.in_ok-push_str.ensures.bytes ∙ ap (λ xs. old ++ xs) c.deref.ensures) in
+    omega (arith, c.self.invariant, c.more.invariant, feeds, feeds_append old more)

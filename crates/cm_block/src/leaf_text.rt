@@ -1,0 +1,91 @@
+//! The text of a leaf block, of which the line feeds are counted while it grows.
+ghost use Rattle.std.specs.Prelude.{◌≡◌, ◌++◌, [], ◌∷◌, true, OnOk};
+ghost use Rattle.cm_text.specs.LineText.{is_line};
+ghost use Rattle.cm_scan.specs.Blocks.{line_feeds};
+
+use std::alloc::{AllocError, Global};
+use std::marker::Model;
+
+/// The text of a leaf block so far, and how many line feeds it has.
+#[derive(Debug, Drop)]
+pub(crate) struct LeafText {
+    text: String,
+    feeds: usize,
+}
+
+impl Model for LeafText {
+    ghost use Rattle.std.specs.Prelude.{◌≡◌, ℕ, List, string_bytes};
+    ghost use Rattle.cm_scan.specs.Blocks.{line_feeds};
+
+    ghost Value = { List ℕ };
+
+    ghost view = { λ t. string_bytes t.text };
+
+    ghost invariant = { λ t. t.feeds ≡ line_feeds (string_bytes t.text) };
+}
+
+impl LeafText {
+    /// No text. It takes no memory.
+    pub(crate) fn new(alloc: Global) -> LeafText
+        ensures { result ≡ [] }
+    {
+        LeafText {
+            text: String::new(alloc),
+            feeds: 0,
+        }
+    }
+
+    /// The text.
+    pub(crate) fn as_str(&self) -> &str
+        ensures { result.now ≡ self.now }
+    {
+        &self.text
+    }
+
+    /// How many line feeds it has.
+    pub(crate) fn feeds(&self) -> usize
+        ensures { result ≡ line_feeds self.now }
+    {
+        self.feeds
+    }
+
+    /// Lets go of the text, and keeps its memory.
+    pub(crate) fn clear(&mut self)
+        ensures { self.new ≡ [] }
+    {
+        self.text.clear();
+        self.feeds = 0;
+    }
+
+    /// Goes on with a part of a line.
+    pub(crate) fn push(&mut self, part: &str) -> Result<(), AllocError>
+        requires { is_line part.now ≡ true }
+        ensures { OnOk result (self.new ≡ self.old ++ part.now) }
+    {
+        self.text.push_str(part)
+    }
+
+    /// Ends a line.
+    pub(crate) fn end_line(&mut self) -> Result<(), AllocError>
+        ensures { OnOk result (self.new ≡ self.old ++ 10 ∷ []) }
+    {
+        self.text.push_str("\n")?;
+        // It has no more line feeds than bytes.
+        let _len = self.text.len();
+        let _bytes = self.text.as_bytes();
+        self.feeds += 1;
+        Ok(())
+    }
+
+    /// Goes on with another text.
+    pub(crate) fn push_text(&mut self, more: &LeafText) -> Result<(), AllocError>
+        ensures { OnOk result (self.new ≡ self.old ++ more.now) }
+    {
+        self.text.push_str(&more.text)?;
+        // It has no more line feeds than bytes.
+        let _len = self.text.len();
+        let _bytes = self.text.as_bytes();
+        self.feeds += more.feeds;
+        Ok(())
+    }
+}
