@@ -1,11 +1,13 @@
 -- Places of lines in containers.
 use Rattle.std.specs.Prelude.{min, nat_le, ◌-◌, ◌==◌, ◌||◌}
-use Rattle.std.proofs.lemmas.Bool.{and_parts}
+use Rattle.std.proofs.lemmas.Bool.{and_parts, eqb-true}
+use Rattle.std.proofs.lemmas.List.{append_assoc, replicate-append-replicate, length-append, length-replicate}
 use Rattle.std.proofs.lemmas.Bool.Decides.{nat_tests}
-use Rattle.std.proofs.Common.{◌≡◌, ◌≢◌, ℕ, zero, suc, ◌+◌, ◌<◌, ◌≤◌, Bool, true, false, not, ◌&&◌, List, ◌++◌, replicate, drop, None, refl, ◌∙◌, ap, ap₂, arith}
+use Rattle.std.proofs.Common.{◌≡◌, ◌≢◌, ℕ, zero, suc, ◌+◌, ◌*◌, ◌^◌, ◌<◌, ◌≤◌, Bool, true, false, not, ◌&&◌, List, [], ◌∷◌, ◌++◌, length, replicate, drop, None, refl, sym, ◌∙◌, ap, ap₂, arith}
 use Rattle.cm_text.specs.Rules.{Rules}
 use Rattle.cm_text.specs.Lines.{LineView}
-use Rattle.cm_scan.specs.Words.{is_blank_text}
+use Rattle.cm_text.specs.LineText.{is_line, tabs}
+use Rattle.cm_scan.specs.Words.{is_blank_text, run_length}
 use Rattle.cm_scan.specs.Lines.{is_blank, content_of, past, as_lazy}
 use Rattle.cm_scan.specs.Starts.{Start, IndentedCode, QuoteMarker, AtxHeading, OpeningFence, HtmlStart, BreakLine, ItemStart, TextLine, start_of, Place, Stays, StaysIfOpen, Leaves, may_be_lazy, place_if_lazy, behind_quote_marker, quote_place, place_in_quote, behind_marker, content_offset, content_column, first_content, place_in_item}
 use Rattle.cm_scan.specs.LineForms.{ItemMarker}
@@ -185,3 +187,41 @@ pub first_is_content : (marker : ItemMarker) (line behind : LineView) (offset : 
     → strip_columns offset behind ≡ first_content marker line
 unfolding first_content
 first_is_content marker line behind offset at is = ap₂ strip_columns (is ∙ ap content_offset at) at
+
+-- the spaces at the front of a text, and what stands behind them
+
+spaces-front : (text : List ℕ) → replicate (run_length 32 text) 32 ++ drop (run_length 32 text) text ≡ text
+unfolding run_length
+spaces-front [] = refl
+spaces-front (b ∷ bs) = go (b == 32) refl (spaces-front bs)
+  where
+    go : (space : Bool) → (b == 32) ≡ space → replicate (run_length 32 bs) 32 ++ drop (run_length 32 bs) bs ≡ bs
+        → replicate (elim space as (λ _. ℕ) [ true ↦ suc (run_length 32 bs) | false ↦ 0 ]) 32
+        ++ drop (elim space as (λ _. ℕ) [ true ↦ suc (run_length 32 bs) | false ↦ 0 ]) (b ∷ bs) ≡ b ∷ bs
+    go true e again = ap₂ (λ c cs. c ∷ cs) (sym (eqb-true b 32 e)) again
+    go false e again = refl
+
+replicate-more : (n m : ℕ) (text : List ℕ) → replicate (n + m) 32 ++ text ≡ replicate n 32 ++ (replicate m 32 ++ text)
+replicate-more n m text = ap (λ xs. xs ++ text) (sym (replicate-append-replicate n m 32)) ∙ append_assoc (replicate n 32) (replicate m 32) text
+
+line-behind : (n : ℕ) (rest : List ℕ) → is_line (replicate n 32 ++ rest) ≡ true → is_line rest ≡ true
+line-behind zero rest h = h
+line-behind (suc n) rest h = line-behind n rest h
+
+tabs-behind : (n : ℕ) (rest : List ℕ) → tabs (replicate n 32 ++ rest) ≡ tabs rest
+tabs-behind zero rest = refl
+tabs-behind (suc n) rest = tabs-behind n rest
+
+module _ (text rest : List ℕ) (spaces : ℕ) (run : spaces ≡ run_length 32 text) (behind : rest ≡ drop spaces text) where
+  front : replicate spaces 32 ++ rest ≡ text
+  front = ap₂ (λ n t. replicate n 32 ++ t) run (behind ∙ ap (λ n. drop n text) run) ∙ spaces-front text
+
+  pub columns_line : is_line text ≡ true → is_line rest ≡ true
+  columns_line h = line-behind spaces rest (ap is_line front ∙ h)
+
+  pub columns_fit : (before : ℕ) → before + length text + 3 * tabs text < 2 ^ 64 → before + spaces + length rest + 3 * tabs rest < 2 ^ 64
+  columns_fit before h =
+      omega (arith, h, ap length front, length-append (replicate spaces 32) rest, length-replicate {A = ℕ} spaces 32, ap tabs front, tabs-behind spaces rest)
+
+  pub columns_seen : (n : ℕ) → replicate (n + spaces) 32 ++ rest ≡ replicate n 32 ++ text
+  columns_seen n = replicate-more n spaces rest ∙ ap (λ t. replicate n 32 ++ t) front

@@ -34,7 +34,7 @@ use ends::{closes_fence, ends_html};
 pub(crate) use first_line::FirstLine;
 use first_line::begin_leaf;
 use interruptions::{interrupts_paragraph, underline_of};
-use places::{ends_bare_item, if_lazy, is_blank, item_content, quote_content, reaches_or_is_blank};
+use places::{ends_bare_item, if_lazy, is_blank, item_content, quote_content, reaches_or_is_blank, with_columns};
 use starts::{Start, start_of};
 use std::alloc::{AllocError, Global};
 
@@ -106,6 +106,15 @@ impl<'a> CountedLine<'a> {
         self.rest
     }
 
+    /// What is left of the line, for one reading, which it counts. The spaces at its front are seen as columns.
+    #[inline(always)]
+    fn read_columns(&mut self) -> View<'a>
+        ensures line { seen_view result ≡ seen_view self.old.rest }
+        ensures read { ReadOnce self.old self.new }
+    {
+        with_columns(&self.read())
+    }
+
     /// The line goes into a container, where this is left of it.
     #[inline(always)]
     fn enter(&mut self, inner: View<'a>)
@@ -135,7 +144,7 @@ impl<'a> CountedLine<'a> {
         ensures same { result ≡ false → self.new.rest ≡ self.old.rest }
         ensures tests { Tested 1 1 self.old.tests self.new.tests }
     {
-        let view = self.read();
+        let view = self.read_columns();
         if view.lazy {
             return false;
         }
@@ -171,7 +180,7 @@ impl<'a> CountedLine<'a> {
         ensures found { Found rules (seen_view self.old.rest) result (seen_view self.new.rest) }
         ensures tests { Tested 1 1 self.old.tests self.new.tests }
     {
-        let view = self.read();
+        let view = self.read_columns();
         if is_blank(&view) {
             return Begins::Nothing;
         }

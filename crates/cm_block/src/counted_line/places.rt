@@ -1,19 +1,44 @@
 //! Whether a line stays inside an open container, and what is left of it there.
-ghost use Rattle.std.specs.Prelude.{◌≡◌, ◌≤◌, ◌&&◌, ◌||◌, nat_le, true, false, option_map, IfSome, MatchOption};
+ghost use Rattle.std.specs.Prelude.{◌≡◌, ◌≤◌, ◌&&◌, ◌||◌, drop, length, nat_le, true, false, option_map, IfSome, MatchOption};
 ghost use Rattle.cm_text.specs.Indentation.{indent_of, strip_columns};
 ghost use Rattle.cm_text.specs.Rules as all;
 ghost use Rattle.cm_text.specs.Views.{seen_view};
 ghost use Rattle.cm_scan.specs.Lines.{is_blank};
 ghost use Rattle.cm_scan.specs.Starts.{QuoteMarker, ItemStart, start_of, may_be_lazy, place_if_lazy, behind_quote_marker, place_in_quote, content_offset, content_column, first_content, behind_marker, place_in_item};
 ghost use Rattle.cm_scan.specs.Laws.{goes_inward};
-ghost use Rattle.cm_scan.specs.Words.{given};
+ghost use Rattle.cm_scan.specs.Words.{given, run_length};
 ghost use Rattle.cm_block.specs.steps.LineTests.{Tested};
 ghost use Rattle.cm_block.specs.steps.StartViews.{seen};
 ghost use Rattle.cm_block.specs.steps.PlaceViews.{begins_quote, seen_marker};
 
 use crate::counted_line::starts::{Start, start_of};
-use cm_scan::{HtmlKind, ItemMarker, is_blank_text, quote_marker};
+use cm_scan::{HtmlKind, ItemMarker, after_run, is_blank_text, quote_marker};
 use cm_text::{Rules, View};
+
+/// How many spaces a text begins with, and what stands behind them.
+#[inline(always)]
+fn behind_spaces(text: &str) -> (usize, &str)
+    ensures spaces { result.0 ≡ run_length 32 text.now }
+    ensures behind { result.1.now ≡ drop result.0 text.now }
+    ensures within { result.0 ≤ length text.now }
+{
+    let spaces = after_run(b' ', text, 0);
+    (spaces, &text[spaces..])
+}
+
+/// The line with the spaces at its front seen as columns. It is the same line.
+#[inline(always)]
+pub(crate) fn with_columns<'a>(line: &View<'a>) -> View<'a>
+    ensures { seen_view result ≡ seen_view line.now }
+{
+    let (spaces, rest) = behind_spaces(line.rest);
+    View {
+        column: line.column,
+        spaces: line.spaces + spaces,
+        rest,
+        lazy: line.lazy,
+    }
+}
 
 /// Whether a line is blank (2.1 Characters and lines).
 #[tactic(auto, using(crate::proofs::PlaceLemmas::blank_spaces))]

@@ -1,6 +1,7 @@
 use Rattle.std.proofs.Common.{◌≡◌, ◌∙◌, true, false, sym, ap}
 use Rattle.std.specs.Prelude.{◌&&◌, ◌||◌, nat_le}
 use Rattle.cm_text.specs.Indentation.{indent_of, strip_columns}
+use Rattle.cm_text.specs.Lines.{LineView}
 use Rattle.cm_text.specs.Views.{seen_view}
 use Rattle.cm_text.specs.declared.view.View.{View}
 use Rattle.cm_scan.specs.Lines.{is_blank}
@@ -10,23 +11,23 @@ use Rattle.cm_block.proofs.counted_line.CountedLine.stays_in_item.Goals as goal
 
 pub returns-then-view-clause-place : goal.returns-then-view-clause-place
 returns-then-view-clause-place c by =
-    in_item_lazy by c.args.column c.args.bare (seen_view c.args.self.now.rest) (ap (λ (v : View). v.lazy) (sym c.read-view.ensures.line) ∙ c.if-view.true)
+    in_item_lazy by c.args.column c.args.bare (seen_view c.args.self.now.rest) (ap (λ (v : LineView). v.lazy) (sym c.read_columns-view.ensures.line) ∙ c.if-view.true)
 
 pub returns-then-ends_bare_item-clause-place : goal.returns-then-ends_bare_item-clause-place
 returns-then-ends_bare_item-clause-place c by =
-    in_item_ends by c.args.column c.args.bare (seen_view c.args.self.now.rest) (ap (λ (v : View). v.lazy) (sym c.read-view.ensures.line) ∙ c.if-view.false)
-    (ap (λ (v : View). c.args.bare && is_blank (seen_view v)) (sym c.read-view.ensures.line) ∙ sym c.ends_bare_item.ensures ∙ c.if-ends_bare_item.true)
+    in_item_ends by c.args.column c.args.bare (seen_view c.args.self.now.rest) (ap (λ (v : LineView). v.lazy) (sym c.read_columns-view.ensures.line) ∙ c.if-view.false)
+    (ap (λ (v : LineView). c.args.bare && is_blank v) (sym c.read_columns-view.ensures.line) ∙ sym c.ends_bare_item.ensures ∙ c.if-ends_bare_item.true)
 
 pub returns-then-not-reaches_or_is_blank-clause-place : goal.returns-then-not-reaches_or_is_blank-clause-place
 returns-then-not-reaches_or_is_blank-clause-place c by =
-    in_item_lazily by c.args.column c.args.bare (seen_view c.args.self.now.rest) (ap (λ (v : View). v.lazy) (sym c.read-view.ensures.line) ∙ c.if-view.false)
-    (ap (λ (v : View). nat_le c.args.column (indent_of (seen_view v)) || is_blank (seen_view v)) (sym c.read-view.ensures.line)
+    in_item_lazily by c.args.column c.args.bare (seen_view c.args.self.now.rest) (ap (λ (v : LineView). v.lazy) (sym c.read_columns-view.ensures.line) ∙ c.if-view.false)
+    (ap (λ (v : LineView). nat_le c.args.column (indent_of v) || is_blank v) (sym c.read_columns-view.ensures.line)
     ∙ sym c.reaches_or_is_blank.ensures ∙ c.if-not-reaches_or_is_blank.true)
 
 pub returns-clause-place : goal.returns-clause-place
 returns-clause-place c by =
-    in_item_stays by c.args.column c.args.bare (seen_view c.args.self.now.rest) (ap (λ (v : View). v.lazy) (sym c.read-view.ensures.line) ∙ c.if-view.false)
-    (ap (λ (v : View). c.args.bare && is_blank (seen_view v)) (sym c.read-view.ensures.line) ∙ sym c.ends_bare_item.ensures ∙ c.if-ends_bare_item.false)
-    (ap (λ (v : View). nat_le c.args.column (indent_of (seen_view v)) || is_blank (seen_view v)) (sym c.read-view.ensures.line)
+    in_item_stays by c.args.column c.args.bare (seen_view c.args.self.now.rest) (ap (λ (v : LineView). v.lazy) (sym c.read_columns-view.ensures.line) ∙ c.if-view.false)
+    (ap (λ (v : LineView). c.args.bare && is_blank v) (sym c.read_columns-view.ensures.line) ∙ sym c.ends_bare_item.ensures ∙ c.if-ends_bare_item.false)
+    (ap (λ (v : LineView). nat_le c.args.column (indent_of v) || is_blank v) (sym c.read_columns-view.ensures.line)
     ∙ sym c.reaches_or_is_blank.ensures ∙ c.if-not-reaches_or_is_blank.false)
-    ∙ ap Stays (ap (λ (v : View). strip_columns c.args.column (seen_view v)) (sym c.read-view.ensures.line) ∙ sym c.strip-inner.ensures.line ∙ ap seen_view (sym c.enter.ensures.line))
+    ∙ ap Stays (ap (λ (v : LineView). strip_columns c.args.column v) (sym c.read_columns-view.ensures.line) ∙ sym c.strip-inner.ensures.line ∙ ap seen_view (sym c.enter.ensures.line))
