@@ -7,6 +7,7 @@ pub mod StartViews
 pub mod LevelSteps
 pub mod FrameSteps
 pub mod LeafSteps
+pub mod LeafBlocks
 pub mod FrameStarts
 pub mod ParserSteps
 pub mod LineTests

@@ -9,6 +9,7 @@ ghost use Rattle.cm_block.specs.OpenLeaf.{run_leaves};
 ghost use Rattle.cm_block.specs.Stack.{close_leaves, own_leaf, own_leaves};
 ghost use Rattle.cm_block.specs.steps.LeafSteps.{fence_lines, leaves_of_closed, own_plain_leaf};
 
+use crate::leaf_block::LeafBlock;
 use crate::leaf_text::LeafText;
 use crate::line_owners::Owners;
 use crate::rooms::TextRoom;
@@ -77,7 +78,11 @@ fn put_definition(
     let dest = unescape_or_lend(alloc, found.dest)?;
     let title = unescape_or_lend(alloc, found.title)?;
     owners.definition(found.label, &dest, &title, lines)?;
-    stack.put_definition(found.label, &dest, &title)?;
+    stack.put(&LeafBlock::Definition {
+        label: found.label,
+        dest: &dest,
+        title: &title,
+    })?;
     Ok(())
 }
 
@@ -146,11 +151,14 @@ fn put_content(
     match heading {
         Some(number) => {
             owners.leaf(count_lines(feeds, 2)?)?;
-            stack.put_heading(number, source)
+            stack.put(&LeafBlock::Heading {
+                level: number,
+                source,
+            })
         }
         None => {
             owners.leaf(count_lines(feeds, 1)?)?;
-            stack.put_paragraph(source)
+            stack.put(&LeafBlock::Paragraph { source })
         }
     }
 }
@@ -195,7 +203,7 @@ fn put_code(
 {
     let info = unescape_or_lend(alloc, info)?;
     owners.leaf(lines)?;
-    stack.put_code(&info, text)?;
+    stack.put(&LeafBlock::Code { info: &info, text })?;
     Ok(())
 }
 
@@ -230,11 +238,14 @@ impl ClosedLeaf {
             }
             ClosedLeaf::Heading { level, content } => {
                 owners.leaf(1)?;
-                Ok(stack.put_heading(level, &content)?)
+                Ok(stack.put(&LeafBlock::Heading {
+                    level,
+                    source: &content,
+                })?)
             }
             ClosedLeaf::Break => {
                 owners.leaf(1)?;
-                Ok(stack.put_break()?)
+                Ok(stack.put(&LeafBlock::Break)?)
             }
             ClosedLeaf::Code { mut text } => {
                 let lines = count_lines(text.feeds(), 1)?;
@@ -253,7 +264,9 @@ impl ClosedLeaf {
                 let lines = count_lines(text.feeds(), 1)?;
                 text.end_line()?;
                 owners.leaf(lines)?;
-                stack.put_html(text.as_str())?;
+                stack.put(&LeafBlock::Html {
+                    text: text.as_str(),
+                })?;
                 leaves.keep(text);
                 Ok(())
             }

@@ -27,6 +27,7 @@ mod counted_line;
 mod fault;
 pub mod laws;
 mod leaf;
+mod leaf_block;
 mod leaf_text;
 mod level;
 mod line_owners;

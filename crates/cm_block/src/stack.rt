@@ -6,16 +6,17 @@ ghost use Rattle.cm_scan.specs.Words.{given};
 ghost use Rattle.cm_scan.specs.Starts.{place_if_lazy};
 ghost use Rattle.cm_block.specs.steps.LineTests.{Tested};
 ghost use Rattle.cm_block.specs.Level.{empty_level, block_opens, block_closes, closed_blocks, item_opens, push_blank};
+ghost use Rattle.cm_block.specs.steps.LeafBlocks.{block_of};
 ghost use Rattle.cm_block.specs.steps.LevelViews.{level_in, IsLevelPlaced};
 ghost use Rattle.cm_block.specs.Frames.{a_quote, an_item, is_last, Frame as open_frame};
 ghost use Rattle.cm_block.specs.steps.FrameSteps.{place_in, inward, matching, quoted_by, close_container, close_frames};
 ghost use Rattle.cm_block.specs.steps.PlaceViews.{IsInside, stays};
 ghost use Rattle.cm_block.specs.declared.stack.Stays.TheVariants.{Inside, Lazily, Leaves};
 ghost use Rattle.cm_block.specs.steps.FrameViews.{container_of, frames_in, AreFramesPlaced};
-ghost use Rattle.cm_tree.specs.RawBlocks.{Raw, raw_inlines};
-ghost use Rattle.cm_tree.specs.declared.tree.Block.TheVariants as trees;
+ghost use Rattle.cm_tree.specs.RawBlocks.{Raw};
 
 use crate::counted_line::CountedLine;
+use crate::leaf_block::LeafBlock;
 use crate::level::Level;
 use crate::rooms::BlockRoom;
 use cm_text::Rules;
@@ -370,67 +371,13 @@ impl Stack {
         self.parts.push(RawPart::new(blocks, raw))
     }
 
-    /// Puts a paragraph that was opened, with this source.
-    pub(crate) fn put_paragraph(&mut self, source: &str) -> Result<(), AllocError>
-        ensures level { OnOk result (self.new.level ≡ block_closes self.old.level (trees.Paragraph (raw_inlines source.now))) }
+    /// Puts a leaf block that was opened.
+    pub(crate) fn put(&mut self, leaf: &LeafBlock<'_>) -> Result<(), AllocError>
+        ensures level { OnOk result (self.new.level ≡ block_closes self.old.level (block_of leaf.now)) }
         ensures frames { self.new.frames ≡ self.old.frames }
         ensures bare { self.new.bare ≡ self.old.bare }
     {
-        let block = self.raw.paragraph(source)?;
-        self.level.close_block(block)
-    }
-
-    /// Puts a heading that was opened, with this source.
-    pub(crate) fn put_heading(&mut self, level: u8, source: &str) -> Result<(), AllocError>
-        ensures level { OnOk result (self.new.level ≡ block_closes self.old.level (trees.Heading level (raw_inlines source.now))) }
-        ensures frames { self.new.frames ≡ self.old.frames }
-        ensures bare { self.new.bare ≡ self.old.bare }
-    {
-        let block = self.raw.heading(level, source)?;
-        self.level.close_block(block)
-    }
-
-    /// Puts a code block that was opened.
-    pub(crate) fn put_code(&mut self, info: &str, text: &str) -> Result<(), AllocError>
-        ensures level { OnOk result (self.new.level ≡ block_closes self.old.level (trees.Code info.now text.now)) }
-        ensures frames { self.new.frames ≡ self.old.frames }
-        ensures bare { self.new.bare ≡ self.old.bare }
-    {
-        let block = self.raw.code(info, text)?;
-        self.level.close_block(block)
-    }
-
-    /// Puts an HTML block that was opened.
-    pub(crate) fn put_html(&mut self, text: &str) -> Result<(), AllocError>
-        ensures level { OnOk result (self.new.level ≡ block_closes self.old.level (trees.Html text.now)) }
-        ensures frames { self.new.frames ≡ self.old.frames }
-        ensures bare { self.new.bare ≡ self.old.bare }
-    {
-        let block = self.raw.html(text)?;
-        self.level.close_block(block)
-    }
-
-    /// Puts a thematic break that was opened.
-    pub(crate) fn put_break(&mut self) -> Result<(), AllocError>
-        ensures level { OnOk result (self.new.level ≡ block_closes self.old.level trees.Break) }
-        ensures frames { self.new.frames ≡ self.old.frames }
-        ensures bare { self.new.bare ≡ self.old.bare }
-    {
-        self.level.close_block(RawBlock::Break)
-    }
-
-    /// Puts a link reference definition that was opened.
-    pub(crate) fn put_definition(
-        &mut self,
-        label: &str,
-        dest: &str,
-        title: &str,
-    ) -> Result<(), AllocError>
-        ensures level { OnOk result (self.new.level ≡ block_closes self.old.level (trees.Definition label.now dest.now title.now)) }
-        ensures frames { self.new.frames ≡ self.old.frames }
-        ensures bare { self.new.bare ≡ self.old.bare }
-    {
-        let block = self.raw.definition(label, dest, title)?;
+        let block = leaf.place(&mut self.raw)?;
         self.level.close_block(block)
     }
 

@@ -21,34 +21,34 @@ pub returns-in_ok-leaf-in-Some-clause-level : goal.returns-in_ok-leaf-in-Some-cl
 returns-in_ok-leaf-in-Some-clause-level c =
     let level = c.args.stack.now.level in
     let some : c.args.source.now ≡ [] → ⊥ = λ e. grind (arith, common_steps, e) in
-    on_ok_weaker c.put_heading.result (λ closed.
+    on_ok_weaker c.put.result (λ closed.
     closed
     ∙ heading_closes level c.in-Some.number c.args.source.now some
-    ∙ ap (λ h. close_leaves level (content_leaf h c.args.source.now)) (sym c.in-Some.is)) c.put_heading.ensures.level
+    ∙ ap (λ h. close_leaves level (content_leaf h c.args.source.now)) (sym c.in-Some.is)) c.put.ensures.level
 
 pub returns-in_ok-leaf-in-Some-clause-owners : goal.returns-in_ok-leaf-in-Some-clause-owners
 returns-in_ok-leaf-in-Some-clause-owners c =
     let owned = c.args.owners.now in
     let some : c.args.source.now ≡ [] → ⊥ = λ e. grind (arith, common_steps, e) in
-    on_ok_weaker c.put_heading.result (λ closed.
+    on_ok_weaker c.put.result (λ closed.
     c.in_ok-leaf-in-Some.ensures
     ∙ heading_owns owned c.in-Some.number c.args.source.now _ some (omega (arith, c.requires, c.in_ok-count_lines-in-Some.ensures))
-    ∙ ap (λ h. own_leaves owned (content_leaf h c.args.source.now)) (sym c.in-Some.is)) c.put_heading.ensures.level
+    ∙ ap (λ h. own_leaves owned (content_leaf h c.args.source.now)) (sym c.in-Some.is)) c.put.ensures.level
 
 pub returns-in_ok-leaf-in-None-clause-level : goal.returns-in_ok-leaf-in-None-clause-level
 returns-in_ok-leaf-in-None-clause-level c =
     let level = c.args.stack.now.level in
     let some : c.args.source.now ≡ [] → ⊥ = λ e. grind (arith, common_steps, e) in
-    on_ok_weaker c.put_paragraph.result (λ closed.
+    on_ok_weaker c.put-in-None.result (λ closed.
     closed
     ∙ content_closes level c.args.source.now some
-    ∙ ap (λ h. close_leaves level (content_leaf h c.args.source.now)) (sym c.in-None.is)) c.put_paragraph.ensures.level
+    ∙ ap (λ h. close_leaves level (content_leaf h c.args.source.now)) (sym c.in-None.is)) c.put-in-None.ensures.level
 
 pub returns-in_ok-leaf-in-None-clause-owners : goal.returns-in_ok-leaf-in-None-clause-owners
 returns-in_ok-leaf-in-None-clause-owners c =
     let owned = c.args.owners.now in
     let some : c.args.source.now ≡ [] → ⊥ = λ e. grind (arith, common_steps, e) in
-    on_ok_weaker c.put_paragraph.result (λ closed.
+    on_ok_weaker c.put-in-None.result (λ closed.
     c.in_ok-leaf-in-None.ensures
     ∙ content_owns owned c.args.source.now _ some (omega (arith, c.requires, c.in_ok-count_lines-in-None.ensures))
-    ∙ ap (λ h. own_leaves owned (content_leaf h c.args.source.now)) (sym c.in-None.is)) c.put_paragraph.ensures.level
+    ∙ ap (λ h. own_leaves owned (content_leaf h c.args.source.now)) (sym c.in-None.is)) c.put-in-None.ensures.level

@@ -20,30 +20,30 @@ returns-in-Nothing-clause-owners c =
     let owned = c.args.owners.now in
     none_owns owned ∙ ap (λ x. own_leaves owned (leaves_of_closed x)) (sym c.in-Nothing.is)
 
-pub returns-in_ok-put_heading-in-Heading-clause-level : goal.returns-in_ok-put_heading-in-Heading-clause-level
-returns-in_ok-put_heading-in-Heading-clause-level c =
+pub returns-in_ok-put-in-Heading-clause-level : goal.returns-in_ok-put-in-Heading-clause-level
+returns-in_ok-put-in-Heading-clause-level c =
     let level = c.args.stack.now.level in
-    c.in_ok-put_heading-in-Heading.ensures.level
+    c.in_ok-put-in-Heading.ensures.level
     ∙ ap (λ t. block_closes level (Heading c.in-Heading.level (raw_inlines t))) c.deref.ensures
     ∙ one_closes level (heading c.in-Heading.level (string_bytes c.in-Heading.content)) 1
     ∙ ap (λ x. close_leaves level (leaves_of_closed x)) (sym c.in-Heading.is)
 
-pub returns-in_ok-put_heading-in-Heading-clause-owners : goal.returns-in_ok-put_heading-in-Heading-clause-owners
-returns-in_ok-put_heading-in-Heading-clause-owners c =
+pub returns-in_ok-put-in-Heading-clause-owners : goal.returns-in_ok-put-in-Heading-clause-owners
+returns-in_ok-put-in-Heading-clause-owners c =
     let owned = c.args.owners.now in
     c.in_ok-leaf-in-Heading.ensures
     ∙ one_owns owned (heading c.in-Heading.level (string_bytes c.in-Heading.content)) 1 refl
     ∙ ap (λ x. own_leaves owned (leaves_of_closed x)) (sym c.in-Heading.is)
 
-pub returns-in_ok-put_break-in-Break-clause-level : goal.returns-in_ok-put_break-in-Break-clause-level
-returns-in_ok-put_break-in-Break-clause-level c =
+pub returns-in_ok-put-in-Break-clause-level : goal.returns-in_ok-put-in-Break-clause-level
+returns-in_ok-put-in-Break-clause-level c =
     let level = c.args.stack.now.level in
-    c.in_ok-put_break-in-Break.ensures.level
+    c.in_ok-put-in-Break.ensures.level
     ∙ one_closes level thematic_break 1
     ∙ ap (λ x. close_leaves level (leaves_of_closed x)) (sym c.in-Break.is)
 
-pub returns-in_ok-put_break-in-Break-clause-owners : goal.returns-in_ok-put_break-in-Break-clause-owners
-returns-in_ok-put_break-in-Break-clause-owners c =
+pub returns-in_ok-put-in-Break-clause-owners : goal.returns-in_ok-put-in-Break-clause-owners
+returns-in_ok-put-in-Break-clause-owners c =
     let owned = c.args.owners.now in
     c.in_ok-leaf-in-Break.ensures
     ∙ one_owns owned thematic_break 1 refl
@@ -87,17 +87,17 @@ returns-in_ok-put_code-in-Fenced-clause-owners c =
     ∙ one_owns owned (code (string_bytes c.in-Fenced.info) text) (fence_lines c.in-Fenced.ended text) refl
     ∙ ap (λ x. own_leaves owned (leaves_of_closed x)) (sym c.in-Fenced.is)
 
-pub returns-in_ok-put_html-in-Html-clause-level : goal.returns-in_ok-put_html-in-Html-clause-level
-returns-in_ok-put_html-in-Html-clause-level c =
+pub returns-in_ok-put-in-Html-clause-level : goal.returns-in_ok-put-in-Html-clause-level
+returns-in_ok-put-in-Html-clause-level c =
     let level = c.args.stack.now.level in
     let text = c.in-Html.text in
-    c.in_ok-put_html-in-Html.ensures.level
+    c.in_ok-put-in-Html.ensures.level
     ∙ ap (λ t. block_closes level (Html t)) (c.as_str-in-Html.ensures ∙ c.in_ok-end_line-in-Html.ensures)
     ∙ one_closes level (html (ended text)) (suc (line_feeds text))
     ∙ ap (λ x. close_leaves level (leaves_of_closed x)) (sym c.in-Html.is)
 
-pub returns-in_ok-put_html-in-Html-clause-owners : goal.returns-in_ok-put_html-in-Html-clause-owners
-returns-in_ok-put_html-in-Html-clause-owners c =
+pub returns-in_ok-put-in-Html-clause-owners : goal.returns-in_ok-put-in-Html-clause-owners
+returns-in_ok-put-in-Html-clause-owners c =
     let owned = c.args.owners.now in
     let text = c.in-Html.text in
     let lines : c.in_ok-lines-in-Html.lines ≡ suc (line_feeds text) = omega (arith, c.feeds-in-Html.ensures, c.in_ok-lines-in-Html.ensures) in
