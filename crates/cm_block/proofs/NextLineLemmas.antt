@@ -1,6 +1,6 @@
 -- What the next line is to a run of text.
 use Rattle.std.proofs.Common.{◌≡◌, ℕ, zero, suc, ◌-◌, ◌<◌, ◌≤◌, Bool, true, false, List, [], ◌∷◌, length, take, drop, Option, Some, None, refl, sym, ap, subst, ◌∙◌, arith, option_map}
-use Rattle.std.specs.Prelude.{not, ◌==◌}
+use Rattle.std.specs.Prelude.{not, ◌==◌, ◌&&◌}
 use Rattle.std.proofs.lemmas.Bool.Decides.{nat_tests}
 use Rattle.cm_text.specs.Rules.{Rules}
 use Rattle.cm_text.specs.Lines.{LineView}
@@ -10,11 +10,15 @@ use Rattle.cm_scan.specs.Lines.{is_blank, content_of, past}
 use Rattle.cm_scan.specs.LineForms.{ItemMarker, underline}
 use Rattle.cm_scan.specs.Scanned.{ending}
 use Rattle.cm_scan.specs.Links.{definitions_of}
-use Rattle.cm_scan.specs.Starts.{Start, start_of, ItemStart, starts_at_one, can_interrupt, interrupts_paragraph, underline_of}
-use Rattle.cm_scan.specs.Blocks.{rest_of, NextLine, Ends, Underlines, by_interruption, by_underline, next_line}
+use Rattle.cm_scan.specs.Starts.{Start, TextLine, start_of, ItemStart, starts_at_one, can_interrupt, interrupts_paragraph, underline_of}
+use Rattle.cm_text.specs.Views.{seen_view}
+use Rattle.cm_text.specs.declared.view.View.{View}
+use Rattle.cm_scan.specs.HtmlBlocks.{is_at_letter}
+use Rattle.cm_scan.specs.Blocks.{rest_of, NextLine, GoesOn, Ends, Underlines, by_interruption, by_underline, next_line}
 use Rattle.std.specs.List.{slice_range}
 use Rattle.cm_scan.proofs.HtmlLemmas.{slice_from}
 use Rattle.cm_block.specs.steps.LeafSteps.{level_above, heading_level}
+use Rattle.cm_block.proofs.StartLemmas.{at_letter, letter_starts, letter_underlines}
 
 -- an underline
 
@@ -113,3 +117,29 @@ drop-one (suc n) (b ∷ bs) = drop-one n bs
 
 pub behind_first : (text part : List ℕ) (n : ℕ) → part ≡ slice_range text n (length text) → take (length part - 1) (drop 1 part) ≡ drop (suc n) text
 behind_first text part n e = slice_from 1 part ∙ ap (drop 1) (e ∙ slice_from n text) ∙ drop-one n text
+
+-- a line that begins with a letter goes on with any run
+
+next-plain : (rules : Rules) (source : List ℕ) (line : LineView) → is_blank line ≡ false → underline_of line ≡ None → interrupts_paragraph rules line ≡ false
+    → GoesOn ≡ next_line rules source line
+unfolding next_line
+next-plain rules source line b u i =
+    sym (λ k. elim (b k) as (λ _. NextLine) [ true ↦ Ends | false ↦ by_underline (u k) (not (is_empty (rest_of source))) (i k) ])
+
+letter-shows : (text : List ℕ) → is_at_letter text ≡ true → is_blank_text text ≡ false
+letter-shows [] e = absurd (cc)
+letter-shows (b ∷ bs) e = grind (arith, e)
+
+pub letter_goes_on : (view : View) → ((view.spaces == 0) && is_at_letter view.rest.now) ≡ true → (rules : Rules) (source : List ℕ)
+    → GoesOn ≡ next_line rules source (seen_view view)
+letter_goes_on view letter rules source = go view.lazy refl
+  where
+    line : LineView
+    line = seen_view view
+    shows : is_blank line ≡ false
+    shows = letter-shows line.text (at_letter view letter)
+    go : (lazy : Bool) → view.lazy ≡ lazy → GoesOn ≡ next_line rules source line
+    go true lazy = next-plain rules source line shows (sym (underline_lazy line lazy)) (lazy_interrupts rules line lazy)
+    go false eager =
+        next-plain rules source line shows (letter_underlines view eager letter)
+        (sym (interrupts rules TextLine line false (sym (letter_starts rules view eager letter)) refl))

@@ -66,6 +66,16 @@ module _ (x : OpenLeaf) (xs : List (LeafPart × ℕ)) (n : ℕ) (leaves : xs ≡
       let z : 0 ≡ n = omega (arith, none) in
       is ∙ ap (own_leaves s) leaves ∙ ap (λ m. own_blanks q m (own_leaves s (closed_leaves x))) (z ∙ blanks)
 
+-- where no leaf is open, nothing is closed
+
+pub nothing_closed : (v : Level) (x : OpenLeaf) → x ≡ no_leaf → v ≡ close_open v (in_leaf x)
+unfolding close_open close_leaves closed_leaves push_blanks
+nothing_closed v x e = ap (λ y. close_open v (in_leaf y)) (sym e)
+
+pub nothing_owned : (q : Bool) (s : Owned) (x : OpenLeaf) → x ≡ no_leaf → s ≡ own_open q s (in_leaf x)
+unfolding own_open own_leaves closed_leaves own_blanks
+nothing_owned q s x e = ap (λ y. own_open q s (in_leaf y)) (sym e)
+
 -- a line of a leaf in the innermost container
 
 pub stack_stays : (bare : Bool) (fs gs : List Frame) (v w : Level) (y : OpenLeaf) (s : Owned) → bare ≡ false → gs ≡ fs → w ≡ v

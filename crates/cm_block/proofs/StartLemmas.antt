@@ -166,7 +166,7 @@ module _ (rules : Rules) where
 
 -- a line that begins with a letter, without indentation
 
-at_letter : (view : View) → ((view.spaces == 0) && is_at_letter view.rest.now) ≡ true → is_at_letter (seen_view view).text ≡ true
+pub at_letter : (view : View) → ((view.spaces == 0) && is_at_letter view.rest.now) ≡ true → is_at_letter (seen_view view).text ≡ true
 at_letter view begins =
     let parts = and_parts (view.spaces == 0) (is_at_letter view.rest.now) begins in
     ap (λ n. is_at_letter (replicate n 32 ++ view.rest.now)) (eqb-true view.spaces 0 parts.0) ∙ parts.1

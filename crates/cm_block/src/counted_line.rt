@@ -35,7 +35,7 @@ pub(crate) use first_line::FirstLine;
 use first_line::begin_leaf;
 use interruptions::{interrupts_paragraph, underline_of};
 use places::{ends_bare_item, if_lazy, is_blank, item_content, quote_content, reaches_or_is_blank, with_columns};
-use starts::{Start, start_of};
+use starts::{Start, begins_with_letter, start_of};
 use std::alloc::{AllocError, Global};
 
 /// What is left of a line inside the containers in which it stays, and how often it has been read so far.
@@ -73,9 +73,21 @@ pub(crate) enum Begins<'a> {
     Leaf(LeafStart<'a>),
 }
 
+/// What a line is, as far as one look tells.
+#[derive(Clone, Copy, Debug)]
+pub(crate) enum Look {
+    /// It is blank.
+    Blank,
+    /// It begins with a letter, without indentation: behind a paragraph it goes on with that.
+    Letter,
+    /// Neither.
+    Other,
+}
+
 impl<'a> CountedLine<'a> {
     ghost use Rattle.cm_block.specs.steps.LineTests.{ReadOnce};
     ghost use Rattle.cm_block.specs.steps.FirstLines.{Found};
+    ghost use Rattle.cm_block.specs.steps.Looks.{LooksLike};
 
     /// A whole line, which hasn't been read.
     pub(crate) fn new(line: View<'a>) -> CountedLine<'a>
@@ -207,6 +219,22 @@ impl<'a> CountedLine<'a> {
         ensures read { ReadOnce self.old self.new }
     {
         is_blank(&self.read())
+    }
+
+    /// What the line is, as far as one look tells.
+    #[inline(always)]
+    pub(crate) fn look(&mut self) -> Look
+        ensures look { LooksLike result (seen_view self.old.rest) }
+        ensures read { ReadOnce self.old self.new }
+    {
+        let view = self.read();
+        if begins_with_letter(&view) {
+            return Look::Letter;
+        }
+        if is_blank(&view) {
+            return Look::Blank;
+        }
+        Look::Other
     }
 
     /// The level that the line gives to the text above it, as an underline (4.3 Setext headings).

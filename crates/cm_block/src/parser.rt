@@ -101,6 +101,9 @@ impl BlockParser {
         ensures limits { self.new.limits ≡ self.old.limits }
         ensures fault { self.new.fault ≡ self.old.fault }
     {
+        if let OpenLeaf::Nothing = self.leaf {
+            return Ok(());
+        }
         let (leaf, blank_lines) = mem::replace(&mut self.leaf, OpenLeaf::Nothing).close();
         leaf.put(
             self.alloc,

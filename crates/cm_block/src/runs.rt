@@ -9,7 +9,7 @@ ghost use Rattle.cm_block.specs.declared.runs.NextLine.TheVariants.{Ends};
 ghost use Rattle.cm_block.specs.steps.LineTests.{Tested, ReadOnce};
 ghost use Rattle.cm_block.specs.steps.LeafSteps.{next_of, heading_level};
 
-use crate::counted_line::CountedLine;
+use crate::counted_line::{CountedLine, Look};
 use cm_scan::{definition, trim_end};
 use cm_text::Rules;
 use memchr::memchr_iter;
@@ -73,8 +73,10 @@ pub(crate) fn next_line(rules: Rules, source: &str, line: &mut CountedLine<'_>) 
     ensures tests { Tested 1 3 line.old.tests line.new.tests }
     ensures lazy { result ≡ Ends → line.old.rest.lazy ≡ true → line.new.tests ≤ line.old.tests + 1 }
 {
-    if line.is_blank() {
-        return NextLine::Ends;
+    match line.look() {
+        Look::Blank => return NextLine::Ends,
+        Look::Letter => return NextLine::GoesOn,
+        Look::Other => {}
     }
     if let Some(level) = heading_level(source, line) {
         return NextLine::Underlines(level);

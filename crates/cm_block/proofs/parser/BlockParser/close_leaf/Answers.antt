@@ -3,7 +3,7 @@ use Rattle.cm_block.specs.OpenLeaf.{closed_leaves, blank_lines_behind}
 use Rattle.cm_block.specs.steps.FrameSteps.{quoted_by}
 use Rattle.cm_block.specs.LeafViews.{leaf_of}
 use Rattle.cm_block.specs.steps.LeafSteps.{leaves_of_closed}
-use Rattle.cm_block.proofs.ParserLemmas.{level_with_blanks, level_without, owners_with_blanks, owners_without}
+use Rattle.cm_block.proofs.ParserLemmas.{nothing_closed, nothing_owned, level_with_blanks, level_without, owners_with_blanks, owners_without}
 use Rattle.cm_block.proofs.parser.BlockParser.close_leaf.Goals as goal
 
 pub returns-in_ok-blank_lines-clause-level : goal.returns-in_ok-blank_lines-clause-level
@@ -39,3 +39,10 @@ returns-else-blank_lines-gt0-clause-owners c =
     (c.close-leaf.ensures.leaves ∙ ap (λ l. closed_leaves (leaf_of l)) c.replace.ensures.value)
     (c.close-leaf.ensures.blank_lines ∙ ap (λ l. blank_lines_behind (leaf_of l)) c.replace.ensures.value)
     (quoted_by false s.stack.frames) s.owners c.put.new.owners c.if-blank_lines-gt0.false c.in_ok-put.ensures.owners
+
+pub returns-in-Nothing-clause-level : goal.returns-in-Nothing-clause-level
+returns-in-Nothing-clause-level c = nothing_closed c.args.self.now.stack.level (leaf_of c.args.self.now.leaf) (ap leaf_of c.in-Nothing.is)
+
+pub returns-in-Nothing-clause-owners : goal.returns-in-Nothing-clause-owners
+returns-in-Nothing-clause-owners c =
+    nothing_owned (quoted_by false c.args.self.now.stack.frames) c.args.self.now.owners (leaf_of c.args.self.now.leaf) (ap leaf_of c.in-Nothing.is)

@@ -1,0 +1,11 @@
+use Rattle.std.proofs.Common.{◌∙◌, ap, sym}
+use Rattle.cm_text.specs.declared.view.View.{View}
+use Rattle.cm_text.specs.Views.{seen_view}
+use Rattle.cm_scan.specs.Blocks.{next_line}
+use Rattle.cm_block.proofs.NextLineLemmas.{letter_goes_on}
+use Rattle.cm_block.proofs.counted_line.CountedLine.look.Goals as goal
+
+pub returns-then-begins_with_letter-clause-look : goal.returns-then-begins_with_letter-clause-look
+returns-then-begins_with_letter-clause-look c = λ rules source.
+    letter_goes_on c.read-view.result (sym c.begins_with_letter.ensures ∙ c.if-begins_with_letter.true) rules source
+    ∙ ap (λ (v : View). next_line rules source (seen_view v)) c.read-view.ensures.line
