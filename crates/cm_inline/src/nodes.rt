@@ -1,5 +1,5 @@
 //! The nodes of a leaf: tokens, and groups of them, which are emphasis, links and images.
-ghost use Rattle.std.specs.Prelude.{◌≡◌, ◌++◌, ◌<◌, ◌≤◌, [], ◌∷◌, suc, length, take, drop, set, IfOk, OnOk};
+ghost use Rattle.std.specs.Prelude.{◌≡◌, ◌++◌, ◌<◌, ◌≤◌, ◌^◌, [], ◌∷◌, suc, length, take, drop, set, IfOk, OnOk};
 ghost use Rattle.std.specs.List.{list_any};
 ghost use Rattle.cm_inline.specs.steps.Groups.{nodes_in, waiting_in, node_of, made_by, target_of, AreBelow, AreGroups, IsNoGroup, Takes};
 ghost use Rattle.cm_inline.specs.steps.Nodes.{Piece, Finished, is_closer, nodes_depth, rest_in};
@@ -103,12 +103,17 @@ impl Nodes {
 
     /// Puts the source between two places as text in the place of a node.
     pub(crate) fn put_text(&mut self, at: usize, from: usize, to: usize)
-        requires { at < length (nodes_in self.old) }
+        requires there { at < length (nodes_in self.old) }
+        requires order { from ≤ to }
+        requires short { to < 2 ^ 32 }
         ensures nodes { nodes_in self.new ≡ set (nodes_in self.old) at (Piece from to) }
         ensures waiting { waiting_in self.new ≡ waiting_in self.old }
         ensures inside { self.new.inside ≡ self.old.inside }
     {
-        self.before[at] = Token::Piece { from, to };
+        self.before[at] = Token::Piece {
+            from: from as u32,
+            to: to as u32,
+        };
     }
 
     /// Whether one of the nodes from a number on is a run that may close.
@@ -186,6 +191,7 @@ impl Nodes {
         ensures waiting { OnOk result (waiting_in self.new ≡ waiting_in self.old) }
         ensures inside { OnOk result (self.new.inside ≡ self.old.inside ++ drop (suc opener) self.old.before) }
     {
+        let made = Token::made(self.groups.len(), depth, holds_link)?;
         let from = self.inside.len();
         self.inside.extend_from_slice(&self.before[opener + 1..])?;
         let to = self.inside.len();
@@ -193,13 +199,8 @@ impl Nodes {
         if let Some(run) = left {
             self.before.push(Token::Run(run))?;
         }
-        let number = self.groups.len();
         self.groups.push(making.kind, making.target, from, to)?;
-        self.before.push(Token::Made {
-            number,
-            depth,
-            holds_link,
-        })?;
+        self.before.push(made)?;
         Ok(())
     }
 }
