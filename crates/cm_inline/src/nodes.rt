@@ -1,5 +1,5 @@
 //! The nodes of a leaf: tokens, and groups of them, which are emphasis, links and images.
-ghost use Rattle.std.specs.Prelude.{◌≡◌, ◌++◌, ◌<◌, ◌≤◌, ◌^◌, [], ◌∷◌, suc, length, take, drop, set, IfOk, OnOk};
+ghost use Rattle.std.specs.Prelude.{◌≡◌, ◌++◌, ◌<◌, ◌≤◌, ◌^◌, [], ◌∷◌, suc, nat_lt, length, take, drop, set, IfOk, OnOk};
 ghost use Rattle.std.specs.List.{list_any};
 ghost use Rattle.cm_inline.specs.steps.Groups.{nodes_in, waiting_in, node_of, made_by, target_of, AreBelow, AreGroups, IsNoGroup, Takes};
 ghost use Rattle.cm_inline.specs.steps.Nodes.{Piece, Finished, is_closer, nodes_depth, rest_in};
@@ -124,12 +124,12 @@ impl Nodes {
         has_closer(&self.before[from..])
     }
 
-    /// How deep the inlines among the nodes from a number on nest.
-    pub(crate) fn depth_from(&self, from: usize) -> usize
-        requires { from ≤ length (nodes_in self.now) }
-        ensures { result ≡ nodes_depth (drop from (nodes_in self.now)) }
+    /// Whether the inlines among the nodes nest deeper than a limit.
+    pub(crate) fn nest_past(&self, limit: usize) -> bool
+        ensures { result ≡ nat_lt limit (nodes_depth (nodes_in self.now)) }
     {
-        depth_of_all(&self.before[from..])
+        // They nest one deeper than there are groups, at most: one of the groups may hold an autolink.
+        self.groups.len() >= limit && depth_of_all(&self.before) > limit
     }
 
     /// How deep the inlines among the nodes behind one nest.
@@ -186,7 +186,8 @@ impl Nodes {
         depth: usize,
         holds_link: bool,
     ) -> Result<(), AllocError>
-        requires { opener < length (nodes_in self.old) }
+        requires there { opener < length (nodes_in self.old) }
+        requires deep { depth ≤ suc (nodes_depth (drop (suc opener) (nodes_in self.old))) }
         ensures nodes { OnOk result (nodes_in self.new ≡ take opener (nodes_in self.old) ++ (rest_in left ++ Finished (made_by making.entry.kind (target_of making.entry) (drop (suc opener) (nodes_in self.old))) depth holds_link ∷ [])) }
         ensures waiting { OnOk result (waiting_in self.new ≡ waiting_in self.old) }
         ensures inside { OnOk result (self.new.inside ≡ self.old.inside ++ drop (suc opener) self.old.before) }

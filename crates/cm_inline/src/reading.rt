@@ -137,7 +137,7 @@ fn read_nodes(
 {
     read_all(alloc, rules, source, definitions, limit, reader)?;
     pair_from(limit, &mut reader.nodes, &mut reader.openers, 0)?;
-    if reader.nodes.depth_from(0) > limit {
+    if reader.nodes.nest_past(limit) {
         return Err(InlineFault::InlinesTooDeep);
     }
     Ok(Steps(reader.openers.list.looks()))
