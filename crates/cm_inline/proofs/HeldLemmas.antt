@@ -68,7 +68,7 @@ read-node made (tokens.Opener image behind) read = refl
 written-depth : (written : Written) → written_depth written ≤ 1
 written-depth (written.Code from to) = omega arith
 written-depth (written.Html from to) = omega arith
-written-depth (written.Autolink from to is_address) = omega arith
+written-depth (written.Autolink is_address from to) = omega arith
 written-depth written.Soft = omega arith
 written-depth written.Hard = omega arith
 

@@ -39,15 +39,15 @@ impl Marker {
     }
 }
 
-/// A delimiter run: its character, its whole length, how many of its characters are left, and whether it may
-/// open and may close emphasis.
+/// A delimiter run: its character, whether it may open and may close emphasis, its whole length, and how many of
+/// its characters are left.
 #[derive(Clone, Copy, Debug)]
 pub(crate) struct DelimiterRun {
     pub(crate) marker: Marker,
-    pub(crate) whole: u32,
-    pub(crate) left: u32,
     pub(crate) opens: bool,
     pub(crate) closes: bool,
+    pub(crate) whole: u32,
+    pub(crate) left: u32,
 }
 
 /// Whether an opener and a closer match (rules 9 and 10).

@@ -22,11 +22,11 @@ pub(crate) enum Written {
         from: u32,
         to: u32,
     },
-    /// An autolink: what stands between `<` and `>`, and whether it is an e-mail address.
+    /// An autolink: whether it is an e-mail address, and what stands between `<` and `>`.
     Autolink {
+        is_address: bool,
         from: u32,
         to: u32,
-        is_address: bool,
     },
     Soft,
     Hard,

@@ -1,4 +1,4 @@
-use Rattle.std.proofs.Common.{◌≤◌, [], sym, ap, ◌∙◌, arith}
+use Rattle.std.proofs.Common.{◌≤◌, [], ap, ◌∙◌, arith}
 use Rattle.std.specs.Prelude.{nat_lt}
 use Rattle.std.proofs.lemmas.Bool.Decides.{nat_tests}
 use Rattle.cm_inline.specs.contracts.nodes.Nodes.{the_view}
