@@ -112,7 +112,7 @@ module _ (rules : Rules) (source : List ℕ) (at : ℕ) where
   next-stands : (b c : ℕ) → IsUtf8 source → Stands source at b → b < 128 → begins_with c (drop (at + 1) source) ≡ true → Stands source (at + 1) c
   next-stands b c utf8 s ascii next =
       let found = begins-at c source (at + 1) next in
-      record { within = found.0; boundary = behind-byte b utf8 s ascii; byte = found.2 }
+      record { short = s.short; within = found.0; boundary = behind-byte b utf8 s ascii; byte = found.2 }
 
   -- a code span, or a backtick string as text
 
@@ -209,7 +209,7 @@ module _ (rules : Rules) (source : List ℕ) (at : ℕ) where
   unfolding backslash_atom after_word
   escape-is c utf8 s within byte ascii punct =
       let boundary = behind-byte 92 utf8 s (omega arith) in
-      let next : Stands source (at + 1) c = record { within = within; boundary = boundary; byte = byte } in
+      let next : Stands source (at + 1) c = record { short = s.short; within = within; boundary = boundary; byte = byte } in
       let end : at + 1 + 1 ≡ at + 2 = omega arith in
       let behind : IsCharBoundary source (at + 2) = subst (IsCharBoundary source) end (IsCharBoundary-after_ascii source (at + 1) utf8 within (omega (arith, byte, ascii))) in
       let one : at + 2 - (at + 1) ≡ 1 = omega arith in

@@ -40,7 +40,7 @@ link-depth link =
 pub whole-depth : (source : List ℕ) (w : Written) → depth_of (inline_in source w) ≡ written_depth w
 whole-depth source (written.Code from to) = code-depth (one_line (slice_range source from to))
 whole-depth source (written.Html from to) = html-depth (slice_range source from to)
-whole-depth source (written.Autolink from to is_address) = autolink (if is_address then codes "mailto:" ++ slice_range source from to else slice_range source from to) (slice_range source from to)
+whole-depth source (written.Autolink is_address from to) = autolink (if is_address then codes "mailto:" ++ slice_range source from to else slice_range source from to) (slice_range source from to)
   where
     autolink : (dest text : List ℕ) → depth_of (Link dest [] (Text text ∷ [])) ≡ 1
     autolink dest text =

@@ -10,9 +10,12 @@ use Rattle.cm_inline.specs.declared.groups.Kind.{Kind}
 use Rattle.cm_inline.specs.declared.runs.DelimiterRun.{DelimiterRun}
 use Rattle.cm_inline.specs.declared.tokens.Token.{Token}
 use Rattle.cm_inline.specs.declared.tokens.Token.TheVariants as tokens
-use Rattle.cm_inline.specs.steps.Nodes.{Node, Piece, Characters, Whole, Finished, Run, Opener, rest_in}
+use Rattle.cm_inline.specs.steps.Nodes.{Node, Piece, Characters, Whole, Finished, Run, Opener, node_depth, nodes_depth, rest_in}
 use Rattle.cm_inline.specs.steps.Groups.{Made, Held, Grouped, nodes_in, waiting_in, nothing_made, node_of, nodes_of, made_by, group_made, groups_after, groups_made, is_run, IsNoGroup, IsBelow, AreBelow, AreGroups, IsGroup, AreHeld, Takes}
-use Rattle.cm_inline.proofs.GroupLemmas.{made-length, made-more}
+use Rattle.cm_inline.specs.declared.written.Written.{Written}
+use Rattle.cm_inline.specs.declared.written.Written.TheVariants as written
+use Rattle.cm_inline.specs.steps.Written.{written_depth}
+use Rattle.cm_inline.proofs.GroupLemmas.{made-length, made-more, depth-from}
 
 -- groups below a number
 
@@ -21,7 +24,7 @@ below-more low high [] order below = tt
 below-more low high (tokens.Piece from to ∷ held) order below = (tt, below-more low high held order below.1)
 below-more low high (tokens.Characters chars ∷ held) order below = (tt, below-more low high held order below.1)
 below-more low high (tokens.Whole written ∷ held) order below = (tt, below-more low high held order below.1)
-below-more low high (tokens.Made number depth holds_link ∷ held) order below = (omega (arith, order, below.0), below-more low high held order below.1)
+below-more low high (tokens.Made number depth holds_link ∷ held) order below = ((omega (arith, order, below.0.0), below.0.1), below-more low high held order below.1)
 below-more low high (tokens.Run run ∷ held) order below = (tt, below-more low high held order below.1)
 below-more low high (tokens.Opener image behind ∷ held) order below = (tt, below-more low high held order below.1)
 
@@ -59,6 +62,30 @@ read-node made (tokens.Whole written) read = refl
 read-node made (tokens.Made number depth holds_link) read = absurd read
 read-node made (tokens.Run run) read = refl
 read-node made (tokens.Opener image behind) read = refl
+
+-- how deep they nest
+
+written-depth : (written : Written) → written_depth written ≤ 1
+written-depth (written.Code from to) = omega arith
+written-depth (written.Html from to) = omega arith
+written-depth (written.Autolink is_address from to) = omega arith
+written-depth written.Soft = omega arith
+written-depth written.Hard = omega arith
+
+one-depth : (bound : ℕ) (token : Token) → IsBelow bound token → node_depth (node_of [] token) ≤ bound + 1
+one-depth bound (tokens.Piece from to) below = omega arith
+one-depth bound (tokens.Characters chars) below = omega arith
+one-depth bound (tokens.Whole one) below = omega (arith, written-depth one)
+one-depth bound (tokens.Made number depth holds_link) below = omega (arith, below.0, below.1)
+one-depth bound (tokens.Run run) below = omega arith
+one-depth bound (tokens.Opener image behind) below = omega arith
+
+below-depth : (bound : ℕ) (held : List Token) → AreBelow bound held → nodes_depth (nodes_of [] held) ≤ bound + 1
+below-depth bound [] below = omega arith
+below-depth bound (token ∷ held) below = omega (arith, one-depth bound token below.0, below-depth bound held below.1)
+
+pub held-depth : (held : Held) (from : ℕ) → AreHeld held → nodes_depth (drop from (nodes_in held)) ≤ length held.groups + 1
+held-depth held from are = omega (arith, depth-from held from, below-depth (length held.groups) (drop from held.before) (below-drop (length held.groups) from held.before are.before))
 
 -- nodes of no tokens
 
@@ -275,7 +302,7 @@ nodes-more made more (tokens.Piece from to ∷ held) below = ap (λ ns. Piece fr
 nodes-more made more (tokens.Characters chars ∷ held) below = ap (λ ns. Characters chars ∷ ns) (nodes-more made more held below.1)
 nodes-more made more (tokens.Whole written ∷ held) below = ap (λ ns. Whole written ∷ ns) (nodes-more made more held below.1)
 nodes-more made more (tokens.Made number depth holds_link ∷ held) below =
-    ap (λ m. Finished m depth holds_link ∷ nodes_of (made ++ more) held) (get_or_append_left made more nothing_made number below.0)
+    ap (λ m. Finished m depth holds_link ∷ nodes_of (made ++ more) held) (get_or_append_left made more nothing_made number below.0.0)
     ∙ ap (λ ns. Finished (get_or made number nothing_made) depth holds_link ∷ ns) (nodes-more made more held below.1)
 nodes-more made more (tokens.Run run ∷ held) below = ap (λ ns. Run run ∷ ns) (nodes-more made more held below.1)
 nodes-more made more (tokens.Opener image behind ∷ held) below = ap (λ ns. Opener image behind ∷ ns) (nodes-more made more held below.1)
@@ -367,10 +394,10 @@ grouped-held cut groups group are more is =
     }
 
 pub wrapped-held : (cut : Held) (groups : List Grouped) (group : Grouped) (before : List Token) (number depth : ℕ) (holds_link : Bool) → AreHeld cut → groups ≡ cut.groups ++ group ∷ [] → IsGroup cut.inside (length cut.groups) group
-    → number ≡ length cut.groups → before ≡ cut.before ++ tokens.Made number depth holds_link ∷ [] → AreHeld (record { before = before; rest = cut.rest; inside = cut.inside; groups = groups })
-wrapped-held cut groups group before number depth holds_link are more is last front =
+    → number ≡ length cut.groups → depth ≤ length cut.groups + 2 → before ≡ cut.before ++ tokens.Made number depth holds_link ∷ [] → AreHeld (record { before = before; rest = cut.rest; inside = cut.inside; groups = groups })
+wrapped-held cut groups group before number depth holds_link are more is last deep front =
     push-held (record { before = cut.before; rest = cut.rest; inside = cut.inside; groups = groups }) before (tokens.Made number depth holds_link) (grouped-held cut groups group are more is) front
-    (omega (arith, last, ap length more, length_push cut.groups group))
+    (omega (arith, last, ap length more, length_push cut.groups group), omega (arith, last, deep))
 
 made-wrapped : (inside moved : List Token) (groups : List Grouped) (kind : Kind) (target : Target) (from to : ℕ) → AreGroups inside 0 groups → from ≡ length inside → to ≡ length (inside ++ moved)
     → groups_made (inside ++ moved) (groups ++ record { kind = kind; target = target; from = from; to = to } ∷ []) ≡ groups_made inside groups ++ made_by kind target (nodes_of (groups_made inside groups) moved) ∷ []

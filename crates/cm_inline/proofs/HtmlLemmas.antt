@@ -51,7 +51,7 @@ longer before text rest = ap (λ t. t ++ rest) (flat_map-append escape_byte befo
 written-is : (source : List ℕ) (written : Written) → (rendered (inline_in source written)).html ≡ written_html source written
 written-is source (Code from to) = simp (fold_out-Inline Rendered inline_step, outs-Code)
 written-is source (Html from to) = simp (fold_out-Inline Rendered inline_step, outs-Html)
-written-is source (Autolink from to is_address) = linked (if is_address then codes "mailto:" ++ slice_range source from to else slice_range source from to) (slice_range source from to)
+written-is source (Autolink is_address from to) = linked (if is_address then codes "mailto:" ++ slice_range source from to else slice_range source from to) (slice_range source from to)
   where
     text-html : (text : List ℕ) → (rendered (Text text)).html ≡ escape text
     text-html text = simp (fold_out-Inline Rendered inline_step, outs-Text)

@@ -1,5 +1,5 @@
 -- What brackets come to, kept with all that is known of the nodes.
-use Rattle.std.proofs.Common.{◌≡◌, ℕ, zero, suc, ◌+◌, ◌-◌, ◌<◌, ◌≤◌, Bool, true, false, not, ◌||◌, List, [], ◌∷◌, ◌++◌, length, take, drop, set, refl, sym, ap, subst, ◌∙◌, arith, append_assoc, length-append, length-drop, take-take}
+use Rattle.std.proofs.Common.{◌≡◌, ℕ, zero, suc, ◌+◌, ◌-◌, ◌^◌, ◌<◌, ◌≤◌, Bool, true, false, not, ◌||◌, List, [], ◌∷◌, ◌++◌, length, take, drop, set, refl, sym, ap, subst, ◌∙◌, arith, append_assoc, length-append, length-drop, take-take}
 use Rattle.std.specs.Prelude.{Option, Some, None, nat_lt, if◌then◌else◌, IsUtf8, Result, Ok, Err, OnOk}
 use Rattle.std.specs.List.{slice_range}
 use Rattle.std.specs.Str.{IsCharBoundary}
@@ -224,6 +224,7 @@ text-read source nodes others b at links_end ends utf8 s r =
     let w = split-last 0 nodes others b r.unclosed in
     let n = text-nodes source nodes others b w at in
     record {
+      short = r.short;
       parts = text-parts source nodes others b w at utf8 r.parts s;
       unclosed = text-brackets source nodes others b w at;
       before = before-later at (at + 1) others (omega arith) (before-split at others (b ∷ []) r.before).0;
@@ -246,6 +247,7 @@ link-read source nodes more others b made at links_end end ends r is part none l
     let both = parts-split source w.front (Opener b.image b.behind ∷ w.inside) (subst (AreParts source) w.whole r.parts) in
     let front = take b.node nodes in
     record {
+      short = r.short;
       parts = subst (AreParts source) (sym is) (parts-append source front (made ∷ []) (subst (AreParts source) (sym o) both.0) (part, tt));
       unclosed = ap (brackets_from 0) is ∙ brackets-append 0 front (made ∷ []) ∙ ap (λ t. brackets_from 0 front ++ (t ++ [])) none ∙ append-nil (brackets_from 0 front) ∙ ap (brackets_from 0) o ∙ w.outer;
       before = (before-split at others (b ∷ []) r.before).0;
@@ -263,9 +265,10 @@ links-before source nodes others b links_end w links none =
     subst (λ t. LinksEnd source t links_end) (sym (outside-is source nodes others b w)) (links-cut source w.front (Opener b.image b.behind ∷ w.inside) links_end inner (subst (λ t. LinksEnd source t links_end) w.whole links))
 
 -- nothing is read yet
-pub nothing-read : (source : List ℕ) (nodes : List Node) (brackets : List Bracket) (ends : Ends) → IsUtf8 source → nodes ≡ [] → brackets ≡ [] → Knows source ends → IsRead source 0 nodes brackets 0 ends
+pub nothing-read : (source : List ℕ) (nodes : List Node) (brackets : List Bracket) (ends : Ends) → length source < 2 ^ 32 → IsUtf8 source → nodes ≡ [] → brackets ≡ [] → Knows source ends → IsRead source 0 nodes brackets 0 ends
 unfolding brackets_from holds_link
-nothing-read source nodes brackets ends utf8 no-nodes no-brackets knows = record {
+nothing-read source nodes brackets ends short utf8 no-nodes no-brackets knows = record {
+  short = short;
   parts = subst (AreParts source) (sym no-nodes) tt;
   unclosed = ap (brackets_from 0) no-nodes ∙ sym no-brackets;
   before = subst (AreBefore 0) (sym no-brackets) tt;
@@ -427,6 +430,7 @@ text-keeps source nodes more others b looks later w is same =
 pub read-further : (source : List ℕ) (nodes : List Node) (brackets : List Bracket) (at end links_end : ℕ) (ends : Ends) → at ≤ end → IsCharBoundary source end → IsRead source at nodes brackets links_end ends
     → IsRead source end nodes brackets links_end ends
 read-further source nodes brackets at end links_end ends low boundary r = record {
+  short = r.short;
   parts = r.parts;
   unclosed = r.unclosed;
   before = before-later at end brackets low r.before;
@@ -441,6 +445,7 @@ pub piece-read : (source : List ℕ) (nodes : List Node) (brackets : List Bracke
     → IsRead source end (nodes ++ Piece at end ∷ []) brackets links_end ends
 unfolding brackets_from
 piece-read source nodes brackets at end links_end ends low boundary r = record {
+  short = r.short;
   parts = parts-append source nodes (Piece at end ∷ []) r.parts ((low, r.boundary, boundary), tt);
   unclosed = brackets-append 0 nodes (Piece at end ∷ []) ∙ append-nil (brackets_from 0 nodes) ∙ r.unclosed;
   before = before-later at end brackets low r.before;
@@ -504,6 +509,7 @@ atom-read rules source nodes brackets at node end links_end ends later is knows 
     let item : item_for a (drop end source) ≡ Some (item_of source node) = ap (item_for a) (sym is.rest) ∙ is.item in
     let place : length nodes + 0 ≡ length nodes = omega arith in
     record {
+      short = r.short;
       parts = parts-append source nodes (node ∷ []) r.parts (is.part, tt);
       unclosed = brackets-append 0 nodes (node ∷ []) ∙ ap (λ t. brackets_from 0 nodes ++ t) (append-nil (bracket_in (length nodes + 0) node)) ∙ ap (λ n. brackets_from 0 nodes ++ bracket_in n node) place ∙ ap (λ t. t ++ bracket_in (length nodes) node) r.unclosed;
       before = before-append end brackets (bracket_in (length nodes) node) (before-later at end brackets low r.before) (bracket-before a source (length nodes) node end is.part is.within item);

@@ -1,5 +1,5 @@
 //! The atoms of a leaf's source: what begins at a place (CommonMark 0.31.2, chapter 6).
-ghost use Rattle.std.specs.Prelude.{◌≡◌, ◌≢◌, ◌==◌, ◌+◌, ◌<◌, ◌≤◌, ◌&&◌, ◌||◌, not, ℕ, [], true, false, length, drop, slice_index, nat_le, if◌then◌else◌, IfOk, OnOk, IfSome, IsUtf8};
+ghost use Rattle.std.specs.Prelude.{◌≡◌, ◌≢◌, ◌==◌, ◌+◌, ◌<◌, ◌≤◌, ◌^◌, ◌&&◌, ◌||◌, not, ℕ, [], true, false, length, drop, slice_index, nat_le, if◌then◌else◌, IfOk, OnOk, IfSome, IsUtf8};
 ghost use Rattle.std.specs.Str.{IsCharBoundary};
 ghost use Rattle.cm_inline.specs.declared.written.Written.TheVariants.{Soft, Hard};
 ghost use Rattle.cm_scan.specs.RawHtml.{raw_html};
@@ -45,6 +45,7 @@ pub(crate) fn read_atom(
     at: usize,
     reader: &mut Reader,
 ) -> Result<usize, AllocError>
+    requires short { length source.now < 2 ^ 32 }
     requires within { at < length source.now }
     requires boundary { IsCharBoundary source.now at }
     requires ascii { slice_index source.now at < 128 }
@@ -113,17 +114,28 @@ fn put(
 /// The text between two places.
 #[inline(always)]
 fn text(at: usize, end: usize) -> (Token, usize)
+    requires order { at ≤ end }
+    requires short { end < 2 ^ 32 }
     ensures { result ≡ (Piece at end, end) }
 {
-    (Token::Piece { from: at, to: end }, end)
+    let text = Token::Piece {
+        from: at as u32,
+        to: end as u32,
+    };
+    (text, end)
 }
 
 /// `[` or `![`, which ends at a place.
 #[inline(always)]
 fn opener(image: bool, behind: usize) -> (Token, usize)
+    requires { behind < 2 ^ 32 }
     ensures { result ≡ (Opener image behind, behind) }
 {
-    (Token::Opener { image, behind }, behind)
+    let opener = Token::Opener {
+        image,
+        behind: behind as u32,
+    };
+    (opener, behind)
 }
 
 /// A code span, or the whole backtick string as text (6.1 Code spans).
@@ -145,7 +157,11 @@ fn backticks(
     match code_span(source, at) {
         Some((inside, end)) => {
             let (from, to) = content_between(source, start, start + inside.len());
-            Ok((Token::Whole(Written::Code { from, to }), end))
+            let code = Written::Code {
+                from: from as u32,
+                to: to as u32,
+            };
+            Ok((Token::Whole(code), end))
         }
         None => {
             ends.look_for_backticks(alloc, source)?;
@@ -163,14 +179,20 @@ fn angle(rules: Rules, source: &str, at: usize, ends: &mut Ends) -> (Token, usiz
 {
     if let Some((link, end)) = autolink(source, at) {
         let link = Written::Autolink {
-            from: at + 1,
-            to: end - 1,
+            from: (at + 1) as u32,
+            to: (end - 1) as u32,
             is_address: link.is_address,
         };
         return (Token::Whole(link), end);
     }
     match raw_html(rules, source, at, ends) {
-        Some((_, end)) => (Token::Whole(Written::Html { from: at, to: end }), end),
+        Some((_, end)) => {
+            let html = Written::Html {
+                from: at as u32,
+                to: end as u32,
+            };
+            (Token::Whole(html), end)
+        }
         None => text(at, at + 1),
     }
 }

@@ -62,6 +62,7 @@ impl Reader {
 
     /// Lets go of what was read, and begins with another source in the same memory.
     pub(crate) fn restart(&mut self, source: &str)
+        requires { length source.now < 2 ^ 32 }
         ensures read { IsReadTo source.now 0 self.new }
         ensures nodes { nodes_in self.new.nodes ≡ [] }
         ensures looks { self.new.openers.list.looks ≡ 0 }
@@ -87,7 +88,7 @@ impl Reader {
             self.brackets.push(Bracket {
                 node,
                 image,
-                behind,
+                behind: behind as usize,
             })?;
         }
         self.nodes.push(token)
@@ -113,8 +114,8 @@ impl Reader {
     {
         let Some(bracket) = self.brackets.pop() else {
             self.nodes.push(Token::Piece {
-                from: at,
-                to: at + 1,
+                from: at as u32,
+                to: (at + 1) as u32,
             })?;
             return Ok(at + 1);
         };
@@ -214,8 +215,8 @@ impl Reader {
             bracket.behind,
         );
         self.nodes.push(Token::Piece {
-            from: at,
-            to: at + 1,
+            from: at as u32,
+            to: (at + 1) as u32,
         })
     }
 }

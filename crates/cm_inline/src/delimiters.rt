@@ -97,7 +97,7 @@ fn unlist(slots: &mut Vec<Slot>, place: Place) -> Slot
 }
 
 /// Writes down the place of the item, and how many characters are left.
-fn write(slots: &mut Vec<Slot>, place: Place, item: usize, left: usize)
+fn write(slots: &mut Vec<Slot>, place: Place, item: usize, left: u32)
     requires { place < length slots.old.items }
     ensures { slots.new.items ≡ with_left place item left slots.old.items }
 {
@@ -208,7 +208,7 @@ impl DelimiterList {
     }
 
     /// Writes down the place of an entry's item, and how many characters of its run are left.
-    pub(crate) fn set(&mut self, place: Place, item: usize, left: usize)
+    pub(crate) fn set(&mut self, place: Place, item: usize, left: u32)
         requires { is_listed place self.old.entries ≡ true }
         ensures left { self.new.entries ≡ leave place item left self.old.entries }
         ensures same { (self.new.looks ≡ self.old.looks) × (self.new.next ≡ self.old.next) }

@@ -1,5 +1,5 @@
 //! Which delimiter runs may open and may close emphasis (CommonMark 0.31.2, 6.2 Emphasis and strong emphasis).
-ghost use Rattle.std.specs.Prelude.{◌≡◌, ℕ, ◌-◌, ◌≤◌, length, take, drop, reverse};
+ghost use Rattle.std.specs.Prelude.{◌≡◌, ℕ, ◌-◌, ◌<◌, ◌≤◌, ◌^◌, length, take, drop, reverse};
 ghost use Rattle.std.specs.Str.{IsCharBoundary};
 ghost use Rattle.cm_scan.specs.Delimiters.{neighbour, is_left_flanking, may_open};
 ghost use Rattle.cm_scan.specs.Atoms.{run_between};
@@ -64,6 +64,7 @@ pub(crate) fn run_between(
     end: usize,
 ) -> DelimiterRun
     requires order { at ≤ end }
+    requires short { end < 2 ^ 32 }
     requires start { IsCharBoundary source.now at }
     requires end { IsCharBoundary source.now end }
     ensures { run_of result ≡ run_between rules (byte_of marker) (end - at) (reverse (take at source.now)) (drop end source.now) }
@@ -72,8 +73,8 @@ pub(crate) fn run_between(
     let after = Neighbour::of(rules, first_character(&source[end..]));
     DelimiterRun {
         marker,
-        whole: end - at,
-        left: end - at,
+        whole: (end - at) as u32,
+        left: (end - at) as u32,
         opens: may_open(marker, before, after),
         closes: may_open(marker, after, before),
     }

@@ -1,10 +1,11 @@
 //! The groups of a leaf: its emphasis, links and images. A group has the places of what stands in it, and
 //! where it leads.
-ghost use Rattle.std.specs.Prelude.{◌≡◌, ◌++◌, ◌<◌, ◌≤◌, [], ◌∷◌, length, take, OnOk, OnErr};
-ghost use Rattle.cm_tree.specs.LinkTargets.{led_to};
+ghost use Rattle.std.specs.Prelude.{◌≡◌, ◌++◌, ◌<◌, ◌≤◌, [], ◌∷◌, length, take, string_bytes, IfOk, OnOk, OnErr};
+ghost use Rattle.cm_tree.specs.LinkTargets.{led_to, Keeps};
+ghost use Rattle.cm_tree.specs.TargetPlaces.{GoesOn};
 ghost use Rattle.cm_inline.specs.steps.Groups.{group_of, grouped, IsAt};
 
-use cm_tree::{KeptTarget, LinkTarget};
+use cm_tree::{KeptTarget, LinkTarget, TargetPlaces};
 use std::alloc::{AllocError, Global};
 use std::marker::Model;
 
@@ -61,6 +62,25 @@ impl Model for Groups {
     ghost invariant = { λ g. AreTargets (string_bytes g.texts) g.groups.items };
 }
 
+/// Keeps where a group leads. Emphasis leads nowhere: nothing is copied for it.
+#[inline(always)]
+fn keep(texts: &mut String, target: LinkTarget<'_>) -> Result<KeptTarget, AllocError>
+    ensures kept { IfOk result (λ kept. Keeps (string_bytes texts.new) kept (led_to target.entry)) }
+    ensures goes_on { GoesOn (string_bytes texts.old) (string_bytes texts.new) }
+{
+    if let LinkTarget::Plain { dest, title } = target {
+        if dest.is_empty() && title.is_empty() {
+            let end = texts.len();
+            return Ok(KeptTarget::Placed(TargetPlaces {
+                dest: end,
+                title: end,
+                end,
+            }));
+        }
+    }
+    KeptTarget::keep(texts, target)
+}
+
 impl Groups {
     /// No groups. It takes no memory.
     pub(crate) fn new(alloc: Global) -> Groups
@@ -98,7 +118,7 @@ impl Groups {
         ensures ok { OnOk result (self.new ≡ self.old ++ group_of kind (led_to target.entry) from to ∷ []) }
         ensures err { OnErr result (self.new ≡ self.old) }
     {
-        let target = KeptTarget::keep(&mut self.texts, target)?;
+        let target = keep(&mut self.texts, target)?;
         self.groups.push(PlacedGroup {
             kind,
             target,

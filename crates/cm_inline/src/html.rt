@@ -19,7 +19,7 @@ use crate::runs::DelimiterRun;
 use crate::settling::group_inline;
 use crate::spare::Spare;
 use crate::tokens::{Token, opener_text};
-use crate::written::{Written, destination_of};
+use crate::written::{Written, destination_of, part};
 use cm_html::{Pages, push_inline, push_link_start, push_shared_link_start};
 use cm_scan::is_next;
 use cm_text::{Chars, cut_at};
@@ -93,13 +93,13 @@ fn push_written(
     ensures { OnOk result (html.new ≡ html.old ++ written_html source.now written) }
 {
     match written {
-        Written::Code { from, to } => push_code_span(html, &source[from..to]),
-        Written::Html { from, to } => html.push_str(&source[from..to]),
+        Written::Code { from, to } => push_code_span(html, part(source, from, to)),
+        Written::Html { from, to } => html.push_str(part(source, from, to)),
         Written::Autolink {
             from,
             to,
             is_address,
-        } => push_autolink(spare.alloc(), html, is_address, &source[from..to]),
+        } => push_autolink(spare.alloc(), html, is_address, part(source, from, to)),
         Written::Soft => html.push_str("\n"),
         Written::Hard => html.push_str("<br />\n"),
     }
@@ -133,7 +133,7 @@ fn push_token(
     ensures { OnOk result (html.new ≡ html.old ++ node_html source.now (node_of (groups_made inside.now groups.now) token)) }
 {
     match token {
-        Token::Piece { from, to } => html.push_escaped(&source[from..to]),
+        Token::Piece { from, to } => html.push_escaped(part(source, from, to)),
         Token::Characters(chars) => push_chars(html, chars),
         Token::Whole(written) => push_written(spare, html, source, written),
         Token::Made { number, .. } => push_group(
@@ -141,8 +141,8 @@ fn push_token(
             html,
             source,
             inside,
-            &groups.up_to(number),
-            groups.get(number),
+            &groups.up_to(number as usize),
+            groups.get(number as usize),
         ),
         Token::Run(run) => push_run(html, run),
         Token::Opener { image, .. } => html.push_str(opener_text(image)),
@@ -157,7 +157,7 @@ fn text_ahead(source: &str, at: usize, token: Token) -> Option<usize>
     ensures html { (made : List Made) → IfSome result (λ end. node_html source.now (node_of made token) ≡ escape (slice_range source.now at end)) }
 {
     match token {
-        Token::Piece { from, to } => (from == at).then_some(to),
+        Token::Piece { from, to } => (from as usize == at).then_some(to as usize),
         Token::Whole(Written::Soft) => {
             if is_next(source.as_bytes(), at, b'\n') {
                 Some(at + 1)
@@ -208,7 +208,7 @@ fn push_apart(
         ≡ html.old ++ node_html source.now (node_of (groups_made inside.now groups.now) token)) }
 {
     if let Token::Piece { from, to } = token {
-        return Ok((from, to));
+        return Ok((from as usize, to as usize));
     }
     push_token(spare, html, source, inside, groups, token)?;
     Ok(no_text(source))

@@ -1,5 +1,5 @@
 //! The nodes of a leaf: tokens, and groups of them, which are emphasis, links and images.
-ghost use Rattle.std.specs.Prelude.{◌≡◌, ◌++◌, ◌<◌, ◌≤◌, [], ◌∷◌, suc, length, take, drop, set, IfOk, OnOk};
+ghost use Rattle.std.specs.Prelude.{◌≡◌, ◌++◌, ◌<◌, ◌≤◌, ◌^◌, [], ◌∷◌, suc, nat_lt, length, take, drop, set, IfOk, OnOk};
 ghost use Rattle.std.specs.List.{list_any};
 ghost use Rattle.cm_inline.specs.steps.Groups.{nodes_in, waiting_in, node_of, made_by, target_of, AreBelow, AreGroups, IsNoGroup, Takes};
 ghost use Rattle.cm_inline.specs.steps.Nodes.{Piece, Finished, is_closer, nodes_depth, rest_in};
@@ -103,12 +103,17 @@ impl Nodes {
 
     /// Puts the source between two places as text in the place of a node.
     pub(crate) fn put_text(&mut self, at: usize, from: usize, to: usize)
-        requires { at < length (nodes_in self.old) }
+        requires there { at < length (nodes_in self.old) }
+        requires order { from ≤ to }
+        requires short { to < 2 ^ 32 }
         ensures nodes { nodes_in self.new ≡ set (nodes_in self.old) at (Piece from to) }
         ensures waiting { waiting_in self.new ≡ waiting_in self.old }
         ensures inside { self.new.inside ≡ self.old.inside }
     {
-        self.before[at] = Token::Piece { from, to };
+        self.before[at] = Token::Piece {
+            from: from as u32,
+            to: to as u32,
+        };
     }
 
     /// Whether one of the nodes from a number on is a run that may close.
@@ -119,12 +124,12 @@ impl Nodes {
         has_closer(&self.before[from..])
     }
 
-    /// How deep the inlines among the nodes from a number on nest.
-    pub(crate) fn depth_from(&self, from: usize) -> usize
-        requires { from ≤ length (nodes_in self.now) }
-        ensures { result ≡ nodes_depth (drop from (nodes_in self.now)) }
+    /// Whether the inlines among the nodes nest deeper than a limit.
+    pub(crate) fn nest_past(&self, limit: usize) -> bool
+        ensures { result ≡ nat_lt limit (nodes_depth (nodes_in self.now)) }
     {
-        depth_of_all(&self.before[from..])
+        // They nest one deeper than there are groups, at most: one of the groups may hold an autolink.
+        self.groups.len() >= limit && depth_of_all(&self.before) > limit
     }
 
     /// How deep the inlines among the nodes behind one nest.
@@ -181,11 +186,13 @@ impl Nodes {
         depth: usize,
         holds_link: bool,
     ) -> Result<(), AllocError>
-        requires { opener < length (nodes_in self.old) }
+        requires there { opener < length (nodes_in self.old) }
+        requires deep { depth ≤ suc (nodes_depth (drop (suc opener) (nodes_in self.old))) }
         ensures nodes { OnOk result (nodes_in self.new ≡ take opener (nodes_in self.old) ++ (rest_in left ++ Finished (made_by making.entry.kind (target_of making.entry) (drop (suc opener) (nodes_in self.old))) depth holds_link ∷ [])) }
         ensures waiting { OnOk result (waiting_in self.new ≡ waiting_in self.old) }
         ensures inside { OnOk result (self.new.inside ≡ self.old.inside ++ drop (suc opener) self.old.before) }
     {
+        let made = Token::made(self.groups.len(), depth, holds_link)?;
         let from = self.inside.len();
         self.inside.extend_from_slice(&self.before[opener + 1..])?;
         let to = self.inside.len();
@@ -193,13 +200,8 @@ impl Nodes {
         if let Some(run) = left {
             self.before.push(Token::Run(run))?;
         }
-        let number = self.groups.len();
         self.groups.push(making.kind, making.target, from, to)?;
-        self.before.push(Token::Made {
-            number,
-            depth,
-            holds_link,
-        })?;
+        self.before.push(made)?;
         Ok(())
     }
 }

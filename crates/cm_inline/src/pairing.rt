@@ -23,7 +23,7 @@ use crate::tokens::Token;
 use cm_tree::LinkTarget;
 
 /// The emphasis that a pair makes of its content.
-fn emphasised(marker: Marker, count: usize) -> Making<'static>
+fn emphasised(marker: Marker, count: u32) -> Making<'static>
     ensures { (content : List Inline) → made_of result.kind (target_of result) content ≡ emphasised (byte_of marker) count content }
 {
     let kind = match marker {

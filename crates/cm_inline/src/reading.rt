@@ -1,5 +1,5 @@
 //! The inlines of a leaf, or their HTML, read from its source.
-ghost use Rattle.std.specs.Prelude.{◌≡◌, ◌<◌, ◌&&◌, not, ℕ, [], ◌∷◌, ◌++◌, true, false, length, string_bytes, IfOk, OnOk, IfErr, IsTrue, Err};
+ghost use Rattle.std.specs.Prelude.{◌≡◌, ◌<◌, ◌^◌, ◌&&◌, not, ℕ, [], ◌∷◌, ◌++◌, true, false, length, string_bytes, IfOk, OnOk, IfErr, IsTrue, Err};
 ghost use Rattle.std.specs.List.{list_any};
 ghost use Rattle.cm_text.specs.Rules.{Rules, profile};
 ghost use Rattle.cm_text.specs.Search.{is_marked};
@@ -41,11 +41,15 @@ pub struct Steps(pub u128);
 /// Adds the source between two places as text, if there is any.
 #[inline(always)]
 fn push_text(nodes: &mut Nodes, from: usize, to: usize) -> Result<(), AllocError>
+    requires { to < 2 ^ 32 }
     ensures nodes { OnOk result (nodes_in nodes.new ≡ nodes_in nodes.old ++ text_between from to) }
     ensures inside { nodes.new.inside ≡ nodes.old.inside }
 {
     if from < to {
-        nodes.push(Token::Piece { from, to })?;
+        nodes.push(Token::Piece {
+            from: from as u32,
+            to: to as u32,
+        })?;
     }
     Ok(())
 }
@@ -81,7 +85,7 @@ fn read_on(
     Ok(read_atom(alloc, rules, source, end, reader)?)
 }
 
-/// Reads a source to its end, in one pass.
+/// Reads a source to its end, in one pass. A source to whose end no place of 32 bits leads is refused.
 fn read_all(
     alloc: Global,
     rules: Rules,
@@ -95,6 +99,9 @@ fn read_all(
     ensures items { OnOk result (in_pieces (items_of source.now (nodes_in reader.new.nodes)) ≡ in_pieces (inlines.items_of rules (defined_in definitions.now) source.now)) }
     ensures deep { result ≡ Err InlinesTooDeep → inlines.nests_past rules (defined_in definitions.now) limit source.now ≡ true }
 {
+    if source.len() > u32::MAX as usize {
+        return Err(InlineFault::NoMemory);
+    }
     reader.restart(source);
     let mut at = 0;
     while at < source.len() {
@@ -130,7 +137,7 @@ fn read_nodes(
 {
     read_all(alloc, rules, source, definitions, limit, reader)?;
     pair_from(limit, &mut reader.nodes, &mut reader.openers, 0)?;
-    if reader.nodes.depth_from(0) > limit {
+    if reader.nodes.nest_past(limit) {
         return Err(InlineFault::InlinesTooDeep);
     }
     Ok(Steps(reader.openers.list.looks()))
@@ -165,7 +172,8 @@ impl InlineReader {
     /// # Errors
     ///
     /// `InlinesTooDeep` where the inlines nest deeper than the limit, `NoMemory` where a request for memory was
-    /// refused. The next leaf is read all the same.
+    /// refused, or where the source has 2^32 bytes or more, to which no text within the limits comes. The next
+    /// leaf is read all the same.
     pub fn inlines(
         &mut self,
         rules: Rules,

@@ -39,15 +39,15 @@ impl Marker {
     }
 }
 
-/// A delimiter run: its character, its whole length, how many of its characters are left, and whether it may
-/// open and may close emphasis.
+/// A delimiter run: its character, whether it may open and may close emphasis, its whole length, and how many of
+/// its characters are left.
 #[derive(Clone, Copy, Debug)]
 pub(crate) struct DelimiterRun {
     pub(crate) marker: Marker,
-    pub(crate) whole: usize,
-    pub(crate) left: usize,
     pub(crate) opens: bool,
     pub(crate) closes: bool,
+    pub(crate) whole: u32,
+    pub(crate) left: u32,
 }
 
 /// Whether an opener and a closer match (rules 9 and 10).
@@ -72,14 +72,14 @@ pub(crate) fn kind(closer: DelimiterRun) -> usize
 {
     let by_opening = if closer.opens { 3 } else { 0 };
     match closer.marker {
-        Marker::Star => by_opening + closer.whole % 3,
-        Marker::Underscore => 6 + by_opening + closer.whole % 3,
+        Marker::Star => by_opening + (closer.whole % 3) as usize,
+        Marker::Underscore => 6 + by_opening + (closer.whole % 3) as usize,
         Marker::Tilde => 12,
     }
 }
 
 /// How many characters of each run a pair takes: two for strong emphasis, one for emphasis.
-pub(crate) fn used(opener: DelimiterRun, closer: DelimiterRun) -> usize
+pub(crate) fn used(opener: DelimiterRun, closer: DelimiterRun) -> u32
     ensures used { result ≡ used (run_of opener) (run_of closer) }
     ensures some { 1 ≤ result }
 {
@@ -91,7 +91,7 @@ pub(crate) fn used(opener: DelimiterRun, closer: DelimiterRun) -> usize
 }
 
 /// What is left of a run once some of its characters are taken.
-pub(crate) fn without(run: DelimiterRun, count: usize) -> Option<DelimiterRun>
+pub(crate) fn without(run: DelimiterRun, count: u32) -> Option<DelimiterRun>
     requires { 1 ≤ count }
     ensures rest { rest_of result ≡ without count (run_of run) }
     ensures fewer { IfSome result (λ rest. (run_of rest ≡ cut rest.left (run_of run)) × (rest.left < run.left)) }

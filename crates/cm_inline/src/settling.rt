@@ -120,8 +120,8 @@ fn push_inline(
                 spare,
                 source,
                 inside,
-                &groups.up_to(number),
-                groups.get(number),
+                &groups.up_to(number as usize),
+                groups.get(number as usize),
             )?;
             Ok(content.push(inline)?)
         }

@@ -3,13 +3,14 @@ ghost use Rattle.std.specs.Prelude.{◌≡◌, ◌++◌, ◌≤◌, [], ◌∷�
 ghost use Rattle.std.specs.List.{list_any};
 ghost use Rattle.cm_text.specs.References.{chars_of};
 ghost use Rattle.cm_scan.specs.Pairing.{bracket_text, text_before};
+ghost use Rattle.cm_inline.specs.declared.tokens.Token.TheVariants.{Made};
 ghost use Rattle.cm_inline.specs.steps.Groups.{node_of, nodes_of, IsPlaced, ArePlaced};
 ghost use Rattle.cm_inline.specs.steps.Runs.{byte_of};
 ghost use Rattle.cm_inline.specs.steps.Nodes.{is_closer, is_text, node_depth, nodes_depth, text_in, text_in_front, behind_texts};
 
 use crate::runs::DelimiterRun;
 use crate::spare::Spare;
-use crate::written::Written;
+use crate::written::{Written, part};
 use cm_text::Chars;
 use cm_tree::{Inline, Text};
 use std::alloc::AllocError;
@@ -19,8 +20,8 @@ use std::alloc::AllocError;
 pub(crate) enum Token {
     /// The source between two places, as text.
     Piece {
-        from: usize,
-        to: usize,
+        from: u32,
+        to: u32,
     },
     /// The characters for which a reference stands.
     Characters(Chars),
@@ -29,8 +30,8 @@ pub(crate) enum Token {
     /// Emphasis, a link or an image by the number of its group, how deep it nests, and whether it is a link that a `]` made,
     /// or an image that holds one.
     Made {
-        number: usize,
-        depth: usize,
+        number: u32,
+        depth: u32,
         holds_link: bool,
     },
     /// What is left of a delimiter run.
@@ -38,18 +39,29 @@ pub(crate) enum Token {
     /// `[` or `![`, and the place behind it.
     Opener {
         image: bool,
-        behind: usize,
+        behind: u32,
     },
 }
 
 impl Token {
+    /// A group by its number. `AllocError` is answered where a number needs more than 32 bits.
+    pub(crate) fn made(number: usize, depth: usize, holds_link: bool) -> Result<Token, AllocError>
+        ensures { IfOk result (λ token. token ≡ Made number depth holds_link) }
+    {
+        Ok(Token::Made {
+            number: in_32_bits(number)?,
+            depth: in_32_bits(depth)?,
+            holds_link,
+        })
+    }
+
     /// How deep the inline that it is nests.
     pub(crate) fn depth(&self) -> usize
         ensures { result ≡ node_depth (node_of [] self.now) }
     {
         match self {
             Token::Whole(written) => written.depth(),
-            Token::Made { depth, .. } => *depth,
+            Token::Made { depth, .. } => *depth as usize,
             _ => 0,
         }
     }
@@ -62,6 +74,16 @@ impl Token {
             Token::Run(run) => run.closes,
             _ => false,
         }
+    }
+}
+
+/// A number as a token has it, or `AllocError` where it needs more than 32 bits.
+fn in_32_bits(number: usize) -> Result<u32, AllocError>
+    ensures { IfOk result (λ short. short ≡ number) }
+{
+    match u32::try_from(number) {
+        Ok(short) => Ok(short),
+        Err(_) => Err(AllocError),
     }
 }
 
@@ -88,11 +110,11 @@ fn size_of_text(tokens: &[Token]) -> usize {
     let mut size: usize = 0;
     for token in tokens {
         let more = match token {
-            Token::Piece { from, to } => to.saturating_sub(*from),
+            Token::Piece { from, to } => to.saturating_sub(*from) as usize,
             Token::Characters(_) => 8,
             Token::Whole(_) => return size,
             Token::Made { .. } => return size,
-            Token::Run(run) => run.left,
+            Token::Run(run) => run.left as usize,
             Token::Opener { .. } => 2,
         };
         size = size.saturating_add(more);
@@ -125,7 +147,7 @@ fn push_text_of(text: &mut String, source: &str, token: Token) -> Result<bool, A
 {
     match token {
         Token::Piece { from, to } => {
-            text.push_str(&source[from..to])?;
+            text.push_str(part(source, from, to))?;
             Ok(true)
         }
         Token::Characters(chars) => {

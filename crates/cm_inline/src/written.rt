@@ -1,7 +1,8 @@
 //! Inlines in which no other inline nests: code spans, raw HTML, autolinks and breaks.
 ghost use Rattle.std.specs.Prelude.{◌≡◌, ◌++◌, [], ◌∷◌, string_bytes, codes, if◌then◌else◌, IfOk};
 ghost use Rattle.cm_tree.specs.declared.tree.Inline.TheVariants as inlines;
-ghost use Rattle.cm_inline.specs.steps.Written.{inline_in, written_depth, IsWithin};
+ghost use Rattle.cm_inline.specs.steps.Written.{inline_in, written_depth, IsBetween, IsWithin};
+ghost use Rattle.std.specs.List.{slice_range};
 
 use crate::code::one_line;
 use crate::spare::Spare;
@@ -13,22 +14,31 @@ use std::alloc::{AllocError, Global};
 pub(crate) enum Written {
     /// A code span: what stands between its backtick strings, without the spaces that are stripped.
     Code {
-        from: usize,
-        to: usize,
+        from: u32,
+        to: u32,
     },
     /// Raw HTML.
     Html {
-        from: usize,
-        to: usize,
+        from: u32,
+        to: u32,
     },
-    /// An autolink: what stands between `<` and `>`, and whether it is an e-mail address.
+    /// An autolink: whether it is an e-mail address, and what stands between `<` and `>`.
     Autolink {
-        from: usize,
-        to: usize,
         is_address: bool,
+        from: u32,
+        to: u32,
     },
     Soft,
     Hard,
+}
+
+/// The source between two places of 32 bits.
+#[inline(always)]
+pub(crate) fn part(source: &str, from: u32, to: u32) -> &str
+    requires { IsBetween source.now from to }
+    ensures { result.now ≡ slice_range source.now from to }
+{
+    &source[from as usize..to as usize]
 }
 
 impl Written {
@@ -38,13 +48,15 @@ impl Written {
         ensures { IfOk result (λ inline. inline ≡ inline_in source.now self) }
     {
         match self {
-            Written::Code { from, to } => Ok(Inline::Code(one_line(spare, &source[from..to])?)),
-            Written::Html { from, to } => { Ok(Inline::Html(spare.text(&source[from..to])?)) }
+            Written::Code { from, to } => {
+                Ok(Inline::Code(one_line(spare, part(source, from, to))?))
+            }
+            Written::Html { from, to } => Ok(Inline::Html(spare.text(part(source, from, to))?)),
             Written::Autolink {
                 from,
                 to,
                 is_address,
-            } => link_to(spare, is_address, &source[from..to]),
+            } => link_to(spare, is_address, part(source, from, to)),
             Written::Soft => Ok(Inline::Soft),
             Written::Hard => Ok(Inline::Hard),
         }

@@ -1,5 +1,5 @@
 -- Brackets of which nothing was made yet, and what a `]` makes of the nodes.
-use Rattle.std.specs.Prelude.{◌≡◌, ℕ, suc, ◌+◌, ◌≤◌, Bool, true, false, nat_lt, not, ◌&&◌, List, [], ◌∷◌, ◌++◌, length, take, drop, reverse, Option, None, ⊤}
+use Rattle.std.specs.Prelude.{◌≡◌, ℕ, suc, ◌+◌, ◌^◌, ◌<◌, ◌≤◌, Bool, true, false, nat_lt, not, ◌&&◌, List, [], ◌∷◌, ◌++◌, length, take, drop, reverse, Option, None, ⊤}
 use Rattle.std.specs.List.{slice_range}
 use Rattle.std.specs.Str.{IsCharBoundary}
 use Rattle.cm_text.specs.Rules.{Rules}
@@ -38,9 +38,10 @@ AreBefore at (bracket ∷ brackets) = (bracket.behind ≤ at) × AreBefore at br
 abbrev pub LinksEnd : List ℕ → List Node → ℕ → Type 0
 LinksEnd source nodes end = (n : ℕ) → holds_link (items_of source (drop n nodes)) ≡ nat_lt n end
 
--- A source that is read up to a place: its nodes and those of them that are brackets, where its links end, and what is known of the
--- rest.
+-- A source whose places have 32 bits, read up to one of them: its nodes and those of them that are brackets, where its links end, and
+-- what is known of the rest.
 pub record IsRead (source : List ℕ) (at : ℕ) (nodes : List Node) (brackets : List Bracket) (links_end : ℕ) (ends : Ends) : Type 0 where
+  pub short : length source < 2 ^ 32
   pub parts : AreParts source nodes
   pub unclosed : brackets_from 0 nodes ≡ brackets
   pub before : AreBefore at brackets

@@ -127,9 +127,10 @@ abbrev pub IsNoGroup : Token → Type 0
 IsNoGroup (tokens.Made number depth holds_link) = ⊥
 IsNoGroup _ = ⊤
 
--- the groups that tokens are have numbers below this one
+-- The groups that tokens are have numbers below this one. None nests deeper than if each held the one before it, and the first an
+-- autolink.
 abbrev pub IsBelow : ℕ → Token → Type 0
-IsBelow bound (tokens.Made number depth holds_link) = number < bound
+IsBelow bound (tokens.Made number depth holds_link) = (number < bound) × (depth ≤ number + 2)
 IsBelow bound _ = ⊤
 
 abbrev pub AreBelow : ℕ → List Token → Type 0

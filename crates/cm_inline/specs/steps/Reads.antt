@@ -1,5 +1,5 @@
 -- One atom of a source as a node.
-use Rattle.std.specs.Prelude.{◌≡◌, ℕ, zero, ◌+◌, ◌*◌, ◌<◌, ◌≤◌, ◌==◌, ◌||◌, if◌then◌else◌, Bool, true, List, Option, Some, None, length, take, drop, reverse, slice_index, ⊤}
+use Rattle.std.specs.Prelude.{◌≡◌, ℕ, zero, ◌+◌, ◌*◌, ◌^◌, ◌<◌, ◌≤◌, ◌==◌, ◌||◌, if◌then◌else◌, Bool, true, List, Option, Some, None, length, take, drop, reverse, slice_index, ⊤}
 use Rattle.std.specs.List.{list_all, slice_range}
 use Rattle.std.specs.Str.{IsCharBoundary}
 use Rattle.cm_text.specs.Rules.{Rules}
@@ -16,8 +16,9 @@ use Rattle.cm_inline.specs.Reading.{looks_at_most}
 use Rattle.cm_inline.specs.steps.Searching.{kind}
 use Rattle.cm_inline.specs.steps.Pairs.{AreOf, allowance, items_emphases}
 
--- this byte stands at the place, where a character begins
+-- this byte stands at the place, where a character begins, in a source whose places have 32 bits
 pub record Stands (source : List ℕ) (at b : ℕ) : Type 0 where
+  pub short : length source < 2 ^ 32
   pub within : at < length source
   pub boundary : IsCharBoundary source at
   pub byte : slice_index source at ≡ b

@@ -14,7 +14,7 @@ use Rattle.cm_inline.specs.declared.written.Written.TheVariants.{Code, Html, Aut
 abbrev pub inline_in : List ℕ → Written → Inline
 inline_in source (Code from to) = inlines.Code (one_line (slice_range source from to))
 inline_in source (Html from to) = inlines.Html (slice_range source from to)
-inline_in source (Autolink from to is_address) =
+inline_in source (Autolink is_address from to) =
     inlines.Link (if is_address then codes "mailto:" ++ slice_range source from to else slice_range source from to) [] (inlines.Text (slice_range source from to) ∷ [])
 inline_in source Soft = inlines.Soft
 inline_in source Hard = inlines.Hard
@@ -23,7 +23,7 @@ inline_in source Hard = inlines.Hard
 abbrev pub written_depth : Written → ℕ
 written_depth (Code from to) = 0
 written_depth (Html from to) = 0
-written_depth (Autolink from to is_address) = 1
+written_depth (Autolink is_address from to) = 1
 written_depth Soft = 0
 written_depth Hard = 0
 
@@ -34,7 +34,7 @@ IsBetween source from to = (from ≤ to) × IsCharBoundary source from × IsChar
 abbrev pub IsWithin : List ℕ → Written → Type 0
 IsWithin source (Code from to) = IsBetween source from to
 IsWithin source (Html from to) = IsBetween source from to
-IsWithin source (Autolink from to is_address) = IsBetween source from to
+IsWithin source (Autolink is_address from to) = IsBetween source from to
 IsWithin source Soft = ⊤
 IsWithin source Hard = ⊤
 
@@ -45,6 +45,6 @@ autolink_html is_address text = link_html (if is_address then codes "mailto:" ++
 abbrev pub written_html : List ℕ → Written → List ℕ
 written_html source (Code from to) = code_span_html (one_line (slice_range source from to))
 written_html source (Html from to) = slice_range source from to
-written_html source (Autolink from to is_address) = autolink_html is_address (slice_range source from to)
+written_html source (Autolink is_address from to) = autolink_html is_address (slice_range source from to)
 written_html source Soft = codes "\n"
 written_html source Hard = codes "<br />\n"

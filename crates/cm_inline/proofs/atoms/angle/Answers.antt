@@ -16,7 +16,7 @@ returns-in-Some-clause-atom c =
     let end = c.in-Some.end in
     let link = autolink_with c.in-Some.link.is_address c.in-Some.link.text.now (drop end source) in
     let placed = link-placed source at end link c.utf8.source c.requires.stands.within c.in-Some.ensures.boundary.0 c.in-Some.ensures.read refl in
-    whole-is c.args.rules source at (Autolink (at + 1) (end - 1) c.in-Some.link.is_address) 1 end placed.1
+    whole-is c.args.rules source at (Autolink c.in-Some.link.is_address (at + 1) (end - 1)) 1 end placed.1
     (subst (λ text. IsAtom c.args.rules source at (finished (link_of (autolink_with c.in-Some.link.is_address text [])) 1) end) (sym placed.0)
     (link-is c.args.rules source at link end c.requires.stands c.in-Some.ensures.read refl c.in-Some.ensures.boundary))
 

@@ -27,7 +27,7 @@ put-requires-in_default-clause-atom c =
     let source = c.args.source.now in
     let b = get_or c.as_bytes.result.now c.args.at 0 in
     let byte : get_or source c.args.at 0 ≡ b = ap (λ t. get_or t c.args.at 0) (sym c.as_bytes.ensures.value) in
-    let stands : Stands source c.args.at b = record { within = c.requires.within; boundary = c.requires.boundary; byte = byte } in
+    let stands : Stands source c.args.at b = record { short = c.requires.short; within = c.requires.within; boundary = c.requires.boundary; byte = byte } in
     let ascii : b < 128 = omega (arith, byte, c.requires.ascii) in
     let lone = lone-byte b (λ e. absurd (omega (arith, e))) (λ e. absurd (omega (arith, e))) (λ e. absurd (omega (arith, e))) (λ e. absurd (omega (arith, e))) (λ e. absurd (omega (arith, e))) (λ e. absurd (omega (arith, e)))
     (λ e. absurd (omega (arith, e))) (λ e. absurd (omega (arith, e))) (λ e. c.requires.other (byte ∙ e)) (λ e. absurd (omega (arith, e))) (λ e. absurd (omega (arith, e))) (λ e. absurd (omega (arith, e))) in
@@ -37,4 +37,4 @@ pub put-requires-in-91-clause-atom : goal.put-requires-in-91-clause-atom
 put-requires-in-91-clause-atom c =
     let source = c.args.source.now in
     let byte : get_or source c.args.at 0 ≡ 91 = ap (λ t. get_or t c.args.at 0) (sym c.as_bytes.ensures.value) ∙ c.in-91.is in
-    told c.args.rules source c.args.at c.opener.result (Opener false (c.args.at + 1)) (c.args.at + 1) c.opener.ensures (opener-is c.args.rules source c.args.at c.utf8.source (record { within = c.requires.within; boundary = c.requires.boundary; byte = byte }))
+    told c.args.rules source c.args.at c.opener.result (Opener false (c.args.at + 1)) (c.args.at + 1) c.opener.ensures (opener-is c.args.rules source c.args.at c.utf8.source (record { short = c.requires.short; within = c.requires.within; boundary = c.requires.boundary; byte = byte }))

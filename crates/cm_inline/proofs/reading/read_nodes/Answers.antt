@@ -1,5 +1,6 @@
-use Rattle.std.proofs.Common.{◌≡◌, ◌<◌, length, sym, ap, ◌∙◌, arith}
-use Rattle.std.specs.Prelude.{Err}
+use Rattle.std.proofs.Common.{◌≡◌, ◌<◌, true, false, length, sym, ap, ◌∙◌, arith}
+use Rattle.std.specs.Prelude.{Err, nat_lt}
+use Rattle.std.proofs.lemmas.Bool.Decides.{nat_tests}
 use Rattle.std.proofs.lemmas.Result.{err_from_is_err_and}
 use Rattle.cm_tree.specs.Depth.{inlines_depth}
 use Rattle.cm_scan.specs.Brackets.{defined_in}
@@ -13,7 +14,7 @@ use Rattle.cm_inline.proofs.DepthLemmas.{settled-depth}
 use Rattle.cm_inline.proofs.DeeperLemmas.{settled-items}
 use Rattle.cm_inline.proofs.EmphasisLemmas.{settled-holds}
 use Rattle.cm_inline.proofs.PaysLemmas.{pays-most, pays-few-in}
-use Rattle.cm_inline.proofs.WholeLemmas.{inlines-are, nests, within-limit, refused}
+use Rattle.cm_inline.proofs.WholeLemmas.{inlines-are, nat_lt-false, nests, within-limit, refused}
 use Rattle.cm_inline.proofs.reading.read_nodes.Goals as goal
 
 pub pair_from-requires-clause-few : goal.pair_from-requires-clause-few
@@ -31,12 +32,13 @@ returns-in_err-pair_from-clause-refused c =
     let deep : c.args.limit < items_depth (pair_all items) = c.in_err-pair_from.ensures.deep (ap Err told) source c.in_ok-read_all.ensures.read.0.parts in
     nests c.args.rules defined c.args.limit source items c.in_ok-read_all.ensures.items (omega (arith, deep, settled-items (pair_all items)))))
 
-pub returns-then-depth_from-limit-clause-refused : goal.returns-then-depth_from-limit-clause-refused
-returns-then-depth_from-limit-clause-refused c =
+pub returns-then-nest_past-clause-refused : goal.returns-then-nest_past-clause-refused
+returns-then-nest_past-clause-refused c =
     let source = c.args.source.now in
     let items = items_of source (nodes_in c.read_all.new.reader.nodes) in
-    let depth : c.depth_from.result ≡ inlines_depth (emphasis_of items) = c.depth_from.ensures ∙ sym (settled-depth source (nodes_in c.pair_from.new.nodes) (c.in_ok-pair_from.ensures.stays.parts source c.in_ok-read_all.ensures.read.0.parts)) ∙ ap (λ t. inlines_depth (settled t)) (c.in_ok-pair_from.ensures.pairs source) in
-    nests c.args.rules (defined_in c.args.definitions.now) c.args.limit source items c.in_ok-read_all.ensures.items (omega (arith, c.if-depth_from-limit.true, depth))
+    let depth = sym (settled-depth source (nodes_in c.pair_from.new.nodes) (c.in_ok-pair_from.ensures.stays.parts source c.in_ok-read_all.ensures.read.0.parts)) ∙ ap (λ t. inlines_depth (settled t)) (c.in_ok-pair_from.ensures.pairs source) in
+    let deep : nat_lt c.args.limit (inlines_depth (emphasis_of items)) ≡ true = ap (nat_lt c.args.limit) (sym depth) ∙ sym c.nest_past.ensures ∙ c.if-nest_past.true in
+    nests c.args.rules (defined_in c.args.definitions.now) c.args.limit source items c.in_ok-read_all.ensures.items (grind (arith, nat_tests, deep))
 
 pub returns-clause-parts : goal.returns-clause-parts
 returns-clause-parts c = c.in_ok-pair_from.ensures.stays.parts c.args.source.now c.in_ok-read_all.ensures.read.0.parts
@@ -53,10 +55,11 @@ returns-clause-read c =
     let looks = c.read_all.new.reader.openers.list.looks in
     let pays = c.in_ok-read_all.ensures.pays in
     let content = ap settled (c.in_ok-pair_from.ensures.pairs source) in
-    let depth : c.depth_from.result ≡ inlines_depth (emphasis_of items) = c.depth_from.ensures ∙ sym (settled-depth source (nodes_in c.pair_from.new.nodes) (c.in_ok-pair_from.ensures.stays.parts source c.in_ok-read_all.ensures.read.0.parts)) ∙ ap inlines_depth content in
+    let depth = sym (settled-depth source (nodes_in c.pair_from.new.nodes) (c.in_ok-pair_from.ensures.stays.parts source c.in_ok-read_all.ensures.read.0.parts)) ∙ ap inlines_depth content in
+    let shallow : nat_lt c.args.limit (inlines_depth (emphasis_of items)) ≡ false = ap (nat_lt c.args.limit) (sym depth) ∙ sym c.nest_past.ensures ∙ c.if-nest_past.false in
     record {
       content = content ∙ inlines-are c.args.rules defined source items c.in_ok-read_all.ensures.items;
-      within = within-limit c.args.rules defined c.args.limit source items c.in_ok-read_all.ensures.items (omega (arith, c.if-depth_from-limit.false, depth));
+      within = within-limit c.args.rules defined c.args.limit source items c.in_ok-read_all.ensures.items (nat_lt-false c.args.limit (inlines_depth (emphasis_of items)) shallow);
       most = omega (arith, c.looks.ensures, (c.in_ok-pair_from.ensures.looks source).paid (kinds_by c.args.rules) pays.are, pays-most c.args.rules defined source nodes (length source) looks pays);
       least = omega (arith, c.looks.ensures, (c.in_ok-pair_from.ensures.looks source).made, settled-holds (pair_all items), pays.made, ap emphases content);
     }

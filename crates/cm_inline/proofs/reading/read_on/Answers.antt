@@ -45,7 +45,7 @@ returns-then-as_bytes-end-eq93-clause-ahead c =
     let nodes = nodes_in c.args.reader.now.nodes in
     let text : ahead c.args.rules defined source (nodes_in c.push_text.new.nodes) end ≡ ahead c.args.rules defined source nodes c.args.at =
     ap (λ t. ahead c.args.rules defined source t end) c.in_ok-push_text.ensures.nodes ∙ ahead-text c.args.rules defined source nodes c.args.at end c.text_end-end.ensures in
-    ahead-closed c.close.result c.args.rules defined source (nodes_in c.push_text.new.nodes) (nodes_in c.close.new.self.nodes) end (ahead c.args.rules defined source nodes c.args.at) (record { within = omega (arith, c.text_end-end.ensures.boundary.0, c.if-end-source.false); boundary = c.text_end-end.ensures.boundary; byte = ap (λ t. get_or t end 0) (sym c.as_bytes.ensures.value) ∙ c.if-as_bytes-end-eq93.true }) text c.close.ensures.further c.close.ensures.closed
+    ahead-closed c.close.result c.args.rules defined source (nodes_in c.push_text.new.nodes) (nodes_in c.close.new.self.nodes) end (ahead c.args.rules defined source nodes c.args.at) (record { short = c.requires.read.0.short; within = omega (arith, c.text_end-end.ensures.boundary.0, c.if-end-source.false); boundary = c.text_end-end.ensures.boundary; byte = ap (λ t. get_or t end 0) (sym c.as_bytes.ensures.value) ∙ c.if-as_bytes-end-eq93.true }) text c.close.ensures.further c.close.ensures.closed
 
 pub returns-then-as_bytes-end-eq93-clause-deep : goal.returns-then-as_bytes-end-eq93-clause-deep
 returns-then-as_bytes-end-eq93-clause-deep c = λ e.
@@ -55,7 +55,7 @@ returns-then-as_bytes-end-eq93-clause-deep c = λ e.
     let nodes = nodes_in c.args.reader.now.nodes in
     let text : ahead c.args.rules defined source (nodes_in c.push_text.new.nodes) end ≡ ahead c.args.rules defined source nodes c.args.at =
     ap (λ t. ahead c.args.rules defined source t end) c.in_ok-push_text.ensures.nodes ∙ ahead-text c.args.rules defined source nodes c.args.at end c.text_end-end.ensures in
-    subst (λ t. c.args.limit < inlines_depth (emphasis_of t)) text (closed-deeper c.args.rules defined source (nodes_in c.push_text.new.nodes) end c.args.limit (record { within = omega (arith, c.text_end-end.ensures.boundary.0, c.if-end-source.false); boundary = c.text_end-end.ensures.boundary; byte = ap (λ t. get_or t end 0) (sym c.as_bytes.ensures.value) ∙ c.if-as_bytes-end-eq93.true }) (c.close.ensures.deep e))
+    subst (λ t. c.args.limit < inlines_depth (emphasis_of t)) text (closed-deeper c.args.rules defined source (nodes_in c.push_text.new.nodes) end c.args.limit (record { short = c.requires.read.0.short; within = omega (arith, c.text_end-end.ensures.boundary.0, c.if-end-source.false); boundary = c.text_end-end.ensures.boundary; byte = ap (λ t. get_or t end 0) (sym c.as_bytes.ensures.value) ∙ c.if-as_bytes-end-eq93.true }) (c.close.ensures.deep e))
 
 pub returns-clause-read : goal.returns-clause-read
 returns-clause-read c =
@@ -110,7 +110,7 @@ returns-then-as_bytes-end-eq93-clause-pays c =
     let end = c.text_end-end.result in
     let pays = text-pays rules defined source (nodes_in reader.nodes) c.args.at end reader.openers.list.looks c.text_end-end.ensures c.requires.pays in
     closed-pays c.close.result rules defined source (nodes_in c.push_text.new.nodes) (nodes_in c.close.new.self.nodes) end reader.openers.list.looks c.close.new.self.openers.list.looks
-    (record { within = omega (arith, c.text_end-end.ensures.boundary.0, c.if-end-source.false); boundary = c.text_end-end.ensures.boundary; byte = ap (λ t. get_or t end 0) (sym c.as_bytes.ensures.value) ∙ c.if-as_bytes-end-eq93.true })
+    (record { short = c.requires.read.0.short; within = omega (arith, c.text_end-end.ensures.boundary.0, c.if-end-source.false); boundary = c.text_end-end.ensures.boundary; byte = ap (λ t. get_or t end 0) (sym c.as_bytes.ensures.value) ∙ c.if-as_bytes-end-eq93.true })
     (subst (λ t. Pays rules defined source t end reader.openers.list.looks) (sym c.in_ok-push_text.ensures.nodes) pays) c.close.ensures.further c.close.ensures.keeps c.close.ensures.closed
 
 pub returns-clause-pays : goal.returns-clause-pays

@@ -1,10 +1,10 @@
-use Rattle.std.proofs.Common.{◌≡◌, ◌+◌, ◌-◌, ◌++◌, [], ◌∷◌, set, sym, ap, subst, ◌∙◌, arith}
+use Rattle.std.proofs.Common.{◌≡◌, ◌+◌, ◌-◌, ◌≤◌, ◌++◌, [], ◌∷◌, set, sym, ap, subst, ◌∙◌, arith}
 use Rattle.std.specs.Prelude.{OnOk}
 use Rattle.cm_inline.specs.steps.Nodes.{Piece, items_of}
 use Rattle.cm_inline.specs.steps.Groups.{nodes_in, ArePlaced}
 use Rattle.cm_inline.specs.steps.Brackets.{IsRead}
 use Rattle.cm_inline.proofs.BracketLemmas.{split-last, split-within}
-use Rattle.cm_inline.proofs.ReaderLemmas.{then-ok, with_text, text-read, text-items, opener-is}
+use Rattle.cm_inline.proofs.ReaderLemmas.{before-split, then-ok, with_text, text-read, text-items, opener-is}
 use Rattle.cm_inline.proofs.brackets.Reader.leave_as_text.Goals as goal
 
 pub overflow_sub-bracket : goal.overflow_sub-bracket
@@ -15,11 +15,17 @@ overflow_sub-bracket c =
     let opener = opener-is c.args.source.now nodes others b (split-last 0 nodes others b c.requires.read.0.unclosed) c.requires.read.0.parts in
     omega (arith, opener.place, c.width.ensures)
 
-pub put_text-requires : goal.put_text-requires
-put_text-requires c =
+pub put_text-requires-clause-there : goal.put_text-requires-clause-there
+put_text-requires-clause-there c =
     let nodes = nodes_in c.args.self.now.nodes in
     let others = c.args.self.now.brackets.items in
     split-within nodes others c.args.bracket (split-last 0 nodes others c.args.bracket c.requires.read.0.unclosed)
+
+pub put_text-requires-clause-short : goal.put_text-requires-clause-short
+put_text-requires-clause-short c =
+    let b = c.args.bracket in
+    let low : b.behind ≤ c.args.at = (before-split c.args.at c.args.self.now.brackets.items (b ∷ []) c.requires.read.0.before).1.0 in
+    omega (arith, low, c.requires.stands.within, c.requires.stands.short)
 
 more-is : (c : goal.After-push) → OnOk c.push.result (nodes_in c.push.new.self ≡ with_text (nodes_in c.args.self.now.nodes) c.args.bracket c.args.at)
 more-is c =

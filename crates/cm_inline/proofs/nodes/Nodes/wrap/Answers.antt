@@ -1,9 +1,10 @@
-use Rattle.std.proofs.Common.{◌+◌, ◌≤◌, ◌++◌, suc, drop, length, refl, sym, subst, arith, rules, ap, ◌∙◌}
+use Rattle.std.proofs.Common.{◌+◌, ◌≤◌, ◌++◌, [], ◌∷◌, suc, drop, length, refl, sym, subst, arith, rules, ap, ◌∙◌}
 use Rattle.cm_inline.specs.declared.nodes.Nodes.TheInside.{Inside}
 use Rattle.cm_inline.specs.contracts.nodes.Nodes.{the_view}
-use Rattle.cm_inline.specs.steps.Groups.{target_of}
+use Rattle.cm_inline.specs.steps.Groups.{nodes_in, target_of}
+use Rattle.cm_inline.specs.steps.Nodes.{nodes_depth}
 use Rattle.cm_inline.proofs.GroupLemmas.{nodes-in-length}
-use Rattle.cm_inline.proofs.HeldLemmas.{IsCut, none-left, cut-some, cut-none, copied, cut-held, cut-group, same-held, grouped-held, wrapped-held, wrapped-nodes, wrapped-waiting}
+use Rattle.cm_inline.proofs.HeldLemmas.{held-depth, IsCut, none-left, cut-some, cut-none, copied, cut-held, cut-group, same-held, grouped-held, wrapped-held, wrapped-nodes, wrapped-waiting}
 use Rattle.cm_inline.proofs.nodes.Nodes.wrap.Goals.{in-Some+in_ok-push, in_default}
 use Rattle.cm_inline.proofs.nodes.Nodes.wrap.Goals as goal
 
@@ -71,16 +72,18 @@ invariant_of-self-in_err-push-3 c =
 pub invariant_of-self-2 : goal.invariant_of-self-2
 invariant_of-self-2 c =
     let is = cut-In_ok-push-3 c in
+    let deep : c.args.depth ≤ length c.self.inside.groups + 2 =
+    omega (arith, c.requires.deep, ap (λ h. nodes_depth (drop (suc c.args.opener) (nodes_in h))) c.self.view_is, held-depth (the_view c.self.inside) (suc c.args.opener) c.self.invariant) in
     let moved = copied c.self.inside.inside.items c.extend_from_slice.new.self.items c.deref.result.now c.self.inside.before.items c.args.opener c.in_ok-extend_from_slice.ensures.items c.deref.ensures.value in
-    wrapped-held (the_view c.match-left.self-inside) _ _ _ c.len-number.result c.args.depth c.args.holds_link (cut-held _ c.args.opener c.args.left _ c.self.invariant is) c.in_ok-push-2.ensures.ok
-    (cut-group _ c.args.opener c.args.left _ c.args.making.kind (target_of c.args.making) c.len-from.result c.len-to.result c.self.invariant is (omega arith) (omega (arith, ap length moved, ap length is.inside))) (omega arith) c.in_ok-push-3.ensures.items
+    wrapped-held (the_view c.match-left.self-inside) _ _ _ c.len.result c.args.depth c.args.holds_link (cut-held _ c.args.opener c.args.left _ c.self.invariant is) c.in_ok-push-2.ensures.ok
+    (cut-group _ c.args.opener c.args.left _ c.args.making.kind (target_of c.args.making) c.len-from.result c.len-to.result c.self.invariant is (omega arith) (omega (arith, ap length moved, ap length is.inside))) (omega (arith, ap length is.groups)) (omega (arith, deep, ap length is.groups)) (c.in_ok-push-3.ensures.items ∙ ap (λ t. c.match-left.self-inside.before.items ++ t ∷ []) c.in_ok-made.ensures)
 
 pub returns-clause-nodes : goal.returns-clause-nodes
 returns-clause-nodes c =
     let is = cut-In_ok-push-3 c in
     let moved = copied c.self.inside.inside.items c.extend_from_slice.new.self.items c.deref.result.now c.self.inside.before.items c.args.opener c.in_ok-extend_from_slice.ensures.items c.deref.ensures.value in
-    wrapped-nodes (the_view c.self.inside) c.args.self.now c.args.opener c.args.left (the_view c.match-left.self-inside) _ _ c.args.making.kind (target_of c.args.making) c.len-from.result c.len-to.result c.len-number.result c.args.depth c.args.holds_link
-    c.self.view_is c.self.invariant is (omega arith) (omega (arith, ap length moved, ap length is.inside)) c.in_ok-push-2.ensures.ok (omega arith) c.in_ok-push-3.ensures.items
+    wrapped-nodes (the_view c.self.inside) c.args.self.now c.args.opener c.args.left (the_view c.match-left.self-inside) _ _ c.args.making.kind (target_of c.args.making) c.len-from.result c.len-to.result c.len.result c.args.depth c.args.holds_link
+    c.self.view_is c.self.invariant is (omega arith) (omega (arith, ap length moved, ap length is.inside)) c.in_ok-push-2.ensures.ok (omega (arith, ap length is.groups)) (c.in_ok-push-3.ensures.items ∙ ap (λ t. c.match-left.self-inside.before.items ++ t ∷ []) c.in_ok-made.ensures)
 
 pub returns-clause-waiting : goal.returns-clause-waiting
 returns-clause-waiting c =
