@@ -1,12 +1,13 @@
 //! The HTML of inlines.
-ghost use Rattle.std.specs.Prelude.{◌≡◌, ◌++◌, OnOk};
-ghost use Rattle.cm_html.specs.Escape.{escape};
+ghost use Rattle.std.specs.Prelude.{◌≡◌, ◌++◌, codes, OnOk};
+ghost use Rattle.cm_tree.specs.LinkTargets.{led_to};
+ghost use Rattle.cm_html.specs.Escape.{escape, destination_html};
 ghost use Rattle.cm_html.specs.Html.{Rendered, rendered, inlines_html, code_span_html, between, title_html, link_start, link_html, image_start, image_html};
 ghost use Rattle.cm_html.specs.steps.AlternativeText.{alternative_text};
 
 use crate::forms::Form;
 use crate::pages::Pages;
-use cm_tree::{BoxedText, Inline};
+use cm_tree::{Inline, LinkTarget};
 use std::alloc::AllocError;
 
 /// Writes inlines, one after another.
@@ -20,13 +21,9 @@ pub(crate) fn push_inlines(out: &mut Pages, inlines: &[Inline]) -> Result<(), Al
     Ok(())
 }
 
-/// Adds the HTML of an inline.
-///
-/// # Errors
-///
-/// `AllocError` where a request for memory was refused; a beginning of the HTML may have been added then.
+/// Writes an inline.
 #[cycle(inlines)]
-pub fn push_inline(out: &mut Pages, inline: &Inline) -> Result<(), AllocError>
+fn push_inline(out: &mut Pages, inline: &Inline) -> Result<(), AllocError>
     ensures { OnOk result (out.new ≡ out.old ++ (rendered inline.now).html) }
 {
     match inline {
@@ -42,12 +39,12 @@ pub fn push_inline(out: &mut Pages, inline: &Inline) -> Result<(), AllocError>
             dest,
             title,
             content,
-        } => push_link(out, dest, title, content.as_slice()),
+        } => push_link(out, LinkTarget::Shared { dest, title }, content.as_slice()),
         Inline::Image {
             dest,
             title,
             content,
-        } => push_image(out, dest, title, content.as_slice()),
+        } => push_image(out, LinkTarget::Shared { dest, title }, content.as_slice()),
     }
 }
 
@@ -75,91 +72,98 @@ fn push_between(
     out.push_str(end)
 }
 
-/// Adds the start tag of a link to this destination, with this title unless it is empty.
+/// Adds where a link leads, as the value of an attribute.
+fn push_dest(out: &mut Pages, target: LinkTarget<'_>) -> Result<(), AllocError>
+    ensures { OnOk result (out.new ≡ out.old ++ destination_html (led_to target.entry).0) }
+{
+    match target {
+        LinkTarget::Plain { dest, .. } => out.push_in_form(Form::Destination, dest),
+        LinkTarget::Shared { dest, .. } => out.push_formed(Form::Destination, dest),
+    }
+}
+
+/// Adds the title of a link, as the value of an attribute.
+fn push_title(out: &mut Pages, target: LinkTarget<'_>) -> Result<(), AllocError>
+    ensures { OnOk result (out.new ≡ out.old ++ escape (led_to target.entry).1) }
+{
+    match target {
+        LinkTarget::Plain { title, .. } => out.push_escaped(title),
+        LinkTarget::Shared { title, .. } => out.push_formed(Form::Escaped, title),
+    }
+}
+
+/// Adds a title behind the value of an attribute, unless the title is empty. The quotation mark behind the last value
+/// is left out.
+fn push_title_behind(out: &mut Pages, target: LinkTarget<'_>) -> Result<(), AllocError>
+    ensures { OnOk result (out.new ++ codes "\""
+        ≡ out.old ++ codes "\"" ++ title_html (led_to target.entry).1) }
+{
+    if target.title().is_empty() {
+        return Ok(());
+    }
+    out.push_str("\" title=\"")?;
+    push_title(out, target)
+}
+
+/// Adds the start tag of a link that leads there, with its title unless that is empty. Long texts that have other
+/// owners are held once.
 ///
 /// # Errors
 ///
 /// `AllocError` where a request for memory was refused; a beginning of the tag may have been added then.
-pub fn push_link_start(out: &mut Pages, dest: &str, title: &str) -> Result<(), AllocError>
-    ensures { OnOk result (out.new ≡ out.old ++ link_start dest.now title.now) }
+pub fn push_link_start(out: &mut Pages, target: LinkTarget<'_>) -> Result<(), AllocError>
+    ensures { OnOk result (out.new ≡ out.old ++ link_start (led_to target.entry).0 (led_to target.entry).1) }
 {
     out.push_str("<a href=\"")?;
-    out.push_in_form(Form::Destination, dest)?;
-    if !title.is_empty() {
-        out.push_str("\" title=\"")?;
-        out.push_escaped(title)?;
-    }
+    push_dest(out, target)?;
+    push_title_behind(out, target)?;
     out.push_str("\">")
 }
 
-/// Adds the start tag of a link, as `push_link_start`. Long texts that have other owners are held once.
-///
-/// # Errors
-///
-/// As `push_link_start`.
-pub fn push_shared_link_start(
-    out: &mut Pages,
-    dest: &BoxedText,
-    title: &BoxedText,
-) -> Result<(), AllocError>
-    ensures { OnOk result (out.new ≡ out.old ++ link_start dest.now title.now) }
-{
-    out.push_str("<a href=\"")?;
-    out.push_formed(Form::Destination, dest)?;
-    out.push_str("\"")?;
-    push_title(out, title)?;
-    out.push_str(">")
-}
-
-/// Writes the attribute of a title, unless it is empty.
-fn push_title(out: &mut Pages, title: &BoxedText) -> Result<(), AllocError>
-    ensures { OnOk result (out.new ≡ out.old ++ title_html title.now) }
-{
-    if title.as_str().is_empty() {
-        return Ok(());
-    }
-    out.push_str(" title=\"")?;
-    out.push_formed(Form::Escaped, title)?;
-    out.push_str("\"")
-}
-
 #[cycle(inlines)]
-fn push_link(
-    out: &mut Pages,
-    dest: &BoxedText,
-    title: &BoxedText,
-    content: &[Inline],
-) -> Result<(), AllocError>
+fn push_link(out: &mut Pages, target: LinkTarget<'_>, content: &[Inline]) -> Result<(), AllocError>
     ensures { OnOk result (out.new
-        ≡ out.old ++ link_html dest.now title.now (inlines_html content.now)) }
+        ≡ out.old ++ link_html (led_to target.entry).0 (led_to target.entry).1 (inlines_html content.now)) }
 {
-    push_shared_link_start(out, dest, title)?;
+    push_link_start(out, target)?;
     push_inlines(out, content)?;
     out.push_str("</a>")
 }
 
-fn push_image_start(out: &mut Pages, dest: &BoxedText) -> Result<(), AllocError>
-    ensures { OnOk result (out.new ≡ out.old ++ image_start dest.now) }
+/// Adds an image that leads there, up to its alternative text. A long text that has other owners is held once.
+///
+/// # Errors
+///
+/// As `push_link_start`.
+pub fn push_image_start(out: &mut Pages, target: LinkTarget<'_>) -> Result<(), AllocError>
+    ensures { OnOk result (out.new ≡ out.old ++ image_start (led_to target.entry).0) }
 {
     out.push_str("<img src=\"")?;
-    out.push_formed(Form::Destination, dest)?;
+    push_dest(out, target)?;
     out.push_str("\" alt=\"")
 }
 
-fn push_image(
-    out: &mut Pages,
-    dest: &BoxedText,
-    title: &BoxedText,
-    content: &[Inline],
-) -> Result<(), AllocError>
+/// Adds what is behind the alternative text of an image that leads there: its title, unless that is empty, and the
+/// end of the tag.
+///
+/// # Errors
+///
+/// As `push_link_start`.
+pub fn push_image_end(out: &mut Pages, target: LinkTarget<'_>) -> Result<(), AllocError>
     ensures { OnOk result (out.new
-        ≡ out.old ++ image_html dest.now title.now (alternative_text content.now)) }
+        ≡ out.old ++ codes "\"" ++ title_html (led_to target.entry).1 ++ codes " />") }
 {
-    push_image_start(out, dest)?;
+    push_title_behind(out, target)?;
+    out.push_str("\" />")
+}
+
+fn push_image(out: &mut Pages, target: LinkTarget<'_>, content: &[Inline]) -> Result<(), AllocError>
+    ensures { OnOk result (out.new
+        ≡ out.old ++ image_html (led_to target.entry).0 (led_to target.entry).1 (alternative_text content.now)) }
+{
+    push_image_start(out, target)?;
     push_alternative_text(out, content)?;
-    out.push_str("\"")?;
-    push_title(out, title)?;
-    out.push_str(" />")
+    push_image_end(out, target)
 }
 
 /// Writes the alternative text of an image with this content.

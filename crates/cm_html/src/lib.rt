@@ -38,7 +38,7 @@ pub use blocks::{
 };
 pub use fault::HtmlFault;
 pub use forms::Form;
-pub use inlines::{push_inline, push_link_start, push_shared_link_start};
+pub use inlines::{push_image_end, push_image_start, push_link_start};
 pub use listings::listing;
 pub use pages::Pages;
 pub use rendering::{html, write_html, write_listing};

@@ -2,7 +2,7 @@
 use Rattle.std.proofs.Common.{◌≡◌, ℕ, zero, suc, ◌+◌, ◌-◌, ◌<◌, List, [], ◌∷◌, ◌++◌, length, take, drop, get_or, refl, sym, ap, subst, ◌∙◌, arith, max}
 use Rattle.std.specs.List.{slice_range, list_any}
 use Rattle.std.specs.Prelude.{◌||◌}
-use Rattle.std.proofs.lemmas.List.{get_or_append_left, get_or_at, length_push, length-drop, drop-map}
+use Rattle.std.proofs.lemmas.List.{get_or_append_left, get_or_at, length_push, length-drop, length-take-le, drop-map}
 use Rattle.cm_inline.specs.declared.tokens.Token.{Token}
 use Rattle.cm_inline.specs.declared.tokens.Token.TheVariants as tokens
 use Rattle.cm_inline.specs.steps.Nodes.{node_depth, nodes_depth, is_closer, text_in, text_in_front, behind_texts, AreParts}
@@ -63,11 +63,24 @@ front-of inside first (one ∷ groups) (suc n) place group are low at =
     let more = front-of inside (first + 1) groups n place group are.1 (omega (arith, low)) (omega (arith, at)) in
     ((are.0, more.0), more.1)
 
-pub groups-front : (inside : List Token) (groups : List Grouped) (n : ℕ) (group : Grouped) → AreGroups inside 0 groups → n < length groups → group ≡ get_or groups n group
+groups-front : (inside : List Token) (groups : List Grouped) (n : ℕ) (group : Grouped) → AreGroups inside 0 groups → n < length groups → group ≡ get_or groups n group
     → AreGroups inside 0 (take n groups) × IsGroup inside n group
 groups-front inside groups n group are low is =
     let both = front-of inside 0 groups n n group are low (omega arith) in
     (both.0, subst (IsGroup inside n) (sym is) both.1)
+
+-- The groups before one are fewer, and it is a group behind them.
+pub record Behind (inside : List Token) (groups front : List Grouped) (group : Grouped) : Type 0 where
+  pub fewer : length front < length groups
+  pub first : AreGroups inside 0 front
+  pub is : IsGroup inside (length front) group
+
+pub behind-front : (inside : List Token) (groups front : List Grouped) (n : ℕ) (group : Grouped) → AreGroups inside 0 groups → n < length groups → group ≡ get_or groups n group → front ≡ take n groups
+    → Behind inside groups front group
+behind-front inside groups front n group are low at is =
+    let both = groups-front inside groups n group are low at in
+    let long : length front ≡ n = ap length is ∙ length-take-le n groups (omega (arith, low)) in
+    record { fewer = omega (arith, low, long); first = subst (AreGroups inside 0) (sym is) both.0; is = subst (λ i. IsGroup inside i group) (sym long) both.1 }
 
 -- places
 

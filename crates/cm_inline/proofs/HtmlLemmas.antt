@@ -1,51 +1,92 @@
 -- The HTML of nodes of which nothing more is made.
-use Rattle.std.proofs.Common.{◌≡◌, ℕ, zero, suc, ◌+◌, ◌-◌, ◌≤◌, true, false, List, [], ◌∷◌, ◌++◌, take, drop, codes, refl, sym, ap, ◌∙◌, arith, append_assoc, take-add, drop-drop}
-use Rattle.std.specs.Prelude.{encode_utf8_all, replicate, if◌then◌else◌}
+use Rattle.std.proofs.Common.{◌≡◌, ℕ, zero, suc, ◌+◌, ◌-◌, ◌≤◌, Bool, true, false, List, [], ◌∷◌, ◌++◌, take, drop, codes, refl, sym, ap, subst, ◌∙◌, arith, append_assoc, take-add, drop-drop}
+use Rattle.std.specs.Prelude.{replicate, flat_map, if◌then◌else◌}
 use Rattle.std.specs.Prelude.{Result, Ok, Err, OnOk}
 use Rattle.std.specs.List.{slice_range}
 use Rattle.std.specs.Str.{IsUtf8}
 use Rattle.std.proofs.lemmas.Grind.{flat_map-append}
 use Rattle.std.proofs.lemmas.Str.{IsCharBoundary-start}
 use Rattle.std.proofs.lemmas.List.{append-nil}
-use Rattle.cm_text.specs.References.{chars_of}
 use Rattle.cm_tree.specs.declared.tree.Inline.{Inline}
 use Rattle.cm_tree.specs.declared.tree.Inline.TheFolds.{fold_out-Inline}
-use Rattle.cm_tree.specs.declared.tree.Inline.TheVariants.{Text, Emph, Strong, Strike, Link, outs-Text, outs-Code, outs-Html, outs-Link, outs-Soft, outs-Hard, outs-Emph, outs-Strong, outs-Strike}
+use Rattle.cm_tree.specs.declared.tree.Inline.TheVariants.{Text, Emph, Strong, Strike, Link, Image, outs-Text, outs-Code, outs-Html, outs-Link, outs-Image, outs-Soft, outs-Hard, outs-Emph, outs-Strong, outs-Strike}
 use Rattle.cm_html.specs.Escape.{escape_byte, escape}
-use Rattle.cm_html.specs.Html.{Rendered, inline_step, inlines_html, rendered, link_html, emph_html, strong_html, strike_html}
+use Rattle.cm_html.specs.steps.AlternativeText.{alternative_text}
+use Rattle.cm_html.specs.Html.{Rendered, inline_step, inlines_html, rendered, link_html, image_html, emph_html, strong_html, strike_html}
 use Rattle.cm_scan.specs.CodeSpans.{one_line}
-use Rattle.cm_scan.specs.Pairing.{bracket_text, text_before, settled_after, settled}
-use Rattle.cm_inline.specs.steps.Nodes.{Node, Piece, Characters, Whole, Finished, Run, Opener, items_of, node_html, nodes_html}
+use Rattle.cm_scan.specs.Pairing.{text_before, settled_after, settled}
+use Rattle.cm_inline.specs.steps.Nodes.{Node, Piece, Characters, Whole, Finished, Run, Opener, items_of, is_text, text_in, node_html, nodes_html, node_plain, nodes_plain}
 use Rattle.cm_tree.specs.Definitions.{Target}
 use Rattle.cm_inline.specs.declared.groups.Kind.{Kind}
 use Rattle.cm_inline.specs.declared.groups.Kind.TheVariants as kinds
 use Rattle.cm_inline.specs.declared.tokens.Token.{Token}
-use Rattle.cm_inline.specs.steps.Groups.{Made, made_by, start_html, end_html, node_of, nodes_of}
+use Rattle.cm_inline.specs.steps.Groups.{Made, made_of, made_by, start_html, end_html, node_of, nodes_of}
 use Rattle.cm_inline.specs.declared.runs.Marker.{Marker}
 use Rattle.cm_inline.specs.declared.runs.Marker.TheVariants.{Star, Underscore, Tilde}
 use Rattle.cm_inline.specs.declared.written.Written.{Written}
 use Rattle.cm_inline.specs.declared.written.Written.TheVariants.{Code, Html, Autolink, Soft, Hard}
-use Rattle.cm_inline.specs.steps.Written.{inline_in, written_html, IsBetween}
+use Rattle.cm_inline.specs.steps.Written.{inline_in, written_html, written_plain, IsBetween}
 use Rattle.cm_inline.specs.steps.Runs.{byte_of}
 
 -- the text of a run is its own HTML
-run-html : (marker : Marker) (n : ℕ) → escape (replicate n (byte_of marker)) ≡ replicate n (byte_of marker)
+pub run-html : (marker : Marker) (n : ℕ) → escape (replicate n (byte_of marker)) ≡ replicate n (byte_of marker)
 run-html marker zero = refl
 run-html Star (suc n) = ap (λ t. 42 ∷ t) (run-html Star n)
 run-html Underscore (suc n) = ap (λ t. 95 ∷ t) (run-html Underscore n)
 run-html Tilde (suc n) = ap (λ t. 126 ∷ t) (run-html Tilde n)
 
--- a text before inlines
-before-html : (text : List ℕ) (inlines : List Inline) → inlines_html (text_before text inlines) ≡ escape text ++ inlines_html inlines
-before-html [] inlines = refl
-before-html (b ∷ bs) inlines = ap (λ html. html ++ inlines_html inlines) text-html
-  where
-    text-html : (rendered (Text (b ∷ bs))).html ≡ escape (b ∷ bs)
-    text-html = simp (fold_out-Inline Rendered inline_step, outs-Text)
-
 -- a text that is longer by what comes next
 longer : (before text rest : List ℕ) → escape (before ++ text) ++ rest ≡ escape before ++ (escape text ++ rest)
 longer before text rest = ap (λ t. t ++ rest) (flat_map-append escape_byte before text) ∙ append_assoc (escape before) (escape text) rest
+
+-- What inlines add one after another, where each adds this, and a text what is shown of it; and what their nodes add.
+module _ (shown : List ℕ → List ℕ) (whole : Inline → List ℕ) (joined : List Inline → List ℕ) (part : List ℕ → Node → List ℕ)
+    (nothing : shown [] ≡ []) (both : (a b : List ℕ) → shown (a ++ b) ≡ shown a ++ shown b)
+    (none : joined [] ≡ []) (one : (inline : Inline) (inlines : List Inline) → joined (inline ∷ inlines) ≡ whole inline ++ joined inlines)
+    (of_text : (text : List ℕ) → whole (Text text) ≡ shown text)
+    (text_part : (source : List ℕ) (node : Node) → is_text node ≡ true → part source node ≡ shown (text_in source node))
+    (whole_part : (source : List ℕ) (written : Written) → part source (Whole written) ≡ whole (inline_in source written))
+    (made_part : (source : List ℕ) (inline : Made) (depth : ℕ) (holds_link : Bool) → part source (Finished inline depth holds_link) ≡ whole (inline source)) where
+  -- a text before inlines
+  text-joined : (text : List ℕ) (inlines : List Inline) → joined (text_before text inlines) ≡ shown text ++ joined inlines
+  text-joined [] inlines = sym (ap (λ t. t ++ joined inlines) nothing)
+  text-joined (b ∷ bs) inlines = one (Text (b ∷ bs)) inlines ∙ ap (λ t. t ++ joined inlines) (of_text (b ∷ bs))
+
+  text-next : (source before : List ℕ) (node : Node) (more all : List ℕ) → is_text node ≡ true → all ≡ shown (before ++ text_in source node) ++ more → all ≡ shown before ++ (part source node ++ more)
+  text-next source before node more all is h =
+      let text = text_in source node in
+      h ∙ ap (λ t. t ++ more) (both before text) ∙ append_assoc (shown before) (shown text) more ∙ sym (ap (λ t. shown before ++ (t ++ more)) (text_part source node is))
+
+  inline-next : (before : List ℕ) (inline : Inline) (inlines : List Inline) (added more : List ℕ) → added ≡ whole inline → joined inlines ≡ shown [] ++ more
+      → joined (text_before before (inline ∷ inlines)) ≡ shown before ++ (added ++ more)
+  inline-next before inline inlines added more is h =
+      text-joined before (inline ∷ inlines)
+      ∙ ap (λ t. shown before ++ t) (one inline inlines ∙ ap (λ t. whole inline ++ t) (h ∙ ap (λ t. t ++ more) nothing) ∙ sym (ap (λ t. t ++ more) is))
+
+  settled-after : (source before : List ℕ) (nodes : List Node) → joined (settled_after before (items_of source nodes)) ≡ shown before ++ flat_map (part source) nodes
+  unfolding settled_after
+  settled-after source before [] = text-joined before [] ∙ ap (λ t. shown before ++ t) none
+  settled-after source before (Piece from to ∷ nodes) =
+      let node = Piece from to in
+      text-next source before node (flat_map (part source) nodes) _ refl (settled-after source (before ++ text_in source node) nodes)
+  settled-after source before (Characters chars ∷ nodes) =
+      let node = Characters chars in
+      text-next source before node (flat_map (part source) nodes) _ refl (settled-after source (before ++ text_in source node) nodes)
+  settled-after source before (Run run ∷ nodes) =
+      let node = Run run in
+      text-next source before node (flat_map (part source) nodes) _ refl (settled-after source (before ++ text_in source node) nodes)
+  settled-after source before (Opener image behind ∷ nodes) =
+      let node = Opener image behind in
+      text-next source before node (flat_map (part source) nodes) _ refl (settled-after source (before ++ text_in source node) nodes)
+  settled-after source before (Whole written ∷ nodes) =
+      inline-next before (inline_in source written) (settled (items_of source nodes)) _ (flat_map (part source) nodes) (whole_part source written) (settled-after source [] nodes)
+  settled-after source before (Finished inline depth false ∷ nodes) =
+      inline-next before (inline source) (settled (items_of source nodes)) _ (flat_map (part source) nodes) (made_part source inline depth false) (settled-after source [] nodes)
+  settled-after source before (Finished inline depth true ∷ nodes) =
+      inline-next before (inline source) (settled (items_of source nodes)) _ (flat_map (part source) nodes) (made_part source inline depth true) (settled-after source [] nodes)
+
+text-html : (text : List ℕ) → (rendered (Text text)).html ≡ escape text
+text-html text = simp (fold_out-Inline Rendered inline_step, outs-Text)
 
 -- an inline that stands by itself in the source
 written-is : (source : List ℕ) (written : Written) → (rendered (inline_in source written)).html ≡ written_html source written
@@ -53,9 +94,6 @@ written-is source (Code from to) = simp (fold_out-Inline Rendered inline_step, o
 written-is source (Html from to) = simp (fold_out-Inline Rendered inline_step, outs-Html)
 written-is source (Autolink is_address from to) = linked (if is_address then codes "mailto:" ++ slice_range source from to else slice_range source from to) (slice_range source from to)
   where
-    text-html : (text : List ℕ) → (rendered (Text text)).html ≡ escape text
-    text-html text = simp (fold_out-Inline Rendered inline_step, outs-Text)
-
     link-is : (dest text : List ℕ) → (rendered (Link dest [] (Text text ∷ []))).html ≡ link_html dest [] (inlines_html (Text text ∷ []))
     link-is dest text = simp (fold_out-Inline Rendered inline_step, outs-Link)
 
@@ -64,37 +102,64 @@ written-is source (Autolink is_address from to) = linked (if is_address then cod
 written-is source Soft = simp (fold_out-Inline Rendered inline_step, outs-Soft)
 written-is source Hard = simp (fold_out-Inline Rendered inline_step, outs-Hard)
 
-settled-html-after : (source before : List ℕ) (nodes : List Node) → inlines_html (settled_after before (items_of source nodes)) ≡ escape before ++ nodes_html source nodes
-unfolding settled_after
-settled-html-after source before [] = before-html before []
-settled-html-after source before (Piece from to ∷ nodes) =
-    let text = slice_range source from to in
-    settled-html-after source (before ++ text) nodes ∙ longer before text (nodes_html source nodes)
-settled-html-after source before (Characters chars ∷ nodes) =
-    let text = encode_utf8_all (chars_of chars) in
-    settled-html-after source (before ++ text) nodes ∙ longer before text (nodes_html source nodes)
-settled-html-after source before (Run run ∷ nodes) =
-    let text = replicate run.left (byte_of run.marker) in
-    settled-html-after source (before ++ text) nodes ∙ longer before text (nodes_html source nodes)
-    ∙ ap (λ t. escape before ++ (t ++ nodes_html source nodes)) (run-html run.marker run.left)
-settled-html-after source before (Opener true behind ∷ nodes) =
-    settled-html-after source (before ++ bracket_text true) nodes ∙ longer before (bracket_text true) (nodes_html source nodes)
-settled-html-after source before (Opener false behind ∷ nodes) =
-    settled-html-after source (before ++ bracket_text false) nodes ∙ longer before (bracket_text false) (nodes_html source nodes)
-settled-html-after source before (Whole written ∷ nodes) =
-    before-html before (inline_in source written ∷ settled (items_of source nodes))
-    ∙ ap (λ t. escape before ++ ((rendered (inline_in source written)).html ++ t)) (settled-html-after source [] nodes)
-    ∙ ap (λ t. escape before ++ (t ++ nodes_html source nodes)) (written-is source written)
-settled-html-after source before (Finished inline depth false ∷ nodes) =
-    before-html before (inline source ∷ settled (items_of source nodes))
-    ∙ ap (λ t. escape before ++ ((rendered (inline source)).html ++ t)) (settled-html-after source [] nodes)
-settled-html-after source before (Finished inline depth true ∷ nodes) =
-    before-html before (inline source ∷ settled (items_of source nodes))
-    ∙ ap (λ t. escape before ++ ((rendered (inline source)).html ++ t)) (settled-html-after source [] nodes)
-
 -- the HTML of the inlines that come of nodes is that of the nodes, one after another
 pub settled-html : (source : List ℕ) (nodes : List Node) → inlines_html (settled (items_of source nodes)) ≡ nodes_html source nodes
-settled-html source nodes = settled-html-after source [] nodes
+settled-html source nodes =
+    settled-after escape (λ inline. (rendered inline).html) inlines_html node_html refl (flat_map-append escape_byte) refl (λ inline inlines. refl)
+    text-html text-part (λ source written. sym (written-is source written)) (λ source inline depth holds_link. refl) source [] nodes
+  where
+    text-part : (source : List ℕ) (node : Node) → is_text node ≡ true → node_html source node ≡ escape (text_in source node)
+    text-part source (Piece from to) is = refl
+    text-part source (Characters chars) is = refl
+    text-part source (Whole written) is = absurd (cc is)
+    text-part source (Finished inline depth holds_link) is = absurd (cc is)
+    text-part source (Run run) is = refl
+    text-part source (Opener image behind) is = refl
+
+-- and so it is with what they add to an alternative text
+
+text-plain : (text : List ℕ) → (rendered (Text text)).plain ≡ text
+text-plain text = simp (fold_out-Inline Rendered inline_step, outs-Text)
+
+written-plain : (source : List ℕ) (written : Written) → (rendered (inline_in source written)).plain ≡ written_plain source written
+written-plain source (Code from to) = simp (fold_out-Inline Rendered inline_step, outs-Code)
+written-plain source (Html from to) = simp (fold_out-Inline Rendered inline_step, outs-Html)
+written-plain source (Autolink from to is_address) = linked (if is_address then codes "mailto:" ++ slice_range source from to else slice_range source from to) (slice_range source from to)
+  where
+    link-is : (dest text : List ℕ) → (rendered (Link dest [] (Text text ∷ []))).plain ≡ (rendered (Text text)).plain ++ []
+    link-is dest text = simp (fold_out-Inline Rendered inline_step, outs-Link)
+
+    linked : (dest text : List ℕ) → (rendered (Link dest [] (Text text ∷ []))).plain ≡ text
+    linked dest text = link-is dest text ∙ append-nil (rendered (Text text)).plain ∙ text-plain text
+written-plain source Soft = simp (fold_out-Inline Rendered inline_step, outs-Soft)
+written-plain source Hard = simp (fold_out-Inline Rendered inline_step, outs-Hard)
+
+settled-plain : (source : List ℕ) (nodes : List Node) → alternative_text (settled (items_of source nodes)) ≡ nodes_plain source nodes
+settled-plain source nodes =
+    settled-after (λ text. text) (λ inline. (rendered inline).plain) alternative_text node_plain refl (λ a b. refl) refl (λ inline inlines. refl)
+    text-plain text-part (λ source written. sym (written-plain source written)) (λ source inline depth holds_link. refl) source [] nodes
+  where
+    text-part : (source : List ℕ) (node : Node) → is_text node ≡ true → node_plain source node ≡ text_in source node
+    text-part source (Piece from to) is = refl
+    text-part source (Characters chars) is = refl
+    text-part source (Whole written) is = absurd (cc is)
+    text-part source (Finished inline depth holds_link) is = absurd (cc is)
+    text-part source (Run run) is = refl
+    text-part source (Opener image behind) is = refl
+
+-- what is made of nodes adds what they add, whatever it is
+pub made-plain : (source : List ℕ) (kind : Kind) (target : Target) (nodes : List Node) → (rendered (made_by kind target nodes source)).plain ≡ nodes_plain source nodes
+made-plain source kind target nodes = go kind ∙ settled-plain source nodes
+  where
+    content : List Inline
+    content = settled (items_of source nodes)
+
+    go : (kind : Kind) → (rendered (made_of kind target content)).plain ≡ alternative_text content
+    go kinds.Emph = simp (fold_out-Inline Rendered inline_step, outs-Emph)
+    go kinds.Strong = simp (fold_out-Inline Rendered inline_step, outs-Strong)
+    go kinds.Strike = simp (fold_out-Inline Rendered inline_step, outs-Strike)
+    go kinds.Link = simp (fold_out-Inline Rendered inline_step, outs-Link)
+    go kinds.Image = simp (fold_out-Inline Rendered inline_step, outs-Image)
 
 -- what is made of nodes, and its HTML between the tags of its kind
 
@@ -117,6 +182,17 @@ made-html source kinds.Strong target nodes other = strong-html (settled (items_o
 made-html source kinds.Strike target nodes other = strike-html (settled (items_of source nodes)) ∙ ap strike_html (settled-html source nodes)
 made-html source kinds.Link target nodes other = linked-html target.0 target.1 (settled (items_of source nodes)) ∙ ap (link_html target.0 target.1) (settled-html source nodes)
 made-html source kinds.Image target nodes other = absurd (other refl)
+
+-- an image, by its alternative text
+
+image-html : (dest title : List ℕ) (content : List Inline) → image_html dest title (rendered (Image dest title content)).plain ≡ (rendered (Image dest title content)).html
+image-html dest title content = simp (fold_out-Inline Rendered inline_step, outs-Image)
+
+pub image-made : (source : List ℕ) (kind : Kind) (target : Target) (nodes : List Node) → kind ≡ kinds.Image
+    → image_html target.0 target.1 (rendered (made_by kind target nodes source)).plain ≡ (rendered (made_by kind target nodes source)).html
+image-made source kind target nodes is =
+    subst (λ k. image_html target.0 target.1 (rendered (made_by k target nodes source)).plain ≡ (rendered (made_by k target nodes source)).html) (sym is)
+    (image-html target.0 target.1 (settled (items_of source nodes)))
 
 -- a group that was written: its start tag, its nodes, and its end tag
 pub group-html : (source old started noded : List ℕ) (kind : Kind) (target : Target) (nodes : List Node) (tag : List ℕ) → (kind ≡ kinds.Image → ⊥)

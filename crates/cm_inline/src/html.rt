@@ -1,43 +1,27 @@
 //! The HTML of settled nodes, of which nothing more is made. It is written from the source, and no inline is
 //! made for it.
-ghost use Rattle.std.specs.Prelude.{◌≡◌, ◌++◌, List, [], length, replicate, encode_utf8_all, IfOk, IfSome, OnOk};
+ghost use Rattle.std.specs.Prelude.{◌≡◌, ◌++◌, List, [], length, IfOk, IfSome, OnOk};
 ghost use Rattle.std.specs.List.{slice_range};
 ghost use Rattle.std.specs.Str.{IsCharBoundary};
-ghost use Rattle.cm_text.specs.References.{chars_of};
+ghost use Rattle.cm_tree.specs.LinkTargets.{led_to};
 ghost use Rattle.cm_html.specs.Escape.{escape};
-ghost use Rattle.cm_html.specs.Html.{code_span_html, inlines_html, rendered};
+ghost use Rattle.cm_html.specs.Html.{code_span_html, image_html, inlines_html, rendered};
 ghost use Rattle.cm_scan.specs.CodeSpans.{one_line};
 ghost use Rattle.cm_scan.specs.Pairing.{settled};
-ghost use Rattle.cm_inline.specs.steps.Runs.{byte_of};
 ghost use Rattle.cm_inline.specs.steps.Written.{autolink_html, written_html, IsBetween, IsWithin};
 ghost use Rattle.cm_inline.specs.steps.Nodes.{items_of, node_html, nodes_html, AreParts};
 ghost use Rattle.cm_inline.specs.steps.Groups.{Made, grouped, target_of, end_html, group_made, groups_made, node_of, nodes_of, nodes_in, start_html, AreBelow, AreGroups, ArePlaced, IsBelow, IsGroup, IsPlaced};
 
+use crate::alternative_text::push_alternative_text;
 use crate::groups::{FirstGroups, Group, Kind, Making};
+use crate::html_texts::{push_one_line, push_text_of};
 use crate::nodes::Nodes;
-use crate::runs::DelimiterRun;
-use crate::settling::group_inline;
-use crate::spare::Spare;
-use crate::tokens::{Token, opener_text};
+use crate::tokens::Token;
 use crate::written::{Written, destination_of, part};
-use cm_html::{Pages, push_inline, push_link_start, push_shared_link_start};
+use cm_html::{Pages, push_image_end, push_image_start, push_link_start};
 use cm_scan::is_next;
-use cm_text::{Chars, cut_at};
 use cm_tree::LinkTarget;
-use memchr::memchr;
 use std::alloc::{AllocError, Global};
-
-/// Adds the characters of a reference.
-fn push_chars(html: &mut Pages, chars: Chars) -> Result<(), AllocError>
-    ensures { OnOk result (html.new ≡ html.old ++ escape (encode_utf8_all (chars_of chars))) }
-{
-    let mut bytes = [0; 4];
-    html.push_escaped(chars.first.encode_utf8(&mut bytes))?;
-    if let Some(second) = chars.second {
-        html.push_escaped(second.encode_utf8(&mut bytes))?;
-    }
-    Ok(())
-}
 
 /// Adds a code span, of whose text the line feeds become spaces.
 fn push_code_span(html: &mut Pages, text: &str) -> Result<(), AllocError>
@@ -48,18 +32,11 @@ fn push_code_span(html: &mut Pages, text: &str) -> Result<(), AllocError>
     html.push_str("</code>")
 }
 
-/// Adds a text with its line feeds as spaces.
-fn push_one_line(html: &mut Pages, text: &str) -> Result<(), AllocError>
-    ensures { OnOk result (html.new ≡ html.old ++ escape (one_line text.now)) }
+/// Where a link without a title leads.
+fn untitled(dest: &str) -> LinkTarget<'_>
+    ensures { led_to result ≡ (dest.now, []) }
 {
-    let mut rest = text;
-    while let Some(at) = memchr(b'\n', rest.as_bytes()) {
-        let (before, behind) = cut_at(rest, at);
-        html.push_escaped(before)?;
-        html.push_str(" ")?;
-        rest = behind;
-    }
-    html.push_escaped(rest)
+    LinkTarget::Plain { dest, title: "" }
 }
 
 /// Adds an autolink.
@@ -73,9 +50,9 @@ fn push_autolink(
 {
     if is_address {
         let dest = destination_of(alloc, is_address, text)?;
-        push_link_start(html, &dest, "")?;
+        push_link_start(html, untitled(&dest))?;
     } else {
-        push_link_start(html, text, "")?;
+        push_link_start(html, untitled(text))?;
     }
     html.push_escaped(text)?;
     html.push_str("</a>")
@@ -84,7 +61,7 @@ fn push_autolink(
 /// Adds the HTML of an inline that stands by itself in the source.
 #[inline(always)]
 fn push_written(
-    spare: &mut Spare,
+    alloc: Global,
     html: &mut Pages,
     source: &str,
     written: Written,
@@ -99,27 +76,17 @@ fn push_written(
             from,
             to,
             is_address,
-        } => push_autolink(spare.alloc(), html, is_address, part(source, from, to)),
+        } => push_autolink(alloc, html, is_address, part(source, from, to)),
         Written::Soft => html.push_str("\n"),
         Written::Hard => html.push_str("<br />\n"),
     }
-}
-
-/// Adds what is left of a delimiter run, of whose characters none is escaped.
-fn push_run(html: &mut Pages, run: DelimiterRun) -> Result<(), AllocError>
-    ensures { OnOk result (html.new ≡ html.old ++ replicate run.left (byte_of run.marker)) }
-{
-    for _ in 0..run.left {
-        html.push_str(run.marker.text())?;
-    }
-    Ok(())
 }
 
 /// Adds the HTML of a token.
 #[cycle(html)]
 #[inline(always)]
 fn push_token(
-    spare: &mut Spare,
+    alloc: Global,
     html: &mut Pages,
     source: &str,
     inside: &[Token],
@@ -133,19 +100,16 @@ fn push_token(
     ensures { OnOk result (html.new ≡ html.old ++ node_html source.now (node_of (groups_made inside.now groups.now) token)) }
 {
     match token {
-        Token::Piece { from, to } => html.push_escaped(part(source, from, to)),
-        Token::Characters(chars) => push_chars(html, chars),
-        Token::Whole(written) => push_written(spare, html, source, written),
+        Token::Whole(written) => push_written(alloc, html, source, written),
         Token::Made { number, .. } => push_group(
-            spare,
+            alloc,
             html,
             source,
             inside,
             &groups.up_to(number as usize),
             groups.get(number as usize),
         ),
-        Token::Run(run) => push_run(html, run),
-        Token::Opener { image, .. } => html.push_str(opener_text(image)),
+        _ => push_text_of(html, source, token),
     }
 }
 
@@ -192,7 +156,7 @@ fn push_text(html: &mut Pages, source: &str, from: usize, to: usize) -> Result<(
 /// Adds the HTML of a token. That of a piece of the source waits; its places are answered, or those of no text.
 #[cycle(html)]
 fn push_apart(
-    spare: &mut Spare,
+    alloc: Global,
     html: &mut Pages,
     source: &str,
     inside: &[Token],
@@ -210,14 +174,14 @@ fn push_apart(
     if let Token::Piece { from, to } = token {
         return Ok((from as usize, to as usize));
     }
-    push_token(spare, html, source, inside, groups, token)?;
+    push_token(alloc, html, source, inside, groups, token)?;
     Ok(no_text(source))
 }
 
 /// Adds the HTML of tokens, one after another. Texts that follow one another in the source are added at once.
 #[cycle(html)]
 fn push_tokens(
-    spare: &mut Spare,
+    alloc: Global,
     html: &mut Pages,
     source: &str,
     inside: &[Token],
@@ -237,7 +201,7 @@ fn push_tokens(
             continue;
         }
         push_text(html, source, from, to)?;
-        let waits = push_apart(spare, html, source, inside, groups, *token)?;
+        let waits = push_apart(alloc, html, source, inside, groups, *token)?;
         from = waits.0;
         to = waits.1;
     }
@@ -252,10 +216,7 @@ fn push_start(html: &mut Pages, making: Making<'_>) -> Result<(), AllocError>
         Kind::Emph => html.push_str("<em>"),
         Kind::Strong => html.push_str("<strong>"),
         Kind::Strike => html.push_str("<del>"),
-        Kind::Link => match making.target {
-            LinkTarget::Plain { dest, title } => push_link_start(html, dest, title),
-            LinkTarget::Shared { dest, title } => push_shared_link_start(html, dest, title),
-        },
+        Kind::Link => push_link_start(html, making.target),
         Kind::Image => Ok(()),
     }
 }
@@ -273,10 +234,30 @@ fn end_tag(kind: Kind) -> &'static str
     }
 }
 
+/// Adds an image, which holds groups before it.
+fn push_image(
+    html: &mut Pages,
+    source: &str,
+    inside: &[Token],
+    groups: &FirstGroups<'_>,
+    group: Group<'_>,
+) -> Result<(), AllocError>
+    requires placed { ArePlaced source.now inside.now }
+    requires groups { AreGroups inside.now 0 groups.now }
+    requires group { IsGroup inside.now (length groups.now) (grouped group) }
+    ensures { OnOk result (html.new ≡ html.old ++ image_html (target_of group.entry.making).0 (target_of group.entry.making).1
+        (rendered (group_made inside.now (groups_made inside.now groups.now) (grouped group.entry) source.now)).plain) }
+{
+    let target = group.making.target;
+    push_image_start(html, target)?;
+    push_alternative_text(html, source, inside, groups, group)?;
+    push_image_end(html, target)
+}
+
 /// Adds the HTML of a group, which holds groups before it.
 #[cycle(html)]
 fn push_group(
-    spare: &mut Spare,
+    alloc: Global,
     html: &mut Pages,
     source: &str,
     inside: &[Token],
@@ -289,14 +270,11 @@ fn push_group(
     ensures { OnOk result (html.new ≡ html.old ++ (rendered (group_made inside.now (groups_made inside.now groups.now) (grouped group.entry) source.now)).html) }
 {
     if let Kind::Image = group.making.kind {
-        let image = group_inline(spare, source, inside, groups, group)?;
-        push_inline(html, &image)?;
-        spare.keep_inline(image);
-        return Ok(());
+        return push_image(html, source, inside, groups, group);
     }
     push_start(html, group.making)?;
     push_tokens(
-        spare,
+        alloc,
         html,
         source,
         inside,
@@ -308,7 +286,7 @@ fn push_group(
 
 /// Adds the HTML of the inlines that come of nodes.
 pub(crate) fn push_nodes(
-    spare: &mut Spare,
+    alloc: Global,
     html: &mut Pages,
     source: &str,
     nodes: &Nodes,
@@ -318,7 +296,7 @@ pub(crate) fn push_nodes(
     ensures { OnOk result (html.new ≡ html.old ++ inlines_html (settled (items_of source.now (nodes_in nodes.now)))) }
 {
     push_tokens(
-        spare,
+        alloc,
         html,
         source,
         nodes.inside(),

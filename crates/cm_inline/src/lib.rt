@@ -18,6 +18,7 @@
 //! ```
 #![tactic(auto)]
 
+mod alternative_text;
 mod atoms;
 mod brackets;
 mod code;
@@ -27,6 +28,7 @@ mod fault;
 mod flanking;
 mod groups;
 mod html;
+mod html_texts;
 pub mod laws;
 mod links;
 mod nearest;

@@ -223,7 +223,7 @@ impl InlineReader {
     {
         let alloc = self.spare.alloc();
         read_nodes(alloc, rules, source, definitions, limit, &mut self.reader)?;
-        push_nodes(&mut self.spare, html, source, &self.reader.nodes)?;
+        push_nodes(alloc, html, source, &self.reader.nodes)?;
         Ok(())
     }
 }

@@ -78,7 +78,7 @@ fn made(spare: &mut Spare, making: Making<'_>, content: Items<Inline>) -> Result
 
 /// The inline of a group, which holds groups before it.
 #[cycle(settling)]
-pub(crate) fn group_inline(
+fn group_inline(
     spare: &mut Spare,
     source: &str,
     inside: &[Token],

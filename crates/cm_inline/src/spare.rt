@@ -143,7 +143,7 @@ impl Spare {
     /// Keeps the memory of an inline.
     #[inline(always)]
     #[cycle(inlines)]
-    pub(crate) fn keep_inline(&mut self, inline: Inline) {
+    fn keep_inline(&mut self, inline: Inline) {
         match inline {
             Inline::Text(text) => self.keep_text(text),
             Inline::Code(text) => self.keep_text(text),

@@ -2,7 +2,7 @@
 
 use cm_html::{Form, Pages, html, listing, push_link_start, write_html, write_listing};
 use cm_text::Room;
-use cm_tree::{Block, BoxedText, Doc, Inline, Items, Text};
+use cm_tree::{Block, BoxedText, Doc, Inline, Items, LinkTarget, Text};
 use std::alloc::{AllocError, Global};
 use std::test::Fail;
 
@@ -81,7 +81,11 @@ fn pages(rt: HostRuntime) -> Result<(), Fail> {
     pages.push_escaped("<")?;
     pages.push_formed(Form::Escaped, &shared)?;
     pages.turn()?;
-    push_link_start(&mut pages, "\"", "")?;
+    let target = LinkTarget::Plain {
+        dest: "\"",
+        title: "",
+    };
+    push_link_start(&mut pages, target)?;
     let written = pages.into_string()?;
     let title = "&quot;".repeat(alloc, LONG)?;
     assert!(rt; written == format!(in alloc; "<&lt;{title}<a href=\"%22\">")?);

@@ -12,7 +12,7 @@ use Rattle.cm_scan.specs.Pairing as items
 use Rattle.cm_inline.specs.declared.runs.DelimiterRun.{DelimiterRun}
 use Rattle.cm_inline.specs.declared.written.Written.{Written}
 use Rattle.cm_inline.specs.steps.Runs.{byte_of, run_of}
-use Rattle.cm_inline.specs.steps.Written.{inline_in, written_depth, written_html, IsWithin}
+use Rattle.cm_inline.specs.steps.Written.{inline_in, written_depth, written_html, written_plain, IsWithin}
 
 -- The source between two places as text; the characters for which a reference stands; an inline that stands by itself in the source;
 -- an inline that was made of nodes, as it comes of a source, how deep it nests, and whether it is a link that a `]` made, or an image
@@ -97,15 +97,21 @@ text_in source (Opener image behind) = items.bracket_text image
 
 -- the HTML of a node
 abbrev pub node_html : List ℕ → Node → List ℕ
-node_html source (Piece from to) = escape (slice_range source from to)
-node_html source (Characters chars) = escape (encode_utf8_all (chars_of chars))
 node_html source (Whole written) = written_html source written
 node_html source (Finished inline depth holds_link) = (rendered (inline source)).html
-node_html source (Run run) = replicate run.left (byte_of run.marker)
-node_html source (Opener image behind) = items.bracket_text image
+node_html source node = escape (text_in source node)
 
 abbrev pub nodes_html : List ℕ → List Node → List ℕ
 nodes_html source nodes = flat_map (node_html source) nodes
+
+-- its part of an image's alternative text
+abbrev pub node_plain : List ℕ → Node → List ℕ
+node_plain source (Whole written) = written_plain source written
+node_plain source (Finished inline depth holds_link) = (rendered (inline source)).plain
+node_plain source node = text_in source node
+
+abbrev pub nodes_plain : List ℕ → List Node → List ℕ
+nodes_plain source nodes = flat_map (node_plain source) nodes
 
 -- the text with which the nodes begin
 abbrev pub text_in_front : List ℕ → List Node → List ℕ

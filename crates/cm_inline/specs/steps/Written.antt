@@ -48,3 +48,11 @@ written_html source (Html from to) = slice_range source from to
 written_html source (Autolink is_address from to) = autolink_html is_address (slice_range source from to)
 written_html source Soft = codes "\n"
 written_html source Hard = codes "<br />\n"
+
+-- its part of an image's alternative text
+abbrev pub written_plain : List ℕ → Written → List ℕ
+written_plain source (Code from to) = one_line (slice_range source from to)
+written_plain source (Html from to) = slice_range source from to
+written_plain source (Autolink from to is_address) = slice_range source from to
+written_plain source Soft = codes " "
+written_plain source Hard = codes " "

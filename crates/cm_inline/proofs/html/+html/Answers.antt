@@ -1,13 +1,13 @@
-use Rattle.std.proofs.Common.{◌≡◌, ◌++◌, ◌+◌, ◌<◌, length, take, drop, sym, ap, subst, ◌∙◌, arith}
+use Rattle.std.proofs.Common.{◌≡◌, ◌++◌, ◌+◌, ◌<◌, length, drop, sym, ap, subst, ◌∙◌, arith}
 use Rattle.std.specs.Prelude.{OnOk}
 use Rattle.std.specs.List.{slice_range}
-use Rattle.std.proofs.lemmas.List.{drop_more, drop_all, length-take-le}
+use Rattle.std.proofs.lemmas.List.{drop_more, drop_all}
 use Rattle.cm_html.specs.Escape.{escape}
 use Rattle.cm_html.specs.Html.{rendered}
 use Rattle.cm_inline.specs.steps.Nodes.{node_html, nodes_html}
-use Rattle.cm_inline.specs.steps.Groups.{grouped, target_of, group_made, groups_made, node_of, nodes_of, AreBelow, AreGroups, ArePlaced, IsBelow, IsGroup}
-use Rattle.cm_inline.proofs.GroupLemmas.{made-at, groups-front, placed-range}
-use Rattle.cm_inline.proofs.HtmlLemmas.{group-html, text-further, text-written, text-last, on-ok}
+use Rattle.cm_inline.specs.steps.Groups.{grouped, target_of, group_made, groups_made, node_of, nodes_of, AreBelow, ArePlaced, IsBelow}
+use Rattle.cm_inline.proofs.GroupLemmas.{made-at, behind-front, placed-range}
+use Rattle.cm_inline.proofs.HtmlLemmas.{group-html, image-made, text-further, text-written, text-last, on-ok}
 use Rattle.cm_inline.proofs.html.+html.Goals as goal
 
 pub push_group-push_tokens-requires : goal.push_group-push_tokens-requires
@@ -28,6 +28,14 @@ push_group-returns t c =
     let written = group-html c.args.source.now html started noded group.making.kind (target_of group.making) nodes c.end_tag.result.now c.in_default.not-Image (c.in_ok-push_start.ensures) (c.in_ok-push_tokens.ensures) c.end_tag.ensures in
     grind (arith, written, c.push_str.ensures)
 
+pub push_group-returns-in-Image : goal.push_group-returns-in-Image
+push_group-returns-in-Image t c =
+    let group = c.args.group in
+    let inside = c.args.inside.now in
+    let nodes = nodes_of (groups_made inside c.args.groups.now) (slice_range inside group.from group.to) in
+    let whole = image-made c.args.source.now group.making.kind (target_of group.making) nodes c.in-Image.is in
+    subst (λ html. OnOk c.push_image.result (c.push_image.new.html ≡ c.args.html.now ++ html)) whole c.push_image.ensures
+
 pub push_token-push_group-requires : goal.push_token-push_group-requires
 push_token-push_group-requires t c =
     let groups = c.args.groups.now in
@@ -36,11 +44,8 @@ push_token-push_group-requires t c =
     let group = grouped c.get.result in
     let asked = c.requires.1.1 in
     let low : number < length groups = (subst (IsBelow (length groups)) c.in-Made.is asked.1.1.0).0 in
-    let front = groups-front inside groups number group asked.1.0 low c.get.ensures in
-    let long : length (take number groups) ≡ number = length-take-le number groups (omega (arith, low)) in
-    let first = subst (AreGroups inside 0) (sym c.up_to.ensures) front.0 in
-    let is = subst (λ gs. IsGroup inside (length gs) group) (sym c.up_to.ensures) (subst (λ n. IsGroup inside n group) (sym long) front.1) in
-    (omega (arith, c.requires.1.0, low, long, ap length c.up_to.ensures), (asked.0, (first, is)))
+    let behind = behind-front inside groups c.up_to.result number group asked.1.0 low c.get.ensures c.up_to.ensures in
+    (omega (arith, c.requires.1.0, behind.fewer), (asked.0, (behind.first, behind.is)))
 
 pub push_token-returns-in-Made : goal.push_token-returns-in-Made
 push_token-returns-in-Made t c =

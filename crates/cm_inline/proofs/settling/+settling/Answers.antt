@@ -5,7 +5,7 @@ use Rattle.cm_scan.specs.Pairing.{settled_after, settled}
 use Rattle.cm_inline.specs.declared.tokens.Token.TheVariants as tokens
 use Rattle.cm_inline.specs.steps.Nodes.{items_of, inline_of}
 use Rattle.cm_inline.specs.steps.Groups.{Made, grouped, group_made, groups_made, node_of, nodes_of, AreGroups, IsBelow, IsGroup, ArePlaced}
-use Rattle.cm_inline.proofs.GroupLemmas.{made-at, groups-front, placed-range, placed-drop, placed-at}
+use Rattle.cm_inline.proofs.GroupLemmas.{made-at, behind-front, placed-range, placed-drop, placed-at}
 use Rattle.cm_inline.proofs.SettlingLemmas.{below-one, settled-behind, settled-further}
 use Rattle.cm_inline.proofs.settling.+settling.Goals as goal
 
@@ -24,11 +24,8 @@ push_inline-group_inline-requires t c =
     let number = c.in-Made.number in
     let group = grouped c.get.result in
     let low : number < length groups = (subst (IsBelow (length groups)) c.in-Made.is c.requires.1.1.1.1.0).0 in
-    let many : number ≡ length (take number groups) = omega (arith, low, length-take number groups) in
-    let front = groups-front inside groups number group c.requires.1.1.1.0 low c.get.ensures in
-    let first = subst (AreGroups inside 0) (sym c.up_to.ensures) front.0 in
-    let is = subst (λ gs. IsGroup inside (length gs) group) (sym c.up_to.ensures) (subst (λ n. IsGroup inside n group) many front.1) in
-    (omega (arith, low, many, ap length c.up_to.ensures), (c.requires.1.1.0, (first, is)))
+    let behind = behind-front inside groups c.up_to.result number group c.requires.1.1.1.0 low c.get.ensures c.up_to.ensures in
+    (omega (arith, behind.fewer), (c.requires.1.1.0, (behind.first, behind.is)))
 
 pub push_inline-returns-in_ok-push-in-Made : goal.push_inline-returns-in_ok-push-in-Made
 push_inline-returns-in_ok-push-in-Made t c =

@@ -4,7 +4,7 @@ use Rattle.cm_html.specs.Escape.{escape}
 use Rattle.cm_scan.specs.CodeSpans.{one_line}
 use Rattle.cm_inline.proofs.CodeLemmas.{line-feed, line-whole}
 use Rattle.cm_inline.proofs.HtmlLemmas.{line-html}
-use Rattle.cm_inline.proofs.html.push_one_line.Goals as goal
+use Rattle.cm_inline.proofs.html_texts.push_one_line.Goals as goal
 
 pub loop-at-preserved : goal.loop-at-preserved
 loop-at-preserved c =

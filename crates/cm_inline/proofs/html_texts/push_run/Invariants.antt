@@ -1,6 +1,6 @@
 use Rattle.std.proofs.Common.{◌≡◌, ◌++◌, ◌-◌, replicate}
 use Rattle.cm_inline.specs.steps.Runs.{byte_of}
-use Rattle.cm_inline.proofs.html.push_run.Given as goal
+use Rattle.cm_inline.proofs.html_texts.push_run.Given as goal
 
 -- what was written and what is left are all
 abbrev pub invariant-loop : goal.invariant-loop

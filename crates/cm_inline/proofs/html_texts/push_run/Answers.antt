@@ -1,7 +1,7 @@
 use Rattle.std.proofs.Common.{◌++◌, ◌-◌, ◌+◌, replicate, ap, ◌∙◌}
 use Rattle.cm_inline.specs.steps.Runs.{byte_of}
 use Rattle.cm_inline.proofs.NodeLemmas.{run-next}
-use Rattle.cm_inline.proofs.html.push_run.Goals as goal
+use Rattle.cm_inline.proofs.html_texts.push_run.Goals as goal
 
 pub loop-preserved : goal.loop-preserved
 loop-preserved c =
