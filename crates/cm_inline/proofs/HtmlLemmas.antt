@@ -36,7 +36,7 @@ run-html Underscore (suc n) = ap (λ t. 95 ∷ t) (run-html Underscore n)
 run-html Tilde (suc n) = ap (λ t. 126 ∷ t) (run-html Tilde n)
 
 -- a text before inlines
-before-html : (text : List ℕ) (inlines : List Inline) → inlines_html (text_before text inlines) ≡ escape text ++ inlines_html inlines
+pub before-html : (text : List ℕ) (inlines : List Inline) → inlines_html (text_before text inlines) ≡ escape text ++ inlines_html inlines
 before-html [] inlines = refl
 before-html (b ∷ bs) inlines = ap (λ html. html ++ inlines_html inlines) text-html
   where
