@@ -35,6 +35,14 @@ run-html Star (suc n) = ap (λ t. 42 ∷ t) (run-html Star n)
 run-html Underscore (suc n) = ap (λ t. 95 ∷ t) (run-html Underscore n)
 run-html Tilde (suc n) = ap (λ t. 126 ∷ t) (run-html Tilde n)
 
+-- a text before inlines
+pub before-html : (text : List ℕ) (inlines : List Inline) → inlines_html (text_before text inlines) ≡ escape text ++ inlines_html inlines
+before-html [] inlines = refl
+before-html (b ∷ bs) inlines = ap (λ html. html ++ inlines_html inlines) text-html
+  where
+    text-html : (rendered (Text (b ∷ bs))).html ≡ escape (b ∷ bs)
+    text-html = simp (fold_out-Inline Rendered inline_step, outs-Text)
+
 -- a text that is longer by what comes next
 longer : (before text rest : List ℕ) → escape (before ++ text) ++ rest ≡ escape before ++ (escape text ++ rest)
 longer before text rest = ap (λ t. t ++ rest) (flat_map-append escape_byte before text) ∙ append_assoc (escape before) (escape text) rest

@@ -13,6 +13,7 @@ pub mod DepthLemmas
 pub mod PairLemmas
 pub mod AtomLemmas
 pub mod SliceLemmas
+pub mod PlainLemmas
 pub mod TextLemmas
 pub mod BracketLemmas
 pub mod CodeLemmas

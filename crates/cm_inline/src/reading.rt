@@ -16,7 +16,7 @@ ghost use Rattle.cm_inline.specs.Reading.{Read, Reads, Refused};
 ghost use Rattle.cm_inline.specs.steps.Brackets.{IsReadTo};
 ghost use Rattle.cm_inline.specs.steps.Groups.{nodes_in, ArePlaced};
 ghost use Rattle.cm_inline.specs.steps.Nodes.{items_of, text_between, AreParts};
-ghost use Rattle.cm_inline.specs.steps.Reads.{Pays, ahead};
+ghost use Rattle.cm_inline.specs.steps.Reads.{IsAllText, Pays, ahead};
 
 use crate::atoms::{read_atom, text_end};
 use crate::brackets::Reader;
@@ -121,6 +121,25 @@ pub fn is_one_text(source: &str) -> bool
     !source.is_empty() && next_markup(source.as_bytes(), 0) == source.len()
 }
 
+/// Whether nothing but line feeds with no space before them parts the text of a source. What it writes is its own
+/// text then, since a soft line break is written as a line feed.
+fn is_all_text(source: &str) -> bool
+    ensures { IsTrue result → IsAllText source.now }
+{
+    let mut from = 0;
+    while from < source.len() {
+        let end = text_end(source, from);
+        if end == source.len() {
+            return true;
+        }
+        if source.as_bytes()[end] != b'\n' {
+            return false;
+        }
+        from = end + 1;
+    }
+    true
+}
+
 /// Reads the nodes of a source, of which nothing more is made then, and answers how many openers were looked at.
 fn read_nodes(
     alloc: Global,
@@ -221,6 +240,10 @@ impl InlineReader {
         ensures within { OnOk result (inlines.nests_past rules (defined_in definitions.now) limit source.now ≡ false) }
         ensures refused { IfErr result (λ fault. Refused fault rules definitions.now limit source.now) }
     {
+        if is_all_text(source) {
+            html.push_escaped(source)?;
+            return Ok(());
+        }
         let alloc = self.spare.alloc();
         read_nodes(alloc, rules, source, definitions, limit, &mut self.reader)?;
         push_nodes(alloc, html, source, &self.reader.nodes)?;

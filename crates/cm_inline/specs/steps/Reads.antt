@@ -1,5 +1,5 @@
 -- One atom of a source as a node.
-use Rattle.std.specs.Prelude.{◌≡◌, ℕ, zero, ◌+◌, ◌*◌, ◌^◌, ◌<◌, ◌≤◌, ◌==◌, ◌||◌, if◌then◌else◌, Bool, true, List, Option, Some, None, length, take, drop, reverse, slice_index, ⊤}
+use Rattle.std.specs.Prelude.{◌≡◌, ℕ, zero, ◌+◌, ◌*◌, ◌^◌, ◌<◌, ◌≤◌, ◌==◌, ◌||◌, if◌then◌else◌, Bool, true, false, List, Option, Some, None, length, take, drop, reverse, slice_index, ⊤}
 use Rattle.std.specs.List.{list_all, slice_range}
 use Rattle.std.specs.Str.{IsCharBoundary}
 use Rattle.cm_text.specs.Rules.{Rules}
@@ -7,7 +7,9 @@ use Rattle.cm_scan.specs.Pairing as items
 use Rattle.cm_scan.specs.Atoms.{Atom, Plain, Whole, Delimiter, OpenBracket, CloseBracket, AtomRead, atom_at}
 use Rattle.cm_scan.specs.Pieces.{in_pieces}
 use Rattle.cm_scan.specs.Brackets.{Defined}
-use Rattle.cm_scan.specs.Inlines.{items_after}
+use Rattle.cm_html.specs.Escape.{escape}
+use Rattle.cm_html.specs.Html.{inlines_html}
+use Rattle.cm_scan.specs.Inlines.{items_after, inlines_of, nests_past}
 use Rattle.cm_scan.specs.InlineLaws.{is_plain_byte, keeps_spaces}
 use Rattle.cm_scan.specs.Runs.{runs_after, runs_of, characters_of}
 use Rattle.cm_inline.specs.steps.Nodes.{Node, item_of, items_of, IsPart}
@@ -34,6 +36,11 @@ pub record IsTextTo (source : List ℕ) (at end : ℕ) : Type 0 where
   pub plain : list_all is_plain_byte (slice_range source at end) ≡ true
   pub spaces : keeps_spaces (drop end source) (slice_range source at end) ≡ true
   pub ascii : end < length source → slice_index source end < 128
+
+-- By all rules and whatever is defined, the HTML of a source is its own text, and nothing nests in it.
+pub record IsAllText (source : List ℕ) : Type 0 where
+  pub html : (rules : Rules) (defined : Defined) → inlines_html (inlines_of rules defined source) ≡ escape source
+  pub flat : (rules : Rules) (defined : Defined) (limit : ℕ) → nests_past rules defined limit source ≡ false
 
 -- a byte with which a line break can begin
 abbrev pub is_break_byte : ℕ → Bool

@@ -53,6 +53,6 @@ written_html source Hard = codes "<br />\n"
 abbrev pub written_plain : List ℕ → Written → List ℕ
 written_plain source (Code from to) = one_line (slice_range source from to)
 written_plain source (Html from to) = slice_range source from to
-written_plain source (Autolink from to is_address) = slice_range source from to
+written_plain source (Autolink is_address from to) = slice_range source from to
 written_plain source Soft = codes " "
 written_plain source Hard = codes " "
