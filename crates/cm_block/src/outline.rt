@@ -1,10 +1,11 @@
 //! An outline as values of the tree: its blocks, and the owners of its lines.
-ghost use Rattle.std.specs.Prelude.{◌≡◌, ◌++◌, IfOk, OnOk};
-ghost use Rattle.cm_tree.specs.RawBlocks.{raw_inlines, block_in, blocks_in, items_in, IsPlaced, ArePlaced, AreItems};
+ghost use Rattle.std.specs.Prelude.{◌≡◌, ◌++◌, length, IfOk, OnOk};
+ghost use Rattle.std.specs.List.{slice_range};
+ghost use Rattle.cm_tree.specs.RawBlocks.{raw_inlines, block_in, IsPlaced, IsRange};
 
 use crate::parser::Outline;
 use cm_text::NoMemory;
-use cm_tree::{Block, Inline, Items, Owner, RawBlock, RawBlocks, RawItem, RawPart, Text};
+use cm_tree::{Block, Inline, Items, Owner, RawBlock, RawBlocks, RawPart, Text};
 use std::alloc::{AllocError, Global};
 
 /// The content of a leaf with this source: one text, or nothing if the source is empty.
@@ -18,19 +19,20 @@ fn content(alloc: Global, source: &str) -> Result<Items<Inline>, AllocError>
     Ok(content)
 }
 
-/// Blocks as blocks of the tree.
+/// The blocks between two places as blocks of the tree.
 #[cycle(blocks)]
 fn made_blocks(
     alloc: Global,
     raw: &RawBlocks,
-    blocks: &[RawBlock],
+    from: u32,
+    to: u32,
 ) -> Result<Items<Block>, AllocError>
-    requires { ArePlaced raw.now blocks.now }
-    ensures { IfOk result (λ made. made ≡ blocks_in raw.now blocks.now) }
+    requires { IsRange (length raw.now.blocks) from to }
+    ensures { IfOk result (λ made. made ≡ slice_range raw.now.blocks from to) }
 {
-    let mut made = Items::from(Vec::with_capacity(alloc, blocks.len())?);
-    for block in blocks {
-        made.push(made_block(alloc, raw, *block)?)?;
+    let mut made = Items::from(Vec::with_capacity(alloc, (to - from) as usize)?);
+    for at in from..to {
+        made.push(made_block(alloc, raw, raw.block_at(at))?)?;
     }
     Ok(made)
 }
@@ -67,9 +69,7 @@ fn made_block(alloc: Global, raw: &RawBlocks, block: RawBlock) -> Result<Block, 
             dest: Text::from_str(alloc, raw.text(dest, title))?,
             title: Text::from_str(alloc, raw.text(title, to))?,
         }),
-        RawBlock::Quote { from, to } => {
-            Ok(Block::Quote(made_blocks(alloc, raw, raw.blocks(from, to))?))
-        }
+        RawBlock::Quote { from, to } => Ok(Block::Quote(made_blocks(alloc, raw, from, to)?)),
         RawBlock::List {
             kind,
             tight,
@@ -78,24 +78,26 @@ fn made_block(alloc: Global, raw: &RawBlocks, block: RawBlock) -> Result<Block, 
         } => Ok(Block::List {
             kind,
             tight,
-            items: made_items(alloc, raw, raw.items(from, to))?,
+            items: made_items(alloc, raw, from, to)?,
         }),
     }
 }
 
-/// Items as items of the tree.
+/// The items between two places as items of the tree.
 #[cycle(blocks)]
 fn made_items(
     alloc: Global,
     raw: &RawBlocks,
-    items: &[RawItem],
+    from: u32,
+    to: u32,
 ) -> Result<Items<Items<Block>>, AllocError>
-    requires { AreItems raw.now items.now }
-    ensures { IfOk result (λ made. made ≡ items_in raw.now items.now) }
+    requires { IsRange (length raw.now.items) from to }
+    ensures { IfOk result (λ made. made ≡ slice_range raw.now.items from to) }
 {
-    let mut made = Items::from(Vec::with_capacity(alloc, items.len())?);
-    for item in items {
-        made.push(made_blocks(alloc, raw, raw.blocks(item.from, item.to))?)?;
+    let mut made = Items::from(Vec::with_capacity(alloc, (to - from) as usize)?);
+    for at in from..to {
+        let item = raw.item_at(at);
+        made.push(made_blocks(alloc, raw, item.from, item.to)?)?;
     }
     Ok(made)
 }

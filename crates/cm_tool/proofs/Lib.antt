@@ -20,4 +20,4 @@ pub mod TextLemmas
 pub mod WithinLemmas
 pub mod PassedLemmas
 pub mod RawWalkLemmas
-pub mod PartWalkLemmas
+pub mod LeafWalkLemmas

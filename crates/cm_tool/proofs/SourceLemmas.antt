@@ -2,18 +2,15 @@
 use Rattle.std.proofs.Common.{◌≡◌, ◌∙◌, List, [], ◌∷◌, ◌++◌, Bool, true, false, not, cond, refl, sym, ap, subst, append_assoc, append-nil, Some, None}
 use Rattle.std.specs.Prelude.{Option, map}
 use Rattle.std.specs.Option.{is_some}
-use Rattle.std.proofs.lemmas.List.{map-append}
 use Rattle.cm_text.specs.Rules.{Rules}
 use Rattle.cm_tree.specs.declared.tree.Block.{Block}
-use Rattle.cm_scan.specs.Brackets.{Defined}
-use Rattle.cm_scan.specs.Documents.{block_read, with_inlines}
 use Rattle.cm_source.specs.declared.spelling.Speller.{Speller}
 use Rattle.cm_source.specs.declared.fault.SourceFault.TheVariants.{Unspellable}
 use Rattle.cm_source.specs.declared.why.Why.{Why}
 use Rattle.cm_source.specs.Definitions.{cleared, is_definition, kept, without_definitions}
 use Rattle.cm_source.specs.Refusals.{refusal_of}
 use Rattle.cm_source.specs.Speller.{StandsFor, Refuses}
-use Rattle.cm_tool.specs.declared.sources.PlainSource as code
+use Rattle.cm_tool.specs.declared.outline_source.PlainSource as code
 use Rattle.cm_tool.specs.steps.Sources.{Spells, HasTaken}
 
 -- one more block behind those that a source has taken
@@ -37,36 +34,20 @@ kept-parts block blocks = go (is_definition block)
     go true = refl
     go false = refl
 
-kept-append : (xs ys : List Block) → kept (xs ++ ys) ≡ kept xs ++ kept ys
-kept-append [] ys = refl
-kept-append (x ∷ xs) ys =
-    kept-parts x (xs ++ ys)
-    ∙ ap (λ t. kept (x ∷ []) ++ t) (kept-append xs ys)
-    ∙ sym (append_assoc (kept (x ∷ [])) (kept xs) (kept ys))
-    ∙ ap (λ t. t ++ kept ys) (sym (kept-parts x xs))
+-- A source has taken blocks which, with the blocks that are left without their definitions, are a whole.
+abbrev pub Takes : Rules → List Block → code.PlainSource → List Block → Type 0
+Takes rules left source whole = (taken : List Block) × HasTaken rules source taken × (taken ++ without_definitions left ≡ whole)
 
-module _ (rules : Rules) (defined : Defined) where
-  pub cleared-append : (xs ys : List Block) → without_definitions (with_inlines rules defined (xs ++ ys)) ≡ without_definitions (with_inlines rules defined xs) ++ without_definitions (with_inlines rules defined ys)
-  cleared-append xs ys =
-      ap without_definitions (map-append (block_read rules defined) xs ys)
-      ∙ ap kept (map-append cleared (with_inlines rules defined xs) (with_inlines rules defined ys))
-      ∙ kept-append (map cleared (with_inlines rules defined xs)) (map cleared (with_inlines rules defined ys))
+pub takes_next : (rules : Rules) (block : Block) (left : List Block) (old new : code.PlainSource) (whole : List Block)
+    → ((now : Rules) (blocks : List Block) → HasTaken now old blocks → HasTaken now new (blocks ++ without_definitions (block ∷ [])))
+    → Takes rules (block ∷ left) old whole → Takes rules left new whole
+takes_next rules block left old new whole pushed so_far =
+    let taken = so_far.0 in
+    let next = without_definitions (block ∷ []) in (
+      taken ++ next,
+      pushed rules taken so_far.1,
+      append_assoc taken next (without_definitions left) ∙ ap (λ t. taken ++ t) (sym (kept-parts (cleared block) (map cleared left))) ∙ so_far.2,
+    )
 
-  -- A source has taken blocks which, with the blocks that are left, once these are read and without their definitions, are a whole.
-  abbrev pub Takes : List Block → code.PlainSource → List Block → Type 0
-  Takes left source whole = (taken : List Block) × HasTaken rules source taken × (taken ++ without_definitions (with_inlines rules defined left) ≡ whole)
-
-  pub takes_next : (block : Block) (left : List Block) (old new : code.PlainSource) (whole : List Block)
-      → ((now : Rules) (blocks : List Block) → HasTaken now old blocks → HasTaken now new (blocks ++ without_definitions (block_read rules defined block ∷ [])))
-      → Takes (block ∷ left) old whole → Takes left new whole
-  takes_next block left old new whole pushed so_far =
-      let taken = so_far.0 in
-      let next = without_definitions (block_read rules defined block ∷ []) in
-      let others = without_definitions (with_inlines rules defined left) in (
-        taken ++ next,
-        pushed rules taken so_far.1,
-        append_assoc taken next others ∙ ap (λ t. taken ++ t) (sym (kept-parts (cleared (block_read rules defined block)) (map cleared (with_inlines rules defined left)))) ∙ so_far.2,
-      )
-
-  pub all_taken : (source : code.PlainSource) (whole : List Block) → Takes [] source whole → HasTaken rules source whole
-  all_taken source whole so_far = subst (HasTaken rules source) (sym (append-nil so_far.0) ∙ so_far.2) so_far.1
+pub all_taken : (rules : Rules) (source : code.PlainSource) (whole : List Block) → Takes rules [] source whole → HasTaken rules source whole
+all_taken rules source whole so_far = subst (HasTaken rules source) (sym (append-nil so_far.0) ∙ so_far.2) so_far.1

@@ -2,6 +2,7 @@ pub mod FaultOrder
 pub mod Pushing
 pub mod Numbering
 pub mod Items
+pub mod LeafWalks
 pub mod Ends
 pub mod ExampleSteps
 pub mod Sources

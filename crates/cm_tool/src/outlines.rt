@@ -7,9 +7,9 @@ ghost use Rattle.cm_tool.specs.steps.Ends.{IsOutline};
 ghost use Rattle.cm_tool.specs.steps.Sources.{Spelled};
 
 use crate::fault::Fault;
-use crate::leaves::read_leaves;
 use crate::outline_html::leaves_html;
-use crate::sources::leaves_source;
+use crate::outline_source::leaves_source;
+use crate::outline_tree::read_leaves;
 use cm_block::Outline;
 use cm_html::Pages;
 use cm_source::Why;
@@ -27,7 +27,7 @@ pub(crate) fn doc_of_outline(alloc: Global, limits: Limits, outline: Outline) ->
         definitions,
         ..
     } = outline;
-    let blocks = read_leaves(alloc, limits, &definitions, blocks)?;
+    let blocks = read_leaves(alloc, limits, definitions, blocks)?;
     let owners = owners.to_items(alloc)?;
     Ok(Doc { blocks, owners })
 }
@@ -49,7 +49,7 @@ pub(crate) fn html_of_outline(
     } = outline;
     // The HTML goes into the memory of the owners, which it doesn't show.
     drop(owners);
-    leaves_html(alloc, limits, &definitions, blocks)
+    leaves_html(alloc, limits, definitions, blocks)
 }
 
 /// The plain source of an outline's document without its definitions, or why it can't be spelled.
@@ -68,5 +68,5 @@ pub(crate) fn source_of_outline(
         ..
     } = outline;
     drop(owners);
-    leaves_source(alloc, limits, &definitions, blocks)
+    leaves_source(alloc, limits, definitions, blocks)
 }

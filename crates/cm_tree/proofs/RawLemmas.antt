@@ -1,9 +1,9 @@
 -- How what blocks stand for grows, and what the blocks come to that are held.
-use Rattle.std.proofs.Common.{◌≡◌, ℕ, zero, suc, ◌-◌, ◌≤◌, List, [], ◌∷◌, ◌++◌, length, map, take, drop, refl, sym, ap, subst, ◌∙◌, inl, inr, arith, append_assoc}
+use Rattle.std.proofs.Common.{◌≡◌, ℕ, zero, suc, ◌-◌, ◌≤◌, ◌<◌, get_or, List, [], ◌∷◌, ◌++◌, length, map, take, drop, refl, sym, ap, subst, ◌∙◌, inl, inr, arith, append_assoc}
 use Rattle.std.specs.List.{slice_range}
 use Rattle.std.specs.Str.{IsCharBoundary, IsUtf8}
 use Rattle.std.proofs.lemmas.Bool.{cases_lt}
-use Rattle.std.proofs.lemmas.List.{append-nil, length-append, length-drop, length-map, map-append, take-map, drop-map, take_all, drop_at, drop-append-le, take-append-le, get_or_append_left}
+use Rattle.std.proofs.lemmas.List.{append-nil, length-append, length-drop, length-map, get_or-map, map-append, take-map, drop-map, take_all, drop_at, drop-append-le, take-append-le, get_or_append_left}
 use Rattle.std.proofs.lemmas.Str.{IsUtf8-nil, IsUtf8-append, IsCharBoundary-at_seam, IsCharBoundary-end}
 use Rattle.cm_tree.specs.declared.raw_blocks.RawBlock.{RawBlock}
 use Rattle.cm_tree.specs.declared.raw_blocks.RawBlock.TheVariants as raw_block
@@ -146,27 +146,17 @@ pub items-append : (raw : Raw) (xs ys : List RawItem) → AreItems raw xs → Ar
 items-append raw [] ys first second = second
 items-append raw (item ∷ xs) ys first second = (first.0, items-append raw xs ys first.1 second)
 
--- parts of what is there
+-- one of those that are there
 
-placed-take : (raw : Raw) (n : ℕ) (blocks : List RawBlock) → ArePlaced raw blocks → ArePlaced raw (take n blocks)
-placed-take raw zero blocks placed = tt
-placed-take raw (suc n) [] placed = tt
-placed-take raw (suc n) (block ∷ blocks) placed = (placed.0, placed-take raw n blocks placed.1)
+placed-at : (raw : Raw) (blocks : List RawBlock) (at : ℕ) (d : RawBlock) → at < length blocks → ArePlaced raw blocks → IsPlaced raw (get_or blocks at d)
+placed-at raw [] at d within placed = absurd (omega (arith, within))
+placed-at raw (block ∷ blocks) zero d within placed = placed.0
+placed-at raw (block ∷ blocks) (suc at) d within placed = placed-at raw blocks at d (omega (arith, within)) placed.1
 
-placed-drop : (raw : Raw) (n : ℕ) (blocks : List RawBlock) → ArePlaced raw blocks → ArePlaced raw (drop n blocks)
-placed-drop raw zero blocks placed = placed
-placed-drop raw (suc n) [] placed = tt
-placed-drop raw (suc n) (block ∷ blocks) placed = placed-drop raw n blocks placed.1
-
-items-take : (raw : Raw) (n : ℕ) (items : List RawItem) → AreItems raw items → AreItems raw (take n items)
-items-take raw zero items are = tt
-items-take raw (suc n) [] are = tt
-items-take raw (suc n) (item ∷ items) are = (are.0, items-take raw n items are.1)
-
-items-drop : (raw : Raw) (n : ℕ) (items : List RawItem) → AreItems raw items → AreItems raw (drop n items)
-items-drop raw zero items are = are
-items-drop raw (suc n) [] are = tt
-items-drop raw (suc n) (item ∷ items) are = items-drop raw n items are.1
+item-at : (raw : Raw) (items : List RawItem) (at : ℕ) (d : RawItem) → at < length items → AreItems raw items → IsItem raw (get_or items at d)
+item-at raw [] at d within are = absurd (omega (arith, within))
+item-at raw (item ∷ items) zero d within are = are.0
+item-at raw (item ∷ items) (suc at) d within are = item-at raw items at d (omega (arith, within)) are.1
 
 -- what is held, where more is there
 
@@ -282,21 +272,32 @@ module _ (text : List ℕ) (blocks : List RawBlock) (items : List RawItem) (held
   pub made-length : length (made_of text items blocks) ≡ length blocks
   made-length = ap length made-is ∙ length-map blocks (block_in (raw_held text blocks items))
 
-  pub blocks-between : (from to : ℕ) → blocks_in (raw_held text blocks items) (slice_range blocks from to) ≡ slice_range (made_of text items blocks) from to
-  blocks-between from to = sym (ap (λ m. slice_range m from to) made-is ∙ slice-map (block_in (raw_held text blocks items)) blocks from to)
+  pub items-length : length (items_of (made_of text items blocks) items) ≡ length items
+  items-length = length-map items (item_in (raw_held text blocks items))
 
-  pub placed-between : (from to : ℕ) → ArePlaced (raw_held text blocks items) (slice_range blocks from to)
-  placed-between from to =
-      let raw = raw_held text blocks items in
-      placed-take raw (to - from) (drop from blocks) (placed-drop raw from blocks (after-placed text items [] (made_of text items blocks) blocks refl held.blocks_are))
+  module _ (at : ℕ) where
+    pub block-there : (block : RawBlock) → at < length blocks → block ≡ get_or blocks at block
+        → block_in (raw_held text blocks items) block ≡ get_or (made_of text items blocks) at (block_in (raw_held text blocks items) block)
+    block-there block within is =
+        let raw = raw_held text blocks items in
+        ap (block_in raw) is
+        ∙ sym (ap (λ made. get_or made at (block_in raw block)) made-is ∙ get_or-map (block_in raw) blocks at block (block_in raw block) within)
 
-  pub items-between : (from to : ℕ) → items_in (raw_held text blocks items) (slice_range items from to) ≡ slice_range (items_of (made_of text items blocks) items) from to
-  items-between from to = sym (slice-map (item_in (raw_held text blocks items)) items from to)
+    pub placed-there : (block : RawBlock) → at < length blocks → block ≡ get_or blocks at block → IsPlaced (raw_held text blocks items) block
+    placed-there block within is =
+        let raw = raw_held text blocks items in
+        subst (IsPlaced raw) (sym is) (placed-at raw blocks at block within (after-placed text items [] (made_of text items blocks) blocks refl held.blocks_are))
 
-  pub are-between : (from to : ℕ) → AreItems (raw_held text blocks items) (slice_range items from to)
-  are-between from to =
-      let raw = raw_held text blocks items in
-      items-take raw (to - from) (drop from items) (items-drop raw from items held.items_are)
+    pub item-there : (item : RawItem) → at < length items → item ≡ get_or items at item
+        → item_in (raw_held text blocks items) item ≡ get_or (items_of (made_of text items blocks) items) at (item_in (raw_held text blocks items) item)
+    item-there item within is =
+        let raw = raw_held text blocks items in
+        ap (item_in raw) is ∙ sym (get_or-map (item_in raw) items at item (item_in raw item) within)
+
+    pub is_item-there : (item : RawItem) → at < length items → item ≡ get_or items at item → IsItem (raw_held text blocks items) item
+    is_item-there item within is =
+        let raw = raw_held text blocks items in
+        subst (IsItem raw) (sym is) (item-at raw items at item within held.items_are)
 
   -- one more text
 

@@ -1,8 +1,8 @@
 //! Blocks whose inlines haven't been read. They own no memory: their texts lie behind one another in one
 //! text, and the blocks in them in one list.
-ghost use Rattle.std.specs.Prelude.{◌≡◌, [], ◌++◌, length, nat_le, IfOk, OnOk};
+ghost use Rattle.std.specs.Prelude.{◌≡◌, ◌<◌, [], ◌++◌, length, get_or, nat_le, IfOk, OnOk};
 ghost use Rattle.std.specs.List.{slice_range};
-ghost use Rattle.cm_tree.specs.RawBlocks.{raw_inlines, block_in, blocks_in, item_in, items_in, IsBetween, IsRange, IsPlaced, ArePlaced, IsItem, AreItems, Grows};
+ghost use Rattle.cm_tree.specs.RawBlocks.{raw_inlines, block_in, blocks_in, item_in, items_in, IsBetween, IsPlaced, ArePlaced, IsItem, AreItems, Grows};
 ghost use Rattle.cm_tree.specs.declared.tree.Block.TheVariants as trees;
 
 use crate::tree::ListKind;
@@ -329,21 +329,21 @@ impl RawBlocks {
         &self.text[from as usize..to as usize]
     }
 
-    /// The blocks between two places.
-    pub fn blocks(&self, from: u32, to: u32) -> &[RawBlock]
-        requires { IsRange (length self.now.blocks) from to }
-        ensures blocks { blocks_in self.now result.now ≡ slice_range self.now.blocks from to }
-        ensures placed { ArePlaced self.now result.now }
+    /// The block at a place.
+    pub fn block_at(&self, at: u32) -> RawBlock
+        requires { at < length self.now.blocks }
+        ensures block { block_in self.now result ≡ get_or self.now.blocks at (block_in self.now result) }
+        ensures placed { IsPlaced self.now result }
     {
-        &self.blocks[from as usize..to as usize]
+        self.blocks[at as usize]
     }
 
-    /// The items between two places.
-    pub fn items(&self, from: u32, to: u32) -> &[RawItem]
-        requires { IsRange (length self.now.items) from to }
-        ensures items { items_in self.now result.now ≡ slice_range self.now.items from to }
-        ensures placed { AreItems self.now result.now }
+    /// The item at a place.
+    pub fn item_at(&self, at: u32) -> RawItem
+        requires { at < length self.now.items }
+        ensures item { item_in self.now result ≡ get_or self.now.items at (item_in self.now result) }
+        ensures placed { IsItem self.now result }
     {
-        &self.items[from as usize..to as usize]
+        self.items[at as usize]
     }
 }

@@ -46,6 +46,15 @@ impl RawPart {
     {
         (&self.blocks, &self.inside)
     }
+
+    /// The blocks at the top level, and what they are made of.
+    pub fn into_contents(self) -> (Vec<RawBlock>, RawBlocks)
+        ensures blocks { blocks_in result.1 result.0.items ≡ self }
+        ensures placed { ArePlaced result.1 result.0.items }
+    {
+        let RawPart { blocks, inside } = self;
+        (blocks, inside)
+    }
 }
 
 /// The blocks of a document whose inlines haven't been read: those of its parts, one after another. The

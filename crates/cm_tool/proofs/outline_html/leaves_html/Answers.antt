@@ -1,56 +1,20 @@
-use Rattle.std.proofs.Common.{◌≡◌, ◌∙◌, List, refl, ap, sym}
 use Rattle.std.proofs.lemmas.Result.{err_from_is_err_and}
-use Rattle.std.proofs.lemmas.Iterator.Consumers.{YieldsList-so_far, YieldsList-turn, YieldsList-end}
-use Rattle.cm_html.specs.Html.{html_of}
-use Rattle.cm_tree.specs.declared.tree.Block.{Block}
-use Rattle.cm_tree.specs.RawTrees.{all_blocks}
 use Rattle.cm_scan.specs.Brackets.{defined_in}
 use Rattle.cm_scan.specs.Documents.{with_inlines}
-use Rattle.cm_tool.specs.Leaves.{first_leaf_past, leaf_depths}
-use Rattle.cm_tool.proofs.RawWalkLemmas.{none_past}
-use Rattle.cm_tool.proofs.PartWalkLemmas.{parts-road, all-parts, html-more, passes-more, part-told}
+use Rattle.cm_tool.proofs.LeafWalkLemmas.{begun_told, begun_within}
 use Rattle.cm_tool.proofs.outline_html.leaves_html.Goals as goal
 
-pub loop-part-init : goal.loop-part-init
-loop-part-init c = record {
-  html = c.in_ok-pages.ensures;
-  leaves = λ more. refl;
-}
-
-pub loop-part-preserved : goal.loop-part-preserved
-loop-part-preserved c =
+pub returns-in_err-push_all-clause-told : goal.returns-in_err-push_all-clause-told
+returns-in_err-push_all-clause-told c =
+    let p = err_from_is_err_and c.from_residual-in_err-push_all.result c.from_residual-in_err-push_all.ensures.1 in
     let limits = c.args.limits in
-    let defined = defined_in c.args.definitions.now in
-    record {
-      html = html-more limits.rules defined c.loop-part.yielded c.in-Some.part c.loop-part.pages c.push_pages.new.html c.loop-part.invariant.html c.in_ok-push_pages.ensures.pushed;
-      leaves = passes-more limits.rules defined limits.inlines c.loop-part.yielded c.in-Some.part c.loop-part.next c.push_pages.new.next c.loop-part.invariant.leaves c.in_ok-push_pages.ensures.passes;
-    }
-
-pub returns-in_err-push_pages-clause-told : goal.returns-in_err-push_pages-clause-told
-returns-in_err-push_pages-clause-told c =
-    let p = err_from_is_err_and c.from_residual-in_err-push_pages.result c.from_residual-in_err-push_pages.ensures.1 in
-    let limits = c.args.limits in
-    let gives = c.into_iter-part-iterator.ensures.into_iter_gives in
-    let road = parts-road {s = c.into_iter-part-iterator.result} c.into_parts-part-items.result gives.0 gives.1 in
-    let first = YieldsList-so_far road c.loop-part.yielded c.loop-part.part-iterator c.loop-part.yielded_by in
-    let at = YieldsList-turn road c.loop-part.yielded c.loop-part.part-iterator c.loop-part.yielded_by c.next.result c.next.new.self c.in-Some.part c.in-Some.is c.next.ensures.steps in
-    rw (p.1, p.2) (part-told limits.rules (defined_in c.args.definitions.now) limits.inlines c.in_err-push_pages.field-0.0 c.loop-part.yielded c.into_parts-part-items.result.items c.in-Some.part c.args.blocks c.loop-part.next
-    c.loop-part.invariant.leaves c.in_err-push_pages.ensures.told first at c.into_parts-part-items.ensures)
-
--- all parts were taken
-all-taken : (c : goal.After-drop-reader-12) → all_blocks c.loop-part.yielded ≡ c.args.blocks
-all-taken c =
-    let gives = c.into_iter-part-iterator.ensures.into_iter_gives in
-    let road = parts-road {s = c.into_iter-part-iterator.result} c.into_parts-part-items.result gives.0 gives.1 in
-    let end = YieldsList-end road c.loop-part.yielded c.loop-part.part-iterator c.loop-part.yielded_by c.next.result c.next.new.self c.in-None.is c.next.ensures.steps in
-    all-parts c.loop-part.yielded c.into_parts-part-items.result.items c.args.blocks end.0 c.into_parts-part-items.ensures
-
-pub returns-clause-html : goal.returns-clause-html
-returns-clause-html c = c.loop-part.invariant.html ∙ ap (λ blocks. html_of (with_inlines c.args.limits.rules (defined_in c.args.definitions.now) blocks)) (all-taken c)
+    let new = c.new-walk.ensures in
+    rw (p.1, p.2) (begun_told c.new-walk.result limits (with_inlines limits.rules (defined_in c.args.definitions) c.args.blocks) new.first new.limits new.all
+    c.in_err-push_all.field-0.0 c.in_err-push_all.ensures.told)
 
 pub returns-clause-within : goal.returns-clause-within
 returns-clause-within c =
     let limits = c.args.limits in
-    let read : List Block → List Block = λ blocks. with_inlines limits.rules (defined_in c.args.definitions.now) blocks in
-    ap (λ blocks. first_leaf_past limits.inlines (read blocks)) (sym (all-taken c))
-    ∙ none_past limits.inlines c.loop-part.next (leaf_depths (read (all_blocks c.loop-part.yielded))) c.loop-part.invariant.leaves
+    let new = c.new-walk.ensures in
+    begun_within c.new-walk.result limits (with_inlines limits.rules (defined_in c.args.definitions) c.args.blocks) new.first new.limits new.all
+    c.push_all.new.self.walk.next c.in_ok-push_all.ensures.passes
