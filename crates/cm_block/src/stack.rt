@@ -372,6 +372,7 @@ impl Stack {
     }
 
     /// Puts a leaf block that was opened.
+    #[inline(always)]
     pub(crate) fn put(&mut self, leaf: &LeafBlock<'_>) -> Result<(), AllocError>
         ensures level { OnOk result (self.new.level ≡ block_closes self.old.level (block_of leaf.now)) }
         ensures frames { self.new.frames ≡ self.old.frames }
