@@ -132,7 +132,7 @@ text-plain text = simp (fold_out-Inline Rendered inline_step, outs-Text)
 written-plain : (source : List ℕ) (written : Written) → (rendered (inline_in source written)).plain ≡ written_plain source written
 written-plain source (Code from to) = simp (fold_out-Inline Rendered inline_step, outs-Code)
 written-plain source (Html from to) = simp (fold_out-Inline Rendered inline_step, outs-Html)
-written-plain source (Autolink from to is_address) = linked (if is_address then codes "mailto:" ++ slice_range source from to else slice_range source from to) (slice_range source from to)
+written-plain source (Autolink is_address from to) = linked (if is_address then codes "mailto:" ++ slice_range source from to else slice_range source from to) (slice_range source from to)
   where
     link-is : (dest text : List ℕ) → (rendered (Link dest [] (Text text ∷ []))).plain ≡ (rendered (Text text)).plain ++ []
     link-is dest text = simp (fold_out-Inline Rendered inline_step, outs-Link)
