@@ -18,7 +18,7 @@ use Rattle.cm_scan.specs.Blocks.{rest_of, NextLine, GoesOn, Ends, Underlines, by
 use Rattle.std.specs.List.{slice_range}
 use Rattle.cm_scan.proofs.HtmlLemmas.{slice_from}
 use Rattle.cm_block.specs.steps.LeafSteps.{level_above, heading_level}
-use Rattle.cm_block.proofs.StartLemmas.{at_letter, letter_starts, letter_underlines}
+use Rattle.cm_block.proofs.StartLemmas.{at_letter, starts_lazy, letter_starts, letter_underlines}
 
 -- an underline
 
@@ -126,9 +126,20 @@ unfolding next_line
 next-plain rules source line b u i =
     sym (λ k. elim (b k) as (λ _. NextLine) [ true ↦ Ends | false ↦ by_underline (u k) (not (is_empty (rest_of source))) (i k) ])
 
-letter-shows : (text : List ℕ) → is_at_letter text ≡ true → is_blank_text text ≡ false
-letter-shows [] e = absurd (cc)
-letter-shows (b ∷ bs) e = grind (arith, e)
+shows : (text : List ℕ) → is_at_letter text ≡ true → is_blank_text text ≡ false
+shows [] e = absurd (cc)
+shows (b ∷ bs) e = grind (arith, e)
+
+pub letter_shows : (view : View) → ((view.spaces == 0) && is_at_letter view.rest.now) ≡ true → is_blank (seen_view view) ≡ false
+letter_shows view letter = shows (seen_view view).text (at_letter view letter)
+
+-- and begins a text
+pub letter_text : (rules : Rules) (view : View) → ((view.spaces == 0) && is_at_letter view.rest.now) ≡ true → start_of rules (seen_view view) ≡ TextLine
+letter_text rules view letter = go view.lazy refl
+  where
+    go : (lazy : Bool) → view.lazy ≡ lazy → start_of rules (seen_view view) ≡ TextLine
+    go true lazy = sym (starts_lazy rules (seen_view view) lazy)
+    go false eager = letter_starts rules view eager letter
 
 pub letter_goes_on : (view : View) → ((view.spaces == 0) && is_at_letter view.rest.now) ≡ true → (rules : Rules) (source : List ℕ)
     → GoesOn ≡ next_line rules source (seen_view view)
@@ -136,10 +147,8 @@ letter_goes_on view letter rules source = go view.lazy refl
   where
     line : LineView
     line = seen_view view
-    shows : is_blank line ≡ false
-    shows = letter-shows line.text (at_letter view letter)
     go : (lazy : Bool) → view.lazy ≡ lazy → GoesOn ≡ next_line rules source line
-    go true lazy = next-plain rules source line shows (sym (underline_lazy line lazy)) (lazy_interrupts rules line lazy)
+    go true lazy = next-plain rules source line (letter_shows view letter) (sym (underline_lazy line lazy)) (lazy_interrupts rules line lazy)
     go false eager =
-        next-plain rules source line shows (letter_underlines view eager letter)
-        (sym (interrupts rules TextLine line false (sym (letter_starts rules view eager letter)) refl))
+        next-plain rules source line (letter_shows view letter) (letter_underlines view eager letter)
+        (sym (interrupts rules TextLine line false (sym (letter_text rules view letter)) refl))

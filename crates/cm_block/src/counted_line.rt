@@ -193,6 +193,11 @@ impl<'a> CountedLine<'a> {
         ensures tests { Tested 1 1 self.old.tests self.new.tests }
     {
         let view = self.read_columns();
+        if begins_with_letter(&view) {
+            return Begins::Leaf(LeafStart {
+                found: Start::TextLine,
+            });
+        }
         if is_blank(&view) {
             return Begins::Nothing;
         }

@@ -1,13 +1,14 @@
-use Rattle.std.proofs.Common.{◌≡◌, false, ◌∙◌, sym, ap, ap₂}
+use Rattle.std.proofs.Common.{◌≡◌, false, refl, ◌∙◌, sym, ap, ap₂}
 use Rattle.cm_text.specs.Lines.{LineView}
 use Rattle.cm_text.specs.Views.{seen_view}
 use Rattle.cm_text.specs.declared.view.View.{View}
 use Rattle.cm_scan.specs.Lines.{is_blank}
-use Rattle.cm_scan.specs.Starts.{QuoteMarker, ItemStart, start_of, content_column, first_content}
+use Rattle.cm_scan.specs.Starts.{QuoteMarker, ItemStart, TextLine, start_of, content_column, first_content}
 use Rattle.cm_block.specs.OpenLeaf.{begins_quote, begins_item, begin_of_start, begin_of}
 use Rattle.cm_block.specs.steps.PlaceViews.{begins_quote as is_quote, seen_marker}
 use Rattle.cm_block.specs.steps.StartViews.{seen}
 use Rattle.cm_block.specs.steps.FirstLines.{begins_container}
+use Rattle.cm_block.proofs.NextLineLemmas.{letter_shows, letter_text}
 use Rattle.cm_block.proofs.OpenedInTurn.{begins-as, no_container}
 use Rattle.cm_block.proofs.counted_line.CountedLine.begins.Goals.{Else-is_blank}
 use Rattle.cm_block.proofs.counted_line.CountedLine.begins.Goals as goal
@@ -15,6 +16,21 @@ use Rattle.cm_block.proofs.counted_line.CountedLine.begins.Goals as goal
 pub returns-then-is_blank-clause-found : goal.returns-then-is_blank-clause-found
 returns-then-is_blank-clause-found c =
     (ap (λ (v : LineView). is_blank v) (sym c.read_columns-view.ensures.line) ∙ sym c.is_blank.ensures ∙ c.if-is_blank.true, ap seen_view c.read_columns-view.ensures.read.same)
+
+pub returns-then-begins_with_letter-clause-found : goal.returns-then-begins_with_letter-clause-found
+returns-then-begins_with_letter-clause-found c =
+    let view = c.read_columns-view.result in
+    let line = c.read_columns-view.ensures.line in
+    let letter = sym c.begins_with_letter.ensures ∙ c.if-begins_with_letter.true in
+    let shows = letter_shows view letter in (
+      ap is_blank (sym line) ∙ shows,
+      (
+        ap (begin_of c.args.rules) (sym line)
+            ∙ begins-as c.args.rules (seen_view view) TextLine shows (letter_text c.args.rules view letter)
+            ∙ ap (begin_of_start TextLine) line,
+        (refl, ap seen_view c.read_columns-view.ensures.read.same),
+      ),
+    )
 
 some : (c : Else-is_blank) → is_blank (seen_view c.read_columns-view.result) ≡ false
 some c = sym c.is_blank.ensures ∙ c.if-is_blank.false
