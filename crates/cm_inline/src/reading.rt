@@ -16,7 +16,7 @@ ghost use Rattle.cm_inline.specs.Reading.{Read, Reads, Refused};
 ghost use Rattle.cm_inline.specs.steps.Brackets.{IsReadTo};
 ghost use Rattle.cm_inline.specs.steps.Groups.{nodes_in, ArePlaced};
 ghost use Rattle.cm_inline.specs.steps.Nodes.{items_of, text_between, AreParts};
-ghost use Rattle.cm_inline.specs.steps.Reads.{IsAllText, Pays, ahead};
+ghost use Rattle.cm_inline.specs.steps.Reads.{IsAllText, IsTextTo, Pays, ahead};
 
 use crate::atoms::{read_atom, text_end};
 use crate::brackets::Reader;
@@ -54,7 +54,7 @@ fn push_text(nodes: &mut Nodes, from: usize, to: usize) -> Result<(), AllocError
     Ok(())
 }
 
-/// Reads the text at a place and what follows it, and answers where that ends.
+/// Reads the text between two places and what follows it, and answers where that ends.
 #[inline(always)]
 fn read_on(
     alloc: Global,
@@ -63,18 +63,19 @@ fn read_on(
     definitions: &Definitions,
     limit: usize,
     reader: &mut Reader,
-    at: usize,
+    text: (usize, usize),
 ) -> Result<usize, InlineFault>
-    requires read { IsReadTo source.now at reader.old }
-    requires within { at < length source.now }
-    requires pays { Pays rules (defined_in definitions.now) source.now (nodes_in reader.old.nodes) at reader.old.openers.list.looks }
+    requires read { IsReadTo source.now text.0 reader.old }
+    requires text { IsTextTo source.now text.0 text.1 }
+    requires within { text.0 < length source.now }
+    requires pays { Pays rules (defined_in definitions.now) source.now (nodes_in reader.old.nodes) text.0 reader.old.openers.list.looks }
     ensures read { IfOk result (λ end. IsReadTo source.now end reader.new) }
-    ensures further { IfOk result (λ end. at < end) }
+    ensures further { IfOk result (λ end. text.0 < end) }
     ensures pays { IfOk result (λ end. Pays rules (defined_in definitions.now) source.now (nodes_in reader.new.nodes) end reader.new.openers.list.looks) }
-    ensures ahead { IfOk result (λ end. ahead rules (defined_in definitions.now) source.now (nodes_in reader.new.nodes) end ≡ ahead rules (defined_in definitions.now) source.now (nodes_in reader.old.nodes) at) }
-    ensures deep { result ≡ Err InlinesTooDeep → limit < inlines_depth (emphasis_of (ahead rules (defined_in definitions.now) source.now (nodes_in reader.old.nodes) at)) }
+    ensures ahead { IfOk result (λ end. ahead rules (defined_in definitions.now) source.now (nodes_in reader.new.nodes) end ≡ ahead rules (defined_in definitions.now) source.now (nodes_in reader.old.nodes) text.0) }
+    ensures deep { result ≡ Err InlinesTooDeep → limit < inlines_depth (emphasis_of (ahead rules (defined_in definitions.now) source.now (nodes_in reader.old.nodes) text.0)) }
 {
-    let end = text_end(source, at);
+    let (at, end) = text;
     push_text(&mut reader.nodes, at, end)?;
     if end == source.len() {
         return Ok(end);
@@ -85,7 +86,7 @@ fn read_on(
     Ok(read_atom(alloc, rules, source, end, reader)?)
 }
 
-/// Reads a source to its end, in one pass. A source to whose end no place of 32 bits leads is refused.
+/// Reads a source to its end, in one pass, from the text at its front, which ends at a place. A source to whose end no place of 32 bits leads is refused.
 fn read_all(
     alloc: Global,
     rules: Rules,
@@ -93,7 +94,9 @@ fn read_all(
     definitions: &Definitions,
     limit: usize,
     reader: &mut Reader,
+    first: usize,
 ) -> Result<(), InlineFault>
+    requires { IsTextTo source.now 0 first }
     ensures read { OnOk result (IsReadTo source.now (length source.now) reader.new) }
     ensures pays { OnOk result (Pays rules (defined_in definitions.now) source.now (nodes_in reader.new.nodes) (length source.now) reader.new.openers.list.looks) }
     ensures items { OnOk result (in_pieces (items_of source.now (nodes_in reader.new.nodes)) ≡ in_pieces (inlines.items_of rules (defined_in definitions.now) source.now)) }
@@ -103,9 +106,10 @@ fn read_all(
         return Err(InlineFault::NoMemory);
     }
     reader.restart(source);
-    let mut at = 0;
-    while at < source.len() {
-        at = read_on(alloc, rules, source, definitions, limit, reader, at)?;
+    let mut text = (0, first);
+    while text.0 < source.len() {
+        let at = read_on(alloc, rules, source, definitions, limit, reader, text)?;
+        text = (at, text_end(source, at));
     }
     Ok(())
 }
@@ -121,26 +125,31 @@ pub fn is_one_text(source: &str) -> bool
     !source.is_empty() && next_markup(source.as_bytes(), 0) == source.len()
 }
 
-/// Whether nothing but line feeds with no space before them parts the text of a source. What it writes is its own
-/// text then, since a soft line break is written as a line feed.
-fn is_all_text(source: &str) -> bool
+/// The place where the text ends with which a source begins.
+#[inline(always)]
+fn first_text_end(source: &str) -> usize
+    ensures { IsTextTo source.now 0 result }
+{
+    text_end(source, 0)
+}
+
+/// Whether nothing but line feeds with no space before them parts the text of a source, which begins with text up to a
+/// place. What it writes is its own text then, since a soft line break is written as a line feed.
+fn is_all_text(source: &str, first: usize) -> bool
+    requires { IsTextTo source.now 0 first }
     ensures { IsTrue result → IsAllText source.now }
 {
-    let mut from = 0;
-    while from < source.len() {
-        let end = text_end(source, from);
-        if end == source.len() {
-            return true;
-        }
+    let mut end = first;
+    while end < source.len() {
         if source.as_bytes()[end] != b'\n' {
             return false;
         }
-        from = end + 1;
+        end = text_end(source, end + 1);
     }
     true
 }
 
-/// Reads the nodes of a source, of which nothing more is made then, and answers how many openers were looked at.
+/// Reads the nodes of a source, of which nothing more is made then, from the text at its front on, and answers how many openers were looked at.
 fn read_nodes(
     alloc: Global,
     rules: Rules,
@@ -148,13 +157,15 @@ fn read_nodes(
     definitions: &Definitions,
     limit: usize,
     reader: &mut Reader,
+    first: usize,
 ) -> Result<Steps, InlineFault>
+    requires { IsTextTo source.now 0 first }
     ensures parts { OnOk result (AreParts source.now (nodes_in reader.new.nodes)) }
     ensures placed { OnOk result (ArePlaced source.now reader.new.nodes.inside) }
     ensures read { IfOk result (λ steps. Read rules (defined_in definitions.now) limit source.now (settled (items_of source.now (nodes_in reader.new.nodes)), steps)) }
     ensures refused { IfErr result (λ fault. Refused fault rules definitions.now limit source.now) }
 {
-    read_all(alloc, rules, source, definitions, limit, reader)?;
+    read_all(alloc, rules, source, definitions, limit, reader, first)?;
     pair_from(limit, &mut reader.nodes, &mut reader.openers, 0)?;
     if reader.nodes.nest_past(limit) {
         return Err(InlineFault::InlinesTooDeep);
@@ -203,7 +214,16 @@ impl InlineReader {
         ensures { Reads result rules definitions.now limit source.now }
     {
         let alloc = self.spare.alloc();
-        let steps = read_nodes(alloc, rules, source, definitions, limit, &mut self.reader)?;
+        let first = first_text_end(source);
+        let steps = read_nodes(
+            alloc,
+            rules,
+            source,
+            definitions,
+            limit,
+            &mut self.reader,
+            first,
+        )?;
         Ok((settle(&mut self.spare, source, &self.reader.nodes)?, steps))
     }
 
@@ -240,12 +260,21 @@ impl InlineReader {
         ensures within { OnOk result (inlines.nests_past rules (defined_in definitions.now) limit source.now ≡ false) }
         ensures refused { IfErr result (λ fault. Refused fault rules definitions.now limit source.now) }
     {
-        if is_all_text(source) {
+        let first = first_text_end(source);
+        if is_all_text(source, first) {
             html.push_escaped(source)?;
             return Ok(());
         }
         let alloc = self.spare.alloc();
-        read_nodes(alloc, rules, source, definitions, limit, &mut self.reader)?;
+        read_nodes(
+            alloc,
+            rules,
+            source,
+            definitions,
+            limit,
+            &mut self.reader,
+            first,
+        )?;
         push_nodes(alloc, html, source, &self.reader.nodes)?;
         Ok(())
     }

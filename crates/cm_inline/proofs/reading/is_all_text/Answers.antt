@@ -1,25 +1,25 @@
-use Rattle.std.proofs.Common.{◌≡◌, ◌<◌, length, get_or, sym, ap, ◌∙◌, arith}
-use Rattle.std.proofs.lemmas.Str.{IsCharBoundary-start, IsCharBoundary-after_ascii}
+use Rattle.std.proofs.Common.{◌≡◌, ◌+◌, get_or, sym, ap, ◌∙◌, arith}
+use Rattle.std.proofs.lemmas.Str.{IsCharBoundary-after_ascii}
 use Rattle.cm_inline.proofs.PlainLemmas.{text-start, text-further, feed-further, all-text}
 use Rattle.cm_inline.proofs.reading.is_all_text.Goals as goal
 
-pub loop-from-init : goal.loop-from-init
-loop-from-init c = record { boundary = IsCharBoundary-start c.args.source.now c.utf8.source; read = text-start c.args.source.now }
+pub loop-end-init : goal.loop-end-init
+loop-end-init c = record { boundary = c.requires.boundary; read = text-further c.args.source.now 0 c.args.first c.requires (text-start c.args.source.now) }
 
-pub returns-then-end-source : goal.returns-then-end-source
-returns-then-end-source c = λ _.
-    all-text c.args.source.now c.text_end-end.result (omega (arith, c.if-end-source.true)) (text-further c.args.source.now c.loop-from.from c.text_end-end.result c.text_end-end.ensures c.loop-from.invariant.read)
-
-pub loop-from-preserved : goal.loop-from-preserved
-loop-from-preserved c =
+pub text_end-end-requires : goal.text_end-end-requires
+text_end-end-requires c =
     let source = c.args.source.now in
-    let end = c.text_end-end.result in
-    let byte : get_or source end 0 ≡ 10 = ap (λ t. get_or t end 0) (sym c.as_bytes.ensures.value) ∙ c.if-as_bytes-end-ne10.false in
-    let within : end < length source = omega (arith, c.text_end-end.ensures.boundary.0, c.if-end-source.false) in
+    let byte : get_or source c.loop-end.end 0 ≡ 10 = ap (λ t. get_or t c.loop-end.end 0) (sym c.as_bytes.ensures.value) ∙ c.if-as_bytes-end-ne10.false in
+    IsCharBoundary-after_ascii source c.loop-end.end c.utf8.source (omega (arith, c.loop-end-test.true)) (omega (arith, byte))
+
+pub loop-end-preserved : goal.loop-end-preserved
+loop-end-preserved c =
+    let source = c.args.source.now in
+    let byte : get_or source c.loop-end.end 0 ≡ 10 = ap (λ t. get_or t c.loop-end.end 0) (sym c.as_bytes.ensures.value) ∙ c.if-as_bytes-end-ne10.false in
     record {
-      boundary = IsCharBoundary-after_ascii source end c.utf8.source within (omega (arith, byte));
-      read = feed-further source end within byte (text-further source c.loop-from.from end c.text_end-end.ensures c.loop-from.invariant.read);
+      boundary = c.text_end-end.ensures.boundary;
+      read = text-further source (c.loop-end.end + 1) c.text_end-end.result c.text_end-end.ensures (feed-further source c.loop-end.end (omega (arith, c.loop-end-test.true)) byte c.loop-end.invariant.read);
     }
 
 pub returns : goal.returns
-returns c = λ _. all-text c.args.source.now c.loop-from.from (omega (arith, c.loop-from-test.false)) c.loop-from.invariant.read
+returns c = λ _. all-text c.args.source.now c.loop-end.end (omega (arith, c.loop-end-test.false)) c.loop-end.invariant.read

@@ -3,11 +3,11 @@ use Rattle.std.specs.Str.{IsCharBoundary}
 use Rattle.cm_inline.proofs.PlainLemmas.{ReadsAsText}
 use Rattle.cm_inline.proofs.reading.is_all_text.Given as goal
 
-abbrev pub invariant-loop-from : goal.invariant-loop-from
-invariant-loop-from l = record {
-  boundary : IsCharBoundary l.source l.from;
-  read : ReadsAsText l.source l.from;
+abbrev pub invariant-loop-end : goal.invariant-loop-end
+invariant-loop-end l = record {
+  boundary : IsCharBoundary l.source l.end;
+  read : ReadsAsText l.source l.end;
 }
 
-abbrev pub decreases-loop-from : goal.decreases-loop-from
-decreases-loop-from l = length l.source - l.from
+abbrev pub decreases-loop-end : goal.decreases-loop-end
+decreases-loop-end l = length l.source - l.end

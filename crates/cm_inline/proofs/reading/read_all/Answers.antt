@@ -10,38 +10,40 @@ use Rattle.cm_inline.proofs.PaysLemmas.{nothing-pays}
 use Rattle.cm_inline.proofs.WholeLemmas.{ahead-start, ahead-end, nests-ahead}
 use Rattle.cm_inline.proofs.reading.read_all.Goals as goal
 
-pub loop-at-init : goal.loop-at-init
-loop-at-init c =
+pub loop-text-init : goal.loop-text-init
+loop-text-init c =
     let source = c.args.source.now in
     let defined = defined_in c.args.definitions.now in
     record {
+      text = c.requires;
       read = c.restart.ensures.read;
       pays = nothing-pays c.args.rules defined source (nodes_in c.restart.new.self.nodes) c.restart.new.self.openers.list.looks c.restart.ensures.nodes c.restart.ensures.looks;
       ahead = ap (λ t. ahead c.args.rules defined source t 0) c.restart.ensures.nodes ∙ ahead-start c.args.rules defined source;
     }
 
-pub loop-at-preserved : goal.loop-at-preserved
-loop-at-preserved c = record {
+pub loop-text-preserved : goal.loop-text-preserved
+loop-text-preserved c = record {
+  text = c.text_end.ensures;
   read = c.in_ok-at.ensures.read;
   pays = c.in_ok-at.ensures.pays;
-  ahead = c.in_ok-at.ensures.ahead ∙ c.loop-at.invariant.ahead;
+  ahead = c.in_ok-at.ensures.ahead ∙ c.loop-text.invariant.ahead;
 }
 
 pub returns-in_err-at-clause-deep : goal.returns-in_err-at-clause-deep
 returns-in_err-at-clause-deep c = λ e.
     let told = same-fault c.from_residual.result c.in_err-at.field-0.0 InlinesTooDeep c.from_residual.ensures.1 e in
-    nests-ahead c.args.rules (defined_in c.args.definitions.now) c.args.limit c.args.source.now (ahead c.args.rules (defined_in c.args.definitions.now) c.args.source.now (nodes_in c.loop-at.reader.nodes) c.loop-at.at) c.loop-at.invariant.ahead (c.in_err-at.ensures.deep (ap Err told))
+    nests-ahead c.args.rules (defined_in c.args.definitions.now) c.args.limit c.args.source.now (ahead c.args.rules (defined_in c.args.definitions.now) c.args.source.now (nodes_in c.loop-text.reader.nodes) c.loop-text.text.0) c.loop-text.invariant.ahead (c.in_err-at.ensures.deep (ap Err told))
 
 pub returns-clause-read : goal.returns-clause-read
 returns-clause-read c =
-    let end : c.loop-at.at ≡ length c.args.source.now = omega (arith, c.loop-at-test.false, c.loop-at.invariant.read.0.within) in
-    subst (λ n. IsReadTo c.args.source.now n c.loop-at.reader) end c.loop-at.invariant.read
+    let end : c.loop-text.text.0 ≡ length c.args.source.now = omega (arith, c.loop-text-test.false, c.loop-text.invariant.read.0.within) in
+    subst (λ n. IsReadTo c.args.source.now n c.loop-text.reader) end c.loop-text.invariant.read
 
 pub returns-clause-items : goal.returns-clause-items
 returns-clause-items c =
-    sym (ahead-end c.args.rules (defined_in c.args.definitions.now) c.args.source.now (nodes_in c.loop-at.reader.nodes) c.loop-at.at (omega (arith, c.loop-at-test.false))) ∙ c.loop-at.invariant.ahead
+    sym (ahead-end c.args.rules (defined_in c.args.definitions.now) c.args.source.now (nodes_in c.loop-text.reader.nodes) c.loop-text.text.0 (omega (arith, c.loop-text-test.false))) ∙ c.loop-text.invariant.ahead
 
 pub returns-clause-pays : goal.returns-clause-pays
 returns-clause-pays c =
-    let end : c.loop-at.at ≡ length c.args.source.now = omega (arith, c.loop-at-test.false, c.loop-at.invariant.read.0.within) in
-    subst (λ n. Pays c.args.rules (defined_in c.args.definitions.now) c.args.source.now (nodes_in c.loop-at.reader.nodes) n c.loop-at.reader.openers.list.looks) end c.loop-at.invariant.pays
+    let end : c.loop-text.text.0 ≡ length c.args.source.now = omega (arith, c.loop-text-test.false, c.loop-text.invariant.read.0.within) in
+    subst (λ n. Pays c.args.rules (defined_in c.args.definitions.now) c.args.source.now (nodes_in c.loop-text.reader.nodes) n c.loop-text.reader.openers.list.looks) end c.loop-text.invariant.pays
