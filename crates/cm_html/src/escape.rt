@@ -3,21 +3,31 @@ ghost use Rattle.std.specs.Prelude.{◌≡◌, ℕ, ◌+◌, ◌==◌, ◌||◌,
 ghost use Rattle.cm_html.specs.Escape.{escape_byte, escape, destination_html, is_space_or_tab, class_word};
 ghost use Rattle.cm_html.specs.steps.Bytes.{is_escaped};
 
-use crate::search::{find_escaped, is_unchanged};
-use cm_text::cut_at;
+use crate::search::{Escaped, is_unchanged};
+use cm_text::{ByteKind, Replaced, cut_at, next_of, push_replaced};
 use percent_encoding::{AsciiSet, NON_ALPHANUMERIC, ascii_set, utf8_percent_encode};
 use std::alloc::AllocError;
 
-/// Writes the reference of a byte.
-fn push_reference(out: &mut String, b: u8) -> Result<(), AllocError>
-    requires { IsTrue (is_escaped b) }
-    ensures { OnOk result (string_bytes out.new ≡ string_bytes out.old ++ escape_byte b) }
-{
-    match b {
-        b'&' => out.push_str("&amp;"),
-        b'<' => out.push_str("&lt;"),
-        b'>' => out.push_str("&gt;"),
-        _ => out.push_str("&quot;"),
+impl Replaced for Escaped {
+    ghost written = { escape_byte };
+
+    fn push(out: &mut String, b: u8) -> Result<(), AllocError> {
+        match b {
+            b'&' => out.push_str("&amp;"),
+            b'<' => out.push_str("&lt;"),
+            b'>' => out.push_str("&gt;"),
+            _ => out.push_str("&quot;"),
+        }
+    }
+
+    #[inline(always)]
+    fn find(bytes: &[u8]) -> Option<usize> {
+        // Such bytes often stand side by side.
+        if !bytes.is_empty() && Escaped::contains(bytes[0]) {
+            return Some(0);
+        }
+        let at = next_of::<Escaped>(bytes, 0);
+        (at < bytes.len()).then_some(at)
     }
 }
 
@@ -30,7 +40,7 @@ fn push_reference(out: &mut String, b: u8) -> Result<(), AllocError>
 pub(crate) fn push_escaped(out: &mut String, text: &str) -> Result<(), AllocError>
     ensures { OnOk result (string_bytes out.new ≡ string_bytes out.old ++ escape text.now) }
 {
-    match find_escaped(text.as_bytes()) {
+    match Escaped::find(text.as_bytes()) {
         Some(_) => push_with_references(out, text),
         None => out.push_str(text),
     }
@@ -41,16 +51,7 @@ pub(crate) fn push_escaped(out: &mut String, text: &str) -> Result<(), AllocErro
 fn push_with_references(out: &mut String, text: &str) -> Result<(), AllocError>
     ensures { OnOk result (string_bytes out.new ≡ string_bytes out.old ++ escape text.now) }
 {
-    let mut rest = text;
-    while let Some(at) = find_escaped(rest.as_bytes()) {
-        let (before, after) = cut_at(rest, at);
-        if at > 0 {
-            out.push_str(before)?;
-        }
-        push_reference(out, rest.as_bytes()[at])?;
-        rest = after;
-    }
-    out.push_str(rest)
+    push_replaced::<Escaped>(out, text)
 }
 
 /// The ASCII bytes that a destination doesn't keep.

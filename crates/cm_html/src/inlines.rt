@@ -92,8 +92,8 @@ fn push_title(out: &mut Pages, target: LinkTarget<'_>) -> Result<(), AllocError>
     }
 }
 
-/// Adds a title behind the value of an attribute, unless the title is empty. The quotation mark behind the last value
-/// is left out.
+/// Adds a title behind the value of an attribute, unless the title is empty. The quotation mark behind the
+/// last value is left out.
 fn push_title_behind(out: &mut Pages, target: LinkTarget<'_>) -> Result<(), AllocError>
     ensures { OnOk result (out.new ++ codes "\""
         ≡ out.old ++ codes "\"" ++ title_html (led_to target.entry).1) }
@@ -105,8 +105,8 @@ fn push_title_behind(out: &mut Pages, target: LinkTarget<'_>) -> Result<(), Allo
     push_title(out, target)
 }
 
-/// Adds the start tag of a link that leads there, with its title unless that is empty. Long texts that have other
-/// owners are held once.
+/// Adds the start tag of a link that leads there, with its title unless that is empty. Long texts that have
+/// other owners are held once.
 ///
 /// # Errors
 ///
@@ -130,7 +130,8 @@ fn push_link(out: &mut Pages, target: LinkTarget<'_>, content: &[Inline]) -> Res
     out.push_str("</a>")
 }
 
-/// Adds an image that leads there, up to its alternative text. A long text that has other owners is held once.
+/// Adds an image that leads there, up to its alternative text. A long text that has other owners is held
+/// once.
 ///
 /// # Errors
 ///
@@ -143,8 +144,8 @@ pub fn push_image_start(out: &mut Pages, target: LinkTarget<'_>) -> Result<(), A
     out.push_str("\" alt=\"")
 }
 
-/// Adds what is behind the alternative text of an image that leads there: its title, unless that is empty, and the
-/// end of the tag.
+/// Adds what is behind the alternative text of an image that leads there: its title, unless that is empty, and
+/// the end of the tag.
 ///
 /// # Errors
 ///
@@ -159,7 +160,8 @@ pub fn push_image_end(out: &mut Pages, target: LinkTarget<'_>) -> Result<(), All
 
 fn push_image(out: &mut Pages, target: LinkTarget<'_>, content: &[Inline]) -> Result<(), AllocError>
     ensures { OnOk result (out.new
-        ≡ out.old ++ image_html (led_to target.entry).0 (led_to target.entry).1 (alternative_text content.now)) }
+        ≡ out.old ++ image_html (led_to target.entry).0 (led_to target.entry).1
+        (alternative_text content.now)) }
 {
     push_image_start(out, target)?;
     push_alternative_text(out, content)?;

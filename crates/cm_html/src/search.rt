@@ -1,7 +1,7 @@
-//! The search for bytes that are written as references.
-ghost use Rattle.std.specs.Prelude.{◌≡◌, not, position};
+//! The search for bytes that HTML or a listing doesn't have as they are.
+ghost use Rattle.std.specs.Prelude.{◌≡◌, not};
 ghost use Rattle.std.specs.List.{list_all};
-ghost use Rattle.cm_html.specs.steps.Bytes.{is_escaped, is_changed};
+ghost use Rattle.cm_html.specs.steps.Bytes.{is_escaped, is_changed, has_escape};
 
 use cm_text::{ByteKind, next_of};
 use std::simd::prelude::*;
@@ -11,7 +11,7 @@ use std::simd::prelude::*;
 const ESCAPED: [u8; 16] = [1, 0, b'"', 0, 0, 0, b'&', 0, 0, 0, 0, 0, b'<', 0, b'>', 0];
 
 /// The bytes that are written as references.
-struct Escaped;
+pub(crate) struct Escaped;
 
 impl ByteKind for Escaped {
     ghost passes = { is_escaped };
@@ -28,6 +28,25 @@ impl ByteKind for Escaped {
             .swizzle_dyn(places)
             .simd_eq(lanes)
             .to_bitmask()
+    }
+}
+
+/// The bytes that a listing has by an escape.
+pub(crate) struct Quoted;
+
+impl ByteKind for Quoted {
+    ghost passes = { has_escape };
+
+    #[inline(always)]
+    fn contains(b: u8) -> bool {
+        b == b'\\' || b == b'"' || b.is_ascii_control()
+    }
+
+    #[inline(always)]
+    fn lanes(lanes: u8x16) -> u64 {
+        let marks = lanes.simd_eq(u8x16::splat(b'\\')) | lanes.simd_eq(u8x16::splat(b'"'));
+        let controls = lanes.simd_lt(u8x16::splat(32)) | lanes.simd_eq(u8x16::splat(127));
+        (marks | controls).to_bitmask()
     }
 }
 
@@ -65,17 +84,4 @@ pub(crate) fn is_unchanged(destination: &[u8]) -> bool
     ensures { result ≡ list_all (λ b. not (is_changed b)) destination.now }
 {
     next_of::<Changed>(destination, 0) == destination.len()
-}
-
-/// Where the first byte stands that is written as a reference.
-#[inline(always)]
-pub(crate) fn find_escaped(bytes: &[u8]) -> Option<usize>
-    ensures { result ≡ position is_escaped bytes.now }
-{
-    // Such bytes often stand side by side.
-    if !bytes.is_empty() && Escaped::contains(bytes[0]) {
-        return Some(0);
-    }
-    let at = next_of::<Escaped>(bytes, 0);
-    (at < bytes.len()).then_some(at)
 }

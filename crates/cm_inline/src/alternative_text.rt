@@ -69,7 +69,8 @@ pub(crate) fn push_alternative_text(
     requires groups { AreGroups inside.now 0 groups.now }
     requires group { IsGroup inside.now (length groups.now) (grouped group) }
     ensures { OnOk result (html.new ≡ html.old ++ escape
-        (rendered (group_made inside.now (groups_made inside.now groups.now) (grouped group.entry) source.now)).plain) }
+        (rendered (group_made inside.now (groups_made inside.now groups.now)
+        (grouped group.entry) source.now)).plain) }
 {
     for token in &inside[group.from..group.to] {
         push_token(html, source, inside, groups, *token)?;

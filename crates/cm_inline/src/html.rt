@@ -245,8 +245,10 @@ fn push_image(
     requires placed { ArePlaced source.now inside.now }
     requires groups { AreGroups inside.now 0 groups.now }
     requires group { IsGroup inside.now (length groups.now) (grouped group) }
-    ensures { OnOk result (html.new ≡ html.old ++ image_html (target_of group.entry.making).0 (target_of group.entry.making).1
-        (rendered (group_made inside.now (groups_made inside.now groups.now) (grouped group.entry) source.now)).plain) }
+    ensures { OnOk result (html.new
+        ≡ html.old ++ image_html (target_of group.entry.making).0 (target_of group.entry.making).1
+        (rendered (group_made inside.now (groups_made inside.now groups.now)
+        (grouped group.entry) source.now)).plain) }
 {
     let target = group.making.target;
     push_image_start(html, target)?;

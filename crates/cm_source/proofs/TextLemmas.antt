@@ -1,27 +1,22 @@
--- How texts are spelled, up to the first byte that isn't written as it is.
-use Rattle.std.proofs.Common.{◌≡◌, ℕ, zero, suc, ◌+◌, ◌-◌, ◌<◌, ◌≤◌, max, ◌==◌, ◌&&◌, ◌||◌, Bool, true, false, List, [], ◌∷◌, ◌++◌, length, take, drop, get_or, Some, None, refl, sym, ap, ◌∙◌, append_assoc, append-nil, arith}
+-- How texts are spelled, byte by byte.
+use Rattle.std.proofs.Common.{◌≡◌, ℕ, zero, suc, ◌+◌, ◌-◌, ◌<◌, ◌≤◌, max, ◌==◌, ◌&&◌, ◌||◌, Bool, true, false, List, [], ◌∷◌, ◌++◌, length, drop, get_or, refl, sym, ap, ◌∙◌, append_assoc, append-nil, arith}
 use Rattle.std.proofs.lemmas.Bool.{ne_eqb, true≢false}
 use Rattle.std.proofs.lemmas.List.{drop_more, drop_all}
 use Rattle.std.specs.Prelude.{if◌then◌else◌}
 use Rattle.std.specs.Char.{is_ascii_control}
-use Rattle.std.specs.List.{position, list_any}
+use Rattle.std.specs.List.{list_any}
 use Rattle.cm_text.specs.Characters.{is_ascii_punct}
-use Rattle.cm_text.proofs.ReplacedLemmas.{Keeps, replaced-found, replaced-none}
+use Rattle.cm_text.proofs.ReplacedLemmas.{Keeps}
 use Rattle.cm_scan.specs.Words.{is_empty, run_length}
 use Rattle.cm_scan.specs.Links.{escapes_next}
 use Rattle.cm_scan.specs.Autolinks.{ends_with}
 use Rattle.cm_source.specs.Texts.{numbered, spelled_byte, spelled_bytes, edge_byte, spelled_text, longest_run}
 use Rattle.cm_source.specs.steps.Bytes.{is_spelled}
 
-kept : Keeps is_spelled spelled_byte
+-- any other byte is written as it is
+pub kept : Keeps is_spelled spelled_byte
 unfolding spelled_byte
 kept b plain = grind arith
-
-pub spelled-found : (bs : List ℕ) (i : ℕ) → position is_spelled bs ≡ Some i → spelled_bytes bs ≡ take i bs ++ (spelled_byte (get_or bs i 0) ++ spelled_bytes (drop (i + 1) bs))
-spelled-found bs i found = replaced-found is_spelled spelled_byte kept bs i found
-
-pub spelled-none : (bs : List ℕ) → position is_spelled bs ≡ None → spelled_bytes bs ≡ bs
-spelled-none bs none = replaced-none is_spelled spelled_byte kept bs none
 
 pub spelled-ascii : (b : ℕ) → is_spelled b ≡ true → b < 128
 spelled-ascii b spelled = grind arith

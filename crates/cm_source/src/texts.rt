@@ -9,7 +9,7 @@ ghost use Rattle.cm_source.specs.steps.Bytes.{is_spelled};
 
 use crate::search::has_byte;
 use cm_scan::is_next;
-use cm_text::{ByteKind, cut_at, is_ascii_punct, next_of};
+use cm_text::{ByteKind, Replaced, is_ascii_punct, push_replaced};
 use std::alloc::AllocError;
 use std::simd::prelude::*;
 
@@ -43,14 +43,6 @@ impl ByteKind for Spelled {
     }
 }
 
-/// Where the first byte stands that isn't written as it is.
-fn find_spelled(bytes: &[u8]) -> Option<usize>
-    ensures { result ≡ position is_spelled bytes.now }
-{
-    let at = next_of::<Spelled>(bytes, 0);
-    (at < bytes.len()).then_some(at)
-}
-
 /// Writes a character by its number.
 fn push_numbered(out: &mut String, b: u8) -> Result<(), AllocError>
     ensures { OnOk result (string_bytes out.new ≡ string_bytes out.old ++ numbered b) }
@@ -58,35 +50,23 @@ fn push_numbered(out: &mut String, b: u8) -> Result<(), AllocError>
     write!(out, "&#{b};")
 }
 
-/// Writes a byte that isn't written as it is.
-fn push_byte(out: &mut String, b: u8) -> Result<(), AllocError>
-    requires { IsTrue (is_spelled b) }
-    ensures { OnOk result (string_bytes out.new ≡ string_bytes out.old ++ spelled_byte b) }
-{
-    if b == b'`' || b.is_ascii_control() {
-        return push_numbered(out, b);
+impl Replaced for Spelled {
+    ghost written = { spelled_byte };
+
+    fn push(out: &mut String, b: u8) -> Result<(), AllocError> {
+        if b == b'`' || b.is_ascii_control() {
+            return push_numbered(out, b);
+        }
+        out.push('\\')?;
+        out.push(b as char)
     }
-    out.push('\\')?;
-    out.push(b as char)
 }
 
 /// Writes a text in which no space stands at the beginning or the end of a line.
 pub(crate) fn push_spelled(out: &mut String, text: &str) -> Result<(), AllocError>
     ensures { OnOk result (string_bytes out.new ≡ string_bytes out.old ++ spelled_bytes text.now) }
 {
-    let mut rest = text;
-    while let Some(at) = find_spelled(rest.as_bytes()) {
-        let (before, after) = cut_at(rest, at);
-        if at > 0 {
-            out.push_str(before)?;
-        }
-        push_byte(out, rest.as_bytes()[at])?;
-        rest = after;
-    }
-    if rest.is_empty() {
-        return Ok(());
-    }
-    out.push_str(rest)
+    push_replaced::<Spelled>(out, text)
 }
 
 /// Writes a text that stands at the end of a line or not, and not at the beginning of one.

@@ -1,8 +1,8 @@
 use Rattle.std.proofs.Common.{arith}
 use Rattle.std.proofs.lemmas.Grind.{common_steps}
 use Rattle.cm_source.proofs.TextLemmas.{by-number, behind-backslash}
-use Rattle.cm_source.proofs.texts.push_byte.Goals.{then-b-eq96-via-then-b-eq96, then-b-eq96-via-else-b-eq96+then-is_ascii_control}
-use Rattle.cm_source.proofs.texts.push_byte.Goals as goal
+use Rattle.cm_source.proofs.texts.SpelledReplaced.push.Goals.{then-b-eq96-via-then-b-eq96, then-b-eq96-via-else-b-eq96+then-is_ascii_control}
+use Rattle.cm_source.proofs.texts.SpelledReplaced.push.Goals as goal
 
 pub returns-then-b-eq96 : goal.returns-then-b-eq96
 returns-then-b-eq96 c = elim c.then-b-eq96.branch [

@@ -1,7 +1,7 @@
 use Rattle.std.proofs.Common.{false, arith}
 use Rattle.std.proofs.lemmas.Fmt.{hex_byte}
 use Rattle.std.proofs.lemmas.Grind.{common_steps}
-use Rattle.cm_html.proofs.quoting.push_escape.Goals as goal
+use Rattle.cm_html.proofs.quoting.QuotedReplaced.push.Goals as goal
 
 pub returns-in_default : goal.returns-in_default
 returns-in_default c = grind (arith, common_steps, hex_byte false c.args.b c.ranges.b.fits)
