@@ -21,7 +21,7 @@ use Rattle.cm_tool.specs.declared.leaf_walk.Unread.{Unread}
 use Rattle.cm_tool.specs.Leaves.{depths_in, first_leaf_past, leaf_depths}
 use Rattle.cm_tool.specs.Parsing.{TellsFault}
 use Rattle.cm_tool.specs.steps.Items.{items_leaf_depths, items_read}
-use Rattle.cm_tool.specs.steps.LeafWalks.{all_read, block_read_of, blocks_read_at, items_read_at, all_left, ArePlacedLeft, HasRead, HasReadAll, TellsOf}
+use Rattle.cm_tool.specs.steps.LeafWalks.{all_read, block_read_of, blocks_read_at, items_read_at, all_left, ArePlacedLeft, HasRead, TellsOf}
 use Rattle.cm_tool.specs.steps.Numbering.{Passes, TellsLeaf}
 use Rattle.cm_tool.proofs.RawWalkLemmas.{Left, left_next, left_told, left_none, first_told, none_past, quote_depths, list_depths}
 

@@ -1,6 +1,6 @@
 -- Blocks whose inlines haven't been read, as they are walked: their leaves, what is written of them, and how deep they nest.
-use Rattle.std.proofs.Common.{◌≡◌, ◌∙◌, ◌+◌, codes, ℕ, List, [], ◌∷◌, ◌++◌, map, true, false, refl, sym, ap, subst, append_assoc, append-nil, arith}
-use Rattle.std.specs.Prelude.{Bool, cond, nat_lt, option_map, Some, None}
+use Rattle.std.proofs.Common.{◌≡◌, ◌∙◌, codes, ℕ, List, [], ◌∷◌, ◌++◌, map, true, false, refl, sym, ap, subst, append_assoc, append-nil}
+use Rattle.std.specs.Prelude.{Bool, option_map, None}
 use Rattle.std.specs.List.{slice_range}
 use Rattle.cm_text.specs.Rules.{Rules}
 use Rattle.cm_tree.specs.Depth.{inlines_depth, depth_step}
@@ -31,10 +31,6 @@ use Rattle.cm_tool.specs.steps.Items.{items_read, items_leaf_depths}
 use Rattle.cm_tool.specs.steps.Numbering.{Passes, TellsLeaf}
 
 -- ---- parts one after another
-
--- nothing is left
-pub all_joined : {A : Type 0} (done rest whole : List A) → rest ≡ [] → done ++ rest ≡ whole → done ≡ whole
-all_joined done rest whole none so_far = sym (append-nil done) ∙ ap (λ t. done ++ t) (sym none) ∙ so_far
 
 -- between a start and an end
 pub enclosed : {A : Type 0} (old started middle done start inside end : List A) → started ≡ old ++ start → middle ≡ started ++ inside → done ≡ middle ++ end
@@ -67,14 +63,6 @@ module _ (limit : ℕ) where
 
   pub first_told : (fault : Fault) (depths : List ℕ) → TellsLeaf fault limit 1 depths → TellsFault fault (option_map InlinesTooDeep (first_past limit 1 depths))
   first_told fault depths told = subst (λ ds. TellsFault fault (option_map InlinesTooDeep (first_past limit 1 ds))) (append-nil depths) (told [])
-
-  -- a leaf without inlines
-  pub counted : (first behind : ℕ) → behind ≡ first + 1 → Passes limit first behind (0 ∷ [])
-  counted first behind is more =
-      ap (λ past. cond past (Some first) (first_past limit (first + 1) more)) (within limit) ∙ ap (λ n. first_past limit n more) (sym is)
-    where
-      within : (limit : ℕ) → nat_lt limit 0 ≡ false
-      within limit = grind arith
 
 module _ (rules : Rules) (defined : Defined) where
   -- ---- blocks that have been read, and how deep the inlines of their leaves nest

@@ -8,7 +8,8 @@ ghost use Rattle.cm_html.specs.Html.{inlines_html};
 ghost use Rattle.cm_inline.specs.declared.fault.InlineFault.TheVariants as inline_faults;
 ghost use Rattle.cm_tool.specs.declared.fault.Fault.TheVariants as faults;
 ghost use Rattle.cm_tool.specs.steps.Numbering.{TellsLeaf};
-ghost use Rattle.cm_tool.specs.steps.LeafWalks.{content_at, block_read_of, all_left, ArePlacedLeft, HasRead, TellsOf};
+ghost use Rattle.cm_tool.specs.steps.LeafWalks.{content_at, block_read_of, all_left, ArePlacedLeft, HasRead};
+ghost use Rattle.cm_tool.specs.steps.LeafWalks.{TellsOf};
 
 use crate::fault::Fault;
 use cm_html::Pages;
@@ -26,7 +27,9 @@ pub(crate) struct Unread {
     limits: Limits,
     definitions: Definitions,
     pub(crate) raw: RawBlocks,
-    top: IntoIter<RawBlock, Global>,
+    top: Vec<RawBlock>,
+    // The place of the next block in `top`.
+    at: usize,
     parts: IntoIter<RawPart, Global>,
 }
 
@@ -34,20 +37,22 @@ impl Unread {
     /// Takes the next block at the top level. A part is let go of before the first block of the next one.
     pub(crate) fn next_block(&mut self) -> Option<RawBlock>
         requires { ArePlacedLeft self.old }
-        ensures block { IfSome result (λ block. all_left self.old ≡ block_read_of self.new block ∷ all_left self.new) }
+        ensures block { IfSome result (λ block. all_left self.old ≡
+            block_read_of self.new block ∷ all_left self.new) }
         ensures placed { IfSome result (λ block. IsPlaced self.new.raw block) }
         ensures none { result ≡ None → all_left self.old ≡ [] }
         ensures left { ArePlacedLeft self.new }
         ensures limits { self.new.limits ≡ self.old.limits }
     {
-        loop {
-            if let Some(block) = self.top.next() {
-                return Some(block);
-            }
+        while self.at == self.top.len() {
             let (top, raw) = self.parts.next()?.into_contents();
-            self.top = top.into_iter();
+            self.top = top;
             self.raw = raw;
+            self.at = 0;
         }
+        let block = self.top[self.at];
+        self.at += 1;
+        Some(block)
     }
 
     /// The inlines of a paragraph or heading whose source lies between these places.
@@ -71,8 +76,12 @@ impl Unread {
             return Ok(reader.one_text(source)?);
         }
         let limits = self.limits;
-        let (inlines, _) =
-            reader.inlines(limits.rules(), source, &self.definitions, limits.inlines())?;
+        let (inlines, _) = reader.inlines(
+            limits.rules(),
+            source,
+            &self.definitions,
+            limits.inlines(),
+        )?;
         Ok(inlines)
     }
 
@@ -96,7 +105,13 @@ impl Unread {
             return Ok(());
         }
         let limits = self.limits;
-        reader.push_html(html, limits.rules(), source, &self.definitions, limits.inlines())
+        reader.push_html(
+            html,
+            limits.rules(),
+            source,
+            &self.definitions,
+            limits.inlines(),
+        )
     }
 }
 
@@ -114,7 +129,8 @@ fn count_leaf(next: &mut usize) -> Result<usize, Fault>
 
 /// What is told of a leaf that can't be read.
 fn leaf_fault(fault: InlineFault, leaf: usize) -> Fault
-    ensures { (limit depth : ℕ) → (fault ≡ inline_faults.InlinesTooDeep → limit < depth) → TellsLeaf result limit leaf (depth ∷ []) }
+    ensures { (limit depth : ℕ) → (fault ≡ inline_faults.InlinesTooDeep → limit < depth) →
+        TellsLeaf result limit leaf (depth ∷ []) }
 {
     match fault {
         InlineFault::InlinesTooDeep => Fault::InlinesTooDeep { leaf },
@@ -149,7 +165,8 @@ impl LeafWalk {
                 limits,
                 definitions,
                 raw: RawBlocks::new(alloc),
-                top: Vec::new(alloc).into_iter(),
+                top: Vec::new(alloc),
+                at: 0,
                 parts: blocks.into_parts().into_iter(),
             },
             reader: InlineReader::new(alloc),
@@ -170,8 +187,10 @@ impl LeafWalk {
     pub(crate) fn leaf(&mut self, from: u32, to: u32) -> Result<Items<Inline>, Fault>
         requires { IsBetween self.old.unread.raw.text from to }
         ensures read { IfOk result (λ inlines. inlines ≡ content_at self.old.unread from to) }
-        ensures passes { OnOk result (HasRead self.old self.new (inlines_depth (content_at self.old.unread from to) ∷ [])) }
-        ensures told { IfErr result (λ fault. TellsOf self.old fault (inlines_depth (content_at self.old.unread from to) ∷ [])) }
+        ensures passes { OnOk result (HasRead self.old self.new
+            (inlines_depth (content_at self.old.unread from to) ∷ [])) }
+        ensures told { IfErr result (λ fault. TellsOf self.old fault
+            (inlines_depth (content_at self.old.unread from to) ∷ [])) }
     {
         let leaf = count_leaf(&mut self.next)?;
         match self.unread.content(&mut self.reader, from, to) {
@@ -181,16 +200,14 @@ impl LeafWalk {
     }
 
     /// Adds the HTML of the inlines of this leaf.
-    pub(crate) fn push_leaf(
-        &mut self,
-        html: &mut Pages,
-        from: u32,
-        to: u32,
-    ) -> Result<(), Fault>
+    pub(crate) fn push_leaf(&mut self, html: &mut Pages, from: u32, to: u32) -> Result<(), Fault>
         requires { IsBetween self.old.unread.raw.text from to }
-        ensures pushed { OnOk result (html.new ≡ html.old ++ inlines_html (content_at self.old.unread from to)) }
-        ensures passes { OnOk result (HasRead self.old self.new (inlines_depth (content_at self.old.unread from to) ∷ [])) }
-        ensures told { IfErr result (λ fault. TellsOf self.old fault (inlines_depth (content_at self.old.unread from to) ∷ [])) }
+        ensures pushed { OnOk result (html.new ≡
+            html.old ++ inlines_html (content_at self.old.unread from to)) }
+        ensures passes { OnOk result (HasRead self.old self.new
+            (inlines_depth (content_at self.old.unread from to) ∷ [])) }
+        ensures told { IfErr result (λ fault. TellsOf self.old fault
+            (inlines_depth (content_at self.old.unread from to) ∷ [])) }
     {
         let leaf = count_leaf(&mut self.next)?;
         match self.unread.push_content(&mut self.reader, html, from, to) {

@@ -1,5 +1,6 @@
 //! The HTML of an outline's blocks, whose inlines are read as it is written.
-ghost use Rattle.std.specs.Prelude.{◌≡◌, List, ◌∷◌, ◌++◌, length, map, option_map, true, IfOk, IfErr, OnOk, None};
+ghost use Rattle.std.specs.Prelude.{◌≡◌, List, ◌∷◌, ◌++◌, length, map, option_map, true, IfOk, IfErr, OnOk};
+ghost use Rattle.std.specs.Prelude.{None};
 ghost use Rattle.cm_tree.specs.RawBlocks.{IsItem, IsPlaced, IsRange, item_in};
 ghost use Rattle.cm_html.specs.Html.{html_of, item_html, items_html, Written, written, alone};
 ghost use Rattle.cm_html.specs.steps.ItemPass.{inside_from, line_feed};
@@ -9,7 +10,8 @@ ghost use Rattle.cm_tool.specs.declared.fault.Fault.TheVariants as faults;
 ghost use Rattle.cm_tool.specs.Leaves.{depths_in, leaf_depths, first_leaf_past};
 ghost use Rattle.cm_tool.specs.Parsing.{TellsFault};
 ghost use Rattle.cm_tool.specs.steps.Items.{items_leaf_depths};
-ghost use Rattle.cm_tool.specs.steps.LeafWalks.{block_read_of, blocks_read_at, items_read_at, all_left, ArePlacedLeft, HasRead, HasReadAll, TellsOf};
+ghost use Rattle.cm_tool.specs.steps.LeafWalks.{block_read_of, blocks_read_at, items_read_at, all_left};
+ghost use Rattle.cm_tool.specs.steps.LeafWalks.{ArePlacedLeft, HasRead, HasReadAll, TellsOf};
 
 use crate::fault::Fault;
 use crate::leaf_walk::LeafWalk;
@@ -32,9 +34,12 @@ impl HtmlWalk {
     #[cycle(html)]
     fn push_block(&mut self, block: RawBlock) -> Result<(), Fault>
         requires { IsPlaced self.old.walk.unread.raw block }
-        ensures pushed { OnOk result (self.new.html ≡ self.old.html ++ alone (written (block_read_of self.old.walk.unread block))) }
-        ensures passes { OnOk result (HasRead self.old.walk self.new.walk (depths_in (block_read_of self.old.walk.unread block))) }
-        ensures told { IfErr result (λ fault. TellsOf self.old.walk fault (depths_in (block_read_of self.old.walk.unread block))) }
+        ensures pushed { OnOk result (self.new.html ≡
+            self.old.html ++ alone (written (block_read_of self.old.walk.unread block))) }
+        ensures passes { OnOk result (HasRead self.old.walk self.new.walk
+            (depths_in (block_read_of self.old.walk.unread block))) }
+        ensures told { IfErr result (λ fault. TellsOf self.old.walk fault
+            (depths_in (block_read_of self.old.walk.unread block))) }
     {
         match block {
             RawBlock::Paragraph { from, to } => {
@@ -84,9 +89,12 @@ impl HtmlWalk {
     #[cycle(html)]
     fn push_blocks(&mut self, from: u32, to: u32) -> Result<(), Fault>
         requires { IsRange (length self.old.walk.unread.raw.blocks) from to }
-        ensures pushed { OnOk result (self.new.html ≡ self.old.html ++ html_of (blocks_read_at self.old.walk.unread from to)) }
-        ensures passes { OnOk result (HasRead self.old.walk self.new.walk (leaf_depths (blocks_read_at self.old.walk.unread from to))) }
-        ensures told { IfErr result (λ fault. TellsOf self.old.walk fault (leaf_depths (blocks_read_at self.old.walk.unread from to))) }
+        ensures pushed { OnOk result (self.new.html ≡
+            self.old.html ++ html_of (blocks_read_at self.old.walk.unread from to)) }
+        ensures passes { OnOk result (HasRead self.old.walk self.new.walk
+            (leaf_depths (blocks_read_at self.old.walk.unread from to))) }
+        ensures told { IfErr result (λ fault. TellsOf self.old.walk fault
+            (leaf_depths (blocks_read_at self.old.walk.unread from to))) }
     {
         for at in from..to {
             let block = self.walk.unread.raw.block_at(at);
@@ -99,9 +107,13 @@ impl HtmlWalk {
     #[cycle(html)]
     fn push_items(&mut self, tight: bool, from: u32, to: u32) -> Result<(), Fault>
         requires { IsRange (length self.old.walk.unread.raw.items) from to }
-        ensures pushed { OnOk result (self.new.html ≡ self.old.html ++ items_html tight (map (map written) (items_read_at self.old.walk.unread from to))) }
-        ensures passes { OnOk result (HasRead self.old.walk self.new.walk (items_leaf_depths (items_read_at self.old.walk.unread from to))) }
-        ensures told { IfErr result (λ fault. TellsOf self.old.walk fault (items_leaf_depths (items_read_at self.old.walk.unread from to))) }
+        ensures pushed { OnOk result (self.new.html ≡
+            self.old.html ++ items_html tight
+            (map (map written) (items_read_at self.old.walk.unread from to))) }
+        ensures passes { OnOk result (HasRead self.old.walk self.new.walk
+            (items_leaf_depths (items_read_at self.old.walk.unread from to))) }
+        ensures told { IfErr result (λ fault. TellsOf self.old.walk fault
+            (items_leaf_depths (items_read_at self.old.walk.unread from to))) }
     {
         for at in from..to {
             let item = self.walk.unread.raw.item_at(at);
@@ -114,9 +126,13 @@ impl HtmlWalk {
     #[cycle(html)]
     fn push_item(&mut self, tight: bool, item: RawItem) -> Result<(), Fault>
         requires { IsItem self.old.walk.unread.raw item }
-        ensures pushed { OnOk result (self.new.html ≡ self.old.html ++ item_html tight (map written (blocks_read_at self.old.walk.unread item.from item.to))) }
-        ensures passes { OnOk result (HasRead self.old.walk self.new.walk (leaf_depths (blocks_read_at self.old.walk.unread item.from item.to))) }
-        ensures told { IfErr result (λ fault. TellsOf self.old.walk fault (leaf_depths (blocks_read_at self.old.walk.unread item.from item.to))) }
+        ensures pushed { OnOk result (self.new.html ≡
+            self.old.html ++ item_html tight
+            (map written (blocks_read_at self.old.walk.unread item.from item.to))) }
+        ensures passes { OnOk result (HasRead self.old.walk self.new.walk
+            (leaf_depths (blocks_read_at self.old.walk.unread item.from item.to))) }
+        ensures told { IfErr result (λ fault. TellsOf self.old.walk fault
+            (leaf_depths (blocks_read_at self.old.walk.unread item.from item.to))) }
     {
         self.html.push_str("<li>")?;
         let mut fresh = true;
@@ -128,15 +144,19 @@ impl HtmlWalk {
         Ok(())
     }
 
-    /// Adds the HTML of a block that stands in an item. The mark says that it begins on a new line, unless it is a
+    /// Adds the HTML of a block that stands in an item. The mark says that it begins on a new line, unless
+    /// it is a
     /// paragraph of a tight list; answers the mark for the next block.
     #[cycle(html)]
     fn push_part(&mut self, tight: bool, fresh: bool, block: RawBlock) -> Result<bool, Fault>
         requires { IsPlaced self.old.walk.unread.raw block }
-        ensures pushed { IfOk result (λ mark. (others : List Written) → self.new.html ++ inside_from tight mark others ≡
-            self.old.html ++ inside_from tight fresh (written (block_read_of self.old.walk.unread block) ∷ others)) }
-        ensures passes { OnOk result (HasRead self.old.walk self.new.walk (depths_in (block_read_of self.old.walk.unread block))) }
-        ensures told { IfErr result (λ fault. TellsOf self.old.walk fault (depths_in (block_read_of self.old.walk.unread block))) }
+        ensures pushed { IfOk result (λ mark. (others : List Written) →
+            self.new.html ++ inside_from tight mark others ≡ self.old.html ++ inside_from tight fresh
+            (written (block_read_of self.old.walk.unread block) ∷ others)) }
+        ensures passes { OnOk result (HasRead self.old.walk self.new.walk
+            (depths_in (block_read_of self.old.walk.unread block))) }
+        ensures told { IfErr result (λ fault. TellsOf self.old.walk fault
+            (depths_in (block_read_of self.old.walk.unread block))) }
     {
         match block {
             RawBlock::Definition { .. } => {
@@ -163,9 +183,13 @@ impl HtmlWalk {
     #[cycle(html)]
     fn push_apart(&mut self, fresh: bool, block: RawBlock) -> Result<(), Fault>
         requires { IsPlaced self.old.walk.unread.raw block }
-        ensures pushed { OnOk result (self.new.html ≡ self.old.html ++ (line_feed fresh ++ alone (written (block_read_of self.old.walk.unread block)))) }
-        ensures passes { OnOk result (HasRead self.old.walk self.new.walk (depths_in (block_read_of self.old.walk.unread block))) }
-        ensures told { IfErr result (λ fault. TellsOf self.old.walk fault (depths_in (block_read_of self.old.walk.unread block))) }
+        ensures pushed { OnOk result (self.new.html ≡
+            self.old.html ++ (line_feed fresh
+            ++ alone (written (block_read_of self.old.walk.unread block)))) }
+        ensures passes { OnOk result (HasRead self.old.walk self.new.walk
+            (depths_in (block_read_of self.old.walk.unread block))) }
+        ensures told { IfErr result (λ fault. TellsOf self.old.walk fault
+            (depths_in (block_read_of self.old.walk.unread block))) }
     {
         if fresh {
             self.html.push_str("\n")?;
@@ -176,9 +200,11 @@ impl HtmlWalk {
     /// Adds the HTML of all blocks that are left.
     fn push_all(&mut self) -> Result<(), Fault>
         requires { ArePlacedLeft self.old.walk.unread }
-        ensures pushed { OnOk result (self.new.html ≡ self.old.html ++ html_of (all_left self.old.walk.unread)) }
+        ensures pushed { OnOk result (self.new.html ≡
+            self.old.html ++ html_of (all_left self.old.walk.unread)) }
         ensures passes { OnOk result (HasReadAll self.old.walk self.new.walk) }
-        ensures told { IfErr result (λ fault. TellsOf self.old.walk fault (leaf_depths (all_left self.old.walk.unread))) }
+        ensures told { IfErr result (λ fault. TellsOf self.old.walk fault
+            (leaf_depths (all_left self.old.walk.unread))) }
     {
         while let Some(block) = self.walk.unread.next_block() {
             self.push_block(block)?;
@@ -188,7 +214,8 @@ impl HtmlWalk {
     }
 }
 
-/// The HTML of the blocks with the inlines of their leaves, in pages. The inlines of a leaf are let go of before those
+/// The HTML of the blocks with the inlines of their leaves, in pages. The inlines of a leaf are let go of
+/// before those
 /// of the next one are read, and each part of the document before the next one is.
 ///
 /// # Errors
@@ -200,8 +227,10 @@ pub(crate) fn leaves_html(
     definitions: Definitions,
     blocks: RawTree,
 ) -> Result<Pages, Fault>
-    ensures html { IfOk result (λ pages. pages ≡ html_of (with_inlines limits.rules (defined_in definitions) blocks)) }
-    ensures within { IfOk result (λ _. first_leaf_past limits.inlines (with_inlines limits.rules (defined_in definitions) blocks) ≡ None) }
+    ensures html { IfOk result (λ pages. pages ≡
+        html_of (with_inlines limits.rules (defined_in definitions) blocks)) }
+    ensures within { IfOk result (λ _.
+        first_leaf_past limits.inlines (with_inlines limits.rules (defined_in definitions) blocks) ≡ None) }
     ensures told { IfErr result (λ fault. TellsFault fault (option_map faults.InlinesTooDeep
         (first_leaf_past limits.inlines (with_inlines limits.rules (defined_in definitions) blocks)))) }
 {

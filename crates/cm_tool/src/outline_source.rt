@@ -39,8 +39,8 @@ impl PlainSource {
 
     /// Goes on with one more block. Where those so far can't be spelled, nothing is.
     fn push(&mut self, block: &Block) -> Result<(), NoMemory>
-        ensures { OnOk result ((rules : text_rules.Rules) (blocks : List trees.Block) → HasTaken rules self.old blocks →
-            HasTaken rules self.new (blocks ++ block.now ∷ [])) }
+        ensures { OnOk result ((rules : text_rules.Rules) (blocks : List trees.Block) →
+            HasTaken rules self.old blocks → HasTaken rules self.new (blocks ++ block.now ∷ [])) }
     {
         if self.refused.is_some() {
             return Ok(());
@@ -62,7 +62,8 @@ impl PlainSource {
         reader: &mut InlineReader,
         block: Block,
     ) -> Result<(), NoMemory>
-        ensures { OnOk result ((rules : text_rules.Rules) (blocks : List trees.Block) → HasTaken rules self.old blocks →
+        ensures { OnOk result ((rules : text_rules.Rules) (blocks : List trees.Block) →
+            HasTaken rules self.old blocks →
             HasTaken rules self.new (blocks ++ without_definitions (block ∷ []))) }
     {
         if let Some(block) = block_without_definitions(alloc, block) {
@@ -74,7 +75,8 @@ impl PlainSource {
 
     /// The source of the blocks so far.
     fn finish(self) -> Result<String, Why>
-        ensures { (rules : text_rules.Rules) (blocks : List trees.Block) → HasTaken rules self blocks → Spelled rules blocks result }
+        ensures { (rules : text_rules.Rules) (blocks : List trees.Block) →
+            HasTaken rules self blocks → Spelled rules blocks result }
     {
         let PlainSource { speller, refused } = self;
         match refused {
@@ -92,26 +94,32 @@ struct SourceWalk {
 }
 
 impl SourceWalk {
-    /// Goes on with all blocks that are left. The definitions of a block are leaves too, so they are taken out once it
+    /// Goes on with all blocks that are left. The definitions of a block are leaves too, so they are taken
+    /// out once it
     /// is read.
     fn push_all(&mut self) -> Result<(), Fault>
         requires { ArePlacedLeft self.old.walk.unread }
-        ensures pushed { OnOk result ((rules : text_rules.Rules) (taken : List trees.Block) → HasTaken rules self.old.source taken →
-            HasTaken rules self.new.source (taken ++ without_definitions (all_left self.old.walk.unread))) }
+        ensures pushed { OnOk result ((rules : text_rules.Rules) (taken : List trees.Block) →
+            HasTaken rules self.old.source taken → HasTaken rules self.new.source
+            (taken ++ without_definitions (all_left self.old.walk.unread))) }
         ensures passes { OnOk result (HasReadAll self.old.walk self.new.walk) }
-        ensures told { IfErr result (λ fault. TellsOf self.old.walk fault (leaf_depths (all_left self.old.walk.unread))) }
+        ensures told { IfErr result (λ fault. TellsOf self.old.walk fault
+            (leaf_depths (all_left self.old.walk.unread))) }
     {
         while let Some(block) = self.walk.unread.next_block() {
             let block = self.walk.block(block)?;
             let alloc = self.walk.unread.alloc;
-            self.source.push_cleared(alloc, &mut self.walk.reader, block)?;
+            self.source
+                .push_cleared(alloc, &mut self.walk.reader, block)?;
         }
         Ok(())
     }
 }
 
-/// The source of the blocks with the inlines of their leaves and without their definitions, or why they can't be spelled. The inlines of
-/// one block are let go of before those of the next one are read. All leaves are read, also behind a block that can't be spelled, since
+/// The source of the blocks with the inlines of their leaves and without their definitions, or why they
+/// can't be spelled. The inlines of
+/// one block are let go of before those of the next one are read. All leaves are read, also behind a block
+/// that can't be spelled, since
 /// one that is too deep goes before it.
 ///
 /// # Errors
@@ -125,7 +133,8 @@ pub(crate) fn leaves_source(
 ) -> Result<Result<String, Why>, Fault>
     ensures source { IfOk result (λ source. Spelled limits.rules
         (without_definitions (with_inlines limits.rules (defined_in definitions) blocks)) source) }
-    ensures within { IfOk result (λ _. first_leaf_past limits.inlines (with_inlines limits.rules (defined_in definitions) blocks) ≡ None) }
+    ensures within { IfOk result (λ _.
+        first_leaf_past limits.inlines (with_inlines limits.rules (defined_in definitions) blocks) ≡ None) }
     ensures told { IfErr result (λ fault. TellsFault fault (option_map faults.InlinesTooDeep
         (first_leaf_past limits.inlines (with_inlines limits.rules (defined_in definitions) blocks)))) }
 {

@@ -8,7 +8,8 @@ ghost use Rattle.cm_tool.specs.declared.fault.Fault.TheVariants as faults;
 ghost use Rattle.cm_tool.specs.Leaves.{depths_in, leaf_depths, first_leaf_past};
 ghost use Rattle.cm_tool.specs.Parsing.{TellsFault};
 ghost use Rattle.cm_tool.specs.steps.Items.{items_leaf_depths};
-ghost use Rattle.cm_tool.specs.steps.LeafWalks.{block_read_of, blocks_read_at, items_read_at, all_left, ArePlacedLeft, HasRead, HasReadAll, TellsOf};
+ghost use Rattle.cm_tool.specs.steps.LeafWalks.{block_read_of, blocks_read_at, items_read_at, all_left};
+ghost use Rattle.cm_tool.specs.steps.LeafWalks.{ArePlacedLeft, HasRead, HasReadAll, TellsOf};
 
 use crate::fault::Fault;
 use crate::leaf_walk::{LeafWalk, Unread};
@@ -32,8 +33,10 @@ impl LeafWalk {
     pub(crate) fn block(&mut self, block: RawBlock) -> Result<Block, Fault>
         requires { IsPlaced self.old.unread.raw block }
         ensures read { IfOk result (λ read. read ≡ block_read_of self.old.unread block) }
-        ensures passes { OnOk result (HasRead self.old self.new (depths_in (block_read_of self.old.unread block))) }
-        ensures told { IfErr result (λ fault. TellsOf self.old fault (depths_in (block_read_of self.old.unread block))) }
+        ensures passes { OnOk result (HasRead self.old self.new
+            (depths_in (block_read_of self.old.unread block))) }
+        ensures told { IfErr result (λ fault. TellsOf self.old fault
+            (depths_in (block_read_of self.old.unread block))) }
     {
         match block {
             RawBlock::Paragraph { from, to } => Ok(Block::Paragraph(self.leaf(from, to)?)),
@@ -88,8 +91,10 @@ impl LeafWalk {
     fn blocks(&mut self, from: u32, to: u32) -> Result<Items<Block>, Fault>
         requires { IsRange (length self.old.unread.raw.blocks) from to }
         ensures read { IfOk result (λ read. read ≡ blocks_read_at self.old.unread from to) }
-        ensures passes { OnOk result (HasRead self.old self.new (leaf_depths (blocks_read_at self.old.unread from to))) }
-        ensures told { IfErr result (λ fault. TellsOf self.old fault (leaf_depths (blocks_read_at self.old.unread from to))) }
+        ensures passes { OnOk result (HasRead self.old self.new
+            (leaf_depths (blocks_read_at self.old.unread from to))) }
+        ensures told { IfErr result (λ fault. TellsOf self.old fault
+            (leaf_depths (blocks_read_at self.old.unread from to))) }
     {
         let mut read = Items::from(Vec::with_capacity(self.unread.alloc, (to - from) as usize)?);
         for at in from..to {
@@ -104,8 +109,10 @@ impl LeafWalk {
     fn items(&mut self, from: u32, to: u32) -> Result<Items<Items<Block>>, Fault>
         requires { IsRange (length self.old.unread.raw.items) from to }
         ensures read { IfOk result (λ read. read ≡ items_read_at self.old.unread from to) }
-        ensures passes { OnOk result (HasRead self.old self.new (items_leaf_depths (items_read_at self.old.unread from to))) }
-        ensures told { IfErr result (λ fault. TellsOf self.old fault (items_leaf_depths (items_read_at self.old.unread from to))) }
+        ensures passes { OnOk result (HasRead self.old self.new
+            (items_leaf_depths (items_read_at self.old.unread from to))) }
+        ensures told { IfErr result (λ fault. TellsOf self.old fault
+            (items_leaf_depths (items_read_at self.old.unread from to))) }
     {
         let mut read = Items::from(Vec::with_capacity(self.unread.alloc, (to - from) as usize)?);
         for at in from..to {
@@ -120,7 +127,8 @@ impl LeafWalk {
         requires { ArePlacedLeft self.old.unread }
         ensures read { OnOk result (read.new ≡ read.old ++ all_left self.old.unread) }
         ensures passes { OnOk result (HasReadAll self.old self.new) }
-        ensures told { IfErr result (λ fault. TellsOf self.old fault (leaf_depths (all_left self.old.unread))) }
+        ensures told { IfErr result (λ fault. TellsOf self.old fault
+            (leaf_depths (all_left self.old.unread))) }
     {
         while let Some(block) = self.unread.next_block() {
             let block = self.block(block)?;

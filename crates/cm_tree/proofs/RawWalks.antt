@@ -50,14 +50,20 @@ module _ (from at to : ℕ) (begins : from ≤ at) (less : at < to) where
   pub block_depth : (blocks : List Block) (block : Block) → to ≤ length blocks → block ≡ get_or blocks at block
       → depth_of_block block ≤ blocks_depth (slice_range blocks from to)
   block_depth blocks block ends is =
-      omega (arith, ap depth_of_block (there-in blocks from at to block begins less ends is),
-      deepest-block (slice_range blocks from to) (at - from) block (there-length blocks from at to block begins less ends is))
+      omega (
+        arith,
+        ap depth_of_block (there-in blocks from at to block begins less ends is),
+        deepest-block (slice_range blocks from to) (at - from) block (there-length blocks from at to block begins less ends is),
+      )
 
   pub item_depth : (items : List (List Block)) (item : List Block) → to ≤ length items → item ≡ get_or items at item
       → blocks_depth item < items_depth (slice_range items from to)
   item_depth items item ends is =
-      omega (arith, ap blocks_depth (there-in items from at to item begins less ends is),
-      deepest-item (slice_range items from to) (at - from) item (there-length items from at to item begins less ends is))
+      omega (
+        arith,
+        ap blocks_depth (there-in items from at to item begins less ends is),
+        deepest-item (slice_range items from to) (at - from) item (there-length items from at to item begins less ends is),
+      )
 
 pub quote_depth : (blocks : List Block) → depth_of_block (Quote blocks) ≡ blocks_depth blocks + 1
 quote_depth blocks = simp (fold_out-Block ℕ block_depth_step, outs-Quote)

@@ -2,7 +2,8 @@
 //! text, and the blocks in them in one list.
 ghost use Rattle.std.specs.Prelude.{◌≡◌, ◌<◌, [], ◌++◌, length, get_or, nat_le, IfOk, OnOk};
 ghost use Rattle.std.specs.List.{slice_range};
-ghost use Rattle.cm_tree.specs.RawBlocks.{raw_inlines, block_in, blocks_in, item_in, items_in, IsBetween, IsPlaced, ArePlaced, IsItem, AreItems, Grows};
+ghost use Rattle.cm_tree.specs.RawBlocks.{raw_inlines, block_in, blocks_in, item_in, items_in};
+ghost use Rattle.cm_tree.specs.RawBlocks.{IsBetween, IsPlaced, ArePlaced, IsItem, AreItems, Grows};
 ghost use Rattle.cm_tree.specs.declared.tree.Block.TheVariants as trees;
 
 use crate::tree::ListKind;

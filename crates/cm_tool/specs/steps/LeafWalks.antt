@@ -1,5 +1,5 @@
 -- A walk over the blocks of an outline: what is read of them, and what a call of it has read.
-use Rattle.std.specs.Prelude.{◌≡◌, ℕ, List, ◌++◌, map}
+use Rattle.std.specs.Prelude.{◌≡◌, ℕ, ◌≤◌, List, ◌++◌, drop, length}
 use Rattle.std.specs.List.{slice_range}
 use Rattle.std.specs.Vec.Iter.{into_iter_items}
 use Rattle.cm_tree.specs.declared.tree.Block.{Block}
@@ -39,11 +39,11 @@ items_read_at unread from to = items_read unread.limits.rules (defined_in unread
 
 -- all blocks at the top level that are left, with the inlines of their leaves
 abbrev pub all_left : Unread → List Block
-all_left unread = all_read unread (blocks_in unread.raw (into_iter_items unread.top) ++ all_blocks (into_iter_items unread.parts))
+all_left unread = all_read unread (blocks_in unread.raw (drop unread.at unread.top.items) ++ all_blocks (into_iter_items unread.parts))
 
 -- what those of the part at hand are made of is there
 abbrev pub ArePlacedLeft : Unread → Type 0
-ArePlacedLeft unread = ArePlaced unread.raw (into_iter_items unread.top)
+ArePlacedLeft unread = (unread.at ≤ length unread.top.items) × ArePlaced unread.raw (drop unread.at unread.top.items)
 
 -- a call has read leaves of these depths, and none of them is past the limit
 abbrev pub HasRead : LeafWalk → LeafWalk → List ℕ → Type 0

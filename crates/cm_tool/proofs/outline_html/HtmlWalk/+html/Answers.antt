@@ -109,19 +109,19 @@ pub push_block-returns-in_err-pass-in-Break-clause-told : goal.push_block-return
 push_block-returns-in_err-pass-in-Break-clause-told t c =
     let p = err_from_is_err_and c.from_residual-in_err-pass-in-Break.result c.from_residual-in_err-pass-in-Break.ensures.1 in
     let unread = c.args.self.now.walk.unread in
-    let depths = leaves unread c.in-Break.is ∙ break_depths unread.limits.rules (defined_in unread.definitions)  in
+    let depths = leaves unread c.in-Break.is ∙ break_depths unread.limits.rules (defined_in unread.definitions) in
     rw (p.1, p.2) (subst (TellsOf c.args.self.now.walk c.in_err-pass-in-Break.field-0.0) (sym depths) c.in_err-pass-in-Break.ensures.told)
 
 pub push_block-returns-in_ok-push_str-in-Break-clause-pushed : goal.push_block-returns-in_ok-push_str-in-Break-clause-pushed
 push_block-returns-in_ok-push_str-in-Break-clause-pushed t c =
     let unread = c.args.self.now.walk.unread in
-    let same = shows unread c.in-Break.is ∙ break_written unread.limits.rules (defined_in unread.definitions)  in
+    let same = shows unread c.in-Break.is ∙ break_written unread.limits.rules (defined_in unread.definitions) in
     c.in_ok-push_str-in-Break.ensures ∙ ap (λ w. c.args.self.now.html ++ alone w) (sym same)
 
 pub push_block-returns-in_ok-push_str-in-Break-clause-passes : goal.push_block-returns-in_ok-push_str-in-Break-clause-passes
 push_block-returns-in_ok-push_str-in-Break-clause-passes t c =
     let unread = c.args.self.now.walk.unread in
-    let depths = leaves unread c.in-Break.is ∙ break_depths unread.limits.rules (defined_in unread.definitions)  in
+    let depths = leaves unread c.in-Break.is ∙ break_depths unread.limits.rules (defined_in unread.definitions) in
     subst (HasRead c.args.self.now.walk c.pass-in-Break.new.self) (sym depths) c.in_ok-pass-in-Break.ensures.passes
 
 pub push_block-returns-in_err-pass-in-Definition-clause-told : goal.push_block-returns-in_err-pass-in-Definition-clause-told

@@ -1,4 +1,4 @@
-use Rattle.std.proofs.Common.{◌≡◌, ◌++◌, ◌+◌, ◌*◌, List}
+use Rattle.std.proofs.Common.{◌≡◌, ◌++◌, ◌+◌, ◌*◌}
 use Rattle.std.specs.List.{slice_range}
 use Rattle.std.specs.Prelude.{map, true}
 use Rattle.cm_tree.specs.Depth.{blocks_depth, depth_of_block}
