@@ -183,10 +183,3 @@ whole_inside true fresh w others part old new is more =
 whole_inside false fresh w others part old new is more =
     ap (λ t. t ++ inside_from false false others) more ∙ append_assoc old (line_feed fresh ++ alone w) (inside_from false false others)
     ∙ ap (λ w. old ++ (line_feed fresh ++ alone w ++ inside_from false false others)) is ∙ ap (λ w. old ++ inside_from false fresh (w ∷ others)) (sym is)
-
--- one text
-pub text_html : (source : List ℕ) → inlines_html (Text source ∷ []) ≡ escape source
-text_html source = append-nil (rendered (Text source)).html ∙ simp (fold_out-Inline Rendered inline_step, outs-Text)
-
-pub text_depth : (source : List ℕ) → inlines_depth (Text source ∷ []) ≡ 0
-text_depth source = simp (fold_out-Inline ℕ depth_step, outs-Text)

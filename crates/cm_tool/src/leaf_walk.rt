@@ -100,10 +100,6 @@ impl Unread {
             self.now.limits.inlines < inlines_depth (content_at self.now from to)) }
     {
         let source = self.raw.text(from, to);
-        if is_one_text(source) {
-            html.push_escaped(source)?;
-            return Ok(());
-        }
         let limits = self.limits;
         reader.push_html(
             html,

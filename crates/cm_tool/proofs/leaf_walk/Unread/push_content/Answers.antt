@@ -1,31 +1,14 @@
-use Rattle.std.proofs.Common.{◌≡◌, ◌∙◌, ◌<◌, ◌++◌, ap, sym, arith}
+use Rattle.std.proofs.Common.{◌≡◌, ◌<◌}
 use Rattle.std.proofs.lemmas.Result.{on_ok_weaker, IfErr-weaker}
 use Rattle.cm_tree.specs.Depth.{inlines_depth}
-use Rattle.cm_html.specs.Html.{inlines_html}
 use Rattle.cm_scan.specs.Brackets.{defined_in}
 use Rattle.cm_scan.specs.Documents.{content_read}
 use Rattle.cm_tree.specs.RawBlocks.{raw_inlines}
 use Rattle.cm_inline.specs.declared.fault.InlineFault.TheVariants as inline_faults
 use Rattle.cm_inline.specs.Reading.{Refused}
 use Rattle.cm_tool.proofs.LeafLemmas.{leaf_within, leaf_refused}
-use Rattle.cm_tool.proofs.RawWalkLemmas.{source_read, text_html, text_depth}
+use Rattle.cm_tool.proofs.RawWalkLemmas.{source_read}
 use Rattle.cm_tool.proofs.leaf_walk.Unread.push_content.Goals as goal
-
-pub returns-then-is_one_text-clause-pushed : goal.returns-then-is_one_text-clause-pushed
-returns-then-is_one_text-clause-pushed c =
-    let rules = c.args.self.now.limits.rules in
-    let defined = defined_in c.args.self.now.definitions in
-    let source = c.text-source.result.now in
-    rw (← c.text-source.ensures) (c.in_ok-push_escaped.ensures
-    ∙ ap (λ t. c.args.html.now ++ t) (sym (ap inlines_html (source_read rules defined source ∙ c.is_one_text.ensures.text c.if-is_one_text.true rules defined) ∙ text_html source)))
-
-pub returns-then-is_one_text-clause-within : goal.returns-then-is_one_text-clause-within
-returns-then-is_one_text-clause-within c =
-    let rules = c.args.self.now.limits.rules in
-    let defined = defined_in c.args.self.now.definitions in
-    let source = c.text-source.result.now in
-    rw (← c.text-source.ensures)
-    (omega (arith, ap inlines_depth (source_read rules defined source ∙ c.is_one_text.ensures.text c.if-is_one_text.true rules defined) ∙ text_depth source))
 
 pub returns-clause-pushed : goal.returns-clause-pushed
 returns-clause-pushed c =
