@@ -68,12 +68,16 @@ fn read_on(
     requires read { IsReadTo source.now text.0 reader.old }
     requires text { IsTextTo source.now text.0 text.1 }
     requires within { text.0 < length source.now }
-    requires pays { Pays rules (defined_in definitions.now) source.now (nodes_in reader.old.nodes) text.0 reader.old.openers.list.looks }
+    requires pays { Pays rules (defined_in definitions.now) source.now (nodes_in reader.old.nodes) text.0
+        reader.old.openers.list.looks }
     ensures read { IfOk result (λ end. IsReadTo source.now end reader.new) }
     ensures further { IfOk result (λ end. text.0 < end) }
     ensures pays { IfOk result (λ end. Pays rules (defined_in definitions.now) source.now (nodes_in reader.new.nodes) end reader.new.openers.list.looks) }
-    ensures ahead { IfOk result (λ end. ahead rules (defined_in definitions.now) source.now (nodes_in reader.new.nodes) end ≡ ahead rules (defined_in definitions.now) source.now (nodes_in reader.old.nodes) text.0) }
-    ensures deep { result ≡ Err InlinesTooDeep → limit < inlines_depth (emphasis_of (ahead rules (defined_in definitions.now) source.now (nodes_in reader.old.nodes) text.0)) }
+    ensures ahead { IfOk result (λ end.
+        ahead rules (defined_in definitions.now) source.now (nodes_in reader.new.nodes) end
+        ≡ ahead rules (defined_in definitions.now) source.now (nodes_in reader.old.nodes) text.0) }
+    ensures deep { result ≡ Err InlinesTooDeep → limit < inlines_depth (emphasis_of
+        (ahead rules (defined_in definitions.now) source.now (nodes_in reader.old.nodes) text.0)) }
 {
     let (at, end) = text;
     push_text(&mut reader.nodes, at, end)?;
@@ -86,7 +90,8 @@ fn read_on(
     Ok(read_atom(alloc, rules, source, end, reader)?)
 }
 
-/// Reads a source to its end, in one pass, from the text at its front, which ends at a place. A source to whose end no place of 32 bits leads is refused.
+/// Reads a source to its end, in one pass, from the text at its front on, which ends at a place. A source to
+/// whose end no place of 32 bits leads is refused.
 fn read_all(
     alloc: Global,
     rules: Rules,
@@ -133,8 +138,8 @@ fn first_text_end(source: &str) -> usize
     text_end(source, 0)
 }
 
-/// Whether nothing but line feeds with no space before them parts the text of a source, which begins with text up to a
-/// place. What it writes is its own text then, since a soft line break is written as a line feed.
+/// Whether nothing but line feeds with no space before them parts the text of a source, which begins with text
+/// up to a place. What it writes is its own text then, since a soft line break is written as a line feed.
 fn is_all_text(source: &str, first: usize) -> bool
     requires { IsTextTo source.now 0 first }
     ensures { IsTrue result → IsAllText source.now }
@@ -149,7 +154,8 @@ fn is_all_text(source: &str, first: usize) -> bool
     true
 }
 
-/// Reads the nodes of a source, of which nothing more is made then, from the text at its front on, and answers how many openers were looked at.
+/// Reads the nodes of a source, of which nothing more is made then, from the text at its front on, and answers
+/// how many openers were looked at.
 fn read_nodes(
     alloc: Global,
     rules: Rules,
@@ -202,8 +208,8 @@ impl InlineReader {
     /// # Errors
     ///
     /// `InlinesTooDeep` where the inlines nest deeper than the limit, `NoMemory` where a request for memory was
-    /// refused, or where the source has 2^32 bytes or more, to which no text within the limits comes. The next
-    /// leaf is read all the same.
+    /// refused, or where the source has 2^32 bytes or more, to which no text within the limits comes. The
+    /// next leaf is read all the same.
     pub fn inlines(
         &mut self,
         rules: Rules,

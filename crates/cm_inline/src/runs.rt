@@ -39,8 +39,8 @@ impl Marker {
     }
 }
 
-/// A delimiter run: its character, whether it may open and may close emphasis, its whole length, and how many of
-/// its characters are left.
+/// A delimiter run: its character, whether it may open and may close emphasis, its whole length, and how many
+/// of its characters are left.
 #[derive(Clone, Copy, Debug)]
 pub(crate) struct DelimiterRun {
     pub(crate) marker: Marker,
