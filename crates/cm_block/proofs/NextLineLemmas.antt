@@ -147,6 +147,7 @@ letter_goes_on view letter rules source = go view.lazy refl
   where
     line : LineView
     line = seen_view view
+
     go : (lazy : Bool) → view.lazy ≡ lazy → GoesOn ≡ next_line rules source line
     go true lazy = next-plain rules source line (letter_shows view letter) (sym (underline_lazy line lazy)) (lazy_interrupts rules line lazy)
     go false eager =

@@ -34,7 +34,10 @@ use ends::{closes_fence, ends_html};
 pub(crate) use first_line::FirstLine;
 use first_line::begin_leaf;
 use interruptions::{interrupts_paragraph, underline_of};
-use places::{ends_bare_item, if_lazy, is_blank, item_content, quote_content, reaches_or_is_blank, with_columns};
+use places::{
+    ends_bare_item, if_lazy, is_blank, item_content, quote_content, reaches_or_is_blank,
+    with_columns,
+};
 use starts::{Start, begins_with_letter, start_of};
 use std::alloc::{AllocError, Global};
 
