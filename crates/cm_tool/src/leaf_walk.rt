@@ -1,5 +1,6 @@
 //! A walk over the blocks of an outline, whose leaves are read on the way.
-ghost use Rattle.std.specs.Prelude.{◌≡◌, ◌≤◌, ◌<◌, ◌+◌, ◌++◌, ℕ, [], ◌∷◌, IfOk, IfErr, IfSome, OnOk, None};
+ghost use Rattle.std.specs.Prelude.{◌≡◌, ◌≤◌, ◌<◌, ◌+◌, ◌++◌, ℕ, [], ◌∷◌, length};
+ghost use Rattle.std.specs.Prelude.{true, false, IfOk, IfErr, IfSome, OnOk, None};
 ghost use Rattle.cm_tree.specs.Depth.{inlines_depth};
 ghost use Rattle.cm_tree.specs.RawBlocks.{IsBetween, IsPlaced};
 ghost use Rattle.cm_scan.specs.Brackets.{defined_in};
@@ -34,21 +35,41 @@ pub(crate) struct Unread {
 }
 
 impl Unread {
+    /// Takes the next part that has blocks, where none of the part at hand is left. This part is let go of.
+    #[cold]
+    fn next_part(&mut self) -> bool
+        requires { ArePlacedLeft self.old }
+        ensures there { result ≡ true → self.new.at < length self.new.top.items }
+        ensures none { result ≡ false → all_left self.old ≡ [] }
+        ensures left { all_left self.new ≡ all_left self.old }
+        ensures placed { ArePlacedLeft self.new }
+        ensures limits { self.new.limits ≡ self.old.limits }
+    {
+        while self.at == self.top.len() {
+            let Some(part) = self.parts.next() else {
+                return false;
+            };
+            let (top, raw) = part.into_contents();
+            self.top = top;
+            self.raw = raw;
+            self.at = 0;
+        }
+        true
+    }
+
     /// Takes the next block at the top level. A part is let go of before the first block of the next one.
+    #[inline(always)]
     pub(crate) fn next_block(&mut self) -> Option<RawBlock>
         requires { ArePlacedLeft self.old }
-        ensures block { IfSome result (λ block. all_left self.old ≡
-            block_read_of self.new block ∷ all_left self.new) }
+        ensures block { IfSome result (λ block.
+            all_left self.old ≡ block_read_of self.new block ∷ all_left self.new) }
         ensures placed { IfSome result (λ block. IsPlaced self.new.raw block) }
         ensures none { result ≡ None → all_left self.old ≡ [] }
         ensures left { ArePlacedLeft self.new }
         ensures limits { self.new.limits ≡ self.old.limits }
     {
-        while self.at == self.top.len() {
-            let (top, raw) = self.parts.next()?.into_contents();
-            self.top = top;
-            self.raw = raw;
-            self.at = 0;
+        if self.at == self.top.len() && !self.next_part() {
+            return None;
         }
         let block = self.top[self.at];
         self.at += 1;

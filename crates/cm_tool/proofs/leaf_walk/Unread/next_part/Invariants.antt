@@ -1,7 +1,7 @@
 use Rattle.std.proofs.Common.{◌≡◌, length}
 use Rattle.std.specs.Vec.Iter.{into_iter_items}
 use Rattle.cm_tool.specs.steps.LeafWalks.{all_left, ArePlacedLeft}
-use Rattle.cm_tool.proofs.leaf_walk.Unread.next_block.Given as goal
+use Rattle.cm_tool.proofs.leaf_walk.Unread.next_part.Given as goal
 
 -- No block is left out while parts are let go of.
 abbrev pub invariant-loop-self : goal.invariant-loop-self
