@@ -37,17 +37,17 @@ JOBS = 4
 # About how many seconds each crate took on the last machine, and by how many jobs at most. Those that others are proved beside have one:
 # a second was hardly faster there. A fourth job on cm_tool costs more than it gives.
 TIMES = {
-    "cm_text": (90, JOBS),
-    "cm_tree": (100, JOBS),
-    "cm_command": (130, 1),
-    "cm_html": (160, 1),
-    "cm_scan": (200, 1),
-    "cm_source": (240, 1),
-    "cm_block": (340, 1),
-    "cm_inline": (330, 1),
-    "cm_tool": (160, 3),
-    "cmk": (80, 1),
-    "cmk_c": (100, 1),
+    "cm_text": (105, JOBS),
+    "cm_tree": (113, JOBS),
+    "cm_command": (123, 1),
+    "cm_html": (234, 1),
+    "cm_scan": (209, 1),
+    "cm_source": (250, 1),
+    "cm_block": (366, 1),
+    "cm_inline": (375, 1),
+    "cm_tool": (205, 3),
+    "cmk": (108, 1),
+    "cmk_c": (120, 1),
 }
 # A crate takes twice as much memory as this, in kB, and once more for each job after the first.
 ROOM = 1536 * 1024
