@@ -1,5 +1,5 @@
 -- A stack as a row: the last frame, once it is taken, and more is there.
-use Rattle.std.proofs.Common.{◌≡◌, length, arith, Bool, false, Option, Some, None, List, [], ◌∷◌, ◌++◌, refl, append-nil, sym, ap, ap₂, subst, ◌∙◌, Result, Ok, Err}
+use Rattle.std.proofs.Common.{◌≡◌, length, arith, Bool, Option, Some, None, List, [], ◌∷◌, ◌++◌, refl, append-nil, sym, ap, ap₂, subst, ◌∙◌, Result, Ok, Err}
 use Rattle.std.specs.Result.{OnOk, OnErr}
 use Rattle.std.specs.Option.{option_map}
 use Rattle.cm_tree.specs.declared.tree.Block.{Block}

@@ -1,10 +1,8 @@
-use Rattle.std.proofs.Common.{◌≡◌, ◌+◌, suc, ◌∙◌, refl, length, sym, ap, arith, drop, add-one}
+use Rattle.std.proofs.Common.{◌+◌, suc, ◌∙◌, refl, length, sym, ap, arith, drop, add-one}
 use Rattle.cm_text.specs.Views.{seen_view}
 use Rattle.cm_text.specs.declared.view.View.{View}
-use Rattle.cm_block.specs.steps.FrameSteps.{matching}
-use Rattle.cm_tree.specs.RawBlocks.{Raw}
 use Rattle.cm_block.specs.steps.FrameViews.{container_of, frame_in, frames_in}
-use Rattle.cm_block.proofs.Matching.{behind, frames_at, frames_end, match_next, match_stop, match_end, match_lazy, behind_all}
+use Rattle.cm_block.proofs.Matching.{frames_at, frames_end, match_next, match_stop, match_end, match_lazy, behind_all}
 use Rattle.cm_block.proofs.TestLemmas.{tested_then, tested_within}
 use Rattle.cm_block.proofs.stack.matching.Goals as goal
 

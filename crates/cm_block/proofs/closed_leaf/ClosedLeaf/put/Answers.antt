@@ -1,4 +1,4 @@
-use Rattle.std.proofs.Common.{◌≡◌, ◌+◌, [], suc, string_bytes, sym, ap, ◌∙◌, arith, refl}
+use Rattle.std.proofs.Common.{◌≡◌, [], suc, string_bytes, sym, ap, ◌∙◌, arith, refl}
 use Rattle.cm_tree.specs.declared.tree.Block.TheVariants.{Heading, Html}
 use Rattle.cm_scan.specs.Parts.{leaf_block, heading, thematic_break, code, html}
 use Rattle.cm_tree.specs.RawBlocks.{raw_inlines}

@@ -3,11 +3,10 @@ use Rattle.cm_text.specs.Lines.{LineView}
 use Rattle.cm_text.specs.Views.{seen_view}
 use Rattle.cm_text.specs.declared.view.View.{View}
 use Rattle.cm_scan.specs.Lines.{is_blank}
-use Rattle.cm_scan.specs.Starts.{QuoteMarker, ItemStart, TextLine, start_of, content_column, first_content}
+use Rattle.cm_scan.specs.Starts.{QuoteMarker, ItemStart, TextLine}
 use Rattle.cm_block.specs.OpenLeaf.{begins_quote, begins_item, begin_of_start, begin_of}
 use Rattle.cm_block.specs.steps.PlaceViews.{begins_quote as is_quote, seen_marker}
 use Rattle.cm_block.specs.steps.StartViews.{seen}
-use Rattle.cm_block.specs.steps.FirstLines.{begins_container}
 use Rattle.cm_block.proofs.NextLineLemmas.{letter_shows, letter_text}
 use Rattle.cm_block.proofs.OpenedInTurn.{begins-as, no_container}
 use Rattle.cm_block.proofs.counted_line.CountedLine.begins.Goals.{Else-is_blank}

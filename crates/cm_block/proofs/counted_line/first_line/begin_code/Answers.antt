@@ -1,7 +1,6 @@
-use Rattle.std.proofs.Common.{◌++◌, string_bytes, ap, ap₂, ◌∙◌}
+use Rattle.std.proofs.Common.{◌++◌, ap₂, ◌∙◌}
 use Rattle.cm_text.specs.Lines.{LineView}
 use Rattle.cm_text.specs.Views.{seen_view}
-use Rattle.cm_scan.specs.Blocks.{line_feeds}
 use Rattle.cm_block.proofs.FeedLemmas.{feeds_of_first}
 use Rattle.cm_block.proofs.LeafLemmas.{code_begins}
 use Rattle.cm_block.proofs.counted_line.first_line.begin_code.Goals as goal

@@ -1,4 +1,4 @@
-use Rattle.std.proofs.Common.{[], ◌∷◌, ◌++◌, ◌&&◌, Some, suc, true, false, string_bytes, sym, ap, ap₂, ◌∙◌}
+use Rattle.std.proofs.Common.{[], ◌∷◌, ◌++◌, Some, suc, true, false, string_bytes, sym, ap, ap₂, ◌∙◌}
 use Rattle.cm_text.specs.Indentation.{strip_columns}
 use Rattle.cm_text.specs.Views.{seen_view}
 use Rattle.cm_text.specs.declared.view.View.{View}

@@ -1,4 +1,4 @@
-use Rattle.std.proofs.Common.{◌++◌, replicate, ap, ◌∙◌}
+use Rattle.std.proofs.Common.{replicate, ap, ◌∙◌}
 use Rattle.std.proofs.lemmas.Result.{on_ok_weaker}
 use Rattle.cm_block.specs.OwnerRuns.{OwnedLines}
 use Rattle.cm_block.specs.Stack.{Owned, own_lines, blank_owner}
