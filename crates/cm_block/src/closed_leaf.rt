@@ -52,7 +52,7 @@ pub(crate) enum ClosedLeaf {
     },
 }
 
-/// How many lines so many line feeds end, with so many more.
+/// How many lines a leaf has with so many line feeds in its text, and so many more.
 fn count_lines(feeds: usize, more: usize) -> Result<usize, AllocError>
     ensures { IfOk result (λ lines. lines ≡ feeds + more) }
 {
