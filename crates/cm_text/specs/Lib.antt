@@ -19,3 +19,5 @@ pub mod References
 pub mod Unescaping
 pub mod Views
 pub mod steps
+pub mod Addresses
+pub mod AddressExamples

@@ -1,4 +1,4 @@
--- The rules of a reading, where readers of CommonMark differ. Its two marks don't depend on each other.
+-- The rules of a reading, where readers of CommonMark differ. Its four marks don't depend on each other.
 use Rattle.std.specs.Prelude.{Bool, true, false}
 
 pub record Rules : Type 0 where
@@ -6,10 +6,14 @@ pub record Rules : Type 0 where
   pub older : Bool
   -- this project's own extension: strikethrough between two tildes and two tildes
   pub strike : Bool
+  -- without it no line starts an HTML block, and no `<` raw HTML
+  pub raw_html : Bool
+  -- without it an address is followed only if it has no scheme, or one of the web's
+  pub any_address : Bool
 
 -- CommonMark 0.31.2 as this project reads it
 abbrev pub profile : Rules
-profile = record { older = false; strike = false }
+profile = record { older = false; strike = false; raw_html = true; any_address = true }
 
 abbrev pub older_rules : Rules
-older_rules = record { older = true; strike = false }
+older_rules = record { older = true; strike = false; raw_html = true; any_address = true }

@@ -1,4 +1,5 @@
 //! Laws: facts about the definitions alone. Each is the contract of a public function with an empty body.
+ghost use Rattle.cm_text.specs.AddressExamples.{AddressExamples};
 ghost use Rattle.cm_text.specs.Lines.{LinesAreComputed, LinesAreDetermined, LinesAreLines, LinesWithLineFeeds};
 ghost use Rattle.cm_text.specs.Cut.{EndedLinesAreCut, LinesAreCut};
 ghost use Rattle.cm_text.specs.Indentation.{StripTakesColumns, StripInParts, SpacesAreColumns, SpacesAreStripped};
@@ -63,4 +64,9 @@ pub fn worked_examples()
     ensures references { ReferenceExamples }
     ensures unescape { UnescapeExamples }
     ensures limits { LimitExamples }
+{}
+
+/// Worked examples of addresses, by computation.
+pub fn address_examples()
+    ensures { AddressExamples }
 {}

@@ -6,7 +6,7 @@
 //! - Devices: [`Source`], [`Sink`], [`FromRead`], [`FromWrite`], and in memory [`Pieces`] and [`Room`].
 //! - Lines: [`LineFeed`], [`Line`], [`View`], [`indent`] and [`strip`].
 //! - What is read in a text: [`reference_at`], [`unescape`], [`fold_label`], [`next_markup`], [`is_ascii_punct`], [`is_punct`] and
-//!   [`is_space`].
+//!   [`is_space`]; and where an address leads: [`is_followed`].
 //! - Faults: [`TextFault`], [`WriteFailed`], [`DeviceFailed`] and [`NoMemory`].
 //!
 //! The rest is what the crates above use.
@@ -31,6 +31,7 @@
 //! ```
 #![tactic(auto)]
 
+mod addresses;
 mod characters;
 mod columns;
 mod device;
@@ -56,6 +57,7 @@ mod utf8;
 mod view;
 mod writing;
 
+pub use addresses::is_followed;
 pub use characters::{is_ascii_punct, is_punct, is_punct_by, is_space};
 pub use device::{DeviceFailed, FromRead, FromWrite, NoMemory, Pieces, Room, Sink, Source};
 pub use fault::TextFault;

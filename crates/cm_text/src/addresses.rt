@@ -1,0 +1,49 @@
+//! Where addresses lead.
+ghost use Rattle.std.specs.Prelude.{◌≡◌, ◌==◌, ◌||◌, position};
+ghost use Rattle.cm_text.specs.Addresses.{begins_a_part, is_followed, is_web_address, is_web_scheme};
+
+use crate::rules::Rules;
+
+/// Whether an address leads somewhere by these rules: each one does, or those alone that have no scheme, or one of
+/// the web's, which are `http`, `https` and `mailto` in any case. A scheme is what stands before the first `:`, if
+/// no `/`, `?` or `#` stands before that.
+///
+/// The address is a destination whose backslashes and references are resolved, as a tree has it.
+pub fn is_followed(rules: Rules, address: &str) -> bool
+    ensures { result ≡ is_followed rules address.now }
+{
+    rules.any_address() || is_web_address(address.as_bytes())
+}
+
+/// Whether an address has no scheme, or one of the web's.
+fn is_web_address(address: &[u8]) -> bool
+    ensures { result ≡ is_web_address address.now }
+{
+    match find_scheme_end(address) {
+        Some(at) => address[at] != b':' || is_web_scheme(&address[..at]),
+        None => true,
+    }
+}
+
+/// Where a scheme ends, or what follows begins, if there is none.
+fn find_scheme_end(address: &[u8]) -> Option<usize>
+    ensures { result ≡ position (λ b. b == 58 || begins_a_part b) address.now }
+{
+    address.iter().position(|b| *b == b':' || begins_a_part(*b))
+}
+
+/// Whether a path, a query or a fragment begins with this byte.
+fn begins_a_part(b: u8) -> bool
+    ensures { result ≡ begins_a_part b }
+{
+    matches!(b, b'/' | b'?' | b'#')
+}
+
+/// Whether a scheme is one of the web's.
+fn is_web_scheme(scheme: &[u8]) -> bool
+    ensures { result ≡ is_web_scheme scheme.now }
+{
+    scheme.eq_ignore_ascii_case(b"http")
+        || scheme.eq_ignore_ascii_case(b"https")
+        || scheme.eq_ignore_ascii_case(b"mailto")
+}
