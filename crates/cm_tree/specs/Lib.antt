@@ -1,6 +1,7 @@
 pub mod formers
 pub mod BoxedTexts
 pub mod Depth
+pub mod Followed
 pub mod HeadingLevels
 pub mod LinkTargets
 pub mod Definitions
