@@ -74,7 +74,7 @@ all-angles text x h = go (after_word (codes "<") text) refl
     go (Some inside) f = ap by (word-extends (codes "<") text x inside f) ∙ inside-extends inside x (stops inside (ap has_end (sym (word-front (codes "<") text inside f)) ∙ h))
     go None f = ap by (word-other (codes "<") text x f (at-least-one text (some-left text h)))
 
-longer_link : Option Autolink → List ℕ → Option Autolink
+unfoldable pub longer_link : Option Autolink → List ℕ → Option Autolink
 longer_link None x = None
 longer_link (Some l) x = Some (record { destination = l.destination; text = l.text; rest = l.rest ++ x })
 

@@ -6,7 +6,7 @@ use Rattle.cm_text.specs.Indentation.{indent_of}
 use Rattle.cm_scan.specs.Lines.{is_blank, content_of, marks, size}
 use Rattle.cm_scan.specs.LineForms.{Fence, ItemMarker}
 use Rattle.cm_scan.specs.HtmlBlocks.{HtmlKind}
-use Rattle.cm_scan.specs.Parts.{Parts, code, html, heading, thematic_break, blank, leaf, quote, put_item, put_leaves}
+use Rattle.cm_scan.specs.Parts.{info_of, Parts, code, html, heading, thematic_break, blank, leaf, quote, put_item, put_leaves}
 use Rattle.cm_scan.specs.Starts.{Start, IndentedCode, QuoteMarker, AtxHeading, OpeningFence, HtmlStart, BreakLine, ItemStart, TextLine, start_of, Place, behind_quote_marker, place_in_quote, content_column, first_content, place_in_item}
 use Rattle.cm_scan.specs.Blocks.{text_run, leaves_of_run, fenced, html_lines, indented, code_line, Inside, inside, quote_parts, item_parts, fence_parts, html_parts, code_parts, text_parts, parts_by_start, parts_by_cases, parts_within, parts_of}
 use Rattle.cm_scan.specs.Laws.{NoLines, FixedPoint, BlankCase, Begins, BreakCase, HeadingCase, FenceCase, HtmlCase, CodeCase, TextCase, next_inward, AllStay, no_more, one_stays, FirstLeaves, OneMoreStays, QuoteCase, ItemCase}
@@ -55,7 +55,7 @@ module _ (rules : Rules) (f g : List LineView → Parts) (line : LineView) (line
   unfolding fence_parts size
   agree-fence fence =
       let t = fenced fence (indent_of line) [] 1 lines in
-      ap (λ p. leaf (code fence.info t.text) t.lines p) (agree t.following (omega (arith, size-fenced fence (indent_of line) [] 1 lines)))
+      ap (λ p. leaf (code (info_of rules fence.info) t.text) t.lines p) (agree t.following (omega (arith, size-fenced fence (indent_of line) [] 1 lines)))
 
   agree-html : (kind : HtmlKind) → is_blank line ≡ false → html_parts rules f kind line lines ≡ html_parts rules g kind line lines
   unfolding html_parts size

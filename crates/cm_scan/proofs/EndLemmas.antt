@@ -3,10 +3,10 @@ use Rattle.std.proofs.Common.{◌≡◌, ℕ, zero, suc, Bool, true, false, ◌=
 use Rattle.cm_text.specs.Rules.{Rules}
 use Rattle.cm_scan.specs.Words.{is_letter, is_letter_or_digit, skip, front_of, after_word, ◌<|>◌}
 use Rattle.cm_scan.specs.Tags.{Named, after_gap, is_blank_next, tag_name, begins_attribute, continues_attribute, is_unquoted, after_quoted, after_unquoted, after_value, after_specification, after_attribute, after_tag_end, after_attributes, with_rest, open_tag, closing_tag}
-use Rattle.cm_scan.specs.RawHtml.{behind_tag, behind_word, from_to, short_end, after_comment, comment, instruction, after_declaration, declaration, character_data, raw_html}
+use Rattle.cm_scan.specs.RawHtml.{behind_tag, behind_word, from_to, short_end, after_comment, comment, instruction, after_declaration, declaration, character_data, html_tag, raw_html}
 use Rattle.cm_scan.proofs.ReadFurther.{none-some, some-same}
 use Rattle.cm_scan.proofs.TagsFurther.{with_rest-read, enough, closes}
-use Rattle.cm_scan.proofs.RawHtmlLemmas.{word-front}
+use Rattle.cm_scan.proofs.RawHtmlLemmas.{word-front, raw-tag}
 use Rattle.cm_scan.proofs.Ends.{IsEnd, whole-end, same-left, behind-byte, end-of-end, word-end, skip-end, gap-end}
 
 -- a word that ends so
@@ -208,9 +208,9 @@ declaration-ends text rest e = go (after_word (codes "<!") text) refl e
     go None f e = none-some e
     go (Some inside) f e = end-of-end (word-end (codes "<!") text inside f) (after_declaration-ends inside rest e)
 
-pub raw_html-ends : (rules : Rules) (text rest : List ℕ) → raw_html rules text ≡ Some rest → IsEnd (62 ∷ rest) text
-unfolding raw_html
-raw_html-ends rules text rest e = go (open_tag text) (closing_tag text) (comment rules.older text) (instruction text) (declaration text) refl refl refl refl refl e
+pub tag-ends : (rules : Rules) (text rest : List ℕ) → html_tag rules text ≡ Some rest → IsEnd (62 ∷ rest) text
+unfolding html_tag
+tag-ends rules text rest e = go (open_tag text) (closing_tag text) (comment rules.older text) (instruction text) (declaration text) refl refl refl refl refl e
   where
     go : (a b : Option Named) (c d f : Option (List ℕ)) → open_tag text ≡ a → closing_tag text ≡ b → comment rules.older text ≡ c → instruction text ≡ d → declaration text ≡ f
         → behind_tag a <|> behind_tag b <|> c <|> d <|> f <|> character_data text ≡ Some rest → IsEnd (62 ∷ rest) text
@@ -220,6 +220,9 @@ raw_html-ends rules text rest e = go (open_tag text) (closing_tag text) (comment
     go None None None (Some left) f p q r s t e = from_to-ends (codes "<?") (codes "?") text rest (s ∙ e)
     go None None None None (Some left) p q r s t e = declaration-ends text rest (t ∙ e)
     go None None None None None p q r s t e = from_to-ends (codes "<![CDATA[") (codes "]]") text rest e
+
+pub raw_html-ends : (rules : Rules) (text rest : List ℕ) → raw_html rules text ≡ Some rest → IsEnd (62 ∷ rest) text
+raw_html-ends rules text rest e = tag-ends rules text rest (raw-tag rules text rest e).1
 
 -- so it holds one
 

@@ -8,7 +8,7 @@ use Rattle.cm_text.specs.Rules.{Rules}
 use Rattle.cm_scan.specs.Words.{is_letter, after_word, ◌<|>◌}
 use Rattle.cm_scan.specs.Tags.{tag_name, open_tag, closing_tag}
 use Rattle.cm_scan.specs.Links.{Reading}
-use Rattle.cm_scan.specs.RawHtml.{behind_tag, behind_word, from_to, short_end, after_comment, comment, after_declaration, declaration, raw_html}
+use Rattle.cm_scan.specs.RawHtml.{behind_tag, behind_word, from_to, short_end, after_comment, comment, after_declaration, declaration, html_tag, raw_html}
 use Rattle.cm_scan.specs.Angles.{before}
 use Rattle.cm_scan.specs.Scanned.{whole_of}
 use Rattle.cm_scan.proofs.RawHtmlLemmas.{word-front}
@@ -71,21 +71,21 @@ first-alone None = refl
 first-alone (Some r) = refl
 
 module _ (rules : Rules) where
-  mark-dashes : (inside : List ℕ) → raw_html rules (60 ∷ 33 ∷ 45 ∷ 45 ∷ inside) ≡ after_comment rules.older inside <|> None
-  unfolding raw_html open_tag closing_tag comment from_to declaration after_declaration after_word tag_name
+  mark-dashes : (inside : List ℕ) → html_tag rules (60 ∷ 33 ∷ 45 ∷ 45 ∷ inside) ≡ after_comment rules.older inside <|> None
+  unfolding html_tag open_tag closing_tag comment from_to declaration after_declaration after_word tag_name
   mark-dashes inside = refl
 
-  mark-bracket : (inside : List ℕ) → raw_html rules (60 ∷ 33 ∷ (codes "[CDATA[" ++ inside)) ≡ behind_word (codes "]]>") inside
-  unfolding raw_html open_tag closing_tag comment from_to declaration after_declaration after_word tag_name
+  mark-bracket : (inside : List ℕ) → html_tag rules (60 ∷ 33 ∷ (codes "[CDATA[" ++ inside)) ≡ behind_word (codes "]]>") inside
+  unfolding html_tag open_tag closing_tag comment from_to declaration after_declaration after_word tag_name
   mark-bracket inside = refl
 
   module _ (inside : List ℕ) where
-    pub mark-comment : (rest : List ℕ) → Some rest ≡ after_word (codes "--") inside → after_comment rules.older rest ≡ raw_html rules (60 ∷ 33 ∷ inside)
+    pub mark-comment : (rest : List ℕ) → Some rest ≡ after_word (codes "--") inside → after_comment rules.older rest ≡ html_tag rules (60 ∷ 33 ∷ inside)
     mark-comment rest h =
-        sym (ap (λ t. raw_html rules (60 ∷ 33 ∷ t)) (word-front (codes "--") inside rest (sym h)) ∙ mark-dashes rest ∙ first-alone (after_comment rules.older rest))
+        sym (ap (λ t. html_tag rules (60 ∷ 33 ∷ t)) (word-front (codes "--") inside rest (sym h)) ∙ mark-dashes rest ∙ first-alone (after_comment rules.older rest))
 
-    pub mark-section : (rest : List ℕ) → Some rest ≡ after_word (codes "[CDATA[") inside → behind_word (codes "]]>") rest ≡ raw_html rules (60 ∷ 33 ∷ inside)
-    mark-section rest h = sym (ap (λ t. raw_html rules (60 ∷ 33 ∷ t)) (word-front (codes "[CDATA[") inside rest (sym h)) ∙ mark-bracket rest)
+    pub mark-section : (rest : List ℕ) → Some rest ≡ after_word (codes "[CDATA[") inside → behind_word (codes "]]>") rest ≡ html_tag rules (60 ∷ 33 ∷ inside)
+    mark-section rest h = sym (ap (λ t. html_tag rules (60 ∷ 33 ∷ t)) (word-front (codes "[CDATA[") inside rest (sym h)) ∙ mark-bracket rest)
 
     abbrev ended : Option (List ℕ) → Option (List ℕ)
     ended o = elim o as (λ _. Option (List ℕ)) [ Some t ↦ behind_word (codes "]]>") t | None ↦ None ]
@@ -93,42 +93,42 @@ module _ (rules : Rules) where
     abbrev commented : Option (List ℕ) → Option (List ℕ)
     commented o = elim o as (λ _. Option (List ℕ)) [ Some t ↦ after_comment rules.older t | None ↦ None ]
 
-    mark-parts : raw_html rules (60 ∷ 33 ∷ inside) ≡ (commented (after_word (codes "--") inside) <|> after_declaration inside <|> ended (after_word (codes "[CDATA[") inside))
-    unfolding raw_html open_tag closing_tag comment from_to declaration after_word tag_name
+    mark-parts : html_tag rules (60 ∷ 33 ∷ inside) ≡ (commented (after_word (codes "--") inside) <|> after_declaration inside <|> ended (after_word (codes "[CDATA[") inside))
+    unfolding html_tag open_tag closing_tag comment from_to declaration after_word tag_name
     mark-parts = refl
 
-    pub mark-declaration : None ≡ after_word (codes "--") inside → None ≡ after_word (codes "[CDATA[") inside → after_declaration inside ≡ raw_html rules (60 ∷ 33 ∷ inside)
+    pub mark-declaration : None ≡ after_word (codes "--") inside → None ≡ after_word (codes "[CDATA[") inside → after_declaration inside ≡ html_tag rules (60 ∷ 33 ∷ inside)
     mark-declaration h k =
         sym (mark-parts ∙ ap (λ o. commented o <|> after_declaration inside <|> ended (after_word (codes "[CDATA[") inside)) (sym h)
         ∙ ap (λ o. after_declaration inside <|> ended o) (sym k) ∙ first-alone (after_declaration inside))
 
   -- any raw HTML
 
-  pub html-none : None ≡ raw_html rules []
-  unfolding raw_html open_tag closing_tag comment from_to declaration after_word
+  pub html-none : None ≡ html_tag rules []
+  unfolding html_tag open_tag closing_tag comment from_to declaration after_word
   html-none = refl
 
-  pub html-other : (b : ℕ) (bs : List ℕ) → (b ≡ 60 → ⊥) → None ≡ raw_html rules (b ∷ bs)
-  unfolding raw_html open_tag closing_tag comment from_to declaration after_word
+  pub html-other : (b : ℕ) (bs : List ℕ) → (b ≡ 60 → ⊥) → None ≡ html_tag rules (b ∷ bs)
+  unfolding html_tag open_tag closing_tag comment from_to declaration after_word
   html-other b bs h = grind (arith, h)
 
-  pub html-end : None ≡ raw_html rules (60 ∷ [])
-  unfolding raw_html open_tag closing_tag comment from_to declaration after_word tag_name
+  pub html-end : None ≡ html_tag rules (60 ∷ [])
+  unfolding html_tag open_tag closing_tag comment from_to declaration after_word tag_name
   html-end = refl
 
-  pub html-instruction : (behind : List ℕ) → behind_word (codes "?>") behind ≡ raw_html rules (60 ∷ 63 ∷ behind)
-  unfolding raw_html open_tag closing_tag comment from_to declaration after_word tag_name
+  pub html-instruction : (behind : List ℕ) → behind_word (codes "?>") behind ≡ html_tag rules (60 ∷ 63 ∷ behind)
+  unfolding html_tag open_tag closing_tag comment from_to declaration after_word tag_name
   html-instruction behind = sym (first-alone (behind_word (codes "?>") behind))
 
-  pub html-closing : (behind : List ℕ) → behind_tag (closing_tag (60 ∷ 47 ∷ behind)) ≡ raw_html rules (60 ∷ 47 ∷ behind)
-  unfolding raw_html open_tag comment from_to declaration after_word tag_name
+  pub html-closing : (behind : List ℕ) → behind_tag (closing_tag (60 ∷ 47 ∷ behind)) ≡ html_tag rules (60 ∷ 47 ∷ behind)
+  unfolding html_tag open_tag comment from_to declaration after_word tag_name
   html-closing behind = sym (first-alone (behind_tag (closing_tag (60 ∷ 47 ∷ behind))))
 
-  html-alone : (c : ℕ) (behind : List ℕ) → (c ≡ 33 → ⊥) → (c ≡ 63 → ⊥) → (c ≡ 47 → ⊥) → raw_html rules (60 ∷ c ∷ behind) ≡ behind_tag (open_tag (60 ∷ c ∷ behind)) <|> None
-  unfolding raw_html closing_tag comment from_to declaration after_word
+  html-alone : (c : ℕ) (behind : List ℕ) → (c ≡ 33 → ⊥) → (c ≡ 63 → ⊥) → (c ≡ 47 → ⊥) → html_tag rules (60 ∷ c ∷ behind) ≡ behind_tag (open_tag (60 ∷ c ∷ behind)) <|> None
+  unfolding html_tag closing_tag comment from_to declaration after_word
   html-alone c behind h k l = grind (arith, h, k, l)
 
-  pub html-open : (c : ℕ) (behind : List ℕ) → (c ≡ 33 → ⊥) → (c ≡ 63 → ⊥) → (c ≡ 47 → ⊥) → behind_tag (open_tag (60 ∷ c ∷ behind)) ≡ raw_html rules (60 ∷ c ∷ behind)
+  pub html-open : (c : ℕ) (behind : List ℕ) → (c ≡ 33 → ⊥) → (c ≡ 63 → ⊥) → (c ≡ 47 → ⊥) → behind_tag (open_tag (60 ∷ c ∷ behind)) ≡ html_tag rules (60 ∷ c ∷ behind)
   html-open c behind h k l = sym (html-alone c behind h k l ∙ first-alone (behind_tag (open_tag (60 ∷ c ∷ behind))))
 
 -- the whole of it, by what is left

@@ -2,8 +2,8 @@
 use Rattle.cm_scan.specs.Words.{skip, front_of, run_length, after_run, after_word}
 use Rattle.cm_scan.specs.Tags.{after_gap, tag_name, after_quoted, after_unquoted, after_value, after_specification, after_attribute, after_tag_end, after_attributes, open_tag, closing_tag}
 use Rattle.cm_scan.specs.Links.{up_to_closing, label, bare_run, destination, has_blank_line, title_in, title}
-use Rattle.cm_scan.specs.RawHtml.{behind_word, from_to, short_end, after_comment, comment, after_declaration, declaration, raw_html}
-use Rattle.cm_scan.specs.Autolinks.{in_angles, is_scheme, is_absolute, labels, ends_with, is_host_label, is_address, as_autolink, autolink}
+use Rattle.cm_scan.specs.RawHtml.{behind_word, from_to, short_end, after_comment, comment, after_declaration, declaration, html_tag, raw_html}
+use Rattle.cm_scan.specs.Autolinks.{in_angles, is_scheme, is_absolute, labels, ends_with, is_host_label, is_address, as_autolink, autolink, followed_autolink}
 use Rattle.cm_scan.specs.CodeSpans.{up_to_run, but_last, stripped, code_span}
 use Rattle.cm_scan.specs.Angles.{before, at_angle}
 use Rattle.cm_scan.specs.Delimiters.{neighbour, delimiters_match}
@@ -11,9 +11,10 @@ use Rattle.cm_scan.specs.Pairing.{settled_after, paired, nearest_opener, pair_le
 use Rattle.cm_scan.specs.Atoms.{backtick_atom, angle_atom, backslash_atom, reference_atom, break_atom, run_between, run_atom, tilde_atom, bang_atom, markup_atom, atom_at}
 use Rattle.cm_scan.specs.Brackets.{after_destination, inline_end, reference_end, end_at, last_opener, holds_link, source_up_to, closed_by_bracket, close_bracket}
 use Rattle.cm_scan.specs.Inlines.{add_atom, item_step, items_after, items_of, inlines_of}
+use Rattle.cm_text.specs.Addresses.{address_scheme}
 use Rattle.cm_text.proofs.Computing.{label_folding, character_kinds, reading_references}
 
 -- `unfolding inline_structure` lets `refl` compute the inlines of a source
 unfoldable pub inline_structure : Unit {0}
-unfolding skip front_of run_length after_run after_word after_gap tag_name after_quoted after_unquoted after_value after_specification after_attribute after_tag_end after_attributes open_tag closing_tag up_to_closing label bare_run destination has_blank_line title_in title behind_word from_to short_end after_comment comment after_declaration declaration raw_html in_angles is_scheme is_absolute labels ends_with is_host_label is_address as_autolink autolink up_to_run but_last stripped code_span before at_angle neighbour delimiters_match settled_after paired nearest_opener pair_leftmost pairs_within pair_all backtick_atom angle_atom backslash_atom reference_atom break_atom run_between run_atom tilde_atom bang_atom markup_atom atom_at after_destination inline_end reference_end end_at last_opener holds_link source_up_to closed_by_bracket close_bracket add_atom item_step items_after items_of inlines_of label_folding character_kinds reading_references
+unfolding skip front_of run_length after_run after_word after_gap tag_name after_quoted after_unquoted after_value after_specification after_attribute after_tag_end after_attributes open_tag closing_tag up_to_closing label bare_run destination has_blank_line title_in title behind_word from_to short_end after_comment comment after_declaration declaration html_tag raw_html in_angles is_scheme is_absolute labels ends_with is_host_label is_address as_autolink autolink followed_autolink address_scheme up_to_run but_last stripped code_span before at_angle neighbour delimiters_match settled_after paired nearest_opener pair_leftmost pairs_within pair_all backtick_atom angle_atom backslash_atom reference_atom break_atom run_between run_atom tilde_atom bang_atom markup_atom atom_at after_destination inline_end reference_end end_at last_opener holds_link source_up_to closed_by_bracket close_bracket add_atom item_step items_after items_of inlines_of label_folding character_kinds reading_references
 inline_structure = tt

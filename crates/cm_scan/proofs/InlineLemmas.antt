@@ -127,7 +127,7 @@ pub plain_front_is_text : PlainFrontIsText
 unfolding items_after item_step add_atom ends_with
 plain_front_is_text rules defined before [] rest items plain parts = refl
 plain_front_is_text rules defined before (b ∷ bs) rest items plain parts =
-    ap (λ (a : AtomRead). by (add_atom defined items a.atom a.rest)) (plain-atom rules before b bs rest plain parts)
+    ap (λ (a : AtomRead). by (add_atom rules defined items a.atom a.rest)) (plain-atom rules before b bs rest plain parts)
     ∙ ap (λ n. items_after rules defined n (b ∷ before) (bs ++ rest) (Characters (b ∷ []) ∷ items)) nothing
     ∙ plain_front_is_text rules defined (b ∷ before) bs rest (Characters (b ∷ []) ∷ items) (and_parts (is_plain_byte b) (list_all is_plain_byte bs) plain).1 (further-keeps b bs rest parts)
     ∙ ap (λ passed. items_after rules defined zero passed rest (reverse (one_by_one bs) ++ Characters (b ∷ []) ∷ items)) (sym (append_assoc (reverse bs) (b ∷ []) before) ∙ ap (λ t. t ++ before) (sym (reverse-append (b ∷ []) bs)))
@@ -166,20 +166,20 @@ break-here n rest =
 
 -- the step at its first byte
 feed-step : (rules : Rules) (defined : Defined) (before bs : List ℕ) (items : List Item) (a : AtomRead) → break_atom (10 ∷ bs) ≡ Some a
-    → item_step rules defined before 10 bs items ≡ add_atom defined items a.atom a.rest
+    → item_step rules defined before 10 bs items ≡ add_atom rules defined items a.atom a.rest
 unfolding item_step atom_at markup_atom
 feed-step rules defined before bs items a e = ap (λ o. by (or_byte 10 bs o)) e
   where
     by : AtomRead → Bracketed
-    by read = add_atom defined items read.atom read.rest
+    by read = add_atom rules defined items read.atom read.rest
 
 space-step : (rules : Rules) (defined : Defined) (before bs : List ℕ) (items : List Item) (a : AtomRead) → break_atom (32 ∷ bs) ≡ Some a
-    → item_step rules defined before 32 bs items ≡ add_atom defined items a.atom a.rest
+    → item_step rules defined before 32 bs items ≡ add_atom rules defined items a.atom a.rest
 unfolding item_step atom_at markup_atom
 space-step rules defined before bs items a e = ap (λ o. by (or_byte 32 bs o)) e
   where
     by : AtomRead → Bracketed
-    by read = add_atom defined items read.atom read.rest
+    by read = add_atom rules defined items read.atom read.rest
 
 spaces-back : (n : ℕ) (before : List ℕ) → replicate n 32 ++ 32 ∷ before ≡ 32 ∷ (replicate n 32 ++ before)
 spaces-back zero before = refl

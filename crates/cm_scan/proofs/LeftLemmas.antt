@@ -5,6 +5,7 @@ use Rattle.std.specs.Prelude.{nat_le, replicate, encode_utf8_all, if◌then◌el
 use Rattle.std.specs.Str.Parse.{digits_value}
 use Rattle.std.proofs.lemmas.Bool.Decides.{nat_tests}
 use Rattle.cm_text.specs.Rules.{Rules}
+use Rattle.cm_text.specs.Addresses.{is_followed}
 use Rattle.cm_text.specs.Characters.{is_ascii_punct, within}
 use Rattle.cm_text.specs.NamedReferences.{names}
 use Rattle.cm_text.specs.References.{numbered, numbered_character, entry, named, between, decimal_reference, hexadecimal_reference, entity_reference, first_of_all, reference}
@@ -15,13 +16,13 @@ use Rattle.cm_scan.specs.Words.{is_control, run_length, after_run, skip, front_o
 use Rattle.cm_scan.specs.Tags.{is_blank_next, after_gap}
 use Rattle.cm_scan.specs.Links.{Reading, behind, keep_if, escapes_next, up_to_closing, opened_by, bare_run, is_label, label, is_filled, destination, has_no_blank_line, title_in, title}
 use Rattle.cm_scan.specs.CodeSpans.{up_to_run, span_content, spanned, code_span}
-use Rattle.cm_scan.specs.Autolinks.{Autolink, is_inside, ended, in_angles, is_absolute, is_address, as_autolink, autolink}
+use Rattle.cm_scan.specs.Autolinks.{Autolink, is_inside, ended, in_angles, is_absolute, is_address, as_autolink, autolink, link_if_followed, followed_autolink}
 use Rattle.cm_scan.specs.RawHtml.{raw_html}
 use Rattle.cm_scan.specs.Angles.{Angled, Addressed, Tagged, tagged, at_angle}
 use Rattle.cm_scan.specs.Delimiters.{Run}
 use Rattle.cm_scan.specs.Atoms.{Atom, AtomRead, Plain, Whole, Delimiter, OpenBracket, CloseBracket, read, link_of, backtick_atom, angle_atom, backslash_atom, reference_atom, break_atom, run_between, run_atom, tilde_atom, bang_atom, is_markup, markup_atom, byte_atom, or_byte, atom_at}
 use Rattle.cm_scan.specs.Pairing.{Item}
-use Rattle.cm_scan.specs.Brackets.{LinkEnd, Defined, closed, after_destination, inline_end, target_of, target_between, link_end, collapsed_or_shortcut, reference_end, end_at, OpenerFound, last_opener, holds_link, made, Bracketed, bracket_is_text, brackets_are_text, source_up_to, closed_by_bracket, close_bracket}
+use Rattle.cm_scan.specs.Brackets.{LinkEnd, Defined, closed, after_destination, inline_end, target_of, target_between, link_end, collapsed_or_shortcut, reference_end, end_if_followed, end_at, OpenerFound, last_opener, holds_link, made, Bracketed, bracket_is_text, brackets_are_text, source_up_to, closed_by_bracket, close_bracket}
 use Rattle.cm_scan.specs.Inlines.{add_atom, item_step}
 use Rattle.cm_scan.specs.InlineLaws.{StepLeavesAnEnd}
 use Rattle.cm_scan.specs.Runs.{run_in, characters_of}
@@ -186,17 +187,26 @@ reference_end-end defined source text end e = go (label text) refl e
     go (Some l) f e = full-end l e (label-end text l f)
     go None f e = other (target_between defined source) e
 
-pub end_at-end : (defined : Defined) (source text : List ℕ) (end : LinkEnd) → end_at defined source text ≡ Some end → IsEnd end.rest text
+pub end_at-end : (rules : Rules) (defined : Defined) (source text : List ℕ) (end : LinkEnd) → end_at rules defined source text ≡ Some end → IsEnd end.rest text
 unfolding end_at
-end_at-end defined source text end e = go (inline_end text) refl e
+end_at-end rules defined source text end e = go (end_if_followed rules (inline_end text)) refl e
   where
-    go : (o : Option LinkEnd) → inline_end text ≡ o → elim o as (λ _. Option LinkEnd) [ Some end ↦ Some end | None ↦ reference_end defined source text ] ≡ Some end → IsEnd end.rest text
-    go (Some found) f e = same-left found.rest end.rest (ap (λ (t : LinkEnd). t.rest) (some-is e)) (inline_end-end text found f)
-    go None f e = reference_end-end defined source text end e
+    followed : (o : Option LinkEnd) (found : LinkEnd) → end_if_followed rules o ≡ Some found → o ≡ Some found
+    followed None found f = none-some f
+    followed (Some other) found f = by (is_followed rules other.dest) f
+      where
+        by : (t : Bool) → elim t as (λ _. Option LinkEnd) [ true ↦ Some other | false ↦ None ] ≡ Some found → Some other ≡ Some found
+        by true f = f
+        by false f = none-some f
 
-by_bracket-end : (defined : Defined) (found : OpenerFound) (rest : List ℕ) → IsEnd (closed_by_bracket defined found rest).rest rest
+    go : (o : Option LinkEnd) → end_if_followed rules (inline_end text) ≡ o
+        → elim o as (λ _. Option LinkEnd) [ Some end ↦ Some end | None ↦ end_if_followed rules (reference_end defined source text) ] ≡ Some end → IsEnd end.rest text
+    go (Some found) f e = same-left found.rest end.rest (ap (λ (t : LinkEnd). t.rest) (some-is e)) (inline_end-end text found (followed (inline_end text) found f))
+    go None f e = reference_end-end defined source text end (followed (reference_end defined source text) end e)
+
+by_bracket-end : (rules : Rules) (defined : Defined) (found : OpenerFound) (rest : List ℕ) → IsEnd (closed_by_bracket rules defined found rest).rest rest
 unfolding closed_by_bracket
-by_bracket-end defined found rest = go (not found.image && holds_link found.inside) (end_at defined source rest) refl
+by_bracket-end rules defined found rest = go (not found.image && holds_link found.inside) (end_at rules defined source rest) refl
   where
     source : List ℕ
     source = source_up_to found.source (93 ∷ rest)
@@ -204,20 +214,20 @@ by_bracket-end defined found rest = go (not found.image && holds_link found.insi
     as_text : Bracketed
     as_text = record { items = brackets_are_text found; rest = rest }
 
-    go : (barred : Bool) (o : Option LinkEnd) → end_at defined source rest ≡ o → IsEnd (elim barred as (λ _. Bracketed) [
+    go : (barred : Bool) (o : Option LinkEnd) → end_at rules defined source rest ≡ o → IsEnd (elim barred as (λ _. Bracketed) [
       | true ↦ as_text
       | false ↦ elim o as (λ _. Bracketed) [ Some end ↦ record { items = made found.image end.dest end.title found.inside ∷ found.before; rest = end.rest } | None ↦ as_text ]
     ]).rest rest
     go true o f = whole-end rest
     go false None f = whole-end rest
-    go false (Some end) f = end_at-end defined source rest end f
+    go false (Some end) f = end_at-end rules defined source rest end f
 
-bracket-end : (defined : Defined) (items : List Item) (rest : List ℕ) → IsEnd (close_bracket defined items rest).rest rest
+bracket-end : (rules : Rules) (defined : Defined) (items : List Item) (rest : List ℕ) → IsEnd (close_bracket rules defined items rest).rest rest
 unfolding close_bracket
-bracket-end defined items rest = go (last_opener items [])
+bracket-end rules defined items rest = go (last_opener items [])
   where
-    go : (o : Option OpenerFound) → IsEnd (elim o as (λ _. Bracketed) [ Some found ↦ closed_by_bracket defined found rest | None ↦ record { items = bracket_is_text items; rest = rest } ]).rest rest
-    go (Some found) = by_bracket-end defined found rest
+    go : (o : Option OpenerFound) → IsEnd (elim o as (λ _. Bracketed) [ Some found ↦ closed_by_bracket rules defined found rest | None ↦ record { items = bracket_is_text items; rest = rest } ]).rest rest
+    go (Some found) = by_bracket-end rules defined found rest
     go None = whole-end rest
 
 -- Atoms: what they leave is an end of the source behind its first byte
@@ -322,7 +332,7 @@ link-behind b bs link e = go (after_word (codes "<") (b ∷ bs)) refl e
     go (Some inside) f e = end-of-end (word-behind 60 [] b bs inside f) (inside-end inside (after_word (codes ">") (skip is_inside inside)) refl e)
 
 angle-leaves : (rules : Rules) (b : ℕ) (bs : List ℕ) → Leaves (angle_atom rules (b ∷ bs)) bs
-unfolding angle_atom at_angle
+unfolding angle_atom at_angle followed_autolink
 angle-leaves rules b bs = go (autolink (b ∷ bs)) (raw_html rules (b ∷ bs)) refl refl
   where
     atom_of : Option Angled → Option AtomRead
@@ -332,11 +342,21 @@ angle-leaves rules b bs = go (autolink (b ∷ bs)) (raw_html rules (b ∷ bs)) r
       | None ↦ None
     ]
 
+    tag : (html : Option (List ℕ)) → raw_html rules (b ∷ bs) ≡ html → Leaves (atom_of (tagged (b ∷ bs) html)) bs
+    tag (Some rest) g = leaves _ bs refl (end-behind-one 62 b rest bs (raw_html-ends rules (b ∷ bs) rest g))
+    tag None g = leaves-none bs
+
     go : (link : Option Autolink) (html : Option (List ℕ)) → autolink (b ∷ bs) ≡ link → raw_html rules (b ∷ bs) ≡ html
-        → Leaves (atom_of (elim link as (λ _. Option Angled) [ Some link ↦ Some (Addressed link) | None ↦ tagged (b ∷ bs) html ])) bs
-    go (Some link) html f g = leaves _ bs refl (link-behind b bs link f)
-    go None (Some rest) f g = leaves _ bs refl (end-behind-one 62 b rest bs (raw_html-ends rules (b ∷ bs) rest g))
-    go None None f g = leaves-none bs
+        → Leaves (atom_of (elim (link_if_followed rules link) as (λ _. Option Angled) [ Some link ↦ Some (Addressed link) | None ↦ tagged (b ∷ bs) html ])) bs
+    go None html f g = tag html g
+    go (Some link) html f g = by (is_followed rules link.destination)
+      where
+        by : (t : Bool) → Leaves (atom_of (elim (elim t as (λ _. Option Autolink) [ true ↦ Some link | false ↦ None ]) as (λ _. Option Angled) [
+          | Some link ↦ Some (Addressed link)
+          | None ↦ tagged (b ∷ bs) html
+        ])) bs
+        by true = leaves _ bs refl (link-behind b bs link f)
+        by false = tag html g
 
 escape-two : (text : List ℕ) (escaped : List ℕ × ℕ) → escape text ≡ Some escaped → escaped.1 ≡ 2
 escape-two [] escaped e = none-some e
@@ -510,21 +530,21 @@ atom-left rules before b bs = go (is_markup b)
     go false = left (byte_atom b bs) bs refl (whole-end bs)
 
 -- a bracket may leave less than its atom does
-added-end : (defined : Defined) (items : List Item) (a : AtomRead) → IsEnd (add_atom defined items a.atom a.rest).rest a.rest
+added-end : (rules : Rules) (defined : Defined) (items : List Item) (a : AtomRead) → IsEnd (add_atom rules defined items a.atom a.rest).rest a.rest
 unfolding add_atom
-added-end defined items a = go a.atom
+added-end rules defined items a = go a.atom
   where
-    go : (atom : Atom) → IsEnd (add_atom defined items atom a.rest).rest a.rest
+    go : (atom : Atom) → IsEnd (add_atom rules defined items atom a.rest).rest a.rest
     go (Plain text) = whole-end a.rest
     go (Whole inline) = whole-end a.rest
     go (Delimiter run) = whole-end a.rest
     go (OpenBracket image) = whole-end a.rest
-    go CloseBracket = bracket-end defined items a.rest
+    go CloseBracket = bracket-end rules defined items a.rest
 
 pub step-left : (rules : Rules) (defined : Defined) (before : List ℕ) (b : ℕ) (bs : List ℕ) (items : List Item)
     → IsEnd (item_step rules defined before b bs items).rest (atom_at rules before b bs).rest
 unfolding item_step
-step-left rules defined before b bs items = added-end defined items (atom_at rules before b bs)
+step-left rules defined before b bs items = added-end rules defined items (atom_at rules before b bs)
 
 pub step_leaves_an_end : StepLeavesAnEnd
 step_leaves_an_end rules defined before b bs items =

@@ -45,3 +45,6 @@ pub mod NeededLemmas
 pub mod LevelLemmas
 pub mod Apart
 pub mod QuietStarts
+pub mod PartsRead
+pub mod InlinesRead
+pub mod TreesRead

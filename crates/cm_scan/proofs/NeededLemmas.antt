@@ -6,6 +6,7 @@ use Rattle.cm_scan.specs.SpanLaws.{NeedsEnd}
 use Rattle.cm_scan.proofs.ReadFurther.{none-some}
 use Rattle.cm_scan.proofs.HtmlSpanLemmas.{mark-comment, mark-section, html-instruction}
 use Rattle.cm_scan.proofs.EndLemmas.{raw_html-ends}
+use Rattle.cm_scan.proofs.RawHtmlLemmas.{no-tag}
 use Rattle.cm_scan.proofs.OlderLemmas.{older-inside}
 
 -- what no later place has
@@ -43,15 +44,16 @@ unfolding after_word
 section-next inside = refl
 
 pub comment-needs : NeedsEnd (codes "<!--") (codes "-->")
-comment-needs rules behind h = sym (mark-comment rules (45 ∷ 45 ∷ behind) behind (dashes-next behind)) ∙ comment-none rules.older behind h
+comment-needs rules behind h = no-tag rules (codes "<!--" ++ behind) (sym (mark-comment rules (45 ∷ 45 ∷ behind) behind (dashes-next behind)) ∙ comment-none rules.older behind h)
 
 pub section-needs : NeedsEnd (codes "<![CDATA[") (codes "]]>")
 unfolding behind_word after_word
-section-needs rules behind h = sym (mark-section rules (codes "[CDATA[" ++ behind) behind (section-next behind)) ∙ h
+section-needs rules behind h = no-tag rules (codes "<![CDATA[" ++ behind) (sym (mark-section rules (codes "[CDATA[" ++ behind) behind (section-next behind)) ∙ h)
 
 pub instruction-needs : NeedsEnd (codes "<?") (codes "?>")
 unfolding behind_word after_word
-instruction-needs rules behind h = sym (html-instruction rules behind) ∙ second-none (after_word (codes ">") behind) (behind_word (codes "?>") behind) h
+instruction-needs rules behind h =
+    no-tag rules (codes "<?" ++ behind) (sym (html-instruction rules behind) ∙ second-none (after_word (codes ">") behind) (behind_word (codes "?>") behind) h)
 
 -- any raw HTML
 

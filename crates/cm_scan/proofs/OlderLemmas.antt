@@ -1,9 +1,9 @@
 -- Raw HTML by the older rules is raw HTML.
 use Rattle.std.proofs.Common.{◌≡◌, ℕ, Bool, true, false, ◌==◌, List, [], ◌∷◌, ◌++◌, Option, Some, None, codes, refl, sym, ap, ◌∙◌, append-nil}
-use Rattle.cm_text.specs.Rules.{profile}
+use Rattle.cm_text.specs.Rules.{profile, older_rules}
 use Rattle.cm_scan.specs.Words.{after_word, ◌<|>◌}
 use Rattle.cm_scan.specs.Tags.{Named, open_tag, closing_tag}
-use Rattle.cm_scan.specs.RawHtml.{behind_tag, behind_word, short_end, after_comment, comment, instruction, declaration, character_data, raw_html}
+use Rattle.cm_scan.specs.RawHtml.{behind_tag, behind_word, short_end, after_comment, comment, instruction, declaration, character_data, html_tag, raw_html}
 use Rattle.cm_scan.specs.SpanLaws.{OlderIsRead}
 use Rattle.cm_scan.proofs.ReadFurther.{none-some, some-same}
 use Rattle.cm_scan.proofs.RawHtmlLemmas.{word-front, closing-goes-on, comment-goes-on, instruction-goes-on, declaration-goes-on, character_data-goes-on}
@@ -70,15 +70,15 @@ older-comment text rest e = go (after_word (codes "<!--") text) e
     go (Some inside) e = older-inside inside rest e
 
 -- nothing behind the text
-nothing-behind : (text rest : List ℕ) → raw_html profile (text ++ []) ≡ Some (rest ++ []) → raw_html profile text ≡ Some rest
-nothing-behind text rest e = ap (raw_html profile) (sym (append-nil text)) ∙ e ∙ ap Some (append-nil rest)
+nothing-behind : (text rest : List ℕ) → html_tag profile (text ++ []) ≡ Some (rest ++ []) → html_tag profile text ≡ Some rest
+nothing-behind text rest e = ap (html_tag profile) (sym (append-nil text)) ∙ e ∙ ap Some (append-nil rest)
 
-pub older_is_read : OlderIsRead
-unfolding raw_html
-older_is_read text rest e = go (open_tag text) (closing_tag text) (comment true text) (instruction text) (declaration text) refl refl refl refl refl e
+older-tag : (text rest : List ℕ) → html_tag older_rules text ≡ Some rest → html_tag profile text ≡ Some rest
+unfolding html_tag
+older-tag text rest e = go (open_tag text) (closing_tag text) (comment true text) (instruction text) (declaration text) refl refl refl refl refl e
   where
     go : (a b : Option Named) (c d f : Option (List ℕ)) → open_tag text ≡ a → closing_tag text ≡ b → comment true text ≡ c → instruction text ≡ d → declaration text ≡ f
-        → behind_tag a <|> behind_tag b <|> c <|> d <|> f <|> character_data text ≡ Some rest → raw_html profile text ≡ Some rest
+        → behind_tag a <|> behind_tag b <|> c <|> d <|> f <|> character_data text ≡ Some rest → html_tag profile text ≡ Some rest
     go (Some tag) b c d f p q r s t e =
         ap (λ (o : Option Named). behind_tag o <|> behind_tag (closing_tag text) <|> comment false text <|> instruction text <|> declaration text <|> character_data text) p ∙ e
     go None (Some tag) c d f p q r s t e = nothing-behind text tag.rest (closing-goes-on profile text [] tag q) ∙ e
@@ -86,3 +86,7 @@ older_is_read text rest e = go (open_tag text) (closing_tag text) (comment true 
     go None None None (Some left) f p q r s t e = nothing-behind text left (instruction-goes-on profile text [] left s) ∙ e
     go None None None None (Some left) p q r s t e = nothing-behind text left (declaration-goes-on profile text [] left t) ∙ e
     go None None None None None p q r s t e = nothing-behind text rest (character_data-goes-on profile text [] rest e)
+
+pub older_is_read : OlderIsRead
+unfolding raw_html
+older_is_read text rest e = older-tag text rest e

@@ -101,14 +101,14 @@ pub record Alike (one other : Bracketed) : Type 0 where
   pub items : back one.items ≡ back other.items
   pub rest : one.rest ≡ other.rest
 
-closed-alike : (defined : Defined) (found : OpenerFound) (rest : List ℕ) → Alike (closed_by_bracket defined (opener_in_pieces found) rest) (closed_by_bracket defined found rest)
+closed-alike : (rules : Rules) (defined : Defined) (found : OpenerFound) (rest : List ℕ) → Alike (closed_by_bracket rules defined (opener_in_pieces found) rest) (closed_by_bracket rules defined found rest)
 unfolding closed_by_bracket opener_in_pieces
-closed-alike defined found rest =
+closed-alike rules defined found rest =
     subst (λ v. Alike (closed_in_pieces (not found.image && v) end) (closed (not found.image && holds_link found.inside) end)) (sym (same-link found.inside))
     (each (not found.image && holds_link found.inside) end)
   where
     end : Option LinkEnd
-    end = end_at defined (source_up_to found.source (93 ∷ rest)) rest
+    end = end_at rules defined (source_up_to found.source (93 ∷ rest)) rest
 
     closed_in_pieces : Bool → Option LinkEnd → Bracketed
     closed_in_pieces v o = elim v as (λ _. Bracketed) [
@@ -137,40 +137,40 @@ closed-alike defined found rest =
       rest = refl;
     }
 
-close-alike : (defined : Defined) (items : List Item) (rest : List ℕ) → Alike (close_bracket defined (back items) rest) (close_bracket defined items rest)
+close-alike : (rules : Rules) (defined : Defined) (items : List Item) (rest : List ℕ) → Alike (close_bracket rules defined (back items) rest) (close_bracket rules defined items rest)
 unfolding close_bracket
-close-alike defined items rest = subst (λ o. Alike (by (back items) o) (by items (last_opener items []))) (sym (opener-in-pieces items [])) (each (last_opener items []))
+close-alike rules defined items rest = subst (λ o. Alike (by (back items) o) (by items (last_opener items []))) (sym (opener-in-pieces items [])) (each (last_opener items []))
   where
     by : List Item → Option OpenerFound → Bracketed
-    by all o = elim o as (λ _. Bracketed) [ Some found ↦ closed_by_bracket defined found rest | None ↦ record { items = bracket_is_text all; rest = rest } ]
+    by all o = elim o as (λ _. Bracketed) [ Some found ↦ closed_by_bracket rules defined found rest | None ↦ record { items = bracket_is_text all; rest = rest } ]
 
     each : (o : Option OpenerFound) → Alike (by (back items) (option_map opener_in_pieces o)) (by items o)
     each None = record { items = ap (λ t. back_pieces (Characters (93 ∷ [])) ++ t) (back-again items); rest = refl }
-    each (Some found) = closed-alike defined found rest
+    each (Some found) = closed-alike rules defined found rest
 
 -- what is the same in pieces goes on alike
 
-close-same : (defined : Defined) (items others : List Item) (rest : List ℕ) → back items ≡ back others → Alike (close_bracket defined items rest) (close_bracket defined others rest)
-close-same defined items others rest e =
-    let one = close-alike defined items rest in
-    let other = close-alike defined others rest in
+close-same : (rules : Rules) (defined : Defined) (items others : List Item) (rest : List ℕ) → back items ≡ back others → Alike (close_bracket rules defined items rest) (close_bracket rules defined others rest)
+close-same rules defined items others rest e =
+    let one = close-alike rules defined items rest in
+    let other = close-alike rules defined others rest in
     record {
-      items = sym one.items ∙ ap (λ t. back (close_bracket defined t rest).items) e ∙ other.items;
-      rest = sym one.rest ∙ ap (λ t. (close_bracket defined t rest).rest) e ∙ other.rest;
+      items = sym one.items ∙ ap (λ t. back (close_bracket rules defined t rest).items) e ∙ other.items;
+      rest = sym one.rest ∙ ap (λ t. (close_bracket rules defined t rest).rest) e ∙ other.rest;
     }
 
-add-same : (defined : Defined) (items others : List Item) (atom : Atom) (rest : List ℕ) → back items ≡ back others → Alike (add_atom defined items atom rest) (add_atom defined others atom rest)
+add-same : (rules : Rules) (defined : Defined) (items others : List Item) (atom : Atom) (rest : List ℕ) → back items ≡ back others → Alike (add_atom rules defined items atom rest) (add_atom rules defined others atom rest)
 unfolding add_atom
-add-same defined items others (Plain text) rest e = record { items = ap (λ t. back_pieces (Characters text) ++ t) e; rest = refl }
-add-same defined items others (Whole inline) rest e = record { items = ap (λ t. Finished inline ∷ t) e; rest = refl }
-add-same defined items others (Delimiter run) rest e = record { items = ap (λ t. Delimiters run ∷ t) e; rest = refl }
-add-same defined items others (OpenBracket image) rest e = record { items = ap (λ t. Opener image rest ∷ t) e; rest = refl }
-add-same defined items others CloseBracket rest e = close-same defined items others rest e
+add-same rules defined items others (Plain text) rest e = record { items = ap (λ t. back_pieces (Characters text) ++ t) e; rest = refl }
+add-same rules defined items others (Whole inline) rest e = record { items = ap (λ t. Finished inline ∷ t) e; rest = refl }
+add-same rules defined items others (Delimiter run) rest e = record { items = ap (λ t. Delimiters run ∷ t) e; rest = refl }
+add-same rules defined items others (OpenBracket image) rest e = record { items = ap (λ t. Opener image rest ∷ t) e; rest = refl }
+add-same rules defined items others CloseBracket rest e = close-same rules defined items others rest e
 
 pub step-same : (rules : Rules) (defined : Defined) (before : List ℕ) (b : ℕ) (bs : List ℕ) (items others : List Item) → back items ≡ back others
     → Alike (item_step rules defined before b bs items) (item_step rules defined before b bs others)
 unfolding item_step
-step-same rules defined before b bs items others e = add-same defined items others (atom_at rules before b bs).atom (atom_at rules before b bs).rest e
+step-same rules defined before b bs items others e = add-same rules defined items others (atom_at rules before b bs).atom (atom_at rules before b bs).rest e
 
 read-same : (rules : Rules) (defined : Defined) (n : ℕ) (before source : List ℕ) (items others : List Item) → back items ≡ back others
     → back (items_after rules defined n before source items) ≡ back (items_after rules defined n before source others)

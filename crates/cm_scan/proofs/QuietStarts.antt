@@ -101,7 +101,7 @@ letter-starts rules line eager letter =
 
 pub letter-underlines : (line : LineView) → line.lazy ≡ false → is_at_letter line.text ≡ true → underline_of line ≡ None
 letter-underlines line eager letter =
-    (unindented_line (record { older = false; strike = false }) line eager (letter-unindented line.text letter)).level ∙ letter-no-level line.text letter
+    (unindented_line (record { older = false; strike = false; raw_html = true; any_address = true }) line eager (letter-unindented line.text letter)).level ∙ letter-no-level line.text letter
 
 -- and all of it is its content
 pub letter-content : (text : List ℕ) → is_at_letter text ≡ true → trim_start text ≡ text

@@ -1,10 +1,10 @@
 -- What starts an HTML block, behind its `<`.
-use Rattle.std.proofs.Common.{◌≡◌, ℕ, false, ◌&&◌, List, [], ◌∷◌, Some, None, codes, refl, sym, arith}
+use Rattle.std.proofs.Common.{◌≡◌, ℕ, Bool, true, false, ◌&&◌, List, [], ◌∷◌, Option, Some, None, codes, refl, sym, ap, arith}
 use Rattle.std.specs.Prelude.{not}
 use Rattle.cm_text.specs.Rules.{Rules}
 use Rattle.cm_scan.specs.Words.{is_at_word, is_blank_text, is_among, after_word, given, ◌<|>◌}
 use Rattle.cm_scan.specs.Tags.{Named, tag_name, open_tag, closing_tag}
-use Rattle.cm_scan.specs.HtmlBlocks.{RawText, Comment, Instruction, Declaration, CharacterData, BlockTag, AnyTag, lower, raw_text_names, block_names, is_at_tag_end, is_raw_text_start, is_declaration_start, is_block_tag_start, is_any_tag_start, html_start}
+use Rattle.cm_scan.specs.HtmlBlocks.{HtmlKind, RawText, Comment, Instruction, Declaration, CharacterData, BlockTag, AnyTag, lower, raw_text_names, block_names, is_at_tag_end, is_raw_text_start, is_declaration_start, is_block_tag_start, is_any_tag_start, html_start}
 
 -- condition 6
 
@@ -53,7 +53,7 @@ module _ (b : ℕ) (bs : List ℕ) (other : b ≡ 47 → ⊥) where
 
 -- all seven
 
-pub starts : (rules : Rules) (behind : List ℕ) → html_start rules (60 ∷ behind)
+pub starts : (rules : Rules) → rules.raw_html ≡ true → (behind : List ℕ) → html_start rules (60 ∷ behind)
     ≡ (given (is_raw_text_start (60 ∷ behind)) RawText
     <|> given (is_at_word (codes "!--") behind) Comment
     <|> given (is_at_word (codes "?") behind) Instruction
@@ -62,11 +62,28 @@ pub starts : (rules : Rules) (behind : List ℕ) → html_start rules (60 ∷ be
     <|> given (is_block_tag_start rules (60 ∷ behind)) BlockTag
     <|> given (is_any_tag_start (60 ∷ behind)) AnyTag)
 unfolding html_start is_at_word
-starts rules behind = refl
+starts rules on behind = ap by on
+  where
+    by : Bool → Option HtmlKind
+    by t = elim t as (λ _. Option HtmlKind) [
+      | true ↦ given (is_raw_text_start (60 ∷ behind)) RawText
+          <|> given (is_at_word (codes "<!--") (60 ∷ behind)) Comment
+          <|> given (is_at_word (codes "<?") (60 ∷ behind)) Instruction
+          <|> given (is_declaration_start (60 ∷ behind)) Declaration
+          <|> given (is_at_word (codes "<![CDATA[") (60 ∷ behind)) CharacterData
+          <|> given (is_block_tag_start rules (60 ∷ behind)) BlockTag
+          <|> given (is_any_tag_start (60 ∷ behind)) AnyTag
+      | false ↦ None
+    ]
 
 pub no_start : (rules : Rules) (b : ℕ) (bs : List ℕ) → (b ≡ 60 → ⊥) → html_start rules (b ∷ bs) ≡ None
 unfolding html_start
 no_start rules b bs other = grind (arith, other)
+
+pub no_start_without : (rules : Rules) → rules.raw_html ≡ false → (text : List ℕ) → html_start rules text ≡ None
+unfolding html_start
+no_start_without rules off [] = refl
+no_start_without rules off (b ∷ bs) = grind (arith, off)
 
 pub no_start_at_end : (rules : Rules) → html_start rules [] ≡ None
 unfolding html_start

@@ -3,7 +3,7 @@ use Rattle.std.specs.Prelude.{ℕ, ◌-◌, List, length, take, Option, Some, No
 use Rattle.cm_text.specs.Rules.{Rules}
 use Rattle.cm_scan.specs.Links.{Reading}
 use Rattle.cm_scan.specs.RawHtml.{raw_html}
-use Rattle.cm_scan.specs.Autolinks.{Autolink, autolink}
+use Rattle.cm_scan.specs.Autolinks.{Autolink, followed_autolink}
 
 pub data Angled : Type 0 where
   Addressed : Autolink → Angled
@@ -18,6 +18,6 @@ abbrev pub tagged : List ℕ → Option (List ℕ) → Option Angled
 tagged text None = None
 tagged text (Some rest) = Some (Tagged (record { text = before rest text; rest = rest }))
 
--- an autolink goes before raw HTML
+-- an autolink goes before raw HTML; one that leads to an address which the rules don't follow is none
 unfoldable pub at_angle : Rules → List ℕ → Option Angled
-at_angle rules text = elim (autolink text) [ Some link ↦ Some (Addressed link) | None ↦ tagged text (raw_html rules text) ]
+at_angle rules text = elim (followed_autolink rules text) [ Some link ↦ Some (Addressed link) | None ↦ tagged text (raw_html rules text) ]

@@ -15,7 +15,7 @@ use Rattle.cm_scan.specs.LineForms.{Fence, is_closing_fence, ItemMarker}
 use Rattle.cm_scan.specs.HtmlBlocks.{HtmlKind, is_html_end, ends_at_blank_line}
 use Rattle.cm_scan.specs.Links.{LinkDefinition, definitions_of}
 use Rattle.cm_scan.specs.Starts.{Start, IndentedCode, QuoteMarker, AtxHeading, OpeningFence, HtmlStart, BreakLine, ItemStart, TextLine, start_of, interrupts_paragraph, underline_of, Place, Stays, StaysIfOpen, Leaves, behind_quote_marker, place_in_quote, content_column, first_content, place_in_item}
-use Rattle.cm_scan.specs.Parts.{LeafPart, paragraph, heading, code, html, thematic_break, definition, Parts, none, blank, leaf, quote, leaves_paragraph_open, put_item, put_leaves, blocks_of_parts, line_owners, depths_of, table_of}
+use Rattle.cm_scan.specs.Parts.{info_of, LeafPart, paragraph, heading, code, html, thematic_break, definition, Parts, none, blank, leaf, quote, leaves_paragraph_open, put_item, put_leaves, blocks_of_parts, line_owners, depths_of, table_of}
 
 -- one more line of a run of text, whose source so far is given: its leading spaces and tabs go (4.8 Paragraphs)
 abbrev pub add_text : List ℕ → LineView → List ℕ
@@ -189,7 +189,7 @@ module _ (rules : Rules) (parts : List LineView → Parts) where
   unfoldable pub fence_parts : Fence → LineView → List LineView → Parts
   fence_parts fence line lines =
       let t = fenced fence (indent_of line) [] 1 lines in
-      leaf (code fence.info t.text) t.lines (parts t.following)
+      leaf (code (info_of rules fence.info) t.text) t.lines (parts t.following)
 
   -- 4.6 HTML blocks: the first line may be the last
   unfoldable pub html_parts : HtmlKind → LineView → List LineView → Parts

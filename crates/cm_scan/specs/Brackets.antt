@@ -2,6 +2,8 @@
 -- with the last first.
 use Rattle.std.specs.Prelude.{ℕ, ◌-◌, Bool, true, false, not, ◌&&◌, ◌||◌, List, [], ◌∷◌, ◌++◌, length, take, reverse, Option, Some, None, codes, if◌then◌else◌}
 use Rattle.std.specs.FinMap.{get}
+use Rattle.cm_text.specs.Rules.{Rules}
+use Rattle.cm_text.specs.Addresses.{is_followed}
 use Rattle.cm_text.specs.Labels.{fold_label}
 use Rattle.cm_text.specs.Unescaping.{unescape}
 use Rattle.cm_tree.specs.Definitions.{Target, Targets}
@@ -78,9 +80,18 @@ reference_end defined between text = elim (label text) [
   | None ↦ collapsed_or_shortcut (target_between defined between) text
 ]
 
--- what follows a `]` with this source between it and its opener: an inline link's end goes before a reference
-unfoldable pub end_at : Defined → (between : List ℕ) → List ℕ → Option LinkEnd
-end_at defined between text = elim (inline_end text) [ Some end ↦ Some end | None ↦ reference_end defined between text ]
+-- an end that leads to an address which the rules follow
+abbrev pub end_if_followed : Rules → Option LinkEnd → Option LinkEnd
+end_if_followed rules None = None
+end_if_followed rules (Some end) = elim (is_followed rules end.dest) [ true ↦ Some end | false ↦ None ]
+
+-- What follows a `]` with this source between it and its opener: an inline link's end goes before a reference. Neither is one where
+-- the rules don't follow its address.
+unfoldable pub end_at : Rules → Defined → (between : List ℕ) → List ℕ → Option LinkEnd
+end_at rules defined between text = elim (end_if_followed rules (inline_end text)) [
+  | Some end ↦ Some end
+  | None ↦ end_if_followed rules (reference_end defined between text)
+]
 
 -- What stands before the nearest opener of a `]`, the opener with the source behind it, and what stands between.
 pub record OpenerFound : Type 0 where
@@ -126,18 +137,18 @@ unfoldable pub source_up_to : (source left : List ℕ) → List ℕ
 source_up_to source left = take (length source - length left) source
 
 -- A `]` with an opener, and what follows it. Links may not contain other links, at any level of nesting: a `[` with one behind it is text.
-unfoldable pub closed_by_bracket : Defined → OpenerFound → List ℕ → Bracketed
-closed_by_bracket defined found rest = elim (not found.image && holds_link found.inside) [
+unfoldable pub closed_by_bracket : Rules → Defined → OpenerFound → List ℕ → Bracketed
+closed_by_bracket rules defined found rest = elim (not found.image && holds_link found.inside) [
   | true ↦ record { items = brackets_are_text found; rest = rest }
-  | false ↦ elim (end_at defined (source_up_to found.source (93 ∷ rest)) rest) [
+  | false ↦ elim (end_at rules defined (source_up_to found.source (93 ∷ rest)) rest) [
     | Some end ↦ record { items = made found.image end.dest end.title found.inside ∷ found.before; rest = end.rest }
     | None ↦ record { items = brackets_are_text found; rest = rest }
   ]
 ]
 
 -- A `]`: the nearest `[` or `![` that nothing was made of decides.
-unfoldable pub close_bracket : Defined → List Item → List ℕ → Bracketed
-close_bracket defined items rest = elim (last_opener items []) [
-  | Some found ↦ closed_by_bracket defined found rest
+unfoldable pub close_bracket : Rules → Defined → List Item → List ℕ → Bracketed
+close_bracket rules defined items rest = elim (last_opener items []) [
+  | Some found ↦ closed_by_bracket rules defined found rest
   | None ↦ record { items = bracket_is_text items; rest = rest }
 ]

@@ -91,10 +91,10 @@ is_any_tag_start text = elim (closing_tag text) [
   ]
 ]
 
--- the first condition that is met; each wants a `<`
+-- the first condition that is met; each wants a `<`, and rules with raw HTML
 unfoldable pub html_start : Rules → List ℕ → Option HtmlKind
 html_start rules [] = None
-html_start rules (b ∷ bs) = elim (b == 60) [
+html_start rules (b ∷ bs) = elim (b == 60 && rules.raw_html) [
   | true ↦ given (is_raw_text_start (b ∷ bs)) RawText
       <|> given (is_at_word (codes "<!--") (b ∷ bs)) Comment
       <|> given (is_at_word (codes "<?") (b ∷ bs)) Instruction

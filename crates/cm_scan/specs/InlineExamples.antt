@@ -8,7 +8,7 @@ use Rattle.cm_scan.specs.Inlines.{inlines_of, depth_of_leaf, nests_past}
 
 -- the profile with strikethrough
 abbrev pub struck : Rules
-struck = record { older = false; strike = true }
+struck = record { older = false; strike = true; raw_html = true; any_address = true }
 
 -- By these rules the source has these inlines, in a document with these definitions, a label and its target each.
 abbrev pub ReadsBy : Rules → List (List ℕ × Target) → List ℕ → List Inline → Type 0

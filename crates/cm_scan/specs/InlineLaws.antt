@@ -27,7 +27,7 @@ StepLeavesAnEnd = (rules : Rules) (defined : Defined) (before : List ℕ) (b : �
 -- At a `]` the step is that of brackets, whatever stands before it.
 abbrev pub BracketStep : Type 0
 BracketStep = (rules : Rules) (defined : Defined) (before rest : List ℕ) (items : List Item)
-    → item_step rules defined before 93 rest items ≡ close_bracket defined items rest
+    → item_step rules defined before 93 rest items ≡ close_bracket rules defined items rest
 
 -- a space, or a byte at which no markup begins
 abbrev pub is_plain_byte : ℕ → Bool

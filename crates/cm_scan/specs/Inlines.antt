@@ -12,16 +12,16 @@ abbrev pub with_item : List Item → Item → List ℕ → Bracketed
 with_item items item rest = record { items = item ∷ items; rest = rest }
 
 -- what an atom makes of the items so far, of which the last stands first, and what is left of the source then
-unfoldable pub add_atom : Defined → List Item → Atom → List ℕ → Bracketed
-add_atom defined items (Plain text) rest = with_item items (Characters text) rest
-add_atom defined items (Whole inline) rest = with_item items (Finished inline) rest
-add_atom defined items (Delimiter run) rest = with_item items (Delimiters run) rest
-add_atom defined items (OpenBracket image) rest = with_item items (Opener image rest) rest
-add_atom defined items CloseBracket rest = close_bracket defined items rest
+unfoldable pub add_atom : Rules → Defined → List Item → Atom → List ℕ → Bracketed
+add_atom rules defined items (Plain text) rest = with_item items (Characters text) rest
+add_atom rules defined items (Whole inline) rest = with_item items (Finished inline) rest
+add_atom rules defined items (Delimiter run) rest = with_item items (Delimiters run) rest
+add_atom rules defined items (OpenBracket image) rest = with_item items (Opener image rest) rest
+add_atom rules defined items CloseBracket rest = close_bracket rules defined items rest
 
 -- one atom more, where a source that isn't empty is left
 unfoldable pub item_step : Rules → Defined → (before : List ℕ) → ℕ → List ℕ → List Item → Bracketed
-item_step rules defined before b bs items = let a = atom_at rules before b bs in add_atom defined items a.atom a.rest
+item_step rules defined before b bs items = let a = atom_at rules before b bs in add_atom rules defined items a.atom a.rest
 
 -- The items from a place of the source on. The bytes before it have the last first, and so have the items so far; so many bytes
 -- from there on belong to what was read last.

@@ -16,7 +16,7 @@ use Rattle.cm_text.specs.Indentation.{indent_of}
 use Rattle.cm_scan.specs.Lines.{is_blank, content_of}
 use Rattle.cm_scan.specs.LineForms.{Heading, Fence, ItemMarker}
 use Rattle.cm_scan.specs.HtmlBlocks.{HtmlKind}
-use Rattle.cm_scan.specs.Parts.{code, html, heading, thematic_break, none, blank, leaf, quote, put_item, put_leaves, leaves_paragraph_open}
+use Rattle.cm_scan.specs.Parts.{info_of, code, html, heading, thematic_break, none, blank, leaf, quote, put_item, put_leaves, leaves_paragraph_open}
 use Rattle.cm_scan.specs.Starts.{Start, IndentedCode, QuoteMarker, AtxHeading, OpeningFence, HtmlStart, BreakLine, ItemStart, TextLine, start_of, Place, Stays, StaysIfOpen, Leaves, behind_quote_marker, place_in_quote, content_column, first_content, place_in_item}
 use Rattle.cm_scan.specs.Blocks.{text_run, leaves_of_run, fenced, html_lines, indented, code_line, inside, is_bare, parts_by_cases, parts_of, blocks_of, owners_of}
 
@@ -45,7 +45,7 @@ HeadingCase = (rules : Rules) (h : Heading) (line : LineView) (lines : List Line
 
 abbrev pub FenceCase : Type 0
 FenceCase = (rules : Rules) (fence : Fence) (line : LineView) (lines : List LineView) → Begins rules line (OpeningFence fence)
-    → let t = fenced fence (indent_of line) [] 1 lines in parts_of rules (line ∷ lines) ≡ leaf (code fence.info t.text) t.lines (parts_of rules t.following)
+    → let t = fenced fence (indent_of line) [] 1 lines in parts_of rules (line ∷ lines) ≡ leaf (code (info_of rules fence.info) t.text) t.lines (parts_of rules t.following)
 
 abbrev pub HtmlCase : Type 0
 HtmlCase = (rules : Rules) (kind : HtmlKind) (line : LineView) (lines : List LineView) → Begins rules line (HtmlStart kind)

@@ -31,3 +31,5 @@ pub mod Looseness
 pub mod HtmlKinds
 pub mod Scanned
 pub mod steps
+pub mod RuleLaws
+pub mod RuleExamples

@@ -1,20 +1,31 @@
 -- What the lines of a document are parts of, in order (CommonMark 0.31.2, chapters 3 and 5). The parts tell
 -- the tree of blocks, the owner of each line, whether a paragraph is left open, and how deep each line
 -- stands.
-use Rattle.std.specs.Prelude.{ℕ, suc, ◌+◌, Bool, true, false, not, ◌&&◌, ◌||◌, List, [], ◌∷◌, ◌++◌, nat_lt, Option, Some, None, map, replicate}
+use Rattle.std.specs.Prelude.{ℕ, suc, ◌+◌, Bool, true, false, not, ◌&&◌, ◌||◌, List, [], ◌∷◌, ◌++◌, nat_lt, Option, Some, None, map, replicate, if◌then◌else◌}
+use Rattle.cm_text.specs.Rules.{Rules}
 use Rattle.cm_text.specs.Unescaping.{unescape}
 use Rattle.cm_tree.specs.declared.tree.Block.{Block}
 use Rattle.cm_tree.specs.declared.tree.Block.TheVariants.{Paragraph, Heading, Code, Html, Break, Definition, Quote, List as ListBlock}
 use Rattle.cm_tree.specs.declared.tree.ListKind.{ListKind}
 use Rattle.cm_tree.specs.declared.tree.Owner.{Owner}
 use Rattle.cm_tree.specs.declared.tree.Owner.TheVariants.{Leaf, Marker, Blank}
+use Rattle.cm_tree.specs.Followed.{is_line_space}
 use Rattle.cm_tree.specs.RawBlocks.{raw_inlines}
 use Rattle.cm_tree.specs.Definitions.{Target, Targets, add_all}
 use Rattle.std.specs.FinMap.{empty}
 use Rattle.cm_scan.specs.Words.{given}
 use Rattle.cm_scan.specs.LineForms.{is_same_kind}
 
--- The leaf blocks, each string as it stands in the source.
+-- a line feed, a form feed or a carriage return as a space
+abbrev pub as_space : ℕ → ℕ
+as_space b = if is_line_space b then 32 else b
+
+-- The info of a code block, from its source: backslash escapes and references stand for their characters (2.4, 2.5). By rules
+-- without raw HTML it is one line, of which a reader of HTML sees the same words.
+unfoldable pub info_of : Rules → List ℕ → List ℕ
+info_of rules source = if rules.raw_html then unescape source else map as_space (unescape source)
+
+-- The leaf blocks, each string as it stands in the source but the info of a code block.
 pub data LeafPart : Type 0 where
   paragraph : List ℕ → LeafPart
   heading : ℕ → List ℕ → LeafPart
@@ -37,12 +48,12 @@ mutual
     last_item : Parts → ItemParts
     item : Parts → ℕ → ItemParts → ItemParts
 
--- A leaf block of the tree. Backslash escapes and references in an info string, a destination and a title stand for their
--- characters there (2.4, 2.5), and a label is its source.
+-- A leaf block of the tree. Backslash escapes and references in a destination and a title stand for their characters there
+-- (2.4, 2.5), and a label is its source.
 abbrev pub leaf_block : LeafPart → Block
 leaf_block (paragraph source) = Paragraph (raw_inlines source)
 leaf_block (heading level source) = Heading level (raw_inlines source)
-leaf_block (code info text) = Code (unescape info) text
+leaf_block (code info text) = Code info text
 leaf_block (html text) = Html text
 leaf_block thematic_break = Break
 leaf_block (definition label dest title) = Definition label (unescape dest) (unescape title)

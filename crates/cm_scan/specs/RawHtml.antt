@@ -55,6 +55,10 @@ character_data text = from_to (codes "<![CDATA[") (codes "]]>") text
 
 -- An HTML tag consists of an open tag, a closing tag, an HTML comment, a processing instruction, a declaration, or a CDATA
 -- section. No text begins with two of them.
-unfoldable pub raw_html : Rules → List ℕ → Option (List ℕ)
-raw_html rules text = behind_tag (open_tag text) <|> behind_tag (closing_tag text) <|> comment rules.older text <|> instruction text
+unfoldable pub html_tag : Rules → List ℕ → Option (List ℕ)
+html_tag rules text = behind_tag (open_tag text) <|> behind_tag (closing_tag text) <|> comment rules.older text <|> instruction text
     <|> declaration text <|> character_data text
+
+-- by rules without raw HTML there is none
+unfoldable pub raw_html : Rules → List ℕ → Option (List ℕ)
+raw_html rules text = elim rules.raw_html [ true ↦ html_tag rules text | false ↦ None ]

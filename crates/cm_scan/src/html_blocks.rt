@@ -284,13 +284,16 @@ pub fn html_start(text: &str, at: usize) -> Option<HtmlKind>
     html_start_by(Rules::profile(), text, at)
 }
 
-/// The same by these rules, which decide which names start condition 6 has.
+/// The same by these rules, which decide which names start condition 6 has, and whether any line starts an HTML block.
 pub fn html_start_by(rules: Rules, text: &str, at: usize) -> Option<HtmlKind>
     requires within { at ≤ length text.now }
     ensures { option_map kind_of result ≡ html_start rules (drop at text.now) }
 {
     let (b, behind) = first_of(bytes_from(text, at))?;
     if b != b'<' {
+        return None;
+    }
+    if !rules.raw_html() {
         return None;
     }
     if is_raw_text_start(behind) {

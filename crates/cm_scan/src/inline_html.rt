@@ -3,7 +3,7 @@ ghost use Rattle.std.specs.Prelude.{◌≡◌, ◌∷◌, ◌≤◌, ◌<◌, �
 ghost use Rattle.std.specs.Str.{IsCharBoundary};
 ghost use Rattle.cm_text.specs.Rules.{profile};
 ghost use Rattle.cm_scan.specs.Words.{after_word, holds_word};
-ghost use Rattle.cm_scan.specs.RawHtml.{behind_word, short_end, after_comment, after_declaration, raw_html};
+ghost use Rattle.cm_scan.specs.RawHtml.{behind_word, short_end, after_comment, after_declaration, html_tag, raw_html};
 ghost use Rattle.cm_scan.specs.Scanned.{reading_of, whole_of};
 ghost use Rattle.cm_scan.specs.steps.SpanSteps.{left_of};
 
@@ -26,14 +26,17 @@ pub fn raw_html<'a>(text: &'a str, at: usize) -> Option<(&'a str, usize)>
 }
 
 /// The same by these rules. By the older ones a comment's text doesn't begin with `>` or `->`, doesn't end
-/// with `-`, and holds no `--`.
+/// with `-`, and holds no `--`. By those without raw HTML there is none.
 pub fn raw_html_by<'a>(rules: Rules, text: &'a str, at: usize) -> Option<(&'a str, usize)>
     requires { IsCharBoundary text.now at }
     ensures read { reading_of text.now result ≡ whole_of (drop at text.now) (raw_html rules (drop at text.now)) }
     ensures utf8 { IfSome result (λ read. IsUtf8 read.0.now) }
     ensures boundary { IfSome result (λ read. IsCharBoundary text.now read.1) }
 {
-    let rest = after_raw_html(rules, bytes_from(text, at))?;
+    if !rules.raw_html() {
+        return None;
+    }
+    let rest = after_html_tag(rules, bytes_from(text, at))?;
     let end = text.len() - rest.len();
     Some((&text[at..end], end))
 }
@@ -50,9 +53,9 @@ pub fn holds_from(text: &str, from: usize, word: &str) -> bool
     memmem::find(bytes_from(text, from), word.as_bytes()).is_some()
 }
 
-/// What is left behind raw HTML.
-fn after_raw_html(rules: Rules, bytes: &[u8]) -> Option<&[u8]>
-    ensures { left_of result ≡ raw_html rules bytes.now }
+/// What is left behind raw HTML, where the rules have any.
+fn after_html_tag(rules: Rules, bytes: &[u8]) -> Option<&[u8]>
+    ensures { left_of result ≡ html_tag rules bytes.now }
 {
     let (b, inside) = first_of(bytes)?;
     if b != b'<' {
@@ -69,7 +72,7 @@ fn after_raw_html(rules: Rules, bytes: &[u8]) -> Option<&[u8]>
 
 /// What is left behind a comment, a CDATA section or a declaration, behind its `<!`.
 fn after_mark(rules: Rules, inside: &[u8]) -> Option<&[u8]>
-    ensures { left_of result ≡ raw_html rules (60 ∷ 33 ∷ inside.now) }
+    ensures { left_of result ≡ html_tag rules (60 ∷ 33 ∷ inside.now) }
 {
     if let Some(comment) = after_front(b"--", inside) {
         return after_comment(rules.is_older(), comment);

@@ -42,6 +42,7 @@ pub mod laws;
 mod line_forms;
 mod links;
 mod markers;
+pub mod rule_laws;
 pub mod span_laws;
 mod tags;
 mod words;

@@ -3,12 +3,12 @@ use Rattle.cm_scan.specs.Autolinks.{in_angles, is_scheme, is_absolute, labels, e
 use Rattle.cm_scan.specs.CodeSpans.{up_to_run, but_last, stripped, code_span}
 use Rattle.cm_scan.specs.Words.{run_length, after_run, skip, front_of, after_word}
 use Rattle.cm_scan.specs.Tags.{after_gap, tag_name, after_quoted, after_unquoted, after_value, after_specification, after_attribute, after_tag_end, after_attributes, open_tag, closing_tag}
-use Rattle.cm_scan.specs.RawHtml.{behind_word, from_to, short_end, after_comment, comment, after_declaration, declaration, raw_html}
+use Rattle.cm_scan.specs.RawHtml.{behind_word, from_to, short_end, after_comment, comment, after_declaration, declaration, html_tag, raw_html}
 use Rattle.cm_scan.specs.SpanExamples.{RawHtmlExamples, OlderExamples, AutolinkExamples, CodeSpanExamples}
 use Rattle.cm_scan.proofs.span_laws.span_examples.Goals as goal
 
 read : RawHtmlExamples
-unfolding skip front_of after_word after_gap tag_name after_quoted after_unquoted after_value after_specification after_attribute after_tag_end after_attributes open_tag closing_tag behind_word from_to short_end after_comment comment after_declaration declaration raw_html
+unfolding skip front_of after_word after_gap tag_name after_quoted after_unquoted after_value after_specification after_attribute after_tag_end after_attributes open_tag closing_tag behind_word from_to short_end after_comment comment after_declaration declaration html_tag raw_html
 read = record {
   open_tag = refl;
   closed_at_once = refl;
@@ -38,7 +38,7 @@ read = record {
 }
 
 older : OlderExamples
-unfolding skip front_of after_word after_gap tag_name after_quoted after_unquoted after_value after_specification after_attribute after_tag_end after_attributes open_tag closing_tag behind_word from_to short_end after_comment comment after_declaration declaration raw_html
+unfolding skip front_of after_word after_gap tag_name after_quoted after_unquoted after_value after_specification after_attribute after_tag_end after_attributes open_tag closing_tag behind_word from_to short_end after_comment comment after_declaration declaration html_tag raw_html
 older = record {
   comment = refl;
   empty_comment = refl;
