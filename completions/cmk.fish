@@ -14,4 +14,7 @@ complete -c cmk -n "__fish_seen_subcommand_from $jobs" -x -l blocks -d 'How many
 complete -c cmk -n "__fish_seen_subcommand_from $jobs" -x -l inlines -d 'How deep emphasis, links and images may nest, 1 to 500'
 complete -c cmk -n "__fish_seen_subcommand_from $jobs examples" -l older -d 'Reads by older rules: <source> begins an HTML block, <search> does not'
 complete -c cmk -n "__fish_seen_subcommand_from $jobs examples" -l strike -d 'Reads text between two tildes as struck through'
+complete -c cmk -n "__fish_seen_subcommand_from $jobs examples" -l no-html -d 'Reads raw HTML as text'
+complete -c cmk -n "__fish_seen_subcommand_from $jobs examples" -l web-links -d 'Reads links with a scheme other than http, https or mailto as text'
+complete -c cmk -n "__fish_seen_subcommand_from $jobs examples" -l safe -d 'For texts from strangers: --no-html and --web-links'
 complete -c cmk -n "__fish_seen_subcommand_from help" -f -a "$commands"

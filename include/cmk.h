@@ -45,9 +45,14 @@ typedef struct cmk_options {
     size_t inlines; /* how deep emphasis, links and images may nest, 1 to 500; 0 stands for 100 */
     bool older;     /* the older rules, as by `cmk --older` */
     bool strike;    /* text between two tildes is struck through, as by `cmk --strike` */
+    bool no_html;   /* raw HTML is text, as by `cmk --no-html` */
+    bool web_links; /* links with a scheme other than http, https or mailto are text, as by `cmk --web-links` */
 } cmk_options;
 
-#define CMK_OPTIONS { 0, 0, 0, false, false }
+#define CMK_OPTIONS { 0, 0, 0, false, false, false, false }
+
+/* The same for texts from strangers, as by `cmk --safe`: with no_html and web_links. */
+#define CMK_SAFE_OPTIONS { 0, 0, 0, false, false, true, true }
 
 /* What a call gives back. Set it to CMK_OUTPUT before the first call, and cmk_free it once the bytes are done with, before the next. */
 typedef struct cmk_output {
@@ -67,8 +72,8 @@ typedef struct cmk_filled {
 
 /* Gives the HTML of the text. The output is what `cmk render` writes, and is to be given back by cmk_free.
  * Answers CMK_DONE, or the text's one fault with its place, or CMK_NO_MEMORY, or CMK_OUT_OF_RANGE; with these there are no bytes.
- * Raw HTML of the text goes to the output as it stands, and destinations aren't checked: `javascript:` links stay. So the HTML
- * isn't for showing what strangers write as it is. */
+ * By CMK_OPTIONS raw HTML of the text goes to the output as it stands, and `javascript:` links stay. For showing what strangers write
+ * begin with CMK_SAFE_OPTIONS. */
 uint32_t cmk_html(const char *text, size_t length, const cmk_options *options, cmk_output *output);
 
 /* Gives the listing of the tree of the text and of the owners of its lines, as `cmk tree` writes it. Else as cmk_html. */

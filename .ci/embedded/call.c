@@ -1,6 +1,7 @@
 /* Calls libcmk for .ci/embedding, as C and as C++.
  *
- *   call html|tree|rewrite|into BYTES BLOCKS INLINES OLDER STRIKE     on standard input: its output, or the line of its fault and status 1
+ *   call html|tree|rewrite|into BYTES BLOCKS INLINES FLAGS     on standard input: its output, or the line of its fault and status 1;
+ *                     FLAGS has 0 or 1 for each of older, strike, no_html and web_links
  *   call rooms        the HTML of a text into rooms of every size, and a line into each
  *   call lines        the line of each number at each place up to 20, behind both
  *   call nothing      a null text of no bytes, with an output that isn't set
@@ -158,7 +159,7 @@ int main(int count, char **words) {
     const char *name = count > 1 ? words[1] : "";
     cmk_options options = CMK_OPTIONS;
     size_t length;
-    if (count < 7) {
+    if (count < 6 || strlen(words[5]) != 4) {
         return strcmp(name, "rooms") == 0 ? rooms()
                : strcmp(name, "lines") == 0 ? lines()
                : strcmp(name, "nothing") == 0 ? nothing()
@@ -168,7 +169,9 @@ int main(int count, char **words) {
     options.blocks = strtoul(words[3], NULL, 10);
     options.inlines = strtoul(words[4], NULL, 10);
     options.older = words[5][0] == '1';
-    options.strike = words[6][0] == '1';
+    options.strike = words[5][1] == '1';
+    options.no_html = words[5][2] == '1';
+    options.web_links = words[5][3] == '1';
     length = fread(text, 1, sizeof text, stdin);
     return strcmp(name, "html") == 0 ? one(cmk_html, text, length, &options)
            : strcmp(name, "tree") == 0 ? one(cmk_tree, text, length, &options)

@@ -1,7 +1,8 @@
 """Calls libcmk for .ci/embedding by bindings/python.
 
-  call.py html|tree|rewrite BYTES BLOCKS INLINES OLDER STRIKE     on standard input: its output, or the line of its fault and status 1
-  call.py threads                                                 four threads at once
+  call.py html|tree|rewrite BYTES BLOCKS INLINES FLAGS     on standard input: its output, or the line of its fault and status 1; FLAGS has
+                                             0 or 1 for each of older, strike, no_html and web_links
+  call.py threads                                          four threads at once
 """
 
 import sys
@@ -10,9 +11,9 @@ import threading
 import cmk
 
 
-def one(name, blocks, inlines, older, strike):
+def one(name, blocks, inlines, flags):
     text = sys.stdin.buffer.read()
-    asked = {"older": older == "1", "strike": strike == "1"}
+    asked = {name: flag == "1" for name, flag in zip(("older", "strike", "no_html", "web_links"), flags)}
     asked |= {} if blocks == "0" else {"blocks": int(blocks)}
     asked |= {} if inlines == "0" else {"inlines": int(inlines)}
     try:
@@ -36,6 +37,6 @@ def threads():
     sys.exit(found != [True] * 4)
 
 
-if len(sys.argv) < 7:
+if len(sys.argv) < 6:
     threads()
 one(sys.argv[1], *sys.argv[3:])

@@ -1,7 +1,8 @@
 //! Calls libcmk for .ci/embedding by bindings/rust.
 //!
-//!   call html|tree|rewrite BYTES BLOCKS INLINES OLDER STRIKE     on standard input: its output, or the line of its fault and status 1
-//!   call threads                                                 four threads at once
+//!   call html|tree|rewrite BYTES BLOCKS INLINES FLAGS     on standard input: its output, or the line of its fault and status 1; FLAGS has
+//!                                                         0 or 1 for each of older, strike, no_html and web_links
+//!   call threads                                          four threads at once
 use std::io::{self, Read, Write};
 use std::process::ExitCode;
 
@@ -19,12 +20,20 @@ fn threads() -> ExitCode {
 
 fn main() -> io::Result<ExitCode> {
     let words: Vec<String> = std::env::args().collect();
-    if words.len() < 7 {
+    if words.len() < 6 {
         return Ok(threads());
     }
     let number = |at: usize| words[at].parse().expect("a number");
-    let options =
-        cmk::Options { bytes: number(2), blocks: number(3), inlines: number(4), older: words[5] == "1", strike: words[6] == "1" };
+    let flags: Vec<bool> = words[5].chars().map(|it| it == '1').collect();
+    let options = cmk::Options {
+        bytes: number(2),
+        blocks: number(3),
+        inlines: number(4),
+        older: flags[0],
+        strike: flags[1],
+        no_html: flags[2],
+        web_links: flags[3],
+    };
     let mut text = Vec::new();
     io::stdin().read_to_end(&mut text)?;
     let given = match words[1].as_str() {

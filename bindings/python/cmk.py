@@ -29,6 +29,8 @@ class _Options(ctypes.Structure):
         ("inlines", ctypes.c_size_t),
         ("older", ctypes.c_bool),
         ("strike", ctypes.c_bool),
+        ("no_html", ctypes.c_bool),
+        ("web_links", ctypes.c_bool),
     ]
 
 
@@ -107,13 +109,13 @@ def _line(number, place):
     return room.raw[: filled.length].decode().rstrip("\n")
 
 
-def _called(call, text, blocks, inlines, older, strike):
+def _called(call, text, blocks=100, inlines=100, older=False, strike=False, no_html=False, web_links=False, safe=False):
     """Returns what a call gives for a text."""
     # 0 would stand for the default, and a wide number would be cut.
     if not (1 <= blocks <= 500 and 1 <= inlines <= 500):
         raise CmkError(_OUT_OF_RANGE, 0)
     given = text.encode() if isinstance(text, str) else text if isinstance(text, bytes) else bytes(memoryview(text))
-    options, output, nothing = _Options(0, blocks, inlines, older, strike), _Output(), ctypes.c_char(0)
+    options, output, nothing = _Options(0, blocks, inlines, older, strike, no_html or safe, web_links or safe), _Output(), ctypes.c_char(0)
     output.bytes = ctypes.addressof(nothing)
     number = call(given, len(given), ctypes.byref(options), ctypes.byref(output))
     if number:
@@ -124,29 +126,30 @@ def _called(call, text, blocks, inlines, older, strike):
         _free(output.bytes)
 
 
-def html(text, *, blocks=100, inlines=100, older=False, strike=False):
+def html(text, **options):
     """Returns the HTML of a text, as `cmk render` writes it.
 
     `blocks` is how many quotes and list items may stand round a line, and `inlines` how deep emphasis, links and images may nest, each 1 to
-    500. `older` reads by the older rules, and `strike` reads text between two tildes as struck through. Raises `CmkError` where the text
-    has a fault, memory is wanting, or a number is out of its range.
+    500. `older` reads by the older rules, and `strike` reads text between two tildes as struck through. `no_html` reads raw HTML as text,
+    `web_links` links with a scheme other than http, https or mailto, and `safe` both. Raises `CmkError` where the text has a fault, memory
+    is wanting, or a number is out of its range.
 
-    Raw HTML of the text goes to the output as it stands. Destinations aren't checked: `javascript:` links stay.
+    Without `safe` raw HTML of the text goes to the output as it stands, and `javascript:` links stay.
     """
-    return _called(_library.cmk_html, text, blocks, inlines, older, strike)
+    return _called(_library.cmk_html, text, **options)
 
 
-def tree(text, *, blocks=100, inlines=100, older=False, strike=False):
+def tree(text, **options):
     """Returns the listing of the tree of a text and of the owners of its lines, as `cmk tree` writes it. Else as `html`."""
-    return _called(_library.cmk_tree, text, blocks, inlines, older, strike)
+    return _called(_library.cmk_tree, text, **options)
 
 
-def rewrite(text, *, blocks=100, inlines=100, older=False, strike=False):
+def rewrite(text, **options):
     """Returns plain source of the tree of a text without its definitions, as `cmk rewrite` writes it.
 
     Raises `CmkError` as `html` does, and where the tree can't be spelled, with the number 8. Else as `html`.
     """
-    return _called(_library.cmk_rewrite, text, blocks, inlines, older, strike)
+    return _called(_library.cmk_rewrite, text, **options)
 
 
 def version():

@@ -11,8 +11,13 @@
 //! assert_eq!(error.to_string(), "cmk: F1 not UTF-8 at byte 2");
 //! ```
 //!
-//! Any number of threads may call at once. Raw HTML of a text goes to the output as it stands. Destinations aren't checked:
-//! `javascript:` links stay.
+//! Any number of threads may call at once. By the default raw HTML of a text goes to the output as it stands, and `javascript:`
+//! links stay. For texts from strangers there is [`Options::SAFE`].
+//!
+//! ```
+//! let html = cmk::html("<b>a</b> [b](javascript:c)", &cmk::Options::SAFE).unwrap();
+//! assert_eq!(&*html, "<p>&lt;b&gt;a&lt;/b&gt; [b](javascript:c)</p>\n");
+//! ```
 
 use std::fmt;
 use std::ops::Deref;
@@ -31,6 +36,16 @@ pub struct Options {
     pub older: bool,
     /// Whether text between two tildes is struck through.
     pub strike: bool,
+    /// Whether raw HTML is text.
+    pub no_html: bool,
+    /// Whether links with a scheme other than http, https or mailto are text.
+    pub web_links: bool,
+}
+
+impl Options {
+    /// For texts from strangers, as by `cmk --safe`.
+    pub const SAFE: Options =
+        Options { bytes: 0, blocks: 0, inlines: 0, older: false, strike: false, no_html: true, web_links: true };
 }
 
 /// What the library gives back.

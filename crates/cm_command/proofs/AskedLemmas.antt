@@ -1,5 +1,5 @@
 -- How clap reads the words that ask for a job: its name, options in any order, and a file or none.
-use Rattle.std.proofs.Common.{◌≡◌, ◌∙◌, ◌&&◌, ◌||◌, List, [], ◌∷◌, ◌++◌, map, Option, Some, None, Bool, true, false, not, refl, sym, ap, ap₂, append-nil, append_assoc}
+use Rattle.std.proofs.Common.{◌≡◌, ◌∙◌, ◌&&◌, ◌||◌, List, [], ◌∷◌, ◌++◌, map, Option, Some, None, Bool, true, false, not, refl, sym, ap, ap₂, append-nil, append_assoc, arith}
 use Rattle.std.specs.Prelude.{codes, cond, find, flat_map, fold, is_some, option_and_then, option_map, slice_get, slice_index_or, string_bytes, unwrap_or, IfSome, ⊤}
 use Rattle.std.specs.List.{AllByRecursion, list_all, list_any}
 use Rattle.std.specs.Option.{option_map_or, option_or}
@@ -17,7 +17,7 @@ use Rattle.cm_text.specs.Limits.{LimitsView}
 use Rattle.cm_command.specs.declared.job.Job.{Job}
 use Rattle.cm_command.specs.declared.job.Job.TheVariants.{Render, Tree, Rewrite, Examples}
 use Rattle.cm_command.specs.declared.job.Task.{Task}
-use Rattle.cm_command.specs.CommandLine.{are_limits, each_once, file_in, file_rule, found_for, given_for, hold_an_option, is_given, is_limit, is_option, is_set, job_in, job_of, limits_at, limits_by, limits_in, limits_of, name_of, number_for, numbers_in, older_rule, option_of, reads_a_text, rules_in, stops_of, strike_rule, value_of, words_for, words_of, Blocks, Choice, Inlines, IsTaskOf, Older, Strike}
+use Rattle.cm_command.specs.CommandLine.{are_limits, each_once, file_in, file_rule, found_for, given_for, hold_an_option, is_given, is_limit, is_option, is_set, job_in, job_of, limits_at, limits_by, limits_in, limits_of, name_of, number_for, numbers_in, option_of, reads_a_text, rules_in, stops_of, value_of, words_for, words_of, Blocks, Choice, Inlines, IsTaskOf, Set, Flag, Older, Strike, NoHtml, WebLinks, Safe, flag_name, flag_rule, rules_for}
 use Rattle.cm_command.proofs.CommandLineLemmas.{no_dashes, no_long, no_short, plain_limit}
 use Rattle.cm_command.proofs.RowLemmas.{first_default, or_assoc, row_by, used_new, with_defaults}
 use Rattle.cm_command.proofs.WalkedLemmas.{cmk_built, job_rules}
@@ -89,15 +89,13 @@ or_else_assoc (k ∷ ks) b c = refl
 abbrev pub IsPlainChoice : Choice → Type 0
 IsPlainChoice (Blocks number) = is_option number ≡ false
 IsPlainChoice (Inlines number) = is_option number ≡ false
-IsPlainChoice Older = ⊤
-IsPlainChoice Strike = ⊤
+IsPlainChoice (Set flag) = ⊤
 
 -- what is held after an option
 abbrev after : Choice → Held → Held
 after (Blocks number) h = record { rows = (settled job_rules h).rows; pending = Some (codes "blocks", number ∷ []); skip = h.skip }
 after (Inlines number) h = record { rows = (settled job_rules h).rows; pending = Some (codes "inlines", number ∷ []); skip = h.skip }
-after Older h = reacted job_rules (filled older_rule) [] h
-after Strike h = reacted job_rules (filled strike_rule) [] h
+after (Set flag) h = reacted job_rules (filled (flag_rule (flag_name flag))) [] h
 
 -- the row that an option makes
 abbrev row_for : Choice → Row
@@ -107,8 +105,7 @@ row_for choice = record { id = option_of choice; values = value_of choice ∷ []
 abbrev own_fault : Choice → Kinds
 own_fault (Blocks number) = cond (is_limit number) [] (ValueValidation ∷ [])
 own_fault (Inlines number) = cond (is_limit number) [] (ValueValidation ∷ [])
-own_fault Older = []
-own_fault Strike = []
+own_fault (Set flag) = []
 
 -- the option has no row among what is held
 abbrev IsNew : Held → Choice → Type 0
@@ -119,14 +116,16 @@ choice_walked : (choice : Choice) (h : Held) (words : List Text) → IsPlainChoi
 unfolding clap_on_literals
 choice_walked (Blocks number) h words plain = rw (no_dashes number plain, no_long number plain, no_short number plain) refl
 choice_walked (Inlines number) h words plain = rw (no_dashes number plain, no_long number plain, no_short number plain) refl
-choice_walked Older h words plain = refl
-choice_walked Strike h words plain = refl
+choice_walked (Set Older) h words plain = refl
+choice_walked (Set Strike) h words plain = refl
+choice_walked (Set NoHtml) h words plain = refl
+choice_walked (Set WebLinks) h words plain = refl
+choice_walked (Set Safe) h words plain = refl
 
 choice_settled : (choice : Choice) (h : Held) → IsNew h choice → (settled job_rules (after choice h)).rows ≡ (settled job_rules h).rows ++ row_for choice ∷ []
 choice_settled (Blocks number) h new = used_new (codes "blocks") (number ∷ []) (settled job_rules h).rows new
 choice_settled (Inlines number) h new = used_new (codes "inlines") (number ∷ []) (settled job_rules h).rows new
-choice_settled Older h new = used_new (codes "older") (codes "true" ∷ []) (settled job_rules h).rows new
-choice_settled Strike h new = used_new (codes "strike") (codes "true" ∷ []) (settled job_rules h).rows new
+choice_settled (Set flag) h new = used_new (flag_name flag) (codes "true" ∷ []) (settled job_rules h).rows new
 
 -- a flag that has no row makes no fault of its own
 flag_turn : (first rest : Kinds) (has : Bool) → has ≡ false
@@ -145,10 +144,21 @@ choice_right name (Blocks number) h words plain new =
 choice_right name (Inlines number) h words plain new =
     rw (no_dashes number plain, no_long number plain, no_short number plain)
     (ap (λ first. or_else first (walk_fault (job_shape name) [] (walk_from (after (Inlines number) h)) words)) (or_none (settle_fault job_rules false h)))
-choice_right name Older h words plain new =
-    flag_turn (settle_fault job_rules false h) (walk_fault (job_shape name) [] (walk_from (after Older h)) words) (has_row (codes "older") (settled job_rules h).rows) new
-choice_right name Strike h words plain new =
-    flag_turn (settle_fault job_rules false h) (walk_fault (job_shape name) [] (walk_from (after Strike h)) words) (has_row (codes "strike") (settled job_rules h).rows) new
+choice_right name (Set flag) h words plain new = by_flag flag (flag_turn (settle_fault job_rules false h)
+    (walk_fault (job_shape name) [] (walk_from (after (Set flag) h)) words) (has_row (flag_name flag) (settled job_rules h).rows) new)
+  where
+    Turn : Flag → Type 0
+    Turn f = or_else (or_else (or_else (settle_fault job_rules false h) (or_else (cond (has_row (flag_name f) (settled job_rules h).rows && true) (ArgumentConflict ∷ []) []) [])) [])
+        (walk_fault (job_shape name) [] (walk_from (after (Set f) h)) words)
+        ≡ or_else (settle_fault job_rules false h) (walk_fault (job_shape name) [] (walk_from (after (Set f) h)) words)
+
+    by_flag : (f : Flag) → Turn f → walk_fault (job_shape name) [] (walk_from h) (words_of (Set f) ++ words)
+        ≡ or_else (settle_fault job_rules false h) (walk_fault (job_shape name) [] (walk_from (after (Set f) h)) words)
+    by_flag Older turn = turn
+    by_flag Strike turn = turn
+    by_flag NoHtml turn = turn
+    by_flag WebLinks turn = turn
+    by_flag Safe turn = turn
 
 -- a number that has no row makes no fault but its own
 number_turn : (has fit : Bool) → has ≡ false
@@ -160,8 +170,7 @@ number_turn true fit new = cc
 choice_pending : (choice : Choice) (h : Held) → IsNew h choice → settle_fault job_rules false (after choice h) ≡ own_fault choice
 choice_pending (Blocks number) h new = number_turn (has_row (codes "blocks") (settled job_rules h).rows) (is_limit number) new
 choice_pending (Inlines number) h new = number_turn (has_row (codes "inlines") (settled job_rules h).rows) (is_limit number) new
-choice_pending Older h new = refl
-choice_pending Strike h new = refl
+choice_pending (Set flag) h new = refl
 
 -- ---- the file
 
@@ -261,8 +270,11 @@ still_no id rows r new other = list_any-append (λ (x : Row). bytes_eq x.id id) 
 no_file : (choice : Choice) → bytes_eq (option_of choice) (codes "file") ≡ false
 no_file (Blocks number) = refl
 no_file (Inlines number) = refl
-no_file Older = refl
-no_file Strike = refl
+no_file (Set Older) = refl
+no_file (Set Strike) = refl
+no_file (Set NoHtml) = refl
+no_file (Set WebLinks) = refl
+no_file (Set Safe) = refl
 
 still_new : (choice : Choice) (choices : List Choice) (rows : List Row) → is_given (option_of choice) choices ≡ false
     → AllByRecursion (λ c. has_row (option_of c) rows ≡ false) choices
@@ -343,7 +355,7 @@ defaults_right rows (a ∷ c) right =
     either false none right = right
 
 job_defaults_right : AllByRecursion HasRightDefault job_rules
-job_defaults_right = (refl, (refl, (refl, (refl, (refl, (refl, tt))))))
+job_defaults_right = (refl, (refl, (refl, (refl, (refl, (refl, (refl, (refl, (refl, tt)))))))))
 
 level_right : (name : Text) (words : List Text) → level_fault (job_shape name) [] nothing_held words false [] ≡ whole_fault name nothing_held words
 level_right name words =
@@ -359,8 +371,7 @@ plain_numbers : (choices : List Choice) → hold_an_option choices ≡ false →
 plain_numbers [] plain = tt
 plain_numbers (Blocks number ∷ choices) plain = let apart = either_false _ _ plain in (apart.0, plain_numbers choices apart.1)
 plain_numbers (Inlines number ∷ choices) plain = let apart = either_false _ _ plain in (apart.0, plain_numbers choices apart.1)
-plain_numbers (Older ∷ choices) plain = (tt, plain_numbers choices plain)
-plain_numbers (Strike ∷ choices) plain = (tt, plain_numbers choices plain)
+plain_numbers (Set flag ∷ choices) plain = (tt, plain_numbers choices plain)
 
 -- numbers in their range don't
 limits_plain : (numbers : List Text) → list_all is_limit numbers ≡ true → list_any is_option numbers ≡ false
@@ -373,8 +384,7 @@ numbers_fault : (choices : List Choice) → all_fault choices ≡ cond (are_limi
 numbers_fault [] = refl
 numbers_fault (Blocks number ∷ choices) = number_fault (is_limit number) (are_limits choices) (numbers_fault choices)
 numbers_fault (Inlines number ∷ choices) = number_fault (is_limit number) (are_limits choices) (numbers_fault choices)
-numbers_fault (Older ∷ choices) = numbers_fault choices
-numbers_fault (Strike ∷ choices) = numbers_fault choices
+numbers_fault (Set flag ∷ choices) = numbers_fault choices
 
 asked_fault : (name : Text) (job : Job) (choices : List Choice) (file : Option Text) → reads_a_text job ≡ true → each_once choices ≡ true → ArePlain choices
     → IfSome file (λ f. is_option f ≡ false) → stops_of (name ∷ words_for job choices file) ≡ all_fault choices
@@ -414,24 +424,7 @@ asked_found name job choices file text once plain plain_file =
 
 no_file_row : (choices : List Choice) → row_by (codes "file") (map row_for choices) ≡ None
 no_file_row [] = refl
-no_file_row (Blocks number ∷ choices) = no_file_row choices
-no_file_row (Inlines number ∷ choices) = no_file_row choices
-no_file_row (Older ∷ choices) = no_file_row choices
-no_file_row (Strike ∷ choices) = no_file_row choices
-
-older_row : (choices : List Choice) → row_by (codes "older") (map row_for choices) ≡ cond (is_given (codes "older") choices) (Some (row_for Older)) None
-older_row [] = refl
-older_row (Blocks number ∷ choices) = older_row choices
-older_row (Inlines number ∷ choices) = older_row choices
-older_row (Older ∷ choices) = refl
-older_row (Strike ∷ choices) = older_row choices
-
-strike_row : (choices : List Choice) → row_by (codes "strike") (map row_for choices) ≡ cond (is_given (codes "strike") choices) (Some (row_for Strike)) None
-strike_row [] = refl
-strike_row (Blocks number ∷ choices) = strike_row choices
-strike_row (Inlines number ∷ choices) = strike_row choices
-strike_row (Older ∷ choices) = strike_row choices
-strike_row (Strike ∷ choices) = refl
+no_file_row (choice ∷ choices) = ap (λ b. cond b (Some (row_for choice)) (row_by (codes "file") (map row_for choices))) (no_file choice) ∙ no_file_row choices
 
 -- a name has the row of its option or of the file, or its default
 end_row : (id : Text) (choices : List Choice) (file : Option Text) (o : Option Row) → row_by id (map row_for choices) ≡ o
@@ -488,33 +481,69 @@ inlines_default (Some f) = refl
 is_true : Option Row → Bool
 is_true row = option_map_or (λ value. bytes_eq value (codes "true")) (text_of row) false
 
-end_older : (choices : List Choice) (file : Option Text) → is_set (codes "older") (end_rows choices file) ≡ is_given (codes "older") choices
-unfolding text_of is_true
-end_older choices file = ap is_true (end_row (codes "older") choices file _ (older_row choices)) ∙ either (is_given (codes "older") choices) file
-  where
-    either : (b : Bool) (f : Option Text)
-        → is_true (option_or (cond b (Some (row_for Older)) None) (option_or (row_by (codes "older") (file_rows f)) (first_default (codes "older") job_rules))) ≡ b
-    either false None = refl
-    either false (Some f) = refl
-    either true f = refl
+flag_default : (flag : Flag) (file : Option Text)
+    → text_of (option_or (row_by (flag_name flag) (file_rows file)) (first_default (flag_name flag) job_rules)) ≡ Some (codes "false")
+unfolding text_of
+flag_default Older None = refl
+flag_default Older (Some f) = refl
+flag_default Strike None = refl
+flag_default Strike (Some f) = refl
+flag_default NoHtml None = refl
+flag_default NoHtml (Some f) = refl
+flag_default WebLinks None = refl
+flag_default WebLinks (Some f) = refl
+flag_default Safe None = refl
+flag_default Safe (Some f) = refl
 
-end_strike : (choices : List Choice) (file : Option Text) → is_set (codes "strike") (end_rows choices file) ≡ is_given (codes "strike") choices
-unfolding text_of is_true
-end_strike choices file = ap is_true (end_row (codes "strike") choices file _ (strike_row choices)) ∙ either (is_given (codes "strike") choices) file
+-- no flag has the name of an option that takes a number
+no_number : (flag : Flag) → (bytes_eq (codes "blocks") (flag_name flag) ≡ false) × (bytes_eq (codes "inlines") (flag_name flag) ≡ false)
+no_number Older = (refl, refl)
+no_number Strike = (refl, refl)
+no_number NoHtml = (refl, refl)
+no_number WebLinks = (refl, refl)
+no_number Safe = (refl, refl)
+
+swapped : (a b : Text) → bytes_eq a b ≡ bytes_eq b a
+swapped [] [] = refl
+swapped [] (y ∷ ys) = refl
+swapped (x ∷ xs) [] = refl
+swapped (x ∷ xs) (y ∷ ys) = ap₂ (λ s t. s && t) (grind arith) (swapped xs ys)
+
+-- the value of a flag is `true` where it is given
+value_given : (flag : Flag) (choices : List Choice)
+    → bytes_eq (unwrap_or (given_for (flag_name flag) choices) (codes "false")) (codes "true") ≡ is_given (flag_name flag) choices
+value_given flag [] = refl
+value_given flag (choice ∷ choices) = at choice (value_given flag choices)
   where
-    either : (b : Bool) (f : Option Text)
-        → is_true (option_or (cond b (Some (row_for Strike)) None) (option_or (row_by (codes "strike") (file_rows f)) (first_default (codes "strike") job_rules))) ≡ b
-    either false None = refl
-    either false (Some f) = refl
-    either true f = refl
+    Given : List Choice → Type 0
+    Given cs = bytes_eq (unwrap_or (given_for (flag_name flag) cs) (codes "false")) (codes "true") ≡ is_given (flag_name flag) cs
+
+    past : (c : Choice) → bytes_eq (option_of c) (flag_name flag) ≡ false → Given choices → Given (c ∷ choices)
+    past c other rest = rw (swapped (flag_name flag) (option_of c), other) rest
+
+    at_flag : (g : Flag) (same : Bool) → bytes_eq (flag_name g) (flag_name flag) ≡ same → Given choices → Given (Set g ∷ choices)
+    at_flag g true same rest = rw (swapped (flag_name flag) (flag_name g), same) refl
+    at_flag g false other rest = past (Set g) other rest
+
+    at : (c : Choice) → Given choices → Given (c ∷ choices)
+    at (Blocks number) rest = past (Blocks number) (no_number flag).0 rest
+    at (Inlines number) rest = past (Inlines number) (no_number flag).1 rest
+    at (Set g) rest = at_flag g (bytes_eq (flag_name g) (flag_name flag)) refl rest
+
+end_flag : (choices : List Choice) (file : Option Text) (flag : Flag) → is_set (flag_name flag) (end_rows choices file) ≡ is_given (flag_name flag) choices
+unfolding text_of is_true
+end_flag choices file flag =
+    ap is_true (end_row (flag_name flag) choices file (row_by (flag_name flag) (map row_for choices)) refl)
+    ∙ ap (λ value. option_map_or (λ v. bytes_eq v (codes "true")) value false)
+    (value_row (flag_name flag) (codes "false") (option_or (row_by (flag_name flag) (file_rows file)) (first_default (flag_name flag) job_rules)) (flag_default flag file) choices)
+    ∙ value_given flag choices
 
 end_limits : (choices : List Choice) (file : Option Text) → limits_at (end_rows choices file) ≡ limits_by choices
 end_limits choices file =
     let rows = end_rows choices file in
     let both : Option Text → Option Text → Option LimitsView = λ blocks inlines. option_and_then (λ b. option_and_then (limits_of (rules_in rows) b) inlines) blocks in
     ap₂ both (end_number (codes "blocks") choices file (blocks_default file)) (end_number (codes "inlines") choices file (inlines_default file))
-    ∙ ap₂ (λ older strike. limits_of (record { older = older; strike = strike }) (number_for (codes "blocks") choices) (number_for (codes "inlines") choices))
-    (end_older choices file) (end_strike choices file)
+    ∙ (λ i. limits_of (rules_for (λ flag. end_flag choices file flag i)) (number_for (codes "blocks") choices) (number_for (codes "inlines") choices))
 
 -- so the task is the one that they ask for
 pub asked_task : (name : Text) (job : Job) (choices : List Choice) (file : Option Text) (task : Task) → reads_a_text job ≡ true → each_once choices ≡ true

@@ -19,7 +19,7 @@ use Rattle.clap.specs.declared.parser.matches.ValueSource.{ValueSource}
 use Rattle.clap.specs.declared.parser.matches.ValueSource.TheVariants.{CommandLine, DefaultValue}
 use Rattle.cm_command.specs.declared.job.Job.{Job}
 use Rattle.cm_command.specs.declared.job.Job.TheVariants.{Render, Tree, Rewrite, Examples}
-use Rattle.cm_command.specs.CommandLine.{cmk_app, examples_app, file_rule, flag_rule, found_for, is_limit, job_app, limit_rule, job_of, reads_a_text, stops_of}
+use Rattle.cm_command.specs.CommandLine.{cmk_app, examples_app, file_rule, flag_name, flag_rule, found_for, is_limit, job_app, limit_rule, job_of, reads_a_text, stops_of, Flag, Older, Strike, NoHtml, WebLinks, Safe}
 use Rattle.cm_command.specs.steps.Arguments.{IsJob, AreRead, FlagsAreRead, IsRead, fits}
 use Rattle.cm_command.proofs.RowLemmas.{first_default, row_by, with_defaults}
 
@@ -331,22 +331,34 @@ has_default id rows c default = rw (with_defaults id rows c) (either (row_by id 
 abbrev pub job_rules : List Rule
 job_rules = (built_leaf (job_app []).top).rules
 
+-- the rules of the flags, before these
+flags_fine : (rules : List Rule) → AllByRecursion IsFineRule rules → AllByRecursion IsFineRule
+    (filled (flag_rule (codes "older")) ∷ filled (flag_rule (codes "strike")) ∷ filled (flag_rule (codes "no-html"))
+    ∷ filled (flag_rule (codes "web-links")) ∷ filled (flag_rule (codes "safe")) ∷ rules)
+flags_fine rules later =
+    (flag_fine (codes "older") refl, (flag_fine (codes "strike") refl, (flag_fine (codes "no-html") refl, (flag_fine (codes "web-links") refl, (flag_fine (codes "safe") refl, later)))))
+
+flags_default : (rules : List Rule) → AllByRecursion HasFineDefault rules → AllByRecursion HasFineDefault
+    (filled (flag_rule (codes "older")) ∷ filled (flag_rule (codes "strike")) ∷ filled (flag_rule (codes "no-html"))
+    ∷ filled (flag_rule (codes "web-links")) ∷ filled (flag_rule (codes "safe")) ∷ rules)
+flags_default rules later = ((refl, refl), ((refl, refl), ((refl, refl), ((refl, refl), ((refl, refl), later)))))
+
 job_rules_fine : AllByRecursion IsFineRule job_rules
 job_rules_fine =
-    (file_fine false, (limit_fine (codes "blocks") (λ v. refl), (limit_fine (codes "inlines") (λ v. refl), (flag_fine (codes "older") refl, (flag_fine (codes "strike") refl, (help_fine, tt))))))
+    (file_fine false, (limit_fine (codes "blocks") (λ v. refl), (limit_fine (codes "inlines") (λ v. refl), flags_fine (filled help_rule ∷ []) (help_fine, tt))))
 
 job_defaults_fine : AllByRecursion HasFineDefault job_rules
-job_defaults_fine = ((refl, tt), ((refl, refl), ((refl, refl), ((refl, refl), ((refl, refl), ((refl, tt), tt))))))
+job_defaults_fine = ((refl, tt), ((refl, refl), ((refl, refl), flags_default (filled help_rule ∷ []) ((refl, tt), tt))))
 
 -- those of the subcommand `examples`
 abbrev example_rules : List Rule
 example_rules = (built_leaf examples_app.top).rules
 
 example_rules_fine : AllByRecursion IsFineRule example_rules
-example_rules_fine = (file_fine true, (flag_fine (codes "older") refl, (flag_fine (codes "strike") refl, (help_fine, tt))))
+example_rules_fine = (file_fine true, flags_fine (filled help_rule ∷ []) (help_fine, tt))
 
 example_defaults_fine : AllByRecursion HasFineDefault example_rules
-example_defaults_fine = ((refl, tt), ((refl, refl), ((refl, refl), ((refl, tt), tt))))
+example_defaults_fine = ((refl, tt), flags_default (filled help_rule ∷ []) ((refl, tt), tt))
 
 -- an option of a subcommand that has a default is read
 option_read : (id : Text) (s : Shape) (words : List Text) → AllByRecursion IsFineRule s.rules → AllByRecursion HasFineDefault s.rules
@@ -359,6 +371,23 @@ option_read id s words of_job defaults default none =
     let fine = settled_fine s of_job (walk s.rules [] nothing_held words).held settled_none walked_so in
     row_read id _ (defaults_fine s.rules rows defaults fine) (has_default id rows s.rules default)
 
+abbrev FlagDefault : Flag → List Rule → Type 0
+FlagDefault flag rules = is_some (first_default (flag_name flag) rules) ≡ true
+
+job_default : (flag : Flag) → FlagDefault flag job_rules
+job_default Older = refl
+job_default Strike = refl
+job_default NoHtml = refl
+job_default WebLinks = refl
+job_default Safe = refl
+
+example_default : (flag : Flag) → FlagDefault flag example_rules
+example_default Older = refl
+example_default Strike = refl
+example_default NoHtml = refl
+example_default WebLinks = refl
+example_default Safe = refl
+
 -- what is found for the options of a subcommand that reads a text
 job_options : (s : Shape) (words : List Text) → s.rules ≡ job_rules → level_fault s [] nothing_held words false [] ≡ []
     → AreRead (rows_after s.rules [] words)
@@ -368,10 +397,7 @@ job_options s words rules none =
     record {
       blocks = option_read (codes "blocks") s words of_job defaults (rw (rules) refl) none;
       inlines = option_read (codes "inlines") s words of_job defaults (rw (rules) refl) none;
-      flags = record {
-        older = option_read (codes "older") s words of_job defaults (rw (rules) refl) none;
-        strike = option_read (codes "strike") s words of_job defaults (rw (rules) refl) none;
-      };
+      flags = λ flag. option_read (flag_name flag) s words of_job defaults (subst (FlagDefault flag) (sym rules) (job_default flag)) none;
     }
 
 -- and for those of `examples`
@@ -380,10 +406,7 @@ example_options : (s : Shape) (words : List Text) → s.rules ≡ example_rules 
 example_options s words rules none =
     let of_job = subst (AllByRecursion IsFineRule) (sym rules) example_rules_fine in
     let defaults = subst (AllByRecursion HasFineDefault) (sym rules) example_defaults_fine in
-    record {
-      older = option_read (codes "older") s words of_job defaults (rw (rules) refl) none;
-      strike = option_read (codes "strike") s words of_job defaults (rw (rules) refl) none;
-    }
+    λ flag. option_read (flag_name flag) s words of_job defaults (subst (FlagDefault flag) (sym rules) (example_default flag)) none
 
 -- ---- the subcommand
 

@@ -1,6 +1,6 @@
 -- What the words of a command line ask for. How clap reads the words is said in clap's own terms, by the
 -- command line of cmk.
-use Rattle.std.specs.Prelude.{◌≡◌, ◌≢◌, ◌⊎◌, ◌==◌, ◌^◌, ◌&&◌, ⊤, ℕ, Bool, true, false, not, List, [], ◌∷◌, ◌++◌, Option, Some, Result, Ok, Err, codes, flat_map, string_bytes, find, option_map, option_and_then, unwrap_or}
+use Rattle.std.specs.Prelude.{◌≡◌, ◌≢◌, ◌⊎◌, ◌==◌, ◌^◌, ◌&&◌, ◌||◌, ⊤, ℕ, Bool, true, false, not, List, [], ◌∷◌, ◌++◌, Option, Some, Result, Ok, Err, codes, flat_map, fold, string_bytes, find, option_map, option_and_then, unwrap_or}
 use Rattle.std.specs.List.{list_all, list_any}
 use Rattle.std.specs.Option.{option_map_or}
 use Rattle.std.specs.Str.{bytes_eq}
@@ -48,21 +48,31 @@ inlines_rule = limit_rule (codes "inlines")
 abbrev pub flag_rule : Text → Rule
 flag_rule name = record (new_rule name) { long = Some name; action = Some SetTrue }
 
--- the flag --older
-abbrev pub older_rule : Rule
-older_rule = flag_rule (codes "older")
+pub data Flag : Type 0 where
+  Older : Flag
+  Strike : Flag
+  NoHtml : Flag
+  WebLinks : Flag
+  Safe : Flag
 
--- the flag --strike
-abbrev pub strike_rule : Rule
-strike_rule = flag_rule (codes "strike")
+abbrev pub flag_name : Flag → Text
+flag_name Older = codes "older"
+flag_name Strike = codes "strike"
+flag_name NoHtml = codes "no-html"
+flag_name WebLinks = codes "web-links"
+flag_name Safe = codes "safe"
+
+-- the subcommand with each flag, in the order of their help
+abbrev pub with_flags : App → App
+with_flags app = fold (λ (a : App) flag. with_rule a (flag_rule (flag_name flag))) app (Older ∷ Strike ∷ NoHtml ∷ WebLinks ∷ Safe ∷ [])
 
 -- the subcommand of this name, which reads a text
 abbrev pub job_app : Text → App
-job_app name = with_rule (with_rule (with_rule (with_rule (with_rule (new_app name) file_rule) blocks_rule) inlines_rule) older_rule) strike_rule
+job_app name = with_flags (with_rule (with_rule (with_rule (new_app name) file_rule) blocks_rule) inlines_rule)
 
 -- the subcommand that reads a file of examples, under the standard limits
 abbrev pub examples_app : App
-examples_app = with_rule (with_rule (with_rule (new_app (codes "examples")) needed_file_rule) older_rule) strike_rule
+examples_app = with_flags (with_rule (new_app (codes "examples")) needed_file_rule)
 
 abbrev pub name_of : Job → Text
 name_of Render = codes "render"
@@ -116,9 +126,17 @@ limits_of rules blocks inlines = limits_with rules (as_number blocks) (as_number
 abbrev pub is_set : Text → List Row → Bool
 is_set name rows = option_map_or (λ value. bytes_eq value (codes "true")) (first_of name rows) false
 
--- the rules that the flags ask for
+-- The rules that the flags ask for which are on. `--safe` is `--no-html` and `--web-links`.
+abbrev pub rules_for : (Flag → Bool) → Rules
+rules_for is_on = record {
+  older = is_on Older;
+  strike = is_on Strike;
+  raw_html = not (is_on NoHtml || is_on Safe);
+  any_address = not (is_on WebLinks || is_on Safe);
+}
+
 abbrev pub rules_in : List Row → Rules
-rules_in rows = record { older = is_set (codes "older") rows; strike = is_set (codes "strike") rows }
+rules_in rows = rules_for (λ flag. is_set (flag_name flag) rows)
 
 -- the limits that the options of a subcommand ask for
 abbrev pub limits_at : List Row → Option LimitsView
@@ -143,22 +161,19 @@ pub record IsTaskOf (found : Option Found) (task : Task) : Type 0 where
 pub data Choice : Type 0 where
   Blocks : Text → Choice
   Inlines : Text → Choice
-  Older : Choice
-  Strike : Choice
+  Set : Flag → Choice
 
 -- the name of the option
 abbrev pub option_of : Choice → Text
 option_of (Blocks number) = codes "blocks"
 option_of (Inlines number) = codes "inlines"
-option_of Older = codes "older"
-option_of Strike = codes "strike"
+option_of (Set flag) = flag_name flag
 
 -- the words that give an option
 abbrev pub words_of : Choice → List Text
 words_of (Blocks number) = codes "--blocks" ∷ number ∷ []
 words_of (Inlines number) = codes "--inlines" ∷ number ∷ []
-words_of Older = codes "--older" ∷ []
-words_of Strike = codes "--strike" ∷ []
+words_of (Set flag) = (codes "--" ++ flag_name flag) ∷ []
 
 -- The words that ask for a job on a text with these options, in their order, on this file, behind the program's name. The file may be left out.
 abbrev pub words_for : Job → List Choice → Option Text → List Text
@@ -178,15 +193,13 @@ abbrev pub numbers_in : List Choice → List Text
 numbers_in [] = []
 numbers_in (Blocks number ∷ choices) = number ∷ numbers_in choices
 numbers_in (Inlines number ∷ choices) = number ∷ numbers_in choices
-numbers_in (Older ∷ choices) = numbers_in choices
-numbers_in (Strike ∷ choices) = numbers_in choices
+numbers_in (Set flag ∷ choices) = numbers_in choices
 
 -- the value of an option, where that of a flag is `true`
 abbrev pub value_of : Choice → Text
 value_of (Blocks number) = number
 value_of (Inlines number) = number
-value_of Older = codes "true"
-value_of Strike = codes "true"
+value_of (Set flag) = codes "true"
 
 -- the value of the option of this name, if it is given
 abbrev pub given_for : Text → List Choice → Option Text
@@ -198,7 +211,7 @@ number_for name choices = unwrap_or (given_for name choices) (codes "100")
 
 -- the rules that these options ask for
 abbrev pub rules_by : List Choice → Rules
-rules_by choices = record { older = is_given (codes "older") choices; strike = is_given (codes "strike") choices }
+rules_by choices = rules_for (λ flag. is_given (flag_name flag) choices)
 
 -- the limits that these options ask for: each number that is given, or 100, and the rules that are given
 abbrev pub limits_by : List Choice → Option LimitsView

@@ -16,7 +16,15 @@ pub record WordExamples : Type 0 where
   pub limits : limits_in (found_for (examples_with (codes "f" ∷ []))) ≡ Some (record { bytes = 2 ^ 28; blocks = 100; inlines = 100; rules = profile })
   pub older : limits_in (found_for (examples_with (codes "--older" ∷ codes "f" ∷ []))) ≡ Some (record { bytes = 2 ^ 28; blocks = 100; inlines = 100; rules = older_rules })
   pub strike : limits_in (found_for (examples_with (codes "f" ∷ codes "--strike" ∷ [])))
-      ≡ Some (record { bytes = 2 ^ 28; blocks = 100; inlines = 100; rules = record { older = false; strike = true } })
+      ≡ Some (record { bytes = 2 ^ 28; blocks = 100; inlines = 100; rules = record profile { strike = true } })
+  pub no_html : limits_in (found_for (examples_with (codes "--no-html" ∷ codes "f" ∷ [])))
+      ≡ Some (record { bytes = 2 ^ 28; blocks = 100; inlines = 100; rules = record profile { raw_html = false } })
+  pub web_links : limits_in (found_for (examples_with (codes "f" ∷ codes "--web-links" ∷ [])))
+      ≡ Some (record { bytes = 2 ^ 28; blocks = 100; inlines = 100; rules = record profile { any_address = false } })
+  pub safe : limits_in (found_for (examples_with (codes "f" ∷ codes "--safe" ∷ [])))
+      ≡ Some (record { bytes = 2 ^ 28; blocks = 100; inlines = 100; rules = record profile { raw_html = false; any_address = false } })
+  pub both : limits_in (found_for (examples_with (codes "--web-links" ∷ codes "f" ∷ codes "--no-html" ∷ [])))
+      ≡ Some (record { bytes = 2 ^ 28; blocks = 100; inlines = 100; rules = record profile { raw_html = false; any_address = false } })
   pub right : stops_of (examples_with (codes "f" ∷ codes "--older" ∷ codes "--strike" ∷ [])) ≡ []
   pub no_file : stops_of (examples_with (codes "--older" ∷ [])) ≡ MissingRequiredArgument ∷ []
   pub version : stops_of (codes "cmk" ∷ codes "--version" ∷ []) ≡ DisplayVersion ∷ []

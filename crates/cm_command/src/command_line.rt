@@ -5,7 +5,7 @@ ghost use Rattle.clap.specs.declared.builder.command.Command.TheViews.{out-Comma
 ghost use Rattle.clap.specs.Words.{app_of, first_of, found_of, kind_of, rows_of, rule_of, subcommand_rows_of};
 ghost use Rattle.cm_command.specs.CommandLine.{are_limits, cmk_app, each_once, examples_app, file_rule, flag_rule, found_for, hold_an_option};
 ghost use Rattle.cm_command.specs.CommandLine.{is_option, job_app, job_of, limit_rule, limits_at, limits_by, limits_for_job};
-ghost use Rattle.cm_command.specs.CommandLine.{reads_a_text, rules_in, stops_of, words_for, Choice};
+ghost use Rattle.cm_command.specs.CommandLine.{reads_a_text, rules_in, stops_of, with_flags, words_for, Choice};
 ghost use Rattle.cm_command.specs.CommandLine.{IsMistake, IsTaskFor, IsTaskOf, StopsBy, StopsFor};
 ghost use Rattle.cm_command.specs.steps.Arguments.{IsJob, OptionsAreRead, AreRead, FlagsAreRead};
 
@@ -24,6 +24,15 @@ const OLDER: &str = "Reads by older rules: <source> begins an HTML block, <searc
 
 /// What `--strike` does.
 const STRIKE: &str = "Reads text between two tildes as struck through";
+
+/// What `--no-html` does.
+const NO_HTML: &str = "Reads raw HTML as text";
+
+/// What `--web-links` does.
+const WEB_LINKS: &str = "Reads links with a scheme other than http, https or mailto as text";
+
+/// What `--safe` does.
+const SAFE: &str = "For texts from strangers: --no-html and --web-links";
 
 /// The argument FILE.
 fn file_arg<'a>(alloc: Global, help: &'a str) -> Arg<'a>
@@ -57,6 +66,19 @@ fn flag_arg<'a>(alloc: Global, name: &'a str, help: &'a str) -> Arg<'a>
         .help(help)
 }
 
+/// The subcommand with each flag.
+fn with_flags<'a>(alloc: Global, command: Command<'a>) -> Result<Command<'a>, AllocError>
+    ensures app { IfOk result (λ c. app_of c ≡ with_flags (app_of command.entry)) }
+    ensures local { (out-Command command.entry).has_globals ≡ false → IfOk result (λ c. (out-Command c).has_globals ≡ false) }
+{
+    command
+        .arg(flag_arg(alloc, "older", OLDER))?
+        .arg(flag_arg(alloc, "strike", STRIKE))?
+        .arg(flag_arg(alloc, "no-html", NO_HTML))?
+        .arg(flag_arg(alloc, "web-links", WEB_LINKS))?
+        .arg(flag_arg(alloc, "safe", SAFE))
+}
+
 /// The subcommand of this name, which reads a text.
 fn job_command<'a>(alloc: Global, name: &'a str, about: &'a str) -> Result<Command<'a>, AllocError>
     ensures app { IfOk result (λ c. app_of c ≡ job_app name.now) }
@@ -65,13 +87,12 @@ fn job_command<'a>(alloc: Global, name: &'a str, about: &'a str) -> Result<Comma
     let blocks = "How many quotes and list items may stand round a line, 1 to 500";
     let inlines = "How deep emphasis, links and images may nest, 1 to 500";
     let file = "The file to read; standard input if it is left out";
-    Command::new(alloc, name)
+    let command = Command::new(alloc, name)
         .about(about)
         .arg(file_arg(alloc, file))?
         .arg(limit_arg(alloc, "blocks", blocks))?
-        .arg(limit_arg(alloc, "inlines", inlines))?
-        .arg(flag_arg(alloc, "older", OLDER))?
-        .arg(flag_arg(alloc, "strike", STRIKE))
+        .arg(limit_arg(alloc, "inlines", inlines))?;
+    with_flags(alloc, command)
 }
 
 /// The subcommand that reads a file of examples.
@@ -81,11 +102,10 @@ fn examples_command<'a>(alloc: Global) -> Result<Command<'a>, AllocError>
 {
     let about = "Runs a file of CommonMark examples, and tells which of them differ";
     let file = "The file of examples, in the form of the CommonMark specification";
-    Command::new(alloc, "examples")
+    let command = Command::new(alloc, "examples")
         .about(about)
-        .arg(file_arg(alloc, file).required(true))?
-        .arg(flag_arg(alloc, "older", OLDER))?
-        .arg(flag_arg(alloc, "strike", STRIKE))
+        .arg(file_arg(alloc, file).required(true))?;
+    with_flags(alloc, command)
 }
 
 /// The command line of `cmk`.
@@ -157,7 +177,13 @@ fn rules_of(found: &ArgMatches<'_>) -> Rules
     } else {
         Rules::profile()
     };
-    rules.with_strike(found.get_flag("strike"))
+    let no_html = found.get_flag("no-html");
+    let web_links = found.get_flag("web-links");
+    let safe = found.get_flag("safe");
+    rules
+        .with_strike(found.get_flag("strike"))
+        .with_raw_html(!(no_html || safe))
+        .with_any_address(!(web_links || safe))
 }
 
 /// The limits that the options of a subcommand that reads a text ask for.

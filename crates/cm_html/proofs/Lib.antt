@@ -6,6 +6,9 @@ pub mod ItemLemmas
 pub mod Destinations
 pub mod MarkupSteps
 pub mod MarkupTexts
+pub mod WrittenSchemes
+pub mod MarkupClasses
+pub mod FollowedByProfile
 pub mod MarkupInlines
 pub mod MarkupBlocks
 pub mod PageLemmas

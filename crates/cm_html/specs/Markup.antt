@@ -1,10 +1,15 @@
 -- What markup is: text, and tags of a fixed list, each closed in its place. The tags in some bytes, if these
--- are markup, are found from the left, with the names of the elements that are open.
+-- are markup, are found from the left, with the names of the elements that are open. The rules say which addresses and classes may stand
+-- in it.
 use Rattle.std.specs.Prelude.{ℕ, ◌==◌, Bool, true, false, not, ◌&&◌, ◌||◌, Option, Some, None, List, [], ◌∷◌, ◌++◌, codes, drop, if◌then◌else◌}
 use Rattle.std.specs.Option.{is_some}
 use Rattle.std.specs.Char.{is_ascii_digit}
 use Rattle.std.specs.List.{list_any, list_all, before_first}
 use Rattle.std.specs.Str.{bytes_eq}
+use Rattle.cm_text.specs.Rules.{Rules}
+use Rattle.cm_text.specs.Characters.{is_space_or_tab}
+use Rattle.cm_text.specs.Addresses.{is_followed}
+use Rattle.cm_tree.specs.Followed.{is_line_space}
 
 -- the text begins with this word
 abbrev pub begins : List ℕ → List ℕ → Bool
@@ -39,12 +44,22 @@ lone_tags = codes "hr /" ∷ codes "br /" ∷ codes "img src=\"\" alt=\"\" /" �
 abbrev pub is_among : List (List ℕ) → List ℕ → Bool
 is_among tags tag = list_any (bytes_eq tag) tags
 
--- what may stand in quotes, by the tag in front: a text; of a class the name of a language, and of a start a number
-abbrev pub may_be_value : List ℕ → List ℕ → Bool
-may_be_value tag value =
+-- HTML's spaces, which part one class from the next
+abbrev pub is_html_space : ℕ → Bool
+is_html_space b = is_space_or_tab b || is_line_space b
+
+-- the name of a language, by rules without raw HTML in one word
+abbrev pub is_class : Rules → List ℕ → Bool
+is_class rules value = begins (codes "language-") value && (rules.raw_html || not (list_any is_html_space value))
+
+-- What may stand in quotes, by the tag in front: a text; of a class the name of a language, of a start a number, and where a link or an
+-- image leads an address that the rules follow.
+abbrev pub may_be_value : Rules → List ℕ → List ℕ → Bool
+may_be_value rules tag value =
     is_text value
-    && (if bytes_eq tag (codes "code class=") then begins (codes "language-") value
-    else (if bytes_eq tag (codes "ol start=") then list_all is_ascii_digit value else true))
+    && (if bytes_eq tag (codes "code class=") then is_class rules value
+    else (if bytes_eq tag (codes "ol start=") then list_all is_ascii_digit value
+    else (if bytes_eq tag (codes "a href=") || bytes_eq tag (codes "img src=") then is_followed rules value else true)))
 
 -- Where a reader stands, with the names of the open elements, the innermost first: in text; in a tag, with what was read of it; in a
 -- value, with the tag in front and what was read of the value; or behind what is no markup.
@@ -66,15 +81,15 @@ behind_tag tag names =
     else (if is_among opening_tags tag then InText (before_first (λ b. b == 32) tag ∷ names) else Refused))
 
 -- behind one more byte, by what follows it
-abbrev pub behind : Place → ℕ → List ℕ → Place
-behind (InText names) b next = if b == 60 then InTag [] names else (if may_stand b next then InText names else Refused)
-behind (InTag tag names) b next =
+abbrev pub behind : Rules → Place → ℕ → List ℕ → Place
+behind rules (InText names) b next = if b == 60 then InTag [] names else (if may_stand b next then InText names else Refused)
+behind rules (InTag tag names) b next =
     if b == 62 then behind_tag tag names else (if b == 34 then InValue tag [] names else InTag (tag ++ b ∷ []) names)
-behind (InValue tag value names) b next =
+behind rules (InValue tag value names) b next =
     if b == 34
-    then (if may_be_value tag value then InTag (tag ++ codes "\"\"") names else Refused)
+    then (if may_be_value rules tag value then InTag (tag ++ codes "\"\"") names else Refused)
     else InValue tag (value ++ b ∷ []) names
-behind Refused b next = Refused
+behind rules Refused b next = Refused
 
 -- the tag that this byte ends
 abbrev pub ended : Place → ℕ → List (List ℕ)
@@ -95,13 +110,13 @@ abbrev pub at_end : Place → Option (List (List ℕ))
 at_end (InText []) = Some []
 at_end _ = None
 
-abbrev pub tags_from : Place → List ℕ → Option (List (List ℕ))
-tags_from place [] = at_end place
-tags_from place (b ∷ bs) = and_tags (ended place b) (tags_from (behind place b bs) bs)
+abbrev pub tags_from : Rules → Place → List ℕ → Option (List (List ℕ))
+tags_from rules place [] = at_end place
+tags_from rules place (b ∷ bs) = and_tags (ended place b) (tags_from rules (behind rules place b bs) bs)
 
 -- the tags in the bytes, in order, or nothing where these aren't markup
-abbrev pub tags_in : List ℕ → Option (List (List ℕ))
-tags_in bytes = tags_from (InText []) bytes
+abbrev pub tags_in : Rules → List ℕ → Option (List (List ℕ))
+tags_in rules bytes = tags_from rules (InText []) bytes
 
-abbrev pub is_markup : List ℕ → Bool
-is_markup bytes = is_some (tags_in bytes)
+abbrev pub is_markup : Rules → List ℕ → Bool
+is_markup rules bytes = is_some (tags_in rules bytes)

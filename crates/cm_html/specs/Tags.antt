@@ -12,6 +12,8 @@ use Rattle.cm_tree.specs.declared.tree.ListKind.{ListKind}
 use Rattle.cm_tree.specs.declared.tree.ListKind.TheVariants.{Dash, Plus, Star, Dot, Paren}
 use Rattle.cm_html.specs.Escape.{class_word}
 use Rattle.cm_html.specs.Html.{html_of}
+use Rattle.cm_text.specs.Rules.{Rules, profile}
+use Rattle.cm_tree.specs.Followed.{blocks_are_followed}
 use Rattle.cm_tree.specs.HeadingLevels.{have_levels}
 use Rattle.cm_html.specs.Markup.{tags_in}
 use Rattle.cm_tree.specs.RawHtml.{blocks_have_raw}
@@ -100,4 +102,10 @@ tags_of blocks = join_blocks false (map tags_of_block blocks)
 -- Of a tree without raw HTML, whose headings have levels from 1 to 6, the tags in the HTML are those of the tree: no text adds, changes
 -- or ends one.
 abbrev pub TextIsNoMarkup : Type 0
-TextIsNoMarkup = (blocks : List Block) → blocks_have_raw blocks ≡ false → have_levels blocks ≡ true → tags_in (html_of blocks) ≡ Some (tags_of blocks)
+TextIsNoMarkup = (blocks : List Block) → blocks_have_raw blocks ≡ false → have_levels blocks ≡ true → tags_in profile (html_of blocks) ≡ Some (tags_of blocks)
+
+-- And where the tree holds only what the rules read, so does the HTML: the address of each link and image, as it is written, is one that
+-- they follow, and by rules without raw HTML each class is one word.
+abbrev pub AddressesStay : Type 0
+AddressesStay = (rules : Rules) (blocks : List Block) → blocks_have_raw blocks ≡ false → have_levels blocks ≡ true → blocks_are_followed rules blocks ≡ true
+    → tags_in rules (html_of blocks) ≡ Some (tags_of blocks)

@@ -1,6 +1,6 @@
 //! Laws: facts about the definitions alone. Each is the contract of a public function with an empty body.
-ghost use Rattle.cm_html.specs.MarkupExamples.{MarkupExamples, TextMarkupExamples, RawHtmlExamples};
-ghost use Rattle.cm_html.specs.Tags.{TextIsNoMarkup};
+ghost use Rattle.cm_html.specs.MarkupExamples.{AddressMarkupExamples, FollowedExamples, MarkupExamples, RawHtmlExamples, TextMarkupExamples};
+ghost use Rattle.cm_html.specs.Tags.{AddressesStay, TextIsNoMarkup};
 ghost use Rattle.cm_html.specs.WorkedExamples.{TextExamples, InlineExamples, LeafExamples, ContainerExamples, ListingExamples};
 
 /// Worked examples over the definitions, by computation.
@@ -19,12 +19,22 @@ pub fn text_is_no_markup()
     ensures { TextIsNoMarkup }
 {}
 
+/// The HTML of such a tree that holds only what the rules read holds no more: each address in it, as it is
+/// written, is one that they follow, and by rules without raw HTML each class is one word.
+pub fn addresses_stay()
+    ensures { AddressesStay }
+{}
+
 /// Worked examples of markup, by computation.
 pub fn markup_examples()
     // Of bytes that are markup, and of some that aren't.
     ensures markup { MarkupExamples }
+    // Of addresses and classes, by rules without raw HTML and with addresses of the web alone.
+    ensures addresses { AddressMarkupExamples }
     // Of texts that look like markup.
     ensures texts { TextMarkupExamples }
     // Of trees with raw HTML.
     ensures raw { RawHtmlExamples }
+    // Of trees that hold only what the rules read.
+    ensures followed { FollowedExamples }
 {}

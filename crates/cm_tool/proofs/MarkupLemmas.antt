@@ -11,10 +11,11 @@ use Rattle.cm_tree.specs.HeadingLevels.{all_of, all_of_items, level_step, has_le
 use Rattle.cm_scan.specs.Brackets.{Defined}
 use Rattle.cm_scan.specs.Blocks.{blocks_of}
 use Rattle.cm_scan.proofs.LevelLemmas.{heading_levels}
-use Rattle.cm_html.proofs.MarkupBlocks.{text_is_no_markup}
+use Rattle.cm_scan.proofs.TreesRead.{no_html, trees_followed}
+use Rattle.cm_html.proofs.MarkupBlocks.{addresses_stay}
 use Rattle.cm_scan.specs.Documents.{read_step, block_read, with_inlines}
 use Rattle.cm_scan.specs.Documents.{tree_of, defined_by}
-use Rattle.cm_tool.specs.TextMarkup.{HeadingLevels, TextIsNoMarkup}
+use Rattle.cm_tool.specs.TextMarkup.{HeadingLevels, TextIsNoMarkup, TextsFromStrangers}
 
 module _ (rules : Rules) (defined : Defined) where
   abbrev Kept : Block → Type 0
@@ -65,4 +66,7 @@ document_levels rules bytes =
     levels-kept rules (defined_by rules lines) (blocks_of rules lines) ∙ heading_levels rules lines
 
 pub document_is_no_markup : TextIsNoMarkup
-document_is_no_markup rules bytes free = text_is_no_markup (tree_of rules bytes) free (document_levels rules bytes)
+document_is_no_markup rules bytes free = addresses_stay rules (tree_of rules bytes) free (document_levels rules bytes) (trees_followed rules bytes)
+
+pub stranger_is_no_markup : TextsFromStrangers
+stranger_is_no_markup rules without bytes = document_is_no_markup rules bytes (no_html rules without bytes)

@@ -1,7 +1,11 @@
 -- Worked examples: from the bytes of a text to its HTML.
 use Rattle.std.specs.Prelude.{◌≡◌, [], ◌∷◌, ◌++◌, codes}
-use Rattle.cm_text.specs.Rules.{profile, older_rules}
+use Rattle.cm_text.specs.Rules.{Rules, profile, older_rules}
 use Rattle.cm_tool.specs.Writing.{converted}
+
+-- for texts from strangers: without raw HTML, and with addresses of the web alone
+abbrev pub safe : Rules
+safe = record profile { raw_html = false; any_address = false }
 
 pub record Examples : Type 0 where
   pub no_text : converted profile [] ≡ []
@@ -23,3 +27,8 @@ pub record Examples : Type 0 where
   pub link_before_its_definition : converted profile (codes "[a]\n\n[A]: /u\n") ≡ codes "<p><a href=\"/u\">a</a></p>\n"
   pub search_interrupts_a_paragraph : converted profile (codes "a\n<search>\n") ≡ codes "<p>a</p>\n<search>\n"
   pub source_by_the_older_rules : converted older_rules (codes "a\n<source>\n") ≡ codes "<p>a</p>\n<source>\n"
+  pub block_of_a_stranger : converted safe (codes "<script>\n\n*a*\n") ≡ codes "<p>&lt;script&gt;</p>\n<p><em>a</em></p>\n"
+  pub tag_of_a_stranger : converted safe (codes "a <b c=\"d\">\n") ≡ codes "<p>a &lt;b c=&quot;d&quot;&gt;</p>\n"
+  pub link_of_a_stranger : converted safe (codes "[a](JavaScript:b) [c](/d:e)\n") ≡ codes "<p>[a](JavaScript:b) <a href=\"/d:e\">c</a></p>\n"
+  pub autolinks_of_a_stranger : converted safe (codes "<data:a> <HTTP:b>\n") ≡ codes "<p>&lt;data:a&gt; <a href=\"HTTP:b\">HTTP:b</a></p>\n"
+  pub class_of_a_stranger : converted safe (codes "~~~ a&#10;b\n") ≡ codes "<pre><code class=\"language-a\"></code></pre>\n"

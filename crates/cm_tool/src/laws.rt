@@ -5,7 +5,7 @@ ghost use Rattle.cm_tool.specs.Faults.{SettledIsTold};
 ghost use Rattle.cm_tool.specs.FileExamples.{FileExamples};
 ghost use Rattle.cm_tool.specs.Owners.{OneOwnerALine, RunsInOrder};
 ghost use Rattle.cm_tool.specs.ReadingExamples.{ReadingExamples};
-ghost use Rattle.cm_tool.specs.TextMarkup.{HeadingLevels, TextIsNoMarkup};
+ghost use Rattle.cm_tool.specs.TextMarkup.{HeadingLevels, TextIsNoMarkup, TextsFromStrangers};
 ghost use Rattle.cm_tool.specs.Within.{NoFaultJustWithin, SpelledWithoutFault};
 ghost use Rattle.cm_tool.specs.steps.FaultOrder.{FaultsInOrder};
 
@@ -46,10 +46,17 @@ pub fn owners_of_lines()
 {}
 
 /// Each heading of a document has a level from 1 to 6. What `convert` writes of a text whose tree has no raw
-/// HTML, but for that in the alternative text of images, is markup, and its tags are those of the tree.
+/// HTML, but for that in the alternative text of images, is markup, and its tags are those of the tree. Each
+/// address in it is one that the rules follow.
 pub fn text_is_no_markup()
     ensures levels { HeadingLevels }
     ensures tags { TextIsNoMarkup }
+{}
+
+/// By rules without raw HTML what `convert` writes of any bytes is markup, and its tags are those of the tree.
+/// Each address in it is one that the rules follow, and each class is `language-` and a word.
+pub fn texts_from_strangers()
+    ensures { TextsFromStrangers }
 {}
 
 /// The examples of a file are those that stand among its lines. An opening line is 32 backticks, a space and

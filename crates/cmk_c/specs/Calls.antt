@@ -1,5 +1,5 @@
 -- What a call from C answers.
-use Rattle.std.specs.Prelude.{◌≡◌, ◌⊎◌, ◌==◌, ℕ, suc, ◌^◌, ◌≤◌, List, [], ◌∷◌, ◌++◌, codes, length, drop, Option, Some, None, Result, Ok, Err, ⊤, option_map, if◌then◌else◌, Vec}
+use Rattle.std.specs.Prelude.{◌≡◌, ◌⊎◌, ◌==◌, not, ℕ, suc, ◌^◌, ◌≤◌, List, [], ◌∷◌, ◌++◌, codes, length, drop, Option, Some, None, Result, Ok, Err, ⊤, option_map, if◌then◌else◌, Vec}
 use Rattle.std.specs.Option.{option_or}
 use Rattle.std.specs.declared.alloc.Global.{Global}
 use Rattle.cm_text.specs.Rules.{Rules}
@@ -19,7 +19,7 @@ or_standard number standard = if number == 0 then standard else number
 
 -- the rules that are asked for
 abbrev pub rules_asked : Options → Rules
-rules_asked options = record { older = options.older; strike = options.strike }
+rules_asked options = record { older = options.older; strike = options.strike; raw_html = not options.no_html; any_address = not options.web_links }
 
 -- limits with these rules
 abbrev pub with_rules : Rules → LimitsView → LimitsView

@@ -7,8 +7,8 @@ use crate::trouble::{Trouble, wrong};
 use crate::words::{Word, number};
 use cm_text::{
     Limits, Line, LineFeed, Rules, View, cut_at, fold_label, fold_label_or_lend, indent,
-    is_ascii_punct, is_punct, is_punct_by, is_space, next_markup, reference_at, strip, unescape,
-    unescape_or_lend,
+    is_ascii_punct, is_followed, is_punct, is_punct_by, is_space, next_markup, reference_at, strip,
+    unescape, unescape_or_lend,
 };
 use std::alloc::Global;
 
@@ -147,6 +147,15 @@ fn rules_given(answer: &mut Answer, name: &str) -> Result<bool, Trouble> {
     let limits = Limits::standard().with_rules(rules_of(answer.alloc, name)?);
     answer.truth(limits.rules().is_older())?;
     answer.truth(limits.rules().strike())?;
+    answer.truth(limits.rules().raw_html())?;
+    answer.truth(limits.rules().any_address())?;
+    Ok(true)
+}
+
+/// Whether an address leads somewhere by the rules of this name.
+fn followed(answer: &mut Answer, rules: &str, address: &str) -> Result<bool, Trouble> {
+    let rules = rules_of(answer.alloc, rules)?;
+    answer.truth(is_followed(rules, address))?;
     Ok(true)
 }
 
@@ -213,6 +222,9 @@ pub fn answers(answer: &mut Answer, name: &str, given: &[Word]) -> Result<bool, 
         }
         [Word::Plain(rules), Word::Text(text)] if name == "is_punct_by" => {
             punctuation(answer, rules.as_str(), text.as_str())
+        }
+        [Word::Plain(rules), Word::Text(address)] if name == "is_followed" => {
+            followed(answer, rules.as_str(), address.as_str())
         }
         [Word::Text(text), Word::Plain(at)] => {
             let at = number(answer.alloc, at.as_str())?;

@@ -4,7 +4,7 @@ use Rattle.std.specs.Str.{bytes_eq}
 use Rattle.clap.specs.Words.{Row, Text, first_of, one_of}
 use Rattle.cm_command.specs.declared.job.Job.{Job}
 use Rattle.cm_command.specs.declared.job.Job.TheVariants.{Examples}
-use Rattle.cm_command.specs.CommandLine.{Found, is_limit, job_of}
+use Rattle.cm_command.specs.CommandLine.{Flag, Found, flag_name, is_limit, job_of}
 
 -- the value fits the argument of this name: a number in its range, `true` or `false`, or any text
 abbrev pub fits : Text → Text → Bool
@@ -22,9 +22,8 @@ pub record IsRead (name : Text) (rows : List Row) : Type 0 where
   pub is_fit : fits name text ≡ true
 
 -- the flags of a subcommand have values that fit them
-pub record FlagsAreRead (rows : List Row) : Type 0 where
-  pub older : IsRead (codes "older") rows
-  pub strike : IsRead (codes "strike") rows
+abbrev pub FlagsAreRead : List Row → Type 0
+FlagsAreRead rows = (flag : Flag) → IsRead (flag_name flag) rows
 
 -- the options of a subcommand that reads a text have values that fit them
 pub record AreRead (rows : List Row) : Type 0 where

@@ -23,7 +23,9 @@ fn task_of(answer: &mut Answer, task: &Task) -> Result<(), Trouble> {
     answer.number(task.limits.blocks())?;
     answer.number(task.limits.inlines())?;
     answer.truth(task.limits.rules().is_older())?;
-    answer.truth(task.limits.rules().strike())
+    answer.truth(task.limits.rules().strike())?;
+    answer.truth(task.limits.rules().raw_html())?;
+    answer.truth(task.limits.rules().any_address())
 }
 
 /// The task of a command line, or why there is none.

@@ -55,3 +55,9 @@ returns-in-Err-clause-out_of_range c name job choices file text words_are once o
     is_mistake (kind_of c.in-Err.error) _ c.stop_of.result (c.in-Err.ensures.kinds (ap is_simple_and_free is_cmk ∙ cmk_is_simple))
     c.stop_of.ensures.memory c.stop_of.ensures.kind
     (ap (λ (a : App). fault_of a (map string_bytes c.args.words.now)) is_cmk ∙ ap stops_of words_are ∙ asked_wrong name job choices file text once out numbers plain)
+
+pub returns-in_ok-task_of-in-Ok-clause-found : goal.returns-in_ok-task_of-in-Ok-clause-found
+returns-in_ok-task_of-in-Ok-clause-found c =
+    let is_cmk = c.in_ok-command.ensures in
+    let found = (c.in-Ok.ensures.matches (ap is_simple is_cmk ∙ cmk_reads_simply)).1 ∙ ap (λ (a : App). subcommand_of a (map string_bytes c.args.words.now)) is_cmk in
+    subst (λ (f : Option Found). IsTaskOf f c.in_ok-task_of-in-Ok.field-0) found c.in_ok-task_of-in-Ok.ensures

@@ -11,7 +11,10 @@ use Rattle.cm_html.specs.Html.{Rendered, inline_step, Written, block_step}
 use Rattle.cm_tree.specs.HeadingLevels.{level_step}
 use Rattle.cm_tree.specs.RawHtml.{raw_inline_step, raw_block_step}
 use Rattle.cm_html.specs.Tags.{Tags, inline_tags, block_tags, tags_of_block}
-use Rattle.cm_html.specs.MarkupExamples.{MarkupExamples, TextMarkupExamples, RawHtmlExamples}
+use Rattle.cm_text.specs.Rules.{profile}
+use Rattle.cm_text.specs.Addresses.{address_scheme}
+use Rattle.cm_tree.specs.Followed.{followed_inline_step, followed_block_step}
+use Rattle.cm_html.specs.MarkupExamples.{safe, AddressMarkupExamples, FollowedExamples, MarkupExamples, RawHtmlExamples, TextMarkupExamples}
 use Rattle.cm_html.proofs.laws.markup_examples.Goals as goal
 
 -- the tags of one block, by whether it stands in a tight item
@@ -45,6 +48,24 @@ markup = record {
   start_without_a_number = refl;
 }
 
+addresses : AddressMarkupExamples
+unfolding address_scheme
+addresses = record {
+  no_address = refl;
+  path = refl;
+  other_host = refl;
+  https = refl;
+  mail = refl;
+  script = refl;
+  script_behind_a_space = refl;
+  script_around_a_line_feed = refl;
+  image = refl;
+  other_values = refl;
+  one_word = refl;
+  two_words = refl;
+  two_words_by_the_profile = refl;
+}
+
 texts : TextMarkupExamples
 unfolding is_kept destination_byte class_word percent_encode_byte digits
 texts = record {
@@ -75,5 +96,17 @@ raws = record {
   sixth_level = simp (fold_out-Block Bool level_step, outs-Quote, outs-Heading);
 }
 
+follows : FollowedExamples
+unfolding address_scheme
+follows = record {
+  link = simp (fold_out-Block Bool (followed_block_step safe), outs-Paragraph, fold_out-Inline Bool (followed_inline_step safe), link, text);
+  script = simp (fold_out-Block Bool (followed_block_step safe), outs-Paragraph, fold_out-Inline Bool (followed_inline_step safe), link);
+  script_by_the_profile = simp (fold_out-Block Bool (followed_block_step profile), outs-Paragraph, fold_out-Inline Bool (followed_inline_step profile), link);
+  image_in_a_quote = simp (fold_out-Block Bool (followed_block_step safe), outs-Quote, outs-Paragraph, fold_out-Inline Bool (followed_inline_step safe), emph, image);
+  link_in_an_image = simp (fold_out-Block Bool (followed_block_step safe), outs-Paragraph, fold_out-Inline Bool (followed_inline_step safe), image);
+  info = simp (fold_out-Block Bool (followed_block_step safe), outs-Code);
+  info_with_a_line_feed = simp (fold_out-Block Bool (followed_block_step safe), outs-Code);
+}
+
 pub returns : goal.returns
-returns c = record { markup = markup; texts = texts; raw = raws }
+returns c = record { markup = markup; addresses = addresses; texts = texts; raw = raws; followed = follows }

@@ -1,5 +1,6 @@
 use Rattle.std.proofs.Common.{◌≡◌, ℕ, List, [], ◌∷◌, Option, Some, ap, codes, refl}
 use Rattle.cm_text.specs.Rules.{profile}
+use Rattle.cm_text.specs.Addresses.{address_scheme}
 use Rattle.cm_text.specs.Lines.{text_of, plain_lines_of}
 use Rattle.cm_text.proofs.Computing.{label_folding}
 use Rattle.cm_tree.specs.Definitions.{Target}
@@ -59,7 +60,7 @@ returns-clause-reading c = record {
 }
 
 pub returns-clause-html : goal.returns-clause-html
-unfolding block_structure inline_structure class_word digits
+unfolding block_structure inline_structure class_word digits is_kept destination_byte address_scheme
 returns-clause-html c = record {
   no_text = refl;
   paragraph_over_two_lines = simp (fold_out-Block Block, fold_out-Block Written block_step, fold_out-Inline Rendered inline_step, paragraph, text, soft);
@@ -75,6 +76,11 @@ returns-clause-html c = record {
   link_before_its_definition = link_page;
   search_interrupts_a_paragraph = simp (fold_out-Block Block, fold_out-Block Written block_step, fold_out-Inline Rendered inline_step, paragraph, raw, text);
   source_by_the_older_rules = simp (fold_out-Block Block, fold_out-Block Written block_step, fold_out-Inline Rendered inline_step, paragraph, raw, text);
+  block_of_a_stranger = simp (fold_out-Block Block, fold_out-Block Written block_step, fold_out-Inline Rendered inline_step, paragraph, text, emph);
+  tag_of_a_stranger = simp (fold_out-Block Block, fold_out-Block Written block_step, fold_out-Inline Rendered inline_step, paragraph, text);
+  link_of_a_stranger = simp (fold_out-Block Block, fold_out-Block Written block_step, fold_out-Inline Rendered inline_step, paragraph, text, link);
+  autolinks_of_a_stranger = simp (fold_out-Block Block, fold_out-Block Written block_step, fold_out-Inline Rendered inline_step, paragraph, text, link);
+  class_of_a_stranger = simp (fold_out-Block Block, fold_out-Block Written block_step, code);
   indented_code = simp (fold_out-Block Block, fold_out-Block Written block_step, code);
   lazy_line = simp (fold_out-Block Block, fold_out-Block Written block_step, fold_out-Inline Rendered inline_step, quote, paragraph, text, soft);
   list_in_a_quote = simp (fold_out-Block Block, fold_out-Block Written block_step, fold_out-Inline Rendered inline_step, quote, items, paragraph, text, soft);
