@@ -20,7 +20,7 @@ pub inner-less : (rules : Rules) (line : LineView) → OfInner (λ inner. marks 
 unfolding begin_of
 inner-less rules line = go (is_blank line) refl
   where
-    of_start : (start : Start) → is_blank line ≡ false → OfInner (λ inner. marks inner.text < marks line.text) (begin_of_start start line)
+    of_start : (start : Start) → is_blank line ≡ false → OfInner (λ inner. marks inner.text < marks line.text) (begin_of_start rules start line)
     of_start IndentedCode e = tt
     of_start QuoteMarker e = marks-behind_quote_marker line e
     of_start (AtxHeading h) e = tt
@@ -30,7 +30,7 @@ inner-less rules line = go (is_blank line) refl
     of_start (ItemStart marker) e = marks-first_content marker line e
     of_start TextLine e = tt
 
-    go : (v : Bool) → is_blank line ≡ v → OfInner (λ inner. marks inner.text < marks line.text) (elim v as (λ _. LineOpens) [ true ↦ begins_nothing | false ↦ begin_of_start (start_of rules line) line ])
+    go : (v : Bool) → is_blank line ≡ v → OfInner (λ inner. marks inner.text < marks line.text) (elim v as (λ _. LineOpens) [ true ↦ begins_nothing | false ↦ begin_of_start rules (start_of rules line) line ])
     go true e = tt
     go false e = of_start (start_of rules line) e
 

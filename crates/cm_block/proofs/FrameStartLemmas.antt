@@ -76,23 +76,23 @@ by-ends rules q s v (begins_leaf (ends leaves)) h = leaves-end (block_opens v) l
 by-ends rules q s v (begins_quote inner) h = refl
 by-ends rules q s v (begins_item kind column inner) h = item-ends v kind
 
-start-begins : (start : Start) (line : LineView) → IsBegin (begin_of_start start line)
-start-begins IndentedCode line = tt
-start-begins QuoteMarker line = tt
-start-begins (AtxHeading h) line = tt
-start-begins (OpeningFence fence) line = tt
-start-begins (HtmlStart kind) line = tt
-start-begins BreakLine line = tt
-start-begins (ItemStart marker) line = tt
-start-begins TextLine line = tt
+start-begins : (rules : Rules) (start : Start) (line : LineView) → IsBegin (begin_of_start rules start line)
+start-begins rules IndentedCode line = tt
+start-begins rules QuoteMarker line = tt
+start-begins rules (AtxHeading h) line = tt
+start-begins rules (OpeningFence fence) line = tt
+start-begins rules (HtmlStart kind) line = tt
+start-begins rules BreakLine line = tt
+start-begins rules (ItemStart marker) line = tt
+start-begins rules TextLine line = tt
 
 pub not-nothing : (rules : Rules) (line : LineView) → is_blank line ≡ false → IsBegin (begin_of rules line)
 unfolding begin_of
 not-nothing rules line h = go (is_blank line) h
   where
-    go : (b : Bool) → b ≡ false → IsBegin (elim b as (λ _. LineOpens) [ true ↦ begins_nothing | false ↦ begin_of_start (start_of rules line) line ])
+    go : (b : Bool) → b ≡ false → IsBegin (elim b as (λ _. LineOpens) [ true ↦ begins_nothing | false ↦ begin_of_start rules (start_of rules line) line ])
     go true h = absurd (cc h)
-    go false h = start-begins (start_of rules line) line
+    go false h = start-begins rules (start_of rules line) line
 
 line-ends : (rules : Rules) (q : Bool) (s : Owned) (v : Level) (line : LineView) → is_blank line ≡ false → (push_begin rules q s v line).level.ends_blank ≡ false
 line-ends rules q s v line h = ap (λ (c : Stack). c.level.ends_blank) (push-cases rules q s v line) ∙ by-ends rules q s v (begin_of rules line) (not-nothing rules line h)

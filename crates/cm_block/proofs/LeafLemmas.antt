@@ -12,7 +12,7 @@ use Rattle.cm_scan.specs.Lines.{is_blank, with_ending}
 use Rattle.cm_scan.specs.HtmlBlocks.{HtmlKind, RawText, Comment, Instruction, Declaration, CharacterData, BlockTag, AnyTag, is_html_end, ends_at_blank_line}
 use Rattle.cm_scan.specs.LineForms.{Fence}
 use Rattle.cm_scan.specs.Starts.{IndentedCode, OpeningFence, HtmlStart}
-use Rattle.cm_scan.specs.Parts.{html}
+use Rattle.cm_scan.specs.Parts.{html, info_of}
 use Rattle.cm_scan.specs.Blocks.{line_feeds, NextLine, next_line, closes_fence, code_line}
 use Rattle.cm_block.proofs.FeedLemmas.{feeds_append, feeds_ended}
 use Rattle.cm_block.specs.declared.leaf.OpenLeaf.{OpenLeaf}
@@ -121,28 +121,28 @@ one_more text after line e = ap ended e ∙ append_assoc text (10 ∷ line) (10 
 
 -- first lines
 
-pub code_begins : (text blanks : List ℕ) (line : LineView) → text ≡ (strip_columns 4 line).text → line_feeds text ≡ 0 → blanks ≡ []
-    → begins_leaf (stays_open (code_of text blanks)) ≡ begin_of_start IndentedCode line
+pub code_begins : (rules : Rules) (text blanks : List ℕ) (line : LineView) → text ≡ (strip_columns 4 line).text → line_feeds text ≡ 0 → blanks ≡ []
+    → begins_leaf (stays_open (code_of text blanks)) ≡ begin_of_start rules IndentedCode line
 unfolding line_feeds
-code_begins text blanks line e feeds none =
+code_begins rules text blanks line e feeds none =
     let lines : suc (line_feeds text) ≡ 1 = ap suc feeds in
     ap₂ (λ t n. begins_leaf (stays_open (open_code t n blanks (line_feeds blanks)))) (ap ended e) lines
     ∙ ap (λ b. begins_leaf (stays_open (open_code (code_line line) 1 b (line_feeds b)))) none
 
-pub html_begins : (kind : HtmlKind) (text : List ℕ) (line : LineView) → text ≡ line.text → line_feeds text ≡ 0 → false ≡ is_html_end kind line.text
-    → begins_leaf (stays_open (open_html kind (ended text) (suc (line_feeds text)))) ≡ begin_of_start (HtmlStart kind) line
-html_begins kind text line e feeds ends =
+pub html_begins : (rules : Rules) (kind : HtmlKind) (text : List ℕ) (line : LineView) → text ≡ line.text → line_feeds text ≡ 0 → false ≡ is_html_end kind line.text
+    → begins_leaf (stays_open (open_html kind (ended text) (suc (line_feeds text)))) ≡ begin_of_start rules (HtmlStart kind) line
+html_begins rules kind text line e feeds ends =
     ap₂ (λ t n. begins_leaf (stays_open (open_html kind t n))) (ap ended e) (ap suc feeds) ∙ ap (λ b. begins_leaf (line_of_html kind [] 0 line b)) ends
 
-pub html_whole : (kind : HtmlKind) (text : List ℕ) (line : LineView) → text ≡ line.text → line_feeds text ≡ 0 → true ≡ is_html_end kind line.text
-    → begins_leaf (is_last ((html (ended text), suc (line_feeds text)) ∷ [])) ≡ begin_of_start (HtmlStart kind) line
-html_whole kind text line e feeds ends =
+pub html_whole : (rules : Rules) (kind : HtmlKind) (text : List ℕ) (line : LineView) → text ≡ line.text → line_feeds text ≡ 0 → true ≡ is_html_end kind line.text
+    → begins_leaf (is_last ((html (ended text), suc (line_feeds text)) ∷ [])) ≡ begin_of_start rules (HtmlStart kind) line
+html_whole rules kind text line e feeds ends =
     ap₂ (λ t n. begins_leaf (is_last ((html t, n) ∷ []))) (ap ended e) (ap suc feeds) ∙ ap (λ b. begins_leaf (line_of_html kind [] 0 line b)) ends
 
-pub fence_begins : (marker count : ℕ) (info same : List ℕ) (columns : ℕ) (text : List ℕ) (line : LineView) → info ≡ same → columns ≡ indent_of line → text ≡ []
+pub fence_begins : (rules : Rules) (marker count : ℕ) (info source : List ℕ) (columns : ℕ) (text : List ℕ) (line : LineView) → info ≡ info_of rules source → columns ≡ indent_of line → text ≡ []
     → begins_leaf (stays_open (open_fence (record { marker = marker; count = count; info = info }) columns text (suc (line_feeds text))))
-    ≡ begin_of_start (OpeningFence (record { marker = marker; count = count; info = same })) line
+    ≡ begin_of_start rules (OpeningFence (record { marker = marker; count = count; info = source })) line
 unfolding line_feeds
-fence_begins marker count info same columns text line e k none =
+fence_begins rules marker count info source columns text line e k none =
     ap₂ (λ i n. begins_leaf (stays_open (open_fence (record { marker = marker; count = count; info = i }) n text (suc (line_feeds text))))) e k
-    ∙ ap (λ t. begins_leaf (stays_open (open_fence (record { marker = marker; count = count; info = same }) (indent_of line) t (suc (line_feeds t))))) none
+    ∙ ap (λ t. begins_leaf (stays_open (open_fence (record { marker = marker; count = count; info = info_of rules source }) (indent_of line) t (suc (line_feeds t))))) none

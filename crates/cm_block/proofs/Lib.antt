@@ -26,3 +26,4 @@ pub mod FeedLemmas
 pub mod NextLineLemmas
 pub mod OwnerRunLemmas
 pub mod FrontLemmas
+pub mod InfoLemmas

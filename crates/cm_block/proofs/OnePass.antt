@@ -9,15 +9,15 @@ use Rattle.cm_text.specs.Lines.{LineView}
 use Rattle.cm_text.specs.Indentation.{indent_of, strip_columns}
 use Rattle.cm_tree.specs.declared.tree.ListKind.{ListKind}
 use Rattle.cm_scan.specs.Lines.{is_blank, content_of, with_ending, marks, size}
-use Rattle.cm_scan.specs.LineForms.{Fence}
+use Rattle.cm_scan.specs.LineForms.{Fence, is_closing_fence}
 use Rattle.cm_scan.specs.HtmlBlocks.{HtmlKind, RawText, Comment, Instruction, Declaration, CharacterData, BlockTag, AnyTag, is_html_end, ends_at_blank_line}
 use Rattle.cm_scan.specs.Starts.{Start, IndentedCode, QuoteMarker, AtxHeading, OpeningFence, HtmlStart, BreakLine, ItemStart, TextLine, start_of, Place, Stays, StaysIfOpen, Leaves, behind_quote_marker, place_in_quote, content_column, first_content, place_in_item}
-use Rattle.cm_scan.specs.Parts.{LeafPart, heading, code, html, thematic_break, Parts, none, blank, leaf, leaves_paragraph_open, put_leaves}
+use Rattle.cm_scan.specs.Parts.{LeafPart, heading, code, html, thematic_break, Parts, none, blank, leaf, leaves_paragraph_open, put_leaves, info_of}
 use Rattle.cm_scan.specs.Blocks.{add_text, NextLine, GoesOn, Ends, Underlines, next_line, TextRun, text_run, leaves_of_run, Taken, taken, closes_fence, fenced, html_to_end, html_to_blank, html_lines, code_line, indented, Inside, inside, is_bare, quote_parts, item_parts, fence_parts, html_parts, code_parts, text_parts, parts_by_start, parts_of}
 use Rattle.cm_scan.specs.Laws.{goes_inward, next_inward}
 use Rattle.cm_scan.proofs.Sizes.{marks-behind_quote_marker, marks-first_content, Keeps, keeps-quote, keeps-item, size-append}
 use Rattle.cm_scan.proofs.Cases.{no_lines, blank_case, starting, inside-in, inside-out}
-use Rattle.cm_block.specs.OpenLeaf.{OpenLeaf, no_leaf, open_text, open_code, open_fence, open_html, run_leaves, closed_leaves, blank_lines_behind, LeafLine, stays_open, is_last, line_of_text, line_of_code, line_of_fence, line_of_html, line_of_leaf, LineOpens, begins_nothing, begin_of_start, begin_of}
+use Rattle.cm_block.specs.OpenLeaf.{OpenLeaf, no_leaf, open_text, open_code, open_fence, open_html, run_leaves, closed_leaves, blank_lines_behind, LeafLine, stays_open, is_last, line_of_text, line_of_code, line_of_fence, line_of_html, line_of_leaf, LineOpens, begins_nothing, begin_of_start, begin_of, open_as}
 use Rattle.cm_block.specs.Machine.{Piece, blank_piece, quote_piece, item_piece, put, put_all, Open, in_leaf, in_quote, in_item, has_open_text, Change, change, leaf_pieces, closing, leaf_change, begin_by, begin, after_closing, leaf_step, step, Machine, new_machine, take_line, take_lines, close, parts_in_one_pass}
 use Rattle.cm_block.specs.Laws.{OnePass}
 use Rattle.cm_block.proofs.BeginCases.{begin-cases}
@@ -44,6 +44,21 @@ put-blanks : (n : ℕ) (p : Parts) → put_all (replicate n blank_piece) p ≡ p
 unfolding put_all put_blanks
 put-blanks zero p = refl
 put-blanks (suc n) p = ap blank (put-blanks n p)
+
+-- the lines of a fence, whose info plays no part
+fenced-alike : (rules : Rules) (fence : Fence) (columns : ℕ) (text : List ℕ) (m : ℕ) (lines : List LineView) → fenced (open_as rules fence) columns text m lines ≡ fenced fence columns text m lines
+unfolding fenced is_closing_fence
+fenced-alike rules fence columns text m [] = refl
+fenced-alike rules fence columns text m (line ∷ lines) = go (closes_fence fence line) (fenced-alike rules fence columns more (suc m) lines)
+  where
+    more : List ℕ
+    more = text ++ with_ending (strip_columns columns line)
+
+    go : (v : Bool) → fenced (open_as rules fence) columns more (suc m) lines ≡ fenced fence columns more (suc m) lines
+        → elim v as (λ _. Taken) [ true ↦ taken text (suc m) lines | false ↦ fenced (open_as rules fence) columns more (suc m) lines ]
+        ≡ elim v as (λ _. Taken) [ true ↦ taken text (suc m) lines | false ↦ fenced fence columns more (suc m) lines ]
+    go true e = refl
+    go false e = e
 
 put-closing : (x : OpenLeaf) (p : Parts) → put_all (closing (in_leaf x)) p ≡ put_leaves (closed_leaves x) (put_blanks (blank_lines_behind x) p)
 unfolding closing
@@ -461,7 +476,7 @@ module _ (rules : Rules) where
         go false true a b = begins-leaf (html (with_ending line))
         go false false a b = end-pass _ shorter kind a (with_ending line) 1 lines less
 
-    by-start : (start : Start) → is_blank line ≡ false → comes_to (begin_by (begin rules) (begin_of_start start line)) ≡ parts_by_start rules (parts_of rules) start line lines
+    by-start : (start : Start) → is_blank line ≡ false → comes_to (begin_by (begin rules) (begin_of_start rules start line)) ≡ parts_by_start rules (parts_of rules) start line lines
     unfolding parts_by_start code_parts fence_parts text_parts quote_parts item_parts
     by-start IndentedCode e = code-pass _ shorter (code_line line) 1 [] lines refl less
     by-start QuoteMarker e =
@@ -469,7 +484,9 @@ module _ (rules : Rules) where
         (behind_quote_marker line) [] lines _ _ (begun (behind_quote_marker line))
         (omega (arith, marks-behind_quote_marker line e, size-cons line lines, size-cons (behind_quote_marker line) [], size-nil))
     by-start (AtxHeading h) e = begins-leaf (heading h.level h.content)
-    by-start (OpeningFence fence) e = fence-pass _ shorter fence (indent_of line) [] 1 lines less
+    by-start (OpeningFence fence) e =
+        fence-pass _ shorter (open_as rules fence) (indent_of line) [] 1 lines less
+        ∙ ap (put_taken (code (info_of rules fence.info))) (fenced-alike rules fence (indent_of line) [] 1 lines)
     by-start (HtmlStart kind) e = html-begun kind e
     by-start BreakLine e = begins-leaf thematic_break
     by-start (ItemStart marker) e =
@@ -484,7 +501,7 @@ module _ (rules : Rules) where
     by-cases = ap (λ ps. put_all ps none) (finish-begin line lines) ∙ ap comes_to (begin-cases rules line) ∙ go (is_blank line) refl
       where
         begins : Bool → LineOpens
-        begins v = elim v as (λ _. LineOpens) [ true ↦ begins_nothing | false ↦ begin_of_start (start_of rules line) line ]
+        begins v = elim v as (λ _. LineOpens) [ true ↦ begins_nothing | false ↦ begin_of_start rules (start_of rules line) line ]
 
         go : (v : Bool) → is_blank line ≡ v → comes_to (begin_by (begin rules) (begins v)) ≡ parts_of rules (line ∷ lines)
         go true e = ap blank (pass-less _ shorter lines less) ∙ sym (blank_case rules line lines e)

@@ -234,23 +234,23 @@ abbrev pub SoundBegin : LineOpens → Type 0
 SoundBegin (begins_leaf l) = SoundLine l
 SoundBegin _ = ⊤
 
-start-sound : (line : LineView) → is_blank line ≡ false → (start : Start) → SoundBegin (begin_of_start start line)
-start-sound line e IndentedCode = tt
-start-sound line e QuoteMarker = tt
-start-sound line e (AtxHeading h) = λ before. refl
-start-sound line e (OpeningFence fence) = tt
-start-sound line e (HtmlStart kind) = html-sound kind [] 0 line (is_html_end kind line.text)
-start-sound line e BreakLine = λ before. refl
-start-sound line e (ItemStart marker) = tt
-start-sound line e TextLine = firm-content line.text e
+start-sound : (rules : Rules) (line : LineView) → is_blank line ≡ false → (start : Start) → SoundBegin (begin_of_start rules start line)
+start-sound rules line e IndentedCode = tt
+start-sound rules line e QuoteMarker = tt
+start-sound rules line e (AtxHeading h) = λ before. refl
+start-sound rules line e (OpeningFence fence) = tt
+start-sound rules line e (HtmlStart kind) = html-sound kind [] 0 line (is_html_end kind line.text)
+start-sound rules line e BreakLine = λ before. refl
+start-sound rules line e (ItemStart marker) = tt
+start-sound rules line e TextLine = firm-content line.text e
 
 pub begin-sound : (rules : Rules) (line : LineView) → SoundBegin (begin_of rules line)
 unfolding begin_of
 begin-sound rules line = go (is_blank line) refl
   where
-    go : (v : Bool) → is_blank line ≡ v → SoundBegin (elim v as (λ _. LineOpens) [ true ↦ begins_nothing | false ↦ begin_of_start (start_of rules line) line ])
+    go : (v : Bool) → is_blank line ≡ v → SoundBegin (elim v as (λ _. LineOpens) [ true ↦ begins_nothing | false ↦ begin_of_start rules (start_of rules line) line ])
     go true e = tt
-    go false e = start-sound line e (start_of rules line)
+    go false e = start-sound rules line e (start_of rules line)
 
 -- a change behind any pieces keeps it
 

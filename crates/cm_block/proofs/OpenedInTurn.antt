@@ -35,13 +35,13 @@ module _ (rules : Rules) where
       push-cases rules q s v line ∙ marked-by q p s v (begin_of rules line) (not-nothing rules line some) ∙ sym (push-cases rules p s v line)
 
   -- what it begins, by its start
-  pub begins-as : (line : LineView) (start : Start) → is_blank line ≡ false → start_of rules line ≡ start → begin_of rules line ≡ begin_of_start start line
+  pub begins-as : (line : LineView) (start : Start) → is_blank line ≡ false → start_of rules line ≡ start → begin_of rules line ≡ begin_of_start rules start line
   unfolding begin_of
   begins-as line start some is = go (is_blank line) some
     where
-      go : (b : Bool) → b ≡ false → (elim b as (λ _. LineOpens) [ true ↦ begins_nothing | false ↦ begin_of_start (start_of rules line) line ]) ≡ begin_of_start start line
+      go : (b : Bool) → b ≡ false → (elim b as (λ _. LineOpens) [ true ↦ begins_nothing | false ↦ begin_of_start rules (start_of rules line) line ]) ≡ begin_of_start rules start line
       go true e = absurd (cc e)
-      go false e = ap (λ s. begin_of_start s line) is
+      go false e = ap (λ s. begin_of_start rules s line) is
 
 quoted-last : (q : Bool) (fs : List Frame) (f : Frame) → quoted_by q (fs ++ f ∷ []) ≡ quoted_in f.container (quoted_by q fs)
 unfolding quoted_by
@@ -83,7 +83,7 @@ module _ (rules : Rules) (fs : List Frame) (v : Level) (line : LineView) (owned 
       ap (within fs) (begins-nothing rules (quoted_by false fs) owned v line (blank-begins rules line none))
       ∙ sym (nest-within fs (push_blank v) no_leaf (own_lines owned (blank_owner (quoted_by false fs) ∷ [])))
 
-  pub leaf_next : (start : Start) (l : LeafLine) → begin_of rules line ≡ begin_of_start start line → begins_leaf l ≡ begin_of_start start line
+  pub leaf_next : (start : Start) (l : LeafLine) → begin_of rules line ≡ begin_of_start rules start line → begins_leaf l ≡ begin_of_start rules start line
       → begun_in rules fs v line owned ≡ within fs (push_leaf_line owned (block_opens v) l)
   leaf_next start l is at = ap (within fs) (begins-leaf rules (quoted_by false fs) owned v line l (is ∙ sym at))
 

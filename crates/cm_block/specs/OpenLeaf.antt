@@ -9,7 +9,7 @@ use Rattle.cm_scan.specs.Lines.{is_blank, content_of, with_ending}
 use Rattle.cm_scan.specs.LineForms.{Fence}
 use Rattle.cm_scan.specs.HtmlBlocks.{HtmlKind, is_html_end, ends_at_blank_line}
 use Rattle.cm_scan.specs.Starts.{Start, IndentedCode, QuoteMarker, AtxHeading, OpeningFence, HtmlStart, BreakLine, ItemStart, TextLine, start_of, behind_quote_marker, content_column, first_content}
-use Rattle.cm_scan.specs.Parts.{LeafPart, heading, code, html, thematic_break}
+use Rattle.cm_scan.specs.Parts.{info_of, LeafPart, heading, code, html, thematic_break}
 use Rattle.cm_scan.specs.Blocks.{add_text, NextLine, GoesOn, Ends, Underlines, next_line, leaves_of_run, closes_fence, code_line}
 
 -- What is open: a run of text, by its source; indented code, with the text of the blank lines that wait for a further line of code,
@@ -90,15 +90,19 @@ pub data LineOpens : Type 0 where
   begins_quote : LineView → LineOpens
   begins_item : ListKind → (column : ℕ) → LineView → LineOpens
 
-abbrev pub begin_of_start : Start → LineView → LineOpens
-begin_of_start IndentedCode line = begins_leaf (stays_open (open_code (code_line line) 1 [] 0))
-begin_of_start QuoteMarker line = begins_quote (behind_quote_marker line)
-begin_of_start (AtxHeading h) line = begins_leaf (is_last ((heading h.level h.content, 1) ∷ []))
-begin_of_start (OpeningFence fence) line = begins_leaf (stays_open (open_fence fence (indent_of line) [] 1))
-begin_of_start (HtmlStart kind) line = begins_leaf (line_of_html kind [] 0 line (is_html_end kind line.text))
-begin_of_start BreakLine line = begins_leaf (is_last ((thematic_break, 1) ∷ []))
-begin_of_start (ItemStart marker) line = begins_item marker.kind (content_column marker line) (first_content marker line)
-begin_of_start TextLine line = begins_leaf (stays_open (open_text (content_of line)))
+-- an open fence has its info as the tree has it
+abbrev pub open_as : Rules → Fence → Fence
+open_as rules fence = record fence { info = info_of rules fence.info }
+
+abbrev pub begin_of_start : Rules → Start → LineView → LineOpens
+begin_of_start rules IndentedCode line = begins_leaf (stays_open (open_code (code_line line) 1 [] 0))
+begin_of_start rules QuoteMarker line = begins_quote (behind_quote_marker line)
+begin_of_start rules (AtxHeading h) line = begins_leaf (is_last ((heading h.level h.content, 1) ∷ []))
+begin_of_start rules (OpeningFence fence) line = begins_leaf (stays_open (open_fence (open_as rules fence) (indent_of line) [] 1))
+begin_of_start rules (HtmlStart kind) line = begins_leaf (line_of_html kind [] 0 line (is_html_end kind line.text))
+begin_of_start rules BreakLine line = begins_leaf (is_last ((thematic_break, 1) ∷ []))
+begin_of_start rules (ItemStart marker) line = begins_item marker.kind (content_column marker line) (first_content marker line)
+begin_of_start rules TextLine line = begins_leaf (stays_open (open_text (content_of line)))
 
 unfoldable pub begin_of : Rules → LineView → LineOpens
-begin_of rules line = elim (is_blank line) [ true ↦ begins_nothing | false ↦ begin_of_start (start_of rules line) line ]
+begin_of rules line = elim (is_blank line) [ true ↦ begins_nothing | false ↦ begin_of_start rules (start_of rules line) line ]

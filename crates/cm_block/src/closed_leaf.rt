@@ -40,7 +40,7 @@ pub(crate) enum ClosedLeaf {
     Code {
         text: LeafText,
     },
-    /// Fenced code: its lines, each with a line feed, and whether it has a closing fence.
+    /// Fenced code: its info, its lines, each with a line feed, and whether it has a closing fence.
     Fenced {
         info: String,
         text: LeafText,
@@ -187,24 +187,21 @@ fn put_run(
     Ok(())
 }
 
-/// Puts a code block.
+/// Puts a code block, whose info is resolved.
 fn put_code(
-    alloc: Global,
     info: &str,
     text: &str,
     lines: usize,
     stack: &mut Stack,
     owners: &mut Owners,
-) -> Result<(), NoMemory>
+) -> Result<(), AllocError>
     ensures level { OnOk result (stack.new.level ≡ block_closes stack.old.level (leaf_block (code info.now text.now))) }
     ensures frames { stack.new.frames ≡ stack.old.frames }
     ensures bare { stack.new.bare ≡ stack.old.bare }
     ensures owners { OnOk result (owners.new ≡ own_plain_leaf owners.old lines) }
 {
-    let info = unescape_or_lend(alloc, info)?;
     owners.leaf(lines)?;
-    stack.put(&LeafBlock::Code { info: &info, text })?;
-    Ok(())
+    stack.put(&LeafBlock::Code { info, text })
 }
 
 /// How many lines a fenced code block has with these lines, and with a closing fence or not.
@@ -250,13 +247,13 @@ impl ClosedLeaf {
             ClosedLeaf::Code { mut text } => {
                 let lines = count_lines(text.feeds(), 1)?;
                 text.end_line()?;
-                put_code(alloc, "", text.as_str(), lines, stack, owners)?;
+                put_code("", text.as_str(), lines, stack, owners)?;
                 leaves.keep(text);
                 Ok(())
             }
             ClosedLeaf::Fenced { info, text, ended } => {
                 let lines = fence_lines(ended, &text)?;
-                put_code(alloc, &info, text.as_str(), lines, stack, owners)?;
+                put_code(&info, text.as_str(), lines, stack, owners)?;
                 leaves.keep(text);
                 Ok(())
             }

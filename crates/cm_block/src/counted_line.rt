@@ -27,7 +27,7 @@ mod starts;
 use crate::leaf_text::LeafText;
 use crate::rooms::TextRoom;
 use cm_scan::{FenceKind, HtmlKind};
-use cm_text::{Rules, View};
+use cm_text::{NoMemory, Rules, View};
 use cm_tree::ListKind;
 use copies::{add_text, push_next_line, push_whole_line, take_code_line};
 use ends::{closes_fence, ends_html};
@@ -328,13 +328,14 @@ impl<'a> CountedLine<'a> {
     pub(crate) fn begin_leaf(
         &mut self,
         alloc: Global,
+        rules: Rules,
         leaves: &mut TextRoom,
         start: &LeafStart<'_>,
-    ) -> Result<Option<FirstLine>, AllocError>
-        ensures leaf { IfOk result (λ first. IfSome first (λ f. begins_leaf (first_of f) ≡ begin_of_start (seen start.now.found) (seen_view self.old.rest))) }
+    ) -> Result<Option<FirstLine>, NoMemory>
+        ensures leaf { IfOk result (λ first. IfSome first (λ f. begins_leaf (first_of f) ≡ begin_of_start rules (seen start.now.found) (seen_view self.old.rest))) }
         ensures container { IfOk result (λ first. IfNone first (begins_container (seen start.now.found) ≡ true)) }
         ensures read { ReadOnce self.old self.new }
     {
-        begin_leaf(alloc, leaves, start, &self.read())
+        begin_leaf(alloc, rules, leaves, start, &self.read())
     }
 }

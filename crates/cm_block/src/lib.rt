@@ -25,6 +25,7 @@ mod closed_leaf;
 mod containers;
 mod counted_line;
 mod fault;
+mod infos;
 pub mod laws;
 mod leaf;
 mod leaf_block;

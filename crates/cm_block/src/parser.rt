@@ -144,14 +144,15 @@ impl BlockParser {
         requires plain { self.old.stack.bare ≡ false }
         requires leaf { leaf_of self.old.leaf ≡ no_leaf }
         requires start { begins_container (seen start.now.found) ≡ false }
-        ensures pushed { OnOk result (LeafBegins start.now.found (seen_view line.old.rest) self.old.stack self.old.owners (stack_of self.new)) }
+        ensures pushed { OnOk result (LeafBegins self.old.limits.rules start.now.found (seen_view line.old.rest) self.old.stack self.old.owners (stack_of self.new)) }
         ensures tests { OnOk result (Tested 0 1 line.old.tests line.new.tests) }
         ensures frames { self.new.stack.frames ≡ self.old.stack.frames }
         ensures limits { self.new.limits ≡ self.old.limits }
         ensures fault { self.new.fault ≡ self.old.fault }
     {
         self.stack.open_block()?;
-        match line.begin_leaf(self.alloc, &mut self.leaves, start)? {
+        let rules = self.limits.rules();
+        match line.begin_leaf(self.alloc, rules, &mut self.leaves, start)? {
             Some(FirstLine::Opens(leaf)) => self.leaf = leaf,
             Some(FirstLine::Whole(leaf)) => {
                 leaf.put(

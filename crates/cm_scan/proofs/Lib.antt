@@ -45,6 +45,7 @@ pub mod NeededLemmas
 pub mod LevelLemmas
 pub mod Apart
 pub mod QuietStarts
+pub mod FollowedLemmas
 pub mod PartsRead
 pub mod InlinesRead
 pub mod TreesRead

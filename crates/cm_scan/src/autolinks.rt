@@ -1,13 +1,15 @@
 //! Autolinks in a text (CommonMark 0.31.2, 6.5 Autolinks).
-ghost use Rattle.std.specs.Prelude.{◌≡◌, ◌≤◌, length, drop, option_map, IfSome, IsUtf8};
+ghost use Rattle.std.specs.Prelude.{◌≡◌, ℕ, List, ◌≤◌, length, drop, option_map, IfSome, IsUtf8};
 ghost use Rattle.std.specs.Str.{IsCharBoundary};
 ghost use Rattle.std.specs.List.{slice_range};
+ghost use Rattle.cm_text.specs.Addresses.{is_followed};
 ghost use Rattle.cm_scan.specs.Words.{skip, front_of};
-ghost use Rattle.cm_scan.specs.Autolinks.{is_inside, in_angles, autolink};
+ghost use Rattle.cm_scan.specs.Autolinks.{is_inside, in_angles, autolink, followed_autolink};
 ghost use Rattle.cm_scan.specs.Scanned.{reading_of, autolink_with};
 
 use crate::angled::{Autolink, link_of};
 use crate::links::is_next;
+use cm_text::{Rules, is_followed};
 
 /// The autolink at a place in a text, which is the boundary of a character, and the place behind its `>`
 /// (CommonMark 0.31.2, 6.5 Autolinks).
@@ -22,6 +24,27 @@ pub fn autolink<'a>(text: &'a str, at: usize) -> Option<(Autolink<'a>, usize)>
 {
     let (inside, end) = in_angles(text, at)?;
     Some((link_of(inside)?, end))
+}
+
+/// The same by these rules: an autolink to an address that they don't follow is none.
+pub fn autolink_by<'a>(rules: Rules, text: &'a str, at: usize) -> Option<(Autolink<'a>, usize)>
+    requires { IsCharBoundary text.now at }
+    ensures read { option_map (λ r. autolink_with r.0.is_address r.0.text.now (drop r.1 text.now)) result ≡ followed_autolink rules (drop at text.now) }
+    ensures utf8 { IfSome result (λ r. IsUtf8 r.0.text.now) }
+    ensures boundary { IfSome result (λ r. IsCharBoundary text.now r.1) }
+{
+    let (link, end) = autolink(text, at)?;
+    if !leads_on(rules, link.is_address, link.text) {
+        return None;
+    }
+    Some((link, end))
+}
+
+/// Whether the rules follow the address of an autolink with this text. That of an e-mail address they always follow.
+fn leads_on(rules: Rules, is_address: bool, text: &str) -> bool
+    ensures { (rest : List ℕ) → result ≡ is_followed rules (autolink_with is_address text.now rest).destination }
+{
+    is_address || is_followed(rules, text)
 }
 
 /// What stands between `<` and `>`, and the place behind them.

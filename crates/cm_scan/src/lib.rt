@@ -8,7 +8,7 @@
 //! - Link reference definitions: [`label`], [`destination`], [`title`] and [`definition`].
 //! - Inlines: [`autolink`], [`raw_html`] and [`code_span`].
 //!
-//! [`html_start_by`] and [`raw_html_by`] are the same by any rules. The rest is what the crates above use.
+//! [`autolink_by`], [`html_start_by`] and [`raw_html_by`] are the same by any rules. The rest is what the crates above use.
 //!
 //! ```
 //! use cm_scan::{atx, autolink};
@@ -48,7 +48,7 @@ mod tags;
 mod words;
 
 pub use angled::Autolink;
-pub use autolinks::autolink;
+pub use autolinks::{autolink, autolink_by};
 pub use characters::{first_character, last_character};
 pub use code_spans::code_span;
 pub use gaps::{after_gap, is_blank_next};

@@ -29,4 +29,4 @@ Found rules line Nothing now = (is_blank line ≡ true) × (now ≡ line)
 Found rules line Quote now = (is_blank line ≡ false) × (begin_of rules line ≡ begins_quote now)
 Found rules line (Item kind column bare) now = (is_blank line ≡ false) × ((begin_of rules line ≡ begins_item kind column now) × (bare ≡ is_blank now))
 Found rules line (Leaf start) now =
-    (is_blank line ≡ false) × ((begin_of rules line ≡ begin_of_start (seen start.found) line) × ((begins_container (seen start.found) ≡ false) × (now ≡ line)))
+    (is_blank line ≡ false) × ((begin_of rules line ≡ begin_of_start rules (seen start.found) line) × ((begins_container (seen start.found) ≡ false) × (now ≡ line)))

@@ -46,13 +46,13 @@ Inside rules limit before line now inner TooDeep = (owned : Owned) → limit < n
 Inside rules limit before line now inner Blank = (length now.frames ≤ limit) × ((owned : Owned) → begun rules before line owned ≡ with_blank now owned)
 Inside rules limit before line now inner (Leaf start) =
     (length now.frames ≤ limit) × ((now.bare ≡ false) × ((begins_container (seen start.found) ≡ false)
-    × ((owned : Owned) (l : LeafLine) → begins_leaf l ≡ begin_of_start (seen start.found) inner
+    × ((owned : Owned) (l : LeafLine) → begins_leaf l ≡ begin_of_start rules (seen start.found) inner
     → begun rules before line owned ≡ within now.frames (push_leaf_line owned (block_opens now.level) l))))
 
 -- the first line of a leaf block, in the innermost container
-abbrev pub LeafBegins : Start → LineView → Row → Owned → Stack → Type 0
-LeafBegins start line before owned now =
-    (l : LeafLine) × ((begins_leaf l ≡ begin_of_start (seen start) line) × (now ≡ within before.frames (push_leaf_line owned (block_opens before.level) l)))
+abbrev pub LeafBegins : Rules → Start → LineView → Row → Owned → Stack → Type 0
+LeafBegins rules start line before owned now =
+    (l : LeafLine) × ((begins_leaf l ≡ begin_of_start rules (seen start) line) × (now ≡ within before.frames (push_leaf_line owned (block_opens before.level) l)))
 
 -- so many containers are open that a line is too deep, which is the next
 abbrev pub DeepIn : BlockFault → ℕ → Stack → Owned → Type 0

@@ -1,6 +1,7 @@
 //! What the first line of a leaf block makes: a leaf that further lines may go on with, or a whole one.
 ghost use Rattle.std.specs.Prelude.{◌≡◌, [], string_bytes, IfOk, IfSome, IfNone, true};
 ghost use Rattle.cm_text.specs.Lines.{LineView};
+ghost use Rattle.cm_text.specs.Rules as all;
 ghost use Rattle.cm_block.specs.declared.counted_line.starts.Start.TheVariants.{Atx, Fence};
 ghost use Rattle.cm_text.specs.Views.{seen_view};
 ghost use Rattle.cm_scan.specs.HtmlKinds.{kind_of};
@@ -16,11 +17,12 @@ use crate::counted_line::LeafStart;
 use crate::counted_line::copies::push_line;
 use crate::counted_line::ends::ends_html;
 use crate::counted_line::starts::{Start, content};
+use crate::infos::info_of;
 use crate::leaf::OpenLeaf;
 use crate::leaf_text::LeafText;
 use crate::rooms::TextRoom;
 use cm_scan::{AtxHeading, HtmlKind, OpeningFence};
-use cm_text::View;
+use cm_text::{NoMemory, Rules, View};
 use std::alloc::{AllocError, Global};
 
 /// What the first line of a leaf block makes.
@@ -38,7 +40,7 @@ fn begin_code(
     leaves: &mut TextRoom,
     line: &View<'_>,
 ) -> Result<FirstLine, AllocError>
-    ensures { IfOk result (λ first. begins_leaf (first_of first) ≡ begin_of_start starts.IndentedCode (seen_view line.now)) }
+    ensures { IfOk result (λ first. (by : all.Rules) → begins_leaf (first_of first) ≡ begin_of_start by starts.IndentedCode (seen_view line.now)) }
 {
     let mut text = leaves.take(alloc);
     push_line(&mut text, &line.strip(4))?;
@@ -50,7 +52,7 @@ fn begin_code(
 
 /// An ATX heading (4.2 ATX headings).
 fn begin_heading(alloc: Global, heading: AtxHeading<'_>) -> Result<FirstLine, AllocError>
-    ensures { IfOk result (λ first. (line : LineView) → begins_leaf (first_of first) ≡ begin_of_start (seen (Atx heading.entry)) line) }
+    ensures { IfOk result (λ first. (by : all.Rules) (line : LineView) → begins_leaf (first_of first) ≡ begin_of_start by (seen (Atx heading.entry)) line) }
 {
     Ok(FirstLine::Whole(ClosedLeaf::Heading {
         level: heading.level,
@@ -58,18 +60,19 @@ fn begin_heading(alloc: Global, heading: AtxHeading<'_>) -> Result<FirstLine, Al
     }))
 }
 
-/// A fence: each further line loses as many columns as this one has (4.5 Fenced code blocks).
+/// A fence, with its info resolved: each further line loses as many columns as this one has (4.5 Fenced code blocks).
 fn begin_fence(
     alloc: Global,
+    rules: Rules,
     leaves: &mut TextRoom,
     fence: OpeningFence<'_>,
     line: &View<'_>,
-) -> Result<FirstLine, AllocError>
-    ensures { IfOk result (λ first. begins_leaf (first_of first) ≡ begin_of_start (seen (Fence fence.entry)) (seen_view line.now)) }
+) -> Result<FirstLine, NoMemory>
+    ensures { IfOk result (λ first. begins_leaf (first_of first) ≡ begin_of_start rules (seen (Fence fence.entry)) (seen_view line.now)) }
 {
     Ok(FirstLine::Opens(OpenLeaf::Fence {
         kind: fence.kind,
-        info: String::from_str(alloc, fence.info)?,
+        info: info_of(alloc, rules, fence.info)?,
         columns: line.indent(),
         text: leaves.take(alloc),
     }))
@@ -82,7 +85,7 @@ fn begin_html(
     kind: HtmlKind,
     line: &View<'_>,
 ) -> Result<FirstLine, AllocError>
-    ensures { IfOk result (λ first. begins_leaf (first_of first) ≡ begin_of_start (starts.HtmlStart (kind_of kind)) (seen_view line.now)) }
+    ensures { IfOk result (λ first. (by : all.Rules) → begins_leaf (first_of first) ≡ begin_of_start by (starts.HtmlStart (kind_of kind)) (seen_view line.now)) }
 {
     let mut text = leaves.take(alloc);
     push_line(&mut text, line)?;
@@ -105,17 +108,18 @@ fn begin_run(alloc: Global, leaves: &mut TextRoom, line: &View<'_>) -> Result<Le
 /// the room of texts.
 pub(crate) fn begin_leaf(
     alloc: Global,
+    rules: Rules,
     leaves: &mut TextRoom,
     start: &LeafStart<'_>,
     line: &View<'_>,
-) -> Result<Option<FirstLine>, AllocError>
-    ensures leaf { IfOk result (λ first. IfSome first (λ f. begins_leaf (first_of f) ≡ begin_of_start (seen start.now.found) (seen_view line.now))) }
+) -> Result<Option<FirstLine>, NoMemory>
+    ensures leaf { IfOk result (λ first. IfSome first (λ f. begins_leaf (first_of f) ≡ begin_of_start rules (seen start.now.found) (seen_view line.now))) }
     ensures container { IfOk result (λ first. IfNone first (begins_container (seen start.now.found) ≡ true)) }
 {
     match &start.found {
         Start::IndentedCode => Ok(Some(begin_code(alloc, leaves, line)?)),
         Start::Atx(heading) => Ok(Some(begin_heading(alloc, *heading)?)),
-        Start::Fence(fence) => Ok(Some(begin_fence(alloc, leaves, *fence, line)?)),
+        Start::Fence(fence) => Ok(Some(begin_fence(alloc, rules, leaves, *fence, line)?)),
         Start::Html(kind) => Ok(Some(begin_html(alloc, leaves, *kind, line)?)),
         Start::Break => Ok(Some(FirstLine::Whole(ClosedLeaf::Break))),
         Start::TextLine => {

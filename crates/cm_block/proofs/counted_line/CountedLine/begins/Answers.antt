@@ -26,7 +26,7 @@ returns-then-begins_with_letter-clause-found c =
       (
         ap (begin_of c.args.rules) (sym line)
             ∙ begins-as c.args.rules (seen_view view) TextLine shows (letter_text c.args.rules view letter)
-            ∙ ap (begin_of_start TextLine) line,
+            ∙ ap (begin_of_start c.args.rules TextLine) line,
         (refl, ap seen_view c.read_columns-view.ensures.read.same),
       ),
     )
@@ -54,7 +54,7 @@ returns-in_default-start-clause-found c =
       (
         ap (λ (v : LineView). begin_of c.args.rules v) (sym c.read_columns-view.ensures.line)
             ∙ begins-as c.args.rules (seen_view c.read_columns-view.result) (seen c.start_of-start.result) (some at) (sym c.start_of-start.ensures)
-            ∙ ap (λ (v : LineView). begin_of_start (seen c.start_of-start.result) v) c.read_columns-view.ensures.line,
+            ∙ ap (λ (v : LineView). begin_of_start c.args.rules (seen c.start_of-start.result) v) c.read_columns-view.ensures.line,
         (
           no_container c.start_of-start.result (ap is_quote c.start_of-start.ensures ∙ c.in_default.ensures c.args.rules) c.in_default-start.not-Item,
           ap seen_view c.read_columns-view.ensures.read.same,

@@ -5,5 +5,5 @@ use Rattle.cm_block.proofs.counted_line.first_line.begin_fence.Goals as goal
 
 pub returns : goal.returns
 returns c =
-    fence_begins c.args.fence.kind.marker c.args.fence.kind.count (string_bytes c.in_ok-from_str.field-0) c.args.fence.info.now c.indent.result c.take.result (seen_view c.args.line.now)
-    c.in_ok-from_str.ensures.ok c.indent.ensures c.take.ensures
+    fence_begins c.args.rules c.args.fence.kind.marker c.args.fence.kind.count (string_bytes c.in_ok-info_of.field-0) c.args.fence.info.now c.indent.result c.take.result (seen_view c.args.line.now)
+    c.in_ok-info_of.ensures c.indent.ensures c.take.ensures

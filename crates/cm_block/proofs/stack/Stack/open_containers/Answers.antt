@@ -75,7 +75,7 @@ returns-in-Leaf-clause-inside c =
           λ owned l leaf. c.loop-alloc.invariant.left owned
               ∙ left_some c.args.rules s.bare s.frames s.level line owned plainly
               ∙ leaf_next c.args.rules s.frames s.level line owned (seen c.in-Leaf.start.found) l found.1.0
-              (leaf ∙ ap (begin_of_start (seen c.in-Leaf.start.found)) found.1.1.1),
+              (leaf ∙ ap (begin_of_start c.args.rules (seen c.in-Leaf.start.found)) found.1.1.1),
         ),
       ),
     )

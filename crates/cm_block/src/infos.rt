@@ -1,0 +1,48 @@
+//! Infos of code blocks.
+ghost use Rattle.std.specs.Prelude.{◌≡◌, ◌∷◌, [], string_bytes, IfOk};
+ghost use Rattle.cm_tree.specs.Followed.{is_line_space};
+ghost use Rattle.cm_scan.specs.Parts.{as_space, info_of};
+
+use cm_text::{ByteKind, NoMemory, Replaced, Rules, push_replaced, unescape};
+use std::alloc::{AllocError, Global};
+use std::simd::prelude::*;
+
+/// HTML's spaces that are neither a space nor a tab.
+struct LineSpace;
+
+impl ByteKind for LineSpace {
+    ghost passes = { is_line_space };
+
+    #[inline(always)]
+    fn contains(b: u8) -> bool {
+        matches!(b, b'\n' | b'\x0C' | b'\r')
+    }
+
+    #[inline(always)]
+    fn lanes(lanes: u8x16) -> u64 {
+        let ends = lanes.simd_eq(u8x16::splat(b'\n')) | lanes.simd_eq(u8x16::splat(b'\r'));
+        (ends | lanes.simd_eq(u8x16::splat(b'\x0C'))).to_bitmask()
+    }
+}
+
+impl Replaced for LineSpace {
+    ghost written = { λ b. as_space b ∷ [] };
+
+    fn push(out: &mut String, _: u8) -> Result<(), AllocError> {
+        out.push_str(" ")
+    }
+}
+
+/// The info of a code block, from its source: escapes and references are resolved, and by rules without raw HTML it
+/// is one line.
+pub(crate) fn info_of(alloc: Global, rules: Rules, source: &str) -> Result<String, NoMemory>
+    ensures { IfOk result (λ info. string_bytes info ≡ info_of rules source.now) }
+{
+    let resolved = unescape(alloc, source)?;
+    if rules.raw_html() {
+        return Ok(resolved);
+    }
+    let mut info = String::with_capacity(alloc, resolved.len())?;
+    push_replaced::<LineSpace>(&mut info, &resolved)?;
+    Ok(info)
+}
