@@ -3,12 +3,13 @@ use Rattle.std.proofs.Common.{◌≡◌, ℕ, Bool, true, false, not, ◌||◌, 
 use Rattle.std.proofs.lemmas.Bool.{or_parts, not-false}
 use Rattle.std.specs.Prelude.{⊤}
 use Rattle.cm_text.specs.Rules.{Rules}
+use Rattle.cm_text.specs.Addresses.{is_followed}
 use Rattle.cm_tree.specs.declared.tree.Inline.{Inline}
 use Rattle.cm_tree.specs.declared.tree.Inline.TheVariants.{Text, Code, Html, Soft, Hard, Emph, Strong, Strike, Link, Image}
 use Rattle.cm_scan.specs.Words.{is_empty, ◌<|>◌}
 use Rattle.cm_source.specs.declared.why.Why.{Why}
 use Rattle.cm_source.specs.declared.why.Why.TheVariants as why
-use Rattle.cm_source.specs.InlineRefusals.{refused, has_nul, has_line_ending, Face, is_text, is_code, is_break, is_emphasis, is_none, Place, Judged, further_in, inside_link, refusal_of_all, hold_emphasis, hold_link, has_wrong_edge, emphasis_reasons, emphasis, ends_a_label, code_reasons, html_reasons, break_reasons, is_one_tag, judged}
+use Rattle.cm_source.specs.InlineRefusals.{refused, has_nul, has_line_ending, Face, is_text, is_code, is_break, is_emphasis, is_none, Place, Judged, further_in, inside_link, refusal_of_all, hold_emphasis, hold_link, has_wrong_edge, emphasis_reasons, emphasis, ends_a_label, code_reasons, html_reasons, break_reasons, link_reasons, image_reasons, is_one_tag, judged}
 use Rattle.cm_source.proofs.InlineKinds.{text-judged, code-judged, html-judged, soft-judged, hard-judged, emph-judged, strong-judged, strike-judged, link-judged, image-judged}
 
 -- no reason holds
@@ -61,15 +62,17 @@ pub record EmphasisAccepted (rules : Rules) (strike : Bool) (content : List Judg
   pub enabled : (strike && not rules.strike) ≡ false
   pub inside : refusal_of_all (further_in place) None content ≡ None
 
-pub record LinkAccepted (dest title : List ℕ) (content : List Judged) (place : Place) : Type 0 where
+pub record LinkAccepted (rules : Rules) (dest title : List ℕ) (content : List Judged) (place : Place) : Type 0 where
   pub no_nul_dest : has_nul dest ≡ false
   pub no_nul_title : has_nul title ≡ false
   pub no_link : hold_link content ≡ false
+  pub followed : is_followed rules dest ≡ true
   pub inside : refusal_of_all (inside_link place) None content ≡ None
 
-pub record ImageAccepted (dest title : List ℕ) (content : List Judged) (place : Place) : Type 0 where
+pub record ImageAccepted (rules : Rules) (dest title : List ℕ) (content : List Judged) (place : Place) : Type 0 where
   pub no_nul_dest : has_nul dest ≡ false
   pub no_nul_title : has_nul title ≡ false
+  pub followed : is_followed rules dest ≡ true
   pub inside : refusal_of_all (further_in place) None content ≡ None
 
 module _ (rules : Rules) (place : Place) (before after : Option Face) where
@@ -134,19 +137,20 @@ module _ (rules : Rules) (place : Place) (before after : Option Face) where
   pub strike-accepted : (content : List Inline) → Accepted (Strike content) → EmphasisAccepted rules true (map (judged rules) content) place before after
   strike-accepted content e = emphasis-accepted true (map (judged rules) content) (as-judged (strike-judged rules content) e)
 
-  pub link-accepted : (dest title : List ℕ) (content : List Inline) → Accepted (Link dest title content) → LinkAccepted dest title (map (judged rules) content) place
+  pub link-accepted : (dest title : List ℕ) (content : List Inline) → Accepted (Link dest title content) → LinkAccepted rules dest title (map (judged rules) content) place
   link-accepted dest title content e =
       let inner = map (judged rules) content in
-      let parts = or-none (refused ((has_nul dest || has_nul title, why.Nul) ∷ (hold_link inner, why.LinkInLink) ∷ [])) (refusal_of_all (inside_link place) None inner)
+      let parts = or-none (refused (link_reasons rules dest title inner)) (refusal_of_all (inside_link place) None inner)
       (as-judged (link-judged rules dest title content) e) in
-      let two = none-holds ((has_nul dest || has_nul title, why.Nul) ∷ (hold_link inner, why.LinkInLink) ∷ []) parts.0 in
-      let nuls = or_parts (has_nul dest) (has_nul title) two.0 in
-      record { no_nul_dest = nuls.0; no_nul_title = nuls.1; no_link = two.1.0; inside = parts.1 }
+      let three = none-holds (link_reasons rules dest title inner) parts.0 in
+      let nuls = or_parts (has_nul dest) (has_nul title) three.0 in
+      record { no_nul_dest = nuls.0; no_nul_title = nuls.1; no_link = three.1.0; followed = not-false (is_followed rules dest) three.1.1.0; inside = parts.1 }
 
-  pub image-accepted : (dest title : List ℕ) (content : List Inline) → Accepted (Image dest title content) → ImageAccepted dest title (map (judged rules) content) place
+  pub image-accepted : (dest title : List ℕ) (content : List Inline) → Accepted (Image dest title content) → ImageAccepted rules dest title (map (judged rules) content) place
   image-accepted dest title content e =
       let inner = map (judged rules) content in
-      let parts = or-none (refused ((has_nul dest || has_nul title, why.Nul) ∷ [])) (refusal_of_all (further_in place) None inner)
+      let parts = or-none (refused (image_reasons rules dest title)) (refusal_of_all (further_in place) None inner)
       (as-judged (image-judged rules dest title content) e) in
-      let nuls = or_parts (has_nul dest) (has_nul title) (none-holds ((has_nul dest || has_nul title, why.Nul) ∷ []) parts.0).0 in
-      record { no_nul_dest = nuls.0; no_nul_title = nuls.1; inside = parts.1 }
+      let two = none-holds (image_reasons rules dest title) parts.0 in
+      let nuls = or_parts (has_nul dest) (has_nul title) two.0 in
+      record { no_nul_dest = nuls.0; no_nul_title = nuls.1; followed = not-false (is_followed rules dest) two.1.0; inside = parts.1 }

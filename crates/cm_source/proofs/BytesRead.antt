@@ -130,9 +130,9 @@ module _ (rules : Rules) (defined : Defined) where
       ∙ ap (λ passed. items_after rules defined zero passed rest more) (sym (reverse-first b taken before))
 
   -- the step at an atom
-  pub atom_step : (before : List ℕ) (b : ℕ) (bs : List ℕ) (items : List Item) (a : AtomRead) → atom_at rules before b bs ≡ a → item_step rules defined before b bs items ≡ add_atom defined items a.atom a.rest
+  pub atom_step : (before : List ℕ) (b : ℕ) (bs : List ℕ) (items : List Item) (a : AtomRead) → atom_at rules before b bs ≡ a → item_step rules defined before b bs items ≡ add_atom rules defined items a.atom a.rest
   unfolding item_step
-  atom_step before b bs items a e = ap (λ (r : AtomRead). add_atom defined items r.atom r.rest) e
+  atom_step before b bs items a e = ap (λ (r : AtomRead). add_atom rules defined items r.atom r.rest) e
 
   pub reads_nothing : (before rest : List ℕ) → ReadsAs rules defined before [] rest []
   reads_nothing before rest items = refl

@@ -3,6 +3,7 @@ use Rattle.std.proofs.Common.{◌≡◌, ℕ, zero, suc, Bool, true, false, not,
 use Rattle.std.specs.Prelude.{⊤, if◌then◌else◌}
 use Rattle.std.proofs.lemmas.List.{reverse-append, reverse-reverse}
 use Rattle.cm_text.specs.Rules.{Rules}
+use Rattle.cm_text.specs.Addresses.{is_followed}
 use Rattle.cm_tree.specs.declared.tree.Inline.{Inline}
 use Rattle.cm_tree.specs.declared.tree.Inline.TheVariants.{Text, Code, Html, Soft, Hard, Link, Image}
 use Rattle.cm_scan.specs.Words.{is_empty, begins_with, run_length, after_run, after_word}
@@ -107,11 +108,11 @@ opener_found (Delimiters run ∷ xs) items inside image source h =
 opener_found (Opener image' source' ∷ xs) items inside image source h = absurd h.0
 
 -- what a `]` makes, behind which this end stands
-bracket_closes : (defined : Defined) (text rest dest title : List ℕ) (items inside : List Item) (image : Bool) (source : List ℕ) → NoBrackets inside → (not image && holds_link inside) ≡ false
-    → ((between : List ℕ) → end_at defined between text ≡ Some (link_end (dest, title) rest))
-    → close_bracket defined (reverse inside ++ Opener image source ∷ items) text ≡ left_with (made image dest title inside ∷ items) rest
+bracket_closes : (rules : Rules) (defined : Defined) (text rest dest title : List ℕ) (items inside : List Item) (image : Bool) (source : List ℕ) → NoBrackets inside → (not image && holds_link inside) ≡ false
+    → ((between : List ℕ) → end_at rules defined between text ≡ Some (link_end (dest, title) rest))
+    → close_bracket rules defined (reverse inside ++ Opener image source ∷ items) text ≡ left_with (made image dest title inside ∷ items) rest
 unfolding close_bracket closed_by_bracket
-bracket_closes defined text rest dest title items inside image source h l e =
+bracket_closes rules defined text rest dest title items inside image source h l e =
     ap by_opener (opener_found (reverse inside) items [] image source (brackets_reverse inside h) ∙ ap (λ t. Some (found_at items image source t)) (append-nil (reverse (reverse inside)) ∙ reverse-reverse inside))
     ∙ ap by_links l
     ∙ ap by_end (e (source_up_to source (93 ∷ text)))
@@ -120,13 +121,13 @@ bracket_closes defined text rest dest title items inside image source h l e =
     found = found_at items image source inside
 
     by_opener : Option OpenerFound → Bracketed
-    by_opener o = elim o [ Some f ↦ closed_by_bracket defined f text | None ↦ left_with (bracket_is_text (reverse inside ++ Opener image source ∷ items)) text ]
+    by_opener o = elim o [ Some f ↦ closed_by_bracket rules defined f text | None ↦ left_with (bracket_is_text (reverse inside ++ Opener image source ∷ items)) text ]
 
     by_end : Option LinkEnd → Bracketed
     by_end o = elim o [ Some end ↦ left_with (made image end.dest end.title inside ∷ items) end.rest | None ↦ left_with (brackets_are_text found) text ]
 
     by_links : Bool → Bracketed
-    by_links t = elim t [ true ↦ left_with (brackets_are_text found) text | false ↦ by_end (end_at defined (source_up_to source (93 ∷ text)) text) ]
+    by_links t = elim t [ true ↦ left_with (brackets_are_text found) text | false ↦ by_end (end_at rules defined (source_up_to source (93 ∷ text)) text) ]
 
 -- ---- atoms
 
@@ -215,11 +216,11 @@ module _ (rules : Rules) (defined : Defined) where
   goes_open before rest items true = step_read rules defined before 33 (91 ∷ []) rest items (Opener true rest ∷ items) (atom_step rules defined before 33 (91 ∷ rest) items (atom_left (OpenBracket true) rest) refl)
 
   -- what stands between brackets, with a target behind it
-  reads_brackets : (before content dest title rest : List ℕ) (inside : List Item) (image : Bool) → NoBrackets inside → (not image && holds_link inside) ≡ false → has_nul dest ≡ false → has_nul title ≡ false
+  reads_brackets : (before content dest title rest : List ℕ) (inside : List Item) (image : Bool) → NoBrackets inside → (not image && holds_link inside) ≡ false → has_nul dest ≡ false → has_nul title ≡ false → is_followed rules dest ≡ true
       → ReadsAs rules defined (reverse (bracket_bytes image) ++ before) content (spelled_target dest title ++ rest) inside
       → ReadsAs rules defined before (bracket_bytes image ++ (content ++ spelled_target dest title)) rest (made image dest title inside ∷ [])
   unfolding Goes spelled_target
-  reads_brackets before content dest title rest inside image h l d t inner items =
+  reads_brackets before content dest title rest inside image h l d t f inner items =
       let target : List ℕ = spelled_target dest title in
       let opened : List ℕ = reverse (bracket_bytes image) ++ before in
       let opener : Item = Opener image ((content ++ target) ++ rest) in
@@ -228,7 +229,7 @@ module _ (rules : Rules) (defined : Defined) where
       (goes_then opened content target rest (opener ∷ items) (reverse inside ++ opener ∷ items) out (inner (opener ∷ items))
       (step_read rules defined (reverse content ++ opened) 93 (drop 1 target) rest (reverse inside ++ opener ∷ items) out
       (bracket_step rules defined (reverse content ++ opened) (drop 1 target ++ rest) (reverse inside ++ opener ∷ items)
-      ∙ bracket_closes defined (drop 1 target ++ rest) rest dest title items inside image ((content ++ target) ++ rest) h l (λ between. end_read defined between dest title rest d t))))
+      ∙ bracket_closes rules defined (drop 1 target ++ rest) rest dest title items inside image ((content ++ target) ++ rest) h l (λ between. end_read rules defined between dest title rest d t f))))
 
   reads_whole : (before : List ℕ) (b : ℕ) (taken rest : List ℕ) (inline : Inline) → atom_at rules before b (taken ++ rest) ≡ atom_left (Whole inline) rest → ReadsAs rules defined before (b ∷ taken) rest (Finished inline ∷ [])
   unfolding add_atom
@@ -327,22 +328,22 @@ module _ (rules : Rules) (defined : Defined) where
       or_none false = refl
 
   -- and between brackets
-  read_link : (runs : Bool) (before front rest dest title : List ℕ) (content : List Inline) → has_nul dest ≡ false → has_nul title ≡ false → hold_link (map (judged rules) content) ≡ false
+  read_link : (runs : Bool) (before front rest dest title : List ℕ) (content : List Inline) → has_nul dest ≡ false → has_nul title ≡ false → hold_link (map (judged rules) content) ≡ false → is_followed rules dest ≡ true
       → AreRead true (91 ∷ before) front (spelled_target dest title ++ rest) content
       → IsRead runs before (codes "[" ++ (front ++ spelled_target dest title)) rest (Link dest title content)
-  read_link runs before front rest dest title content d t none inner =
+  read_link runs before front rest dest title content d t none f inner =
       one_item runs before (codes "[" ++ (front ++ spelled_target dest title)) rest (Link dest title content) true (seen-as rules (link-judged rules dest title content))
       (subst (λ c. ReadsAs rules defined before (codes "[" ++ (front ++ spelled_target dest title)) rest (Linked (Link dest title c) ∷ [])) (emphasis_is inner.shaped)
-      (reads_brackets before front dest title rest inner.items false inner.brackets (inner.links ∙ none) d t inner.reads))
+      (reads_brackets before front dest title rest inner.items false inner.brackets (inner.links ∙ none) d t f inner.reads))
 
-  read_image : (runs : Bool) (before front rest dest title : List ℕ) (content : List Inline) → has_nul dest ≡ false → has_nul title ≡ false
+  read_image : (runs : Bool) (before front rest dest title : List ℕ) (content : List Inline) → has_nul dest ≡ false → has_nul title ≡ false → is_followed rules dest ≡ true
       → AreRead true (91 ∷ 33 ∷ before) front (spelled_target dest title ++ rest) content
       → IsRead runs before (codes "![" ++ (front ++ spelled_target dest title)) rest (Image dest title content)
-  read_image runs before front rest dest title content d t inner =
+  read_image runs before front rest dest title content d t f inner =
       one_item runs before whole rest image (hold_link (map (judged rules) content)) (seen-as rules (image-judged rules dest title content))
       (subst (λ linked. ReadsAs rules defined before whole rest (single linked image ∷ [])) inner.links
       (subst (λ c. ReadsAs rules defined before whole rest (single (holds_link inner.items) (Image dest title c) ∷ [])) (emphasis_is inner.shaped)
-      (reads_brackets before front dest title rest inner.items true inner.brackets refl d t inner.reads)))
+      (reads_brackets before front dest title rest inner.items true inner.brackets refl d t f inner.reads)))
     where
       whole : List ℕ
       whole = codes "![" ++ (front ++ spelled_target dest title)
@@ -376,12 +377,12 @@ module _ (rules : Rules) (defined : Defined) where
         subst (λ t. IsRead emphasised before t rest Hard) (sym (its-spelling hard-spelled first last)) (one_item emphasised before (92 ∷ 10 ∷ []) rest Hard false (seen-as rules (hard-judged rules)) (reads_whole before 92 (10 ∷ []) rest Hard (atom_hard rules before rest)))
     read_one {emphasised} {first} {last} {before} {inline} {rest} (FitsEmphasis {content = content} mark between fits) =
         subst (λ t. IsRead true before t rest (emphasis mark content)) (sym (marked_is mark content first last)) (read_marked mark before (spelled_inlines false false content) rest content between (read_all fits))
-    read_one {emphasised} {first} {last} {before} {inline} {rest} (FitsLink {dest = dest} {title = title} {content = content} d t none fits) =
+    read_one {emphasised} {first} {last} {before} {inline} {rest} (FitsLink {dest = dest} {title = title} {content = content} d t none f fits) =
         subst (λ s. IsRead emphasised before s rest (Link dest title content)) (sym (its-spelling (link-spelled dest title content) first last ∙ append_assoc (codes "[") (spelled_inlines false false content) (spelled_target dest title)))
-        (read_link emphasised before (spelled_inlines false false content) rest dest title content d t none (read_all fits))
-    read_one {emphasised} {first} {last} {before} {inline} {rest} (FitsImage {dest = dest} {title = title} {content = content} d t fits) =
+        (read_link emphasised before (spelled_inlines false false content) rest dest title content d t none f (read_all fits))
+    read_one {emphasised} {first} {last} {before} {inline} {rest} (FitsImage {dest = dest} {title = title} {content = content} d t f fits) =
         subst (λ s. IsRead emphasised before s rest (Image dest title content)) (sym (its-spelling (image-spelled dest title content) first last ∙ append_assoc (codes "![") (spelled_inlines false false content) (spelled_target dest title)))
-        (read_image emphasised before (spelled_inlines false false content) rest dest title content d t (read_all fits))
+        (read_image emphasised before (spelled_inlines false false content) rest dest title content d t f (read_all fits))
 
     read_all : {emphasised first last : Bool} {before : List ℕ} {inlines : List Inline} {rest : List ℕ} → FitsAll rules emphasised first last before inlines rest
         → AreRead emphasised before (join first last (map spelled inlines)) rest inlines

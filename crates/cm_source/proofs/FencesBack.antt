@@ -11,7 +11,7 @@ use Rattle.cm_scan.specs.Words.{is_space_or_tab, is_blank_text, is_empty, skip, 
 use Rattle.cm_scan.specs.Autolinks.{ends_with}
 use Rattle.cm_scan.specs.LineForms.{atx_heading, underline, backticks_or, opening_fence, fence_of, Fence, is_closing_fence}
 use Rattle.cm_scan.specs.Starts.{OpeningFence, start_of_content, can_interrupt, interrupts_paragraph}
-use Rattle.cm_scan.specs.Parts.{code, Parts, leaf}
+use Rattle.cm_scan.specs.Parts.{info_of, code, Parts, leaf}
 use Rattle.cm_scan.specs.Blocks.{Taken, taken, closes_fence, fenced, parts_of}
 use Rattle.cm_scan.specs.BlockLaws.{is_unindented, none_closes, text_without}
 use Rattle.cm_scan.proofs.Cases.{fence_case}
@@ -197,7 +197,7 @@ module _ (rules : Rules) where
       ∙ ap (λ v. v && is_blank_text (after_run 96 (replicate k 96 ++ []))) (le-leb k k (le_refl k))
       ∙ ap is_blank_text (after-fence k [] refl)
 
-  module _ (word text : List ℕ) (h : IsInfoSource (spelled_text true true word)) (has_text : is_code_text text ≡ true) where
+  module _ (word text : List ℕ) (h : IsInfoSource (spelled_text true true word)) (same : info_of rules (spelled_text true true word) ≡ word) (has_text : is_code_text text ≡ true) where
     abbrev info : List ℕ
     info = spelled_text true true word
 
@@ -207,15 +207,15 @@ module _ (rules : Rules) where
     three : 3 ≤ k
     three = omega arith
 
-    code-back : (ls rest : List LineView) → Have ls (code_lines word text) → parts_of rules (ls ++ rest) ≡ leaf (code info text) (suc (1 + length (ended_lines text))) (parts_of rules rest)
+    code-back : (ls rest : List LineView) → Have ls (code_lines word text) → parts_of rules (ls ++ rest) ≡ leaf (code word text) (suc (1 + length (ended_lines text))) (parts_of rules rest)
     code-back ls rest (a_line {c = c} {ls = further} have) =
         let less : longest_run 0 text < k = omega arith in
-        let (own, last, same, mine, its) = have-split (ended_lines text) (replicate k 96 ∷ []) further have in
+        let (own, last, parted, mine, its) = have-split (ended_lines text) (replicate k 96 ∷ []) further have in
         let (d, one) = have-one its in
         let open_line = at c (replicate k 96 ++ info) in
         let close_line = at d (replicate k 96 ++ []) in
         let all : further ++ rest ≡ own ++ close_line ∷ rest
-        = ap (λ l. l ++ rest) (same ∙ ap (λ l. own ++ l) one) ∙ append_assoc own (at d (replicate k 96) ∷ []) rest ∙ ap (λ t. own ++ at d t ∷ rest) (sym (append-nil (replicate k 96))) in
+        = ap (λ l. l ++ rest) (parted ∙ ap (λ l. own ++ l) one) ∙ append_assoc own (at d (replicate k 96) ∷ []) rest ∙ ap (λ t. own ++ at d t ∷ rest) (sym (append-nil (replicate k 96))) in
         let inside : fenced (fence_with k info) 0 [] 1 (further ++ rest) ≡ taken (text_without 0 own) (suc (1 + length own)) rest
         = ap (fenced (fence_with k info) 0 [] 1) all
         ∙ fenced_up_to_its_end (fence_with k info) 0 1 [] own rest close_line (none-close k (longest_run 0 text) info less mine (as-all (lines-within 0 text))) (closes-here k d info three) in
@@ -223,11 +223,12 @@ module _ (rules : Rules) where
         fence_case rules (fence_with k info) open_line (further ++ rest) (reads.not_blank, reads.start ∙ fence-start k info three h.trimmed h.no_backtick)
         ∙ ap (λ i. by_taken (fenced (fence_with k info) i [] 1 (further ++ rest))) reads.no_columns
         ∙ ap by_taken inside
-        ∙ ap (λ t. leaf (code info t) (suc (1 + length own)) (parts_of rules rest)) (text-of-lines mine ∙ ended-whole text (and_parts (is_empty text || ends_with 10 text) (not (list_any (λ b. b == 13) text)) has_text).0)
-        ∙ ap (λ n. leaf (code info text) (suc (1 + n)) (parts_of rules rest)) (length-of-lines mine)
+        ∙ ap (λ i. leaf (code i (text_without 0 own)) (suc (1 + length own)) (parts_of rules rest)) same
+        ∙ ap (λ t. leaf (code word t) (suc (1 + length own)) (parts_of rules rest)) (text-of-lines mine ∙ ended-whole text (and_parts (is_empty text || ends_with 10 text) (not (list_any (λ b. b == 13) text)) has_text).0)
+        ∙ ap (λ n. leaf (code word text) (suc (1 + n)) (parts_of rules rest)) (length-of-lines mine)
       where
         by_taken : Taken → Parts
-        by_taken t = leaf (code info t.text) t.lines (parts_of rules t.following)
+        by_taken t = leaf (code (info_of rules info) t.text) t.lines (parts_of rules t.following)
 
     code-inner : Inner (code_lines word text)
     code-inner =
@@ -257,7 +258,7 @@ module _ (rules : Rules) where
         (and_from (is_one_line (replicate k 96 ++ info)) (list_all is_one_line (ended_lines text)) (all-both is_inside_line (replicate k 96) info fence h.clean) (ended-clean text (clean-of text none clear)))
         (ap (λ v. v && true) fence)
 
-    pub code-fits : has_nul text ≡ false → LeafFits rules (record { part = code (spelled_text true true word) text; lines = code_lines word text })
+    pub code-fits : has_nul text ≡ false → LeafFits rules (record { part = code word text; lines = code_lines word text })
     code-fits none = record {
       inner = code-inner;
       back = λ ls rest have follows. code-back ls rest have;

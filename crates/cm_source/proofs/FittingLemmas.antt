@@ -356,12 +356,12 @@ module _ (rules : Rules) where
     link = λ dest title content hold place behind ahead emphasis first last before rest e all may b.
         let a = link-accepted rules place behind ahead dest title content e in
         let strings = (and_parts (is_utf8 dest && is_utf8 title) (all_of (map has_utf8 content)) (sym (link-strings dest title content) ∙ all)).1 in
-        FitsLink a.no_nul_dest a.no_nul_title a.no_link
+        FitsLink a.no_nul_dest a.no_nul_title a.no_link a.followed
         (content-fits content hold (inside_link place) None true false false (91 ∷ before) (spelled_target dest title ++ rest) a.inside strings (λ m. absurd (cc m)) (in-target before rest dest title b.utf8));
     image = λ dest title content hold place behind ahead emphasis first last before rest e all may b.
         let a = image-accepted rules place behind ahead dest title content e in
         let strings = (and_parts (is_utf8 dest && is_utf8 title) (all_of (map has_utf8 content)) (sym (image-strings dest title content) ∙ all)).1 in
-        FitsImage a.no_nul_dest a.no_nul_title
+        FitsImage a.no_nul_dest a.no_nul_title a.followed
         (content-fits content hold (further_in place) None true false false (91 ∷ 33 ∷ before) (spelled_target dest title ++ rest) a.inside strings (λ m. absurd (cc m))
         (in-target (33 ∷ before) rest dest title (further-utf8 (33 ∷ []) before (ascii-utf8 (33 ∷ []) refl) b.utf8)));
   }

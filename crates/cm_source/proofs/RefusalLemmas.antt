@@ -11,7 +11,7 @@ use Rattle.cm_tree.specs.declared.tree.Inline.{Inline}
 use Rattle.cm_scan.specs.Words.{is_empty, ◌<|>◌}
 use Rattle.cm_scan.specs.Links.{Reading}
 use Rattle.cm_scan.specs.RawHtml.{raw_html}
-use Rattle.cm_scan.specs.Autolinks.{Autolink, autolink}
+use Rattle.cm_scan.specs.Autolinks.{Autolink, followed_autolink}
 use Rattle.cm_scan.specs.Angles.{Angled, Addressed, Tagged, before, tagged, at_angle}
 use Rattle.cm_scan.specs.Scanned.{whole_of}
 use Rattle.cm_source.specs.declared.why.Why.{Why}
@@ -129,22 +129,22 @@ tag-is rules text = go (at_angle rules text)
     go (Some (Addressed link)) = refl
     go (Some (Tagged tag)) = refl
 
-pub link-no_tag : (rules : Rules) (text : List ℕ) (link : Autolink) → autolink text ≡ Some link → is_one_tag rules text ≡ false
+pub link-no_tag : (rules : Rules) (text : List ℕ) (link : Autolink) → followed_autolink rules text ≡ Some link → is_one_tag rules text ≡ false
 unfolding at_angle
 link-no_tag rules text link e = tag-is rules text ∙ ap (λ o. is_tag (elim o as (λ _. Option Angled) [ Some l ↦ Some (Addressed l) | None ↦ tagged text (raw_html rules text) ])) e
 
-by-tag : (rules : Rules) (text : List ℕ) → autolink text ≡ None → is_one_tag rules text ≡ is_tag (tagged text (raw_html rules text))
+by-tag : (rules : Rules) (text : List ℕ) → followed_autolink rules text ≡ None → is_one_tag rules text ≡ is_tag (tagged text (raw_html rules text))
 unfolding at_angle
 by-tag rules text e = tag-is rules text ∙ ap (λ o. is_tag (elim o as (λ _. Option Angled) [ Some l ↦ Some (Addressed l) | None ↦ tagged text (raw_html rules text) ])) e
 
-pub no-tag : (rules : Rules) (text : List ℕ) → autolink text ≡ None → None ≡ whole_of text (raw_html rules text) → is_one_tag rules text ≡ false
+pub no-tag : (rules : Rules) (text : List ℕ) → followed_autolink rules text ≡ None → None ≡ whole_of text (raw_html rules text) → is_one_tag rules text ≡ false
 no-tag rules text none e = by-tag rules text none ∙ go (raw_html rules text) e
   where
     go : (o : Option (List ℕ)) → None ≡ whole_of text o → is_tag (tagged text o) ≡ false
     go None e = refl
     go (Some r) e = absurd (cc e)
 
-pub one-tag : (rules : Rules) (text : List ℕ) (read : Reading) → autolink text ≡ None → Some read ≡ whole_of text (raw_html rules text) → is_one_tag rules text ≡ is_empty read.rest
+pub one-tag : (rules : Rules) (text : List ℕ) (read : Reading) → followed_autolink rules text ≡ None → Some read ≡ whole_of text (raw_html rules text) → is_one_tag rules text ≡ is_empty read.rest
 one-tag rules text read none e = by-tag rules text none ∙ go (raw_html rules text) e
   where
     go : (o : Option (List ℕ)) → Some read ≡ whole_of text o → is_tag (tagged text o) ≡ is_empty read.rest

@@ -1,12 +1,17 @@
 -- The contents and info strings of trees that can be spelled have sources that read back in their blocks.
-use Rattle.std.proofs.Common.{◌≡◌, ℕ, ◌==◌, true, false, List, [], ◌∷◌, None, refl, ap, ◌∙◌}
+use Rattle.std.proofs.Common.{◌≡◌, ℕ, ◌==◌, ◌||◌, not, Bool, true, false, List, [], ◌∷◌, None, map, refl, ap, ◌∙◌}
+use Rattle.std.specs.Prelude.{if◌then◌else◌}
+use Rattle.std.proofs.lemmas.Bool.{or_parts, not-true}
 use Rattle.std.specs.List.{list_all, list_any}
 use Rattle.cm_text.specs.Rules.{Rules}
+use Rattle.cm_text.specs.Unescaping.{unescape}
+use Rattle.cm_tree.specs.Followed.{is_line_space, is_read_info}
 use Rattle.cm_tree.specs.declared.tree.Inline.{Inline}
+use Rattle.cm_scan.specs.Parts.{as_space, info_of}
 use Rattle.cm_scan.specs.LineForms.{without_closing}
 use Rattle.cm_scan.specs.Words.{skip, trim_end_by, trim, trim_end}
 use Rattle.cm_source.specs.Inlines.{spelled_content}
-use Rattle.cm_source.specs.InlineRefusals.{paragraph_refusal, heading_refusal, of_paragraph, of_heading}
+use Rattle.cm_source.specs.InlineRefusals.{has_nul, paragraph_refusal, heading_refusal, of_paragraph, of_heading}
 use Rattle.cm_source.specs.Texts.{spelled_text}
 use Rattle.cm_source.specs.steps.Sources.{IsParagraphSource, IsHeadingSource, IsInfoSource, ContentsGiveSources}
 use Rattle.cm_source.proofs.ContentEnds.{trimmed-start, trimmed-end, unclosed, text-bare, text-well, content-bare, content-ends}
@@ -64,10 +69,28 @@ info-source rules info = record { clean = text-is-line true true info; trimmed =
         let source = spelled_text true true (b ∷ bs) in
         ap trim_end (trimmed-start source (text-bare rules true (b ∷ bs) refl)) ∙ trimmed-end false source (text-well true (b ∷ bs) refl).well
 
+-- an info on one line has no other spaces than these
+on-one-line : (info : List ℕ) → list_any is_line_space info ≡ false → map as_space info ≡ info
+on-one-line [] e = refl
+on-one-line (b ∷ bs) e =
+    let parts = or_parts (is_line_space b) (list_any is_line_space bs) e in
+    ap (λ (t : Bool). (if t then 32 else b) ∷ map as_space bs) parts.0 ∙ ap (λ t. b ∷ t) (on-one-line bs parts.1)
+
+info-back : (rules : Rules) (info : List ℕ) → has_nul info ≡ false → is_read_info rules info ≡ true → info_of rules (spelled_text true true info) ≡ info
+unfolding info_of
+info-back rules info nul read = go rules.raw_html read
+  where
+    source : List ℕ
+    source = spelled_text true true info
+
+    go : (t : Bool) → (t || not (list_any is_line_space info)) ≡ true → (if t then unescape source else map as_space (unescape source)) ≡ info
+    go true h = unescape_text true true info nul
+    go false h = ap (map as_space) (unescape_text true true info nul) ∙ on-one-line info (not-true (list_any is_line_space info) h)
+
 pub contents_give_sources : (rules : Rules) → ContentsGiveSources rules
 contents_give_sources rules = record {
   paragraphs = paragraph-source rules;
   headings = heading-source rules;
   infos = λ info nul. info-source rules info;
-  infos_back = λ info nul. unescape_text true true info nul;
+  infos_back = λ info nul read. info-back rules info nul read;
 }

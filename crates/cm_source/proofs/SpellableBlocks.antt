@@ -11,15 +11,15 @@ use Rattle.cm_tree.specs.declared.tree.Block.TheViews.{roll-Block}
 use Rattle.cm_tree.specs.declared.tree.Block.TheFolds.{fold-roll-Block}
 use Rattle.cm_tree.specs.declared.tree.ListKind.{ListKind}
 use Rattle.cm_scan.specs.Words.{◌<|>◌}
+use Rattle.cm_tree.specs.Followed.{is_read_info}
 use Rattle.cm_scan.specs.Parts.{paragraph, heading, code, html, thematic_break, definition, leaf_block}
 use Rattle.cm_tree.specs.RawBlocks.{raw_inlines}
 use Rattle.cm_source.specs.declared.why.Why.{Why}
-use Rattle.cm_source.specs.declared.why.Why.TheVariants.{Definition, Nul, Shape, CodeText, HtmlBlock}
+use Rattle.cm_source.specs.declared.why.Why.TheVariants.{Definition, Nul, Shape, HtmlBlock}
 use Rattle.cm_source.specs.Inlines.{spelled_content}
 use Rattle.cm_source.specs.InlineRefusals.{refused, has_nul, paragraph_refusal, heading_refusal}
-use Rattle.cm_source.specs.Texts.{spelled_text}
 use Rattle.cm_source.specs.Refusals as refusals
-use Rattle.cm_source.specs.Refusals.{BlockFace, ListFace, JudgedBlock, faces, is_filled, is_list, is_tight_item, is_as_said, has_two, is_html_block, is_code_text, judged_block, refusal_of_all, refusal_of_items, is_behind_same, begins_too_high, list_reasons}
+use Rattle.cm_source.specs.Refusals.{BlockFace, ListFace, JudgedBlock, faces, is_filled, is_list, is_tight_item, is_as_said, has_two, is_html_block, is_code_text, code_reasons, judged_block, refusal_of_all, refusal_of_items, is_behind_same, begins_too_high, list_reasons}
 use Rattle.cm_source.specs.Spelling as spelling
 use Rattle.cm_source.specs.Spelling.{gap, joined, quote_lines, marker, item_lines, list_lines, lines_of_block}
 use Rattle.cm_source.specs.ReadingBack.{source_step, sourced}
@@ -295,11 +295,11 @@ module _ (rules : Rules) where
         let (low, high) = and_parts (nat_le 1 level) (nat_le level 6) (not-false (nat_le 1 level && nat_le level 6) none.0) in
         (heading-fits rules level content low high (gives.headings content accepted), refl))
     layer (block.Code info text) inside =
-        leaf-spelled (record { part = code (spelled_text true true info) text; lines = spelling.code_lines info text }) (Code info text)
-        (refused ((has_nul info || has_nul text, Nul) ∷ (not (is_code_text text), CodeText) ∷ [])) (λ h.
-        let none = none-holds ((has_nul info || has_nul text, Nul) ∷ (not (is_code_text text), CodeText) ∷ []) h in
+        leaf-spelled (record { part = code info text; lines = spelling.code_lines info text }) (Code info text)
+        (refused (code_reasons rules info text)) (λ h.
+        let none = none-holds (code_reasons rules info text) h in
         let (info_nul, text_nul) = or_parts (has_nul info) (has_nul text) none.0 in
-        (code-fits rules info text (gives.infos info info_nul) (not-false (is_code_text text) none.1.0) text_nul, ap (λ i. Code i text) (gives.infos_back info info_nul)))
+        (code-fits rules info text (gives.infos info info_nul) (gives.infos_back info info_nul (not-false (is_read_info rules info) none.1.1.0)) (not-false (is_code_text text) none.1.0) text_nul, refl))
     layer (block.Html text) inside =
         leaf-spelled (record { part = html text; lines = spelling.ended_lines text }) (leaf_block (html text))
         (refused ((has_nul text, Nul) ∷ (not (is_html_block rules text), HtmlBlock) ∷ [])) (λ h.

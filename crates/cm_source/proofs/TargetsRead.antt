@@ -5,11 +5,13 @@ use Rattle.std.specs.List.{list_all}
 use Rattle.std.proofs.lemmas.Bool.{and_parts, or_parts, agree_below, agree_below_at, not-true}
 use Rattle.std.proofs.lemmas.Bool.Decides.{nat_tests}
 use Rattle.cm_text.specs.Characters.{is_ascii_punct}
+use Rattle.cm_text.specs.Rules.{Rules}
+use Rattle.cm_text.specs.Addresses.{is_followed}
 use Rattle.cm_text.specs.Unescaping.{unescape}
 use Rattle.cm_scan.specs.Words.{begins_with, skip, trim_start, after_word, given}
 use Rattle.cm_scan.specs.Tags.{after_gap}
 use Rattle.cm_scan.specs.Links.{Reading, behind, keep_if, escapes_next, up_to_closing, destination, has_blank_line, has_no_blank_line, title_in, title}
-use Rattle.cm_scan.specs.Brackets.{LinkEnd, link_end, closed, after_destination, inline_end, Defined, reference_end, end_at}
+use Rattle.cm_scan.specs.Brackets.{LinkEnd, link_end, closed, after_destination, inline_end, Defined, reference_end, end_if_followed, end_at}
 use Rattle.cm_source.specs.Texts.{numbered, spelled_bytes, spelled_title, spelled_target}
 use Rattle.cm_source.specs.InlineRefusals.{has_nul}
 use Rattle.cm_source.proofs.BytesRead.{reading}
@@ -155,11 +157,18 @@ inline_end_read dest text rest =
     ]) (destination_read dest (spelled_title text ++ 41 ∷ rest))
     ∙ after_destination_read (spelled_bytes dest) text rest
 
-pub end_read : (defined : Defined) (between dest text rest : List ℕ) → has_nul dest ≡ false → has_nul text ≡ false
-    → end_at defined between (drop 1 (spelled_target dest text) ++ rest) ≡ Some (link_end (dest, text) rest)
+pub end_read : (rules : Rules) (defined : Defined) (between dest text rest : List ℕ) → has_nul dest ≡ false → has_nul text ≡ false → is_followed rules dest ≡ true
+    → end_at rules defined between (drop 1 (spelled_target dest text) ++ rest) ≡ Some (link_end (dest, text) rest)
 unfolding end_at
-end_read defined between dest text rest h k =
-    let whole : List ℕ = drop 1 (spelled_target dest text) ++ rest in
-    ap (λ o. elim o as (λ _. Option LinkEnd) [ Some end ↦ Some end | None ↦ reference_end defined between whole ]) (ap inline_end (target_parts dest text rest) ∙ inline_end_read dest text rest)
+end_read rules defined between dest text rest h k followed =
+    ap by_inline
+    (ap inline_end (target_parts dest text rest) ∙ inline_end_read dest text rest
     ∙ ap (λ t. Some (link_end (t, unescape (spelled_bytes text)) rest)) (unescape_bytes dest h)
-    ∙ ap (λ t. Some (link_end (dest, t) rest)) (unescape_bytes text k)
+    ∙ ap (λ t. Some (link_end (dest, t) rest)) (unescape_bytes text k))
+    ∙ ap (λ (t : Bool). first (elim t as (λ _. Option LinkEnd) [ true ↦ Some (link_end (dest, text) rest) | false ↦ None ])) followed
+  where
+    first : Option LinkEnd → Option LinkEnd
+    first o = elim o as (λ _. Option LinkEnd) [ Some end ↦ Some end | None ↦ end_if_followed rules (reference_end defined between (drop 1 (spelled_target dest text) ++ rest)) ]
+
+    by_inline : Option LinkEnd → Option LinkEnd
+    by_inline o = first (end_if_followed rules o)

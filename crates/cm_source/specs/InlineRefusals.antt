@@ -4,6 +4,7 @@ use Rattle.std.specs.Prelude.{ℕ, Bool, true, false, not, ◌==◌, ◌&&◌, �
 use Rattle.std.specs.List.{list_any}
 use Rattle.std.specs.Char.{is_ascii_control}
 use Rattle.cm_text.specs.Rules.{Rules}
+use Rattle.cm_text.specs.Addresses.{is_followed}
 use Rattle.cm_text.specs.Characters.{is_space, is_punct_by}
 use Rattle.cm_tree.specs.declared.tree.Inline.{Inline, Inline-F}
 use Rattle.cm_tree.specs.declared.tree.Inline.TheOpen as inline
@@ -12,7 +13,7 @@ use Rattle.cm_scan.specs.Words.{is_empty, holds_word, ◌<|>◌}
 use Rattle.cm_scan.specs.Angles.{Addressed, Tagged, at_angle}
 use Rattle.cm_scan.specs.Atoms.{first_character, last_character}
 use Rattle.cm_source.specs.declared.why.Why.{Why}
-use Rattle.cm_source.specs.declared.why.Why.TheVariants.{Nul, Text, EmphasisNested, EmphasisTouching, EmphasisEdge, CodeSpan, RawHtml, LinkInLink, LineBreak, StrikeOff}
+use Rattle.cm_source.specs.declared.why.Why.TheVariants.{Nul, Text, EmphasisNested, EmphasisTouching, EmphasisEdge, CodeSpan, RawHtml, LinkInLink, LineBreak, StrikeOff, AddressOff}
 
 -- the first reason that holds
 abbrev pub refused : List (Bool × Why) → Option Why
@@ -153,6 +154,13 @@ html_reasons rules place text before =
 abbrev pub break_reasons : Place → (before after : Option Face) → List (Bool × Why)
 break_reasons place before after = (place.heading || is_none before || is_none after || is_break before, LineBreak) ∷ []
 
+abbrev pub link_reasons : Rules → (dest title : List ℕ) → List Judged → List (Bool × Why)
+link_reasons rules dest title content =
+    (has_nul dest || has_nul title, Nul) ∷ (hold_link content, LinkInLink) ∷ (not (is_followed rules dest), AddressOff) ∷ []
+
+abbrev pub image_reasons : Rules → (dest title : List ℕ) → List (Bool × Why)
+image_reasons rules dest title = (has_nul dest || has_nul title, Nul) ∷ (not (is_followed rules dest), AddressOff) ∷ []
+
 -- an inline in which none stands
 abbrev pub leaf : Face → (Place → (before after : Option Face) → List (Bool × Why)) → Judged
 leaf face reasons = record { face = face; has_emphasis = false; has_link = false; refusal = λ place before after. refused (reasons place before after) }
@@ -172,13 +180,13 @@ inline_step rules (inline.Link dest title content) = record {
   face = OtherFace;
   has_emphasis = hold_emphasis content;
   has_link = true;
-  refusal = λ place before after. refused ((has_nul dest || has_nul title, Nul) ∷ (hold_link content, LinkInLink) ∷ []) <|> refusal_of_all (inside_link place) None content;
+  refusal = λ place before after. refused (link_reasons rules dest title content) <|> refusal_of_all (inside_link place) None content;
 }
 inline_step rules (inline.Image dest title content) = record {
   face = OtherFace;
   has_emphasis = hold_emphasis content;
   has_link = hold_link content;
-  refusal = λ place before after. refused ((has_nul dest || has_nul title, Nul) ∷ []) <|> refusal_of_all (further_in place) None content;
+  refusal = λ place before after. refused (image_reasons rules dest title) <|> refusal_of_all (further_in place) None content;
 }
 
 abbrev pub judged : Rules → Inline → Judged

@@ -11,6 +11,7 @@ use Rattle.cm_tree.specs.declared.tree.ListKind.TheVariants.{Dash, Plus, Star, D
 use Rattle.cm_scan.specs.Blocks.{blocks_of}
 use Rattle.cm_scan.specs.Documents.{tree_of}
 use Rattle.cm_scan.specs.InlineExamples.{struck}
+use Rattle.cm_scan.specs.RuleExamples.{safe}
 use Rattle.cm_scan.specs.Inlines.{inlines_of}
 use Rattle.cm_source.specs.declared.why.Why.{Why}
 use Rattle.cm_source.specs.declared.why.Why.TheVariants as why
@@ -127,6 +128,13 @@ pub record RuleExamples : Type 0 where
   pub tildes_with_strikethrough : ReadsBackBy struck (paragraph (codes "~~a~~")) (codes "\\~\\~a\\~\\~\n")
   pub strike : ReadsBackBy struck (says (Strike a ∷ [])) (codes "~~a~~\n")
   pub strike_off : Misread (says (Strike a ∷ [])) why.StrikeOff (codes "~~a~~\n") (paragraph (codes "~~a~~"))
+  pub tag_off : MisreadBy safe (says (a ++ Html (codes "<b>") ∷ [])) why.RawHtml (codes "a<b>\n") (paragraph (codes "a<b>"))
+  pub html_block_off : MisreadBy safe (block.Html (codes "<p>\n") ∷ []) why.HtmlBlock (codes "<p>\n") (paragraph (codes "<p>"))
+  pub link_off : MisreadBy safe (says (Link (codes "data:a") [] [] ∷ [])) why.AddressOff (codes "[](<data\\:a>)\n") (paragraph (codes "[](<data:a>)"))
+  pub image_off : MisreadBy safe (says (Image (codes "data:a") [] [] ∷ [])) why.AddressOff (codes "![](<data\\:a>)\n") (paragraph (codes "![](<data:a>)"))
+  pub link_of_the_web : ReadsBackBy safe (says (Link (codes "HTTPS:a") [] a ∷ [])) (codes "[a](<HTTPS\\:a>)\n")
+  pub info_over_lines : ReadsBack (block.Code (codes "a\nb") [] ∷ []) (codes "```a&#10;b\n```\n")
+  pub info_off : MisreadBy safe (block.Code (codes "a\nb") [] ∷ []) why.InfoOff (codes "```a&#10;b\n```\n") (block.Code (codes "a b") [] ∷ [])
   pub strike_in_a_link : ReadsBackBy struck (says (Link (codes "u") [] (Strike (Code (codes "a") ∷ []) ∷ []) ∷ [])) (codes "[~~`a`~~](<u>)\n")
   pub pound_sign : Misread (says (a ++ Emph (words (0xC2 ∷ 0xA3 ∷ [])) ∷ [])) why.EmphasisEdge (codes "a*" ++ 0xC2 ∷ 0xA3 ∷ codes "*\n") (paragraph (codes "a*" ++ 0xC2 ∷ 0xA3 ∷ codes "*"))
   pub older_pound_sign : ReadsBackBy older_rules (says (a ++ Emph (words (0xC2 ∷ 0xA3 ∷ [])) ∷ [])) (codes "a*" ++ 0xC2 ∷ 0xA3 ∷ codes "*\n")

@@ -5,6 +5,7 @@ use Rattle.cm_tree.specs.declared.tree.Inline.TheVariants.{Text, Code, Html, Sof
 use Rattle.cm_tree.specs.declared.tree.Block.TheVariants as block
 use Rattle.cm_tree.specs.declared.tree.ListKind.TheVariants.{Dash, Plus, Dot}
 use Rattle.cm_scan.specs.InlineExamples.{struck}
+use Rattle.cm_scan.specs.RuleExamples.{safe}
 use Rattle.cm_source.specs.declared.why.Why.TheVariants as why
 use Rattle.cm_source.specs.InlineRefusals.{paragraph_refusal, heading_refusal}
 use Rattle.cm_source.specs.Refusals.{refusal_of}
@@ -38,6 +39,10 @@ pub record InlineRefusalExamples : Type 0 where
   pub break_last_in_emphasis : paragraph_refusal profile (Emph (a ++ Soft ∷ []) ∷ []) ≡ Some why.LineBreak
   pub strike : paragraph_refusal struck (Strike a ∷ []) ≡ None
   pub strike_off : paragraph_refusal profile (Strike a ∷ []) ≡ Some why.StrikeOff
+  pub link_off : paragraph_refusal safe (Link (codes "data:a") [] a ∷ []) ≡ Some why.AddressOff
+  pub image_off : paragraph_refusal safe (Image (codes "DATA:a") [] a ∷ []) ≡ Some why.AddressOff
+  pub link_of_the_web : paragraph_refusal safe (Link (codes "HTTPS:a") [] a ∷ []) ≡ None
+  pub raw_html_off : paragraph_refusal safe (a ++ Html (codes "<b>") ∷ []) ≡ Some why.RawHtml
 
 pub record RefusalExamples : Type 0 where
   pub nothing : refusal_of profile [] ≡ None

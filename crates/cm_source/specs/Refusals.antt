@@ -7,6 +7,7 @@ use Rattle.cm_text.specs.Lines.{lines_of, plain_lines_of}
 use Rattle.cm_tree.specs.declared.tree.Block.{Block, Block-F}
 use Rattle.cm_tree.specs.declared.tree.Block.TheOpen as block
 use Rattle.cm_tree.specs.declared.tree.Block.TheFolds.{fold-Block}
+use Rattle.cm_tree.specs.Followed.{is_read_info}
 use Rattle.cm_tree.specs.declared.tree.ListKind.{ListKind}
 use Rattle.cm_tree.specs.declared.tree.ListKind.TheVariants.{Dot, Paren}
 use Rattle.cm_scan.specs.Words.{is_empty, begins_with, same_bytes, ◌<|>◌}
@@ -16,7 +17,7 @@ use Rattle.cm_scan.specs.HtmlBlocks.{html_start, is_html_end, ends_at_blank_line
 use Rattle.cm_scan.specs.Parts.{Parts, none, leaf, html}
 use Rattle.cm_scan.specs.Blocks.{parts_of}
 use Rattle.cm_source.specs.declared.why.Why.{Why}
-use Rattle.cm_source.specs.declared.why.Why.TheVariants.{Definition, Nul, Shape, CodeText, HtmlBlock, AdjacentLists, ItemBeginsWithList, Looseness}
+use Rattle.cm_source.specs.declared.why.Why.TheVariants.{Definition, Nul, Shape, CodeText, HtmlBlock, AdjacentLists, ItemBeginsWithList, Looseness, InfoOff}
 use Rattle.cm_source.specs.InlineRefusals.{refused, has_nul, paragraph_refusal, heading_refusal}
 
 -- What the blocks round a block see of it: the list that it is, with whether its first item has a block.
@@ -132,11 +133,15 @@ is_filled _ = false
 abbrev pub leaf_block : BlockFace → Option Why → JudgedBlock
 leaf_block face refusal = record { face = face; refusal = λ before. refusal }
 
+abbrev pub code_reasons : Rules → (info text : List ℕ) → List (Bool × Why)
+code_reasons rules info text =
+    (has_nul info || has_nul text, Nul) ∷ (not (is_code_text text), CodeText) ∷ (not (is_read_info rules info), InfoOff) ∷ []
+
 -- one block, with how each block inside is judged in its place
 abbrev pub block_step : Rules → Block-F JudgedBlock → JudgedBlock
 block_step rules (block.Paragraph content) = leaf_block ParagraphFace (refused ((not (list_any (λ i. true) content), Shape) ∷ []) <|> paragraph_refusal rules content)
 block_step rules (block.Heading level content) = leaf_block OtherBlockFace (refused ((not (nat_le 1 level && nat_le level 6), Shape) ∷ []) <|> heading_refusal rules content)
-block_step rules (block.Code info text) = leaf_block CodeBlockFace (refused ((has_nul info || has_nul text, Nul) ∷ (not (is_code_text text), CodeText) ∷ []))
+block_step rules (block.Code info text) = leaf_block CodeBlockFace (refused (code_reasons rules info text))
 block_step rules (block.Html text) = leaf_block OtherBlockFace (refused ((has_nul text, Nul) ∷ (not (is_html_block rules text), HtmlBlock) ∷ []))
 block_step rules block.Break = leaf_block OtherBlockFace None
 block_step rules (block.Definition label dest title) = leaf_block OtherBlockFace (Some Definition)

@@ -3,12 +3,12 @@ ghost use Rattle.std.specs.Prelude.{◌≡◌, ◌==◌, [], ◌∷◌, None, no
 ghost use Rattle.cm_text.specs.Rules as text_rules;
 ghost use Rattle.cm_scan.specs.Words.{is_empty, ◌<|>◌};
 ghost use Rattle.cm_source.specs.Answers.{ok_unless};
-ghost use Rattle.cm_source.specs.InlineRefusals.{refused, has_nul, has_line_ending, is_text, is_emphasis, is_whitespace, is_plain, first_of, last_of, further_in, inside_link, judged, first_face, last_face, hold_emphasis, hold_link, has_wrong_edge, emphasis_reasons, emphasis, ends_a_label, is_one_tag, code_reasons, html_reasons, break_reasons, refusal_of_all, paragraph_refusal, heading_refusal};
+ghost use Rattle.cm_source.specs.InlineRefusals.{refused, has_nul, has_line_ending, is_text, is_emphasis, is_whitespace, is_plain, first_of, last_of, further_in, inside_link, judged, first_face, last_face, hold_emphasis, hold_link, has_wrong_edge, emphasis_reasons, emphasis, ends_a_label, is_one_tag, code_reasons, html_reasons, break_reasons, link_reasons, image_reasons, refusal_of_all, paragraph_refusal, heading_refusal};
 ghost use Rattle.cm_source.specs.steps.InlineFaces.{shown, seen, place_of};
 
 use crate::why::Why;
-use cm_scan::{autolink, first_character, holds_from, last_character, raw_html_by};
-use cm_text::{ByteKind, Rules, is_punct_by, is_space, next_of};
+use cm_scan::{autolink_by, first_character, holds_from, last_character, raw_html_by};
+use cm_text::{ByteKind, Rules, is_followed, is_punct_by, is_space, next_of};
 use cm_tree::Inline;
 use std::simd::prelude::*;
 
@@ -296,7 +296,7 @@ fn ends_a_label(place: Place, text: &str) -> bool
 fn is_one_tag(rules: Rules, text: &str) -> bool
     ensures { result ≡ is_one_tag rules text.now }
 {
-    if autolink(text, 0).is_some() {
+    if autolink_by(rules, text, 0).is_some() {
         return false;
     }
     match raw_html_by(rules, text, 0) {
@@ -448,11 +448,20 @@ fn check_between(
 /// Refuses a link with such a destination, title and content.
 ///
 /// Where a link holds another, the walk ends here. So no inline is searched for links twice.
-fn check_target(dest: &str, title: &str, content: &[Inline]) -> Result<(), Why>
-    ensures { (rules : text_rules.Rules) → result ≡ ok_unless (refused ((has_nul dest.now || has_nul title.now, Why.Nul) ∷ (hold_link (map (judged rules) content.now), Why.LinkInLink) ∷ [])) }
+fn check_target(rules: Rules, dest: &str, title: &str, content: &[Inline]) -> Result<(), Why>
+    ensures { result ≡ ok_unless (refused (link_reasons rules dest.now title.now (map (judged rules) content.now))) }
 {
     refuse_if(has_nul_in(dest, title), Why::Nul)?;
-    refuse_if(hold_link(content), Why::LinkInLink)
+    refuse_if(hold_link(content), Why::LinkInLink)?;
+    refuse_if(!is_followed(rules, dest), Why::AddressOff)
+}
+
+/// Refuses an image with such a destination and title.
+fn check_source(rules: Rules, dest: &str, title: &str) -> Result<(), Why>
+    ensures { result ≡ ok_unless (refused (image_reasons rules dest.now title.now)) }
+{
+    refuse_if(has_nul_in(dest, title), Why::Nul)?;
+    refuse_if(!is_followed(rules, dest), Why::AddressOff)
 }
 
 /// Refuses a link at a place.
@@ -464,9 +473,9 @@ fn check_link(
     title: &str,
     content: &[Inline],
 ) -> Result<(), Why>
-    ensures { result ≡ ok_unless (refused ((has_nul dest.now || has_nul title.now, Why.Nul) ∷ (hold_link (map (judged rules) content.now), Why.LinkInLink) ∷ []) <|> refusal_of_all (inside_link (place_of place)) None (map (judged rules) content.now)) }
+    ensures { result ≡ ok_unless (refused (link_reasons rules dest.now title.now (map (judged rules) content.now)) <|> refusal_of_all (inside_link (place_of place)) None (map (judged rules) content.now)) }
 {
-    check_target(dest, title, content)?;
+    check_target(rules, dest, title, content)?;
     check_inlines(rules, place.inside_link(), content)
 }
 
@@ -479,9 +488,9 @@ fn check_image(
     title: &str,
     content: &[Inline],
 ) -> Result<(), Why>
-    ensures { result ≡ ok_unless (refused ((has_nul dest.now || has_nul title.now, Why.Nul) ∷ []) <|> refusal_of_all (further_in (place_of place)) None (map (judged rules) content.now)) }
+    ensures { result ≡ ok_unless (refused (image_reasons rules dest.now title.now) <|> refusal_of_all (further_in (place_of place)) None (map (judged rules) content.now)) }
 {
-    refuse_if(has_nul_in(dest, title), Why::Nul)?;
+    check_source(rules, dest, title)?;
     check_inlines(rules, place.further(), content)
 }
 

@@ -4,9 +4,10 @@ ghost use Rattle.std.specs.List.{list_all, list_any};
 ghost use Rattle.cm_text.specs.Rules as text_rules;
 ghost use Rattle.cm_text.specs.Rules.{profile};
 ghost use Rattle.cm_scan.specs.Words.{◌<|>◌};
+ghost use Rattle.cm_tree.specs.Followed.{is_line_space, is_read_info};
 ghost use Rattle.cm_source.specs.Answers.{ok_unless};
 ghost use Rattle.cm_source.specs.InlineRefusals.{refused, has_nul, paragraph_refusal, heading_refusal};
-ghost use Rattle.cm_source.specs.Refusals.{is_list, has_two, begins_late, can_follow, is_tight_item, is_as_said, begins_too_high, is_code_text, is_html_block, faces, judged_block, is_behind_same, list_reasons, is_filled, refusal_of_all, refusal_of};
+ghost use Rattle.cm_source.specs.Refusals.{is_list, has_two, begins_late, can_follow, is_tight_item, is_as_said, begins_too_high, is_code_text, code_reasons, is_html_block, faces, judged_block, is_behind_same, list_reasons, is_filled, refusal_of_all, refusal_of};
 ghost use Rattle.cm_source.specs.steps.BlockFaces.{shown, seen, is_paragraph};
 
 use crate::html_alone::is_html_block;
@@ -198,11 +199,28 @@ fn check_list(
 }
 
 /// Refuses a code block.
-fn check_code(info: &str, text: &str) -> Result<(), Why>
-    ensures { result ≡ ok_unless (refused ((has_nul info.now || has_nul text.now, Why.Nul) ∷ (not (is_code_text text.now), Why.CodeText) ∷ [])) }
+fn check_code(rules: Rules, info: &str, text: &str) -> Result<(), Why>
+    ensures { result ≡ ok_unless (refused (code_reasons rules info.now text.now)) }
 {
     refuse_if(has_nul_in(info, text), Why::Nul)?;
-    refuse_if(!is_code_text(text), Why::CodeText)
+    refuse_if(!is_code_text(text), Why::CodeText)?;
+    refuse_if(!is_read_info(rules, info), Why::InfoOff)
+}
+
+/// Whether an info is one that the rules leave as it is.
+fn is_read_info(rules: Rules, info: &str) -> bool
+    ensures { result ≡ is_read_info rules info.now }
+{
+    rules.raw_html() || !has_line_space(info)
+}
+
+/// Whether an info has a line feed, a form feed or a carriage return.
+fn has_line_space(info: &str) -> bool
+    ensures { result ≡ list_any is_line_space info.now }
+{
+    info.as_bytes()
+        .iter()
+        .any(|b| *b == b'\n' || *b == b'\x0C' || *b == b'\r')
 }
 
 /// Refuses an HTML block.
@@ -250,7 +268,7 @@ pub(crate) fn check_block(rules: Rules, block: &Block, before: Option<Face>) -> 
     match block {
         Block::Paragraph(content) => check_paragraph(rules, content.as_slice()),
         Block::Heading { level, content } => check_heading(rules, *level, content.as_slice()),
-        Block::Code { info, text } => check_code(info.as_str(), text.as_str()),
+        Block::Code { info, text } => check_code(rules, info.as_str(), text.as_str()),
         Block::Html { text } => check_html(rules, text.as_str()),
         Block::Break => Ok(()),
         Block::Definition { .. } => Err(Why::Definition),

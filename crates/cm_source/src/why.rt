@@ -60,4 +60,10 @@ pub enum Why {
     /// Strikethrough where the rules have it off.
     #[error("strikethrough while it is off")]
     StrikeOff,
+    /// A link or an image to an address that the rules don't follow.
+    #[error("an address that isn't followed")]
+    AddressOff,
+    /// The info of a code block that isn't one line, where the rules have no raw HTML.
+    #[error("an info of several lines while raw HTML is off")]
+    InfoOff,
 }

@@ -39,6 +39,8 @@ reason_of whys.AdjacentLists = 14
 reason_of whys.ItemBeginsWithList = 15
 reason_of whys.Looseness = 16
 reason_of whys.StrikeOff = 17
+reason_of whys.AddressOff = 18
+reason_of whys.InfoOff = 19
 
 -- where a fault is: at a byte, on a line or in a leaf; or the number of a reason
 abbrev pub place_of : Fault → ℕ
@@ -73,6 +75,8 @@ why_numbered number =
     else if number == 15 then Some whys.ItemBeginsWithList
     else if number == 16 then Some whys.Looseness
     else if number == 17 then Some whys.StrikeOff
+    else if number == 18 then Some whys.AddressOff
+    else if number == 19 then Some whys.InfoOff
     else None
 
 -- the fault with this number at this place

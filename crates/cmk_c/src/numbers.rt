@@ -56,6 +56,8 @@ fn reason_of(why: Why) -> usize
         Why::ItemBeginsWithList => 15,
         Why::Looseness => 16,
         Why::StrikeOff => 17,
+        Why::AddressOff => 18,
+        Why::InfoOff => 19,
     }
 }
 
@@ -100,6 +102,8 @@ fn why_numbered(number: usize) -> Option<Why>
         15 => Some(Why::ItemBeginsWithList),
         16 => Some(Why::Looseness),
         17 => Some(Why::StrikeOff),
+        18 => Some(Why::AddressOff),
+        19 => Some(Why::InfoOff),
         _ => None,
     }
 }

@@ -2,6 +2,7 @@
 -- place have the last first.
 use Rattle.std.specs.Prelude.{◌≡◌, ℕ, Bool, true, false, ◌&&◌, List, [], ◌∷◌, ◌++◌, map, reverse, Some, codes}
 use Rattle.cm_text.specs.Rules.{Rules}
+use Rattle.cm_text.specs.Addresses.{is_followed}
 use Rattle.cm_text.specs.Unescaping.{unescape}
 use Rattle.cm_tree.specs.declared.tree.Inline.{Inline}
 use Rattle.cm_tree.specs.declared.tree.Inline.TheVariants.{Text, Code, Html, Soft, Hard, Link, Image}
@@ -76,11 +77,11 @@ mutual
         → Fits rules true first last before (emphasised (character_of mark) (count_of mark) content) rest
     -- nor a link in a link
     FitsLink : {emphasis first last : Bool} {before rest dest title : List ℕ} {content : List Inline}
-        → has_nul dest ≡ false → has_nul title ≡ false → hold_link (map (judged rules) content) ≡ false
+        → has_nul dest ≡ false → has_nul title ≡ false → hold_link (map (judged rules) content) ≡ false → is_followed rules dest ≡ true
         → FitsAll rules true false false (91 ∷ before) content (spelled_target dest title ++ rest)
         → Fits rules emphasis first last before (Link dest title content) rest
     FitsImage : {emphasis first last : Bool} {before rest dest title : List ℕ} {content : List Inline}
-        → has_nul dest ≡ false → has_nul title ≡ false
+        → has_nul dest ≡ false → has_nul title ≡ false → is_followed rules dest ≡ true
         → FitsAll rules true false false (91 ∷ 33 ∷ before) content (spelled_target dest title ++ rest)
         → Fits rules emphasis first last before (Image dest title content) rest
 

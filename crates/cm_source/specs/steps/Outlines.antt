@@ -10,7 +10,6 @@ use Rattle.cm_scan.specs.LineForms.{is_same_kind}
 use Rattle.cm_scan.specs.Parts.{LeafPart, paragraph, heading, code, html, thematic_break, definition, leaf_block}
 use Rattle.cm_scan.specs.Starts.{starts_at_one}
 use Rattle.cm_source.specs.Inlines.{spelled_content}
-use Rattle.cm_source.specs.Texts.{spelled_text}
 use Rattle.cm_source.specs.Spelling.{parted_lines, ended_lines, heading_lines, code_lines, gap, quote_lines, marker, item_lines}
 
 -- a leaf block, and the lines that are spelled for it
@@ -130,7 +129,7 @@ chain_items (item ∷ next ∷ items) = one_and (chain item) (chain_items (next 
 abbrev pub outline_step : Block-F (Outline → Outline) → Outline → Outline
 outline_step (block.Paragraph content) rest = leaf_then (record { part = paragraph (spelled_content content); lines = parted_lines (spelled_content content) }) rest
 outline_step (block.Heading level content) rest = leaf_then (record { part = heading level (spelled_content content); lines = heading_lines level content }) rest
-outline_step (block.Code info text) rest = leaf_then (record { part = code (spelled_text true true info) text; lines = code_lines info text }) rest
+outline_step (block.Code info text) rest = leaf_then (record { part = code info text; lines = code_lines info text }) rest
 outline_step (block.Html text) rest = leaf_then (record { part = html text; lines = ended_lines text }) rest
 outline_step block.Break rest = leaf_then (record { part = thematic_break; lines = codes "___" ∷ [] }) rest
 outline_step (block.Definition label dest title) rest = leaf_then (record { part = definition label dest title; lines = [] }) rest

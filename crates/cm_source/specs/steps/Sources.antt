@@ -2,8 +2,9 @@
 use Rattle.std.specs.Prelude.{◌≡◌, ⊤, ℕ, Bool, true, false, not, ◌&&◌, ◌||◌, List, [], ◌∷◌, None, ◌==◌}
 use Rattle.std.specs.List.{list_all, list_any}
 use Rattle.cm_text.specs.Rules.{Rules}
-use Rattle.cm_text.specs.Unescaping.{unescape}
 use Rattle.cm_tree.specs.declared.tree.Inline.{Inline}
+use Rattle.cm_tree.specs.Followed.{is_read_info}
+use Rattle.cm_scan.specs.Parts.{info_of}
 use Rattle.cm_scan.specs.Words.{is_space_or_tab, trim, trim_end}
 use Rattle.cm_scan.specs.LineForms.{without_closing, underline}
 use Rattle.cm_scan.specs.Links.{definitions_of}
@@ -66,4 +67,4 @@ pub record ContentsGiveSources (rules : Rules) : Type 0 where
   pub paragraphs : (content : List Inline) → paragraph_refusal rules content ≡ None → list_any (λ i. true) content ≡ true → IsParagraphSource rules (spelled_content content)
   pub headings : (content : List Inline) → heading_refusal rules content ≡ None → IsHeadingSource (spelled_content content)
   pub infos : (info : List ℕ) → has_nul info ≡ false → IsInfoSource (spelled_text true true info)
-  pub infos_back : (info : List ℕ) → has_nul info ≡ false → unescape (spelled_text true true info) ≡ info
+  pub infos_back : (info : List ℕ) → has_nul info ≡ false → is_read_info rules info ≡ true → info_of rules (spelled_text true true info) ≡ info

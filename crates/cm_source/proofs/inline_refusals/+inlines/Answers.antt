@@ -70,11 +70,11 @@ check_between-returns t c =
 pub check_link-returns : goal.check_link-returns
 check_link-returns t c =
     let content = map (judged c.args.rules) c.args.content.now in
-    c.check_inlines.ensures ∙ ap (λ p. ok_unless (refusal_of_all p None content)) c.inside_link.ensures ∙ goes-on _ _ (c.in_ok-check_target.ensures c.args.rules)
+    c.check_inlines.ensures ∙ ap (λ p. ok_unless (refusal_of_all p None content)) c.inside_link.ensures ∙ goes-on _ _ c.in_ok-check_target.ensures
 
 pub check_link-returns-in_err-check_target : goal.check_link-returns-in_err-check_target
 check_link-returns-in_err-check_target t c =
-    told-error c.from_residual.result c.in_err-check_target.field-0.0 c.from_residual.ensures.1 ∙ stops _ _ _ (c.in_err-check_target.ensures c.args.rules)
+    told-error c.from_residual.result c.in_err-check_target.field-0.0 c.from_residual.ensures.1 ∙ stops _ _ _ c.in_err-check_target.ensures
 
 pub check_inline-returns-in-Soft : goal.check_inline-returns-in-Soft
 check_inline-returns-in-Soft t c =

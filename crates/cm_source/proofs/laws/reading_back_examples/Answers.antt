@@ -90,6 +90,13 @@ rules = record {
   tildes_with_strikethrough = record { spellable = simp judging; spelled = simp spelling; read = simp reading };
   strike = record { spellable = simp judging; spelled = simp spelling; read = simp reading };
   strike_off = record { refused = simp judging; spelled = simp spelling; read = simp reading };
+  tag_off = record { refused = simp judging; spelled = simp spelling; read = simp reading };
+  html_block_off = record { refused = simp judging; spelled = simp spelling; read = simp reading };
+  link_off = record { refused = simp judging; spelled = simp spelling; read = simp reading };
+  image_off = record { refused = simp judging; spelled = simp spelling; read = simp reading };
+  link_of_the_web = record { spellable = simp judging; spelled = simp spelling; read = simp reading };
+  info_over_lines = record { spellable = simp judging; spelled = simp spelling; read = simp reading };
+  info_off = record { refused = simp judging; spelled = simp spelling; read = simp reading };
   strike_in_a_link = record { spellable = simp judging; spelled = simp spelling; read = simp reading };
   pound_sign = record { refused = simp judging; spelled = simp spelling; read = simp reading };
   older_pound_sign = record { spellable = simp judging; spelled = simp spelling; read = simp reading };

@@ -36,6 +36,10 @@ of_inlines = record {
   break_last_in_emphasis = simp judging;
   strike = simp judging;
   strike_off = simp judging;
+  link_off = simp judging;
+  image_off = simp judging;
+  link_of_the_web = simp judging;
+  raw_html_off = simp judging;
 }
 
 of_blocks : RefusalExamples
