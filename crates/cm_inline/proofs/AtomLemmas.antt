@@ -14,7 +14,7 @@ use Rattle.cm_tree.specs.Depth.{depth_of}
 use Rattle.cm_tree.specs.declared.tree.Inline.TheVariants as inline
 use Rattle.cm_scan.specs.Words.{begins_with, run_length, after_run, after_word}
 use Rattle.cm_scan.specs.Links.{Reading}
-use Rattle.cm_scan.specs.Autolinks.{Autolink, autolink}
+use Rattle.cm_scan.specs.Autolinks.{Autolink, followed_autolink}
 use Rattle.cm_scan.specs.RawHtml.{raw_html}
 use Rattle.cm_scan.specs.Angles.{Angled, Addressed, Tagged, before, tagged, at_angle}
 use Rattle.cm_scan.specs.CodeSpans.{span_content, one_line, stripped, code_span}
@@ -147,16 +147,16 @@ module _ (rules : Rules) (source : List ℕ) (at : ℕ) where
   abbrev link_or : Option Autolink → Option Angled
   link_or o = elim o as (λ _. Option Angled) [ Some link ↦ Some (Addressed link) | None ↦ tagged (drop at source) (raw_html rules (drop at source)) ]
 
-  angle-in : (o : Option Autolink) → Stands source at 60 → o ≡ autolink (drop at source) → atom_in rules source at ≡ or_byte 60 (drop (at + 1) source) (angled_or (link_or o))
+  angle-in : (o : Option Autolink) → Stands source at 60 → o ≡ followed_autolink rules (drop at source) → atom_in rules source at ≡ or_byte 60 (drop (at + 1) source) (angled_or (link_or o))
   unfolding atom_at markup_atom angle_atom at_angle
   angle-in o s h =
       here rules source at 60 s ∙ ap (λ t. or_byte 60 (drop (at + 1) source) (angle_atom rules t)) (sym (front source at 60 s))
       ∙ ap (λ t. or_byte 60 (drop (at + 1) source) (angled_or (link_or t))) (sym h)
 
-  pub link-is : (link : Autolink) (end : ℕ) → Stands source at 60 → Some link ≡ autolink (drop at source) → link.rest ≡ drop end source → IsCharBoundary source end → IsAtom rules source at (finished (link_of link) 1) end
+  pub link-is : (link : Autolink) (end : ℕ) → Stands source at 60 → Some link ≡ followed_autolink rules (drop at source) → link.rest ≡ drop end source → IsCharBoundary source end → IsAtom rules source at (finished (link_of link) 1) end
   link-is link end s h rest boundary = is-atom _ end (record { atom = Whole (link_of link); rest = link.rest }) s.within (angle-in (Some link) s h) rest refl (link-depth link) boundary (autolink-holds link)
 
-  html-in : (o : Option (List ℕ)) → Stands source at 60 → None ≡ autolink (drop at source) → raw_html rules (drop at source) ≡ o → atom_in rules source at ≡ or_byte 60 (drop (at + 1) source) (angled_or (tagged (drop at source) o))
+  html-in : (o : Option (List ℕ)) → Stands source at 60 → None ≡ followed_autolink rules (drop at source) → raw_html rules (drop at source) ≡ o → atom_in rules source at ≡ or_byte 60 (drop (at + 1) source) (angled_or (tagged (drop at source) o))
   html-in o s h e = angle-in None s h ∙ ap (λ t. or_byte 60 (drop (at + 1) source) (angled_or (tagged (drop at source) t))) e
 
   whole-read : (text html rest : List ℕ) (o : Option (List ℕ)) → Some (record { text = html; rest = rest }) ≡ whole_of text o → (o ≡ Some rest) × (html ≡ before rest text)
@@ -177,14 +177,14 @@ module _ (rules : Rules) (source : List ℕ) (at : ℕ) where
   none-read text None h = refl
   none-read text (Some left) h = none-some h
 
-  pub html-is : (html : List ℕ) (end : ℕ) → Stands source at 60 → None ≡ autolink (drop at source) → Some (record { text = html; rest = drop end source }) ≡ whole_of (drop at source) (raw_html rules (drop at source))
+  pub html-is : (html : List ℕ) (end : ℕ) → Stands source at 60 → None ≡ followed_autolink rules (drop at source) → Some (record { text = html; rest = drop end source }) ≡ whole_of (drop at source) (raw_html rules (drop at source))
       → IsCharBoundary source end → IsAtom rules source at (finished (inline.Html html) 0) end
   html-is html end s h e boundary =
       let parts = whole-read (drop at source) html (drop end source) (raw_html rules (drop at source)) e in
       is-atom _ end (record { atom = Whole (inline.Html (before (drop end source) (drop at source))); rest = drop end source }) s.within (html-in (Some (drop end source)) s h parts.0) refl
       (sym (ap (λ t. Some (items.Finished (inline.Html t))) parts.1)) (html-depth html) boundary (html-holds html)
 
-  pub angle-is-text : IsUtf8 source → Stands source at 60 → None ≡ autolink (drop at source) → None ≡ whole_of (drop at source) (raw_html rules (drop at source)) → IsAtom rules source at (Piece at (at + 1)) (at + 1)
+  pub angle-is-text : IsUtf8 source → Stands source at 60 → None ≡ followed_autolink rules (drop at source) → None ≡ whole_of (drop at source) (raw_html rules (drop at source)) → IsAtom rules source at (Piece at (at + 1)) (at + 1)
   angle-is-text utf8 s h e =
       byte-is 60 (byte_atom 60 (drop (at + 1) source)) utf8 s (omega arith) (html-in None s h (none-read (drop at source) (raw_html rules (drop at source)) e)) refl refl
 

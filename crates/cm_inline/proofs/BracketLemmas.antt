@@ -4,6 +4,7 @@ use Rattle.std.specs.Prelude.{nat_lt}
 use Rattle.std.specs.List.{slice_range}
 use Rattle.std.proofs.lemmas.List.{append-nil, reverse-append, map-append}
 use Rattle.std.proofs.Math.Seq.{take-append_seam, drop-append-add}
+use Rattle.cm_text.specs.Rules.{Rules}
 use Rattle.cm_scan.specs.Pairing.{Item, bracket_text}
 use Rattle.cm_scan.specs.Brackets.{Defined, LinkEnd, Bracketed, OpenerFound, last_opener, source_up_to, end_at, holds_link, made, bracket_is_text, brackets_are_text, closed_by_bracket, close_bracket}
 use Rattle.cm_inline.specs.declared.brackets.Bracket.{Bracket}
@@ -94,14 +95,14 @@ no-opener source n (x ∷ nodes) before after none =
     go (Opener image behind) e again = absurd (cc e)
 
 -- what the search for an opener comes to
-abbrev decided : Defined → List Item → List ℕ → Option OpenerFound → Bracketed
-decided defined items rest o = elim o as (λ _. Bracketed) [ Some found ↦ closed_by_bracket defined found rest | None ↦ record { items = bracket_is_text items; rest = rest } ]
+abbrev decided : Rules → Defined → List Item → List ℕ → Option OpenerFound → Bracketed
+decided rules defined items rest o = elim o as (λ _. Bracketed) [ Some found ↦ closed_by_bracket rules defined found rest | None ↦ record { items = bracket_is_text items; rest = rest } ]
 
 -- without an opener a `]` is text
-pub closes-nothing : (defined : Defined) (source : List ℕ) (nodes : List Node) (at : ℕ) → brackets_from 0 nodes ≡ []
-    → closed_at defined source nodes at ≡ record { items = bracket_is_text (reverse (items_of source nodes)); rest = drop (at + 1) source }
+pub closes-nothing : (rules : Rules) (defined : Defined) (source : List ℕ) (nodes : List Node) (at : ℕ) → brackets_from 0 nodes ≡ []
+    → closed_at rules defined source nodes at ≡ record { items = bracket_is_text (reverse (items_of source nodes)); rest = drop (at + 1) source }
 unfolding close_bracket last_opener
-closes-nothing defined source nodes at none = ap (decided defined items rest) (ap (λ t. last_opener t []) (sym (append-nil items)) ∙ no-opener source 0 nodes [] [] none)
+closes-nothing rules defined source nodes at none = ap (decided rules defined items rest) (ap (λ t. last_opener t []) (sym (append-nil items)) ∙ no-opener source 0 nodes [] [] none)
   where
     items : List Item
     items = reverse (items_of source nodes)
@@ -186,14 +187,14 @@ link-behind source nodes others b links_end w links =
     ∙ links b.node
 
 -- a `]` with an opener
-pub closes-opener : (defined : Defined) (source : List ℕ) (nodes : List Node) (others : List Bracket) (b : Bracket) (links_end at : ℕ) → Split nodes 0 others b → LinksEnd source nodes links_end → b.behind ≤ at → at < length source
-    → closed_at defined source nodes at ≡ closed_or source nodes b (drop (at + 1) source) (end_for defined source b links_end at)
+pub closes-opener : (rules : Rules) (defined : Defined) (source : List ℕ) (nodes : List Node) (others : List Bracket) (b : Bracket) (links_end at : ℕ) → Split nodes 0 others b → LinksEnd source nodes links_end → b.behind ≤ at → at < length source
+    → closed_at rules defined source nodes at ≡ closed_or source nodes b (drop (at + 1) source) (end_for rules defined source b links_end at)
 unfolding close_bracket closed_by_bracket
-closes-opener defined source nodes others b links_end at w links low within =
-    ap (decided defined (reverse (items_of source nodes)) rest) (opener-found source nodes others b w)
-    ∙ ap (λ v. refused v (end_at defined (source_up_to (drop b.behind source) (93 ∷ rest)) rest)) (ap (λ v. not b.image && v) (link-behind source nodes others b links_end w links))
-    ∙ ap (λ t. refused (not b.image && nat_lt b.node links_end) (end_at defined t rest)) (between-is source b.behind at low within)
-    ∙ either (not b.image && nat_lt b.node links_end) (end_at defined (slice_range source b.behind at) rest)
+closes-opener rules defined source nodes others b links_end at w links low within =
+    ap (decided rules defined (reverse (items_of source nodes)) rest) (opener-found source nodes others b w)
+    ∙ ap (λ v. refused v (end_at rules defined (source_up_to (drop b.behind source) (93 ∷ rest)) rest)) (ap (λ v. not b.image && v) (link-behind source nodes others b links_end w links))
+    ∙ ap (λ t. refused (not b.image && nat_lt b.node links_end) (end_at rules defined t rest)) (between-is source b.behind at low within)
+    ∙ either (not b.image && nat_lt b.node links_end) (end_at rules defined (slice_range source b.behind at) rest)
   where
     rest : List ℕ
     rest = drop (at + 1) source

@@ -172,9 +172,9 @@ made-deeper image dest title inside = omega (arith, made-depth image dest title 
 texts-depth : (found : OpenerFound) → items_depth (brackets_are_text found) ≡ max (items_depth found.before) (items_depth found.inside)
 texts-depth found = omega (arith, both (reverse found.inside) (Characters (bracket_text found.image) ∷ found.before), reverse-depth found.inside)
 
-by_bracket-deeper : (defined : Defined) (found : OpenerFound) (rest : List ℕ) → max (items_depth found.before) (items_depth found.inside) ≤ items_depth (closed_by_bracket defined found rest).items
+by_bracket-deeper : (rules : Rules) (defined : Defined) (found : OpenerFound) (rest : List ℕ) → max (items_depth found.before) (items_depth found.inside) ≤ items_depth (closed_by_bracket rules defined found rest).items
 unfolding closed_by_bracket
-by_bracket-deeper defined found rest = go (not found.image && holds_link found.inside) (end_at defined (source_up_to found.source (93 ∷ rest)) rest)
+by_bracket-deeper rules defined found rest = go (not found.image && holds_link found.inside) (end_at rules defined (source_up_to found.source (93 ∷ rest)) rest)
   where
     as_text : Bracketed
     as_text = record { items = brackets_are_text found; rest = rest }
@@ -187,28 +187,28 @@ by_bracket-deeper defined found rest = go (not found.image && holds_link found.i
     go false None = omega (arith, texts-depth found)
     go false (Some end) = omega (arith, made-deeper found.image end.dest end.title found.inside)
 
-pub bracket-deeper : (defined : Defined) (items : List Item) (rest : List ℕ) → items_depth items ≤ items_depth (close_bracket defined items rest).items
+pub bracket-deeper : (rules : Rules) (defined : Defined) (items : List Item) (rest : List ℕ) → items_depth items ≤ items_depth (close_bracket rules defined items rest).items
 unfolding close_bracket
-bracket-deeper defined items rest = go (last_opener items []) refl
+bracket-deeper rules defined items rest = go (last_opener items []) refl
   where
     go : (o : Option OpenerFound) → last_opener items [] ≡ o
-        → items_depth items ≤ items_depth (elim o as (λ _. Bracketed) [ Some found ↦ closed_by_bracket defined found rest | None ↦ record { items = bracket_is_text items; rest = rest } ]).items
-    go (Some found) e = omega (arith, opener-parts items [] found e, by_bracket-deeper defined found rest)
+        → items_depth items ≤ items_depth (elim o as (λ _. Bracketed) [ Some found ↦ closed_by_bracket rules defined found rest | None ↦ record { items = bracket_is_text items; rest = rest } ]).items
+    go (Some found) e = omega (arith, opener-parts items [] found e, by_bracket-deeper rules defined found rest)
     go None e = omega arith
 
 -- so nothing that is read further does
 
-pub atom-deeper : (defined : Defined) (items : List Item) (atom : Atom) (rest : List ℕ) → items_depth items ≤ items_depth (add_atom defined items atom rest).items
+pub atom-deeper : (rules : Rules) (defined : Defined) (items : List Item) (atom : Atom) (rest : List ℕ) → items_depth items ≤ items_depth (add_atom rules defined items atom rest).items
 unfolding add_atom
-atom-deeper defined items (Plain text) rest = omega arith
-atom-deeper defined items (Whole inline) rest = omega arith
-atom-deeper defined items (Delimiter run) rest = omega arith
-atom-deeper defined items (OpenBracket image) rest = omega arith
-atom-deeper defined items CloseBracket rest = bracket-deeper defined items rest
+atom-deeper rules defined items (Plain text) rest = omega arith
+atom-deeper rules defined items (Whole inline) rest = omega arith
+atom-deeper rules defined items (Delimiter run) rest = omega arith
+atom-deeper rules defined items (OpenBracket image) rest = omega arith
+atom-deeper rules defined items CloseBracket rest = bracket-deeper rules defined items rest
 
 step-deeper : (rules : Rules) (defined : Defined) (before : List ℕ) (b : ℕ) (bs : List ℕ) (items : List Item) → items_depth items ≤ items_depth (item_step rules defined before b bs items).items
 unfolding item_step
-step-deeper rules defined before b bs items = let a = atom_at rules before b bs in atom-deeper defined items a.atom a.rest
+step-deeper rules defined before b bs items = let a = atom_at rules before b bs in atom-deeper rules defined items a.atom a.rest
 
 pub after-deeper : (rules : Rules) (defined : Defined) (n : ℕ) (before source : List ℕ) (items : List Item) → items_depth items ≤ items_depth (items_after rules defined n before source items)
 unfolding items_after

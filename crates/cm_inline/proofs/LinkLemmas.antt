@@ -3,13 +3,16 @@ use Rattle.std.proofs.Common.{◌≡◌, ◌≢◌, ℕ, suc, ◌+◌, ◌<◌, 
 use Rattle.std.specs.List.{slice_range}
 use Rattle.std.specs.Str.{IsCharBoundary}
 use Rattle.std.proofs.lemmas.List.{drop_more}
+use Rattle.std.specs.Option.{is_some}
+use Rattle.cm_text.specs.Rules.{Rules}
+use Rattle.cm_text.specs.Addresses.{is_followed}
 use Rattle.cm_text.specs.Unescaping.{unescape}
 use Rattle.cm_tree.specs.Definitions.{Target}
 use Rattle.cm_scan.specs.Words.{begins_with, after_word}
 use Rattle.cm_scan.specs.Tags.{is_blank_next, after_gap}
 use Rattle.cm_scan.specs.Links.{Reading, label, destination, title}
 use Rattle.cm_scan.specs.Brackets as brackets
-use Rattle.cm_scan.specs.Brackets.{Defined, closed, after_destination, inline_end, target_of, target_between, collapsed_or_shortcut, reference_end, end_at}
+use Rattle.cm_scan.specs.Brackets.{Defined, closed, after_destination, inline_end, target_of, target_between, collapsed_or_shortcut, reference_end, end_if_followed, end_at}
 use Rattle.cm_scan.proofs.ReadingLemmas.{begins-at}
 use Rattle.cm_scan.proofs.LeftLemmas.{end_at-end}
 use Rattle.cm_inline.specs.declared.links.LinkEnd.{LinkEnd}
@@ -174,30 +177,39 @@ led source (Ok found) target end b e h = h source ∙ e
 led source (Err f) target end b e h = tt
 
 -- an end that was found ends behind the right bracket
-pub place : (source : List ℕ) (at : ℕ) (defined : Defined) (between : List ℕ) (found : Option LinkEnd) → at < length source → ends_of source found ≡ end_at defined between (drop (at + 1) source)
+pub place : (source : List ℕ) (at : ℕ) (rules : Rules) (defined : Defined) (between : List ℕ) (found : Option LinkEnd) → at < length source → ends_of source found ≡ end_at rules defined between (drop (at + 1) source)
     → IfSome found (λ e. IsCharBoundary source e.end) → IfSome found (λ e. (at < e.end) × (e.end ≤ length source) × IsCharBoundary source e.end)
-place source at defined between None within h boundary = tt
-place source at defined between (Some e) within h boundary =
-    let left = end_at-end defined between (drop (at + 1) source) (record { dest = (found_target e.target).0; title = (found_target e.target).1; rest = drop e.end source }) (sym h) in
+place source at rules defined between None within h boundary = tt
+place source at rules defined between (Some e) within h boundary =
+    let left = end_at-end rules defined between (drop (at + 1) source) (record { dest = (found_target e.target).0; title = (found_target e.target).1; rest = drop e.end source }) (sym h) in
     let low : at < e.end = omega (arith, within, boundary.0, ap length left.is, length-append left.front (drop e.end source), length-drop (at + 1) source, length-drop e.end source) in
     (low, boundary.0, boundary)
 
-pub place-in : {E : Type 0} (source : List ℕ) (at : ℕ) (defined : Defined) (between : List ℕ) (r : Result (Option LinkEnd) E) → at < length source
-    → IfOk r (λ found. ends_of source found ≡ end_at defined between (drop (at + 1) source)) → IfOk r (λ found. IfSome found (λ e. IsCharBoundary source e.end))
+pub place-in : {E : Type 0} (source : List ℕ) (at : ℕ) (rules : Rules) (defined : Defined) (between : List ℕ) (r : Result (Option LinkEnd) E) → at < length source
+    → IfOk r (λ found. ends_of source found ≡ end_at rules defined between (drop (at + 1) source)) → IfOk r (λ found. IfSome found (λ e. IsCharBoundary source e.end))
     → IfOk r (λ found. IfSome found (λ e. (at < e.end) × (e.end ≤ length source) × IsCharBoundary source e.end))
-place-in source at defined between (Ok found) within h boundary = place source at defined between found within h boundary
-place-in source at defined between (Err e) within h boundary = tt
+place-in source at rules defined between (Ok found) within h boundary = place source at rules defined between found within h boundary
+place-in source at rules defined between (Err e) within h boundary = tt
 
-abbrev first_of : Defined → List ℕ → List ℕ → Option brackets.LinkEnd → Option brackets.LinkEnd
-first_of defined between text o = elim o [ Some end ↦ Some end | None ↦ reference_end defined between text ]
+abbrev first_of : Rules → Defined → List ℕ → List ℕ → Option brackets.LinkEnd → Option brackets.LinkEnd
+first_of rules defined between text o = elim o [ Some end ↦ Some end | None ↦ end_if_followed rules (reference_end defined between text) ]
 
 -- an inline link's end goes first
-pub inline-first : (source : List ℕ) (defined : Defined) (between text : List ℕ) (found : Option LinkEnd) (e : LinkEnd) → found ≡ Some e → ends_of source found ≡ inline_end text
-    → ends_of source (Some e) ≡ end_at defined between text
+pub inline-first : (source : List ℕ) (rules : Rules) (defined : Defined) (between text : List ℕ) (found : Option LinkEnd) → is_some found ≡ true → ends_of source found ≡ end_if_followed rules (inline_end text)
+    → ends_of source found ≡ end_at rules defined between text
 unfolding end_at
-inline-first source defined between text found e same h = ap (first_of defined between text) (ap (ends_of source) (sym same) ∙ h)
+inline-first source rules defined between text None e h = absurd (cc e)
+inline-first source rules defined between text (Some found) e h = ap (first_of rules defined between text) h
 
-pub no-inline : (source : List ℕ) (defined : Defined) (between text : List ℕ) (found : Option LinkEnd) → found ≡ None → ends_of source found ≡ inline_end text
-    → reference_end defined between text ≡ end_at defined between text
+pub no-inline : (source : List ℕ) (rules : Rules) (defined : Defined) (between text : List ℕ) (found : Option LinkEnd) → is_some found ≡ false → ends_of source found ≡ end_if_followed rules (inline_end text)
+    → end_if_followed rules (reference_end defined between text) ≡ end_at rules defined between text
 unfolding end_at
-no-inline source defined between text found none h = ap (first_of defined between text) (ap (ends_of source) (sym none) ∙ h)
+no-inline source rules defined between text None e h = ap (first_of rules defined between text) h
+no-inline source rules defined between text (Some found) e h = absurd (cc e)
+
+-- an end by whether the rules follow where it leads
+pub end-followed : (rules : Rules) (source : List ℕ) (e : LinkEnd) → is_followed rules (found_target e.target).0 ≡ true → ends_of source (Some e) ≡ end_if_followed rules (ends_of source (Some e))
+end-followed rules source e on = sym (ap (λ (t : Bool). elim t as (λ _. Option brackets.LinkEnd) [ true ↦ ends_of source (Some e) | false ↦ None ]) on)
+
+pub end-not-followed : (rules : Rules) (source : List ℕ) (e : LinkEnd) → is_followed rules (found_target e.target).0 ≡ false → ends_of source None ≡ end_if_followed rules (ends_of source (Some e))
+end-not-followed rules source e off = sym (ap (λ (t : Bool). elim t as (λ _. Option brackets.LinkEnd) [ true ↦ ends_of source (Some e) | false ↦ None ]) off)

@@ -114,7 +114,7 @@ unfolding item_step
 atom-more-pays rules defined source nodes at node end looks within is p =
     let items = reverse (items_of source nodes) in
     let a = atom_in rules source at in
-    let step = adds-item defined items a.atom a.rest (item_of source node) is.item
+    let step = adds-item rules defined items a.atom a.rest (item_of source node) is.item
     ∙ ap (λ t. with_item items (item_of source node) t) is.rest
     ∙ ap (λ t. record { items = t; rest = drop end source }) (sym (last-item source nodes node)) in
     let counts = step-counts rules defined source nodes (nodes ++ node ∷ []) at end within is.further step in
@@ -138,7 +138,7 @@ unfolding atom_at markup_atom
 none-in-bracket rules source at stands = ap (λ b. characters_of (run_in (atom_at rules (reverse (take at source)) b (drop (at + 1) source)).atom)) stands.byte
 
 pub closed-pays : {E : Type 0} (r : Result ℕ E) (rules : Rules) (defined : Defined) (source : List ℕ) (nodes more : List Node) (at looks later : ℕ) → Stands source at 93 → Pays rules defined source nodes at looks
-    → IfOk r (λ end. at < end) → IfOk r (λ end. Keeps looks (items_of source nodes) later (items_of source more)) → IfOk r (λ end. closed_at defined source nodes at ≡ record { items = reverse (items_of source more); rest = drop end source })
+    → IfOk r (λ end. at < end) → IfOk r (λ end. Keeps looks (items_of source nodes) later (items_of source more)) → IfOk r (λ end. closed_at rules defined source nodes at ≡ record { items = reverse (items_of source more); rest = drop end source })
     → IfOk r (λ end. Pays rules defined source more end later)
 closed-pays (Err e) rules defined source nodes more at looks later stands p further keeps closed = tt
 closed-pays (Ok end) rules defined source nodes more at looks later stands p further keeps closed =

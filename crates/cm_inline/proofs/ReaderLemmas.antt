@@ -550,10 +550,10 @@ makes source nodes paired more b dest title kind target first depth holds links_
     }
 
 -- what a `]` closes, once it is known what follows it
-pub closes : (defined : Defined) (source : List ℕ) (nodes : List Node) (others : List Bracket) (b : Bracket) (links_end at : ℕ) (ends : Ends) (found : Option LinkEnd) → IsRead source at nodes (others ++ b ∷ []) links_end ends
-    → Stands source at 93 → ends_of source found ≡ end_for defined source b links_end at → closed_at defined source nodes at ≡ closed_or source nodes b (drop (at + 1) source) (ends_of source found)
-closes defined source nodes others b links_end at ends found r stands is =
-    closes-opener defined source nodes others b links_end at (split-last 0 nodes others b r.unclosed) r.links (before-split at others (b ∷ []) r.before).1.0 stands.within
+pub closes : (rules : Rules) (defined : Defined) (source : List ℕ) (nodes : List Node) (others : List Bracket) (b : Bracket) (links_end at : ℕ) (ends : Ends) (found : Option LinkEnd) → IsRead source at nodes (others ++ b ∷ []) links_end ends
+    → Stands source at 93 → ends_of source found ≡ end_for rules defined source b links_end at → closed_at rules defined source nodes at ≡ closed_or source nodes b (drop (at + 1) source) (ends_of source found)
+closes rules defined source nodes others b links_end at ends found r stands is =
+    closes-opener rules defined source nodes others b links_end at (split-last 0 nodes others b r.unclosed) r.links (before-split at others (b ∷ []) r.before).1.0 stands.within
     ∙ ap (closed_or source nodes b (drop (at + 1) source)) (sym is)
 
 -- no bracket is there, and none is left

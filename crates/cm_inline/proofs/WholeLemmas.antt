@@ -60,13 +60,13 @@ ahead-step rules defined source nodes more at end within further gives =
     )
 
 -- an atom that puts one item
-pub adds-item : (defined : Defined) (items : List pairing.Item) (a : Atom) (rest : List ℕ) (i : pairing.Item) → item_for a rest ≡ Some i → add_atom defined items a rest ≡ with_item items i rest
+pub adds-item : (rules : Rules) (defined : Defined) (items : List pairing.Item) (a : Atom) (rest : List ℕ) (i : pairing.Item) → item_for a rest ≡ Some i → add_atom rules defined items a rest ≡ with_item items i rest
 unfolding add_atom
-adds-item defined items (Plain text) rest i e = ap (λ i. with_item items i rest) (cc e)
-adds-item defined items (Whole inline) rest i e = ap (λ i. with_item items i rest) (cc e)
-adds-item defined items (Delimiter run) rest i e = ap (λ i. with_item items i rest) (cc e)
-adds-item defined items (OpenBracket image) rest i e = ap (λ i. with_item items i rest) (cc e)
-adds-item defined items CloseBracket rest i e = absurd (cc e)
+adds-item rules defined items (Plain text) rest i e = ap (λ i. with_item items i rest) (cc e)
+adds-item rules defined items (Whole inline) rest i e = ap (λ i. with_item items i rest) (cc e)
+adds-item rules defined items (Delimiter run) rest i e = ap (λ i. with_item items i rest) (cc e)
+adds-item rules defined items (OpenBracket image) rest i e = ap (λ i. with_item items i rest) (cc e)
+adds-item rules defined items CloseBracket rest i e = absurd (cc e)
 
 pub ahead-atom : (rules : Rules) (defined : Defined) (source : List ℕ) (nodes : List Node) (at : ℕ) (node : Node) (end : ℕ) → at < length source → IsAtom rules source at node end
     → ahead rules defined source (nodes ++ node ∷ []) end ≡ ahead rules defined source nodes at
@@ -75,25 +75,25 @@ ahead-atom rules defined source nodes at node end within is =
     let items = reverse (items_of source nodes) in
     let a = atom_in rules source at in
     ahead-step rules defined source nodes (nodes ++ node ∷ []) at end within is.further (
-    adds-item defined items a.atom a.rest (item_of source node) is.item
+    adds-item rules defined items a.atom a.rest (item_of source node) is.item
     ∙ ap (λ t. with_item items (item_of source node) t) is.rest
     ∙ ap (λ t. record { items = t; rest = drop end source }) (sym (last-item source nodes node))
     )
 
-pub bracket-at : (rules : Rules) (defined : Defined) (source : List ℕ) (nodes : List Node) (at : ℕ) → Stands source at 93 → step_at rules defined source at (reverse (items_of source nodes)) ≡ closed_at defined source nodes at
+pub bracket-at : (rules : Rules) (defined : Defined) (source : List ℕ) (nodes : List Node) (at : ℕ) → Stands source at 93 → step_at rules defined source at (reverse (items_of source nodes)) ≡ closed_at rules defined source nodes at
 bracket-at rules defined source nodes at stands =
     ap (λ b. item_step rules defined (reverse (take at source)) b (drop (at + 1) source) (reverse (items_of source nodes))) stands.byte
     ∙ bracket_step rules defined (reverse (take at source)) (drop (at + 1) source) (reverse (items_of source nodes))
 
 ahead-bracket : (rules : Rules) (defined : Defined) (source : List ℕ) (nodes more : List Node) (at end : ℕ) → Stands source at 93 → at < end
-    → closed_at defined source nodes at ≡ record { items = reverse (items_of source more); rest = drop end source }
+    → closed_at rules defined source nodes at ≡ record { items = reverse (items_of source more); rest = drop end source }
     → ahead rules defined source more end ≡ ahead rules defined source nodes at
 ahead-bracket rules defined source nodes more at end stands further closed =
     ahead-step rules defined source nodes more at end stands.within further (bracket-at rules defined source nodes at stands ∙ closed)
 
 -- where the call did its work
 pub ahead-closed : {E : Type 0} (r : Result ℕ E) (rules : Rules) (defined : Defined) (source : List ℕ) (nodes more : List Node) (at : ℕ) (whole : List pairing.Item) → Stands source at 93 → ahead rules defined source nodes at ≡ whole
-    → IfOk r (λ end. at < end) → IfOk r (λ end. closed_at defined source nodes at ≡ record { items = reverse (items_of source more); rest = drop end source }) → IfOk r (λ end. ahead rules defined source more end ≡ whole)
+    → IfOk r (λ end. at < end) → IfOk r (λ end. closed_at rules defined source nodes at ≡ record { items = reverse (items_of source more); rest = drop end source }) → IfOk r (λ end. ahead rules defined source more end ≡ whole)
 ahead-closed (Ok end) rules defined source nodes more at whole stands same further closed = ahead-bracket rules defined source nodes more at end stands further closed ∙ same
 ahead-closed (Err e) rules defined source nodes more at whole stands same further closed = tt
 
@@ -163,7 +163,7 @@ unfolding inlines_of
 inlines-are rules defined source items same = sym (texts_in_pieces items) ∙ ap emphasis_of same ∙ texts_in_pieces (inlines.items_of rules defined source)
 
 -- What a `]` makes is never less deep once reading went on.
-pub closed-deeper : (rules : Rules) (defined : Defined) (source : List ℕ) (nodes : List Node) (at limit : ℕ) → Stands source at 93 → limit < items_depth (closed_at defined source nodes at).items
+pub closed-deeper : (rules : Rules) (defined : Defined) (source : List ℕ) (nodes : List Node) (at limit : ℕ) → Stands source at 93 → limit < items_depth (closed_at rules defined source nodes at).items
     → limit < inlines_depth (emphasis_of (ahead rules defined source nodes at))
 unfolding items_after
 closed-deeper rules defined source nodes at limit stands deep =
@@ -175,7 +175,7 @@ closed-deeper rules defined source nodes at limit stands deep =
     let later = items_from rules defined source at items in
     let first : later ≡ items_after rules defined (length bs - length next.rest) (b ∷ before) bs next.items = ap (λ t. items_after rules defined zero before t items) (drop_more source at 0 stands.within) in
     let kept : items_depth next.items ≤ items_depth later = subst (λ t. items_depth next.items ≤ items_depth t) (sym first) (after-deeper rules defined (length bs - length next.rest) (b ∷ before) bs next.items) in
-    let same : items_depth next.items ≡ items_depth (closed_at defined source nodes at).items = ap (λ (s : Bracketed). items_depth s.items) (bracket-at rules defined source nodes at stands) in
+    let same : items_depth next.items ≡ items_depth (closed_at rules defined source nodes at).items = ap (λ (s : Bracketed). items_depth s.items) (bracket-at rules defined source nodes at stands) in
     let whole : inlines_depth (emphasis_of (ahead rules defined source nodes at)) ≡ inlines_depth (emphasis_of (reverse later)) = ap inlines_depth (texts_in_pieces (reverse later)) in
     omega (arith, deep, kept, same, whole, emphasis-deeper (reverse later), reverse-depth later)
 

@@ -9,10 +9,11 @@ use Rattle.std.proofs.lemmas.Option.{same_Some}
 use Rattle.std.proofs.lemmas.Str.{IsCharBoundary-before_ascii, IsCharBoundary-after_ascii}
 use Rattle.std.proofs.Math.Seq.{take-append_seam, drop-append_seam}
 use Rattle.cm_text.specs.Rules.{Rules}
+use Rattle.cm_text.specs.Addresses.{is_followed}
 use Rattle.cm_scan.specs.Words.{begins_with, run_length, after_run, after_word, front_of, skip}
 use Rattle.cm_scan.specs.Links.{Reading, behind}
 use Rattle.cm_scan.specs.Angles.{before}
-use Rattle.cm_scan.specs.Autolinks.{Autolink, is_inside, ended, in_angles, is_absolute, is_address, as_autolink, autolink}
+use Rattle.cm_scan.specs.Autolinks.{Autolink, is_inside, ended, in_angles, is_absolute, is_address, as_autolink, autolink, link_if_followed, followed_autolink}
 use Rattle.cm_scan.specs.Scanned.{whole_of}
 use Rattle.cm_scan.specs.CodeSpans.{up_to_run, as_written, spanned_as_written}
 use Rattle.cm_scan.proofs.ReadFurther.{none-some}
@@ -151,18 +152,31 @@ linked text link e = go (in_angles text) refl (sym e)
     go None is h = none-some h
     go (Some r) is h = angled text r is ∙ ap (λ t. 60 ∷ t) (as-read r link h)
 
+-- what is followed is one
+is-linked : (rules : Rules) (text : List ℕ) (link : Autolink) → Some link ≡ followed_autolink rules text → Some link ≡ autolink text
+unfolding followed_autolink
+is-linked rules text link e = go (autolink text) (sym e)
+  where
+    go : (o : Option Autolink) → link_if_followed rules o ≡ Some link → Some link ≡ o
+    go None h = none-some h
+    go (Some found) h = by (is_followed rules found.destination) h
+      where
+        by : (t : Bool) → elim t as (λ _. Option Autolink) [ true ↦ Some found | false ↦ None ] ≡ Some link → Some link ≡ Some found
+        by true h = sym h
+        by false h = none-some h
+
 -- an autolink has two bytes or more
-pub link-further : (source : List ℕ) (at end : ℕ) (link : Autolink) → at < length source → end ≤ length source → Some link ≡ autolink (drop at source) → link.rest ≡ drop end source → end ≡ at + 1 + length link.text + 1
-link-further source at end link within high e left =
-    let behind-it : drop (at + 1) source ≡ link.text ++ 62 ∷ link.rest = ap (drop 1) (sym (drop_more source at 0 within) ∙ linked (drop at source) link e) in
+pub link-further : (rules : Rules) (source : List ℕ) (at end : ℕ) (link : Autolink) → at < length source → end ≤ length source → Some link ≡ followed_autolink rules (drop at source) → link.rest ≡ drop end source → end ≡ at + 1 + length link.text + 1
+link-further rules source at end link within high e left =
+    let behind-it : drop (at + 1) source ≡ link.text ++ 62 ∷ link.rest = ap (drop 1) (sym (drop_more source at 0 within) ∙ linked (drop at source) link (is-linked rules (drop at source) link e)) in
     omega (arith, within, high, ap length behind-it, length-drop (at + 1) source, length-append link.text (62 ∷ link.rest), ap length left, length-drop end source)
 
-pub link-placed : (source : List ℕ) (at end : ℕ) (link : Autolink) → IsUtf8 source → at < length source → end ≤ length source → Some link ≡ autolink (drop at source) → link.rest ≡ drop end source
+pub link-placed : (rules : Rules) (source : List ℕ) (at end : ℕ) (link : Autolink) → IsUtf8 source → at < length source → end ≤ length source → Some link ≡ followed_autolink rules (drop at source) → link.rest ≡ drop end source
     → (slice_range source (at + 1) (end - 1) ≡ link.text) × IsBetween source (at + 1) (end - 1)
-link-placed source at end link utf8 within high e left = (is, (omega (arith, place), IsCharBoundary-after_ascii source at utf8 within (omega (arith, low)), last))
+link-placed rules source at end link utf8 within high e left = (is, (omega (arith, place), IsCharBoundary-after_ascii source at utf8 within (omega (arith, low)), last))
   where
     whole : drop at source ≡ 60 ∷ (link.text ++ 62 ∷ link.rest)
-    whole = linked (drop at source) link e
+    whole = linked (drop at source) link (is-linked rules (drop at source) link e)
 
     first : drop at source ≡ get_or source at 0 ∷ drop (at + 1) source
     first = drop_more source at 0 within
@@ -178,7 +192,7 @@ link-placed source at end link utf8 within high e left = (is, (omega (arith, pla
     behind-it = ap (drop 1) (sym first ∙ whole)
 
     place : end ≡ at + 1 + length link.text + 1
-    place = link-further source at end link within high e left
+    place = link-further rules source at end link within high e left
 
     size : end - 1 - (at + 1) ≡ length link.text
     size = omega (arith, place)

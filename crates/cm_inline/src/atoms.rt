@@ -19,7 +19,7 @@ use crate::flanking::run_between;
 use crate::runs::Marker;
 use crate::tokens::Token;
 use crate::written::Written;
-use cm_scan::{after_run, autolink, code_span, is_next, raw_html_by, trim_end_spaces};
+use cm_scan::{after_run, autolink_by, code_span, is_next, raw_html_by, trim_end_spaces};
 use cm_text::{Rules, is_ascii_punct, next_markup, reference_at};
 use std::alloc::{AllocError, Global};
 
@@ -177,7 +177,7 @@ fn angle(rules: Rules, source: &str, at: usize, ends: &mut Ends) -> (Token, usiz
     ensures atom { IsAtom rules source.now at (node_of [] result.0) result.1 }
     ensures knows { Knows source.now ends.new }
 {
-    if let Some((link, end)) = autolink(source, at) {
+    if let Some((link, end)) = autolink_by(rules, source, at) {
         let link = Written::Autolink {
             from: (at + 1) as u32,
             to: (end - 1) as u32,
@@ -197,7 +197,7 @@ fn angle(rules: Rules, source: &str, at: usize, ends: &mut Ends) -> (Token, usiz
     }
 }
 
-/// The raw HTML at a place. An end that is known to be missing isn't looked for.
+/// The raw HTML at a place, if the rules have any. An end that is known to be missing isn't looked for.
 fn raw_html<'a>(
     rules: Rules,
     source: &'a str,
@@ -211,6 +211,9 @@ fn raw_html<'a>(
     ensures boundary { IfSome result (λ read. IsCharBoundary source.now read.1) }
     ensures knows { Knows source.now ends.new }
 {
+    if !rules.raw_html() {
+        return None;
+    }
     let Some(form) = form_at(rules, source, at) else {
         return raw_html_by(rules, source, at);
     };

@@ -4,7 +4,6 @@ ghost use Rattle.std.specs.Str.{IsCharBoundary};
 ghost use Rattle.cm_scan.specs.Brackets.{defined_in};
 ghost use Rattle.cm_scan.specs.Pairing.{bracket_text};
 ghost use Rattle.cm_inline.specs.declared.fault.InlineFault.TheVariants.{InlinesTooDeep};
-ghost use Rattle.cm_tree.specs.LinkTargets.{led_to};
 ghost use Rattle.cm_tree.specs.declared.tree.Inline.{Inline};
 ghost use Rattle.cm_inline.specs.steps.Groups.{made_of, target_of, node_of, nodes_in, IsNoGroup};
 ghost use Rattle.cm_inline.specs.steps.Nodes.{items_of, IsOpener};
@@ -17,13 +16,13 @@ ghost use Rattle.cm_inline.specs.steps.Brackets.{IsReadTo, IsReadWith, bracket_i
 use crate::ends::Ends;
 use crate::fault::InlineFault;
 use crate::groups::{Kind, Making};
-use crate::links::{FoundTarget, LinkEnd, link_end};
+use crate::links::{LinkEnd, link_end, target_to};
 use crate::nodes::Nodes;
 use crate::openers::Openers;
 use crate::pairing::pair_from;
 use crate::tokens::Token;
-use cm_text::NoMemory;
-use cm_tree::{Definitions, LinkTarget};
+use cm_text::{NoMemory, Rules};
+use cm_tree::Definitions;
 use std::alloc::{AllocError, Global};
 
 /// A `[` or `![` that nothing was made of yet: the number of its node, and the place behind it.
@@ -98,6 +97,7 @@ impl Reader {
     pub(crate) fn close(
         &mut self,
         alloc: Global,
+        rules: Rules,
         source: &str,
         definitions: &Definitions,
         limit: usize,
@@ -109,8 +109,8 @@ impl Reader {
         ensures read { IfOk result (λ end. IsReadTo source.now end self.new) }
         ensures further { IfOk result (λ end. at < end) }
         ensures keeps { IfOk result (λ end. Keeps self.old.openers.list.looks (items_of source.now (nodes_in self.old.nodes)) self.new.openers.list.looks (items_of source.now (nodes_in self.new.nodes))) }
-        ensures closed { IfOk result (λ end. closed_at (defined_in definitions.now) source.now (nodes_in self.old.nodes) at ≡ record { items = reverse (items_of source.now (nodes_in self.new.nodes)); rest = drop end source.now }) }
-        ensures deep { result ≡ Err InlinesTooDeep → limit < items_depth (closed_at (defined_in definitions.now) source.now (nodes_in self.old.nodes) at).items }
+        ensures closed { IfOk result (λ end. closed_at rules (defined_in definitions.now) source.now (nodes_in self.old.nodes) at ≡ record { items = reverse (items_of source.now (nodes_in self.new.nodes)); rest = drop end source.now }) }
+        ensures deep { result ≡ Err InlinesTooDeep → limit < items_depth (closed_at rules (defined_in definitions.now) source.now (nodes_in self.old.nodes) at).items }
     {
         let Some(bracket) = self.brackets.pop() else {
             self.nodes.push(Token::Piece {
@@ -119,7 +119,7 @@ impl Reader {
             })?;
             return Ok(at + 1);
         };
-        match self.end_behind(alloc, source, definitions, bracket, at)? {
+        match self.end_behind(alloc, rules, source, definitions, bracket, at)? {
             Some(link) => {
                 let end = link.end;
                 self.make_link(alloc, source, limit, bracket, &link)?;
@@ -150,6 +150,7 @@ impl Reader {
     fn end_behind<'a>(
         &self,
         alloc: Global,
+        rules: Rules,
         source: &'a str,
         definitions: &'a Definitions,
         bracket: Bracket,
@@ -158,13 +159,13 @@ impl Reader {
         requires opener { IsOpener source.now bracket.image bracket.behind }
         requires order { bracket.behind ≤ at }
         requires stands { Stands source.now at 93 }
-        ensures ends { IfOk result (λ found. ends_of source.now found ≡ end_for (defined_in definitions.now) source.now bracket self.now.links_end at) }
+        ensures ends { IfOk result (λ found. ends_of source.now found ≡ end_for rules (defined_in definitions.now) source.now bracket self.now.links_end at) }
         ensures place { IfOk result (λ found. IfSome found (λ e. (at < e.end) × (e.end ≤ length source.now) × IsCharBoundary source.now e.end)) }
     {
         if !bracket.image && self.has_link_behind(bracket) {
             return Ok(None);
         }
-        link_end(alloc, source, definitions, bracket.behind, at)
+        link_end(alloc, rules, source, definitions, bracket.behind, at)
     }
 
     /// Makes the link or the image of a bracket and all that stands behind it.
@@ -235,15 +236,5 @@ fn making_of<'a>(image: bool, end: &'a LinkEnd<'_>) -> Making<'a>
     Making {
         kind: if image { Kind::Image } else { Kind::Link },
         target: target_to(&end.target),
-    }
-}
-
-/// Where a group that is made leads.
-fn target_to<'a>(target: &'a FoundTarget<'_>) -> LinkTarget<'a>
-    ensures { led_to result ≡ found_target target.now }
-{
-    match target {
-        FoundTarget::Inline { dest, title } => LinkTarget::Plain { dest, title },
-        FoundTarget::Defined(target) => *target,
     }
 }

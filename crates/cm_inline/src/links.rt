@@ -2,12 +2,14 @@
 ghost use Rattle.std.specs.Prelude.{◌≡◌, ◌+◌, ◌-◌, ◌<◌, ◌≤◌, ℕ, List, length, drop, slice_index, IfOk, IfSome};
 ghost use Rattle.std.specs.List.{slice_range};
 ghost use Rattle.std.specs.Str.{IsCharBoundary};
-ghost use Rattle.cm_scan.specs.Brackets.{closed, after_destination, inline_end, Defined, defined_in, target_of, target_between, reference_end, end_at};
+ghost use Rattle.cm_scan.specs.Brackets.{closed, after_destination, inline_end, Defined, defined_in, target_of, target_between, reference_end, end_if_followed, end_at};
+ghost use Rattle.cm_text.specs.Addresses.{is_followed};
+ghost use Rattle.cm_tree.specs.LinkTargets.{led_to};
 ghost use Rattle.cm_inline.specs.steps.Reads.{Stands};
-ghost use Rattle.cm_inline.specs.steps.Links.{ends_of, leads_to, target_by, behind_brackets};
+ghost use Rattle.cm_inline.specs.steps.Links.{ends_of, found_target, leads_to, target_by, behind_brackets};
 
 use cm_scan::{after_gap, destination, is_blank_next, is_next, label, title};
-use cm_text::{NoMemory, unescape_or_lend};
+use cm_text::{NoMemory, Rules, is_followed, unescape_or_lend};
 use cm_tree::{Definitions, LinkTarget};
 use std::alloc::Global;
 use std::borrow::CowStr;
@@ -29,10 +31,21 @@ pub(crate) struct LinkEnd<'a> {
     pub(crate) end: usize,
 }
 
+/// Where a link or an image leads, lent.
+pub(crate) fn target_to<'a>(target: &'a FoundTarget<'_>) -> LinkTarget<'a>
+    ensures { led_to result ≡ found_target target.now }
+{
+    match target {
+        FoundTarget::Inline { dest, title } => LinkTarget::Plain { dest, title },
+        FoundTarget::Defined(target) => *target,
+    }
+}
+
 /// What follows the `]` at a place, whose opener ends at `behind`: where a link or an image leads. An inline link's end
-/// goes before a reference (6.3 Links).
+/// goes before a reference (6.3 Links). Neither is one where the rules don't follow its address.
 pub(crate) fn link_end<'a>(
     alloc: Global,
+    rules: Rules,
     source: &'a str,
     definitions: &'a Definitions,
     behind: usize,
@@ -42,13 +55,36 @@ pub(crate) fn link_end<'a>(
     requires order { behind ≤ at }
     requires stands { Stands source.now at 93 }
     ensures ends { IfOk result (λ found. ends_of source.now found
-        ≡ end_at (defined_in definitions.now) (slice_range source.now behind at) (drop (at + 1) source.now)) }
+        ≡ end_at rules (defined_in definitions.now) (slice_range source.now behind at) (drop (at + 1) source.now)) }
     ensures place { IfOk result (λ found. IfSome found (λ e. (at < e.end) × (e.end ≤ length source.now) × IsCharBoundary source.now e.end)) }
 {
-    if let Some(inline) = inline_end(alloc, source, at + 1)? {
-        return Ok(Some(inline));
+    let inline = if_followed(rules, inline_end(alloc, source, at + 1)?);
+    if inline.is_some() {
+        return Ok(inline);
     }
-    reference_end(alloc, source, definitions, behind, at)
+    let reference = reference_end(alloc, source, definitions, behind, at)?;
+    Ok(if_followed(rules, reference))
+}
+
+/// An end that was found, if the rules follow the address to which it leads.
+#[inline(always)]
+fn if_followed<'a>(rules: Rules, found: Option<LinkEnd<'a>>) -> Option<LinkEnd<'a>>
+    ensures ends { (source : List ℕ) → ends_of source result ≡ end_if_followed rules (ends_of source found.entry) }
+    ensures boundary { (source : List ℕ) → IfSome found.entry (λ e. IsCharBoundary source e.end) → IfSome result (λ e. IsCharBoundary source e.end) }
+{
+    let end = found?;
+    if !leads_on(rules, &end.target) {
+        return None;
+    }
+    Some(end)
+}
+
+/// Whether the rules follow the address to which a link or an image leads.
+#[inline(always)]
+fn leads_on(rules: Rules, target: &FoundTarget<'_>) -> bool
+    ensures { result ≡ is_followed rules (found_target target.now).0 }
+{
+    rules.any_address() || is_followed(rules, target_to(target).dest())
 }
 
 /// The end of an inline link: `(`, a destination and a title or not, and `)`, with gaps between.

@@ -85,7 +85,7 @@ fn read_on(
         return Ok(end);
     }
     if source.as_bytes()[end] == b']' {
-        return reader.close(alloc, source, definitions, limit, end);
+        return reader.close(alloc, rules, source, definitions, limit, end);
     }
     Ok(read_atom(alloc, rules, source, end, reader)?)
 }

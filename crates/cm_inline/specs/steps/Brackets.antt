@@ -70,14 +70,14 @@ pub record Puts (rules : Rules) (source : List ℕ) (at end : ℕ) (old new : Re
   pub knows : Knows source new.ends
 
 -- what a `]` at a place makes of the nodes, and what it leaves of the source
-abbrev pub closed_at : Defined → List ℕ → List Node → ℕ → Bracketed
-closed_at defined source nodes at = close_bracket defined (reverse (items_of source nodes)) (drop (at + 1) source)
+abbrev pub closed_at : Rules → Defined → List ℕ → List Node → ℕ → Bracketed
+closed_at rules defined source nodes at = close_bracket rules defined (reverse (items_of source nodes)) (drop (at + 1) source)
 
 -- what follows the `]` at a place that makes a link or an image of the bracket
-abbrev pub end_for : Defined → List ℕ → Bracket → (links_end at : ℕ) → Option LinkEnd
-end_for defined source bracket links_end at = elim (not bracket.image && nat_lt bracket.node links_end) [
+abbrev pub end_for : Rules → Defined → List ℕ → Bracket → (links_end at : ℕ) → Option LinkEnd
+end_for rules defined source bracket links_end at = elim (not bracket.image && nat_lt bracket.node links_end) [
   | true ↦ None
-  | false ↦ end_at defined (slice_range source bracket.behind at) (drop (at + 1) source)
+  | false ↦ end_at rules defined (slice_range source bracket.behind at) (drop (at + 1) source)
 ]
 
 -- the items before a bracket, and those behind it

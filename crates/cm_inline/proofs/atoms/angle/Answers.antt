@@ -15,7 +15,7 @@ returns-in-Some-clause-atom c =
     let at = c.args.at in
     let end = c.in-Some.end in
     let link = autolink_with c.in-Some.link.is_address c.in-Some.link.text.now (drop end source) in
-    let placed = link-placed source at end link c.utf8.source c.requires.stands.within c.in-Some.ensures.boundary.0 c.in-Some.ensures.read refl in
+    let placed = link-placed c.args.rules source at end link c.utf8.source c.requires.stands.within c.in-Some.ensures.boundary.0 c.in-Some.ensures.read refl in
     whole-is c.args.rules source at (Autolink c.in-Some.link.is_address (at + 1) (end - 1)) 1 end placed.1
     (subst (λ text. IsAtom c.args.rules source at (finished (link_of (autolink_with c.in-Some.link.is_address text [])) 1) end) (sym placed.0)
     (link-is c.args.rules source at link end c.requires.stands c.in-Some.ensures.read refl c.in-Some.ensures.boundary))
@@ -24,7 +24,7 @@ pub overflow_sub-link : goal.overflow_sub-link
 overflow_sub-link c =
     let source = c.args.source.now in
     let link = autolink_with c.in-Some.link.is_address c.in-Some.link.text.now (drop c.in-Some.end source) in
-    omega (arith, link-further source c.args.at c.in-Some.end link c.requires.stands.within c.in-Some.ensures.boundary.0 c.in-Some.ensures.read refl)
+    omega (arith, link-further c.args.rules source c.args.at c.in-Some.end link c.requires.stands.within c.in-Some.ensures.boundary.0 c.in-Some.ensures.read refl)
 
 pub returns-in-Some-raw_html-clause-atom : goal.returns-in-Some-raw_html-clause-atom
 returns-in-Some-raw_html-clause-atom c =

@@ -1,7 +1,13 @@
-use Rattle.std.proofs.Common.{sym, ap, drop}
+use Rattle.std.proofs.Common.{◌≡◌, ◌∙◌, false, sym, ap, drop}
 use Rattle.cm_scan.specs.Scanned.{whole_of}
+use Rattle.cm_scan.proofs.RawHtmlLemmas.{raw-off}
 use Rattle.cm_inline.proofs.EndsLemmas.{no-raw-html}
 use Rattle.cm_inline.proofs.atoms.raw_html.Goals as goal
+
+pub returns-then-not-raw_html-clause-read : goal.returns-then-not-raw_html-clause-read
+returns-then-not-raw_html-clause-read c =
+    let off : c.args.rules.raw_html ≡ false = sym c.raw_html.ensures ∙ c.if-not-raw_html.true in
+    sym (ap (whole_of (drop c.args.at c.args.source.now)) (raw-off c.args.rules (drop c.args.at c.args.source.now) off))
 
 pub returns-then-is_missing-clause-read : goal.returns-then-is_missing-clause-read
 returns-then-is_missing-clause-read c =

@@ -46,7 +46,7 @@ returns-in_default-clause-closed c =
     let nodes = nodes_in c.args.self.now.nodes in
     let at = c.args.at in
     let stands = c.requires.stands in
-    closes-nothing (defined_in c.args.definitions.now) source nodes at (c.requires.read.0.unclosed ∙ (none-are c).0)
+    closes-nothing c.args.rules (defined_in c.args.definitions.now) source nodes at (c.requires.read.0.unclosed ∙ (none-are c).0)
     ∙ ap (λ t. record { items = Characters t ∷ reverse (items_of source nodes); rest = drop (at + 1) source }) (sym (one-slice source at stands.within ∙ ap (λ b. b ∷ []) stands.byte))
     ∙ ap (λ t. record { items = t; rest = drop (at + 1) source }) (sym (ap (λ t. reverse (items_of source t)) c.in_ok-push.ensures.nodes ∙ last-item source nodes (Piece at (at + 1))))
 
@@ -89,7 +89,7 @@ returns-in_err-make_link-in-Some-2-clause-deep c = λ e.
     let r = subst (λ t. IsRead source c.args.at nodes t now.links_end now.ends) c.in-Some.ensures.items c.requires.read.0 in
     let told = same-fault c.from_residual-in_err-make_link-in-Some-2.result c.in_err-make_link-in-Some-2.field-0.0 InlinesTooDeep c.from_residual-in_err-make_link-in-Some-2.ensures.1 e in
     let deep = c.in_err-make_link-in-Some-2.ensures.deep (ap Err told) in
-    let same = closes (defined_in c.args.definitions.now) source nodes c.pop.new.self.items c.in-Some.bracket now.links_end c.args.at now.ends c.in_ok-link.field-0 r c.requires.stands c.in_ok-link.ensures.ends
+    let same = closes c.args.rules (defined_in c.args.definitions.now) source nodes c.pop.new.self.items c.in-Some.bracket now.links_end c.args.at now.ends c.in_ok-link.field-0 r c.requires.stands c.in_ok-link.ensures.ends
     ∙ ap (λ o. closed_or source nodes c.in-Some.bracket (drop (c.args.at + 1) source) (ends_of source o)) c.in-Some-2.is in
     let turned = reverse-depth (link_made source nodes c.in-Some.bracket (found_target c.in-Some-2.link.target).0 (found_target c.in-Some-2.link.target).1) in
     omega (arith, deep, turned, ap (λ (t : Bracketed). items_depth t.items) same)
@@ -100,7 +100,7 @@ returns-in_ok-make_link-in-Some-2-clause-closed c =
     let now = c.args.self.now in
     let nodes = nodes_in now.nodes in
     let r = subst (λ t. IsRead source c.args.at nodes t now.links_end now.ends) c.in-Some.ensures.items c.requires.read.0 in
-    closes (defined_in c.args.definitions.now) source nodes c.pop.new.self.items c.in-Some.bracket now.links_end c.args.at now.ends c.in_ok-link.field-0 r c.requires.stands c.in_ok-link.ensures.ends
+    closes c.args.rules (defined_in c.args.definitions.now) source nodes c.pop.new.self.items c.in-Some.bracket now.links_end c.args.at now.ends c.in_ok-link.field-0 r c.requires.stands c.in_ok-link.ensures.ends
     ∙ ap (λ o. closed_or source nodes c.in-Some.bracket (drop (c.args.at + 1) source) (ends_of source o)) c.in-Some-2.is
     ∙ ap (λ t. record { items = reverse t; rest = drop c.in-Some-2.link.end source }) (sym c.in_ok-make_link-in-Some-2.ensures.items)
 
@@ -110,7 +110,7 @@ returns-in_ok-leave_as_text-in-None-clause-closed c =
     let now = c.args.self.now in
     let nodes = nodes_in now.nodes in
     let r = subst (λ t. IsRead source c.args.at nodes t now.links_end now.ends) c.in-Some.ensures.items c.requires.read.0 in
-    closes (defined_in c.args.definitions.now) source nodes c.pop.new.self.items c.in-Some.bracket now.links_end c.args.at now.ends c.in_ok-link.field-0 r c.requires.stands c.in_ok-link.ensures.ends
+    closes c.args.rules (defined_in c.args.definitions.now) source nodes c.pop.new.self.items c.in-Some.bracket now.links_end c.args.at now.ends c.in_ok-link.field-0 r c.requires.stands c.in_ok-link.ensures.ends
     ∙ ap (λ o. closed_or source nodes c.in-Some.bracket (drop (c.args.at + 1) source) (ends_of source o)) c.in-None.is
     ∙ ap (λ t. record { items = reverse t; rest = drop (c.args.at + 1) source }) (sym c.in_ok-leave_as_text-in-None.ensures.items)
 
