@@ -1,8 +1,8 @@
 #!/usr/bin/env python3
 """What is spelled reads back: tried with a built cmk.
 
-  tools/read_back.py PROGRAM [--trees N] [--seed N] [--strike] [--older]    of random trees
-  tools/read_back.py PROGRAM --examples FILE [--strike] [--older]           of the sources of a file of examples
+  tools/read_back.py PROGRAM [--trees N] [--seed N] [--strike] [--older] [--safe]    of random trees
+  tools/read_back.py PROGRAM --examples FILE [--strike] [--older] [--safe]           of the sources of a file of examples
 
 Each random tree that can be spelled is spelled by this program's own account of the plain form, apart from that of
 cm_source. Then `PROGRAM tree` has to list just that tree, and `PROGRAM rewrite` to write just that source. Each source
@@ -20,7 +20,7 @@ PUNCTUATION = "!\"#$%&'()*+,-./:;<=>?@[\\]^_`{|}~"
 CHARACTERS = PUNCTUATION * 2 + "abcxyz019" * 6 + " " * 30 + "\t\n\x01\x7f" + "\u00a0\u2003\u3000é日本“…€\u0301😀\ufffd"
 TAGS = ["<b>", "</b>", "<a href=\"x\">", "<br/>", "<i\tx = 'y' z>", "<!-- c -->", "<?p ?>", "<!X y>", "<![CDATA[a]]>", "<a b='\\'>"]
 HTML = ["<div>\n", "<div\n*a*\n", "<p>\n<b>x\n</p>\n", "<!-- a\n\n  b -->\n", "<pre>\n\n*x*\n</pre>\n", "<?a\n\n?>\n", "<!A\n>\n", "<![CDATA[\n\n]]>\n", "<b>\nx\n", "</b>\n", "<script>\n</script> x\n"]
-DESTINATIONS = ["", "/u", "a b", "<x>", "(", "\\*", "&amp;", "é", "a\nb", "\"", "`"]
+DESTINATIONS = ["", "/u", "a b", "<x>", "(", "\\*", "&amp;", "é", "a\nb", "\"", "`", "javascript:a", "HTTP:a", "/a:b", " http:a", "a\n:b"]
 TITLES = ["", "", "t", "a \"b\"", "\\", "&copy;", "x\n\ny", "日", "`"]
 INFOS = ["", "", "a", "a b", "`", " x ", "~~~", "&lt;", "a\nb", "\\", "é"]
 CODES = ["a", "`", "``", " a ", " ", "  ", "a`b", "]: /u", "*a*", "<b>", "\\", " `a", "&amp;", "[", "`a", "é"]
@@ -123,8 +123,10 @@ def inline_is_fine(i, before, after, heading, opens, in_link, rules):
         return i[1] != "" and behind != "text"
     if kind == "code":
         return i[1] != "" and behind != "code" and not (in_link and "]:" in i[1])
+    if kind in ("link", "image") and rules.safe and not is_followed(i[1]):
+        return False
     if kind == "html":
-        return not opens and behind not in ("soft", "hard") and not (in_link and "]:" in i[1])
+        return not rules.safe and not opens and behind not in ("soft", "hard") and not (in_link and "]:" in i[1])
     if kind in ("soft", "hard"):
         return not heading and before is not None and after is not None and behind not in ("soft", "hard")
     if kind in ("emph", "strong", "strike"):
@@ -132,6 +134,11 @@ def inline_is_fine(i, before, after, heading, opens, in_link, rules):
     if kind == "link":
         return not holds(("link",), i[3]) and content_is_fine(i[3], heading, False, in_link or opens, rules)
     return content_is_fine(i[3], heading, False, in_link, rules)
+
+
+def is_followed(address):
+    before, colon, _ = address.partition(":")
+    return not colon or any(c in before for c in "/?#") or before.lower() in ("http", "https", "mailto")
 
 
 def edges_are_fine(content, before, after, older):
@@ -146,20 +153,22 @@ def edges_are_fine(content, before, after, older):
     return not (is_plain(left, older) and not is_plain(first, older)) and not (is_plain(right, older) and not is_plain(last, older))
 
 
-def blocks_are_fine(blocks):
-    return all(block_is_fine(b, blocks[n - 1] if n else None) for n, b in enumerate(blocks))
+def blocks_are_fine(blocks, rules):
+    return all(block_is_fine(b, blocks[n - 1] if n else None, rules) for n, b in enumerate(blocks))
 
 
-def block_is_fine(b, before):
+def block_is_fine(b, before, rules):
     if b[0] == "quote":
-        return blocks_are_fine(b[1])
+        return blocks_are_fine(b[1], rules)
+    if rules.safe and (b[0] == "raw" or b[0] == "fenced" and any(c in b[1] for c in "\n\f\r")):
+        return False
     if b[0] != "list":
         return True
     _, mark, _, tight, items = b
     if before and before[0] == "list" and before[1] == mark or any(item and item[0][0] == "list" for item in items):
         return False
     said = all(is_tight(item) for item in items) if tight else len(items) > 1 or any(len(item) > 1 for item in items)
-    return said and all(blocks_are_fine(item) for item in items)
+    return said and all(blocks_are_fine(item, rules) for item in items)
 
 
 def is_tight(item):
@@ -315,7 +324,7 @@ def try_trees(program, rules, asked):
     kinds, done, wrong = {}, 0, 0
     while done < asked.trees:
         blocks = trees.blocks(4)
-        if not blocks or not blocks_are_fine(blocks):
+        if not blocks or not blocks_are_fine(blocks, asked):
             continue
         done += 1
         source = spelled(blocks)
@@ -375,8 +384,9 @@ def main():
     words.add_argument("--examples")
     words.add_argument("--strike", action="store_true")
     words.add_argument("--older", action="store_true")
+    words.add_argument("--safe", action="store_true")
     asked = words.parse_args()
-    rules = ["--strike"] * asked.strike + ["--older"] * asked.older
+    rules = ["--strike"] * asked.strike + ["--older"] * asked.older + ["--safe"] * asked.safe
     wrong = try_examples(asked.program, rules, asked.examples) if asked.examples else try_trees(asked.program, rules, asked)
     sys.exit(1 if wrong else 0)
 

@@ -1,5 +1,5 @@
 -- Worked examples: from the bytes of a text to its HTML.
-use Rattle.std.specs.Prelude.{◌≡◌, [], ◌∷◌, ◌++◌, codes}
+use Rattle.std.specs.Prelude.{◌≡◌, false, [], ◌∷◌, ◌++◌, codes}
 use Rattle.cm_text.specs.Rules.{Rules, profile, older_rules}
 use Rattle.cm_tool.specs.Writing.{converted}
 
@@ -29,6 +29,6 @@ pub record Examples : Type 0 where
   pub source_by_the_older_rules : converted older_rules (codes "a\n<source>\n") ≡ codes "<p>a</p>\n<source>\n"
   pub block_of_a_stranger : converted safe (codes "<script>\n\n*a*\n") ≡ codes "<p>&lt;script&gt;</p>\n<p><em>a</em></p>\n"
   pub tag_of_a_stranger : converted safe (codes "a <b c=\"d\">\n") ≡ codes "<p>a &lt;b c=&quot;d&quot;&gt;</p>\n"
-  pub link_of_a_stranger : converted safe (codes "[a](JavaScript:b) [c](/d:e)\n") ≡ codes "<p>[a](JavaScript:b) <a href=\"/d:e\">c</a></p>\n"
+  pub link_of_a_stranger : converted safe (codes "[](JavaScript:b) [c](/d:e)\n") ≡ codes "<p>[](JavaScript:b) <a href=\"/d:e\">c</a></p>\n"
   pub autolinks_of_a_stranger : converted safe (codes "<data:a> <HTTP:b>\n") ≡ codes "<p>&lt;data:a&gt; <a href=\"HTTP:b\">HTTP:b</a></p>\n"
   pub class_of_a_stranger : converted safe (codes "~~~ a&#10;b\n") ≡ codes "<pre><code class=\"language-a\"></code></pre>\n"
