@@ -34,7 +34,7 @@ ADDRESSES = [
     "javascript://a%0Aalert(1)", "vbscript:a", "livescript:a", "data:text/html,<script>a</script>", "data:text/html;base64,PHNjcmlwdD4=",
     "DATA:a", "file:///a", "blob:a", "feed:javascript:a", "view-source:a", "jar:a", "ftp://a", "tel:1", "x:y", ":a", "a:", "//a.b:80/c",
     "/a:b", "?a:b", "#a:b", "a/b:c", "http://a.b", "HTTPS://a.b", "hTTp:a", "ht\ttp:a", "&#9;http:a", "http&#58;a", "mailto:a@b.c",
-    "MAILTO:a@b.c", "httpsx:a", "http\u017f:a", "\uff4aavascript:a", "jаvascript:a", "", "a", "a(b)c", "a&quot;b", "\"", "a\"onclick=\"b",
+    "MAILTO:a@b.c", "httpsx:a", "http\u017f:a", "\uff4aavascript:a", "j\u0430vascript:a", "", "a", "a(b)c", "a&quot;b", "\"", "a\"onclick=\"b",
 ]  # fmt: skip
 TAGS = [
     "<script>", "</script>", "<ScRiPt >", "<script/src=a>", "<img src=x onerror=alert(1)>", "<svg/onload=alert(1)>", "<iframe src=\"", "<style>",
@@ -44,12 +44,18 @@ TAGS = [
     "&#60;script&#62;", "&#x3c;b>", "&lt", "&amp;lt;", "&quot;", "&#34;", "&", "<", ">", "\"", "'", "/>",
 ]  # fmt: skip
 MARKS = [
-    "\n", "\n", "\n", "\n\n", "\n\n", "# ", "> ", "- ", "* ", "1. ", "7) ", "    ", "\n```", "\n~~~", "\n```\n", "\n~~~\n", "\n===\n", "\n---\n", "***\n",
+    "\n", "\n", "\n", "\n\n", "\n\n", "# ", "> ", "- ", "* ", "1. ", "7) ", "    ", "\n```", "\n~~~", "\n```\n", "\n~~~\n", "\n===\n", "\n---\n",
+    "***\n",
     "`", "``", "*", "**", "_", "__", "~~", "\\", "!", "[", "]", "(", ")", "](", "][", "![", "  \n", "|",
 ]  # fmt: skip
-INFOS = ["a", "a b", "a&#10;b", "a&#13;onclick", "a&#12;b", "a\x0cb", "a\x0bb", "a&#9;b", "&#10;a", "a&nbsp;b", "a\u2028b", "a\"b", "a&quot;b", "<b>", "a&#0;b"]
-LINKS = ["[%t](%a)", "[%t](<%a>)", "[%t](%a \"%t\")", "[%t](%a '%t')", "[%t]( %a )", "![%t](%a)", "![%t](<%a> (%t))", "<%a>", "\n\n[%l]: %a\n",
-         "\n\n[%l]: <%a> '%t'\n", "[%t][%l]", "[%l]", "![%l][]", "[![%t](%a)](%a)", "\n```%i\n%t\n```\n", "\n~~~ %i\n", "<a href=\"%a\">%t</a>", "<%t %t=\"%a\">"]  # fmt: skip
+INFOS = [
+    "a", "a b", "a&#10;b", "a&#13;onclick", "a&#12;b", "a\x0cb", "a\x0bb", "a&#9;b", "&#10;a", "a&nbsp;b", "a\u2028b", "a\"b", "a&quot;b", "<b>", "a&#0;b",
+]  # fmt: skip
+LINKS = [
+    "[%t](%a)", "[%t](<%a>)", "[%t](%a \"%t\")", "[%t](%a '%t')", "[%t]( %a )", "![%t](%a)", "![%t](<%a> (%t))", "<%a>", "\n\n[%l]: %a\n",
+    "\n\n[%l]: <%a> '%t'\n", "[%t][%l]", "[%l]", "![%l][]", "[![%t](%a)](%a)", "\n```%i\n%t\n```\n", "\n~~~ %i\n", "<a href=\"%a\">%t</a>",
+    "<%t %t=\"%a\">",
+]  # fmt: skip
 
 
 class Texts:
