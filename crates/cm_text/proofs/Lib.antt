@@ -22,3 +22,4 @@ pub mod ViewLemmas
 pub mod EndedLines
 pub mod FoldLemmas
 pub mod PlainLabels
+pub mod TextLineLemmas

@@ -18,4 +18,5 @@ pub mod NamedReferences
 pub mod References
 pub mod Unescaping
 pub mod Views
+pub mod TextLines
 pub mod steps
