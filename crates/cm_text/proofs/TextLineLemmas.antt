@@ -1,19 +1,19 @@
 -- Lines of text, one after another.
-use Rattle.std.proofs.Common.{◌≡◌, ◌∙◌, ℕ, zero, suc, ◌+◌, ◌<◌, ◌≤◌, Bool, true, false, ◌==◌, ◌&&◌, List, [], ◌∷◌, ◌++◌, length, map, take, drop, get_or, refl, sym, ap, ap₂, subst, arith, append_assoc, append-nil, length-append, length-drop, take-append-drop, take-add, add-one, IsUtf8, IsCharBoundary, drop-cons, drop-drop, drop_at, length-take-le, get_or-drop, get_or-take}
+use Rattle.std.proofs.Common.{◌≡◌, ◌∙◌, ℕ, zero, suc, ◌+◌, ◌-◌, ◌<◌, ◌≤◌, Bool, true, false, ◌==◌, ◌&&◌, List, [], ◌∷◌, ◌++◌, length, map, take, drop, get_or, refl, sym, ap, ap₂, subst, arith, append_assoc, append-nil, length-append, length-drop, take-append-drop, take-add, add-one, IsUtf8, IsCharBoundary, drop-cons, drop-drop, drop_at, drop_of_length-le, length-take-le, get_or-drop, get_or-take}
 use Rattle.std.specs.List.{list_all, flat_map}
-use Rattle.std.proofs.lemmas.Bool.{and_parts}
+use Rattle.std.proofs.lemmas.Bool.{and_parts, eqb-true}
 use Rattle.std.proofs.lemmas.Grind.{flat_map-append}
-use Rattle.std.proofs.lemmas.List.{length-map}
-use Rattle.std.proofs.lemmas.Str.{IsCharBoundary-after_ascii}
+use Rattle.std.proofs.lemmas.List.{length-map, get_or_at}
+use Rattle.std.proofs.lemmas.Str.{IsCharBoundary-start, IsCharBoundary-after_ascii}
 use Rattle.std.proofs.lemmas.List.Folds.{list_all-append}
 use Rattle.cm_text.specs.LineText.{is_line}
 use Rattle.cm_text.specs.Lines.{LineView, lines_of, plain_line, plain_lines_of, with_line_feed}
 use Rattle.cm_text.specs.Cut.{Cut, cut_more, begun, without}
-use Rattle.cm_text.specs.TextLines.{begins_text, is_text_behind, are_text}
+use Rattle.cm_text.specs.TextLines.{begins_text, is_text_behind, are_text, AreTextLines}
 use Rattle.cm_text.specs.declared.text_lines.TextAhead.{TextAhead}
 use Rattle.cm_text.specs.steps.FirstLine.{IsFirstLine}
 use Rattle.cm_text.specs.steps.TextAhead.{IsAhead}
-use Rattle.cm_text.proofs.CutLemmas.{behind, line_ends}
+use Rattle.cm_text.proofs.CutLemmas.{behind, line_ends, at_byte}
 use Rattle.cm_text.proofs.LinesLemmas.{lines_are_computed, lines_are_lines, lines_with_line_feeds}
 
 -- the lines of a text are lines
@@ -176,3 +176,76 @@ module _ (after_return : Bool) (text : List ℕ) (at : ℕ) (a : TextAhead) (wai
 -- passed one by one
 pub passed_more : (n : ℕ) (cut : Cut) → without 1 (without n cut) ≡ without (n + 1) cut
 passed_more n cut = ap (λ t. record cut { ended = t }) (drop-drop 1 n cut.ended)
+
+-- what stands between the spaces in front and the last line feed
+
+last-feed : (lines : List (List ℕ)) → 0 < length lines → (front : List ℕ) × (flat_map with_line_feed lines ≡ front ++ 10 ∷ [])
+last-feed [] some = absurd (omega (arith, some))
+last-feed (line ∷ []) some = (line, append-nil (with_line_feed line))
+last-feed (line ∷ next ∷ lines) some =
+    let rest = last-feed (next ∷ lines) (omega arith) in
+    (with_line_feed line ++ rest.0, ap (λ t. with_line_feed line ++ t) rest.1 ∙ sym (append_assoc (with_line_feed line) rest.0 (10 ∷ [])))
+
+-- the spaces, and a byte behind them
+spaces-first : (spaces : ℕ) (text : List ℕ) → is_text_behind spaces text ≡ true → (spaces < length text) × ((k : ℕ) → k < spaces → get_or text k 0 ≡ 32)
+spaces-first spaces [] h = absurd (cc (h))
+spaces-first zero (b ∷ bs) h = (omega arith, λ k below. absurd (omega (arith, below)))
+spaces-first (suc n) (b ∷ bs) h =
+    let parts = and_parts (b == 32) (is_text_behind n bs) h in
+    let rest = spaces-first n bs parts.1 in
+    (omega (arith, rest.0), at (eqb-true b 32 parts.0) rest.1)
+  where
+    at : b ≡ 32 → ((k : ℕ) → k < n → get_or bs k 0 ≡ 32) → (k : ℕ) → k < suc n → get_or (b ∷ bs) k 0 ≡ 32
+    at first rest zero below = first
+    at first rest (suc k) below = rest k (omega (arith, below))
+
+text-behind-more : (spaces : ℕ) (text more : List ℕ) → is_text_behind spaces text ≡ true → is_text_behind spaces (text ++ more) ≡ true
+text-behind-more spaces [] more h = absurd (cc (h))
+text-behind-more zero (b ∷ bs) more h = h
+text-behind-more (suc n) (b ∷ bs) more h =
+    let parts = and_parts (b == 32) (is_text_behind n bs) h in
+    ap (λ v. v && is_text_behind n (bs ++ more)) parts.0 ∙ text-behind-more n bs more parts.1
+
+first-behind : (spaces : ℕ) (lines : List (List ℕ)) → 0 < length lines → are_text spaces lines ≡ true → is_text_behind spaces (flat_map with_line_feed lines) ≡ true
+first-behind spaces [] some h = absurd (omega (arith, some))
+first-behind spaces (line ∷ lines) some h =
+    let parts = and_parts (is_text_behind spaces line) (are_text 0 lines) h in
+    text-behind-more spaces (with_line_feed line) (flat_map with_line_feed lines) (text-behind-more spaces line (10 ∷ []) parts.0)
+
+module _ (text : List ℕ) (spaces count : ℕ) (h : AreTextLines text spaces count) where
+  some-lines : 0 < length (lines_of text)
+  some-lines = omega (arith, h.some, h.counted)
+
+  begins-text : is_text_behind spaces text ≡ true
+  begins-text = subst (λ t. is_text_behind spaces t ≡ true) (sym h.lines) (first-behind spaces (lines_of text) some-lines h.are_text)
+
+  ends-feed : (front : List ℕ) × (text ≡ front ++ 10 ∷ [])
+  ends-feed = let last = last-feed (lines_of text) some-lines in (last.0, h.lines ∙ last.1)
+
+  pub feed_last : get_or text (length text - 1) 0 ≡ 10
+  feed_last =
+      let front = ends-feed.0 in
+      let at : length text - 1 ≡ length front = omega (arith, ap length ends-feed.1, length-append front (10 ∷ [])) in
+      ap₂ (λ t n. get_or t n 0) ends-feed.1 at ∙ get_or_at front 10 [] 0 (length front) refl
+
+  pub spaces_within : spaces < length text
+  spaces_within = (spaces-first spaces text begins-text).0
+
+  pub spaces_boundary : IsUtf8 text → IsCharBoundary text spaces
+  spaces_boundary utf8 = go spaces (spaces-first spaces text begins-text).1 spaces_within
+    where
+      go : (n : ℕ) → ((k : ℕ) → k < n → get_or text k 0 ≡ 32) → n < length text → IsCharBoundary text n
+      go zero front within = IsCharBoundary-start text utf8
+      go (suc n) front within = subst (IsCharBoundary text) (add-one n) (IsCharBoundary-after_ascii text n utf8 (omega (arith, within)) (omega (arith, front n (omega arith))))
+
+  pub not_last : spaces ≤ length text - 1
+  not_last = omega (arith, spaces_within)
+
+  pub content_is : (content : List ℕ) → content ≡ take (length text - 1 - spaces) (drop spaces text) → drop spaces text ≡ content ++ 10 ∷ []
+  content_is content is =
+      let rest = drop spaces text in
+      let size = length-drop spaces text in
+      let last : get_or rest (length text - 1 - spaces) 0 ≡ 10 = get_or-drop spaces text (length text - 1 - spaces) 0 ∙ ap (λ n. get_or text n 0) (omega (arith, not_last)) ∙ feed_last in
+      at_byte rest (length text - 1 - spaces) (omega (arith, size, spaces_within))
+      ∙ ap₂ (λ t b. t ++ b ∷ drop (length text - 1 - spaces + 1) rest) (sym is) last
+      ∙ ap (λ t. content ++ 10 ∷ t) (drop_of_length-le rest {i = length text - 1 - spaces + 1} (omega (arith, size, spaces_within)))

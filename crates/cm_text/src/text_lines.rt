@@ -1,5 +1,5 @@
 //! Lines of text, which go on with a paragraph as a look at the first byte of each tells.
-ghost use Rattle.std.specs.Prelude.{◌≡◌, ℕ, ◌==◌, ◌&&◌, ◌<◌, ◌≤◌, true, length, get_or, IfSome};
+ghost use Rattle.std.specs.Prelude.{◌≡◌, ℕ, ◌<◌, true, length, get_or, drop, [], ◌∷◌, ◌++◌};
 ghost use Rattle.cm_text.specs.TextLines.{begins_text, AreTextLines};
 ghost use Rattle.cm_text.specs.steps.FirstLine.{IsFirstLine};
 ghost use Rattle.cm_text.specs.steps.TextAhead.{IsAhead};
@@ -18,6 +18,18 @@ pub struct TextLines<'a> {
     /// How many lines there are, at least one.
     pub count: usize,
     pub ghost lines: { AreTextLines text.now spaces count },
+}
+
+impl<'a> TextLines<'a> {
+    /// The lines without the spaces in front of the first, and without the last line feed.
+    #[inline(always)]
+    pub fn content(&self) -> &'a str
+        ensures { drop self.now.spaces self.now.text.now ≡ result.now ++ 10 ∷ [] }
+    {
+        // It is UTF-8.
+        let _bytes = self.text.as_bytes();
+        &self.text[self.spaces..self.text.len() - 1]
+    }
 }
 
 /// How far lines of text go with which a text begins. Of none the other numbers tell nothing.
