@@ -3,7 +3,7 @@ ghost use Rattle.std.specs.Prelude.{◌≡◌, ◌++◌, [], ◌∷◌, true, On
 ghost use Rattle.cm_text.specs.LineText.{is_line};
 ghost use Rattle.cm_text.specs.Lines.{plain_lines_of};
 ghost use Rattle.cm_scan.specs.Blocks.{line_feeds};
-ghost use Rattle.cm_block.specs.steps.TextRuns.{add_lines};
+ghost use Rattle.cm_block.specs.steps.TextRuns.{add_lines, with_line};
 
 use cm_text::TextLines;
 use std::alloc::{AllocError, Global};
@@ -92,14 +92,23 @@ impl LeafText {
         Ok(())
     }
 
+    /// Goes on with a new line, unless there is no text.
+    #[inline(always)]
+    pub(crate) fn begin_line(&mut self) -> Result<(), AllocError>
+        ensures { OnOk result (self.new ≡ with_line self.old) }
+    {
+        if self.text.is_empty() {
+            return Ok(());
+        }
+        self.end_line()
+    }
+
     /// Goes on with lines of text, as with one after another.
     #[inline(always)]
     pub(crate) fn add_lines(&mut self, lines: &TextLines<'_>) -> Result<(), AllocError>
         ensures { OnOk result (self.new ≡ add_lines self.old (plain_lines_of lines.now.text.now)) }
     {
-        if !self.text.is_empty() {
-            self.end_line()?;
-        }
+        self.begin_line()?;
         self.text.push_str(lines.content())?;
         // It has no more line feeds than bytes.
         let _len = self.text.len();

@@ -216,8 +216,8 @@ module _ (text : List ℕ) (spaces count : ℕ) (h : AreTextLines text spaces co
   some-lines : 0 < length (lines_of text)
   some-lines = omega (arith, h.some, h.counted)
 
-  begins-text : is_text_behind spaces text ≡ true
-  begins-text = subst (λ t. is_text_behind spaces t ≡ true) (sym h.lines) (first-behind spaces (lines_of text) some-lines h.are_text)
+  pub begins_as_text : is_text_behind spaces text ≡ true
+  begins_as_text = subst (λ t. is_text_behind spaces t ≡ true) (sym h.lines) (first-behind spaces (lines_of text) some-lines h.are_text)
 
   ends-feed : (front : List ℕ) × (text ≡ front ++ 10 ∷ [])
   ends-feed = let last = last-feed (lines_of text) some-lines in (last.0, h.lines ∙ last.1)
@@ -229,10 +229,10 @@ module _ (text : List ℕ) (spaces count : ℕ) (h : AreTextLines text spaces co
       ap₂ (λ t n. get_or t n 0) ends-feed.1 at ∙ get_or_at front 10 [] 0 (length front) refl
 
   pub spaces_within : spaces < length text
-  spaces_within = (spaces-first spaces text begins-text).0
+  spaces_within = (spaces-first spaces text begins_as_text).0
 
   pub spaces_boundary : IsUtf8 text → IsCharBoundary text spaces
-  spaces_boundary utf8 = go spaces (spaces-first spaces text begins-text).1 spaces_within
+  spaces_boundary utf8 = go spaces (spaces-first spaces text begins_as_text).1 spaces_within
     where
       go : (n : ℕ) → ((k : ℕ) → k < n → get_or text k 0 ≡ 32) → n < length text → IsCharBoundary text n
       go zero front within = IsCharBoundary-start text utf8

@@ -67,6 +67,15 @@ fn begins_text(b: u8) -> bool
     b.is_ascii_alphabetic() || b >= 128
 }
 
+/// Whether a line of text may stand in front, as the first byte tells. Mostly there is none, and no more is looked at then.
+#[inline(always)]
+pub(crate) fn may_begin_text(bytes: &[u8]) -> bool {
+    match bytes {
+        [b, ..] => *b == b' ' || begins_text(*b),
+        [] => false,
+    }
+}
+
 /// How many spaces a text begins with.
 #[inline(always)]
 fn spaces_in_front(bytes: &[u8]) -> usize
@@ -90,8 +99,9 @@ fn is_text_line(bytes: &[u8], first: usize, end: usize) -> bool
     end < bytes.len() && first < end && bytes[end] == b'\n' && begins_text(bytes[first])
 }
 
-/// How far the lines of text go with which a text begins, whose first line has so many bytes.
-#[inline(always)]
+/// How far the lines of text go with which a text begins, whose first line has so many bytes. It is a call of its own, made
+/// once for all of them.
+#[inline(never)]
 pub(crate) fn text_ahead(text: &str, line: usize) -> TextAhead
     requires { IsFirstLine line text.now }
     ensures { IsAhead result text.now }

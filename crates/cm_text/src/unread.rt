@@ -6,7 +6,7 @@ ghost use Rattle.cm_text.specs.steps.TextAhead.{IsAhead};
 
 use crate::device::NoMemory;
 use crate::endings::{ends_a_line, line_len, past_line_feed};
-use crate::text_lines::{TextAhead, TextLines, text_ahead};
+use crate::text_lines::{TextAhead, TextLines, may_begin_text, text_ahead};
 use crate::texts::text_of;
 use crate::view::View;
 use memchr::memchr;
@@ -99,11 +99,13 @@ impl Unread {
         ensures cut { cut_of self.new ≡ cut_of self.old }
         ensures len { string_len self.new.text ≡ string_len self.old.text }
     {
-        let ahead = text_ahead(self.rest(), self.line);
-        // Mostly a line of text has others behind it, or there is none.
-        if ahead.count > 0 {
-            self.text_ahead = ahead;
-        }
+        let rest = self.rest();
+        let ahead = if may_begin_text(rest.as_bytes()) {
+            text_ahead(rest, self.line)
+        } else {
+            TextAhead::none()
+        };
+        self.text_ahead = ahead;
     }
 
     /// The lines of text that were found at the front.
