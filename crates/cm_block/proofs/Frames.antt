@@ -12,7 +12,7 @@ use Rattle.cm_block.specs.Stack.{Owned, Stack, stack, close_open, own_open, push
 use Rattle.cm_block.specs.Frames.{Container, a_quote, an_item, Frame, opened, is_last, nest}
 use Rattle.cm_block.specs.steps.FrameSteps.{within, inward, matching, quoted_in, quoted_by, close_container, close_frames}
 
-open_text_of : (bare : Bool) (fs : List Frame) (v : Level) (x : OpenLeaf) → has_open_text (nest bare fs v x).1 ≡ is_open_text x
+pub open_text_of : (bare : Bool) (fs : List Frame) (v : Level) (x : OpenLeaf) → has_open_text (nest bare fs v x).1 ≡ is_open_text x
 unfolding has_open_text nest
 open_text_of bare [] v x = refl
 open_text_of bare (f ∷ fs) v x = go f.container ∙ open_text_of bare fs v x

@@ -3,6 +3,9 @@ pub mod LevelViewLemmas
 pub mod BeginCases
 pub mod ContainerLemmas
 pub mod TestLemmas
+pub mod TextGoesOn
+pub mod TextRunLemmas
+pub mod TextStands
 pub mod OpenEnd
 pub mod OnePass
 pub mod LevelLaws

@@ -141,7 +141,7 @@ module _ (rules : Rules) where
 
 -- a line without its indentation has its content left
 
-content-after : (text : List ℕ) → after_indent text ≡ trim_start text
+pub content-after : (text : List ℕ) → after_indent text ≡ trim_start text
 unfolding skip
 content-after [] = refl
 content-after (b ∷ bs) = let h : after_indent bs ≡ trim_start bs = content-after bs in grind (arith, h)

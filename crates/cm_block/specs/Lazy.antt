@@ -1,8 +1,10 @@
--- Lazy continuation lines (CommonMark 0.31.2, 5.1 Block quotes, 5.2 List items).
+-- Lines that go on with an open paragraph whatever is open round it: lazy continuation lines, and lines of text
+-- (CommonMark 0.31.2, 5.1 Block quotes, 5.2 List items).
 use Rattle.std.specs.Prelude.{◌≡◌, Bool, true, false}
 use Rattle.cm_text.specs.Rules.{Rules}
 use Rattle.cm_text.specs.Lines.{LineView}
-use Rattle.cm_scan.specs.Lines.{is_blank}
+use Rattle.cm_text.specs.TextLines.{is_text_behind}
+use Rattle.cm_scan.specs.Lines.{is_blank, content_of}
 use Rattle.cm_scan.specs.Blocks.{add_text}
 use Rattle.cm_block.specs.OpenLeaf.{OpenLeaf, open_text}
 use Rattle.cm_block.specs.Machine.{Open, in_leaf, in_quote, in_item, has_open_text}
@@ -23,3 +25,8 @@ with_text (in_item kind column bare closed now) line = in_item kind column false
 abbrev pub LazyLine : Type 0
 LazyLine = (rules : Rules) (line : LineView) (in_a_quote : Bool) (s : Owned) (v : Level) (now : Open Level)
     → line.lazy ≡ true → is_blank line ≡ false → has_open_text now ≡ true → push_in rules in_a_quote s v now line ≡ stack v (with_text now line) s
+
+-- A line whose content begins as text does the same, with whatever indentation.
+abbrev pub TextGoesOn : Type 0
+TextGoesOn = (rules : Rules) (line : LineView) (in_a_quote : Bool) (s : Owned) (v : Level) (now : Open Level)
+    → is_text_behind 0 (content_of line) ≡ true → has_open_text now ≡ true → push_in rules in_a_quote s v now line ≡ stack v (with_text now line) s

@@ -1,5 +1,5 @@
 -- What a parser stands for: the lines that it has been given.
-use Rattle.std.specs.Prelude.{◌≡◌, ℕ, ◌+◌, ◌*◌, ◌≤◌, List, length, Some, None, ⊤}
+use Rattle.std.specs.Prelude.{◌≡◌, ℕ, ◌+◌, ◌*◌, ◌≤◌, Bool, not, ◌&&◌, List, length, Some, None, is_some, ⊤}
 use Rattle.cm_text.specs.Rules.{Rules}
 use Rattle.cm_text.specs.Limits.{LimitsView}
 use Rattle.cm_text.specs.Lines.{LineView}
@@ -9,6 +9,7 @@ use Rattle.cm_block.specs.declared.parser.BlockParser as code
 use Rattle.cm_block.specs.declared.parser.Outline.{Outline}
 use Rattle.cm_block.specs.declared.fault.BlockFault.{BlockFault}
 use Rattle.cm_block.specs.declared.fault.BlockFault.TheVariants.{BlocksTooDeep, NoMemory}
+use Rattle.cm_block.specs.OpenLeaf.{is_open_text}
 use Rattle.cm_block.specs.Stack.{Stack, empty_stack, push_lines}
 use Rattle.cm_block.specs.Frames.{stack_with}
 use Rattle.cm_block.specs.LeafViews.{leaf_of}
@@ -17,6 +18,10 @@ use Rattle.cm_block.specs.Tests.{AllTested, container_count, count_of}
 -- what the parser holds
 abbrev pub stack_of : code.BlockParser → Stack
 stack_of parser = stack_with parser.stack.bare parser.stack.frames parser.stack.level (leaf_of parser.leaf) parser.owners
+
+-- no fault was met, and a run of text is open
+abbrev pub is_in_text : code.BlockParser → Bool
+is_in_text parser = not (is_some parser.fault) && is_open_text (leaf_of parser.leaf)
 
 -- The parser has been given these lines, none of which is too deep by its limits and their rules, and can be given more.
 pub record StandsFor (parser : code.BlockParser) (lines : List LineView) : Type 0 where

@@ -12,3 +12,4 @@ pub mod Looks
 pub mod FrameStarts
 pub mod ParserSteps
 pub mod LineTests
+pub mod TextRuns

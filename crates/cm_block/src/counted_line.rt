@@ -1,5 +1,5 @@
 //! A line that can only be read by calls that count. So a contract can say how often a line is read.
-ghost use Rattle.std.specs.Prelude.{◌≡◌, ◌++◌, ◌∷◌, ◌&&◌, ℕ, List, suc, true, false, string_bytes, IfOk, IfSome, IfNone, OnOk};
+ghost use Rattle.std.specs.Prelude.{◌≡◌, ◌+◌, ◌++◌, ◌∷◌, ◌&&◌, ℕ, List, suc, true, false, string_bytes, IfOk, IfSome, IfNone, OnOk};
 ghost use Rattle.cm_text.specs.Indentation.{strip_columns};
 ghost use Rattle.cm_text.specs.Rules as all;
 ghost use Rattle.cm_text.specs.Views.{seen_view};
@@ -13,6 +13,8 @@ ghost use Rattle.cm_scan.specs.Blocks.{line_feeds, add_text, closes_fence};
 ghost use Rattle.cm_block.specs.OpenLeaf.{stays_open, line_of_leaf, begins_leaf, begin_of_start};
 ghost use Rattle.cm_block.specs.LeafViews.{code_of};
 ghost use Rattle.cm_block.specs.steps.LineTests.{Tested};
+ghost use Rattle.cm_text.specs.Lines.{plain_lines_of};
+ghost use Rattle.cm_block.specs.steps.TextRuns.{add_lines};
 ghost use Rattle.cm_block.specs.steps.StartViews.{seen};
 ghost use Rattle.cm_block.specs.steps.PlaceViews.{IsInside};
 ghost use Rattle.cm_block.specs.steps.FirstLines.{first_of, begins_container};
@@ -27,7 +29,7 @@ mod starts;
 use crate::leaf_text::LeafText;
 use crate::rooms::TextRoom;
 use cm_scan::{FenceKind, HtmlKind};
-use cm_text::{NoMemory, Rules, View};
+use cm_text::{NoMemory, Rules, TextLines, View};
 use cm_tree::ListKind;
 use copies::{add_text, push_next_line, push_whole_line, take_code_line};
 use ends::{closes_fence, ends_html};
@@ -49,6 +51,13 @@ use std::alloc::{AllocError, Global};
 pub(crate) struct CountedLine<'a> {
     rest: View<'a>,
     tests: u64,
+}
+
+/// Lines of text that follow one another, and how often they have been read so far. As of a `CountedLine`, nothing that
+/// shows them leaves this type.
+pub(crate) struct CountedLines<'a> {
+    lines: TextLines<'a>,
+    tests: u128,
 }
 
 /// What a leaf block begins with, as it was found in a line. It shows nothing of that: only the line's own call takes
@@ -337,5 +346,39 @@ impl<'a> CountedLine<'a> {
         ensures read { ReadOnce self.old self.new }
     {
         begin_leaf(alloc, rules, leaves, start, &self.read())
+    }
+}
+
+impl<'a> CountedLines<'a> {
+    /// Lines of text, each of which was read once to find that it is one.
+    #[inline(always)]
+    pub(crate) fn new(lines: TextLines<'a>) -> CountedLines<'a>
+        ensures lines { result.lines ≡ lines.entry }
+        ensures tests { result.tests ≡ lines.entry.count }
+    {
+        CountedLines {
+            lines,
+            tests: lines.count as u128,
+        }
+    }
+
+    /// The end of the lines: how often they were read.
+    #[inline(always)]
+    pub(crate) fn into_tests(self) -> u128
+        ensures { result ≡ self.entry.tests }
+    {
+        let CountedLines { lines: _, tests } = self;
+        tests
+    }
+
+    /// Goes on with a run of text by the lines (4.8 Paragraphs). Each is read once.
+    #[inline(always)]
+    pub(crate) fn add_text(&mut self, source: &mut LeafText) -> Result<(), AllocError>
+        requires { self.old.tests ≡ self.old.lines.count }
+        ensures text { OnOk result (source.new ≡ add_lines source.old (plain_lines_of self.old.lines.text.now)) }
+        ensures tests { self.new.tests ≡ self.old.tests + self.old.lines.count }
+    {
+        self.tests += self.lines.count as u128;
+        source.add_lines(&self.lines)
     }
 }

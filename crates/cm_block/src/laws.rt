@@ -1,7 +1,7 @@
 //! Laws: facts about the definitions alone. Each is the contract of a public function with an empty body.
 ghost use Rattle.cm_block.specs.Laws.{OnePass, FromTheLeft, StackBlocks, StackOwners, StackTable, OneOwnerEach};
 ghost use Rattle.cm_block.specs.Depths.{DepthsOfLines, TooDeepAtOnce, TooDeepStays, TooDeepNext};
-ghost use Rattle.cm_block.specs.Lazy.{LazyLine};
+ghost use Rattle.cm_block.specs.Lazy.{LazyLine, TextGoesOn};
 ghost use Rattle.cm_block.specs.WorkedExamples.{StackExamples};
 
 /// One pass over the lines, with what is open and no line kept, gives the parts of the lines.
@@ -35,6 +35,12 @@ pub fn one_owner_each()
 #[tactic(auto, using(crate::proofs::Lazy::lazy_line))]
 pub fn lazy_lines()
     ensures { LazyLine }
+{}
+
+/// A line of text goes on with the open run of text, through every level, whatever its indentation.
+#[tactic(auto, using(crate::proofs::TextGoesOn::text_goes_on))]
+pub fn text_lines()
+    ensures { TextGoesOn }
 {}
 
 /// So many quotes and items as are open behind a line stand round it: so the first line that is too deep

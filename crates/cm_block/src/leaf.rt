@@ -1,10 +1,12 @@
 //! The leaf block that is open, and what one more line does to it (chapter 4).
-ghost use Rattle.std.specs.Prelude.{◌≡◌, ◌+◌, ◌≤◌, ◌&&◌, Some, true, IfOk};
+ghost use Rattle.std.specs.Prelude.{◌≡◌, ℕ, ◌+◌, ◌≤◌, ◌&&◌, List, Some, true, IfOk, OnOk};
+ghost use Rattle.cm_text.specs.Lines.{plain_lines_of};
 ghost use Rattle.cm_text.specs.Views.{seen_view};
 ghost use Rattle.cm_scan.specs.Lines.{is_blank};
 ghost use Rattle.cm_scan.specs.HtmlBlocks.{ends_at_blank_line};
 ghost use Rattle.cm_scan.specs.HtmlKinds.{kind_of};
-ghost use Rattle.cm_block.specs.OpenLeaf.{closed_leaves, blank_lines_behind, is_open_text, line_of_leaf};
+ghost use Rattle.cm_block.specs.OpenLeaf.{open_text, closed_leaves, blank_lines_behind, is_open_text, line_of_leaf};
+ghost use Rattle.cm_block.specs.steps.TextRuns.{add_lines};
 ghost use Rattle.cm_block.specs.LeafViews.{leaf_of};
 ghost use Rattle.cm_block.specs.steps.LeafSteps.{leaves_of_closed, closed_as, taken_of, left_open};
 ghost use Rattle.cm_block.specs.declared.leaf.OpenLeaf.TheVariants.{Nothing};
@@ -12,7 +14,7 @@ ghost use Rattle.cm_block.specs.declared.leaf.LeafLine.TheVariants.{Last, Leaves
 ghost use Rattle.cm_block.specs.steps.LineTests.{Tested};
 
 use crate::closed_leaf::ClosedLeaf;
-use crate::counted_line::CountedLine;
+use crate::counted_line::{CountedLine, CountedLines};
 use crate::leaf_text::LeafText;
 use crate::runs::{NextLine, next_line};
 use cm_scan::{FenceKind, HtmlKind};
@@ -82,6 +84,21 @@ impl OpenLeaf {
         ensures { result ≡ is_open_text (leaf_of self.now) }
     {
         matches!(self, OpenLeaf::Run { .. })
+    }
+
+    /// Lines of text, which go on with a run.
+    #[inline(always)]
+    pub(crate) fn add_lines(&mut self, lines: &mut CountedLines<'_>) -> Result<(), AllocError>
+        requires run { is_open_text (leaf_of self.old) ≡ true }
+        requires counted { lines.old.tests ≡ lines.old.lines.count }
+        ensures text { OnOk result ((source : List ℕ) → leaf_of self.old ≡ open_text source →
+            leaf_of self.new ≡ open_text (add_lines source (plain_lines_of lines.old.lines.text.now))) }
+        ensures tests { OnOk result (lines.new.tests ≡ lines.old.tests + lines.old.lines.count) }
+    {
+        if let OpenLeaf::Run { source } = self {
+            lines.add_text(source)?;
+        }
+        Ok(())
     }
 
     /// The leaf, closed: a run by an underline or not, and a fence by a closing fence or not.

@@ -1,8 +1,11 @@
 //! The text of a leaf block, of which the line feeds are counted while it grows.
 ghost use Rattle.std.specs.Prelude.{◌≡◌, ◌++◌, [], ◌∷◌, true, OnOk};
 ghost use Rattle.cm_text.specs.LineText.{is_line};
+ghost use Rattle.cm_text.specs.Lines.{plain_lines_of};
 ghost use Rattle.cm_scan.specs.Blocks.{line_feeds};
+ghost use Rattle.cm_block.specs.steps.TextRuns.{add_lines, with_line};
 
+use cm_text::TextLines;
 use std::alloc::{AllocError, Global};
 use std::marker::Model;
 
@@ -86,6 +89,31 @@ impl LeafText {
         let _len = self.text.len();
         let _bytes = self.text.as_bytes();
         self.feeds += more.feeds;
+        Ok(())
+    }
+
+    /// Goes on with a new line, unless there is no text.
+    #[inline(always)]
+    pub(crate) fn begin_line(&mut self) -> Result<(), AllocError>
+        ensures { OnOk result (self.new ≡ with_line self.old) }
+    {
+        if self.text.is_empty() {
+            return Ok(());
+        }
+        self.end_line()
+    }
+
+    /// Goes on with lines of text, as with one after another.
+    #[inline(always)]
+    pub(crate) fn add_lines(&mut self, lines: &TextLines<'_>) -> Result<(), AllocError>
+        ensures { OnOk result (self.new ≡ add_lines self.old (plain_lines_of lines.now.text.now)) }
+    {
+        self.begin_line()?;
+        self.text.push_str(lines.content())?;
+        // It has no more line feeds than bytes.
+        let _len = self.text.len();
+        let _bytes = self.text.as_bytes();
+        self.feeds += lines.count - 1;
         Ok(())
     }
 }

@@ -1,7 +1,7 @@
 //! The block structure of a document, line by line.
 ghost use Rattle.std.specs.Prelude.{◌≡◌, ◌≢◌, ◌+◌, ◌-◌, ◌<◌, ◌≤◌, ◌∷◌, ◌++◌, [], List, None, true, false, length, suc, Some, Err, IfOk, IfErr, OnOk};
 ghost use Rattle.cm_text.specs.Answers.{answer_after};
-ghost use Rattle.cm_text.specs.Lines.{LineView, seen_line};
+ghost use Rattle.cm_text.specs.Lines.{LineView, plain_lines_of, seen_line};
 ghost use Rattle.cm_text.specs.Views.{seen_view};
 ghost use Rattle.cm_block.specs.declared.fault.BlockFault as faults;
 ghost use Rattle.cm_block.specs.declared.fault.BlockFault.TheVariants as block_faults;
@@ -13,20 +13,20 @@ ghost use Rattle.cm_block.specs.LeafViews.{leaf_of};
 ghost use Rattle.cm_block.specs.steps.StartViews.{seen};
 ghost use Rattle.cm_block.specs.steps.FirstLines.{begins_container};
 ghost use Rattle.cm_block.specs.steps.FrameStarts.{begun, with_blank, LeafBegins, DeepIn};
-ghost use Rattle.cm_block.specs.Parser.{stack_of, StandsFor, TellsDepth, OutlineOf, TestsOf};
+ghost use Rattle.cm_block.specs.Parser.{stack_of, is_in_text, StandsFor, TellsDepth, OutlineOf, TestsOf};
 ghost use Rattle.cm_block.specs.Tests.{count_of};
 ghost use Rattle.cm_block.specs.steps.LineTests.{Tested};
 ghost use Rattle.cm_block.specs.steps.ParserSteps.{Deep, TakenToLeaf};
 
 use crate::containers::Innermost;
-use crate::counted_line::{CountedLine, FirstLine, LeafStart};
+use crate::counted_line::{CountedLine, CountedLines, FirstLine, LeafStart};
 use crate::fault::BlockFault;
 use crate::leaf::{LeafLine, OpenLeaf};
 use crate::line_owners::Owners;
 use crate::owner_runs::LineOwners;
 use crate::rooms::TextRoom;
 use crate::stack::Stack;
-use cm_text::{Limits, Line, NoMemory, View};
+use cm_text::{Limits, Line, NoMemory, TextLines, View};
 use cm_tree::{Definitions, RawTree};
 use std::alloc::Global;
 use std::mem;
@@ -289,6 +289,42 @@ impl BlockParser {
             self.fault = Some(fault);
         }
         result
+    }
+
+    /// Whether a run of text is open. Lines of text go on with it then, whatever is open round it.
+    #[inline(always)]
+    pub fn is_in_text(&self) -> bool
+        ensures { result ≡ is_in_text self.now }
+    {
+        self.fault.is_none() && self.leaf.is_run()
+    }
+
+    /// Takes in lines of text, as `line_view` takes in one after another. A run of text is open, with which they go on.
+    /// They are lent and not kept.
+    ///
+    /// # Errors
+    ///
+    /// `NoMemory` where a request for memory was refused, and from then on.
+    #[inline(always)]
+    pub fn text_lines(&mut self, more: &TextLines<'_>) -> Result<(), BlockFault>
+        requires { is_in_text self.old ≡ true }
+        ensures stands { OnOk result ((lines : List LineView) → StandsFor self.old lines →
+            StandsFor self.new (lines ++ plain_lines_of more.now.text.now)) }
+        ensures memory { IfErr result (λ fault. fault ≡ block_faults.NoMemory) }
+        ensures answer { result ≡ answer_after self.new.fault }
+        ensures limits { self.new.limits ≡ self.old.limits }
+    {
+        // The range of the limit, which bounds how often a line is read.
+        let _limit = self.limits.blocks();
+        let mut lines = CountedLines::new(*more);
+        self.stack.set_bare(false);
+        let result = self.leaf.add_lines(&mut lines);
+        self.tests = self.tests.saturating_add(lines.into_tests());
+        let Ok(()) = result else {
+            self.fault = Some(BlockFault::NoMemory);
+            return Err(BlockFault::NoMemory);
+        };
+        Ok(())
     }
 
     /// The outline of the lines so far.

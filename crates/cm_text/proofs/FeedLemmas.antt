@@ -2,7 +2,7 @@
 use Rattle.std.proofs.Common.{◌≡◌, ℕ, ◌+◌, ◌-◌, ◌<◌, ◌≤◌, Bool, true, false, List, [], ◌∷◌, ◌++◌, length, take, drop, IsUtf8, refl, sym, ap, subst, ◌∙◌, arith, ⊎_elim, append_assoc, length-append, length-drop, length-take, take_all, take-append-drop, Some, None}
 use Rattle.std.proofs.lemmas.Str.{IsUtf8-append, utf8_valid_len-IsUtf8, utf8_valid_len-IsValidUpTo, utf8_valid_len_le}
 use Rattle.std.specs.Str.Lossy.{utf8_valid_len, utf8_error_len}
-use Rattle.std.proofs.Common.{cond, ◌==◌, nat_lt, is_some, map, drop-drop, append-nil}
+use Rattle.std.proofs.Common.{zero, suc, add-one, cond, ◌==◌, nat_lt, is_some, map, drop-drop, append-nil}
 use Rattle.std.proofs.lemmas.Bool.{ltb-false, cond-true, cond-false, lt-ltb, le-ltb}
 use Rattle.std.proofs.lemmas.Bool.Decides.{nat_tests}
 use Rattle.cm_text.specs.declared.fault.TextFault.TheVariants.{NotUtf8, TooLong, NoMemory}
@@ -227,6 +227,18 @@ pass_stands old bytes taken some stands = go old.cut.ended refl some
     go : (lines : List LineView) → old.cut.ended ≡ lines → 0 < length lines → StandsFor (with_ready (drop 1 lines) old) bytes (taken + 1)
     go [] is some = absurd (omega arith)
     go (line ∷ rest) is some = one_taken old.fault old.ended old line rest bytes taken is stands
+
+-- so many lines, one after another
+pub pass_all_stand : (n : ℕ) (old : Feed) (bytes : List ℕ) (taken : ℕ) → n ≤ length old.cut.ended → StandsFor old bytes taken
+    → StandsFor (with_ready (drop n old.cut.ended) old) bytes (taken + n)
+pass_all_stand zero old bytes taken within stands = subst (StandsFor old bytes) (omega arith) stands
+pass_all_stand (suc n) old bytes taken within stands =
+    let lines = old.cut.ended in
+    let most = pass_all_stand n old bytes taken (omega (arith, within)) stands in
+    let one = pass_stands (with_ready (drop n lines) old) bytes (taken + n) (omega (arith, within, length-drop n lines)) most in
+    subst (λ k. StandsFor (with_ready (drop k lines) old) bytes (taken + suc n)) (add-one n)
+    (subst (λ (t : List LineView). StandsFor (with_ready t old) bytes (taken + suc n)) (drop-drop 1 n lines)
+    (subst (StandsFor (with_ready (drop 1 (drop n lines)) old) bytes) (omega arith) one))
 
 -- the text ends
 -- the longest well-formed front within the limit

@@ -23,3 +23,4 @@ pub mod EndedLines
 pub mod FoldLemmas
 pub mod PlainLabels
 pub mod AddressLemmas
+pub mod TextLineLemmas

@@ -18,6 +18,7 @@ pub mod NamedReferences
 pub mod References
 pub mod Unescaping
 pub mod Views
+pub mod TextLines
 pub mod steps
 pub mod Addresses
 pub mod AddressExamples

@@ -1,6 +1,7 @@
 //! The lines of a text that comes in pieces, lent from where they are held.
 ghost use Rattle.std.specs.Prelude.{◌≡◌, ◌≢◌, ℕ, ◌+◌, ◌<◌, ◌≤◌, List, [], ◌∷◌, ◌++◌, length, drop, OnOk, is_ok, IfSome, IfNone, None, false};
 ghost use Rattle.cm_text.specs.Answers.{answer_after};
+ghost use Rattle.cm_text.specs.Lines.{plain_lines_of};
 ghost use Rattle.cm_text.specs.Views.{seen_view};
 ghost use Rattle.cm_text.specs.Faults.{settled_fault, text_fault};
 ghost use Rattle.cm_text.specs.Feed.{StandsFor, Answers, with_ready, count};
@@ -8,6 +9,7 @@ ghost use Rattle.cm_text.specs.steps.FeedSteps.{Steps, Closes};
 
 use crate::fault::TextFault;
 use crate::limits::Limits;
+use crate::text_lines::TextLines;
 use crate::unread::Unread;
 use crate::view::View;
 use std::alloc::Global;
@@ -156,6 +158,36 @@ impl LineBuffer {
             StandsFor self.new bytes (taken + 1) }
     {
         self.unread.pass_line();
+    }
+
+    /// Looks for lines of text at the front of those that have ended, each ended by a line feed alone. It takes no
+    /// memory.
+    #[inline(always)]
+    pub fn look_for_text(&mut self)
+        ensures { self.new ≡ self.old }
+    {
+        self.unread.look_for_text();
+    }
+
+    /// The lines of text at the front that were looked for, as they are held, without a copy. There is none where it
+    /// wasn't looked for, and behind each `push`, `pass_line` and `pass_lines`.
+    #[inline(always)]
+    pub fn text_lines(&self) -> Option<TextLines<'_>>
+        ensures { IfSome result (λ found.
+            self.now.cut.ended ≡ plain_lines_of found.text.now ++ drop found.count self.now.cut.ended) }
+    {
+        self.unread.text_lines()
+    }
+
+    /// Goes past so many lines, or past all that have ended where there are fewer. For the lines of text that were looked for
+    /// it is one step. It takes no memory.
+    #[inline(always)]
+    pub fn pass_lines(&mut self, count: usize)
+        ensures rest { self.new ≡ with_ready (drop count self.old.cut.ended) self.old }
+        ensures stands { count ≤ length self.old.cut.ended → (bytes : List ℕ) (taken : ℕ) →
+            StandsFor self.old bytes taken → StandsFor self.new bytes (taken + count) }
+    {
+        self.unread.pass_lines(count);
     }
 
     /// Whether `end` has answered Ok.

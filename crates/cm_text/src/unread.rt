@@ -1,10 +1,12 @@
 //! The text that has come, and of which no line has been taken yet.
-ghost use Rattle.std.specs.Prelude.{◌≡◌, [], ◌∷◌, ◌++◌, map, ◌+◌, ◌*◌, ◌^◌, ◌≤◌, length, drop, OnOk, OnErr, IfSome, IfNone, string_bytes, string_len, true};
+ghost use Rattle.std.specs.Prelude.{◌≡◌, [], ◌∷◌, ◌++◌, map, ◌+◌, ◌*◌, ◌^◌, ◌<◌, ◌≤◌, length, drop, OnOk, OnErr, IfSome, IfNone, string_bytes, string_len, true};
 ghost use Rattle.std.specs.Str.{IsCharBoundary};
 ghost use Rattle.cm_text.specs.steps.FirstLine.{IsFirstLine};
+ghost use Rattle.cm_text.specs.steps.TextAhead.{IsAhead};
 
 use crate::device::NoMemory;
 use crate::endings::{ends_a_line, line_len, past_line_feed};
+use crate::text_lines::{TextAhead, TextLines, may_begin_text, text_ahead};
 use crate::texts::text_of;
 use crate::view::View;
 use memchr::memchr;
@@ -20,13 +22,16 @@ pub(crate) struct Unread {
     pub(crate) line: usize,
     /// Whether a carriage return came last, of which the line feed may still come.
     pub(crate) after_return: bool,
+    /// The lines of text that were looked for at the front, or none.
+    pub(crate) text_ahead: TextAhead,
     pub(crate) ghost boundary: { IsCharBoundary (string_bytes text) passed },
     pub(crate) ghost first: { IsFirstLine line (drop passed (string_bytes text)) },
     pub(crate) ghost waits: { after_return ≡ true → passed ≡ length (string_bytes text) },
+    pub(crate) ghost ahead: { 0 < text_ahead.count → IsAhead text_ahead (drop passed (string_bytes text)) },
 }
 
 impl Unread {
-    ghost use Rattle.cm_text.specs.Lines.{text_of, plain_line, last_line};
+    ghost use Rattle.cm_text.specs.Lines.{text_of, plain_line, plain_lines_of, last_line};
     ghost use Rattle.cm_text.specs.Views.{seen_view};
     ghost use Rattle.cm_text.specs.Cut.{cut_of, cut_more, without, nothing_cut};
 
@@ -40,6 +45,7 @@ impl Unread {
             passed: 0,
             line: 0,
             after_return: false,
+            text_ahead: TextAhead::none(),
         }
     }
 
@@ -81,9 +87,74 @@ impl Unread {
         let is_return = rest.as_bytes()[self.line] == b'\r';
         let behind = self.passed + self.line + 1;
         let (passed, after_return) = past_line_feed(&self.text, behind, is_return);
+        self.text_ahead = TextAhead::none();
         self.line = line_len(&self.text[passed..], 0);
         self.passed = passed;
         self.after_return = after_return;
+    }
+
+    /// Looks for lines of text at the front.
+    #[inline(always)]
+    pub(crate) fn look_for_text(&mut self)
+        ensures cut { cut_of self.new ≡ cut_of self.old }
+        ensures len { string_len self.new.text ≡ string_len self.old.text }
+    {
+        let rest = self.rest();
+        let ahead = if may_begin_text(rest.as_bytes()) {
+            text_ahead(rest, self.line)
+        } else {
+            TextAhead::none()
+        };
+        self.text_ahead = ahead;
+    }
+
+    /// The lines of text that were found at the front.
+    #[inline(always)]
+    pub(crate) fn text_lines(&self) -> Option<TextLines<'_>>
+        ensures { IfSome result (λ found. (cut_of self.now).ended
+            ≡ plain_lines_of found.text.now ++ drop found.count (cut_of self.now).ended) }
+    {
+        let TextAhead {
+            spaces,
+            count,
+            len,
+            ..
+        } = self.text_ahead;
+        if count == 0 {
+            return None;
+        }
+        Some(TextLines {
+            text: &self.rest()[..len],
+            spaces,
+            count,
+        })
+    }
+
+    /// Goes past the lines of text that were found at the front.
+    #[inline(always)]
+    fn pass_text(&mut self)
+        requires { 0 < self.old.text_ahead.count }
+        ensures cut { cut_of self.new ≡ without self.old.text_ahead.count (cut_of self.old) }
+        ensures len { string_len self.new.text ≡ string_len self.old.text }
+    {
+        let TextAhead { len, line, .. } = self.text_ahead;
+        self.text_ahead = TextAhead::none();
+        self.line = line;
+        self.passed += len;
+    }
+
+    /// Goes past so many lines, or past all that there are. It is done in one step for the lines of text that were found.
+    #[inline(always)]
+    pub(crate) fn pass_lines(&mut self, count: usize)
+        ensures cut { cut_of self.new ≡ without count (cut_of self.old) }
+        ensures len { string_len self.new.text ≡ string_len self.old.text }
+    {
+        if count > 0 && count == self.text_ahead.count {
+            return self.pass_text();
+        }
+        for _ in 0..count {
+            self.pass_line();
+        }
     }
 
     /// Moves what hasn't been passed to the front, if that is no more than what has.
@@ -106,6 +177,7 @@ impl Unread {
         ensures kept { OnErr result (string_len self.new.text ≤ string_len self.old.text) }
     {
         self.shrink()?;
+        self.text_ahead = TextAhead::none();
         let has_ended = self.passed + self.line < self.text.len();
         self.text.push_str(more)?;
         if !has_ended {

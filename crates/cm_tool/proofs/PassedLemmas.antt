@@ -1,13 +1,11 @@
 -- Lines of a buffer that have been passed.
-use Rattle.std.proofs.Common.{◌≡◌, ◌∙◌, ℕ, ◌+◌, List, [], ◌∷◌, ◌++◌, ap, sym, subst, arith, drop, length, append_assoc, length-append, refl}
+use Rattle.std.proofs.Common.{◌≡◌, ◌∙◌, ℕ, ◌+◌, ◌≤◌, List, [], ◌∷◌, ◌++◌, ap, sym, subst, arith, drop, length, append_assoc, length-append, refl}
 use Rattle.cm_text.specs.Lines.{LineView}
 use Rattle.cm_text.specs.Feed.{Feed, StandsFor, with_ready}
-
--- from one to the other these have been passed
-pub record Passed (old new : Feed) (front : List LineView) : Type 0 where
-  pub same : new ≡ with_ready new.cut.ended old
-  pub parts : front ++ new.cut.ended ≡ old.cut.ended
-  pub stands : (bytes : List ℕ) (taken : ℕ) → StandsFor old bytes taken → StandsFor new bytes (taken + length front)
+use Rattle.cm_text.specs.Lines.{plain_lines_of, lines_of, plain_line}
+use Rattle.cm_text.specs.TextLines.{AreTextLines}
+use Rattle.std.proofs.lemmas.List.{length-map}
+use Rattle.cm_tool.specs.steps.Handing.{Passed}
 
 pub none_passed : (old : Feed) → Passed old old []
 none_passed old = record { same = refl; parts = refl; stands = λ bytes taken h. subst (StandsFor old bytes) (omega arith) h }
@@ -25,3 +23,31 @@ one_passed old middle new front line so_far first passed stands =
           let same : (taken + length front) + 1 ≡ taken + length (front ++ line ∷ []) = omega (arith, length-append front (line ∷ [])) in
           subst (StandsFor new bytes) same (stands bytes (taken + length front) (so_far.stands bytes taken h));
     }
+
+-- lines of text at once
+module _ (old new : Feed) (text : List ℕ) (spaces count : ℕ) (h : AreTextLines text spaces count)
+    (first : old.cut.ended ≡ plain_lines_of text ++ drop count old.cut.ended) where
+  size : length (plain_lines_of text) ≡ count
+  size = length-map (lines_of text) plain_line ∙ sym h.counted
+
+  pub text_within : count ≤ length old.cut.ended
+  text_within = omega (arith, ap length first, length-append (plain_lines_of text) (drop count old.cut.ended), size)
+
+  pub text_passed : new ≡ with_ready (drop count old.cut.ended) old
+      → ((bytes : List ℕ) (taken : ℕ) → StandsFor old bytes taken → StandsFor new bytes (taken + count)) → Passed old new (plain_lines_of text)
+  text_passed passed stands =
+      let rest : new.cut.ended ≡ drop count old.cut.ended = ap (λ (f : Feed). f.cut.ended) passed in
+      record {
+        same = passed ∙ ap (λ t. with_ready t old) (sym rest);
+        parts = ap (λ t. plain_lines_of text ++ t) rest ∙ sym first;
+        stands = λ bytes taken s. subst (λ n. StandsFor new bytes (taken + n)) (sym size) (stands bytes taken s);
+      }
+
+-- some, and then others
+pub passed_then : (old middle new : Feed) (front more : List LineView) → Passed old middle front → Passed middle new more → Passed old new (front ++ more)
+passed_then old middle new front more before after = record {
+  same = after.same ∙ ap (with_ready new.cut.ended) before.same;
+  parts = append_assoc front more new.cut.ended ∙ ap (λ t. front ++ t) after.parts ∙ before.parts;
+  stands = λ bytes taken h.
+      subst (StandsFor new bytes) (omega (arith, length-append front more)) (after.stands bytes (taken + length front) (before.stands bytes taken h));
+}

@@ -1,5 +1,6 @@
 pub mod FaultOrder
 pub mod Pushing
+pub mod Handing
 pub mod Numbering
 pub mod Items
 pub mod LeafWalks

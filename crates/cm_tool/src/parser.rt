@@ -6,11 +6,13 @@ ghost use Rattle.cm_text.specs.Lines.{LineView};
 ghost use Rattle.cm_text.specs.Feed.{StandsFor as FeedStandsFor, with_ready, count};
 ghost use Rattle.cm_scan.specs.Laws.{AreLines};
 ghost use Rattle.cm_block.specs.Parser.{StandsFor as HasTaken, TellsDepth};
+ghost use Rattle.cm_block.specs.declared.fault.BlockFault.TheVariants as block_faults;
 ghost use Rattle.cm_tool.specs.declared.fault.Fault as faults;
 ghost use Rattle.cm_tool.specs.Faults.{fault_of, settled_fault_of};
 ghost use Rattle.cm_tool.specs.Parsing.{Goes, StandsFor, Answers, Finishes, TellsFault, Makes};
 ghost use Rattle.cm_tool.specs.Writing.{converted};
 ghost use Rattle.cm_tool.specs.steps.Ends.{IsOutline};
+ghost use Rattle.cm_tool.specs.steps.Handing.{Hands};
 ghost use Rattle.cm_tool.specs.steps.Pushing.{Pushes, Counts};
 
 use crate::fault::Fault;
@@ -195,7 +197,30 @@ fn outline(mut feed: LineBuffer, mut blocks: BlockParser) -> Result<Outline, Fau
     Ok(outline)
 }
 
-/// Lends the lines that have ended to the blocks, one after another.
+/// Lends the lines of text at the front to the blocks, if they go on with a run of text there.
+#[inline(always)]
+fn hand_over_text(feed: &mut LineBuffer, blocks: &mut BlockParser) -> Result<(), BlockFault>
+    ensures ended { feed.new.ended ≡ feed.old.ended }
+    ensures limit { feed.new.limit ≡ feed.old.limit }
+    ensures limits { blocks.new.limits ≡ blocks.old.limits }
+    ensures handed { OnOk result (Hands feed.old blocks.old feed.new blocks.new) }
+    ensures memory { IfErr result (λ fault. fault ≡ block_faults.NoMemory) }
+{
+    if !blocks.is_in_text() {
+        return Ok(());
+    }
+    feed.look_for_text();
+    let Some(lines) = feed.text_lines() else {
+        return Ok(());
+    };
+    let count = lines.count;
+    blocks.text_lines(&lines)?;
+    feed.pass_lines(count);
+    Ok(())
+}
+
+/// Lends the lines that have ended to the blocks, one after another. Lines of text that go on with a run of text go there
+/// together.
 fn hand_over(feed: &mut LineBuffer, blocks: &mut BlockParser) -> Result<(), BlockFault>
     ensures ready { OnOk result (feed.new ≡ with_ready [] feed.old) }
     ensures ended { feed.new.ended ≡ feed.old.ended }
@@ -209,9 +234,12 @@ fn hand_over(feed: &mut LineBuffer, blocks: &mut BlockParser) -> Result<(), Bloc
         AreLines (lines ++ feed.old.cut.ended) →
         TellsDepth fault blocks.old.limits (lines ++ feed.old.cut.ended)) }
 {
-    while let Some(line) = feed.first_line() {
+    loop {
+        hand_over_text(feed, blocks)?;
+        let Some(line) = feed.first_line() else {
+            return Ok(());
+        };
         blocks.line_view(&line)?;
         feed.pass_line();
     }
-    Ok(())
 }

@@ -46,9 +46,7 @@ pub(crate) fn push_next_line(text: &mut LeafText, line: &View<'_>) -> Result<(),
 pub(crate) fn add_text(source: &mut LeafText, line: &View<'_>) -> Result<(), AllocError>
     ensures { OnOk result (source.new ≡ add_text source.old (seen_view line.now)) }
 {
-    if !source.as_str().is_empty() {
-        source.end_line()?;
-    }
+    source.begin_line()?;
     source.push(content(line))
 }
 

@@ -149,7 +149,7 @@ pub(crate) fn item_content<'a>(line: &View<'a>, marker: &ItemMarker) -> (usize, 
     ensures column { result.0 ≡ content_column (seen_marker marker.now) (seen_view line.now) }
     ensures first { seen_view result.1 ≡ first_content (seen_marker marker.now) (seen_view line.now) }
 {
-    let behind = behind_marker(line, marker);
+    let behind = with_columns(&behind_marker(line, marker));
     let offset = content_offset(&behind);
     let column = line.indent() + (marker.digits + 1) + offset;
     (column, behind.strip(offset))

@@ -1,13 +1,13 @@
 use Rattle.std.proofs.Common.{◌≡◌, List, ◌++◌, length}
 use Rattle.cm_text.specs.Lines.{LineView}
 use Rattle.cm_block.specs.Parser.{StandsFor as HasTaken}
-use Rattle.cm_tool.proofs.PassedLemmas.{Passed}
+use Rattle.cm_tool.specs.steps.Handing.{Hands}
 use Rattle.cm_tool.proofs.parser.hand_over.Given as goal
 
 abbrev pub invariant-loop-line : goal.invariant-loop-line
 invariant-loop-line l = record {
   limits : l.blocks.limits ≡ l.initial.blocks.limits;
-  handed : (front : List LineView) × Passed l.initial.feed l.feed front × ((lines : List LineView) → HasTaken l.initial.blocks lines → HasTaken l.blocks (lines ++ front));
+  handed : Hands l.initial.feed l.initial.blocks l.feed l.blocks;
 }
 
 abbrev pub decreases-loop-line : goal.decreases-loop-line

@@ -1,0 +1,129 @@
+//! Lines of text, which go on with a paragraph as a look at the first byte of each tells.
+ghost use Rattle.std.specs.Prelude.{◌≡◌, ℕ, ◌<◌, true, length, get_or, drop, [], ◌∷◌, ◌++◌};
+ghost use Rattle.cm_text.specs.TextLines.{begins_text, AreTextLines};
+ghost use Rattle.cm_text.specs.steps.FirstLine.{IsFirstLine};
+ghost use Rattle.cm_text.specs.steps.TextAhead.{IsAhead};
+
+use crate::endings::line_len;
+
+/// Lines of text that follow one another, seen without a copy: each begins with a letter of ASCII or with a character
+/// beyond it, the first behind spaces or not. No block but a paragraph begins so, and a line that begins so goes on
+/// with a paragraph that is open (CommonMark 0.31.2, 4.8).
+#[derive(Clone, Copy, Debug, PartialEq, Eq)]
+pub struct TextLines<'a> {
+    /// The lines, each with the line feed that ends it.
+    pub text: &'a str,
+    /// How many spaces the first begins with.
+    pub spaces: usize,
+    /// How many lines there are, at least one.
+    pub count: usize,
+    pub ghost lines: { AreTextLines text.now spaces count },
+}
+
+impl<'a> TextLines<'a> {
+    /// The lines without the spaces in front of the first, and without the last line feed.
+    #[inline(always)]
+    pub fn content(&self) -> &'a str
+        ensures { drop self.now.spaces self.now.text.now ≡ result.now ++ 10 ∷ [] }
+    {
+        // It is UTF-8.
+        let _bytes = self.text.as_bytes();
+        &self.text[self.spaces..self.text.len() - 1]
+    }
+}
+
+/// How far lines of text go with which a text begins. Of none the other numbers tell nothing.
+#[derive(Clone, Copy, Debug)]
+pub(crate) struct TextAhead {
+    /// How many spaces the first begins with.
+    pub(crate) spaces: usize,
+    /// How many lines there are.
+    pub(crate) count: usize,
+    /// How many bytes they have, with their line feeds.
+    pub(crate) len: usize,
+    /// How many bytes the line behind them has.
+    pub(crate) line: usize,
+}
+
+impl TextAhead {
+    /// No line of text.
+    pub(crate) fn none() -> TextAhead
+        ensures { result.count ≡ 0 }
+    {
+        TextAhead {
+            spaces: 0,
+            count: 0,
+            len: 0,
+            line: 0,
+        }
+    }
+}
+
+/// Whether a line of text may begin with a byte.
+#[inline(always)]
+fn begins_text(b: u8) -> bool
+    ensures { result ≡ begins_text b }
+{
+    b.is_ascii_alphabetic() || b >= 128
+}
+
+/// Whether a line of text may stand in front, as the first byte tells. Mostly there is none, and no more is looked at then.
+#[inline(always)]
+pub(crate) fn may_begin_text(bytes: &[u8]) -> bool {
+    match bytes {
+        [b, ..] => *b == b' ' || begins_text(*b),
+        [] => false,
+    }
+}
+
+/// How many spaces a text begins with.
+#[inline(always)]
+fn spaces_in_front(bytes: &[u8]) -> usize
+    ensures { (k : ℕ) → k < result → get_or bytes.now k 0 ≡ 32 }
+{
+    let mut count = 0;
+    while count < bytes.len() && bytes[count] == b' ' {
+        count += 1;
+    }
+    count
+}
+
+/// Whether a line goes up to a place, and a line feed ends it there, and it begins as text, at another place.
+#[inline(always)]
+fn is_text_line(bytes: &[u8], first: usize, end: usize) -> bool
+    ensures first { result ≡ true → first < end }
+    ensures end { result ≡ true → end < length bytes.now }
+    ensures feed { result ≡ true → get_or bytes.now end 0 ≡ 10 }
+    ensures begins { result ≡ true → begins_text (get_or bytes.now first 0) ≡ true }
+{
+    end < bytes.len() && first < end && bytes[end] == b'\n' && begins_text(bytes[first])
+}
+
+/// How far the lines of text go with which a text begins, whose first line has so many bytes. It is a call of its own, made
+/// once for all of them.
+#[inline(never)]
+pub(crate) fn text_ahead(text: &str, line: usize) -> TextAhead
+    requires { IsFirstLine line text.now }
+    ensures { IsAhead result text.now }
+{
+    let bytes = text.as_bytes();
+    let spaces = spaces_in_front(bytes);
+    let mut ahead = TextAhead {
+        spaces,
+        count: 0,
+        len: 0,
+        line,
+    };
+    let mut first = spaces;
+    while is_text_line(bytes, first, ahead.len + ahead.line) {
+        let len = ahead.len + (ahead.line + 1);
+        ahead = TextAhead {
+            spaces,
+            count: ahead.count + 1,
+            len,
+            line: line_len(&text[len..], 0),
+        };
+        first = len;
+    }
+    ahead
+}
