@@ -73,6 +73,7 @@ fn push_between(
 }
 
 /// Adds where a link leads, as the value of an attribute.
+#[inline(always)]
 fn push_dest(out: &mut Pages, target: LinkTarget<'_>) -> Result<(), AllocError>
     ensures { OnOk result (out.new ≡ out.old ++ destination_html (led_to target.entry).0) }
 {
@@ -94,6 +95,7 @@ fn push_title(out: &mut Pages, target: LinkTarget<'_>) -> Result<(), AllocError>
 
 /// Adds a title behind the value of an attribute, unless the title is empty. The quotation mark behind the
 /// last value is left out.
+#[inline(always)]
 fn push_title_behind(out: &mut Pages, target: LinkTarget<'_>) -> Result<(), AllocError>
     ensures { OnOk result (out.new ++ codes "\""
         ≡ out.old ++ codes "\"" ++ title_html (led_to target.entry).1) }

@@ -217,6 +217,7 @@ impl LeafWalk {
     }
 
     /// Adds the HTML of the inlines of this leaf.
+    #[inline(always)]
     pub(crate) fn push_leaf(&mut self, html: &mut Pages, from: u32, to: u32) -> Result<(), Fault>
         requires { IsBetween self.old.unread.raw.text from to }
         ensures pushed { OnOk result (html.new ≡

@@ -181,6 +181,7 @@ impl HtmlWalk {
 
     /// Adds the HTML of a block, on a new line where the mark says so.
     #[cycle(html)]
+    #[inline(always)]
     fn push_apart(&mut self, fresh: bool, block: RawBlock) -> Result<(), Fault>
         requires { IsPlaced self.old.walk.unread.raw block }
         ensures pushed { OnOk result (self.new.html ≡
