@@ -1,7 +1,5 @@
 //! Why a text is refused.
-ghost use Rattle.std.specs.Prelude.{◌≡◌};
 
-use std::alloc::AllocError;
 use thiserror::Error;
 
 /// Why a text is refused. Bytes count from 0.
@@ -16,14 +14,4 @@ pub enum TextFault {
     /// A request for memory was refused.
     #[error("out of memory")]
     NoMemory,
-}
-
-impl From<AllocError> for TextFault {
-    ghost use Rattle.cm_text.specs.declared.fault.TextFault.TheVariants.{NoMemory};
-
-    ghost from_gives = { λ _ e. e ≡ NoMemory };
-
-    fn from(_: AllocError) -> TextFault {
-        TextFault::NoMemory
-    }
 }
