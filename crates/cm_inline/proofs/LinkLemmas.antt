@@ -171,10 +171,10 @@ pub turned : {E : Type 0} (source : List ℕ) (r : Result (Option LinkEnd) E) (a
 turned source r a b e h = subst (λ x. IfOk r (λ found. ends_of source found ≡ x)) e h
 
 -- what a reference leads to, in this source
-pub led : {E : Type 0} (source : List ℕ) (r : Result (Option LinkEnd) E) (target : Option Target) (end : ℕ) (b : Option brackets.LinkEnd) → leads_to target (drop end source) ≡ b
-    → IfOk r (λ found. (s : List ℕ) → ends_of s found ≡ leads_to target (drop end s)) → IfOk r (λ found. ends_of source found ≡ b)
-led source (Ok found) target end b e h = h source ∙ e
-led source (Err f) target end b e h = tt
+pub led : {E : Type 0} (rules : Rules) (source : List ℕ) (r : Result (Option LinkEnd) E) (target : Option Target) (end : ℕ) (b : Option brackets.LinkEnd) → leads_to target (drop end source) ≡ b
+    → IfOk r (λ found. (s : List ℕ) → ends_of s found ≡ end_if_followed rules (leads_to target (drop end s))) → IfOk r (λ found. ends_of source found ≡ end_if_followed rules b)
+led rules source (Ok found) target end b e h = h source ∙ ap (end_if_followed rules) e
+led rules source (Err f) target end b e h = tt
 
 -- an end that was found ends behind the right bracket
 pub place : (source : List ℕ) (at : ℕ) (rules : Rules) (defined : Defined) (between : List ℕ) (found : Option LinkEnd) → at < length source → ends_of source found ≡ end_at rules defined between (drop (at + 1) source)
@@ -194,22 +194,31 @@ place-in source at rules defined between (Err e) within h boundary = tt
 abbrev first_of : Rules → Defined → List ℕ → List ℕ → Option brackets.LinkEnd → Option brackets.LinkEnd
 first_of rules defined between text o = elim o [ Some end ↦ Some end | None ↦ end_if_followed rules (reference_end defined between text) ]
 
--- an inline link's end goes first
-pub inline-first : (source : List ℕ) (rules : Rules) (defined : Defined) (between text : List ℕ) (found : Option LinkEnd) → is_some found ≡ true → ends_of source found ≡ end_if_followed rules (inline_end text)
-    → ends_of source found ≡ end_at rules defined between text
-unfolding end_at
-inline-first source rules defined between text None e h = absurd (cc e)
-inline-first source rules defined between text (Some found) e h = ap (first_of rules defined between text) h
+module _ (rules : Rules) (defined : Defined) (between text : List ℕ) where
+  -- an end that the rules follow goes first
+  first-end : (o : Option brackets.LinkEnd) → is_some (end_if_followed rules o) ≡ true → o ≡ first_of rules defined between text (end_if_followed rules o)
+  first-end None s = absurd (cc s)
+  first-end (Some end) s = go (is_followed rules end.dest) s
+    where
+      go : (t : Bool) → is_some (elim t as (λ _. Option brackets.LinkEnd) [ true ↦ Some end | false ↦ None ]) ≡ true
+          → Some end ≡ first_of rules defined between text (elim t as (λ _. Option brackets.LinkEnd) [ true ↦ Some end | false ↦ None ])
+      go true s = refl
+      go false s = absurd (cc s)
 
-pub no-inline : (source : List ℕ) (rules : Rules) (defined : Defined) (between text : List ℕ) (found : Option LinkEnd) → is_some found ≡ false → ends_of source found ≡ end_if_followed rules (inline_end text)
-    → end_if_followed rules (reference_end defined between text) ≡ end_at rules defined between text
-unfolding end_at
-no-inline source rules defined between text None e h = ap (first_of rules defined between text) h
-no-inline source rules defined between text (Some found) e h = absurd (cc e)
+  later-end : (o : Option brackets.LinkEnd) → is_some (end_if_followed rules o) ≡ false → end_if_followed rules (reference_end defined between text) ≡ first_of rules defined between text (end_if_followed rules o)
+  later-end None s = refl
+  later-end (Some end) s = go (is_followed rules end.dest) s
+    where
+      go : (t : Bool) → is_some (elim t as (λ _. Option brackets.LinkEnd) [ true ↦ Some end | false ↦ None ]) ≡ false
+          → end_if_followed rules (reference_end defined between text) ≡ first_of rules defined between text (elim t as (λ _. Option brackets.LinkEnd) [ true ↦ Some end | false ↦ None ])
+      go true s = absurd (cc s)
+      go false s = refl
 
--- an end by whether the rules follow where it leads
-pub end-followed : (rules : Rules) (source : List ℕ) (e : LinkEnd) → is_followed rules (found_target e.target).0 ≡ true → ends_of source (Some e) ≡ end_if_followed rules (ends_of source (Some e))
-end-followed rules source e on = sym (ap (λ (t : Bool). elim t as (λ _. Option brackets.LinkEnd) [ true ↦ ends_of source (Some e) | false ↦ None ]) on)
+  module _ (source : List ℕ) (found : Option LinkEnd) (is : ends_of source found ≡ inline_end text) where
+    pub inline-first : is_some (end_if_followed rules (ends_of source found)) ≡ true → ends_of source found ≡ end_at rules defined between text
+    unfolding end_at
+    inline-first s = first-end (ends_of source found) s ∙ ap (λ o. first_of rules defined between text (end_if_followed rules o)) is
 
-pub end-not-followed : (rules : Rules) (source : List ℕ) (e : LinkEnd) → is_followed rules (found_target e.target).0 ≡ false → ends_of source None ≡ end_if_followed rules (ends_of source (Some e))
-end-not-followed rules source e off = sym (ap (λ (t : Bool). elim t as (λ _. Option brackets.LinkEnd) [ true ↦ ends_of source (Some e) | false ↦ None ]) off)
+    pub no-inline : is_some (end_if_followed rules (ends_of source found)) ≡ false → end_if_followed rules (reference_end defined between text) ≡ end_at rules defined between text
+    unfolding end_at
+    no-inline s = later-end (ends_of source found) s ∙ ap (λ o. first_of rules defined between text (end_if_followed rules o)) is

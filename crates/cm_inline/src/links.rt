@@ -1,5 +1,5 @@
 //! Where links and images lead, and where they end (CommonMark 0.31.2, 6.3 Links).
-ghost use Rattle.std.specs.Prelude.{◌≡◌, ◌+◌, ◌-◌, ◌<◌, ◌≤◌, ℕ, List, length, drop, slice_index, IfOk, IfSome};
+ghost use Rattle.std.specs.Prelude.{◌≡◌, ◌+◌, ◌-◌, ◌<◌, ◌≤◌, ℕ, List, length, drop, slice_index, is_some, IfOk, IfSome};
 ghost use Rattle.std.specs.List.{slice_range};
 ghost use Rattle.std.specs.Str.{IsCharBoundary};
 ghost use Rattle.cm_scan.specs.Brackets.{closed, after_destination, inline_end, Defined, defined_in, target_of, target_between, reference_end, end_if_followed, end_at};
@@ -32,6 +32,7 @@ pub(crate) struct LinkEnd<'a> {
 }
 
 /// Where a link or an image leads, lent.
+#[inline(always)]
 pub(crate) fn target_to<'a>(target: &'a FoundTarget<'_>) -> LinkTarget<'a>
     ensures { led_to result ≡ found_target target.now }
 {
@@ -58,33 +59,30 @@ pub(crate) fn link_end<'a>(
         ≡ end_at rules (defined_in definitions.now) (slice_range source.now behind at) (drop (at + 1) source.now)) }
     ensures place { IfOk result (λ found. IfSome found (λ e. (at < e.end) × (e.end ≤ length source.now) × IsCharBoundary source.now e.end)) }
 {
-    let inline = if_followed(rules, inline_end(alloc, source, at + 1)?);
-    if inline.is_some() {
+    let inline = inline_end(alloc, source, at + 1)?;
+    if is_followed_end(rules, &inline) {
         return Ok(inline);
     }
-    let reference = reference_end(alloc, source, definitions, behind, at)?;
-    Ok(if_followed(rules, reference))
+    reference_end(alloc, rules, source, definitions, behind, at)
 }
 
-/// An end that was found, if the rules follow the address to which it leads.
+/// Whether an end was found, and the rules follow the address to which it leads.
 #[inline(always)]
-fn if_followed<'a>(rules: Rules, found: Option<LinkEnd<'a>>) -> Option<LinkEnd<'a>>
-    ensures ends { (source : List ℕ) → ends_of source result ≡ end_if_followed rules (ends_of source found.entry) }
-    ensures boundary { (source : List ℕ) → IfSome found.entry (λ e. IsCharBoundary source e.end) → IfSome result (λ e. IsCharBoundary source e.end) }
+fn is_followed_end(rules: Rules, found: &Option<LinkEnd<'_>>) -> bool
+    ensures { (source : List ℕ) → result ≡ is_some (end_if_followed rules (ends_of source found.now)) }
 {
-    let end = found?;
-    if !leads_on(rules, &end.target) {
-        return None;
+    match found {
+        Some(end) => leads_on(rules, target_to(&end.target)),
+        None => false,
     }
-    Some(end)
 }
 
 /// Whether the rules follow the address to which a link or an image leads.
 #[inline(always)]
-fn leads_on(rules: Rules, target: &FoundTarget<'_>) -> bool
-    ensures { result ≡ is_followed rules (found_target target.now).0 }
+fn leads_on(rules: Rules, target: LinkTarget<'_>) -> bool
+    ensures { result ≡ is_followed rules (led_to target.entry).0 }
 {
-    rules.any_address() || is_followed(rules, target_to(target).dest())
+    rules.any_address() || is_followed(rules, target.dest())
 }
 
 /// The end of an inline link: `(`, a destination and a title or not, and `)`, with gaps between.
@@ -153,10 +151,11 @@ fn closed<'a>(
     }))
 }
 
-/// The end of a reference: a full one, a collapsed one or a shortcut. Where a label follows that isn't defined, there
-/// is none.
+/// The end of a reference: a full one, a collapsed one or a shortcut. Where a label follows that isn't defined, or that
+/// leads to an address which the rules don't follow, there is none.
 fn reference_end<'a>(
     alloc: Global,
+    rules: Rules,
     source: &'a str,
     definitions: &'a Definitions,
     behind: usize,
@@ -166,32 +165,43 @@ fn reference_end<'a>(
     requires order { behind ≤ at }
     requires stands { Stands source.now at 93 }
     ensures ends { IfOk result (λ found. ends_of source.now found
-        ≡ reference_end (defined_in definitions.now) (slice_range source.now behind at) (drop (at + 1) source.now)) }
+        ≡ end_if_followed rules (reference_end (defined_in definitions.now) (slice_range source.now behind at) (drop (at + 1) source.now))) }
     ensures boundary { IfOk result (λ found. IfSome found (λ e. IsCharBoundary source.now e.end)) }
 {
     if let Some((full, end)) = label(source, at + 1) {
-        return reference(alloc, definitions, full, end);
+        return reference(alloc, rules, definitions, full, end);
     }
     match label_between(source, behind, at) {
-        Some(between) => reference(alloc, definitions, between, after_brackets(source, at + 1)),
+        Some(between) => reference(
+            alloc,
+            rules,
+            definitions,
+            between,
+            after_brackets(source, at + 1),
+        ),
         None => Ok(None),
     }
 }
 
-/// Where a reference by a label leads that ends at a place, if the label is defined.
+/// Where a reference by a label leads that ends at a place, if the label is defined and the rules follow its address.
 #[inline(always)]
 fn reference<'a>(
     alloc: Global,
+    rules: Rules,
     definitions: &'a Definitions,
     label: &str,
     end: usize,
 ) -> Result<Option<LinkEnd<'a>>, NoMemory>
-    ensures ends { IfOk result (λ found. (source : List ℕ) → ends_of source found ≡ leads_to (target_of (defined_in definitions.now) label.now) (drop end source)) }
+    ensures ends { IfOk result (λ found. (source : List ℕ) →
+        ends_of source found ≡ end_if_followed rules (leads_to (target_of (defined_in definitions.now) label.now) (drop end source))) }
     ensures end { IfOk result (λ found. IfSome found (λ e. e.end ≡ end)) }
 {
     let Some(target) = definitions.target(label)? else {
         return Ok(None);
     };
+    if !leads_on(rules, target) {
+        return Ok(None);
+    }
     Ok(Some(LinkEnd {
         target: FoundTarget::Defined(target),
         end,

@@ -3,18 +3,15 @@ use Rattle.std.proofs.Common.{◌≡◌, ◌∙◌, codes, ℕ, List, [], ◌∷
 use Rattle.std.specs.Prelude.{Bool, option_map, None}
 use Rattle.std.specs.List.{slice_range}
 use Rattle.cm_text.specs.Rules.{Rules}
-use Rattle.cm_tree.specs.Depth.{inlines_depth, depth_step}
+use Rattle.cm_tree.specs.Depth.{inlines_depth}
 use Rattle.cm_tree.specs.declared.tree.Inline.{Inline}
-use Rattle.cm_tree.specs.declared.tree.Inline.TheFolds.{fold_out-Inline}
-use Rattle.cm_tree.specs.declared.tree.Inline.TheVariants.{Text, outs-Text}
 use Rattle.cm_tree.specs.declared.tree.Block.{Block}
 use Rattle.cm_tree.specs.declared.tree.Block.TheFolds.{fold_out-Block}
 use Rattle.cm_tree.specs.declared.tree.Block.TheVariants.{Paragraph, Heading, Code, Html, Break, Definition, Quote, List as ListBlock, outs-Paragraph, outs-Heading, outs-Code, outs-Html, outs-Break, outs-Definition, outs-Quote, outs-List}
 use Rattle.cm_tree.specs.declared.tree.ListKind.{ListKind}
-use Rattle.cm_html.specs.Html.{Rendered, inline_step, rendered, Written, block_step, written, alone, html_of, inlines_html, heading_html, code_html, quote_html, list_start, list_end, items_html}
+use Rattle.cm_html.specs.Html.{Written, block_step, written, alone, html_of, inlines_html, heading_html, code_html, quote_html, list_start, list_end, items_html}
 use Rattle.cm_html.specs.Html.Written.{Nothing, Inlines, Whole}
 use Rattle.cm_html.specs.steps.ItemPass.{line_feed, inside_from}
-use Rattle.cm_html.specs.Escape.{escape}
 use Rattle.cm_scan.specs.Brackets.{Defined}
 use Rattle.cm_scan.specs.Inlines.{inlines_of, items_of, items_after}
 use Rattle.cm_scan.specs.Pairing.{settled_after, pair_all, pairs_within}

@@ -1,7 +1,7 @@
 use Rattle.std.proofs.Common.{◌+◌, drop, None, sym, ap, ◌∙◌, arith}
 use Rattle.std.specs.List.{slice_range}
 use Rattle.std.proofs.lemmas.Str.{IsCharBoundary-after_ascii}
-use Rattle.cm_scan.specs.Brackets.{defined_in, target_of}
+use Rattle.cm_scan.specs.Brackets.{defined_in, target_of, end_if_followed}
 use Rattle.cm_inline.specs.steps.Links.{leads_to}
 use Rattle.cm_inline.proofs.LinkLemmas.{led, by-full, by-between}
 use Rattle.cm_inline.proofs.links.reference_end.Goals as goal
@@ -13,7 +13,7 @@ pub returns-in-Some-clause-ends : goal.returns-in-Some-clause-ends
 returns-in-Some-clause-ends c =
     let source = c.args.source.now in
     let defined = defined_in c.args.definitions.now in
-    led source c.reference.result (target_of defined c.in-Some.full.now) c.in-Some.end _
+    led c.args.rules source c.reference.result (target_of defined c.in-Some.full.now) c.in-Some.end _
     (sym (by-full defined (slice_range source c.args.behind c.args.at) (drop (c.args.at + 1) source) (record { text = c.in-Some.full.now; rest = drop c.in-Some.end source }) c.in-Some.ensures.read))
     c.reference.ensures.ends
 
@@ -25,7 +25,7 @@ returns-in-Some-label_between-clause-ends c =
     let source = c.args.source.now in
     let defined = defined_in c.args.definitions.now in
     let target = target_of defined c.in-Some-label_between.between.now in
-    led source c.reference-in-Some-label_between.result target c.after_brackets.result _
+    led c.args.rules source c.reference-in-Some-label_between.result target c.after_brackets.result _
     (ap (leads_to target) c.after_brackets.ensures.rest
     ∙ sym (by-between defined (slice_range source c.args.behind c.args.at) (drop (c.args.at + 1) source) target c.in_default.ensures.read (c.in-Some-label_between.ensures defined)))
     c.reference-in-Some-label_between.ensures.ends
@@ -34,4 +34,4 @@ pub returns-in-None-clause-ends : goal.returns-in-None-clause-ends
 returns-in-None-clause-ends c =
     let source = c.args.source.now in
     let defined = defined_in c.args.definitions.now in
-    sym (by-between defined (slice_range source c.args.behind c.args.at) (drop (c.args.at + 1) source) None c.in_default.ensures.read (c.in-None.ensures defined))
+    sym (ap (end_if_followed c.args.rules) (by-between defined (slice_range source c.args.behind c.args.at) (drop (c.args.at + 1) source) None c.in_default.ensures.read (c.in-None.ensures defined)))
