@@ -1,5 +1,5 @@
 -- The next byte that passes a test, found many lanes at a time.
-use Rattle.std.proofs.Common.{◌≡◌, ℕ, zero, suc, ◌+◌, ◌-◌, ◌*◌, ◌/◌, ◌%◌, ◌^◌, ◌<◌, ◌≤◌, bit_and, Bool, true, false, cond, eqb, replicate, List, [], ◌∷◌, map, nat_lt, Option, inl, inr, length, drop, get_or, subst, refl, sym, ap, ap₂, ◌∙◌, arith, w8, Fits, length-drop}
+use Rattle.std.proofs.Common.{◌≡◌, ℕ, zero, suc, ◌+◌, ◌-◌, ◌*◌, ◌/◌, ◌%◌, ◌^◌, ◌<◌, ◌≤◌, bit_and, Bool, true, false, not, cond, eqb, replicate, List, [], ◌∷◌, map, nat_lt, Option, Some, None, inl, inr, length, drop, get_or, subst, refl, sym, ap, ap₂, ◌∙◌, arith, w8, Fits, length-drop}
 use Rattle.std.specs.Simd.Lanes.{zip2, mask_l, top, Each1}
 use Rattle.std.proofs.lemmas.Nat.{and_le_r}
 use Rattle.std.proofs.lemmas.Simd.{map-map, mask_l-mod, zip2_splat, swz_l, length-swz_l, get_or-swz_l_below, SwzOk, SwzOk-from_below}
@@ -7,7 +7,8 @@ use Rattle.std.proofs.lemmas.List.{length-map, map-id, ext_get_or, get_or-drop, 
 use Rattle.std.proofs.lemmas.List.Sums.{position_or_len_is, fails_before_first, passes_at_first}
 use Rattle.std.proofs.lemmas.Bool.{cases_lt, agree_below, agree_below_at, ltb-true, ltb-false, true≢false}
 use Rattle.std.specs.Bool.{then_some}
-use Rattle.std.specs.List.{position_or_len}
+use Rattle.std.specs.Option.{is_some}
+use Rattle.std.specs.List.{position_or_len, prefix_len}
 use Rattle.memchr.specs.Find.{IsFirstByte}
 use Rattle.cm_text.specs.Search.{next_place}
 
@@ -84,6 +85,20 @@ pub masked : (f : ℕ → ℕ) (p : ℕ → Bool) → agree_below (λ x. top 7 (
     → mask_l (map (top 7) z) % 2 ^ 64 ≡ mask_l (map p v)
 masked f p agree v z few fits lanes =
     ap (λ l. mask_l l % 2 ^ 64) (ap (map (top 7)) lanes ∙ tops f p agree v fits) ∙ mask_l-mod (map p v) 64 (omega (arith, length-map v p))
+
+-- a lane that passes stands in a mask that isn't empty
+pub some-passes : (p : ℕ → Bool) (v : List ℕ) → 0 < mask_l (map p v) → prefix_len (λ b. not (p b)) v < length v
+some-passes p [] some = absurd (omega (arith, some))
+some-passes p (x ∷ xs) some = go (p x) some (some-passes p xs)
+  where
+    go : (b : Bool) → 0 < cond b 1 0 + 2 * mask_l (map p xs) → (0 < mask_l (map p xs) → prefix_len (λ y. not (p y)) xs < length xs)
+        → cond (not b) (1 + prefix_len (λ y. not (p y)) xs) 0 < suc (length xs)
+    go true some rest = omega arith
+    go false some rest = omega (arith, rest (omega (arith, some)))
+
+pub not-some : (o : Option ℕ) → is_some o ≡ false → o ≡ None
+not-some None e = refl
+not-some (Some n) e = absurd (cc e)
 
 -- a place up to which all fail, and where one passes unless it is the end
 pub place-is : (p : ℕ → Bool) (bs : List ℕ) (from i : ℕ) → from ≤ i → i ≤ length bs → ((k : ℕ) → from ≤ k → k < i → p (get_or bs k 0) ≡ false)

@@ -1,5 +1,5 @@
 //! The search for bytes of a kind, many at a time, each in a lane of a wide register.
-ghost use Rattle.std.specs.Prelude.{◌≡◌, ℕ, ◌+◌, ◌<◌, ◌≤◌, Bool, false, not, length, get_or, map};
+ghost use Rattle.std.specs.Prelude.{◌≡◌, ℕ, ◌+◌, ◌<◌, ◌≤◌, Bool, false, not, length, get_or, map, None, IfSome};
 ghost use Rattle.std.specs.List.{prefix_len};
 ghost use Rattle.std.specs.Simd.Lanes.{chunk, mask_l};
 ghost use Rattle.cm_text.specs.Search.{next_place, is_marked};
@@ -20,29 +20,28 @@ pub trait ByteKind {
         ensures { result ≡ mask_l (map passes lanes) };
 }
 
-/// How many of the 16 bytes from `at` on come before the first of the kind.
+/// How many of the 16 bytes from `at` on come before the first of the kind, if one of them is.
 #[inline(always)]
-fn run_of_16<K: ByteKind>(bytes: &[u8], at: usize) -> usize
+fn run_of_16<K: ByteKind>(bytes: &[u8], at: usize) -> Option<usize>
     requires { at + 16 ≤ length bytes.now }
-    ensures { result ≡ prefix_len (λ b. not (K.passes b)) (chunk at 16 bytes.now) }
+    ensures none { result ≡ None → prefix_len (λ b. not (K.passes b)) (chunk at 16 bytes.now) ≡ 16 }
+    ensures some { IfSome result (λ run. run ≡ prefix_len (λ b. not (K.passes b)) (chunk at 16 bytes.now)) }
+    ensures within { IfSome result (λ run. run < 16) }
 {
     let marks = K::lanes(u8x16::from_slice(&bytes[at..]));
     if marks == 0 {
-        16
-    } else {
-        marks.trailing_zeros() as usize
+        return None;
     }
+    Some(marks.trailing_zeros() as usize)
 }
 
-/// The same as `next_of`, byte by byte, from a place up to which there is none.
+/// The same as `next_of`, byte by byte.
 #[inline(always)]
-fn next_slowly<K: ByteKind>(bytes: &[u8], from: usize, passed: usize) -> usize
-    requires within { from ≤ passed }
-    requires none { (k : ℕ) → from ≤ k → k < passed → K.passes (get_or bytes.now k 0) ≡ false }
-    requires end { passed ≤ length bytes.now }
+fn next_slowly<K: ByteKind>(bytes: &[u8], from: usize) -> usize
+    requires { from ≤ length bytes.now }
     ensures { result ≡ next_place K.passes bytes.now from }
 {
-    for at in passed..bytes.len() {
+    for at in from..bytes.len() {
         if K::contains(bytes[at]) {
             return at;
         }
@@ -58,20 +57,22 @@ pub fn next_of<K: ByteKind>(bytes: &[u8], from: usize) -> usize
     if from >= bytes.len() {
         return bytes.len();
     }
+    if bytes.len() - from < 16 {
+        return next_slowly::<K>(bytes, from);
+    }
+    let last = bytes.len() - 16;
     let mut at = from;
-    while bytes.len() - at >= 16 {
-        let run = run_of_16::<K>(bytes, at);
-        if run < 16 {
+    while at < last {
+        if let Some(run) = run_of_16::<K>(bytes, at) {
             return at + run;
         }
         at += 16;
     }
-    if bytes.len() - from >= 16 {
-        // The last 16 once more: what has been passed of them is not of the kind.
-        let last = bytes.len() - 16;
-        return last + run_of_16::<K>(bytes, last);
+    // What has been passed of the last 16 is not of the kind.
+    match run_of_16::<K>(bytes, last) {
+        Some(run) => last + run,
+        None => bytes.len(),
     }
-    next_slowly::<K>(bytes, from, at)
 }
 
 /// A place at or after `from` up to which there is none of the kind: all of 32 bytes are passed at a time.
@@ -86,7 +87,7 @@ fn pass_by_32<K: ByteKind>(bytes: &[u8], from: usize) -> usize
     while bytes.len() - at >= 32 {
         let first = run_of_16::<K>(bytes, at);
         let second = run_of_16::<K>(bytes, at + 16);
-        if first < 16 || second < 16 {
+        if first.is_some() || second.is_some() {
             return at;
         }
         at += 32;

@@ -1,6 +1,7 @@
-use Rattle.std.proofs.Common.{◌+◌, ◌≤◌, length, inl, inr, arith}
+use Rattle.std.proofs.Common.{◌+◌, ◌≤◌, length, inl, inr, sym, ◌∙◌, arith}
 use Rattle.std.proofs.lemmas.Bool.{cases_lt}
 use Rattle.std.proofs.lemmas.Simd.{run_in_chunk_fails}
+use Rattle.cm_text.proofs.SearchLemmas.{not-some}
 use Rattle.cm_text.proofs.search.pass_by_32.Goals as goal
 
 pub loop-at-preserved : goal.loop-at-preserved
@@ -9,8 +10,10 @@ loop-at-preserved g c =
     let at = c.loop-at.at in
     let fits : at + 16 ≤ length bs = omega arith in
     let fits-more : at + 16 + 16 ≤ length bs = omega arith in
-    let first = run_in_chunk_fails g.K.ByteKind.passes bs at 16 c.run_of_16-first.result 0 fits c.run_of_16-first.ensures in
-    let second = run_in_chunk_fails g.K.ByteKind.passes bs (at + 16) 16 c.run_of_16-second.result 0 fits-more c.run_of_16-second.ensures in
+    let none = not-some c.run_of_16-first.result (sym c.is_some.ensures ∙ c.if-is_some.false) in
+    let no-more = not-some c.run_of_16-second.result (sym c.is_some-else-is_some.ensures ∙ c.if-is_some-2.false) in
+    let first = run_in_chunk_fails g.K.ByteKind.passes bs at 16 16 0 fits (sym (c.run_of_16-first.ensures.none none)) in
+    let second = run_in_chunk_fails g.K.ByteKind.passes bs (at + 16) 16 16 0 fits-more (sym (c.run_of_16-second.ensures.none no-more)) in
     record {
       low = omega arith;
       within = omega arith;
