@@ -49,6 +49,7 @@ pub fn reference_at(text: &str, place: usize) -> Option<(Chars, usize)>
 }
 
 /// The reference with which a text begins, and how many bytes it takes.
+#[inline(always)]
 pub(crate) fn reference(text: &[u8]) -> Option<(Chars, usize)>
     ensures { read_of result ≡ reference text.now }
 {

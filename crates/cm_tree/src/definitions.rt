@@ -137,6 +137,7 @@ impl Definitions {
     /// # Errors
     ///
     /// As `find`.
+    #[inline(always)]
     pub fn target(&self, label: &str) -> Result<Option<LinkTarget<'_>>, NoMemory>
         ensures { IfOk result (λ found. option_map led_to found ≡ map.get self.now (fold_label label.now)) }
     {
