@@ -1,10 +1,10 @@
-use Rattle.std.proofs.Common.{◌≡◌, ◌+◌, ◌-◌, ◌<◌, [], ◌∷◌, ◌++◌, length, take, drop, get_or, sym, ap, subst, ◌∙◌, arith}
-use Rattle.std.proofs.lemmas.List.{append-nil, take_rest, drop_all, length-take, get_or_default}
+use Rattle.std.proofs.Common.{◌+◌, ◌-◌, ◌<◌, [], ◌∷◌, ◌++◌, length, take, drop, get_or, sym, ap, subst, ◌∙◌, arith}
+use Rattle.std.proofs.lemmas.List.{append-nil, take_rest, drop_all, get_or_default}
 use Rattle.cm_tree.specs.declared.tree.Inline.{Inline}
 use Rattle.cm_scan.specs.Pairing.{settled_after, settled}
 use Rattle.cm_inline.specs.declared.tokens.Token.TheVariants as tokens
 use Rattle.cm_inline.specs.steps.Nodes.{items_of, inline_of}
-use Rattle.cm_inline.specs.steps.Groups.{Made, grouped, group_made, groups_made, node_of, nodes_of, AreGroups, IsBelow, IsGroup, ArePlaced}
+use Rattle.cm_inline.specs.steps.Groups.{Made, grouped, group_made, groups_made, node_of, nodes_of, IsBelow, ArePlaced}
 use Rattle.cm_inline.proofs.GroupLemmas.{made-at, behind-front, placed-range, placed-drop, placed-at}
 use Rattle.cm_inline.proofs.SettlingLemmas.{below-one, settled-behind, settled-further}
 use Rattle.cm_inline.proofs.settling.+settling.Goals as goal
