@@ -343,6 +343,17 @@ module _ (rules : Rules) (source : List ℕ) (at : ℕ) where
       none true = hard-holds
       none false = soft-holds
 
+  -- a line feed with no space before it
+  pub feed-is : IsUtf8 source → Stands source at 10 → IsAtom rules source at (finished inline.Soft 0) (at + 1)
+  unfolding run_length after_run
+  feed-is utf8 s =
+      let first : drop at source ≡ 10 ∷ drop (at + 1) source = front source at 10 s in
+      let none : run_length 32 (drop at source) ≡ 0 = ap (run_length 32) first in
+      let stays : after_run 32 (drop at source) ≡ drop at source = ap (after_run 32) first ∙ sym first in
+      let size : at - at ≡ 0 = omega arith in
+      subst (λ n. IsAtom rules source at (finished (if nat_le 2 n then inline.Hard else inline.Soft) 0) (at + 1)) size
+      (break-is 10 at utf8 s refl (omega (arith, none)) (sym stays) (ap (begins_with 10) first))
+
   pub space-is-text : (b feed : ℕ) → IsUtf8 source → Stands source at b → is_break_byte b ≡ true → drop feed source ≡ after_run 32 (drop at source)
       → begins_with 10 (drop feed source) ≡ false → IsAtom rules source at (Piece at (at + 1)) (at + 1)
   space-is-text b feed utf8 s is left next =

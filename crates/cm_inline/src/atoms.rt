@@ -1,5 +1,5 @@
 //! The atoms of a leaf's source: what begins at a place (CommonMark 0.31.2, chapter 6).
-ghost use Rattle.std.specs.Prelude.{◌≡◌, ◌≢◌, ◌==◌, ◌+◌, ◌<◌, ◌≤◌, ◌^◌, ◌&&◌, ◌||◌, not, ℕ, [], true, false, length, drop, slice_index, nat_le, if◌then◌else◌, IfOk, OnOk, IfSome, IsUtf8};
+ghost use Rattle.std.specs.Prelude.{◌≡◌, ◌≢◌, ◌==◌, ◌+◌, ◌<◌, ◌≤◌, ◌^◌, ◌&&◌, ◌||◌, not, [], false, length, drop, slice_index, nat_le, if◌then◌else◌, IfOk, OnOk, IfSome, IsUtf8};
 ghost use Rattle.std.specs.Str.{IsCharBoundary};
 ghost use Rattle.cm_inline.specs.declared.written.Written.TheVariants.{Soft, Hard};
 ghost use Rattle.cm_scan.specs.RawHtml.{raw_html};
@@ -8,7 +8,7 @@ ghost use Rattle.cm_text.specs.Rules.{Rules};
 ghost use Rattle.cm_inline.specs.steps.Missing.{Knows};
 ghost use Rattle.cm_inline.specs.declared.tokens.Token.TheVariants.{Piece, Opener};
 ghost use Rattle.cm_inline.specs.steps.Brackets.{Puts};
-ghost use Rattle.cm_inline.specs.steps.Reads.{Stands, IsTextTo, IsAtom, is_break_byte};
+ghost use Rattle.cm_inline.specs.steps.Reads.{Stands, IsTextTo, IsAtom};
 ghost use Rattle.cm_inline.specs.steps.Groups.{node_of};
 ghost use Rattle.cm_inline.specs.steps.Runs.{byte_of};
 
@@ -65,7 +65,7 @@ pub(crate) fn read_atom(
         }
         b'\\' => put(rules, source, at, reader, backslash(source, at)),
         b'&' => put(rules, source, at, reader, ampersand(source, at)),
-        b'\n' => put(rules, source, at, reader, line_break(source, at)),
+        b'\n' => put(rules, source, at, reader, line_feed(source, at)),
         b' ' => put(rules, source, at, reader, line_break(source, at)),
         b'!' => put(rules, source, at, reader, exclamation_mark(source, at)),
         b'[' => put(rules, source, at, reader, opener(false, at + 1)),
@@ -254,7 +254,7 @@ fn ampersand(source: &str, at: usize) -> (Token, usize)
 
 /// A line feed with the spaces before it, or one space as text (6.7 Hard line breaks, 6.8 Soft line breaks).
 fn line_break(source: &str, at: usize) -> (Token, usize)
-    requires stands { (b : ℕ) × Stands source.now at b × (is_break_byte b ≡ true) }
+    requires { Stands source.now at 32 }
     ensures { (rules : Rules) → IsAtom rules source.now at (node_of [] result.0) result.1 }
 {
     let feed = after_run(b' ', source, at);
@@ -262,6 +262,15 @@ fn line_break(source: &str, at: usize) -> (Token, usize)
         return text(at, at + 1);
     }
     (Token::Whole(break_behind(feed - at)), feed + 1)
+}
+
+/// A line feed with no space before it (6.8 Soft line breaks).
+#[inline(always)]
+fn line_feed(source: &str, at: usize) -> (Token, usize)
+    requires { Stands source.now at 10 }
+    ensures { (rules : Rules) → IsAtom rules source.now at (node_of [] result.0) result.1 }
+{
+    (Token::Whole(Written::Soft), at + 1)
 }
 
 /// The line break behind so many spaces.

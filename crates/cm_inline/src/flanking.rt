@@ -56,6 +56,7 @@ fn may_open(marker: Marker, before: Neighbour, after: Neighbour) -> bool
 
 /// The delimiter run that stands between two places.
 #[tactic(auto, unfolding(cm_scan::specs::Atoms::run_between))]
+#[inline(always)]
 pub(crate) fn run_between(
     rules: Rules,
     source: &str,

@@ -108,6 +108,7 @@ impl Groups {
     }
 
     /// Adds a group that leads there, and in which the tokens between these places stand.
+    #[inline(always)]
     pub(crate) fn push(
         &mut self,
         kind: Kind,

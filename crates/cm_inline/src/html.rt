@@ -221,16 +221,17 @@ fn push_start(html: &mut Pages, making: Making<'_>) -> Result<(), AllocError>
     }
 }
 
-/// The end tag of emphasis or a link.
-fn end_tag(kind: Kind) -> &'static str
-    ensures { result.now ≡ end_html kind }
+/// Adds the end tag of emphasis or a link.
+#[inline(always)]
+fn push_end(html: &mut Pages, kind: Kind) -> Result<(), AllocError>
+    ensures { OnOk result (html.new ≡ html.old ++ end_html kind) }
 {
     match kind {
-        Kind::Emph => "</em>",
-        Kind::Strong => "</strong>",
-        Kind::Strike => "</del>",
-        Kind::Link => "</a>",
-        Kind::Image => "",
+        Kind::Emph => html.push_str("</em>"),
+        Kind::Strong => html.push_str("</strong>"),
+        Kind::Strike => html.push_str("</del>"),
+        Kind::Link => html.push_str("</a>"),
+        Kind::Image => Ok(()),
     }
 }
 
@@ -256,6 +257,31 @@ fn push_image(
     push_image_end(html, target)
 }
 
+/// Adds the HTML of the tokens of a group, which most often are one text.
+#[cycle(html)]
+#[inline(always)]
+fn push_content(
+    alloc: Global,
+    html: &mut Pages,
+    source: &str,
+    inside: &[Token],
+    groups: &FirstGroups<'_>,
+    tokens: &[Token],
+) -> Result<(), AllocError>
+    requires placed { ArePlaced source.now inside.now }
+    requires groups { AreGroups inside.now 0 groups.now }
+    requires below { AreBelow (length groups.now) tokens.now }
+    requires tokens { ArePlaced source.now tokens.now }
+    ensures { OnOk result (html.new ≡ html.old ++ nodes_html source.now (nodes_of (groups_made inside.now groups.now) tokens.now)) }
+{
+    if tokens.len() == 1 {
+        if let Token::Piece { from, to } = tokens[0] {
+            return html.push_escaped(part(source, from, to));
+        }
+    }
+    push_tokens(alloc, html, source, inside, groups, tokens)
+}
+
 /// Adds the HTML of a group, which holds groups before it.
 #[cycle(html)]
 fn push_group(
@@ -275,15 +301,9 @@ fn push_group(
         return push_image(html, source, inside, groups, group);
     }
     push_start(html, group.making)?;
-    push_tokens(
-        alloc,
-        html,
-        source,
-        inside,
-        groups,
-        &inside[group.from..group.to],
-    )?;
-    html.push_str(end_tag(group.making.kind))
+    let tokens = &inside[group.from..group.to];
+    push_content(alloc, html, source, inside, groups, tokens)?;
+    push_end(html, group.making.kind)
 }
 
 /// Adds the HTML of the inlines that come of nodes.

@@ -16,6 +16,7 @@ use memchr::memchr;
 use std::alloc::AllocError;
 
 /// Adds the characters of a reference.
+#[inline(always)]
 fn push_chars(html: &mut Pages, chars: Chars) -> Result<(), AllocError>
     ensures { OnOk result (html.new ≡ html.old ++ escape (encode_utf8_all (chars_of chars))) }
 {

@@ -112,6 +112,7 @@ fn add_run(
 }
 
 /// Makes all pairs among the nodes from a number on: those of a leaf, or of the text of a link.
+#[inline(always)]
 pub(crate) fn pair_from(
     limit: usize,
     nodes: &mut Nodes,
@@ -129,6 +130,25 @@ pub(crate) fn pair_from(
     if !nodes.has_closer_from(from) {
         return Ok(());
     }
+    make_pairs(limit, nodes, openers, from)
+}
+
+/// The same, whether or not a run may close. It is a call of its own, since in few texts of links one may.
+#[inline(never)]
+fn make_pairs(
+    limit: usize,
+    nodes: &mut Nodes,
+    openers: &mut Openers,
+    from: usize,
+) -> Result<(), InlineFault>
+    requires long { from ≤ length (nodes_in nodes.old) }
+    requires few { (source : List ℕ) → openers.old.list.looks + allowance 13 (items_of source (drop from (nodes_in nodes.old))) < 2 ^ 127 }
+    ensures pairs { OnOk result ((source : List ℕ) → items_of source (drop from (nodes_in nodes.new)) ≡ pair_all (items_of source (drop from (nodes_in nodes.old)))) }
+    ensures stays { OnOk result (Stays from nodes.old nodes.new) }
+    ensures deep { result ≡ Err InlinesTooDeep → (source : List ℕ) → AreParts source (nodes_in nodes.old)
+        → limit < items_depth (pair_all (items_of source (drop from (nodes_in nodes.old)))) }
+    ensures looks { OnOk result ((source : List ℕ) → AreLooks openers.old.list.looks (items_of source (drop from (nodes_in nodes.old))) openers.new.list.looks (items_emphases (pair_all (items_of source (drop from (nodes_in nodes.old)))))) }
+{
     openers.clear();
     nodes.set_aside(from)?;
     while let Some(run) = nodes.pass()? {

@@ -14,10 +14,10 @@ pub put-requires-in-38-clause-atom : goal.put-requires-in-38-clause-atom
 put-requires-in-38-clause-atom c = c.ampersand.ensures c.args.rules
 
 pub put-requires-in-10-clause-atom : goal.put-requires-in-10-clause-atom
-put-requires-in-10-clause-atom c = c.line_break.ensures c.args.rules
+put-requires-in-10-clause-atom c = c.line_feed.ensures c.args.rules
 
 pub put-requires-in-32-clause-atom : goal.put-requires-in-32-clause-atom
-put-requires-in-32-clause-atom c = c.line_break-in-32.ensures c.args.rules
+put-requires-in-32-clause-atom c = c.line_break.ensures c.args.rules
 
 pub put-requires-in-33-clause-atom : goal.put-requires-in-33-clause-atom
 put-requires-in-33-clause-atom c = c.exclamation_mark.ensures c.args.rules

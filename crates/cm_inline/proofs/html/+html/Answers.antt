@@ -1,17 +1,17 @@
-use Rattle.std.proofs.Common.{◌≡◌, ◌++◌, ◌+◌, ◌<◌, length, drop, sym, ap, subst, ◌∙◌, arith}
+use Rattle.std.proofs.Common.{◌≡◌, ◌++◌, ◌+◌, ◌<◌, length, drop, refl, sym, ap, subst, ◌∙◌, arith}
 use Rattle.std.specs.Prelude.{OnOk}
 use Rattle.std.specs.List.{slice_range}
 use Rattle.std.proofs.lemmas.List.{drop_more, drop_all}
 use Rattle.cm_html.specs.Escape.{escape}
 use Rattle.cm_html.specs.Html.{rendered}
 use Rattle.cm_inline.specs.steps.Nodes.{node_html, nodes_html}
-use Rattle.cm_inline.specs.steps.Groups.{grouped, target_of, group_made, groups_made, node_of, nodes_of, AreBelow, ArePlaced, IsBelow}
+use Rattle.cm_inline.specs.steps.Groups.{end_html, grouped, target_of, group_made, groups_made, node_of, nodes_of, AreBelow, ArePlaced, IsBelow}
 use Rattle.cm_inline.proofs.GroupLemmas.{made-at, behind-front, placed-range}
 use Rattle.cm_inline.proofs.HtmlLemmas.{group-html, image-made, text-further, text-written, text-last, on-ok}
 use Rattle.cm_inline.proofs.html.+html.Goals as goal
 
-pub push_group-push_tokens-requires : goal.push_group-push_tokens-requires
-push_group-push_tokens-requires t c =
+pub push_group-push_content-requires : goal.push_group-push_content-requires
+push_group-push_content-requires t c =
     let group = c.args.group in
     let asked = c.requires.1.1 in
     let placed = placed-range c.args.source.now c.args.inside.now group.from group.to asked.0 in
@@ -24,9 +24,9 @@ push_group-returns t c =
     let nodes = nodes_of (groups_made inside c.args.groups.now) (slice_range inside group.from group.to) in
     let html = c.args.html.now in
     let started = c.push_start.new.html in
-    let noded = c.push_tokens.new.html in
-    let written = group-html c.args.source.now html started noded group.making.kind (target_of group.making) nodes c.end_tag.result.now c.in_default.not-Image (c.in_ok-push_start.ensures) (c.in_ok-push_tokens.ensures) c.end_tag.ensures in
-    grind (arith, written, c.push_str.ensures)
+    let noded = c.push_content.new.html in
+    let written = group-html c.args.source.now html started noded group.making.kind (target_of group.making) nodes (end_html group.making.kind) c.in_default.not-Image (c.in_ok-push_start.ensures) (c.in_ok-push_content.ensures) refl in
+    grind (arith, written, c.push_end.ensures)
 
 pub push_group-returns-in-Image : goal.push_group-returns-in-Image
 push_group-returns-in-Image t c =

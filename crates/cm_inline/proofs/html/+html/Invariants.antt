@@ -8,16 +8,19 @@ use Rattle.cm_inline.proofs.html.+html.Given as goal
 
 -- A group holds groups before it alone.
 abbrev pub decreases-push_token : goal.decreases-push_token
-decreases-push_token l = 4 * length l.groups.now
+decreases-push_token l = 5 * length l.groups.now
 
 abbrev pub decreases-push_apart : goal.decreases-push_apart
-decreases-push_apart l = 4 * length l.groups.now + 1
+decreases-push_apart l = 5 * length l.groups.now + 1
 
 abbrev pub decreases-push_tokens : goal.decreases-push_tokens
-decreases-push_tokens l = 4 * length l.groups.now + 2
+decreases-push_tokens l = 5 * length l.groups.now + 2
+
+abbrev pub decreases-push_content : goal.decreases-push_content
+decreases-push_content l = 5 * length l.groups.now + 3
 
 abbrev pub decreases-push_group : goal.decreases-push_group
-decreases-push_group l = 4 * length l.groups.now + 3
+decreases-push_group l = 5 * length l.groups.now + 4
 
 -- what was written, the text that waits and what is left come to the whole
 abbrev pub invariant-push_tokens-loop-token : goal.invariant-push_tokens-loop-token

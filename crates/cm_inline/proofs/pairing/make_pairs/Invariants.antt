@@ -1,7 +1,7 @@
 use Rattle.std.proofs.Common.{length}
 use Rattle.cm_inline.specs.steps.Groups.{waiting_in}
 use Rattle.cm_inline.proofs.PassingLemmas.{Passing}
-use Rattle.cm_inline.proofs.pairing.pair_from.Given as goal
+use Rattle.cm_inline.proofs.pairing.make_pairs.Given as goal
 
 -- What was taken has been passed over.
 abbrev pub invariant-loop-run : goal.invariant-loop-run

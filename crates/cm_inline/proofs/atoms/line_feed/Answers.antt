@@ -1,0 +1,8 @@
+use Rattle.std.proofs.Common.{◌+◌}
+use Rattle.cm_inline.specs.declared.written.Written.TheVariants.{Soft}
+use Rattle.cm_inline.proofs.WrittenLemmas.{whole-is}
+use Rattle.cm_inline.proofs.AtomLemmas.{feed-is}
+use Rattle.cm_inline.proofs.atoms.line_feed.Goals as goal
+
+pub returns : goal.returns
+returns c = λ rules. whole-is rules c.args.source.now c.args.at Soft 0 (c.args.at + 1) tt (feed-is rules c.args.source.now c.args.at c.utf8.source c.requires)
