@@ -5,7 +5,9 @@ use Rattle.cm_text.specs.Feed.{Feed, StandsFor, with_ready}
 use Rattle.cm_text.specs.Lines.{plain_lines_of, lines_of, plain_line}
 use Rattle.cm_text.specs.TextLines.{AreTextLines}
 use Rattle.std.proofs.lemmas.List.{length-map}
-use Rattle.cm_tool.specs.steps.Handing.{Passed}
+use Rattle.cm_block.specs.declared.parser.BlockParser.{BlockParser}
+use Rattle.cm_block.specs.Parser.{StandsFor as HasTaken}
+use Rattle.cm_tool.specs.steps.Handing.{Passed, Hands}
 
 pub none_passed : (old : Feed) → Passed old old []
 none_passed old = record { same = refl; parts = refl; stands = λ bytes taken h. subst (StandsFor old bytes) (omega arith) h }
@@ -51,3 +53,10 @@ passed_then old middle new front more before after = record {
   stands = λ bytes taken h.
       subst (StandsFor new bytes) (omega (arith, length-append front more)) (after.stands bytes (taken + length front) (before.stands bytes taken h));
 }
+
+pub hands_then : (old middle new : Feed) (before between after : BlockParser) → Hands old before middle between → Hands middle between new after → Hands old before new after
+hands_then old middle new before between after first second = (
+  first.0 ++ second.0,
+  passed_then old middle new first.0 second.0 first.1 second.1,
+  λ lines h. subst (HasTaken after) (append_assoc lines first.0 second.0) (second.2 (lines ++ first.0) (first.2 lines h)),
+)

@@ -14,4 +14,4 @@ pub record Passed (old new : Feed) (front : List LineView) : Type 0 where
 -- and the blocks have been given them
 abbrev pub Hands : Feed → BlockParser → Feed → BlockParser → Type 0
 Hands old before new after =
-    (front : List LineView) × (Passed old new front × ((lines : List LineView) → HasTaken before lines → HasTaken after (lines ++ front)))
+    (front : List LineView) × Passed old new front × ((lines : List LineView) → HasTaken before lines → HasTaken after (lines ++ front))
