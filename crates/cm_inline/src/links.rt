@@ -165,7 +165,8 @@ fn reference_end<'a>(
     }
 }
 
-/// Where a reference by a label leads that ends at a place, if the label is defined and the rules follow its address.
+/// Where a reference by a label leads that ends at a place, if the label is defined and the rules follow its address,
+/// which the table knows.
 #[inline(always)]
 fn reference<'a>(
     alloc: Global,
@@ -178,12 +179,9 @@ fn reference<'a>(
         ends_of source found ≡ end_if_followed rules (leads_to (target_of (defined_in definitions.now) label.now) (drop end source))) }
     ensures end { IfOk result (λ found. IfSome found (λ e. e.end ≡ end)) }
 {
-    let Some(target) = definitions.target(label)? else {
+    let Some(target) = definitions.target_by(rules, label)? else {
         return Ok(None);
     };
-    if !leads_on(rules, target.dest()) {
-        return Ok(None);
-    }
     Ok(Some(LinkEnd {
         target: FoundTarget::Defined(target),
         end,

@@ -7,9 +7,10 @@ use crate::dialects::rules_of;
 use crate::trouble::{Trouble, wrong};
 use crate::words::{Word, number};
 use cm_scan::{
-    FenceKind, HtmlKind, atx, autolink, code_span, definition, destination, fence, fence_end,
-    holds_from, html_end, html_start, html_start_by, is_blank_text, item_marker, label,
-    quote_marker, raw_html, raw_html_by, thematic, title, trim_end, trim_end_spaces, underline,
+    Autolink, FenceKind, HtmlKind, atx, autolink, autolink_by, code_span, definition, destination,
+    fence, fence_end, holds_from, html_end, html_start, html_start_by, is_blank_text, item_marker,
+    label, quote_marker, raw_html, raw_html_by, thematic, title, trim_end, trim_end_spaces,
+    underline,
 };
 use cm_tree::ListKind;
 
@@ -102,17 +103,24 @@ fn named(answer: &mut Answer, started: Option<HtmlKind>) -> Result<(), Trouble> 
     }
 }
 
-/// An autolink: whether it is an e-mail address, what stands inside, its end.
-fn link(answer: &mut Answer, text: &str, at: usize) -> Result<(), Trouble>
-    requires { IsCharBoundary text.now at }
-{
-    match autolink(text, at) {
+/// An autolink that was found: whether it is an e-mail address, what stands inside, its end.
+fn link(answer: &mut Answer, found: Option<(Autolink<'_>, usize)>) -> Result<(), Trouble> {
+    match found {
         Some((link, end)) => {
             answer.truth(link.is_address)?;
             answer.slice(Some((link.text, end)))
         }
         None => answer.word("none"),
     }
+}
+
+/// An autolink by the rules of this name.
+fn link_by(answer: &mut Answer, name: &str, text: &String, at: usize) -> Result<(), Trouble> {
+    let rules = rules_of(answer.alloc, name)?;
+    if !text.is_char_boundary(at) {
+        return Err(wrong(answer.alloc, "the place is no boundary"));
+    }
+    link(answer, autolink_by(rules, text.as_str(), at))
 }
 
 /// Raw HTML by the rules of this name.
@@ -188,7 +196,7 @@ fn scans(answer: &mut Answer, name: &str, text: &String, at: usize) -> Result<bo
         return Ok(true);
     }
     match name {
-        "autolink" => link(answer, text, at)?,
+        "autolink" => link(answer, autolink(text, at))?,
         "definition" => link_definition(answer, text, at)?,
         _ => return starts(answer, name, text, at),
     }
@@ -254,6 +262,7 @@ fn by_name(
     match name {
         "html_end" => html_ends(answer, kind, text, at)?,
         "html_start_by" => html_starts(answer, kind, text, at)?,
+        "autolink_by" => link_by(answer, kind, text, at)?,
         "raw_html_by" => raw(answer, kind, text, at)?,
         _ => return Ok(false),
     }
