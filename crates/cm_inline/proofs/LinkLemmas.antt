@@ -6,7 +6,7 @@ use Rattle.std.proofs.lemmas.List.{drop_more}
 use Rattle.cm_text.specs.Rules.{Rules}
 use Rattle.cm_text.specs.Addresses.{is_followed}
 use Rattle.cm_text.specs.Unescaping.{unescape}
-use Rattle.cm_tree.specs.Definitions.{Target, target_if_followed}
+use Rattle.cm_tree.specs.Definitions.{Target}
 use Rattle.cm_scan.specs.Words.{begins_with, after_word}
 use Rattle.cm_scan.specs.Tags.{is_blank_next, after_gap}
 use Rattle.cm_scan.specs.Links.{Reading, label, destination, title}
@@ -168,16 +168,6 @@ module _ (source : List ℕ) (before at : ℕ) where
 -- what a scanner answered that may have found nothing
 pub turned : {E : Type 0} (source : List ℕ) (r : Result (Option LinkEnd) E) (a b : Option brackets.LinkEnd) → a ≡ b → IfOk r (λ found. ends_of source found ≡ a) → IfOk r (λ found. ends_of source found ≡ b)
 turned source r a b e h = subst (λ x. IfOk r (λ found. ends_of source found ≡ x)) e h
-
--- a target that is judged in the table
-pub judged : (rules : Rules) (target : Option Target) (rest : List ℕ) → leads_to (target_if_followed rules target) rest ≡ end_if_followed rules (leads_to target rest)
-judged rules None rest = refl
-judged rules (Some target) rest = go (is_followed rules target.0)
-  where
-    go : (t : Bool) → leads_to (elim t as (λ _. Option Target) [ true ↦ Some target | false ↦ None ]) rest
-        ≡ elim t as (λ _. Option brackets.LinkEnd) [ true ↦ Some (brackets.link_end target rest) | false ↦ None ]
-    go true = refl
-    go false = refl
 
 -- what a reference leads to, in this source
 pub led : {E : Type 0} (rules : Rules) (source : List ℕ) (r : Result (Option LinkEnd) E) (target : Option Target) (end : ℕ) (b : Option brackets.LinkEnd) → leads_to target (drop end source) ≡ b
