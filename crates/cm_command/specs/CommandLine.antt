@@ -48,6 +48,7 @@ inlines_rule = limit_rule (codes "inlines")
 abbrev pub flag_rule : Text → Rule
 flag_rule name = record (new_rule name) { long = Some name; action = Some SetTrue }
 
+-- the flags
 pub data Flag : Type 0 where
   Older : Flag
   Strike : Flag

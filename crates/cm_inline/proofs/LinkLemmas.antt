@@ -3,7 +3,6 @@ use Rattle.std.proofs.Common.{◌≡◌, ◌≢◌, ℕ, suc, ◌+◌, ◌<◌, 
 use Rattle.std.specs.List.{slice_range}
 use Rattle.std.specs.Str.{IsCharBoundary}
 use Rattle.std.proofs.lemmas.List.{drop_more}
-use Rattle.std.specs.Option.{is_some}
 use Rattle.cm_text.specs.Rules.{Rules}
 use Rattle.cm_text.specs.Addresses.{is_followed}
 use Rattle.cm_text.specs.Unescaping.{unescape}
@@ -194,31 +193,21 @@ place-in source at rules defined between (Err e) within h boundary = tt
 abbrev first_of : Rules → Defined → List ℕ → List ℕ → Option brackets.LinkEnd → Option brackets.LinkEnd
 first_of rules defined between text o = elim o [ Some end ↦ Some end | None ↦ end_if_followed rules (reference_end defined between text) ]
 
-module _ (rules : Rules) (defined : Defined) (between text : List ℕ) where
-  -- an end that the rules follow goes first
-  first-end : (o : Option brackets.LinkEnd) → is_some (end_if_followed rules o) ≡ true → o ≡ first_of rules defined between text (end_if_followed rules o)
-  first-end None s = absurd (cc s)
-  first-end (Some end) s = go (is_followed rules end.dest) s
-    where
-      go : (t : Bool) → is_some (elim t as (λ _. Option brackets.LinkEnd) [ true ↦ Some end | false ↦ None ]) ≡ true
-          → Some end ≡ first_of rules defined between text (elim t as (λ _. Option brackets.LinkEnd) [ true ↦ Some end | false ↦ None ])
-      go true s = refl
-      go false s = absurd (cc s)
+-- an inline link's end goes first
+pub inline-first : (source : List ℕ) (rules : Rules) (defined : Defined) (between text : List ℕ) (found : Option LinkEnd) (e : LinkEnd) → found ≡ Some e → ends_of source found ≡ end_if_followed rules (inline_end text)
+    → ends_of source (Some e) ≡ end_at rules defined between text
+unfolding end_at
+inline-first source rules defined between text found e same h = ap (first_of rules defined between text) (ap (ends_of source) (sym same) ∙ h)
 
-  later-end : (o : Option brackets.LinkEnd) → is_some (end_if_followed rules o) ≡ false → end_if_followed rules (reference_end defined between text) ≡ first_of rules defined between text (end_if_followed rules o)
-  later-end None s = refl
-  later-end (Some end) s = go (is_followed rules end.dest) s
-    where
-      go : (t : Bool) → is_some (elim t as (λ _. Option brackets.LinkEnd) [ true ↦ Some end | false ↦ None ]) ≡ false
-          → end_if_followed rules (reference_end defined between text) ≡ first_of rules defined between text (elim t as (λ _. Option brackets.LinkEnd) [ true ↦ Some end | false ↦ None ])
-      go true s = absurd (cc s)
-      go false s = refl
+pub no-inline : (source : List ℕ) (rules : Rules) (defined : Defined) (between text : List ℕ) (found : Option LinkEnd) → found ≡ None → ends_of source found ≡ end_if_followed rules (inline_end text)
+    → end_if_followed rules (reference_end defined between text) ≡ end_at rules defined between text
+unfolding end_at
+no-inline source rules defined between text found none h = ap (first_of rules defined between text) (ap (ends_of source) (sym none) ∙ h)
 
-  module _ (source : List ℕ) (found : Option LinkEnd) (is : ends_of source found ≡ inline_end text) where
-    pub inline-first : is_some (end_if_followed rules (ends_of source found)) ≡ true → ends_of source found ≡ end_at rules defined between text
-    unfolding end_at
-    inline-first s = first-end (ends_of source found) s ∙ ap (λ o. first_of rules defined between text (end_if_followed rules o)) is
+-- an end by whether the rules follow where it leads
+module _ (rules : Rules) (end : brackets.LinkEnd) where
+  pub end-followed : is_followed rules end.dest ≡ true → Some end ≡ end_if_followed rules (Some end)
+  end-followed on = sym (ap (λ (t : Bool). elim t as (λ _. Option brackets.LinkEnd) [ true ↦ Some end | false ↦ None ]) on)
 
-    pub no-inline : is_some (end_if_followed rules (ends_of source found)) ≡ false → end_if_followed rules (reference_end defined between text) ≡ end_at rules defined between text
-    unfolding end_at
-    no-inline s = later-end (ends_of source found) s ∙ ap (λ o. first_of rules defined between text (end_if_followed rules o)) is
+  pub end-not-followed : is_followed rules end.dest ≡ false → None ≡ end_if_followed rules (Some end)
+  end-not-followed off = sym (ap (λ (t : Bool). elim t as (λ _. Option brackets.LinkEnd) [ true ↦ Some end | false ↦ None ]) off)

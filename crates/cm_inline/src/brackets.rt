@@ -4,6 +4,7 @@ ghost use Rattle.std.specs.Str.{IsCharBoundary};
 ghost use Rattle.cm_scan.specs.Brackets.{defined_in};
 ghost use Rattle.cm_scan.specs.Pairing.{bracket_text};
 ghost use Rattle.cm_inline.specs.declared.fault.InlineFault.TheVariants.{InlinesTooDeep};
+ghost use Rattle.cm_tree.specs.LinkTargets.{led_to};
 ghost use Rattle.cm_tree.specs.declared.tree.Inline.{Inline};
 ghost use Rattle.cm_inline.specs.steps.Groups.{made_of, target_of, node_of, nodes_in, IsNoGroup};
 ghost use Rattle.cm_inline.specs.steps.Nodes.{items_of, IsOpener};
@@ -16,13 +17,13 @@ ghost use Rattle.cm_inline.specs.steps.Brackets.{IsReadTo, IsReadWith, bracket_i
 use crate::ends::Ends;
 use crate::fault::InlineFault;
 use crate::groups::{Kind, Making};
-use crate::links::{LinkEnd, link_end, target_to};
+use crate::links::{FoundTarget, LinkEnd, link_end};
 use crate::nodes::Nodes;
 use crate::openers::Openers;
 use crate::pairing::pair_from;
 use crate::tokens::Token;
 use cm_text::{NoMemory, Rules};
-use cm_tree::Definitions;
+use cm_tree::{Definitions, LinkTarget};
 use std::alloc::{AllocError, Global};
 
 /// A `[` or `![` that nothing was made of yet: the number of its node, and the place behind it.
@@ -236,5 +237,15 @@ fn making_of<'a>(image: bool, end: &'a LinkEnd<'_>) -> Making<'a>
     Making {
         kind: if image { Kind::Image } else { Kind::Link },
         target: target_to(&end.target),
+    }
+}
+
+/// Where a group that is made leads.
+fn target_to<'a>(target: &'a FoundTarget<'_>) -> LinkTarget<'a>
+    ensures { led_to result ≡ found_target target.now }
+{
+    match target {
+        FoundTarget::Inline { dest, title } => LinkTarget::Plain { dest, title },
+        FoundTarget::Defined(target) => *target,
     }
 }

@@ -1,12 +1,11 @@
 //! Where links and images lead, and where they end (CommonMark 0.31.2, 6.3 Links).
-ghost use Rattle.std.specs.Prelude.{◌≡◌, ◌+◌, ◌-◌, ◌<◌, ◌≤◌, ℕ, List, length, drop, slice_index, is_some, IfOk, IfSome};
+ghost use Rattle.std.specs.Prelude.{◌≡◌, ◌+◌, ◌-◌, ◌<◌, ◌≤◌, ℕ, List, length, drop, slice_index, IfOk, IfSome};
 ghost use Rattle.std.specs.List.{slice_range};
 ghost use Rattle.std.specs.Str.{IsCharBoundary};
 ghost use Rattle.cm_scan.specs.Brackets.{closed, after_destination, inline_end, Defined, defined_in, target_of, target_between, reference_end, end_if_followed, end_at};
 ghost use Rattle.cm_text.specs.Addresses.{is_followed};
-ghost use Rattle.cm_tree.specs.LinkTargets.{led_to};
 ghost use Rattle.cm_inline.specs.steps.Reads.{Stands};
-ghost use Rattle.cm_inline.specs.steps.Links.{ends_of, found_target, leads_to, target_by, behind_brackets};
+ghost use Rattle.cm_inline.specs.steps.Links.{ends_of, leads_to, target_by, behind_brackets};
 
 use cm_scan::{after_gap, destination, is_blank_next, is_next, label, title};
 use cm_text::{NoMemory, Rules, is_followed, unescape_or_lend};
@@ -31,17 +30,6 @@ pub(crate) struct LinkEnd<'a> {
     pub(crate) end: usize,
 }
 
-/// Where a link or an image leads, lent.
-#[inline(always)]
-pub(crate) fn target_to<'a>(target: &'a FoundTarget<'_>) -> LinkTarget<'a>
-    ensures { led_to result ≡ found_target target.now }
-{
-    match target {
-        FoundTarget::Inline { dest, title } => LinkTarget::Plain { dest, title },
-        FoundTarget::Defined(target) => *target,
-    }
-}
-
 /// What follows the `]` at a place, whose opener ends at `behind`: where a link or an image leads. An inline link's end
 /// goes before a reference (6.3 Links). Neither is one where the rules don't follow its address.
 pub(crate) fn link_end<'a>(
@@ -59,40 +47,30 @@ pub(crate) fn link_end<'a>(
         ≡ end_at rules (defined_in definitions.now) (slice_range source.now behind at) (drop (at + 1) source.now)) }
     ensures place { IfOk result (λ found. IfSome found (λ e. (at < e.end) × (e.end ≤ length source.now) × IsCharBoundary source.now e.end)) }
 {
-    let inline = inline_end(alloc, source, at + 1)?;
-    if is_followed_end(rules, &inline) {
-        return Ok(inline);
+    if let Some(inline) = inline_end(alloc, rules, source, at + 1)? {
+        return Ok(Some(inline));
     }
     reference_end(alloc, rules, source, definitions, behind, at)
 }
 
-/// Whether an end was found, and the rules follow the address to which it leads.
-#[inline(always)]
-fn is_followed_end(rules: Rules, found: &Option<LinkEnd<'_>>) -> bool
-    ensures { (source : List ℕ) → result ≡ is_some (end_if_followed rules (ends_of source found.now)) }
-{
-    match found {
-        Some(end) => leads_on(rules, target_to(&end.target)),
-        None => false,
-    }
-}
-
 /// Whether the rules follow the address to which a link or an image leads.
 #[inline(always)]
-fn leads_on(rules: Rules, target: LinkTarget<'_>) -> bool
-    ensures { result ≡ is_followed rules (led_to target.entry).0 }
+fn leads_on(rules: Rules, dest: &str) -> bool
+    ensures { result ≡ is_followed rules dest.now }
 {
-    rules.any_address() || is_followed(rules, target.dest())
+    rules.any_address() || is_followed(rules, dest)
 }
 
-/// The end of an inline link: `(`, a destination and a title or not, and `)`, with gaps between.
+/// The end of an inline link to an address that the rules follow: `(`, a destination and a title or not, and `)`, with
+/// gaps between.
 fn inline_end<'a>(
     alloc: Global,
+    rules: Rules,
     source: &'a str,
     at: usize,
 ) -> Result<Option<LinkEnd<'a>>, NoMemory>
     requires { IsCharBoundary source.now at }
-    ensures ends { IfOk result (λ found. ends_of source.now found ≡ inline_end (drop at source.now)) }
+    ensures ends { IfOk result (λ found. ends_of source.now found ≡ end_if_followed rules (inline_end (drop at source.now))) }
     ensures boundary { IfOk result (λ found. IfSome found (λ e. IsCharBoundary source.now e.end)) }
 {
     if !is_next(source.as_bytes(), at, b'(') {
@@ -100,51 +78,55 @@ fn inline_end<'a>(
     }
     let gap = after_gap(source.as_bytes(), at + 1);
     match destination(source, gap) {
-        Some((dest, end)) => after_destination(alloc, source, dest, end),
-        None => closed(alloc, source, "", "", at + 1),
+        Some((dest, end)) => after_destination(alloc, rules, source, dest, end),
+        None => closed(alloc, rules, source, "", "", at + 1),
     }
 }
 
 /// What stands behind a destination: a title that a gap parts from it, or none, and the end.
 fn after_destination<'a>(
     alloc: Global,
+    rules: Rules,
     source: &'a str,
     dest: &'a str,
     at: usize,
 ) -> Result<Option<LinkEnd<'a>>, NoMemory>
     requires { IsCharBoundary source.now at }
-    ensures ends { IfOk result (λ found. ends_of source.now found ≡ after_destination dest.now (drop at source.now)) }
+    ensures ends { IfOk result (λ found. ends_of source.now found ≡ end_if_followed rules (after_destination dest.now (drop at source.now))) }
     ensures boundary { IfOk result (λ found. IfSome found (λ e. IsCharBoundary source.now e.end)) }
 {
     if !is_blank_next(source.as_bytes(), at) {
-        return closed(alloc, source, dest, "", at);
+        return closed(alloc, rules, source, dest, "", at);
     }
     match title(source, after_gap(source.as_bytes(), at)) {
-        Some((title, end)) => closed(alloc, source, dest, title, end),
-        None => closed(alloc, source, dest, "", at),
+        Some((title, end)) => closed(alloc, rules, source, dest, title, end),
+        None => closed(alloc, rules, source, dest, "", at),
     }
 }
 
-/// A gap and `)`. Destination and title come as they are written.
+/// A gap and `)`, where the rules follow the destination. That and the title come as they are written.
 fn closed<'a>(
     alloc: Global,
+    rules: Rules,
     source: &'a str,
     dest: &'a str,
     title: &'a str,
     at: usize,
 ) -> Result<Option<LinkEnd<'a>>, NoMemory>
     requires { IsCharBoundary source.now at }
-    ensures ends { IfOk result (λ found. ends_of source.now found ≡ closed dest.now title.now (drop at source.now)) }
+    ensures ends { IfOk result (λ found. ends_of source.now found ≡ end_if_followed rules (closed dest.now title.now (drop at source.now))) }
     ensures boundary { IfOk result (λ found. IfSome found (λ e. IsCharBoundary source.now e.end)) }
 {
     let end = after_gap(source.as_bytes(), at);
     if !is_next(source.as_bytes(), end, b')') {
         return Ok(None);
     }
-    let target = FoundTarget::Inline {
-        dest: unescape_or_lend(alloc, dest)?,
-        title: unescape_or_lend(alloc, title)?,
-    };
+    let dest = unescape_or_lend(alloc, dest)?;
+    if !leads_on(rules, &dest) {
+        return Ok(None);
+    }
+    let title = unescape_or_lend(alloc, title)?;
+    let target = FoundTarget::Inline { dest, title };
     Ok(Some(LinkEnd {
         target,
         end: end + 1,
@@ -183,7 +165,8 @@ fn reference_end<'a>(
     }
 }
 
-/// Where a reference by a label leads that ends at a place, if the label is defined and the rules follow its address.
+/// Where a reference by a label leads that ends at a place, if the label is defined and the rules follow its address,
+/// which the table knows.
 #[inline(always)]
 fn reference<'a>(
     alloc: Global,
@@ -196,12 +179,9 @@ fn reference<'a>(
         ends_of source found ≡ end_if_followed rules (leads_to (target_of (defined_in definitions.now) label.now) (drop end source))) }
     ensures end { IfOk result (λ found. IfSome found (λ e. e.end ≡ end)) }
 {
-    let Some(target) = definitions.target(label)? else {
+    let Some(target) = definitions.target_by(rules, label)? else {
         return Ok(None);
     };
-    if !leads_on(rules, target) {
-        return Ok(None);
-    }
     Ok(Some(LinkEnd {
         target: FoundTarget::Defined(target),
         end,

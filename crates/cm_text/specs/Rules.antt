@@ -6,7 +6,7 @@ pub record Rules : Type 0 where
   pub older : Bool
   -- this project's own extension: strikethrough between two tildes and two tildes
   pub strike : Bool
-  -- without it no line starts an HTML block, and no `<` raw HTML
+  -- without it no line starts an HTML block, no `<` raw HTML, and the info of a code block is one line
   pub raw_html : Bool
   -- without it an address is followed only if it has no scheme, or one of the web's
   pub any_address : Bool

@@ -13,8 +13,9 @@ use std::marker::Model;
 /// that begin an HTML block of the sixth kind `source` is one in place of `search`; and a comment in raw HTML begins
 /// with neither `>` nor `->`, holds no `--`, and doesn't end with `-`.
 ///
-/// Without raw HTML no line begins an HTML block, and no `<` raw HTML: both are text, and autolinks stay. An address
-/// that isn't followed makes no link, image or autolink: what would be one is text.
+/// Without raw HTML no line begins an HTML block, and no `<` raw HTML: both are text, and autolinks stay; and the info
+/// of a code block is one line. An address that isn't followed makes no link, image or autolink: what would be one is
+/// text.
 #[derive(Clone, Copy, Debug, PartialEq, Eq, Drop)]
 pub struct Rules {
     older: bool,

@@ -8,6 +8,7 @@ use Rattle.std.specs.FinMap.{find, get, insert, get-from_entries, from_entries_p
 use Rattle.std.proofs.lemmas.Bool.{false_from_ne_true, cond-true, cond-false}
 use Rattle.std.proofs.lemmas.List.{get_or-map, length-map, map-append}
 use Rattle.std.proofs.lemmas.Str.{IsUtf8-append}
+use Rattle.cm_text.specs.Addresses.{is_web_address}
 use Rattle.cm_tree.specs.declared.entries.Entry.{Entry}
 use Rattle.cm_tree.specs.declared.label_index.LabelIndex.{LabelIndex}
 use Rattle.cm_tree.specs.Definitions.{Target, Targets, targets_of}
@@ -58,6 +59,7 @@ entry-grows old new e grows is = record {
   label = between-grows old new e.label e.end grows is.label;
   number = is.number ∙ ap number_of (sym (label-same old new e grows is));
   target = is_kept-grows old new e.target grows is.target;
+  web = is.web ∙ ap (λ t. is_web_address t.0) (sym (kept_in-same old new e.target grows is.target));
 }
 
 pub labels-same : (old new : List ℕ) (es : List Entry) → GoesOn old new → AreEntries old es → labels_in new es ≡ labels_in old es
@@ -83,12 +85,12 @@ kept-grow old new es index grows are = record {
 -- texts behind the others, of which the first is a label
 
 pub made : (old label new : List ℕ) (more : List ℕ) (e : Entry) (target : Target) → more ≡ old ++ label → IsUtf8 label → GoesOn more new → e.label ≡ length old → e.end ≡ length more
-    → e.number ≡ number_of label → Keeps new e.target target → IsMade new e label target
-made old label new more e target is utf8 grows from to number keeps =
+    → e.number ≡ number_of label → Keeps new e.target target → e.is_web ≡ is_web_address target.0 → IsMade new e label target
+made old label new more e target is utf8 grows from to number keeps web =
     let there : IsBetween more e.label e.end = between-behind old label more e.label e.end is utf8 from to in
     let same : label_in new e ≡ label = slice-same more grows.more new e.label e.end grows.is there.0 there.2.0 ∙ slice-last old label more e.label e.end is from to in
     record {
-      there = record { label = between-grows more new e.label e.end grows there; number = number ∙ ap number_of (sym same); target = keeps.there };
+      there = record { label = between-grows more new e.label e.end grows there; number = number ∙ ap number_of (sym same); target = keeps.there; web = web ∙ ap (λ t. is_web_address t.0) (sym keeps.is) };
       is_label = same;
       is_target = keeps.is;
     }

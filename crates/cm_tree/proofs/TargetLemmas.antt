@@ -1,10 +1,12 @@
 -- What lies at places of a text, while more is put behind it.
-use Rattle.std.proofs.Common.{◌≡◌, ℕ, List, [], ◌++◌, length, take, refl, sym, ap, subst, ◌∙◌, append_assoc}
+use Rattle.std.proofs.Common.{◌≡◌, ℕ, List, [], ◌++◌, Option, Some, None, length, take, refl, sym, ap, subst, ◌∙◌, append_assoc}
 use Rattle.std.specs.List.{slice_range}
 use Rattle.std.specs.Str.{IsUtf8, IsCharBoundary}
 use Rattle.std.proofs.lemmas.List.{append-nil, take_at}
 use Rattle.std.proofs.lemmas.Str.{IsUtf8-nil, IsUtf8-append, IsCharBoundary-at_seam}
+use Rattle.cm_text.specs.Rules.{profile}
 use Rattle.cm_tree.specs.declared.target_places.TargetPlaces.{TargetPlaces}
+use Rattle.cm_tree.specs.Definitions.{Target, target_if_followed}
 use Rattle.cm_tree.specs.RawBlocks.{IsBetween}
 use Rattle.cm_tree.specs.TargetPlaces.{target_in, IsTarget, places_behind, GoesOn}
 use Rattle.cm_tree.proofs.RawLemmas.{slice-same, slice-last, boundary-grows, between-behind}
@@ -67,3 +69,8 @@ module _ (old dest title new : List ℕ) (is : new ≡ old ++ dest ++ title) (de
       let second : slice_range new (length (old ++ dest)) (length (old ++ dest ++ title)) ≡ title =
       slice-last (old ++ dest) title new (length (old ++ dest)) (length (old ++ dest ++ title)) is refl (ap length (sym is)) in
       λ i. (first i, second i)
+
+-- by the profile each address is followed
+pub any_target : (target : Option Target) → target_if_followed profile target ≡ target
+any_target None = refl
+any_target (Some target) = refl

@@ -1,14 +1,21 @@
 -- Link reference definitions by their folded labels (CommonMark 0.31.2, 4.7 and 6.3).
-use Rattle.std.specs.Prelude.{◌≡◌, ℕ, List, [], ◌∷◌, Option, Some, None, if◌then◌else◌}
+use Rattle.std.specs.Prelude.{◌≡◌, ℕ, true, false, List, [], ◌∷◌, Option, Some, None, if◌then◌else◌}
 use Rattle.std.specs.Ordering.{nat_cmp}
 use Rattle.std.specs.Cmp.Lexicographic.{slice_cmp}
 use Rattle.std.specs.FinMap.{FinMap, empty, get, insert, from_entries, contains_key}
 use Rattle.std.specs.Str.{bytes_eq}
+use Rattle.cm_text.specs.Rules.{Rules}
+use Rattle.cm_text.specs.Addresses.{is_followed}
 use Rattle.cm_text.specs.Labels.{fold_label}
 
 -- a destination and a title
 abbrev pub Target : Type 0
 Target = List ℕ × List ℕ
+
+-- the target, if the rules follow its address
+abbrev pub target_if_followed : Rules → Option Target → Option Target
+target_if_followed rules None = None
+target_if_followed rules (Some target) = elim (is_followed rules target.0) [ true ↦ Some target | false ↦ None ]
 
 -- what each folded label stands for
 abbrev pub Targets : Type 0

@@ -1,6 +1,6 @@
 -- Which trees hold only what the rules read: each link and image leads to an address that they follow, and the info of each code block
 -- is one that they leave as it is.
-use Rattle.std.specs.Prelude.{ℕ, ◌==◌, Bool, true, false, not, ◌&&◌, ◌||◌, List, map}
+use Rattle.std.specs.Prelude.{ℕ, ◌==◌, Bool, true, not, ◌&&◌, ◌||◌, List, map}
 use Rattle.std.specs.List.{list_any}
 use Rattle.cm_text.specs.Rules.{Rules}
 use Rattle.cm_text.specs.Addresses.{is_followed}

@@ -2,7 +2,7 @@
 ghost use Rattle.std.specs.Prelude.{◌≡◌, ◌++◌, [], ◌∷◌, None, length, OnOk, OnErr, IfOk, option_map, string_bytes};
 ghost use Rattle.std.specs.FinMap as map;
 ghost use Rattle.cm_text.specs.Labels.{fold_label};
-ghost use Rattle.cm_tree.specs.Definitions.{add_first};
+ghost use Rattle.cm_tree.specs.Definitions.{add_first, target_if_followed};
 ghost use Rattle.cm_tree.specs.LinkTargets.{led_to};
 ghost use Rattle.cm_tree.specs.steps.LabelNumbers.{number_of};
 ghost use Rattle.cm_tree.specs.steps.LabelIndex.{GoesIn, IsSame};
@@ -10,7 +10,7 @@ ghost use Rattle.cm_tree.specs.steps.LabelIndex.{GoesIn, IsSame};
 use crate::entries::{Entry, entry_under, indexed};
 use crate::label_index::LabelIndex;
 use crate::link_target::LinkTarget;
-use cm_text::{NoMemory, fold_label_or_lend};
+use cm_text::{NoMemory, Rules, fold_label_or_lend};
 use std::alloc::{AllocError, Global};
 use std::marker::Model;
 
@@ -71,12 +71,13 @@ impl Definitions {
         Ok(self.add_folded(folded.as_str(), dest, title)?)
     }
 
+    #[tactic(auto, using(crate::proofs::TargetLemmas::any_target))]
     fn add_folded(&mut self, label: &str, dest: &str, title: &str) -> Result<(), AllocError>
         ensures ok { OnOk result (self.new ≡ add_first self.old label.now (dest.now, title.now)) }
         ensures err { OnErr result (self.new ≡ self.old) }
     {
         let number = number_of(label.as_bytes());
-        if self.look(number, label).is_some() {
+        if self.look(Rules::profile(), number, label).is_some() {
             return Ok(());
         }
         self.make_room()?;
@@ -137,23 +138,37 @@ impl Definitions {
     /// # Errors
     ///
     /// As `find`.
-    #[inline(always)]
+    #[tactic(auto, using(crate::proofs::TargetLemmas::any_target))]
     pub fn target(&self, label: &str) -> Result<Option<LinkTarget<'_>>, NoMemory>
         ensures { IfOk result (λ found. option_map led_to found ≡ map.get self.now (fold_label label.now)) }
     {
+        self.target_by(Rules::profile(), label)
+    }
+
+    /// The same, if the rules follow the address. That was judged once, when the definition was added: a look-up takes
+    /// no time for the length of an address.
+    ///
+    /// # Errors
+    ///
+    /// As `find`.
+    #[inline(always)]
+    pub fn target_by(&self, rules: Rules, label: &str) -> Result<Option<LinkTarget<'_>>, NoMemory>
+        ensures { IfOk result (λ found. option_map led_to found
+            ≡ target_if_followed rules (map.get self.now (fold_label label.now))) }
+    {
         let folded = fold_label_or_lend(self.alloc, label)?;
         let folded = folded.as_str();
-        Ok(self.look(number_of(folded.as_bytes()), folded))
+        Ok(self.look(rules, number_of(folded.as_bytes()), folded))
     }
 
     /// The same, by a folded label of this number.
     #[inline(always)]
-    fn look(&self, number: u64, label: &str) -> Option<LinkTarget<'_>>
+    fn look(&self, rules: Rules, number: u64, label: &str) -> Option<LinkTarget<'_>>
         requires { number ≡ number_of label.now }
-        ensures { option_map led_to result ≡ map.get self.now label.now }
+        ensures { option_map led_to result ≡ target_if_followed rules (map.get self.now label.now) }
     {
         match entry_under(&self.texts, &self.entries, &self.index, number, label) {
-            Some(entry) => Some(self.entries[entry].target.lend(&self.texts)),
+            Some(entry) => self.entries[entry].lend(rules, &self.texts),
             None => None,
         }
     }

@@ -1,13 +1,16 @@
 //! The entries of the table of definitions.
-ghost use Rattle.std.specs.Prelude.{◌≡◌, ◌≤◌, ℕ, None, length, get_or, IfOk, IfSome, string_bytes};
+ghost use Rattle.std.specs.Prelude.{◌≡◌, ◌≤◌, ℕ, None, Some, length, get_or, option_map, IfOk, IfSome, string_bytes};
 ghost use Rattle.std.specs.Str.{bytes_eq};
+ghost use Rattle.cm_tree.specs.Definitions.{target_if_followed};
+ghost use Rattle.cm_tree.specs.LinkTargets.{kept_in, led_to};
 ghost use Rattle.cm_tree.specs.TargetPlaces.{GoesOn};
 ghost use Rattle.cm_tree.specs.steps.LabelNumbers.{number_of};
 ghost use Rattle.cm_tree.specs.steps.LabelIndex.{home, IsIndex, IsLabel, IsNew, IsPassed, AreDistinct};
 ghost use Rattle.cm_tree.specs.steps.Entries.{label_in, labels_in, IsEntry, AreEntries, IsMade};
 
 use crate::label_index::{LabelIndex, NEAR, home};
-use crate::link_target::KeptTarget;
+use crate::link_target::{KeptTarget, LinkTarget};
+use cm_text::{Rules, is_followed};
 use std::alloc::{AllocError, Global};
 
 /// A definition.
@@ -21,6 +24,8 @@ pub(crate) struct Entry {
     pub(crate) end: usize,
     /// Where it leads, and its title.
     pub(crate) target: KeptTarget,
+    /// Whether that has no scheme, or one of the web's. It is judged once, however many references ask.
+    pub(crate) is_web: bool,
 }
 
 impl Entry {
@@ -45,11 +50,13 @@ impl Entry {
         texts.push_str(label)?;
         let end = texts.len();
         let target = KeptTarget::copy(alloc, texts, dest, title)?;
+        let web_alone = Rules::profile().with_any_address(false);
         Ok(Entry {
             number,
             label: from,
             end,
             target,
+            is_web: is_followed(web_alone, dest),
         })
     }
 
@@ -59,6 +66,18 @@ impl Entry {
         ensures { result.now ≡ label_in texts.now self.now }
     {
         &texts[self.label..self.end]
+    }
+
+    /// Where it leads, and its title, if the rules follow its address.
+    #[inline(always)]
+    pub(crate) fn lend<'a>(&'a self, rules: Rules, texts: &'a str) -> Option<LinkTarget<'a>>
+        requires { IsEntry texts.now self.now }
+        ensures { option_map led_to result ≡ target_if_followed rules (Some (kept_in texts.now self.now.target)) }
+    {
+        if !rules.any_address() && !self.is_web {
+            return None;
+        }
+        Some(self.target.lend(texts))
     }
 
     /// Whether it has a folded label, of this number.

@@ -1,6 +1,7 @@
 -- The entries of the table of definitions, whose labels, destinations and titles lie in one text or are shared.
 use Rattle.std.specs.Prelude.{◌≡◌, ℕ, List, [], ◌∷◌, map, ⊤}
 use Rattle.std.specs.List.{slice_range}
+use Rattle.cm_text.specs.Addresses.{is_web_address}
 use Rattle.cm_tree.specs.declared.entries.Entry.{Entry}
 use Rattle.cm_tree.specs.declared.label_index.LabelIndex.{LabelIndex}
 use Rattle.cm_tree.specs.Definitions.{Target}
@@ -20,11 +21,12 @@ labels_in text entries = map (label_in text) entries
 abbrev pub entries_in : List ℕ → List Entry → List (List ℕ × Target)
 entries_in text entries = map (λ e. (label_in text e, kept_in text e.target)) entries
 
--- the places of an entry are places of the text, and it has its label's number
+-- the places of an entry are places of the text, and it has its label's number, and whether its address is the web's
 pub record IsEntry (text : List ℕ) (e : Entry) : Type 0 where
   pub label : IsBetween text e.label e.end
   pub number : e.number ≡ number_of (label_in text e)
   pub target : IsKept text e.target
+  pub web : e.is_web ≡ is_web_address (kept_in text e.target).0
 
 abbrev pub AreEntries : List ℕ → List Entry → Type 0
 AreEntries text [] = ⊤

@@ -1,5 +1,6 @@
 use Rattle.std.proofs.Common.{drop, Some, None, sym, ap, ◌∙◌}
 use Rattle.cm_scan.specs.Tags.{is_blank_next}
+use Rattle.cm_scan.specs.Brackets.{end_if_followed}
 use Rattle.cm_scan.proofs.DefinitionLemmas.{gap-of}
 use Rattle.cm_inline.proofs.LinkLemmas.{turned, not-parted, by-title}
 use Rattle.cm_inline.proofs.links.after_destination.Goals as goal
@@ -8,7 +9,7 @@ pub returns-then-not-is_blank_next-clause-ends : goal.returns-then-not-is_blank_
 returns-then-not-is_blank_next-clause-ends c =
     let source = c.args.source.now in
     let blank = c.is_blank_next.ensures ∙ ap (λ t. is_blank_next (drop c.args.at t)) c.as_bytes.ensures.value in
-    turned source c.closed.result _ _ (sym (not-parted c.args.dest.now (drop c.args.at source) (sym blank ∙ c.if-not-is_blank_next.true))) c.closed.ensures.ends
+    turned source c.closed.result _ _ (ap (end_if_followed c.args.rules) (sym (not-parted c.args.dest.now (drop c.args.at source) (sym blank ∙ c.if-not-is_blank_next.true)))) c.closed.ensures.ends
 
 pub returns-in-Some-clause-ends : goal.returns-in-Some-clause-ends
 returns-in-Some-clause-ends c =
@@ -16,7 +17,7 @@ returns-in-Some-clause-ends c =
     let blank = c.is_blank_next.ensures ∙ ap (λ t. is_blank_next (drop c.args.at t)) c.as_bytes.ensures.value in
     let gap = gap-of source c.as_bytes-2.result.now c.args.at c.after_gap.result c.as_bytes-2.ensures.value c.after_gap.ensures.skipped in
     turned source c.closed-in-Some.result _ _
-    (sym (by-title c.args.dest.now (drop c.args.at source) (drop c.after_gap.result source) (Some (record { text = c.in-Some.title.now; rest = drop c.in-Some.end source })) (sym blank ∙ c.if-not-is_blank_next.false) gap c.in-Some.ensures.read))
+    (ap (end_if_followed c.args.rules) (sym (by-title c.args.dest.now (drop c.args.at source) (drop c.after_gap.result source) (Some (record { text = c.in-Some.title.now; rest = drop c.in-Some.end source })) (sym blank ∙ c.if-not-is_blank_next.false) gap c.in-Some.ensures.read)))
     c.closed-in-Some.ensures.ends
 
 pub returns-in-None-clause-ends : goal.returns-in-None-clause-ends
@@ -25,5 +26,5 @@ returns-in-None-clause-ends c =
     let blank = c.is_blank_next.ensures ∙ ap (λ t. is_blank_next (drop c.args.at t)) c.as_bytes.ensures.value in
     let gap = gap-of source c.as_bytes-2.result.now c.args.at c.after_gap.result c.as_bytes-2.ensures.value c.after_gap.ensures.skipped in
     turned source c.closed-in-None.result _ _
-    (sym (by-title c.args.dest.now (drop c.args.at source) (drop c.after_gap.result source) None (sym blank ∙ c.if-not-is_blank_next.false) gap c.in-None.ensures.read))
+    (ap (end_if_followed c.args.rules) (sym (by-title c.args.dest.now (drop c.args.at source) (drop c.after_gap.result source) None (sym blank ∙ c.if-not-is_blank_next.false) gap c.in-None.ensures.read)))
     c.closed-in-None.ensures.ends

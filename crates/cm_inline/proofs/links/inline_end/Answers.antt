@@ -1,5 +1,6 @@
-use Rattle.std.proofs.Common.{◌+◌, drop, Some, None, sym, subst, ◌∙◌, arith}
+use Rattle.std.proofs.Common.{◌+◌, drop, Some, None, sym, ap, subst, ◌∙◌, arith}
 use Rattle.std.specs.Str.{IsCharBoundary}
+use Rattle.cm_scan.specs.Brackets.{end_if_followed}
 use Rattle.cm_scan.proofs.DefinitionLemmas.{gap-of}
 use Rattle.cm_scan.proofs.AngledLemmas.{next-ascii}
 use Rattle.cm_inline.proofs.LinkLemmas.{next-of, turned, no-inline_end, by-destination}
@@ -8,7 +9,7 @@ use Rattle.cm_inline.proofs.links.inline_end.Goals as goal
 pub returns-then-not-is_next-clause-ends : goal.returns-then-not-is_next-clause-ends
 returns-then-not-is_next-clause-ends c =
     let next = next-of 40 c.args.source.now c.as_bytes.result.now c.args.at c.is_next.result c.as_bytes.ensures.value c.is_next.ensures in
-    sym (no-inline_end (drop c.args.at c.args.source.now) (sym next ∙ c.if-not-is_next.true))
+    sym (ap (end_if_followed c.args.rules) (no-inline_end (drop c.args.at c.args.source.now) (sym next ∙ c.if-not-is_next.true)))
 
 pub destination-requires : goal.destination-requires
 destination-requires c =
@@ -29,7 +30,7 @@ returns-in-Some-clause-ends c =
     let next = next-of 40 source c.as_bytes.result.now c.args.at c.is_next.result c.as_bytes.ensures.value c.is_next.ensures in
     let gap = gap-of source c.as_bytes-2.result.now (c.args.at + 1) c.after_gap-gap.result c.as_bytes-2.ensures.value c.after_gap-gap.ensures.skipped in
     turned source c.after_destination.result _ _
-    (sym (by-destination source (drop c.after_gap-gap.result source) c.args.at (Some (record { text = c.in-Some.dest.now; rest = drop c.in-Some.end source })) (sym next ∙ c.if-not-is_next.false) gap c.in-Some.ensures.read))
+    (ap (end_if_followed c.args.rules) (sym (by-destination source (drop c.after_gap-gap.result source) c.args.at (Some (record { text = c.in-Some.dest.now; rest = drop c.in-Some.end source })) (sym next ∙ c.if-not-is_next.false) gap c.in-Some.ensures.read)))
     c.after_destination.ensures.ends
 
 pub returns-in-None-clause-ends : goal.returns-in-None-clause-ends
@@ -38,5 +39,5 @@ returns-in-None-clause-ends c =
     let next = next-of 40 source c.as_bytes.result.now c.args.at c.is_next.result c.as_bytes.ensures.value c.is_next.ensures in
     let gap = gap-of source c.as_bytes-2.result.now (c.args.at + 1) c.after_gap-gap.result c.as_bytes-2.ensures.value c.after_gap-gap.ensures.skipped in
     turned source c.closed.result _ _
-    (sym (by-destination source (drop c.after_gap-gap.result source) c.args.at None (sym next ∙ c.if-not-is_next.false) gap c.in-None.ensures.read))
+    (ap (end_if_followed c.args.rules) (sym (by-destination source (drop c.after_gap-gap.result source) c.args.at None (sym next ∙ c.if-not-is_next.false) gap c.in-None.ensures.read)))
     c.closed.ensures.ends
