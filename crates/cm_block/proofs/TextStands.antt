@@ -121,7 +121,7 @@ texts-stand (l ∷ m ∷ ms) old new lines source some before now g few text one
     let line = plain_line l in
     let mid : parser.BlockParser = record new { leaf = Run (add_text source line); tests = min (old.tests + 2) (2 ^ 128 - 1) } in
     let first = text-next old mid lines source line before refl
-        (record { frames = g.frames; level = g.level; bare = g.bare; owners = g.owners; limits = g.limits; fault = g.fault; tests = refl }) few begun.0 are.0 h in
+    (record { frames = g.frames; level = g.level; bare = g.bare; owners = g.owners; limits = g.limits; fault = g.fault; tests = refl }) few begun.0 are.0 h in
     let rest : Goes mid new (2 * length (m ∷ ms)) = record {
       frames = refl;
       level = refl;
