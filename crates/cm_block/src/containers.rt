@@ -31,9 +31,11 @@ impl Stack {
         line: &mut CountedLine<'a>,
     ) -> Result<Innermost<'a>, AllocError>
         requires { self.old.bare ≡ false }
-        ensures inside { IfOk result (λ innermost. Inside rules limit self.old (seen_view line.old.rest) self.new (seen_view line.new.rest) innermost) }
+        ensures inside { IfOk result (λ innermost. Inside rules limit self.old
+            (seen_view line.old.rest) self.new (seen_view line.new.rest) innermost) }
         ensures deeper { OnOk result (length self.old.frames ≤ length self.new.frames) }
-        ensures tests { OnOk result (Tested (length self.new.frames - length self.old.frames) (suc (length self.new.frames - length self.old.frames)) line.old.tests line.new.tests) }
+        ensures tests { OnOk result (Tested (length self.new.frames - length self.old.frames)
+            (suc (length self.new.frames - length self.old.frames)) line.old.tests line.new.tests) }
     {
         while self.depth() <= limit {
             match line.begins(rules) {

@@ -150,7 +150,8 @@ impl<'a> CountedLine<'a> {
 
     /// Whether the line stays in an open quote by its marker, behind which it then goes on (5.1 Block quotes).
     pub(crate) fn stays_in_quote(&mut self) -> bool
-        ensures place { (by : all.Rules) → IsInside result (place_in_quote by (seen_view self.old.rest)) (place_if_lazy by (seen_view self.old.rest)) (seen_view self.new.rest) }
+        ensures place { (by : all.Rules) → IsInside result (place_in_quote by (seen_view self.old.rest))
+            (place_if_lazy by (seen_view self.old.rest)) (seen_view self.new.rest) }
         ensures same { result ≡ false → self.new.rest ≡ self.old.rest }
         ensures tests { Tested 1 1 self.old.tests self.new.tests }
     {
@@ -164,7 +165,8 @@ impl<'a> CountedLine<'a> {
     /// Whether the line stays in an open item whose content begins at a column, into which it then goes: it reaches
     /// the column, or is blank. A blank line ends an item of which there is only the marker (5.2 List items).
     pub(crate) fn stays_in_item(&mut self, column: usize, bare: bool) -> bool
-        ensures place { (by : all.Rules) → IsInside result (place_in_item by column bare (seen_view self.old.rest)) (place_if_lazy by (seen_view self.old.rest)) (seen_view self.new.rest) }
+        ensures place { (by : all.Rules) → IsInside result (place_in_item by column bare
+            (seen_view self.old.rest)) (place_if_lazy by (seen_view self.old.rest)) (seen_view self.new.rest) }
         ensures same { result ≡ false → self.new.rest ≡ self.old.rest }
         ensures tests { Tested 1 1 self.old.tests self.new.tests }
     {
@@ -341,7 +343,8 @@ impl<'a> CountedLine<'a> {
         leaves: &mut TextRoom,
         start: &LeafStart<'_>,
     ) -> Result<Option<FirstLine>, NoMemory>
-        ensures leaf { IfOk result (λ first. IfSome first (λ f. begins_leaf (first_of f) ≡ begin_of_start rules (seen start.now.found) (seen_view self.old.rest))) }
+        ensures leaf { IfOk result (λ first. IfSome first (λ f. begins_leaf (first_of f)
+            ≡ begin_of_start rules (seen start.now.found) (seen_view self.old.rest))) }
         ensures container { IfOk result (λ first. IfNone first (begins_container (seen start.now.found) ≡ true)) }
         ensures read { ReadOnce self.old self.new }
     {

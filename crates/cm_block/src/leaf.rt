@@ -140,7 +140,8 @@ impl OpenLeaf {
         rules: Rules,
         line: &mut CountedLine<'_>,
     ) -> Result<LeafLine, AllocError>
-        ensures line { IfOk result (λ taken. taken_of taken (leaf_of self.new) ≡ line_of_leaf rules (leaf_of self.old) (seen_view line.old.rest)) }
+        ensures line { IfOk result (λ taken. taken_of taken (leaf_of self.new)
+            ≡ line_of_leaf rules (leaf_of self.old) (seen_view line.old.rest)) }
         ensures left { IfOk result (λ taken. leaf_of self.new ≡ left_open taken (leaf_of self.old) (leaf_of self.new)) }
         ensures same { line.new.rest ≡ line.old.rest }
         ensures tests { Tested 0 4 line.old.tests line.new.tests }

@@ -176,7 +176,8 @@ impl Level {
         ends_blank: bool,
         separated: bool,
     ) -> Result<(), AllocError>
-        ensures level { OnOk result ((raw : Raw) → level_in raw self.new ≡ item_closes (level_in raw self.old) (item_with (item_in raw item) ends_blank separated)) }
+        ensures level { OnOk result ((raw : Raw) → level_in raw self.new
+            ≡ item_closes (level_in raw self.old) (item_with (item_in raw item) ends_blank separated)) }
         ensures placed { (raw : Raw) → IsLevelPlaced raw self.old → IsItem raw item → IsLevelPlaced raw self.new }
     {
         if let Some(list) = &mut self.open_list {

@@ -93,7 +93,8 @@ impl BlockParser {
     #[inline(always)]
     fn close_leaf(&mut self) -> Result<(), NoMemory>
         ensures level { OnOk result (self.new.stack.level ≡ close_open self.old.stack.level (in_leaf (leaf_of self.old.leaf))) }
-        ensures owners { OnOk result (self.new.owners ≡ own_open (quoted_by false self.old.stack.frames) self.old.owners (in_leaf (leaf_of self.old.leaf))) }
+        ensures owners { OnOk result (self.new.owners
+            ≡ own_open (quoted_by false self.old.stack.frames) self.old.owners (in_leaf (leaf_of self.old.leaf))) }
         ensures leaf { leaf_of self.new.leaf ≡ no_leaf }
         ensures frames { self.new.stack.frames ≡ self.old.stack.frames }
         ensures bare { self.new.stack.bare ≡ self.old.stack.bare }
@@ -144,7 +145,8 @@ impl BlockParser {
         requires plain { self.old.stack.bare ≡ false }
         requires leaf { leaf_of self.old.leaf ≡ no_leaf }
         requires start { begins_container (seen start.now.found) ≡ false }
-        ensures pushed { OnOk result (LeafBegins self.old.limits.rules start.now.found (seen_view line.old.rest) self.old.stack self.old.owners (stack_of self.new)) }
+        ensures pushed { OnOk result (LeafBegins self.old.limits.rules start.now.found
+            (seen_view line.old.rest) self.old.stack self.old.owners (stack_of self.new)) }
         ensures tests { OnOk result (Tested 0 1 line.old.tests line.new.tests) }
         ensures frames { self.new.stack.frames ≡ self.old.stack.frames }
         ensures limits { self.new.limits ≡ self.old.limits }
@@ -171,11 +173,14 @@ impl BlockParser {
     fn begin(&mut self, line: &mut CountedLine<'_>) -> Result<(), BlockFault>
         requires plain { self.old.stack.bare ≡ false }
         requires leaf { leaf_of self.old.leaf ≡ no_leaf }
-        ensures pushed { OnOk result (stack_of self.new ≡ begun self.old.limits.rules self.old.stack (seen_view line.old.rest) self.old.owners) }
+        ensures pushed { OnOk result (stack_of self.new
+            ≡ begun self.old.limits.rules self.old.stack (seen_view line.old.rest) self.old.owners) }
         ensures few { OnOk result (length self.new.stack.frames ≤ self.old.limits.blocks) }
         ensures deeper { OnOk result (length self.old.stack.frames ≤ length self.new.stack.frames) }
-        ensures tests { OnOk result (Tested (length self.new.stack.frames - length self.old.stack.frames) (length self.new.stack.frames - length self.old.stack.frames + 2) line.old.tests line.new.tests) }
-        ensures deep { IfErr result (λ fault. DeepIn fault self.old.limits.blocks (begun self.old.limits.rules self.old.stack (seen_view line.old.rest) self.old.owners) self.old.owners) }
+        ensures tests { OnOk result (Tested (length self.new.stack.frames - length self.old.stack.frames)
+            (length self.new.stack.frames - length self.old.stack.frames + 2) line.old.tests line.new.tests) }
+        ensures deep { IfErr result (λ fault. DeepIn fault self.old.limits.blocks
+            (begun self.old.limits.rules self.old.stack (seen_view line.old.rest) self.old.owners) self.old.owners) }
         ensures limits { self.new.limits ≡ self.old.limits }
         ensures fault { self.new.fault ≡ self.old.fault }
     {
@@ -228,7 +233,8 @@ impl BlockParser {
     /// One more line.
     fn accept(&mut self, line: &mut CountedLine<'_>) -> Result<(), BlockFault>
         ensures pushed { OnOk result (stack_of self.new ≡ push_line self.old.limits.rules (stack_of self.old) (seen_view line.old.rest)) }
-        ensures few { OnOk result (length self.old.stack.frames ≤ self.old.limits.blocks → length self.new.stack.frames ≤ self.old.limits.blocks) }
+        ensures few { OnOk result (length self.old.stack.frames ≤ self.old.limits.blocks
+            → length self.new.stack.frames ≤ self.old.limits.blocks) }
         ensures tests { OnOk result (length self.old.stack.frames ≤ self.old.limits.blocks →
             Tested (count_of (stack_of self.new) - count_of (stack_of self.old)) (self.old.limits.blocks + 5) line.old.tests line.new.tests) }
         ensures deep { IfErr result (λ fault. Deep fault self.old.limits (stack_of self.old) (seen_view line.old.rest)) }
@@ -254,8 +260,10 @@ impl BlockParser {
     /// `BlocksTooDeep` in the call that brings the first line with more quotes and items round it than the
     /// limit, `NoMemory` where a request for memory was refused; the same fault from then on.
     pub fn line(&mut self, line: &Line) -> Result<(), BlockFault>
-        ensures stands { OnOk result ((lines : List LineView) → StandsFor self.old lines → StandsFor self.new (lines ++ seen_line line.now ∷ [])) }
-        ensures told { IfErr result (λ fault. (lines : List LineView) → StandsFor self.old lines → TellsDepth fault self.old.limits (lines ++ seen_line line.now ∷ [])) }
+        ensures stands { OnOk result ((lines : List LineView) → StandsFor self.old lines
+            → StandsFor self.new (lines ++ seen_line line.now ∷ [])) }
+        ensures told { IfErr result (λ fault. (lines : List LineView) → StandsFor self.old lines
+            → TellsDepth fault self.old.limits (lines ++ seen_line line.now ∷ [])) }
         ensures answer { result ≡ answer_after self.new.fault }
         ensures failed { self.old.fault ≢ None → self.new ≡ self.old }
         ensures limits { self.new.limits ≡ self.old.limits }
@@ -270,8 +278,10 @@ impl BlockParser {
     /// `BlocksTooDeep` in the call that brings the first line with more quotes and items round it than the
     /// limit, `NoMemory` where a request for memory was refused; the same fault from then on.
     pub fn line_view(&mut self, line: &View<'_>) -> Result<(), BlockFault>
-        ensures stands { OnOk result ((lines : List LineView) → StandsFor self.old lines → StandsFor self.new (lines ++ seen_view line.now ∷ [])) }
-        ensures told { IfErr result (λ fault. (lines : List LineView) → StandsFor self.old lines → TellsDepth fault self.old.limits (lines ++ seen_view line.now ∷ [])) }
+        ensures stands { OnOk result ((lines : List LineView) → StandsFor self.old lines
+            → StandsFor self.new (lines ++ seen_view line.now ∷ [])) }
+        ensures told { IfErr result (λ fault. (lines : List LineView) → StandsFor self.old lines
+            → TellsDepth fault self.old.limits (lines ++ seen_view line.now ∷ [])) }
         ensures answer { result ≡ answer_after self.new.fault }
         ensures failed { self.old.fault ≢ None → self.new ≡ self.old }
         ensures limits { self.new.limits ≡ self.old.limits }
@@ -333,7 +343,8 @@ impl BlockParser {
     ///
     /// The fault that was met, or `NoMemory` where a request for memory was refused.
     pub fn finish(mut self) -> Result<Outline, BlockFault>
-        ensures outline { IfOk result (λ outline. (lines : List LineView) → StandsFor self lines → OutlineOf outline self.limits.rules lines) }
+        ensures outline { IfOk result (λ outline. (lines : List LineView) → StandsFor self lines
+            → OutlineOf outline self.limits.rules lines) }
         ensures tests { IfOk result (λ outline. (lines : List LineView) → StandsFor self lines → TestsOf outline self.limits.blocks lines) }
         ensures failed { (fault : faults.BlockFault) → self.fault ≡ Some fault → result ≡ Err fault }
         ensures memory { self.fault ≡ None → IfErr result (λ fault. fault ≡ block_faults.NoMemory) }

@@ -47,7 +47,8 @@ impl Container {
     /// Takes a line in, if it stays in the container by itself, and answers whether it does. `bare` says of an item
     /// that there is only its marker so far, with nothing on its line.
     fn has_inside(&self, bare: bool, line: &mut CountedLine<'_>) -> bool
-        ensures place { (by : all.Rules) → IsInside result (place_in by (container_of self.now) bare (seen_view line.old.rest)) (place_if_lazy by (seen_view line.old.rest)) (seen_view line.new.rest) }
+        ensures place { (by : all.Rules) → IsInside result (place_in by (container_of self.now) bare
+            (seen_view line.old.rest)) (place_if_lazy by (seen_view line.old.rest)) (seen_view line.new.rest) }
         ensures same { result ≡ false → line.new.rest ≡ line.old.rest }
         ensures tests { Tested 1 1 line.old.tests line.new.tests }
     {
@@ -66,7 +67,8 @@ impl Container {
         open_text: bool,
         line: &mut CountedLine<'_>,
     ) -> Stays
-        ensures line { given (stays result) (seen_view line.new.rest) ≡ inward rules (container_of self.now) bare open_text (seen_view line.old.rest) }
+        ensures line { given (stays result) (seen_view line.new.rest)
+            ≡ inward rules (container_of self.now) bare open_text (seen_view line.old.rest) }
         ensures same { result ≡ Leaves → line.new.rest ≡ line.old.rest }
         ensures lazy { result ≡ Lazily → line.new.rest.lazy ≡ true }
         ensures tests { Tested 1 2 line.old.tests line.new.tests }
@@ -105,7 +107,8 @@ fn matching(
     open_text: bool,
     line: &mut CountedLine<'_>,
 ) -> usize
-    ensures line { (raw : Raw) → (result, seen_view line.new.rest) ≡ matching rules bare open_text (frames_in raw frames.now) (seen_view line.old.rest) }
+    ensures line { (raw : Raw) → (result, seen_view line.new.rest)
+        ≡ matching rules bare open_text (frames_in raw frames.now) (seen_view line.old.rest) }
     ensures tests { Tested 0 (suc (length frames.now)) line.old.tests line.new.tests }
     ensures stays { line.new.tests ≤ line.old.tests + result + 2 }
     ensures plain { line.new.rest.lazy ≡ false → length frames.now ≤ result → line.new.tests ≤ line.old.tests + result }

@@ -79,7 +79,8 @@ impl Reader {
     pub(crate) fn add(&mut self, token: Token) -> Result<(), AllocError>
         requires { IsNoGroup token }
         ensures nodes { OnOk result (nodes_in self.new.nodes ≡ nodes_in self.old.nodes ++ node_of [] token ∷ []) }
-        ensures brackets { OnOk result (self.new.brackets.items ≡ self.old.brackets.items ++ bracket_in (length (nodes_in self.old.nodes)) (node_of [] token)) }
+        ensures brackets { OnOk result (self.new.brackets.items
+            ≡ self.old.brackets.items ++ bracket_in (length (nodes_in self.old.nodes)) (node_of [] token)) }
         ensures inside { self.new.nodes.inside ≡ self.old.nodes.inside }
         ensures same { (self.new.links_end ≡ self.old.links_end) × (self.new.openers ≡ self.old.openers) × (self.new.ends ≡ self.old.ends) }
     {
@@ -109,9 +110,18 @@ impl Reader {
         requires few { self.old.openers.list.looks + allowance 13 (items_of source.now (nodes_in self.old.nodes)) < 2 ^ 127 }
         ensures read { IfOk result (λ end. IsReadTo source.now end self.new) }
         ensures further { IfOk result (λ end. at < end) }
-        ensures keeps { IfOk result (λ end. Keeps self.old.openers.list.looks (items_of source.now (nodes_in self.old.nodes)) self.new.openers.list.looks (items_of source.now (nodes_in self.new.nodes))) }
-        ensures closed { IfOk result (λ end. closed_at rules (defined_in definitions.now) source.now (nodes_in self.old.nodes) at ≡ record { items = reverse (items_of source.now (nodes_in self.new.nodes)); rest = drop end source.now }) }
-        ensures deep { result ≡ Err InlinesTooDeep → limit < items_depth (closed_at rules (defined_in definitions.now) source.now (nodes_in self.old.nodes) at).items }
+        ensures keeps { IfOk result (λ end. Keeps self.old.openers.list.looks
+            (items_of source.now (nodes_in self.old.nodes)) self.new.openers.list.looks
+            (items_of source.now (nodes_in self.new.nodes))) }
+        ensures closed { IfOk result (λ end. closed_at rules (defined_in definitions.now) source.now
+            (nodes_in self.old.nodes) at ≡ record {
+              items = reverse (items_of source.now
+                  (nodes_in self.new.nodes));
+              rest = drop end source.now;
+            }) }
+        ensures deep { result ≡ Err InlinesTooDeep
+            → limit < items_depth (closed_at rules (defined_in definitions.now) source.now
+            (nodes_in self.old.nodes) at).items }
     {
         let Some(bracket) = self.brackets.pop() else {
             self.nodes.push(Token::Piece {
@@ -160,8 +170,10 @@ impl Reader {
         requires opener { IsOpener source.now bracket.image bracket.behind }
         requires order { bracket.behind ≤ at }
         requires stands { Stands source.now at 93 }
-        ensures ends { IfOk result (λ found. ends_of source.now found ≡ end_for rules (defined_in definitions.now) source.now bracket self.now.links_end at) }
-        ensures place { IfOk result (λ found. IfSome found (λ e. (at < e.end) × (e.end ≤ length source.now) × IsCharBoundary source.now e.end)) }
+        ensures ends { IfOk result (λ found. ends_of source.now found
+            ≡ end_for rules (defined_in definitions.now) source.now bracket self.now.links_end at) }
+        ensures place { IfOk result (λ found. IfSome found (λ e. (at < e.end) ×
+            (e.end ≤ length source.now) × IsCharBoundary source.now e.end)) }
     {
         if !bracket.image && self.has_link_behind(bracket) {
             return Ok(None);
@@ -181,9 +193,15 @@ impl Reader {
         requires read { IsReadWith source.now end.now.end self.old bracket }
         requires few { self.old.openers.list.looks + allowance 13 (items_of source.now (nodes_in self.old.nodes)) < 2 ^ 127 }
         ensures read { OnOk result (IsReadTo source.now end.now.end self.new) }
-        ensures keeps { OnOk result (Keeps self.old.openers.list.looks (items_of source.now (nodes_in self.old.nodes)) self.new.openers.list.looks (items_of source.now (nodes_in self.new.nodes))) }
-        ensures items { OnOk result (items_of source.now (nodes_in self.new.nodes) ≡ link_made source.now (nodes_in self.old.nodes) bracket (found_target end.now.target).0 (found_target end.now.target).1) }
-        ensures deep { result ≡ Err InlinesTooDeep → limit < items_depth (link_made source.now (nodes_in self.old.nodes) bracket (found_target end.now.target).0 (found_target end.now.target).1) }
+        ensures keeps { OnOk result (Keeps self.old.openers.list.looks
+            (items_of source.now (nodes_in self.old.nodes)) self.new.openers.list.looks
+            (items_of source.now (nodes_in self.new.nodes))) }
+        ensures items { OnOk result (items_of source.now (nodes_in self.new.nodes)
+            ≡ link_made source.now (nodes_in self.old.nodes) bracket (found_target end.now.target).0
+            (found_target end.now.target).1) }
+        ensures deep { result ≡ Err InlinesTooDeep
+            → limit < items_depth (link_made source.now (nodes_in self.old.nodes) bracket
+            (found_target end.now.target).0 (found_target end.now.target).1) }
     {
         let holds_link = self.holds_link(bracket);
         // How many nodes there are bounds the place of one.
@@ -209,7 +227,8 @@ impl Reader {
         requires read { IsReadWith source.now at self.old bracket }
         ensures read { OnOk result (IsReadTo source.now (at + 1) self.new) }
         ensures same { self.new.openers ≡ self.old.openers }
-        ensures items { OnOk result (items_of source.now (nodes_in self.new.nodes) ≡ left_as_text source.now (nodes_in self.old.nodes) bracket) }
+        ensures items { OnOk result (items_of source.now (nodes_in self.new.nodes)
+            ≡ left_as_text source.now (nodes_in self.old.nodes) bracket) }
     {
         self.nodes.put_text(
             bracket.node,
@@ -232,7 +251,8 @@ fn width(image: bool) -> usize
 
 /// What a bracket makes of its content, where that leads there.
 fn making_of<'a>(image: bool, end: &'a LinkEnd<'_>) -> Making<'a>
-    ensures { (content : List Inline) → made_of result.kind (target_of result) content ≡ link_of image (found_target end.now.target).0 (found_target end.now.target).1 content }
+    ensures { (content : List Inline) → made_of result.kind (target_of result) content
+        ≡ link_of image (found_target end.now.target).0 (found_target end.now.target).1 content }
 {
     Making {
         kind: if image { Kind::Image } else { Kind::Link },

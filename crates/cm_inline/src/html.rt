@@ -118,7 +118,8 @@ fn text_ahead(source: &str, at: usize, token: Token) -> Option<usize>
     requires at { IsCharBoundary source.now at }
     requires token { IsPlaced source.now token }
     ensures between { IfSome result (λ end. IsBetween source.now at end) }
-    ensures html { (made : List Made) → IfSome result (λ end. node_html source.now (node_of made token) ≡ escape (slice_range source.now at end)) }
+    ensures html { (made : List Made) → IfSome result (λ end. node_html source.now (node_of made token)
+        ≡ escape (slice_range source.now at end)) }
 {
     match token {
         Token::Piece { from, to } => (from as usize == at).then_some(to as usize),
@@ -295,7 +296,8 @@ fn push_group(
     requires placed { ArePlaced source.now inside.now }
     requires groups { AreGroups inside.now 0 groups.now }
     requires group { IsGroup inside.now (length groups.now) (grouped group) }
-    ensures { OnOk result (html.new ≡ html.old ++ (rendered (group_made inside.now (groups_made inside.now groups.now) (grouped group.entry) source.now)).html) }
+    ensures { OnOk result (html.new ≡ html.old ++ (rendered (group_made inside.now
+        (groups_made inside.now groups.now) (grouped group.entry) source.now)).html) }
 {
     if let Kind::Image = group.making.kind {
         return push_image(html, source, inside, groups, group);

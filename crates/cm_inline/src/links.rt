@@ -45,7 +45,8 @@ pub(crate) fn link_end<'a>(
     requires stands { Stands source.now at 93 }
     ensures ends { IfOk result (λ found. ends_of source.now found
         ≡ end_at rules (defined_in definitions.now) (slice_range source.now behind at) (drop (at + 1) source.now)) }
-    ensures place { IfOk result (λ found. IfSome found (λ e. (at < e.end) × (e.end ≤ length source.now) × IsCharBoundary source.now e.end)) }
+    ensures place { IfOk result (λ found. IfSome found (λ e. (at < e.end) ×
+        (e.end ≤ length source.now) × IsCharBoundary source.now e.end)) }
 {
     if let Some(inline) = inline_end(alloc, rules, source, at + 1)? {
         return Ok(Some(inline));
@@ -92,7 +93,8 @@ fn after_destination<'a>(
     at: usize,
 ) -> Result<Option<LinkEnd<'a>>, NoMemory>
     requires { IsCharBoundary source.now at }
-    ensures ends { IfOk result (λ found. ends_of source.now found ≡ end_if_followed rules (after_destination dest.now (drop at source.now))) }
+    ensures ends { IfOk result (λ found. ends_of source.now found
+        ≡ end_if_followed rules (after_destination dest.now (drop at source.now))) }
     ensures boundary { IfOk result (λ found. IfSome found (λ e. IsCharBoundary source.now e.end)) }
 {
     if !is_blank_next(source.as_bytes(), at) {
@@ -114,7 +116,8 @@ fn closed<'a>(
     at: usize,
 ) -> Result<Option<LinkEnd<'a>>, NoMemory>
     requires { IsCharBoundary source.now at }
-    ensures ends { IfOk result (λ found. ends_of source.now found ≡ end_if_followed rules (closed dest.now title.now (drop at source.now))) }
+    ensures ends { IfOk result (λ found. ends_of source.now found
+        ≡ end_if_followed rules (closed dest.now title.now (drop at source.now))) }
     ensures boundary { IfOk result (λ found. IfSome found (λ e. IsCharBoundary source.now e.end)) }
 {
     let end = after_gap(source.as_bytes(), at);

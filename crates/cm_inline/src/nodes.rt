@@ -188,7 +188,10 @@ impl Nodes {
     ) -> Result<(), AllocError>
         requires there { opener < length (nodes_in self.old) }
         requires deep { depth ≤ suc (nodes_depth (drop (suc opener) (nodes_in self.old))) }
-        ensures nodes { OnOk result (nodes_in self.new ≡ take opener (nodes_in self.old) ++ (rest_in left ++ Finished (made_by making.entry.kind (target_of making.entry) (drop (suc opener) (nodes_in self.old))) depth holds_link ∷ [])) }
+        ensures nodes { OnOk result (nodes_in self.new
+            ≡ take opener (nodes_in self.old) ++ (rest_in left
+            ++ Finished (made_by making.entry.kind (target_of making.entry)
+            (drop (suc opener) (nodes_in self.old))) depth holds_link ∷ [])) }
         ensures waiting { OnOk result (waiting_in self.new ≡ waiting_in self.old) }
         ensures inside { OnOk result (self.new.inside ≡ self.old.inside ++ drop (suc opener) self.old.before) }
     {

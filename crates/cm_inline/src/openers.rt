@@ -125,8 +125,10 @@ pub(crate) fn find(openers: &mut Openers, closer: Place, run: DelimiterRun) -> O
     requires there { is_listed closer openers.old.list.entries ≡ true }
     requires ordered { Falling openers.old.list.entries }
     requires few { openers.old.list.looks + length openers.old.list.entries < 2 ^ 127 }
-    ensures found { MayBeEntry result (find_opener (run_of run) (get_or openers.old.bottoms (kind (run_of run)) 0) (after_place closer openers.old.list.entries)) }
-    ensures count { openers.new.list.looks ≡ openers.old.list.looks + looks_for (run_of run) (get_or openers.old.bottoms (kind (run_of run)) 0) (after_place closer openers.old.list.entries) }
+    ensures found { MayBeEntry result (find_opener (run_of run) (get_or openers.old.bottoms
+        (kind (run_of run)) 0) (after_place closer openers.old.list.entries)) }
+    ensures count { openers.new.list.looks ≡ openers.old.list.looks + looks_for (run_of run)
+        (get_or openers.old.bottoms (kind (run_of run)) 0) (after_place closer openers.old.list.entries) }
     ensures bottoms { openers.new.bottoms ≡ bottoms_after result (kind (run_of run)) closer openers.old.bottoms }
     ensures same { (openers.new.list.entries ≡ openers.old.list.entries) × (openers.new.list.next ≡ openers.old.list.next) }
 {

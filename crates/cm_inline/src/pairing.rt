@@ -52,7 +52,8 @@ fn make_pair(
 ) -> Result<Option<DelimiterRun>, InlineFault>
     requires within { from + opener.item < length (nodes_in nodes.old) }
     requires there { is_listed opener.place openers.old.list.entries ≡ true }
-    ensures made { OnOk result ((source : List ℕ) → items_of source (drop from (nodes_in nodes.new)) ≡ up_to_pair (opened_at source (drop from (nodes_in nodes.old)) opener) (run_of closer)) }
+    ensures made { OnOk result ((source : List ℕ) → items_of source (drop from (nodes_in nodes.new))
+        ≡ up_to_pair (opened_at source (drop from (nodes_in nodes.old)) opener) (run_of closer)) }
     ensures stays { OnOk result (Stays from nodes.old nodes.new) }
     ensures waiting { OnOk result (waiting_in nodes.new ≡ waiting_in nodes.old) }
     ensures deep { result ≡ Err InlinesTooDeep → limit ≤ nodes_depth (drop (suc opener.item) (drop from (nodes_in nodes.old))) }
@@ -84,9 +85,12 @@ fn add_run(
     run: DelimiterRun,
 ) -> Result<(), InlineFault>
     requires long { from ≤ length (nodes_in nodes.old) }
-    requires ready { (source : List ℕ) → Ready (reverse (items_of source (drop from (nodes_in nodes.old)))) openers.old.list openers.old.bottoms }
+    requires ready { (source : List ℕ) → Ready (reverse (items_of source
+        (drop from (nodes_in nodes.old)))) openers.old.list openers.old.bottoms }
     requires few { spent 13 openers.old.list openers.old.bottoms + (14 + run.left) < 2 ^ 127 }
-    ensures adds { OnOk result ((source : List ℕ) → Adds source (drop from (nodes_in nodes.old)) openers.old.list openers.old.bottoms (drop from (nodes_in nodes.new)) openers.new.list openers.new.bottoms (run_of run)) }
+    ensures adds { OnOk result ((source : List ℕ) → Adds source (drop from
+        (nodes_in nodes.old)) openers.old.list openers.old.bottoms (drop from
+        (nodes_in nodes.new)) openers.new.list openers.new.bottoms (run_of run)) }
     ensures stays { OnOk result (Stays from nodes.old nodes.new) }
     ensures waiting { OnOk result (waiting_in nodes.new ≡ waiting_in nodes.old) }
     ensures deep { result ≡ Err InlinesTooDeep → (source : List ℕ) → AreParts source (nodes_in nodes.old)
@@ -121,7 +125,8 @@ pub(crate) fn pair_from(
 ) -> Result<(), InlineFault>
     requires long { from ≤ length (nodes_in nodes.old) }
     requires few { (source : List ℕ) → openers.old.list.looks + allowance 13 (items_of source (drop from (nodes_in nodes.old))) < 2 ^ 127 }
-    ensures pairs { OnOk result ((source : List ℕ) → items_of source (drop from (nodes_in nodes.new)) ≡ pair_all (items_of source (drop from (nodes_in nodes.old)))) }
+    ensures pairs { OnOk result ((source : List ℕ) → items_of source (drop from (nodes_in nodes.new))
+        ≡ pair_all (items_of source (drop from (nodes_in nodes.old)))) }
     ensures stays { OnOk result (Stays from nodes.old nodes.new) }
     ensures deep { result ≡ Err InlinesTooDeep → (source : List ℕ) → AreParts source (nodes_in nodes.old)
         → limit < items_depth (pair_all (items_of source (drop from (nodes_in nodes.old)))) }
@@ -143,7 +148,8 @@ fn make_pairs(
 ) -> Result<(), InlineFault>
     requires long { from ≤ length (nodes_in nodes.old) }
     requires few { (source : List ℕ) → openers.old.list.looks + allowance 13 (items_of source (drop from (nodes_in nodes.old))) < 2 ^ 127 }
-    ensures pairs { OnOk result ((source : List ℕ) → items_of source (drop from (nodes_in nodes.new)) ≡ pair_all (items_of source (drop from (nodes_in nodes.old)))) }
+    ensures pairs { OnOk result ((source : List ℕ) → items_of source (drop from (nodes_in nodes.new))
+        ≡ pair_all (items_of source (drop from (nodes_in nodes.old)))) }
     ensures stays { OnOk result (Stays from nodes.old nodes.new) }
     ensures deep { result ≡ Err InlinesTooDeep → (source : List ℕ) → AreParts source (nodes_in nodes.old)
         → limit < items_depth (pair_all (items_of source (drop from (nodes_in nodes.old)))) }

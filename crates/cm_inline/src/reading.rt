@@ -72,7 +72,8 @@ fn read_on(
         reader.old.openers.list.looks }
     ensures read { IfOk result (λ end. IsReadTo source.now end reader.new) }
     ensures further { IfOk result (λ end. text.0 < end) }
-    ensures pays { IfOk result (λ end. Pays rules (defined_in definitions.now) source.now (nodes_in reader.new.nodes) end reader.new.openers.list.looks) }
+    ensures pays { IfOk result (λ end. Pays rules (defined_in definitions.now) source.now
+        (nodes_in reader.new.nodes) end reader.new.openers.list.looks) }
     ensures ahead { IfOk result (λ end.
         ahead rules (defined_in definitions.now) source.now (nodes_in reader.new.nodes) end
         ≡ ahead rules (defined_in definitions.now) source.now (nodes_in reader.old.nodes) text.0) }
@@ -103,8 +104,10 @@ fn read_all(
 ) -> Result<(), InlineFault>
     requires { IsTextTo source.now 0 first }
     ensures read { OnOk result (IsReadTo source.now (length source.now) reader.new) }
-    ensures pays { OnOk result (Pays rules (defined_in definitions.now) source.now (nodes_in reader.new.nodes) (length source.now) reader.new.openers.list.looks) }
-    ensures items { OnOk result (in_pieces (items_of source.now (nodes_in reader.new.nodes)) ≡ in_pieces (inlines.items_of rules (defined_in definitions.now) source.now)) }
+    ensures pays { OnOk result (Pays rules (defined_in definitions.now) source.now (nodes_in reader.new.nodes)
+        (length source.now) reader.new.openers.list.looks) }
+    ensures items { OnOk result (in_pieces (items_of source.now (nodes_in reader.new.nodes))
+        ≡ in_pieces (inlines.items_of rules (defined_in definitions.now) source.now)) }
     ensures deep { result ≡ Err InlinesTooDeep → inlines.nests_past rules (defined_in definitions.now) limit source.now ≡ true }
 {
     if source.len() > u32::MAX as usize {
@@ -125,7 +128,8 @@ fn read_all(
 /// Of other sources that come to one text, such as `a!`, it answers false.
 pub fn is_one_text(source: &str) -> bool
     ensures unmarked { result ≡ (not (is_empty source.now) && not (list_any is_marked source.now)) }
-    ensures text { IsTrue result → (rules : Rules) (defined : Defined) → inlines.inlines_of rules defined source.now ≡ Text source.now ∷ [] }
+    ensures text { IsTrue result → (rules : Rules) (defined : Defined)
+        → inlines.inlines_of rules defined source.now ≡ Text source.now ∷ [] }
 {
     !source.is_empty() && next_markup(source.as_bytes(), 0) == source.len()
 }
@@ -168,7 +172,8 @@ fn read_nodes(
     requires { IsTextTo source.now 0 first }
     ensures parts { OnOk result (AreParts source.now (nodes_in reader.new.nodes)) }
     ensures placed { OnOk result (ArePlaced source.now reader.new.nodes.inside) }
-    ensures read { IfOk result (λ steps. Read rules (defined_in definitions.now) limit source.now (settled (items_of source.now (nodes_in reader.new.nodes)), steps)) }
+    ensures read { IfOk result (λ steps. Read rules (defined_in definitions.now) limit source.now
+        (settled (items_of source.now (nodes_in reader.new.nodes)), steps)) }
     ensures refused { IfErr result (λ fault. Refused fault rules definitions.now limit source.now) }
 {
     read_all(alloc, rules, source, definitions, limit, reader, first)?;
@@ -262,7 +267,8 @@ impl InlineReader {
         definitions: &Definitions,
         limit: usize,
     ) -> Result<(), InlineFault>
-        ensures pushed { OnOk result (html.new ≡ html.old ++ inlines_html (inlines.inlines_of rules (defined_in definitions.now) source.now)) }
+        ensures pushed { OnOk result (html.new ≡ html.old
+            ++ inlines_html (inlines.inlines_of rules (defined_in definitions.now) source.now)) }
         ensures within { OnOk result (inlines.nests_past rules (defined_in definitions.now) limit source.now ≡ false) }
         ensures refused { IfErr result (λ fault. Refused fault rules definitions.now limit source.now) }
     {

@@ -108,7 +108,8 @@ fn push_inline(
     requires groups { AreGroups inside.now 0 groups.now }
     requires below { IsBelow (length groups.now) token }
     requires token { IsPlaced source.now token }
-    ensures { OnOk result (content.new.items ≡ content.old.items ++ inline_of source.now (node_of (groups_made inside.now groups.now) token)) }
+    ensures { OnOk result (content.new.items ≡ content.old.items
+        ++ inline_of source.now (node_of (groups_made inside.now groups.now) token)) }
 {
     match token {
         Token::Whole(written) => {

@@ -203,7 +203,8 @@ pub(crate) fn push_texts(
     requires { ArePlaced source.now tokens.now }
     ensures within { IfOk result (λ count. count ≤ length tokens.now) }
     ensures rest { IfOk result (λ count. nodes_of [] (drop count tokens.now) ≡ behind_texts (nodes_of [] tokens.now)) }
-    ensures pushed { OnOk result (content.new.items ≡ content.old.items ++ text_before (text_in_front source.now (nodes_of [] tokens.now)) []) }
+    ensures pushed { OnOk result (content.new.items
+        ≡ content.old.items ++ text_before (text_in_front source.now (nodes_of [] tokens.now)) []) }
 {
     let (text, count) = join(spare, source, tokens)?;
     if text.is_empty() {

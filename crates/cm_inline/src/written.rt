@@ -106,7 +106,8 @@ fn boxed_destination(
 
 /// An autolink as a link (6.5 Autolinks).
 fn link_to(spare: &mut Spare, is_address: bool, text: &str) -> Result<Inline, AllocError>
-    ensures { IfOk result (λ made. made ≡ inlines.Link (if is_address then codes "mailto:" ++ text.now else text.now) [] (inlines.Text text.now ∷ [])) }
+    ensures { IfOk result (λ made. made ≡ inlines.Link (if is_address then codes "mailto:"
+        ++ text.now else text.now) [] (inlines.Text text.now ∷ [])) }
 {
     Ok(Inline::Link {
         dest: boxed_destination(spare, is_address, text)?,

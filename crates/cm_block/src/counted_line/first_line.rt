@@ -40,7 +40,8 @@ fn begin_code(
     leaves: &mut TextRoom,
     line: &View<'_>,
 ) -> Result<FirstLine, AllocError>
-    ensures { IfOk result (λ first. (by : all.Rules) → begins_leaf (first_of first) ≡ begin_of_start by starts.IndentedCode (seen_view line.now)) }
+    ensures { IfOk result (λ first. (by : all.Rules) → begins_leaf (first_of first)
+        ≡ begin_of_start by starts.IndentedCode (seen_view line.now)) }
 {
     let mut text = leaves.take(alloc);
     push_line(&mut text, &line.strip(4))?;
@@ -52,7 +53,8 @@ fn begin_code(
 
 /// An ATX heading (4.2 ATX headings).
 fn begin_heading(alloc: Global, heading: AtxHeading<'_>) -> Result<FirstLine, AllocError>
-    ensures { IfOk result (λ first. (by : all.Rules) (line : LineView) → begins_leaf (first_of first) ≡ begin_of_start by (seen (Atx heading.entry)) line) }
+    ensures { IfOk result (λ first. (by : all.Rules) (line : LineView) → begins_leaf (first_of first)
+        ≡ begin_of_start by (seen (Atx heading.entry)) line) }
 {
     Ok(FirstLine::Whole(ClosedLeaf::Heading {
         level: heading.level,
@@ -85,7 +87,8 @@ fn begin_html(
     kind: HtmlKind,
     line: &View<'_>,
 ) -> Result<FirstLine, AllocError>
-    ensures { IfOk result (λ first. (by : all.Rules) → begins_leaf (first_of first) ≡ begin_of_start by (starts.HtmlStart (kind_of kind)) (seen_view line.now)) }
+    ensures { IfOk result (λ first. (by : all.Rules) → begins_leaf (first_of first)
+        ≡ begin_of_start by (starts.HtmlStart (kind_of kind)) (seen_view line.now)) }
 {
     let mut text = leaves.take(alloc);
     push_line(&mut text, line)?;
@@ -113,7 +116,8 @@ pub(crate) fn begin_leaf(
     start: &LeafStart<'_>,
     line: &View<'_>,
 ) -> Result<Option<FirstLine>, NoMemory>
-    ensures leaf { IfOk result (λ first. IfSome first (λ f. begins_leaf (first_of f) ≡ begin_of_start rules (seen start.now.found) (seen_view line.now))) }
+    ensures leaf { IfOk result (λ first. IfSome first (λ f. begins_leaf (first_of f)
+        ≡ begin_of_start rules (seen start.now.found) (seen_view line.now))) }
     ensures container { IfOk result (λ first. IfNone first (begins_container (seen start.now.found) ≡ true)) }
 {
     match &start.found {
