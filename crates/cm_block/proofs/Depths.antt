@@ -444,3 +444,5 @@ too_deep_next rules limit lines line h e =
         ap (option_map suc) (position-next deep (line_depths rules empty_stack lines) (nesting next.now) f)
         ∙ moved (nat_lt limit (nesting next.now)) (length (line_depths rules empty_stack lines)) (length-line_depths rules empty_stack lines)
     on (Some m) f e = grind (arith, e)
+
+pub ruleset of_depths = (depths_of_lines, too_deep_at_once, too_deep_stays, too_deep_next)

@@ -496,3 +496,5 @@ stack_table rules lines =
 
 pub one_owner_each : OneOwnerEach
 one_owner_each rules lines h = ap length (stack_owners rules lines) ∙ one_owner rules lines h
+
+pub ruleset of_stacks = (stack_blocks, stack_owners, stack_table)

@@ -69,11 +69,13 @@ fn put_definition(
     owners: &mut Owners,
 ) -> Result<(), NoMemory>
     ensures level { OnOk result (stack.new.level
-        ≡ block_closes stack.old.level (leaf_block (definition found.entry.label.now found.entry.dest.now found.entry.title.now))) }
+        ≡ block_closes stack.old.level
+        (leaf_block (definition found.entry.label.now found.entry.dest.now found.entry.title.now))) }
     ensures frames { stack.new.frames ≡ stack.old.frames }
     ensures bare { stack.new.bare ≡ stack.old.bare }
     ensures owners { OnOk result (owners.new
-        ≡ own_leaf owners.old (definition found.entry.label.now found.entry.dest.now found.entry.title.now) lines) }
+        ≡ own_leaf owners.old
+        (definition found.entry.label.now found.entry.dest.now found.entry.title.now) lines) }
 {
     let dest = unescape_or_lend(alloc, found.dest)?;
     let title = unescape_or_lend(alloc, found.title)?;
@@ -100,8 +102,8 @@ fn lines_taken(text: &str, end: usize, feeds: usize) -> usize
     feeds
 }
 
-/// Puts the definitions at the front of a text with so many line feeds, and answers what is left of it, and how many
-/// line feeds that has.
+/// Puts the definitions at the front of a text with so many line feeds, and answers what is left of it, and
+/// how many line feeds that has.
 fn put_definitions<'a>(
     alloc: Global,
     text: &'a str,
@@ -140,7 +142,8 @@ fn put_content(
     owners: &mut Owners,
 ) -> Result<(), AllocError>
     requires { feeds ≡ line_feeds source.now }
-    ensures level { OnOk result (stack.new.level ≡ close_leaves stack.old.level (content_leaf heading source.now)) }
+    ensures level { OnOk result (stack.new.level
+        ≡ close_leaves stack.old.level (content_leaf heading source.now)) }
     ensures frames { stack.new.frames ≡ stack.old.frames }
     ensures bare { stack.new.bare ≡ stack.old.bare }
     ensures owners { OnOk result (owners.new ≡ own_leaves owners.old (content_leaf heading source.now)) }
@@ -171,7 +174,8 @@ fn put_run(
     stack: &mut Stack,
     owners: &mut Owners,
 ) -> Result<(), NoMemory>
-    ensures level { OnOk result (stack.new.level ≡ close_leaves stack.old.level (run_leaves heading source.now)) }
+    ensures level { OnOk result (stack.new.level
+        ≡ close_leaves stack.old.level (run_leaves heading source.now)) }
     ensures frames { stack.new.frames ≡ stack.old.frames }
     ensures bare { stack.new.bare ≡ stack.old.bare }
     ensures owners { OnOk result (owners.new ≡ own_leaves owners.old (run_leaves heading source.now)) }
@@ -195,7 +199,8 @@ fn put_code(
     stack: &mut Stack,
     owners: &mut Owners,
 ) -> Result<(), AllocError>
-    ensures level { OnOk result (stack.new.level ≡ block_closes stack.old.level (leaf_block (code info.now text.now))) }
+    ensures level { OnOk result (stack.new.level
+        ≡ block_closes stack.old.level (leaf_block (code info.now text.now))) }
     ensures frames { stack.new.frames ≡ stack.old.frames }
     ensures bare { stack.new.bare ≡ stack.old.bare }
     ensures owners { OnOk result (owners.new ≡ own_plain_leaf owners.old lines) }
@@ -212,8 +217,8 @@ fn fence_lines(ended: bool, text: &LeafText) -> Result<usize, AllocError>
 }
 
 impl ClosedLeaf {
-    /// Puts the leaf at the end of the innermost level, and its lines at the end of the owners. The memory of its text
-    /// is kept.
+    /// Puts the leaf at the end of the innermost level, and its lines at the end of the owners. The memory of
+    /// its text is kept.
     pub(crate) fn put(
         self,
         alloc: Global,

@@ -1,5 +1,6 @@
 //! A line that can only be read by calls that count. So a contract can say how often a line is read.
-ghost use Rattle.std.specs.Prelude.{◌≡◌, ◌+◌, ◌++◌, ◌∷◌, ◌&&◌, ℕ, List, suc, true, false, string_bytes, IfOk, IfSome, IfNone, OnOk};
+ghost use Rattle.std.specs.Prelude.{◌≡◌, ◌+◌, ◌++◌, ◌∷◌, ◌&&◌, ℕ};
+ghost use Rattle.std.specs.Prelude.{List, suc, true, false, string_bytes, IfOk, IfSome, IfNone, OnOk};
 ghost use Rattle.cm_text.specs.Indentation.{strip_columns};
 ghost use Rattle.cm_text.specs.Rules as all;
 ghost use Rattle.cm_text.specs.Views.{seen_view};
@@ -7,7 +8,8 @@ ghost use Rattle.cm_scan.specs.Words.{given};
 ghost use Rattle.cm_scan.specs.Lines.{is_blank, with_ending};
 ghost use Rattle.cm_scan.specs.HtmlBlocks.{is_html_end};
 ghost use Rattle.cm_scan.specs.HtmlKinds.{kind_of};
-ghost use Rattle.cm_scan.specs.Starts.{place_if_lazy, place_in_quote, place_in_item, interrupts_paragraph, underline_of};
+ghost use Rattle.cm_scan.specs.Starts.{place_if_lazy, place_in_quote, place_in_item};
+ghost use Rattle.cm_scan.specs.Starts.{interrupts_paragraph, underline_of};
 ghost use Rattle.cm_scan.specs.Laws.{goes_inward};
 ghost use Rattle.cm_scan.specs.Blocks.{line_feeds, add_text, closes_fence};
 ghost use Rattle.cm_block.specs.OpenLeaf.{stays_open, line_of_leaf, begins_leaf, begin_of_start};
@@ -46,22 +48,22 @@ use std::alloc::{AllocError, Global};
 /// What is left of a line inside the containers in which it stays, and how often it has been read so far.
 ///
 /// Nothing that shows the line leaves this type. Each of its calls is one reading: it counts one, and answers
-/// what was found, or copies what is left of the line. The count is told by the call that lets the line go, and
-/// by no other.
+/// what was found, or copies what is left of the line. The count is told by the call that lets the line go,
+/// and by no other.
 pub(crate) struct CountedLine<'a> {
     rest: View<'a>,
     tests: u64,
 }
 
-/// Lines of text that follow one another, and how often they have been read so far. As of a `CountedLine`, nothing that
-/// shows them leaves this type.
+/// Lines of text that follow one another, and how often they have been read so far. As of a `CountedLine`,
+/// nothing that shows them leaves this type.
 pub(crate) struct CountedLines<'a> {
     lines: TextLines<'a>,
     tests: u128,
 }
 
-/// What a leaf block begins with, as it was found in a line. It shows nothing of that: only the line's own call takes
-/// it over.
+/// What a leaf block begins with, as it was found in a line. It shows nothing of that: only the line's own
+/// call takes it over.
 #[derive(Clone, Copy, Debug)]
 pub(crate) struct LeafStart<'a> {
     found: Start<'a>,
@@ -74,8 +76,8 @@ pub(crate) enum Begins<'a> {
     Nothing,
     /// A quote, into which the line has gone.
     Quote,
-    /// An item, into which the line has gone: the kind of its list, the column at which its content begins, and
-    /// whether nothing stands behind its marker.
+    /// An item, into which the line has gone: the kind of its list, the column at which its content begins,
+    /// and whether nothing stands behind its marker.
     Item {
         kind: ListKind,
         column: usize,
@@ -130,7 +132,8 @@ impl<'a> CountedLine<'a> {
         self.rest
     }
 
-    /// What is left of the line, for one reading, which it counts. The spaces at its front are seen as columns.
+    /// What is left of the line, for one reading, which it counts. The spaces at its front are seen as
+    /// columns.
     #[inline(always)]
     fn read_columns(&mut self) -> View<'a>
         ensures line { seen_view result ≡ seen_view self.old.rest }
@@ -148,7 +151,8 @@ impl<'a> CountedLine<'a> {
         self.rest = inner;
     }
 
-    /// Whether the line stays in an open quote by its marker, behind which it then goes on (5.1 Block quotes).
+    /// Whether the line stays in an open quote by its marker, behind which it then goes on (5.1 Block
+    /// quotes).
     pub(crate) fn stays_in_quote(&mut self) -> bool
         ensures place { (by : all.Rules) → IsInside result (place_in_quote by (seen_view self.old.rest))
             (place_if_lazy by (seen_view self.old.rest)) (seen_view self.new.rest) }
@@ -162,11 +166,13 @@ impl<'a> CountedLine<'a> {
         true
     }
 
-    /// Whether the line stays in an open item whose content begins at a column, into which it then goes: it reaches
-    /// the column, or is blank. A blank line ends an item of which there is only the marker (5.2 List items).
+    /// Whether the line stays in an open item whose content begins at a column, into which it then goes: it
+    /// reaches the column, or is blank. A blank line ends an item of which there is only the marker (5.2 List
+    /// items).
     pub(crate) fn stays_in_item(&mut self, column: usize, bare: bool) -> bool
         ensures place { (by : all.Rules) → IsInside result (place_in_item by column bare
-            (seen_view self.old.rest)) (place_if_lazy by (seen_view self.old.rest)) (seen_view self.new.rest) }
+            (seen_view self.old.rest)) (place_if_lazy by (seen_view self.old.rest))
+            (seen_view self.new.rest) }
         ensures same { result ≡ false → self.new.rest ≡ self.old.rest }
         ensures tests { Tested 1 1 self.old.tests self.new.tests }
     {
@@ -185,10 +191,12 @@ impl<'a> CountedLine<'a> {
         true
     }
 
-    /// Whether the line goes on a paragraph without the markers of its containers, as which it is then marked:
+    /// Whether the line goes on a paragraph without the markers of its containers, as which it is then
+    /// marked:
     /// `open_text` says that the lines so far leave a paragraph open (5.1 Block quotes, 5.2 List items).
     pub(crate) fn goes_on_lazily(&mut self, rules: Rules, open_text: bool) -> bool
-        ensures line { given result (seen_view self.new.rest) ≡ goes_inward (place_if_lazy rules (seen_view self.old.rest)) open_text }
+        ensures line { given result (seen_view self.new.rest)
+            ≡ goes_inward (place_if_lazy rules (seen_view self.old.rest)) open_text }
         ensures same { result ≡ false → self.new.rest ≡ self.old.rest }
         ensures lazy { result ≡ true → self.new.rest.lazy ≡ true }
         ensures tests { Tested 1 1 self.old.tests self.new.tests }
@@ -200,8 +208,8 @@ impl<'a> CountedLine<'a> {
         true
     }
 
-    /// What the line begins in the innermost container, where no leaf is open. It goes into the quote or the item
-    /// that it begins.
+    /// What the line begins in the innermost container, where no leaf is open. It goes into the quote or the
+    /// item that it begins.
     pub(crate) fn begins(&mut self, rules: Rules) -> Begins<'a>
         ensures found { Found rules (seen_view self.old.rest) result (seen_view self.new.rest) }
         ensures tests { Tested 1 1 self.old.tests self.new.tests }
@@ -274,7 +282,9 @@ impl<'a> CountedLine<'a> {
 
     /// Whether the line is the closing fence of a fence of this kind (4.5 Fenced code blocks).
     pub(crate) fn closes_fence(&mut self, kind: FenceKind) -> bool
-        ensures closes { (info : List ℕ) → result ≡ closes_fence (record { marker = kind.marker; count = kind.count; info = info }) (seen_view self.old.rest) }
+        ensures closes { (info : List ℕ) → result
+            ≡ closes_fence (record { marker = kind.marker; count = kind.count; info = info })
+            (seen_view self.old.rest) }
         ensures read { ReadOnce self.old self.new }
     {
         closes_fence(kind, &self.read())
@@ -296,14 +306,15 @@ impl<'a> CountedLine<'a> {
         add_text(source, &self.read())
     }
 
-    /// Goes on with indented code by the line, if it is one of the block, and answers whether it is. A blank line
-    /// waits for a further line of code (4.4 Indented code blocks).
+    /// Goes on with indented code by the line, if it is one of the block, and answers whether it is. A blank
+    /// line waits for a further line of code (4.4 Indented code blocks).
     pub(crate) fn add_code(
         &mut self,
         text: &mut LeafText,
         blank_lines: &mut LeafText,
     ) -> Result<bool, AllocError>
-        ensures taken { (by : all.Rules) → IfOk result (λ taken. given taken (stays_open (code_of text.new blank_lines.new))
+        ensures taken { (by : all.Rules) →
+            IfOk result (λ taken. given taken (stays_open (code_of text.new blank_lines.new))
             ≡ line_of_leaf by (code_of text.old blank_lines.old) (seen_view self.old.rest)) }
         ensures kept { IfOk result (λ taken. taken ≡ false → text.new ≡ text.old) }
         ensures waiting { IfOk result (λ taken. taken ≡ false → blank_lines.new ≡ blank_lines.old) }
@@ -318,7 +329,8 @@ impl<'a> CountedLine<'a> {
         columns: usize,
         text: &mut LeafText,
     ) -> Result<(), AllocError>
-        ensures text { OnOk result (text.new ≡ text.old ++ with_ending (strip_columns columns (seen_view self.old.rest))) }
+        ensures text { OnOk result (text.new
+            ≡ text.old ++ with_ending (strip_columns columns (seen_view self.old.rest))) }
         ensures feeds { OnOk result (line_feeds text.new ≡ suc (line_feeds text.old)) }
         ensures read { ReadOnce self.old self.new }
     {
@@ -334,8 +346,8 @@ impl<'a> CountedLine<'a> {
         push_next_line(text, &self.read())
     }
 
-    /// Begins the leaf block that was found to begin with the line. A quote's or an item's marker begins none. What is
-    /// open takes the room of texts.
+    /// Begins the leaf block that was found to begin with the line. A quote's or an item's marker begins
+    /// none. What is open takes the room of texts.
     pub(crate) fn begin_leaf(
         &mut self,
         alloc: Global,
@@ -345,7 +357,8 @@ impl<'a> CountedLine<'a> {
     ) -> Result<Option<FirstLine>, NoMemory>
         ensures leaf { IfOk result (λ first. IfSome first (λ f. begins_leaf (first_of f)
             ≡ begin_of_start rules (seen start.now.found) (seen_view self.old.rest))) }
-        ensures container { IfOk result (λ first. IfNone first (begins_container (seen start.now.found) ≡ true)) }
+        ensures container { IfOk result (λ first.
+            IfNone first (begins_container (seen start.now.found) ≡ true)) }
         ensures read { ReadOnce self.old self.new }
     {
         begin_leaf(alloc, rules, leaves, start, &self.read())
@@ -378,7 +391,8 @@ impl<'a> CountedLines<'a> {
     #[inline(always)]
     pub(crate) fn add_text(&mut self, source: &mut LeafText) -> Result<(), AllocError>
         requires { self.old.tests ≡ self.old.lines.count }
-        ensures text { OnOk result (source.new ≡ add_lines source.old (plain_lines_of self.old.lines.text.now)) }
+        ensures text { OnOk result (source.new
+            ≡ add_lines source.old (plain_lines_of self.old.lines.text.now)) }
         ensures tests { self.new.tests ≡ self.old.tests + self.old.lines.count }
     {
         self.tests += self.lines.count as u128;

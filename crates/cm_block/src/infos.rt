@@ -33,8 +33,8 @@ impl Replaced for LineSpace {
     }
 }
 
-/// The info of a code block, from its source: escapes and references are resolved, and by rules without raw HTML it
-/// is one line.
+/// The info of a code block, from its source: escapes and references are resolved, and by rules without raw
+/// HTML it is one line.
 pub(crate) fn info_of(alloc: Global, rules: Rules, source: &str) -> Result<String, NoMemory>
     ensures { IfOk result (λ info. string_bytes info ≡ info_of rules source.now) }
 {

@@ -1,5 +1,6 @@
 //! Laws: facts about the definitions alone. Each is the contract of a public function with an empty body.
-ghost use Rattle.cm_block.specs.Laws.{OnePass, FromTheLeft, StackBlocks, StackOwners, StackTable, OneOwnerEach};
+ghost use Rattle.cm_block.specs.Laws.{OnePass, FromTheLeft, StackBlocks};
+ghost use Rattle.cm_block.specs.Laws.{StackOwners, StackTable, OneOwnerEach};
 ghost use Rattle.cm_block.specs.Depths.{DepthsOfLines, TooDeepAtOnce, TooDeepStays, TooDeepNext};
 ghost use Rattle.cm_block.specs.Lazy.{LazyLine, TextGoesOn};
 ghost use Rattle.cm_block.specs.WorkedExamples.{StackExamples};
@@ -18,7 +19,7 @@ pub fn levels()
 
 /// The stack that a parser holds, closed behind the lines, gives their blocks, the owner of each line and the
 /// table of the link reference definitions.
-#[tactic(auto, using(crate::proofs::Stacks::stack_blocks, crate::proofs::Stacks::stack_owners, crate::proofs::Stacks::stack_table))]
+#[tactic(auto, using(crate::proofs::Stacks::of_stacks))]
 pub fn stack()
     ensures blocks { StackBlocks }
     ensures owners { StackOwners }
@@ -45,7 +46,7 @@ pub fn text_lines()
 
 /// So many quotes and items as are open behind a line stand round it: so the first line that is too deep
 /// is told as soon as it is taken in, and stays the first whatever follows.
-#[tactic(auto, using(crate::proofs::Depths::depths_of_lines, crate::proofs::Depths::too_deep_at_once, crate::proofs::Depths::too_deep_stays, crate::proofs::Depths::too_deep_next))]
+#[tactic(auto, using(crate::proofs::Depths::of_depths))]
 pub fn depths()
     ensures of_lines { DepthsOfLines }
     ensures too_deep { TooDeepAtOnce }

@@ -5,7 +5,8 @@ ghost use Rattle.cm_text.specs.Views.{seen_view};
 ghost use Rattle.cm_scan.specs.Lines.{is_blank};
 ghost use Rattle.cm_scan.specs.HtmlBlocks.{ends_at_blank_line};
 ghost use Rattle.cm_scan.specs.HtmlKinds.{kind_of};
-ghost use Rattle.cm_block.specs.OpenLeaf.{open_text, closed_leaves, blank_lines_behind, is_open_text, line_of_leaf};
+ghost use Rattle.cm_block.specs.OpenLeaf.{open_text, closed_leaves, blank_lines_behind};
+ghost use Rattle.cm_block.specs.OpenLeaf.{is_open_text, line_of_leaf};
 ghost use Rattle.cm_block.specs.steps.TextRuns.{add_lines};
 ghost use Rattle.cm_block.specs.LeafViews.{leaf_of};
 ghost use Rattle.cm_block.specs.steps.LeafSteps.{leaves_of_closed, closed_as, taken_of, left_open};
@@ -142,11 +143,13 @@ impl OpenLeaf {
     ) -> Result<LeafLine, AllocError>
         ensures line { IfOk result (λ taken. taken_of taken (leaf_of self.new)
             ≡ line_of_leaf rules (leaf_of self.old) (seen_view line.old.rest)) }
-        ensures left { IfOk result (λ taken. leaf_of self.new ≡ left_open taken (leaf_of self.old) (leaf_of self.new)) }
+        ensures left { IfOk result (λ taken. leaf_of self.new
+            ≡ left_open taken (leaf_of self.old) (leaf_of self.new)) }
         ensures same { line.new.rest ≡ line.old.rest }
         ensures tests { Tested 0 4 line.old.tests line.new.tests }
         ensures leaves { IfOk result (λ taken. taken ≡ Leaves → line.new.tests ≤ line.old.tests + 3) }
-        ensures lazy { IfOk result (λ taken. taken ≡ Leaves → line.old.rest.lazy ≡ true → line.new.tests ≤ line.old.tests + 1) }
+        ensures lazy { IfOk result (λ taken. taken ≡ Leaves → line.old.rest.lazy ≡ true →
+            line.new.tests ≤ line.old.tests + 1) }
     {
         match self {
             OpenLeaf::Nothing => Ok(LeafLine::Leaves),

@@ -1,7 +1,9 @@
 //! One level of the stack: what stands closed in the document, in a quote or in an item.
 ghost use Rattle.std.specs.Prelude.{◌≡◌, [], OnOk, IfOk};
-ghost use Rattle.cm_tree.specs.RawBlocks.{Raw, Grows, block_in, blocks_in, item_in, IsPlaced, ArePlaced, IsItem};
-ghost use Rattle.cm_block.specs.Level.{empty_level, closed_blocks, push_blank, block_opens, list_opens, item_opens, block_closes, item_closes};
+ghost use Rattle.cm_tree.specs.RawBlocks.{Raw, Grows, block_in, blocks_in};
+ghost use Rattle.cm_tree.specs.RawBlocks.{item_in, IsPlaced, ArePlaced, IsItem};
+ghost use Rattle.cm_block.specs.Level.{empty_level, closed_blocks, push_blank, block_opens};
+ghost use Rattle.cm_block.specs.Level.{list_opens, item_opens, block_closes, item_closes};
 ghost use Rattle.cm_block.specs.steps.LevelViews.{level_in, IsLevelPlaced};
 ghost use Rattle.cm_block.specs.steps.LevelSteps.{item_with, without_list, has_list_of, goes_on};
 
@@ -96,8 +98,10 @@ impl Level {
 
     /// Puts a block that was opened at the end.
     pub(crate) fn close_block(&mut self, block: RawBlock) -> Result<(), AllocError>
-        ensures level { OnOk result ((raw : Raw) → level_in raw self.new ≡ block_closes (level_in raw self.old) (block_in raw block)) }
-        ensures placed { (raw : Raw) → IsLevelPlaced raw self.old → IsPlaced raw block → IsLevelPlaced raw self.new }
+        ensures level { OnOk result ((raw : Raw) → level_in raw self.new
+            ≡ block_closes (level_in raw self.old) (block_in raw block)) }
+        ensures placed { (raw : Raw) → IsLevelPlaced raw self.old → IsPlaced raw block →
+            IsLevelPlaced raw self.new }
     {
         self.blocks.push(block)?;
         self.has_block = true;
@@ -135,7 +139,8 @@ impl Level {
         kind: ListKind,
     ) -> Result<(), AllocError>
         requires { IsLevelPlaced raw.old self.old }
-        ensures level { OnOk result (level_in raw.new self.new ≡ list_opens (level_in raw.old self.old) kind) }
+        ensures level { OnOk result (level_in raw.new self.new
+            ≡ list_opens (level_in raw.old self.old) kind) }
         ensures placed { IsLevelPlaced raw.new self.new }
         ensures grows { Grows raw.old raw.new }
     {
@@ -157,7 +162,8 @@ impl Level {
         kind: ListKind,
     ) -> Result<(), AllocError>
         requires { IsLevelPlaced raw.old self.old }
-        ensures level { OnOk result (level_in raw.new self.new ≡ item_opens (level_in raw.old self.old) kind) }
+        ensures level { OnOk result (level_in raw.new self.new
+            ≡ item_opens (level_in raw.old self.old) kind) }
         ensures placed { IsLevelPlaced raw.new self.new }
         ensures grows { Grows raw.old raw.new }
     {
@@ -178,7 +184,8 @@ impl Level {
     ) -> Result<(), AllocError>
         ensures level { OnOk result ((raw : Raw) → level_in raw self.new
             ≡ item_closes (level_in raw self.old) (item_with (item_in raw item) ends_blank separated)) }
-        ensures placed { (raw : Raw) → IsLevelPlaced raw self.old → IsItem raw item → IsLevelPlaced raw self.new }
+        ensures placed { (raw : Raw) → IsLevelPlaced raw self.old → IsItem raw item →
+            IsLevelPlaced raw self.new }
     {
         if let Some(list) = &mut self.open_list {
             list.items.push(item)?;
@@ -192,7 +199,8 @@ impl Level {
     /// The blocks.
     pub(crate) fn into_blocks(mut self, raw: &mut RawBlocks) -> Result<Vec<RawBlock>, AllocError>
         requires { IsLevelPlaced raw.old self }
-        ensures blocks { IfOk result (λ blocks. blocks_in raw.new blocks.items ≡ closed_blocks (level_in raw.old self)) }
+        ensures blocks { IfOk result (λ blocks. blocks_in raw.new blocks.items
+            ≡ closed_blocks (level_in raw.old self)) }
         ensures placed { IfOk result (λ blocks. ArePlaced raw.new blocks.items) }
         ensures grows { Grows raw.old raw.new }
     {

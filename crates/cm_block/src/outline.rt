@@ -114,8 +114,8 @@ fn push_part(alloc: Global, made: &mut Items<Block>, part: &RawPart) -> Result<(
 }
 
 impl Outline {
-    /// The blocks as blocks of the tree. The content of a paragraph or heading is one text, its source; an empty heading
-    /// has none.
+    /// The blocks as blocks of the tree. The content of a paragraph or heading is one text, its source; an
+    /// empty heading has none.
     ///
     /// # Errors
     ///

@@ -32,8 +32,8 @@ pub(crate) struct OwnerRun {
     pub(crate) lines: u32,
 }
 
-/// The owner of each line so far, and how many leaves they have. Lines one after another that have the same owner take
-/// the room of one. Each leaf begins a run, so there are no more leaves than runs.
+/// The owner of each line so far, and how many leaves they have. Lines one after another that have the same
+/// owner take the room of one. Each leaf begins a run, so there are no more leaves than runs.
 #[derive(Debug, Drop)]
 pub(crate) struct OwnerRuns {
     closed: Vec<OwnerRun>,
@@ -215,7 +215,8 @@ impl OwnerRuns {
     }
 }
 
-/// The owner of each line of a document. Lines one after another that have the same owner take the room of one.
+/// The owner of each line of a document. Lines one after another that have the same owner take the room of
+/// one.
 #[derive(Debug, Drop)]
 pub struct LineOwners {
     runs: OwnerRuns,

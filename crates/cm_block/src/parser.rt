@@ -1,5 +1,6 @@
 //! The block structure of a document, line by line.
-ghost use Rattle.std.specs.Prelude.{◌≡◌, ◌≢◌, ◌+◌, ◌-◌, ◌<◌, ◌≤◌, ◌∷◌, ◌++◌, [], List, None, true, false, length, suc, Some, Err, IfOk, IfErr, OnOk};
+ghost use Rattle.std.specs.Prelude.{◌≡◌, ◌≢◌, ◌+◌, ◌-◌, ◌<◌, ◌≤◌, ◌∷◌, ◌++◌, []};
+ghost use Rattle.std.specs.Prelude.{List, None, true, false, length, suc, Some, Err, IfOk, IfErr, OnOk};
 ghost use Rattle.cm_text.specs.Answers.{answer_after};
 ghost use Rattle.cm_text.specs.Lines.{LineView, plain_lines_of, seen_line};
 ghost use Rattle.cm_text.specs.Views.{seen_view};
@@ -38,18 +39,18 @@ pub struct Outline {
     pub blocks: RawTree,
     pub owners: LineOwners,
     pub definitions: Definitions,
-    /// How often a line was read, to see whether it stays in one open block or ends that, or what it begins, or
-    /// to take its text over: at least once for each quote and item, and for each line at most five times more
-    /// than the limit of blocks.
+    /// How often a line was read, to see whether it stays in one open block or ends that, or what it begins,
+    /// or to take its text over: at least once for each quote and item, and for each line at most five times
+    /// more than the limit of blocks.
     pub tests: u128,
 }
 
 /// Reads the block structure of a document from its lines, by the rules of its limits (CommonMark 0.31.2,
 /// chapters 3 to 5).
 ///
-/// Hand over each line once, by `line` or `line_view`, and take the outline by `finish`. Each line is done with when the
-/// call returns: what is open is held, and no line is kept. After a fault each further call answers that
-/// fault.
+/// Hand over each line once, by `line` or `line_view`, and take the outline by `finish`. Each line is done
+/// with when the call returns: what is open is held, and no line is kept. After a fault each further call
+/// answers that fault.
 #[derive(Debug, Drop)]
 pub struct BlockParser {
     alloc: Global,
@@ -92,9 +93,11 @@ impl BlockParser {
     /// Closes the open leaf.
     #[inline(always)]
     fn close_leaf(&mut self) -> Result<(), NoMemory>
-        ensures level { OnOk result (self.new.stack.level ≡ close_open self.old.stack.level (in_leaf (leaf_of self.old.leaf))) }
+        ensures level { OnOk result (self.new.stack.level
+            ≡ close_open self.old.stack.level (in_leaf (leaf_of self.old.leaf))) }
         ensures owners { OnOk result (self.new.owners
-            ≡ own_open (quoted_by false self.old.stack.frames) self.old.owners (in_leaf (leaf_of self.old.leaf))) }
+            ≡ own_open (quoted_by false self.old.stack.frames) self.old.owners
+            (in_leaf (leaf_of self.old.leaf))) }
         ensures leaf { leaf_of self.new.leaf ≡ no_leaf }
         ensures frames { self.new.stack.frames ≡ self.old.stack.frames }
         ensures bare { self.new.stack.bare ≡ self.old.stack.bare }
@@ -180,7 +183,8 @@ impl BlockParser {
         ensures tests { OnOk result (Tested (length self.new.stack.frames - length self.old.stack.frames)
             (length self.new.stack.frames - length self.old.stack.frames + 2) line.old.tests line.new.tests) }
         ensures deep { IfErr result (λ fault. DeepIn fault self.old.limits.blocks
-            (begun self.old.limits.rules self.old.stack (seen_view line.old.rest) self.old.owners) self.old.owners) }
+            (begun self.old.limits.rules self.old.stack
+            (seen_view line.old.rest) self.old.owners) self.old.owners) }
         ensures limits { self.new.limits ≡ self.old.limits }
         ensures fault { self.new.fault ≡ self.old.fault }
     {
@@ -202,11 +206,13 @@ impl BlockParser {
     /// A line that stays in so many of the open containers, if it is one of the open leaf: whether it is.
     fn take_to_leaf(&mut self, depth: usize, line: &mut CountedLine<'_>) -> Result<bool, NoMemory>
         requires plain { self.old.stack.bare ≡ false }
-        ensures taken { IfOk result (λ taken. TakenToLeaf taken depth self.old (seen_view line.old.rest) self.new) }
+        ensures taken { IfOk result (λ taken.
+            TakenToLeaf taken depth self.old (seen_view line.old.rest) self.new) }
         ensures same { line.new.rest ≡ line.old.rest }
         ensures tests { Tested 0 4 line.old.tests line.new.tests }
         ensures leaves { IfOk result (λ taken. taken ≡ false → line.new.tests ≤ line.old.tests + 3) }
-        ensures lazy { IfOk result (λ taken. taken ≡ false → line.old.rest.lazy ≡ true → line.new.tests ≤ line.old.tests + 1) }
+        ensures lazy { IfOk result (λ taken. taken ≡ false → line.old.rest.lazy ≡ true →
+            line.new.tests ≤ line.old.tests + 1) }
         ensures unread { depth < length self.old.stack.frames → line.new.tests ≡ line.old.tests }
         ensures frames { self.new.stack.frames ≡ self.old.stack.frames }
         ensures limits { self.new.limits ≡ self.old.limits }
@@ -232,12 +238,15 @@ impl BlockParser {
 
     /// One more line.
     fn accept(&mut self, line: &mut CountedLine<'_>) -> Result<(), BlockFault>
-        ensures pushed { OnOk result (stack_of self.new ≡ push_line self.old.limits.rules (stack_of self.old) (seen_view line.old.rest)) }
+        ensures pushed { OnOk result (stack_of self.new
+            ≡ push_line self.old.limits.rules (stack_of self.old) (seen_view line.old.rest)) }
         ensures few { OnOk result (length self.old.stack.frames ≤ self.old.limits.blocks
             → length self.new.stack.frames ≤ self.old.limits.blocks) }
         ensures tests { OnOk result (length self.old.stack.frames ≤ self.old.limits.blocks →
-            Tested (count_of (stack_of self.new) - count_of (stack_of self.old)) (self.old.limits.blocks + 5) line.old.tests line.new.tests) }
-        ensures deep { IfErr result (λ fault. Deep fault self.old.limits (stack_of self.old) (seen_view line.old.rest)) }
+            Tested (count_of (stack_of self.new) - count_of (stack_of self.old))
+            (self.old.limits.blocks + 5) line.old.tests line.new.tests) }
+        ensures deep { IfErr result (λ fault.
+            Deep fault self.old.limits (stack_of self.old) (seen_view line.old.rest)) }
         ensures limits { self.new.limits ≡ self.old.limits }
         ensures fault { self.new.fault ≡ self.old.fault }
     {
@@ -309,8 +318,8 @@ impl BlockParser {
         self.fault.is_none() && self.leaf.is_run()
     }
 
-    /// Takes in lines of text, as `line_view` takes in one after another. A run of text is open, with which they go on.
-    /// They are lent and not kept.
+    /// Takes in lines of text, as `line_view` takes in one after another. A run of text is open, with which
+    /// they go on. They are lent and not kept.
     ///
     /// # Errors
     ///
@@ -345,7 +354,8 @@ impl BlockParser {
     pub fn finish(mut self) -> Result<Outline, BlockFault>
         ensures outline { IfOk result (λ outline. (lines : List LineView) → StandsFor self lines
             → OutlineOf outline self.limits.rules lines) }
-        ensures tests { IfOk result (λ outline. (lines : List LineView) → StandsFor self lines → TestsOf outline self.limits.blocks lines) }
+        ensures tests { IfOk result (λ outline. (lines : List LineView) → StandsFor self lines →
+            TestsOf outline self.limits.blocks lines) }
         ensures failed { (fault : faults.BlockFault) → self.fault ≡ Some fault → result ≡ Err fault }
         ensures memory { self.fault ≡ None → IfErr result (λ fault. fault ≡ block_faults.NoMemory) }
     {

@@ -1,15 +1,18 @@
 //! The open quotes and items.
-ghost use Rattle.std.specs.Prelude.{◌≡◌, ◌<◌, ◌≤◌, ◌∷◌, ◌++◌, ◌+◌, ◌&&◌, [], true, false, suc, List, length, take, drop, None, OnOk, IfOk};
+ghost use Rattle.std.specs.Prelude.{◌≡◌, ◌<◌, ◌≤◌, ◌∷◌, ◌++◌, ◌+◌, ◌&&◌, []};
+ghost use Rattle.std.specs.Prelude.{true, false, suc, List, length, take, drop, None, OnOk, IfOk};
 ghost use Rattle.cm_text.specs.Rules as all;
 ghost use Rattle.cm_text.specs.Views.{seen_view};
 ghost use Rattle.cm_scan.specs.Words.{given};
 ghost use Rattle.cm_scan.specs.Starts.{place_if_lazy};
 ghost use Rattle.cm_block.specs.steps.LineTests.{Tested};
-ghost use Rattle.cm_block.specs.Level.{empty_level, block_opens, block_closes, closed_blocks, item_opens, push_blank};
+ghost use Rattle.cm_block.specs.Level.{empty_level, block_opens, block_closes};
+ghost use Rattle.cm_block.specs.Level.{closed_blocks, item_opens, push_blank};
 ghost use Rattle.cm_block.specs.steps.LeafBlocks.{block_of};
 ghost use Rattle.cm_block.specs.steps.LevelViews.{level_in, IsLevelPlaced};
 ghost use Rattle.cm_block.specs.Frames.{a_quote, an_item, is_last, Frame as open_frame};
-ghost use Rattle.cm_block.specs.steps.FrameSteps.{place_in, inward, matching, quoted_by, close_container, close_frames};
+ghost use Rattle.cm_block.specs.steps.FrameSteps.{place_in, inward, matching, quoted_by};
+ghost use Rattle.cm_block.specs.steps.FrameSteps.{close_container, close_frames};
 ghost use Rattle.cm_block.specs.steps.PlaceViews.{IsInside, stays};
 ghost use Rattle.cm_block.specs.declared.stack.Stays.TheVariants.{Inside, Lazily, Leaves};
 ghost use Rattle.cm_block.specs.steps.FrameViews.{container_of, frames_in, AreFramesPlaced};
@@ -44,11 +47,12 @@ pub(crate) enum Stays {
 }
 
 impl Container {
-    /// Takes a line in, if it stays in the container by itself, and answers whether it does. `bare` says of an item
-    /// that there is only its marker so far, with nothing on its line.
+    /// Takes a line in, if it stays in the container by itself, and answers whether it does. `bare` says of
+    /// an item that there is only its marker so far, with nothing on its line.
     fn has_inside(&self, bare: bool, line: &mut CountedLine<'_>) -> bool
         ensures place { (by : all.Rules) → IsInside result (place_in by (container_of self.now) bare
-            (seen_view line.old.rest)) (place_if_lazy by (seen_view line.old.rest)) (seen_view line.new.rest) }
+            (seen_view line.old.rest)) (place_if_lazy by (seen_view line.old.rest))
+            (seen_view line.new.rest) }
         ensures same { result ≡ false → line.new.rest ≡ line.old.rest }
         ensures tests { Tested 1 1 line.old.tests line.new.tests }
     {
@@ -58,8 +62,8 @@ impl Container {
         }
     }
 
-    /// Takes a line in, if it stays in the container, by itself or as a lazy continuation line, and answers how it
-    /// does. `open_text` says that a paragraph is left open.
+    /// Takes a line in, if it stays in the container, by itself or as a lazy continuation line, and answers
+    /// how it does. `open_text` says that a paragraph is left open.
     fn take_in(
         &self,
         rules: Rules,
@@ -111,7 +115,8 @@ fn matching(
         ≡ matching rules bare open_text (frames_in raw frames.now) (seen_view line.old.rest) }
     ensures tests { Tested 0 (suc (length frames.now)) line.old.tests line.new.tests }
     ensures stays { line.new.tests ≤ line.old.tests + result + 2 }
-    ensures plain { line.new.rest.lazy ≡ false → length frames.now ≤ result → line.new.tests ≤ line.old.tests + result }
+    ensures plain { line.new.rest.lazy ≡ false → length frames.now ≤ result →
+        line.new.tests ≤ line.old.tests + result }
 {
     for (depth, frame) in frames.iter().enumerate() {
         let is_bare = is_bare_at(frames, depth, bare);
@@ -203,7 +208,8 @@ impl Stack {
             ≡ matching rules self.now.bare open_text self.now.frames (seen_view line.old.rest) }
         ensures tests { Tested 0 (suc (length self.now.frames)) line.old.tests line.new.tests }
         ensures stays { line.new.tests ≤ line.old.tests + result + 2 }
-        ensures plain { line.new.rest.lazy ≡ false → length self.now.frames ≤ result → line.new.tests ≤ line.old.tests + result }
+        ensures plain { line.new.rest.lazy ≡ false → length self.now.frames ≤ result →
+            line.new.tests ≤ line.old.tests + result }
     {
         matching(rules, self.frames.as_slice(), self.bare, open_text, line)
     }
@@ -259,7 +265,8 @@ impl Stack {
         column: usize,
     ) -> Result<(), AllocError>
         ensures frames { OnOk result (self.new.frames
-            ≡ self.old.frames ++ record { level = item_opens self.old.level kind; container = an_item kind column } ∷ []) }
+            ≡ self.old.frames
+            ++ record { level = item_opens self.old.level kind; container = an_item kind column } ∷ []) }
         ensures level { OnOk result (self.new.level ≡ empty_level) }
         ensures bare { self.new.bare ≡ self.old.bare }
     {
@@ -270,8 +277,10 @@ impl Stack {
 
     /// Closes the innermost container, if there is one.
     fn close_last(&mut self) -> Result<(), AllocError>
-        ensures closes { OnOk result ((outer : List open_frame) (last : open_frame) → self.old.frames ≡ outer ++ last ∷ [] →
-            (self.new.frames ≡ outer) × (self.new.level ≡ close_container last.container last.level self.old.level)) }
+        ensures closes { OnOk result ((outer : List open_frame) (last : open_frame) →
+            self.old.frames ≡ outer ++ last ∷ [] →
+            (self.new.frames ≡ outer)
+            × (self.new.level ≡ close_container last.container last.level self.old.level)) }
         ensures bare { self.new.bare ≡ self.old.bare }
     {
         let Some(Frame { level, container }) = self.frames.pop() else {
@@ -299,7 +308,8 @@ impl Stack {
     pub(crate) fn close_to(&mut self, depth: usize) -> Result<(), AllocError>
         requires { depth ≤ length self.old.frames }
         ensures frames { OnOk result (self.new.frames ≡ take depth self.old.frames) }
-        ensures level { OnOk result (self.new.level ≡ close_frames (drop depth self.old.frames) self.old.level) }
+        ensures level { OnOk result (self.new.level
+            ≡ close_frames (drop depth self.old.frames) self.old.level) }
         ensures bare { self.new.bare ≡ self.old.bare }
     {
         while self.frames.len() > depth {

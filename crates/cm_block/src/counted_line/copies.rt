@@ -57,7 +57,8 @@ pub(crate) fn take_code_line(
     blank_lines: &mut LeafText,
     line: &View<'_>,
 ) -> Result<bool, AllocError>
-    ensures taken { (by : all.Rules) → IfOk result (λ taken. given taken (stays_open (code_of text.new blank_lines.new))
+    ensures taken { (by : all.Rules) →
+        IfOk result (λ taken. given taken (stays_open (code_of text.new blank_lines.new))
         ≡ line_of_leaf by (code_of text.old blank_lines.old) (seen_view line.now)) }
     ensures kept { IfOk result (λ taken. taken ≡ false → text.new ≡ text.old) }
     ensures waiting { IfOk result (λ taken. taken ≡ false → blank_lines.new ≡ blank_lines.old) }

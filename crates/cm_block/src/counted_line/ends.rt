@@ -11,7 +11,9 @@ use cm_text::View;
 
 /// Whether the line is the closing fence: it has up to 3 columns of indentation (4.5 Fenced code blocks).
 pub(crate) fn closes_fence(kind: FenceKind, line: &View<'_>) -> bool
-    ensures { (info : List ℕ) → result ≡ closes_fence (record { marker = kind.marker; count = kind.count; info = info }) (seen_view line.now) }
+    ensures { (info : List ℕ) → result
+        ≡ closes_fence (record { marker = kind.marker; count = kind.count; info = info })
+        (seen_view line.now) }
 {
     line.indent() <= 3 && fence_end(kind, content(line), 0).is_some()
 }

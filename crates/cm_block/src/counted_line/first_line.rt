@@ -62,7 +62,8 @@ fn begin_heading(alloc: Global, heading: AtxHeading<'_>) -> Result<FirstLine, Al
     }))
 }
 
-/// A fence, with its info resolved: each further line loses as many columns as this one has (4.5 Fenced code blocks).
+/// A fence, with its info resolved: each further line loses as many columns as this one has (4.5 Fenced code
+/// blocks).
 fn begin_fence(
     alloc: Global,
     rules: Rules,
@@ -70,7 +71,8 @@ fn begin_fence(
     fence: OpeningFence<'_>,
     line: &View<'_>,
 ) -> Result<FirstLine, NoMemory>
-    ensures { IfOk result (λ first. begins_leaf (first_of first) ≡ begin_of_start rules (seen (Fence fence.entry)) (seen_view line.now)) }
+    ensures { IfOk result (λ first. begins_leaf (first_of first)
+        ≡ begin_of_start rules (seen (Fence fence.entry)) (seen_view line.now)) }
 {
     Ok(FirstLine::Opens(OpenLeaf::Fence {
         kind: fence.kind,
@@ -107,8 +109,8 @@ fn begin_run(alloc: Global, leaves: &mut TextRoom, line: &View<'_>) -> Result<Le
     Ok(source)
 }
 
-/// The first line of a leaf block, by what it begins. A quote's or an item's marker begins none. What is open takes
-/// the room of texts.
+/// The first line of a leaf block, by what it begins. A quote's or an item's marker begins none. What is open
+/// takes the room of texts.
 pub(crate) fn begin_leaf(
     alloc: Global,
     rules: Rules,

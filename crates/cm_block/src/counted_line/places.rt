@@ -1,10 +1,13 @@
 //! Whether a line stays inside an open container, and what is left of it there.
-ghost use Rattle.std.specs.Prelude.{◌≡◌, ◌≤◌, ◌&&◌, ◌||◌, drop, length, nat_le, true, false, option_map, IfSome, MatchOption};
+ghost use Rattle.std.specs.Prelude.{◌≡◌, ◌≤◌, ◌&&◌, ◌||◌};
+ghost use Rattle.std.specs.Prelude.{drop, length, nat_le, true, false, option_map, IfSome, MatchOption};
 ghost use Rattle.cm_text.specs.Indentation.{indent_of, strip_columns};
 ghost use Rattle.cm_text.specs.Rules as all;
 ghost use Rattle.cm_text.specs.Views.{seen_view};
 ghost use Rattle.cm_scan.specs.Lines.{is_blank};
-ghost use Rattle.cm_scan.specs.Starts.{QuoteMarker, ItemStart, start_of, may_be_lazy, place_if_lazy, behind_quote_marker, place_in_quote, content_offset, content_column, first_content, behind_marker, place_in_item};
+ghost use Rattle.cm_scan.specs.Starts.{QuoteMarker, ItemStart, start_of, may_be_lazy, place_if_lazy};
+ghost use Rattle.cm_scan.specs.Starts.{behind_quote_marker, place_in_quote, content_offset};
+ghost use Rattle.cm_scan.specs.Starts.{content_column, first_content, behind_marker, place_in_item};
 ghost use Rattle.cm_scan.specs.Laws.{goes_inward};
 ghost use Rattle.cm_scan.specs.Words.{given, run_length};
 ghost use Rattle.cm_block.specs.steps.LineTests.{Tested};
@@ -61,7 +64,8 @@ fn may_be_lazy(start: &Start<'_>) -> bool
 /// The line as a lazy continuation line, if it can be one: `open_text` says whether the lines so far leave
 /// a paragraph open (5.1 Block quotes, 5.2 List items).
 pub(crate) fn if_lazy<'a>(rules: Rules, line: &View<'a>, open_text: bool) -> Option<View<'a>>
-    ensures line { option_map seen_view result ≡ goes_inward (place_if_lazy rules (seen_view line.now)) open_text }
+    ensures line { option_map seen_view result
+        ≡ goes_inward (place_if_lazy rules (seen_view line.now)) open_text }
     ensures lazy { IfSome result (λ inner. inner.lazy ≡ true) }
 {
     if !open_text {
@@ -86,7 +90,8 @@ pub(crate) fn if_lazy<'a>(rules: Rules, line: &View<'a>, open_text: bool) -> Opt
 #[inline(always)]
 pub(crate) fn quote_content<'a>(line: &View<'a>) -> Option<View<'a>>
     ensures { (by : all.Rules) → MatchOption result (begins_quote (start_of by (seen_view line.now)) ≡ false)
-        (λ inner. (start_of by (seen_view line.now) ≡ QuoteMarker) × (seen_view inner ≡ behind_quote_marker (seen_view line.now))) }
+        (λ inner. (start_of by (seen_view line.now) ≡ QuoteMarker)
+        × (seen_view inner ≡ behind_quote_marker (seen_view line.now))) }
 {
     if line.lazy {
         return None;

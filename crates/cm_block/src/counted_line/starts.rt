@@ -7,7 +7,8 @@ ghost use Rattle.cm_scan.specs.Lines.{content_of};
 ghost use Rattle.cm_scan.specs.Words.{given, ◌<|>◌};
 ghost use Rattle.cm_scan.specs.LineForms.{is_thematic_break, atx_heading, opening_fence, item_marker};
 ghost use Rattle.cm_scan.specs.HtmlBlocks.{html_start};
-ghost use Rattle.cm_scan.specs.Starts.{HtmlStart, BreakLine, ItemStart, seen_as, or_text, start_of_content, start_of};
+ghost use Rattle.cm_scan.specs.Starts.{HtmlStart, BreakLine, ItemStart, seen_as};
+ghost use Rattle.cm_scan.specs.Starts.{or_text, start_of_content, start_of};
 ghost use Rattle.cm_scan.specs.Starts as forms;
 ghost use Rattle.cm_block.specs.steps.StartViews.{seen, begins_break, begins_fence};
 
@@ -30,7 +31,8 @@ pub(crate) enum Start<'a> {
     TextLine,
 }
 
-/// Whether a line begins with an ASCII letter, without indentation. It is text then, and all of it is its content.
+/// Whether a line begins with an ASCII letter, without indentation. It is text then, and all of it is its
+/// content.
 #[inline(always)]
 pub(crate) fn begins_with_letter(line: &View<'_>) -> bool
     ensures { result ≡ ((line.now.spaces == 0) && is_at_letter line.now.rest.now) }
@@ -110,7 +112,9 @@ fn item_or_text(text: &str) -> Start<'_>
 
 /// A thematic break, the marker of an item, or text.
 fn break_or_item(text: &str) -> Start<'_>
-    ensures { seen result ≡ or_text (given (is_thematic_break text.now) BreakLine <|> seen_as ItemStart (item_marker text.now)) }
+    ensures { seen result
+        ≡ or_text (given (is_thematic_break text.now) BreakLine
+        <|> seen_as ItemStart (item_marker text.now)) }
 {
     if thematic(text, 0).is_some() {
         return Start::Break;
@@ -118,7 +122,8 @@ fn break_or_item(text: &str) -> Start<'_>
     item_or_text(text)
 }
 
-/// The first that fits by these rules, with up to 3 columns of indentation. By its first byte most are left out.
+/// The first that fits by these rules, with up to 3 columns of indentation. By its first byte most are left
+/// out.
 fn start_of_content(rules: Rules, text: &str) -> Start<'_>
     ensures { seen result ≡ start_of_content rules text.now }
 {
