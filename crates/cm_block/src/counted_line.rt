@@ -1,21 +1,14 @@
 //! A line that can only be read by calls that count. So a contract can say how often a line is read.
 ghost use Rattle.std.specs.Prelude.{◌≡◌, ◌+◌, ◌++◌, ◌∷◌, ◌&&◌, ℕ};
 ghost use Rattle.std.specs.Prelude.{List, suc, true, false, string_bytes, IfOk, IfSome, IfNone, OnOk};
-ghost use Rattle.cm_text.specs.Indentation.{strip_columns};
+ghost use Rattle.cm_block.specs.Below.{strip_columns, seen_view, given, is_blank, with_ending};
+ghost use Rattle.cm_block.specs.Below.{is_html_end, kind_of, place_if_lazy, place_in_quote};
+ghost use Rattle.cm_block.specs.Below.{place_in_item, interrupts_paragraph, underline_of, goes_inward};
+ghost use Rattle.cm_block.specs.Below.{line_feeds, add_text, closes_fence, plain_lines_of};
 ghost use Rattle.cm_text.specs.Rules as all;
-ghost use Rattle.cm_text.specs.Views.{seen_view};
-ghost use Rattle.cm_scan.specs.Words.{given};
-ghost use Rattle.cm_scan.specs.Lines.{is_blank, with_ending};
-ghost use Rattle.cm_scan.specs.HtmlBlocks.{is_html_end};
-ghost use Rattle.cm_scan.specs.HtmlKinds.{kind_of};
-ghost use Rattle.cm_scan.specs.Starts.{place_if_lazy, place_in_quote, place_in_item};
-ghost use Rattle.cm_scan.specs.Starts.{interrupts_paragraph, underline_of};
-ghost use Rattle.cm_scan.specs.Laws.{goes_inward};
-ghost use Rattle.cm_scan.specs.Blocks.{line_feeds, add_text, closes_fence};
 ghost use Rattle.cm_block.specs.OpenLeaf.{stays_open, line_of_leaf, begins_leaf, begin_of_start};
 ghost use Rattle.cm_block.specs.LeafViews.{code_of};
 ghost use Rattle.cm_block.specs.steps.LineTests.{Tested};
-ghost use Rattle.cm_text.specs.Lines.{plain_lines_of};
 ghost use Rattle.cm_block.specs.steps.TextRuns.{add_lines};
 ghost use Rattle.cm_block.specs.steps.StartViews.{seen};
 ghost use Rattle.cm_block.specs.steps.PlaceViews.{IsInside};

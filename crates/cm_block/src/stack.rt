@@ -2,9 +2,7 @@
 ghost use Rattle.std.specs.Prelude.{◌≡◌, ◌<◌, ◌≤◌, ◌∷◌, ◌++◌, ◌+◌, ◌&&◌, []};
 ghost use Rattle.std.specs.Prelude.{true, false, suc, List, length, take, drop, None, OnOk, IfOk};
 ghost use Rattle.cm_text.specs.Rules as all;
-ghost use Rattle.cm_text.specs.Views.{seen_view};
-ghost use Rattle.cm_scan.specs.Words.{given};
-ghost use Rattle.cm_scan.specs.Starts.{place_if_lazy};
+ghost use Rattle.cm_block.specs.Below.{seen_view, given, place_if_lazy, Raw};
 ghost use Rattle.cm_block.specs.steps.LineTests.{Tested};
 ghost use Rattle.cm_block.specs.Level.{empty_level, block_opens, block_closes};
 ghost use Rattle.cm_block.specs.Level.{closed_blocks, item_opens, push_blank};
@@ -16,7 +14,6 @@ ghost use Rattle.cm_block.specs.steps.FrameSteps.{close_container, close_frames}
 ghost use Rattle.cm_block.specs.steps.PlaceViews.{IsInside, stays};
 ghost use Rattle.cm_block.specs.declared.stack.Stays.TheVariants.{Inside, Lazily, Leaves};
 ghost use Rattle.cm_block.specs.steps.FrameViews.{container_of, frames_in, AreFramesPlaced};
-ghost use Rattle.cm_tree.specs.RawBlocks.{Raw};
 
 use crate::counted_line::CountedLine;
 use crate::leaf_block::LeafBlock;

@@ -1,12 +1,8 @@
 //! What the first line of a leaf block makes: a leaf that further lines may go on with, or a whole one.
 ghost use Rattle.std.specs.Prelude.{◌≡◌, [], string_bytes, IfOk, IfSome, IfNone, true};
-ghost use Rattle.cm_text.specs.Lines.{LineView};
+ghost use Rattle.cm_block.specs.Below.{LineView, seen_view, kind_of, is_html_end, content_of};
 ghost use Rattle.cm_text.specs.Rules as all;
 ghost use Rattle.cm_block.specs.declared.counted_line.starts.Start.TheVariants.{Atx, Fence};
-ghost use Rattle.cm_text.specs.Views.{seen_view};
-ghost use Rattle.cm_scan.specs.HtmlKinds.{kind_of};
-ghost use Rattle.cm_scan.specs.HtmlBlocks.{is_html_end};
-ghost use Rattle.cm_scan.specs.Lines.{content_of};
 ghost use Rattle.cm_scan.specs.Starts as starts;
 ghost use Rattle.cm_block.specs.OpenLeaf.{begin_of_start, begins_leaf};
 ghost use Rattle.cm_block.specs.steps.StartViews.{seen};

@@ -1,9 +1,7 @@
 //! What can interrupt a paragraph, and what underlines it.
 ghost use Rattle.std.specs.Prelude.{◌≡◌, suc, drop};
-ghost use Rattle.cm_text.specs.Lines.{LineView};
-ghost use Rattle.cm_text.specs.Views.{seen_view};
-ghost use Rattle.cm_scan.specs.Words.{is_blank_text};
-ghost use Rattle.cm_scan.specs.Starts.{starts_at_one, can_interrupt, interrupts_paragraph, underline_of};
+ghost use Rattle.cm_block.specs.Below.{LineView, seen_view, is_blank_text, starts_at_one};
+ghost use Rattle.cm_block.specs.Below.{can_interrupt, interrupts_paragraph, underline_of};
 ghost use Rattle.cm_block.specs.steps.StartViews.{seen};
 ghost use Rattle.cm_block.specs.declared.counted_line.starts.Start.TheVariants.{Html, Item};
 

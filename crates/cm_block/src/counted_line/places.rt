@@ -1,15 +1,11 @@
 //! Whether a line stays inside an open container, and what is left of it there.
 ghost use Rattle.std.specs.Prelude.{◌≡◌, ◌≤◌, ◌&&◌, ◌||◌};
 ghost use Rattle.std.specs.Prelude.{drop, length, nat_le, true, false, option_map, IfSome, MatchOption};
-ghost use Rattle.cm_text.specs.Indentation.{indent_of, strip_columns};
+ghost use Rattle.cm_block.specs.Below.{indent_of, strip_columns, seen_view, is_blank, QuoteMarker};
+ghost use Rattle.cm_block.specs.Below.{ItemStart, start_of, may_be_lazy, place_if_lazy, behind_quote_marker};
+ghost use Rattle.cm_block.specs.Below.{place_in_quote, content_offset, content_column, first_content};
+ghost use Rattle.cm_block.specs.Below.{behind_marker, place_in_item, goes_inward, given, run_length};
 ghost use Rattle.cm_text.specs.Rules as all;
-ghost use Rattle.cm_text.specs.Views.{seen_view};
-ghost use Rattle.cm_scan.specs.Lines.{is_blank};
-ghost use Rattle.cm_scan.specs.Starts.{QuoteMarker, ItemStart, start_of, may_be_lazy, place_if_lazy};
-ghost use Rattle.cm_scan.specs.Starts.{behind_quote_marker, place_in_quote, content_offset};
-ghost use Rattle.cm_scan.specs.Starts.{content_column, first_content, behind_marker, place_in_item};
-ghost use Rattle.cm_scan.specs.Laws.{goes_inward};
-ghost use Rattle.cm_scan.specs.Words.{given, run_length};
 ghost use Rattle.cm_block.specs.steps.LineTests.{Tested};
 ghost use Rattle.cm_block.specs.steps.StartViews.{seen};
 ghost use Rattle.cm_block.specs.steps.PlaceViews.{begins_quote, seen_marker};

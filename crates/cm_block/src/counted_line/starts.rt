@@ -1,14 +1,9 @@
 //! What a line begins: a quote, an item, or a leaf block (CommonMark 0.31.2, chapters 4 and 5).
 ghost use Rattle.std.specs.Prelude.{◌≡◌, ◌==◌, ◌&&◌, false, true};
-ghost use Rattle.cm_text.specs.LineText.{is_line};
-ghost use Rattle.cm_text.specs.Views.{seen_view};
-ghost use Rattle.cm_scan.specs.HtmlBlocks.{is_at_letter};
-ghost use Rattle.cm_scan.specs.Lines.{content_of};
-ghost use Rattle.cm_scan.specs.Words.{given, ◌<|>◌};
-ghost use Rattle.cm_scan.specs.LineForms.{is_thematic_break, atx_heading, opening_fence, item_marker};
-ghost use Rattle.cm_scan.specs.HtmlBlocks.{html_start};
-ghost use Rattle.cm_scan.specs.Starts.{HtmlStart, BreakLine, ItemStart, seen_as};
-ghost use Rattle.cm_scan.specs.Starts.{or_text, start_of_content, start_of};
+ghost use Rattle.cm_block.specs.Below.{is_line, seen_view, is_at_letter, content_of, given};
+ghost use Rattle.cm_block.specs.Below.{◌<|>◌, is_thematic_break, atx_heading, opening_fence};
+ghost use Rattle.cm_block.specs.Below.{item_marker, html_start, HtmlStart, BreakLine};
+ghost use Rattle.cm_block.specs.Below.{ItemStart, seen_as, or_text, start_of_content, start_of};
 ghost use Rattle.cm_scan.specs.Starts as forms;
 ghost use Rattle.cm_block.specs.steps.StartViews.{seen, begins_break, begins_fence};
 
