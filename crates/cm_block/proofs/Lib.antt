@@ -30,3 +30,4 @@ pub mod NextLineLemmas
 pub mod OwnerRunLemmas
 pub mod FrontLemmas
 pub mod InfoLemmas
+pub mod ItemPlaces

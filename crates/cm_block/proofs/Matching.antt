@@ -1,25 +1,23 @@
 -- The containers that a line stays in, one after another.
-use Rattle.std.proofs.Common.{◌≡◌, ℕ, zero, suc, ◌+◌, ◌-◌, ◌<◌, ◌≤◌, ◌==◌, Bool, true, false, ◌&&◌, not, List, [], ◌∷◌, ◌++◌, length, take, drop, Option, Some, None, refl, ◌∙◌, sym, ap, ap₂, arith}
+use Rattle.std.proofs.Common.{◌≡◌, ℕ, zero, suc, ◌+◌, ◌-◌, ◌<◌, ◌≤◌, ◌==◌, Bool, true, false, ◌&&◌, not, List, [], ◌∷◌, ◌++◌, length, take, drop, get_or, Option, Some, None, refl, ◌∙◌, sym, ap, ap₂, arith}
 use Rattle.cm_text.specs.Rules.{Rules}
 use Rattle.cm_text.specs.Lines.{LineView}
 use Rattle.cm_text.specs.Indentation.{indent_of, strip_columns}
 use Rattle.cm_scan.specs.Lines.{is_blank, past, as_lazy}
 use Rattle.cm_scan.specs.Laws.{goes_inward}
-use Rattle.cm_scan.specs.Starts.{Start, IndentedCode, QuoteMarker, AtxHeading, OpeningFence, HtmlStart, BreakLine, ItemStart, TextLine, start_of, Place, StaysIfOpen, Leaves, may_be_lazy, place_if_lazy, behind_quote_marker, quote_place, place_in_quote, item_place, place_in_item}
+use Rattle.cm_scan.specs.Starts.{Start, IndentedCode, QuoteMarker, AtxHeading, OpeningFence, HtmlStart, BreakLine, ItemStart, TextLine, start_of, Place, Stays, StaysIfOpen, Leaves, may_be_lazy, place_if_lazy, behind_quote_marker, quote_place, place_in_quote, item_place, place_in_item}
 use Rattle.std.specs.Prelude.{nat_le}
 use Rattle.std.specs.List.{slice_index_or}
 use Rattle.cm_block.specs.declared.stack.Frame as code
 use Rattle.cm_tree.specs.RawBlocks.{Raw}
-use Rattle.cm_block.specs.steps.FrameViews.{frame_in, frames_in}
+use Rattle.cm_block.specs.declared.stack.Container.TheVariants as variants
+use Rattle.cm_tree.specs.declared.tree.ListKind.{ListKind}
+use Rattle.cm_block.specs.steps.FrameViews.{container_of, frame_in, frames_in}
 use Rattle.cm_block.specs.Level.{Level}
 use Rattle.cm_block.proofs.Lazy.{starts_text, place-quote, place-item}
 use Rattle.std.proofs.lemmas.List.{length_push}
 use Rattle.cm_block.specs.Frames.{Container, a_quote, an_item, Frame, Row, is_last}
-use Rattle.cm_block.specs.steps.FrameSteps.{inward, matching, quoted_in, quoted_by, close_container, close_frames}
-
--- behind so many containers
-abbrev pub behind : ℕ → ℕ × LineView → ℕ × LineView
-behind n m = (n + m.0, m.1)
+use Rattle.cm_block.specs.steps.FrameSteps.{place_in, inward, matching, behind, LeavesNext, quoted_in, quoted_by, close_container, close_frames}
 
 -- closing from the inside out
 pub close_last : (fs : List Frame) (f : Frame) (level : Level) → close_frames (fs ++ f ∷ []) level ≡ close_frames fs (close_container f.container f.level level)
@@ -100,6 +98,31 @@ match_end rules bare open_text i n from line at is = ap (λ fs. behind i (matchi
   where
     sum : i + 0 ≡ n
     sum = omega (arith, is)
+
+-- one more item, with the line behind the containers in front of it
+
+pub frames_from : (raw : Raw) (frames : List code.Frame) (i : ℕ) (other : code.Frame) → i < length frames
+    → drop i (frames_in raw frames) ≡ frame_in raw (get_or frames i other) ∷ drop (suc i) (frames_in raw frames)
+frames_from raw [] i other less = absurd (omega arith)
+frames_from raw (g ∷ gs) zero other less = refl
+frames_from raw (g ∷ gs) (suc i) other less = frames_from raw gs i other (omega arith)
+
+module _ (raw : Raw) (frames : List code.Frame) (i : ℕ) (other : code.Frame) (kind : ListKind) (column : ℕ) (line : LineView)
+    (less : i < length frames) (is : (get_or frames i other).container ≡ variants.Item kind column) where
+  pub leaves_item : ((rules : Rules) → place_in_item rules column false line ≡ place_if_lazy rules line) → LeavesNext (frames_in raw frames) i line
+  leaves_item place = (
+    frame_in raw (get_or frames i other),
+    (frames_from raw frames i other less, λ rules. ap (λ c. place_in rules (container_of c) false line) is ∙ place rules),
+  )
+
+  pub goes_into_item : (rules : Rules) (open_text : Bool) (inner : LineView) → place_in_item rules column false line ≡ Stays inner
+      → behind i (matching rules false open_text (drop i (frames_in raw frames)) line)
+      ≡ behind (suc i) (matching rules false open_text (drop (suc i) (frames_in raw frames)) inner)
+  unfolding inward
+  goes_into_item rules open_text inner stays =
+      match_next rules false open_text i (frame_in raw (get_or frames i other)) (drop (suc i) (frames_in raw frames)) line
+      (drop i (frames_in raw frames)) false inner (frames_from raw frames i other less) refl
+      (ap (λ p. goes_inward p open_text) (sym stays) ∙ ap (λ c. goes_inward (place_in rules (container_of c) false line) open_text) (sym is))
 
 -- a line that has gone into a container as a lazy continuation line
 
@@ -264,3 +287,23 @@ nothing_left [] zero level few = refl
 nothing_left [] (suc depth) level few = refl
 nothing_left (f ∷ fs) zero level few = absurd (omega arith)
 nothing_left (f ∷ fs) (suc depth) level few = nothing_left fs depth level (omega arith)
+
+-- the next container is an item in which the line doesn't stay by itself
+
+module _ (rules : Rules) (open_text : Bool) (raw : Raw) (frames : List code.Frame) (i : ℕ) (line : LineView)
+    (next : LeavesNext (frames_in raw frames) i line) where
+  pub all_lazily : (inner : LineView) → i < length frames → Some inner ≡ goes_inward (place_if_lazy rules line) open_text → inner.lazy ≡ true
+      → (length frames, inner) ≡ behind i (matching rules false open_text (drop i (frames_in raw frames)) line)
+  unfolding inward
+  all_lazily inner less goes lazy =
+      let rest = drop (suc i) (frames_in raw frames) in
+      let stays : Some inner ≡ inward rules next.0.container false open_text line = goes ∙ ap (λ p. goes_inward p open_text) (sym (next.1.1 rules)) in
+      behind_all raw frames i (matching rules false open_text rest inner) inner less (match_lazy rules false open_text next.0.container false line inner rest stays lazy)
+      ∙ sym (match_next rules false open_text i next.0 rest line (drop i (frames_in raw frames)) false inner next.1.0 refl stays)
+
+  pub none_lazily : None ≡ goes_inward (place_if_lazy rules line) open_text
+      → (i, line) ≡ behind i (matching rules false open_text (drop i (frames_in raw frames)) line)
+  unfolding inward
+  none_lazily leaves =
+      sym (match_stop rules false open_text i next.0 (drop (suc i) (frames_in raw frames)) line (drop i (frames_in raw frames)) false next.1.0 refl
+      (leaves ∙ ap (λ p. goes_inward p open_text) (sym (next.1.1 rules))))

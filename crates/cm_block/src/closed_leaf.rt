@@ -165,7 +165,7 @@ fn put_content(
 }
 
 /// Puts the leaves of a run: the definitions at its front, and what is left.
-fn put_run(
+pub(crate) fn put_run(
     alloc: Global,
     source: &LeafText,
     heading: Option<u8>,

@@ -17,10 +17,12 @@ ghost use Rattle.cm_block.specs.Tests.{count_of};
 ghost use Rattle.cm_block.specs.steps.LineTests.{Tested};
 ghost use Rattle.cm_block.specs.steps.ParserSteps.{Deep, TakenToLeaf};
 
+use crate::closed_leaf::put_run;
 use crate::containers::Innermost;
 use crate::counted_line::{CountedLine, CountedLines, FirstLine, LeafStart};
 use crate::fault::BlockFault;
 use crate::leaf::{LeafLine, OpenLeaf};
+use crate::leaf_text::LeafText;
 use crate::line_owners::Owners;
 use crate::owner_runs::LineOwners;
 use crate::rooms::TextRoom;
@@ -104,6 +106,14 @@ impl BlockParser {
         ensures fault { self.new.fault ≡ self.old.fault }
     {
         if let OpenLeaf::Nothing = self.leaf {
+            return Ok(());
+        }
+        // Most leaves are runs of text, which are put from where they stand.
+        if let OpenLeaf::Run { source } = &mut self.leaf {
+            let source = mem::replace(source, LeafText::new(self.alloc));
+            self.leaf = OpenLeaf::Nothing;
+            put_run(self.alloc, &source, None, &mut self.stack, &mut self.owners)?;
+            self.leaves.keep(source);
             return Ok(());
         }
         let (leaf, blank_lines) = mem::replace(&mut self.leaf, OpenLeaf::Nothing).close();
@@ -235,6 +245,7 @@ impl BlockParser {
     }
 
     /// One more line.
+    #[inline(always)]
     fn accept(&mut self, line: &mut CountedLine<'_>) -> Result<(), BlockFault>
         ensures pushed { OnOk result (stack_of self.new
             ≡ push_line self.old.limits.rules (stack_of self.old) (seen_view line.old.rest)) }

@@ -115,9 +115,18 @@ fn matching(
     ensures plain { line.new.rest.lazy ≡ false → length frames.now ≤ result →
         line.new.tests ≤ line.old.tests + result }
 {
-    for (depth, frame) in frames.iter().enumerate() {
+    let first = line.enter_items(frames, bare);
+    if first.leaves {
+        return if line.goes_on_lazily(rules, open_text) {
+            frames.len()
+        } else {
+            first.count
+        };
+    }
+    for depth in first.count..frames.len() {
+        let container = frames[depth].container;
         let is_bare = is_bare_at(frames, depth, bare);
-        match frame.container.take_in(rules, is_bare, open_text, line) {
+        match container.take_in(rules, is_bare, open_text, line) {
             Stays::Inside => {}
             Stays::Lazily => return frames.len(),
             Stays::Leaves => return depth,

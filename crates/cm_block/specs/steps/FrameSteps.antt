@@ -1,9 +1,9 @@
 -- Steps of the code over the open containers in a row.
-use Rattle.std.specs.Prelude.{ℕ, suc, Bool, true, false, ◌&&◌, List, [], ◌∷◌, Option, Some, None}
+use Rattle.std.specs.Prelude.{◌≡◌, ℕ, suc, ◌+◌, Bool, true, false, ◌&&◌, List, [], ◌∷◌, drop, Option, Some, None}
 use Rattle.cm_text.specs.Rules.{Rules}
 use Rattle.cm_text.specs.Lines.{LineView}
 use Rattle.cm_tree.specs.declared.tree.Block.TheVariants.{Quote}
-use Rattle.cm_scan.specs.Starts.{Place, place_in_quote, place_in_item}
+use Rattle.cm_scan.specs.Starts.{Place, place_if_lazy, place_in_quote, place_in_item}
 use Rattle.cm_scan.specs.Laws.{goes_inward}
 use Rattle.cm_block.specs.Level.{Level, closed_blocks, block_closes, item_closes}
 use Rattle.cm_block.specs.Stack.{Stack, item_of, stack}
@@ -24,6 +24,15 @@ matching rules bare open_text (f ∷ fs) line = elim (inward rules f.container (
   | Some inner ↦ let inside = matching rules bare open_text fs inner in (suc inside.0, inside.1)
   | None ↦ (0, line)
 ]
+
+-- behind so many containers
+abbrev pub behind : ℕ → ℕ × LineView → ℕ × LineView
+behind n m = (n + m.0, m.1)
+
+-- behind so many of these containers there is one in which the line doesn't stay by itself
+abbrev pub LeavesNext : List Frame → ℕ → LineView → Type 0
+LeavesNext frames n line =
+    (f : Frame) × ((drop n frames ≡ f ∷ drop (suc n) frames) × ((rules : Rules) → place_in rules f.container false line ≡ place_if_lazy rules line))
 
 abbrev pub quoted_in : Container → Bool → Bool
 quoted_in a_quote quoted = true

@@ -1,9 +1,10 @@
 -- Starts of containers and places in them, as the code has them.
-use Rattle.std.specs.Prelude.{◌≡◌, Bool, true, false}
+use Rattle.std.specs.Prelude.{◌≡◌, ℕ, Bool, true, false, not, List, [], ◌∷◌}
 use Rattle.cm_text.specs.Lines.{LineView}
 use Rattle.cm_block.specs.declared.stack.Stays as code_stays
 use Rattle.cm_block.specs.declared.stack.Stays.TheVariants as stay
 use Rattle.cm_scan.specs.declared.markers.ItemMarker as code
+use Rattle.cm_scan.specs.Words.{is_space_or_tab}
 use Rattle.cm_scan.specs.LineForms.{ItemMarker}
 use Rattle.cm_scan.specs.Starts.{Start, QuoteMarker, Place, Stays}
 
@@ -24,3 +25,8 @@ abbrev pub stays : code_stays.Stays → Bool
 stays stay.Inside = true
 stays stay.Lazily = true
 stays stay.Leaves = false
+
+-- something else than a space or a tab stands in front
+abbrev pub begins_plain : List ℕ → Bool
+begins_plain [] = false
+begins_plain (b ∷ bs) = not (is_space_or_tab b)

@@ -1,10 +1,9 @@
 use Rattle.std.proofs.Common.{◌≡◌, drop}
 use Rattle.cm_text.specs.Views.{seen_view}
-use Rattle.cm_block.specs.steps.FrameSteps.{matching}
+use Rattle.cm_block.specs.steps.FrameSteps.{matching, behind}
 use Rattle.cm_tree.specs.RawBlocks.{Raw}
 use Rattle.cm_block.specs.steps.FrameViews.{frames_in}
 use Rattle.cm_block.specs.steps.LineTests.{Tested}
-use Rattle.cm_block.proofs.Matching.{behind}
 use Rattle.cm_block.proofs.stack.matching.Given as goal
 
 -- behind the containers so far, the rest decide; each was one reading

@@ -1,0 +1,15 @@
+use Rattle.std.proofs.Common.{◌≡◌, Bool, false, drop}
+use Rattle.cm_text.specs.Rules as all
+use Rattle.cm_block.specs.Below.{Raw, seen_view}
+use Rattle.cm_block.specs.steps.FrameSteps.{matching, behind}
+use Rattle.cm_block.specs.steps.FrameViews.{frames_in}
+use Rattle.cm_block.proofs.counted_line.items.inside_items.Given as goal
+
+-- behind the items so far, the rest decide
+abbrev pub invariant-loop-depth : goal.invariant-loop-depth
+invariant-loop-depth l = record {
+  through : (rules : all.Rules) (open_text : Bool) (raw : Raw)
+      → behind l.depth (matching rules false open_text (drop l.depth (frames_in raw l.frames)) (seen_view l.inner))
+      ≡ matching rules false open_text (frames_in raw l.frames) (seen_view l.fn.line);
+  lazy : l.inner.lazy ≡ false;
+}
