@@ -30,9 +30,9 @@ module _ (column spaces from : ℕ) (rest : List ℕ) (lazy : Bool) where
   pub all_taken : rest ≡ [] → spaces ≤ column → strip_columns spaces line ≡ strip_columns column line
   all_taken none few =
       ap (λ (left : ℕ × List ℕ). record { column = left.0; text = left.1; lazy = lazy }) (
-        strip_all spaces spaces from rest (omega arith)
-            ∙ ap (strip_from (spaces - spaces) (from + spaces)) none
-            ∙ sym (strip_all spaces column from rest few ∙ ap (strip_from (column - spaces) (from + spaces)) none)
+      strip_all spaces spaces from rest (omega arith)
+      ∙ ap (strip_from (spaces - spaces) (from + spaces)) none
+      ∙ sym (strip_all spaces column from rest few ∙ ap (strip_from (column - spaces) (from + spaces)) none)
       )
 
   -- something else stands behind them, and they don't reach it

@@ -9,7 +9,7 @@ use Rattle.cm_scan.specs.Lines.{size}
 use Rattle.cm_scan.specs.Parts.{LeafPart, depths_of}
 use Rattle.cm_scan.specs.Blocks.{parts_within, parts_of, blocks_of, owners_of, reference_table, first_too_deep}
 use Rattle.cm_scan.specs.Laws.{AreLines}
-use Rattle.cm_block.specs.OpenLeaf.{OpenLeaf, no_leaf, is_open_text, closed_leaves, blank_lines_behind, LeafLine, stays_open, is_last, line_of_leaf}
+use Rattle.cm_block.specs.OpenLeaf.{OpenLeaf, no_leaf, open_text as a_run, is_open_text, run_leaves, closed_leaves, blank_lines_behind, LeafLine, stays_open, is_last, line_of_leaf}
 use Rattle.cm_block.specs.Machine.{in_leaf}
 use Rattle.cm_block.specs.Level.{Level, empty_level, closed_blocks, push_blank}
 use Rattle.cm_block.specs.Stack.{Owned, Stack, empty_stack, close_leaves, push_blanks, close_open, own_leaves, own_blanks, own_open, close_stack, push_leaf_line, push_line, push_lines}
@@ -65,6 +65,17 @@ module _ (x : OpenLeaf) (xs : List (LeafPart × ℕ)) (n : ℕ) (leaves : xs ≡
   owners_without q s t none is =
       let z : 0 ≡ n = omega (arith, none) in
       is ∙ ap (own_leaves s) leaves ∙ ap (λ m. own_blanks q m (own_leaves s (closed_leaves x))) (z ∙ blanks)
+
+-- a run of text is closed as it stands
+
+module _ (x : OpenLeaf) (source : List ℕ) (is : x ≡ a_run source) where
+  pub run_closed : (v w : Level) → w ≡ close_leaves v (run_leaves None source) → w ≡ close_open v (in_leaf x)
+  unfolding closed_leaves
+  run_closed v w = level_without x (run_leaves None source) 0 (ap closed_leaves (sym is)) (ap blank_lines_behind (sym is)) v w (omega arith)
+
+  pub run_owned : (q : Bool) (s t : Owned) → t ≡ own_leaves s (run_leaves None source) → t ≡ own_open q s (in_leaf x)
+  unfolding closed_leaves
+  run_owned q s t = owners_without x (run_leaves None source) 0 (ap closed_leaves (sym is)) (ap blank_lines_behind (sym is)) q s t (omega arith)
 
 -- where no leaf is open, nothing is closed
 

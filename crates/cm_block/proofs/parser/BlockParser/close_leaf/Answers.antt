@@ -1,9 +1,9 @@
-use Rattle.std.proofs.Common.{◌∙◌, false, ap}
-use Rattle.cm_block.specs.OpenLeaf.{closed_leaves, blank_lines_behind}
+use Rattle.std.proofs.Common.{◌≡◌, ◌∙◌, false, refl, sym, ap}
+use Rattle.cm_block.specs.OpenLeaf.{open_text, closed_leaves, blank_lines_behind}
 use Rattle.cm_block.specs.steps.FrameSteps.{quoted_by}
 use Rattle.cm_block.specs.LeafViews.{leaf_of}
 use Rattle.cm_block.specs.steps.LeafSteps.{leaves_of_closed}
-use Rattle.cm_block.proofs.ParserLemmas.{nothing_closed, nothing_owned, level_with_blanks, level_without, owners_with_blanks, owners_without}
+use Rattle.cm_block.proofs.ParserLemmas.{run_closed, run_owned, nothing_closed, nothing_owned, level_with_blanks, level_without, owners_with_blanks, owners_without}
 use Rattle.cm_block.proofs.parser.BlockParser.close_leaf.Goals as goal
 
 pub returns-in_ok-blank_lines-clause-level : goal.returns-in_ok-blank_lines-clause-level
@@ -46,3 +46,18 @@ returns-in-Nothing-clause-level c = nothing_closed c.args.self.now.stack.level (
 pub returns-in-Nothing-clause-owners : goal.returns-in-Nothing-clause-owners
 returns-in-Nothing-clause-owners c =
     nothing_owned (quoted_by false c.args.self.now.stack.frames) c.args.self.now.owners (leaf_of c.args.self.now.leaf) (ap leaf_of c.in-Nothing.is)
+
+pub returns-in-Run : goal.returns-in-Run
+returns-in-Run c =
+    let s = c.args.self.now in
+    let is : leaf_of s.leaf ≡ open_text c.replace-source.result = ap leaf_of c.in-Run.is ∙ ap open_text (sym c.replace-source.ensures.value) in
+    record {
+      level = run_closed (leaf_of s.leaf) c.replace-source.result is s.stack.level c.put_run.new.stack.level c.in_ok-put_run.ensures.level;
+      owners = run_owned (leaf_of s.leaf) c.replace-source.result is (quoted_by false s.stack.frames) s.owners c.put_run.new.owners c.in_ok-put_run.ensures.owners;
+      leaf = refl;
+      frames = c.in_ok-put_run.ensures.frames;
+      bare = c.in_ok-put_run.ensures.bare;
+      tests = refl;
+      limits = refl;
+      fault = refl;
+    }
