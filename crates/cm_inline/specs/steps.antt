@@ -8,7 +8,8 @@ pub mod Nodes
 pub mod Openers
 pub mod Pairs
 pub mod Reads
+pub mod Prelude
 pub mod Runs
 pub mod Searching
 pub mod Slots
-pub mod Written
+pub mod Standalone

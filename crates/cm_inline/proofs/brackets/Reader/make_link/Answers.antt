@@ -39,8 +39,8 @@ returns-then-depth-limit-clause-deep c = λ _.
     let source = c.args.source.now in
     let nodes = nodes_in c.args.self.now.nodes in
     let paired = nodes_in c.pair_from.new.nodes in
-    let parts = c.in_ok-pair_from.ensures.stays.parts source c.requires.read.0.parts in
-    let depth = paired-depth source nodes paired c.args.bracket (c.args.bracket.node + 1) refl parts (c.in_ok-pair_from.ensures.pairs source) in
+    let parts = c.in_ok-pair_from.ensures.made.stays.parts source c.requires.read.0.parts in
+    let depth = paired-depth source nodes paired c.args.bracket (c.args.bracket.node + 1) refl parts (c.in_ok-pair_from.ensures.made.pairs source) in
     link-deeper source nodes c.args.bracket (found_target c.args.end.now.target).0 (found_target c.args.end.now.target).1 c.args.limit (omega (arith, c.if-depth-limit.true, c.depth_behind-depth.ensures, depth))
 
 -- the node of a link
@@ -48,9 +48,9 @@ then-is : (c : goal.After-self-1) → IsLink c.args.source.now (nodes_in c.args.
     (made_by c.making_of-making.result.kind (target_of c.making_of-making.result) (drop (suc c.args.bracket.node) (nodes_in c.pair_from.new.nodes))) c.depth_behind-depth.result c.holds_link-holds_link.result c.args.self.now.links_end
 then-is c =
     let source = c.args.source.now in
-    let parts = c.in_ok-pair_from.ensures.stays.parts source c.requires.read.0.parts in
+    let parts = c.in_ok-pair_from.ensures.made.stays.parts source c.requires.read.0.parts in
     makes source (nodes_in c.args.self.now.nodes) (nodes_in c.pair_from.new.nodes) (nodes_in c.wrap.new.self) c.args.bracket (found_target c.args.end.now.target).0 (found_target c.args.end.now.target).1 c.making_of-making.result.kind (target_of c.making_of-making.result) (c.args.bracket.node + 1) c.depth_behind-depth.result
-    c.holds_link-holds_link.result c.args.self.now.links_end refl parts c.in_ok-pair_from.ensures.stays.front (c.in_ok-pair_from.ensures.pairs source) c.depth_behind-depth.ensures c.making_of-making.ensures
+    c.holds_link-holds_link.result c.args.self.now.links_end refl parts c.in_ok-pair_from.ensures.made.stays.front (c.in_ok-pair_from.ensures.made.pairs source) c.depth_behind-depth.ensures c.making_of-making.ensures
     c.in_ok-wrap.ensures.nodes c.holds_link-holds_link.ensures
 
 pub returns-then-holds_link-clause-items : goal.returns-then-holds_link-clause-items
@@ -66,11 +66,11 @@ returns-then-holds_link-clause-read c =
     let now = c.args.self.now in
     let more = nodes_in c.wrap.new.self in
     let inline = made_by c.making_of-making.result.kind (target_of c.making_of-making.result) (drop (suc c.args.bracket.node) (nodes_in c.pair_from.new.nodes)) in
-    let parts = c.in_ok-pair_from.ensures.stays.parts source c.requires.read.0.parts in (
+    let parts = c.in_ok-pair_from.ensures.made.stays.parts source c.requires.read.0.parts in (
       subst (λ n. IsRead source c.args.end.now.end more now.brackets.items n now.ends) (sym c.len-self.ensures)
           (read-linked source (nodes_in now.nodes) more now.brackets.items c.args.bracket (found_target c.args.end.now.target).0 (found_target c.args.end.now.target).1 inline c.depth_behind-depth.result c.holds_link-holds_link.result c.args.end.now.end now.links_end now.ends
           c.requires.read.0 (then-is c) c.if-holds_link.true),
-      placed-inside source c.pair_from.new.nodes c.wrap.new.self c.args.bracket.node c.in_ok-wrap.ensures.inside parts (c.in_ok-pair_from.ensures.stays.placed source c.requires.read.0.parts c.requires.read.1),
+      placed-inside source c.pair_from.new.nodes c.wrap.new.self c.args.bracket.node c.in_ok-wrap.ensures.inside parts (c.in_ok-pair_from.ensures.made.stays.placed source c.requires.read.0.parts c.requires.read.1),
     )
 
 pub returns-then-holds_link-clause-keeps : goal.returns-then-holds_link-clause-keeps
@@ -79,16 +79,16 @@ returns-then-holds_link-clause-keeps c =
     let now = c.args.self.now in
     made-keeps source (nodes_in now.nodes) (nodes_in c.wrap.new.self) now.brackets.items c.args.bracket (found_target c.args.end.now.target).0 (found_target c.args.end.now.target).1 now.openers.list.looks c.pair_from.new.openers.list.looks
     (split-last 0 (nodes_in now.nodes) now.brackets.items c.args.bracket c.requires.read.0.unclosed) (returns-then-holds_link-clause-items c)
-    (inside-looks source (nodes_in now.nodes) c.args.bracket (c.args.bracket.node + 1) now.openers.list.looks c.pair_from.new.openers.list.looks refl (c.in_ok-pair_from.ensures.looks source))
+    (inside-looks source (nodes_in now.nodes) c.args.bracket (c.args.bracket.node + 1) now.openers.list.looks c.pair_from.new.openers.list.looks refl (c.in_ok-pair_from.ensures.made.looks source))
 
 -- the node of an image that holds no link
 else-is : (c : goal.Else-holds_link) → IsLink c.args.source.now (nodes_in c.args.self.now.nodes) (nodes_in c.wrap.new.self) c.args.bracket (found_target c.args.end.now.target).0 (found_target c.args.end.now.target).1
     (made_by c.making_of-making.result.kind (target_of c.making_of-making.result) (drop (suc c.args.bracket.node) (nodes_in c.pair_from.new.nodes))) c.depth_behind-depth.result c.holds_link-holds_link.result c.args.self.now.links_end
 else-is c =
     let source = c.args.source.now in
-    let parts = c.in_ok-pair_from.ensures.stays.parts source c.requires.read.0.parts in
+    let parts = c.in_ok-pair_from.ensures.made.stays.parts source c.requires.read.0.parts in
     makes source (nodes_in c.args.self.now.nodes) (nodes_in c.pair_from.new.nodes) (nodes_in c.wrap.new.self) c.args.bracket (found_target c.args.end.now.target).0 (found_target c.args.end.now.target).1 c.making_of-making.result.kind (target_of c.making_of-making.result) (c.args.bracket.node + 1) c.depth_behind-depth.result
-    c.holds_link-holds_link.result c.args.self.now.links_end refl parts c.in_ok-pair_from.ensures.stays.front (c.in_ok-pair_from.ensures.pairs source) c.depth_behind-depth.ensures c.making_of-making.ensures
+    c.holds_link-holds_link.result c.args.self.now.links_end refl parts c.in_ok-pair_from.ensures.made.stays.front (c.in_ok-pair_from.ensures.made.pairs source) c.depth_behind-depth.ensures c.making_of-making.ensures
     c.in_ok-wrap.ensures.nodes c.holds_link-holds_link.ensures
 
 pub returns-else-holds_link-clause-items : goal.returns-else-holds_link-clause-items
@@ -103,10 +103,10 @@ returns-else-holds_link-clause-read c =
     let source = c.args.source.now in
     let now = c.args.self.now in
     let inline = made_by c.making_of-making.result.kind (target_of c.making_of-making.result) (drop (suc c.args.bracket.node) (nodes_in c.pair_from.new.nodes)) in
-    let parts = c.in_ok-pair_from.ensures.stays.parts source c.requires.read.0.parts in (
+    let parts = c.in_ok-pair_from.ensures.made.stays.parts source c.requires.read.0.parts in (
       read-other source (nodes_in now.nodes) (nodes_in c.wrap.new.self) now.brackets.items c.args.bracket (found_target c.args.end.now.target).0 (found_target c.args.end.now.target).1 inline c.depth_behind-depth.result c.holds_link-holds_link.result c.args.end.now.end now.links_end
           now.ends c.requires.read.0 (else-is c) c.if-holds_link.false,
-      placed-inside source c.pair_from.new.nodes c.wrap.new.self c.args.bracket.node c.in_ok-wrap.ensures.inside parts (c.in_ok-pair_from.ensures.stays.placed source c.requires.read.0.parts c.requires.read.1),
+      placed-inside source c.pair_from.new.nodes c.wrap.new.self c.args.bracket.node c.in_ok-wrap.ensures.inside parts (c.in_ok-pair_from.ensures.made.stays.placed source c.requires.read.0.parts c.requires.read.1),
     )
 
 pub returns-else-holds_link-clause-keeps : goal.returns-else-holds_link-clause-keeps
@@ -115,4 +115,4 @@ returns-else-holds_link-clause-keeps c =
     let now = c.args.self.now in
     made-keeps source (nodes_in now.nodes) (nodes_in c.wrap.new.self) now.brackets.items c.args.bracket (found_target c.args.end.now.target).0 (found_target c.args.end.now.target).1 now.openers.list.looks c.pair_from.new.openers.list.looks
     (split-last 0 (nodes_in now.nodes) now.brackets.items c.args.bracket c.requires.read.0.unclosed) (returns-else-holds_link-clause-items c)
-    (inside-looks source (nodes_in now.nodes) c.args.bracket (c.args.bracket.node + 1) now.openers.list.looks c.pair_from.new.openers.list.looks refl (c.in_ok-pair_from.ensures.looks source))
+    (inside-looks source (nodes_in now.nodes) c.args.bracket (c.args.bracket.node + 1) now.openers.list.looks c.pair_from.new.openers.list.looks refl (c.in_ok-pair_from.ensures.made.looks source))
