@@ -1,12 +1,12 @@
 -- What groups come to.
-use Rattle.std.proofs.Common.{◌≡◌, ℕ, zero, suc, ◌+◌, ◌-◌, ◌<◌, List, [], ◌∷◌, ◌++◌, length, take, drop, get_or, refl, sym, ap, subst, ◌∙◌, arith, max}
+use Rattle.std.proofs.Common.{◌≡◌, ℕ, Bool, zero, suc, ◌+◌, ◌-◌, ◌<◌, List, [], ◌∷◌, ◌++◌, length, take, drop, get_or, refl, sym, ap, subst, ◌∙◌, arith, max}
 use Rattle.std.specs.List.{slice_range, list_any}
 use Rattle.std.specs.Prelude.{◌||◌}
 use Rattle.std.proofs.lemmas.List.{get_or_append_left, get_or_at, length_push, length-drop, length-take-le, drop-map}
 use Rattle.cm_inline.specs.declared.tokens.Token.{Token}
 use Rattle.cm_inline.specs.declared.tokens.Token.TheVariants as tokens
 use Rattle.cm_inline.specs.steps.Nodes.{node_depth, nodes_depth, is_closer, text_in, text_in_front, behind_texts, AreParts}
-use Rattle.cm_inline.specs.steps.Groups.{Made, Held, Grouped, nodes_in, nothing_made, node_of, nodes_of, nodes_among, group_made, groups_after, groups_made, AreAmong, AreBelow, AreGroups, IsGroup, ArePlaced, IsPlaced}
+use Rattle.cm_inline.specs.steps.Groups.{Made, Held, Grouped, nodes_in, nothing_made, node_of, nodes_of, nodes_among, group_made, groups_after, groups_made, AreAmong, AreBelow, AreGroups, IsAmong, IsBelow, IsGroup, IsGroupAmong, ArePlaced, IsPlaced}
 
 -- what is made of the groups, one by one
 
@@ -69,18 +69,21 @@ groups-front inside groups n group are low is =
     let both = front-of inside 0 groups n n group are low (omega arith) in
     (both.0, subst (IsGroup inside n) (sym is) both.1)
 
--- The groups before one are fewer, and it is a group behind them.
-pub record Behind (inside : List Token) (groups front : List Grouped) (group : Grouped) : Type 0 where
+-- The groups before one are fewer, and it holds some of them.
+pub record Behind (source : List ℕ) (inside : List Token) (groups front : List Grouped) (group : Grouped) : Type 0 where
   pub fewer : length front < length groups
-  pub first : AreGroups inside 0 front
-  pub is : IsGroup inside (length front) group
+  pub among : IsGroupAmong source inside front group
 
-pub behind-front : (inside : List Token) (groups front : List Grouped) (n : ℕ) (group : Grouped) → AreGroups inside 0 groups → n < length groups → group ≡ get_or groups n group → front ≡ take n groups
-    → Behind inside groups front group
-behind-front inside groups front n group are low at is =
-    let both = groups-front inside groups n group are low at in
+pub behind-front : (source : List ℕ) (inside : List Token) (groups front : List Grouped) (token : Token) (n depth : ℕ) (holds_link : Bool) (group : Grouped) → IsAmong source inside groups token → token ≡ tokens.Made n depth holds_link
+    → group ≡ get_or groups n group → front ≡ take n groups → Behind source inside groups front group
+behind-front source inside groups front token n depth holds_link group asked made at is =
+    let low : n < length groups = (subst (IsBelow (length groups)) made asked.below).0 in
+    let both = groups-front inside groups n group asked.groups low at in
     let long : length front ≡ n = ap length is ∙ length-take-le n groups (omega (arith, low)) in
-    record { fewer = omega (arith, low, long); first = subst (AreGroups inside 0) (sym is) both.0; is = subst (λ i. IsGroup inside i group) (sym long) both.1 }
+    record {
+      fewer = omega (arith, low, long);
+      among = record { placed = asked.placed; groups = subst (AreGroups inside 0) (sym is) both.0; group = subst (λ i. IsGroup inside i group) (sym long) both.1 };
+    }
 
 -- places
 

@@ -34,11 +34,8 @@ push_alternative_text-returns t c =
 
 pub push_token-push_alternative_text-requires : goal.push_token-push_alternative_text-requires
 push_token-push_alternative_text-requires t c =
-    let groups = c.args.groups.now in
-    let asked = c.requires.1.1 in
-    let low : c.in-Made.number < length groups = (subst (IsBelow (length groups)) c.in-Made.is asked.below).0 in
-    let behind = behind-front c.args.inside.now groups c.up_to.result c.in-Made.number (grouped c.get.result) asked.groups low c.get.ensures c.up_to.ensures in
-    (omega (arith, c.requires.1.0, behind.fewer), record { placed = asked.placed; groups = behind.first; group = behind.is })
+    let behind = behind-front c.args.source.now c.args.inside.now c.args.groups.now c.up_to.result c.args.token c.in-Made.number _ _ (grouped c.get.result) c.requires.1.1 c.in-Made.is c.get.ensures c.up_to.ensures in
+    (omega (arith, c.requires.1.0, behind.fewer), behind.among)
 
 pub push_token-returns-in-Made : goal.push_token-returns-in-Made
 push_token-returns-in-Made t c =

@@ -38,14 +38,8 @@ push_group-returns-in-Image t c =
 
 pub push_token-push_group-requires : goal.push_token-push_group-requires
 push_token-push_group-requires t c =
-    let groups = c.args.groups.now in
-    let number = c.in-Made.number in
-    let inside = c.args.inside.now in
-    let group = grouped c.get.result in
-    let asked = c.requires.1.1 in
-    let low : number < length groups = (subst (IsBelow (length groups)) c.in-Made.is asked.below).0 in
-    let behind = behind-front inside groups c.up_to.result number group asked.groups low c.get.ensures c.up_to.ensures in
-    (omega (arith, c.requires.1.0, behind.fewer), record { placed = asked.placed; groups = behind.first; group = behind.is })
+    let behind = behind-front c.args.source.now c.args.inside.now c.args.groups.now c.up_to.result c.args.token c.in-Made.number _ _ (grouped c.get.result) c.requires.1.1 c.in-Made.is c.get.ensures c.up_to.ensures in
+    (omega (arith, c.requires.1.0, behind.fewer), behind.among)
 
 pub push_token-returns-in-Made : goal.push_token-returns-in-Made
 push_token-returns-in-Made t c =

@@ -19,14 +19,8 @@ group_inline-settle_tokens-requires t c =
 
 pub push_inline-group_inline-requires : goal.push_inline-group_inline-requires
 push_inline-group_inline-requires t c =
-    let inside = c.args.inside.now in
-    let groups = c.args.groups.now in
-    let number = c.in-Made.number in
-    let group = grouped c.get.result in
-    let asked = c.requires.1.1 in
-    let low : number < length groups = (subst (IsBelow (length groups)) c.in-Made.is asked.below).0 in
-    let behind = behind-front inside groups c.up_to.result number group asked.groups low c.get.ensures c.up_to.ensures in
-    (omega (arith, behind.fewer), record { placed = asked.placed; groups = behind.first; group = behind.is })
+    let behind = behind-front c.args.source.now c.args.inside.now c.args.groups.now c.up_to.result c.args.token c.in-Made.number _ _ (grouped c.get.result) c.requires.1.1 c.in-Made.is c.get.ensures c.up_to.ensures in
+    (omega (arith, behind.fewer), behind.among)
 
 pub push_inline-returns-in_ok-push-in-Made : goal.push_inline-returns-in_ok-push-in-Made
 push_inline-returns-in_ok-push-in-Made t c =
