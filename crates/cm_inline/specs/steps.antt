@@ -1,4 +1,5 @@
 pub mod Brackets
+pub mod Bytes
 pub mod Depths
 pub mod Entries
 pub mod Groups

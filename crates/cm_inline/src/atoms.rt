@@ -3,6 +3,8 @@ ghost use Rattle.std.specs.Prelude.{◌≡◌, ◌≢◌, ◌==◌, ◌+◌, ◌
 ghost use Rattle.std.specs.Prelude.{false, length, drop, slice_index, nat_le, IfOk, OnOk, IfSome, IsUtf8};
 ghost use Rattle.cm_inline.specs.steps.Prelude.{IsCharBoundary, raw_html, reading_of, whole_of, Rules, Knows};
 ghost use Rattle.cm_inline.specs.steps.Prelude.{Puts, Stands, IsTextTo, IsAtom, node_of, byte_of};
+ghost use Rattle.cm_inline.specs.steps.Prelude.{right_bracket, backtick, less_than, backslash, ampersand};
+ghost use Rattle.cm_inline.specs.steps.Prelude.{space, line_feed, exclamation_mark, tilde};
 ghost use Rattle.cm_inline.specs.declared.standalone.Standalone.TheVariants.{Soft, Hard};
 ghost use Rattle.cm_inline.specs.declared.tokens.Token.TheVariants.{Piece, Opener};
 
@@ -43,7 +45,7 @@ pub(crate) fn read_atom(
     requires within { at < length source.now }
     requires boundary { IsCharBoundary source.now at }
     requires ascii { slice_index source.now at < 128 }
-    requires other { slice_index source.now at ≢ 93 }
+    requires other { slice_index source.now at ≢ right_bracket }
     requires knows { Knows source.now reader.old.ends }
     ensures { IfOk result (λ end. Puts rules source.now at end reader.old reader.new) }
 {
@@ -139,7 +141,7 @@ fn backticks(
     at: usize,
     ends: &mut MissingEnds,
 ) -> Result<(Token, usize), AllocError>
-    requires stands { Stands source.now at 96 }
+    requires stands { Stands source.now at backtick }
     requires knows { Knows source.now ends.old }
     ensures atom { IfOk result (λ read.
         (rules : Rules) → IsAtom rules source.now at (node_of [] read.0) read.1) }
@@ -167,7 +169,7 @@ fn backticks(
 
 /// An autolink, raw HTML, or `<` as text (6.5 Autolinks, 6.6 Raw HTML).
 fn angle(rules: Rules, source: &str, at: usize, ends: &mut MissingEnds) -> (Token, usize)
-    requires stands { Stands source.now at 60 }
+    requires stands { Stands source.now at less_than }
     requires knows { Knows source.now ends.old }
     ensures atom { IsAtom rules source.now at (node_of [] result.0) result.1 }
     ensures knows { Knows source.now ends.new }
@@ -199,7 +201,7 @@ fn raw_html<'a>(
     at: usize,
     ends: &mut MissingEnds,
 ) -> Option<(&'a str, usize)>
-    requires stands { Stands source.now at 60 }
+    requires stands { Stands source.now at less_than }
     requires knows { Knows source.now ends.old }
     ensures read { reading_of source.now result
         ≡ whole_of (drop at source.now) (raw_html rules (drop at source.now)) }
@@ -226,7 +228,7 @@ fn raw_html<'a>(
 /// A hard line break, an escaped character, or a backslash as text (6.7 Hard
 /// line breaks, 2.4 Backslash escapes).
 fn backslash(source: &str, at: usize) -> (Token, usize)
-    requires { Stands source.now at 92 }
+    requires { Stands source.now at backslash }
     ensures { (rules : Rules) → IsAtom rules source.now at (node_of [] result.0) result.1 }
 {
     if is_next(source.as_bytes(), at + 1, b'\n') {
@@ -240,7 +242,7 @@ fn backslash(source: &str, at: usize) -> (Token, usize)
 
 /// A reference, or `&` as text (2.5 Entity and numeric character references).
 fn ampersand(source: &str, at: usize) -> (Token, usize)
-    requires { Stands source.now at 38 }
+    requires { Stands source.now at ampersand }
     ensures { (rules : Rules) → IsAtom rules source.now at (node_of [] result.0) result.1 }
 {
     match reference_at(source, at) {
@@ -251,7 +253,7 @@ fn ampersand(source: &str, at: usize) -> (Token, usize)
 
 /// A line feed with the spaces before it, or one space as text (6.7 Hard line breaks, 6.8 Soft line breaks).
 fn line_break(source: &str, at: usize) -> (Token, usize)
-    requires { Stands source.now at 32 }
+    requires { Stands source.now at space }
     ensures { (rules : Rules) → IsAtom rules source.now at (node_of [] result.0) result.1 }
 {
     let feed = after_run(b' ', source, at);
@@ -264,7 +266,7 @@ fn line_break(source: &str, at: usize) -> (Token, usize)
 /// A line feed with no space before it (6.8 Soft line breaks).
 #[inline(always)]
 fn line_feed(source: &str, at: usize) -> (Token, usize)
-    requires { Stands source.now at 10 }
+    requires { Stands source.now at line_feed }
     ensures { (rules : Rules) → IsAtom rules source.now at (node_of [] result.0) result.1 }
 {
     (Token::Whole(Standalone::Soft), at + 1)
@@ -283,7 +285,7 @@ fn break_behind(spaces: usize) -> Standalone
 
 /// `![`, or `!` as text (6.4 Images).
 fn exclamation_mark(source: &str, at: usize) -> (Token, usize)
-    requires { Stands source.now at 33 }
+    requires { Stands source.now at exclamation_mark }
     ensures { (rules : Rules) → IsAtom rules source.now at (node_of [] result.0) result.1 }
 {
     if is_next(source.as_bytes(), at + 1, b'[') {
@@ -295,7 +297,7 @@ fn exclamation_mark(source: &str, at: usize) -> (Token, usize)
 /// Whether so many of a marker are a delimiter run: tildes are one only if
 /// strikethrough is on and there are two.
 fn is_run(rules: Rules, marker: Marker, count: usize) -> bool
-    ensures { result ≡ (not (byte_of marker == 126) || rules.strike && count == 2) }
+    ensures { result ≡ (not (byte_of marker == tilde) || rules.strike && count == 2) }
 {
     marker.byte() != b'~' || rules.strike() && count == 2
 }

@@ -6,7 +6,7 @@ ghost use Rattle.cm_inline.specs.steps.Prelude.{led_to, Inline, made_of, target_
 ghost use Rattle.cm_inline.specs.steps.Prelude.{IsNoGroup, items_in, IsOpener, items_depth, Keeps, AreFew};
 ghost use Rattle.cm_inline.specs.steps.Prelude.{Stands, ends_of, found_target, IsReadTo, IsReadWith};
 ghost use Rattle.cm_inline.specs.steps.Prelude.{bracket_in, link_of, link_made, left_as_text, closed_at};
-ghost use Rattle.cm_inline.specs.steps.Prelude.{end_for};
+ghost use Rattle.cm_inline.specs.steps.Prelude.{end_for, right_bracket};
 
 use crate::fault::InlineFault;
 use crate::groups::{Kind, Making};
@@ -101,7 +101,7 @@ impl Reader {
         limit: usize,
         at: usize,
     ) -> Result<usize, InlineFault>
-        requires stands { Stands source.now at 93 }
+        requires stands { Stands source.now at right_bracket }
         requires read { IsReadTo source.now at self.old }
         requires few { AreFew self.old.openers.list.looks (items_in source.now self.old.nodes) }
         ensures read { IfOk result (λ end. IsReadTo source.now end self.new) }
@@ -164,7 +164,7 @@ impl Reader {
     ) -> Result<Option<LinkEnd<'a>>, NoMemory>
         requires opener { IsOpener source.now bracket.image bracket.behind }
         requires order { bracket.behind ≤ at }
-        requires stands { Stands source.now at 93 }
+        requires stands { Stands source.now at right_bracket }
         ensures ends { IfOk result (λ found. ends_of source.now found
             ≡ end_for rules (defined_in definitions.now) source.now bracket self.now.links_end at) }
         ensures place { IfOk result (λ found. IfSome found (λ e. (at < e.end) ×
@@ -218,7 +218,7 @@ impl Reader {
 
     /// Leaves a bracket and the `]` at a place as text.
     fn leave_as_text(&mut self, source: &str, bracket: Bracket, at: usize) -> Result<(), AllocError>
-        requires stands { Stands source.now at 93 }
+        requires stands { Stands source.now at right_bracket }
         requires read { IsReadWith source.now at self.old bracket }
         ensures read { OnOk result (IsReadTo source.now (at + 1) self.new) }
         ensures same { self.new.openers ≡ self.old.openers }

@@ -10,13 +10,14 @@ use Rattle.cm_tree.specs.LinkTargets.{led_to}
 use Rattle.cm_inline.specs.declared.links.LinkEnd.{LinkEnd}
 use Rattle.cm_inline.specs.declared.links.FoundTarget.{FoundTarget}
 use Rattle.cm_inline.specs.declared.links.FoundTarget.TheVariants as found
+use Rattle.cm_inline.specs.steps.Bytes.{left_bracket, right_bracket}
 use Rattle.cm_inline.specs.steps.Reads.{Stands}
 
 -- `[` ends at the one place, and `]` stands at the other, no further in front.
 pub record AreBrackets (source : List ℕ) (behind at : ℕ) : Type 0 where
-  pub bracket : (0 < behind) × (slice_index source (behind - 1) ≡ 91)
+  pub bracket : (0 < behind) × (slice_index source (behind - 1) ≡ left_bracket)
   pub order : behind ≤ at
-  pub stands : Stands source at 93
+  pub stands : Stands source at right_bracket
 
 -- where it leads, and its title
 abbrev pub found_target : FoundTarget → Target
