@@ -1,12 +1,13 @@
 //! What the words of a command line ask for.
-ghost use Rattle.std.specs.Prelude.{◌≡◌, ◌∷◌, [], ℕ, List, Option, Some, true, false, IfOk, IfErr, IfSome, IsSomeAnd};
-ghost use Rattle.std.specs.Prelude.{codes, map, option_map, string_bytes};
+ghost use Rattle.std.specs.Prelude.{◌≡◌, ◌∷◌, [], ℕ, List, Option, Some, true, false, IfOk, IfErr, IfSome};
+ghost use Rattle.std.specs.Prelude.{IsSomeAnd, codes, map, option_map, string_bytes};
 ghost use Rattle.clap.specs.declared.builder.command.Command.TheViews.{out-Command};
 ghost use Rattle.clap.specs.Words.{app_of, first_of, found_of, kind_of, rows_of, rule_of, subcommand_rows_of};
-ghost use Rattle.cm_command.specs.CommandLine.{are_limits, cmk_app, each_once, examples_app, file_rule, flag_rule, found_for, hold_an_option};
-ghost use Rattle.cm_command.specs.CommandLine.{is_option, job_app, job_of, limit_rule, limits_at, limits_by, limits_for_job};
-ghost use Rattle.cm_command.specs.CommandLine.{reads_a_text, rules_in, stops_of, with_flags, words_for, Choice};
-ghost use Rattle.cm_command.specs.CommandLine.{IsMistake, IsTaskFor, IsTaskOf, StopsBy, StopsFor};
+ghost use Rattle.cm_command.specs.CommandLine.{are_limits, cmk_app, each_once, examples_app, file_rule};
+ghost use Rattle.cm_command.specs.CommandLine.{flag_rule, found_for, hold_an_option, is_option, job_app};
+ghost use Rattle.cm_command.specs.CommandLine.{job_of, limit_rule, limits_at, limits_by, limits_for_job};
+ghost use Rattle.cm_command.specs.CommandLine.{reads_a_text, rules_in, stops_of, with_flags, words_for};
+ghost use Rattle.cm_command.specs.CommandLine.{Choice, IsMistake, IsTaskFor, IsTaskOf, StopsBy, StopsFor};
 ghost use Rattle.cm_command.specs.steps.Arguments.{IsJob, OptionsAreRead, AreRead, FlagsAreRead};
 
 use crate::job::{Job, Stop, Task};
@@ -69,7 +70,8 @@ fn flag_arg<'a>(alloc: Global, name: &'a str, help: &'a str) -> Arg<'a>
 /// The subcommand with each flag.
 fn with_flags<'a>(alloc: Global, command: Command<'a>) -> Result<Command<'a>, AllocError>
     ensures app { IfOk result (λ c. app_of c ≡ with_flags (app_of command.entry)) }
-    ensures local { (out-Command command.entry).has_globals ≡ false → IfOk result (λ c. (out-Command c).has_globals ≡ false) }
+    ensures local { (out-Command command.entry).has_globals ≡ false
+        → IfOk result (λ c. (out-Command c).has_globals ≡ false) }
 {
     command
         .arg(flag_arg(alloc, "older", OLDER))?

@@ -1,7 +1,7 @@
 //! What the words of `cmk`'s command line ask for.
 //!
-//! Begin with [`task`], which answers a [`Task`], or a [`Stop`] for help, a mistake or want of memory. `cm_tool` does what a task
-//! asks for.
+//! Begin with [`task`], which answers a [`Task`], or a [`Stop`] for help, a mistake or want of memory.
+//! `cm_tool` does what a task asks for.
 //!
 //! ```
 //! use cm_command::{Stop, task};

@@ -1,7 +1,9 @@
 //! The HTML of blocks.
 ghost use Rattle.std.specs.Prelude.{◌≡◌, ◌++◌, true, false, codes, map, OnOk};
 ghost use Rattle.std.specs.Fmt.{decimal};
-ghost use Rattle.cm_html.specs.Html.{list_start, list_end, ordered_start, inlines_html, written, alone, html_of, paragraph_html, heading_start, heading_end, heading_html, class_start, code_start, code_html, quote_html, item_html, inside};
+ghost use Rattle.cm_html.specs.Html.{list_start, list_end, ordered_start, inlines_html, written, alone};
+ghost use Rattle.cm_html.specs.Html.{html_of, paragraph_html, heading_start, heading_end, heading_html};
+ghost use Rattle.cm_html.specs.Html.{class_start, code_start, code_html, quote_html, item_html, inside};
 
 use crate::escape::class_word;
 use crate::inlines::push_inlines;

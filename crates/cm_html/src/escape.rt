@@ -1,5 +1,6 @@
 //! Texts and destinations as they are written in HTML.
-ghost use Rattle.std.specs.Prelude.{◌≡◌, ℕ, ◌+◌, ◌==◌, ◌||◌, ◌<◌, length, take, drop, slice_index, position, IsTrue, IsUtf8, ◌++◌, string_bytes, OnOk};
+ghost use Rattle.std.specs.Prelude.{◌≡◌, ◌+◌, ◌==◌, ◌||◌, ◌<◌, ◌++◌, ℕ, length};
+ghost use Rattle.std.specs.Prelude.{take, drop, slice_index, position, IsTrue, IsUtf8, string_bytes, OnOk};
 ghost use Rattle.cm_html.specs.Escape.{escape_byte, escape, destination_html, is_space_or_tab, class_word};
 ghost use Rattle.cm_html.specs.steps.Bytes.{is_escaped};
 

@@ -2,7 +2,8 @@
 ghost use Rattle.std.specs.Prelude.{◌≡◌, ◌++◌, codes, OnOk};
 ghost use Rattle.cm_tree.specs.LinkTargets.{led_to};
 ghost use Rattle.cm_html.specs.Escape.{escape, destination_html};
-ghost use Rattle.cm_html.specs.Html.{Rendered, rendered, inlines_html, code_span_html, between, title_html, link_start, link_html, image_start, image_html};
+ghost use Rattle.cm_html.specs.Html.{Rendered, rendered, inlines_html, code_span_html, between};
+ghost use Rattle.cm_html.specs.Html.{title_html, link_start, link_html, image_start, image_html};
 ghost use Rattle.cm_html.specs.steps.AlternativeText.{alternative_text};
 
 use crate::forms::Form;
@@ -146,8 +147,8 @@ pub fn push_image_start(out: &mut Pages, target: LinkTarget<'_>) -> Result<(), A
     out.push_str("\" alt=\"")
 }
 
-/// Adds what is behind the alternative text of an image that leads there: its title, unless that is empty, and
-/// the end of the tag.
+/// Adds what is behind the alternative text of an image that leads there: its
+/// title, unless that is empty, and the end of the tag.
 ///
 /// # Errors
 ///

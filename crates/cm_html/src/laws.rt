@@ -1,7 +1,9 @@
 //! Laws: facts about the definitions alone. Each is the contract of a public function with an empty body.
-ghost use Rattle.cm_html.specs.MarkupExamples.{AddressMarkupExamples, FollowedExamples, MarkupExamples, RawHtmlExamples, TextMarkupExamples};
+ghost use Rattle.cm_html.specs.MarkupExamples.{AddressMarkupExamples, FollowedExamples, MarkupExamples};
+ghost use Rattle.cm_html.specs.MarkupExamples.{RawHtmlExamples, TextMarkupExamples};
 ghost use Rattle.cm_html.specs.Tags.{AddressesStay, TextIsNoMarkup};
-ghost use Rattle.cm_html.specs.WorkedExamples.{TextExamples, InlineExamples, LeafExamples, ContainerExamples, ListingExamples};
+ghost use Rattle.cm_html.specs.WorkedExamples.{TextExamples, InlineExamples, LeafExamples};
+ghost use Rattle.cm_html.specs.WorkedExamples.{ContainerExamples, ListingExamples};
 
 /// Worked examples over the definitions, by computation.
 pub fn worked_examples()

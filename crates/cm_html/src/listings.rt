@@ -1,7 +1,9 @@
 //! The listing of a document.
 ghost use Rattle.std.specs.Prelude.{◌≡◌, ◌<◌, ◌^◌, [], ◌∷◌, ◌++◌, map, string_bytes, OnOk, IfOk};
 ghost use Rattle.std.specs.Fmt.{decimal};
-ghost use Rattle.cm_html.specs.Listing.{all_quoted, line, holder, heading_line, list_mark, list_line, listed_inline, listed_inlines, listed, listed_blocks, owner_text, owner_line, owners_from, listing_of};
+ghost use Rattle.cm_html.specs.Listing.{all_quoted, line, holder, heading_line, list_mark};
+ghost use Rattle.cm_html.specs.Listing.{list_line, listed_inline, listed_inlines, listed, listed_blocks};
+ghost use Rattle.cm_html.specs.Listing.{owner_text, owner_line, owners_from, listing_of};
 
 use crate::forms::Form;
 use crate::pages::Pages;
@@ -68,7 +70,8 @@ fn push_all_quoted(out: &mut Pages, texts: &[&str]) -> Result<(), AllocError>
 
 /// Writes the line of a node.
 fn push_line(out: &mut Pages, depth: usize, word: &str, texts: &[&str]) -> Result<(), AllocError>
-    ensures written { OnOk result (out.new ≡ out.old ++ line depth word.now (map (λ text. text.now) texts.now)) }
+    ensures written { OnOk result
+        (out.new ≡ out.old ++ line depth word.now (map (λ text. text.now) texts.now)) }
     ensures small { OnOk result (depth < 2 ^ 63) }
 {
     out.push_margin(depth)?;
@@ -77,7 +80,8 @@ fn push_line(out: &mut Pages, depth: usize, word: &str, texts: &[&str]) -> Resul
     out.push_str("\n")
 }
 
-/// Writes a destination and a title between quotes, each behind a space. Long texts that have other owners are held once.
+/// Writes a destination and a title between quotes, each behind a space. Long
+/// texts that have other owners are held once.
 fn push_target(out: &mut Pages, dest: &BoxedText, title: &BoxedText) -> Result<(), AllocError>
     ensures { OnOk result (out.new ≡ out.old ++ all_quoted (dest.now ∷ title.now ∷ [])) }
 {

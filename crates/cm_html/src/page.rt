@@ -1,5 +1,6 @@
 //! A text with insertions: other texts that stand at places of it, and that it holds no copy of.
-ghost use Rattle.std.specs.Prelude.{◌≡◌, [], ◌++◌, length, string_bytes, IfOk, OnOk, OnErr, IfSome, MatchResult, ◌<◌, ◌^◌};
+ghost use Rattle.std.specs.Prelude.{◌≡◌, [], ◌++◌, ◌<◌, ◌^◌};
+ghost use Rattle.std.specs.Prelude.{length, string_bytes, IfOk, OnOk, OnErr, IfSome, MatchResult};
 ghost use Rattle.std.specs.Fmt.{decimal};
 ghost use Rattle.cm_html.specs.Forms.{formed};
 ghost use Rattle.cm_html.specs.Listing.{margin};
@@ -149,8 +150,8 @@ impl Page {
     }
 }
 
-/// Hands on whether something was put to the text of a page. Where it wasn't, a beginning of it may have been, and no
-/// insertion stays, since its place isn't known to lie in the text.
+/// Hands on whether something was put to the text of a page. Where it wasn't, a beginning of it may have
+/// been, and no insertion stays, since its place isn't known to lie in the text.
 #[inline(always)]
 fn settled(
     pushed: Result<(), AllocError>,

@@ -1,5 +1,6 @@
 //! A text in pages, each of which is a piece of memory by itself.
-ghost use Rattle.std.specs.Prelude.{◌≡◌, ℕ, ◌+◌, ◌-◌, ◌^◌, ◌<◌, [], ◌++◌, length, string_bytes, IfOk, OnOk, IfSome};
+ghost use Rattle.std.specs.Prelude.{◌≡◌, ◌+◌, ◌-◌, ◌^◌, ◌<◌, [], ◌++◌};
+ghost use Rattle.std.specs.Prelude.{ℕ, length, string_bytes, IfOk, OnOk, IfSome};
 ghost use Rattle.std.specs.List.{concat};
 ghost use Rattle.std.specs.Fmt.{decimal};
 ghost use Rattle.cm_html.specs.Escape.{escape};
@@ -23,12 +24,12 @@ const PAGE: usize = 32_768;
 /// How many bytes a page has room for at first.
 const ROOM: usize = 40_960;
 
-/// How many bytes a text has at least that is inserted. An insertion takes memory too, and a shorter text is copied in less
-/// time than it is looked for.
+/// How many bytes a text has at least that is inserted. An insertion takes memory too, and a shorter text is
+/// copied in less time than it is looked for.
 const INSERTED: usize = 64;
 
-/// A text that is made from its front to its end: HTML, or a listing. A long text that has other owners is held once, as it
-/// is written, and inserted wherever it stands.
+/// A text that is made from its front to its end: HTML, or a listing. A long text that has other owners is
+/// held once, as it is written, and inserted wherever it stands.
 ///
 /// Contracts see it as its bytes.
 #[derive(Drop)]
@@ -85,8 +86,8 @@ impl Pages {
     ///
     /// # Errors
     ///
-    /// `AllocError` where a request for memory was refused; what stands there then isn't said. So it is with all calls that
-    /// add to the text.
+    /// `AllocError` where a request for memory was refused; what stands there then isn't said. So it is with
+    /// all calls that add to the text.
     #[inline(always)]
     pub fn push_str(&mut self, more: &str) -> Result<(), AllocError>
         ensures { OnOk result (self.new ≡ self.old ++ more.now) }

@@ -1,5 +1,6 @@
 //! What the lines of a listing are made of: their indentation, and texts between quotes, with escapes.
-ghost use Rattle.std.specs.Prelude.{◌≡◌, ℕ, ◌==◌, ◌||◌, ◌<◌, ◌^◌, position, IsTrue, ◌++◌, string_bytes, OnOk, flat_map};
+ghost use Rattle.std.specs.Prelude.{◌≡◌, ◌==◌, ◌||◌, ◌<◌, ◌^◌, ◌++◌};
+ghost use Rattle.std.specs.Prelude.{ℕ, position, IsTrue, string_bytes, OnOk, flat_map};
 ghost use Rattle.cm_html.specs.Listing.{margin, quote_byte, quoted};
 ghost use Rattle.cm_html.specs.steps.Bytes.{has_escape};
 

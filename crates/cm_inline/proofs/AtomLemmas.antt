@@ -33,7 +33,7 @@ use Rattle.cm_inline.specs.steps.Nodes.{Node, Piece, Characters, Run, Opener, it
 use Rattle.cm_inline.specs.declared.tokens.Token.{Token}
 use Rattle.cm_inline.specs.declared.tokens.Token.TheVariants as tokens
 use Rattle.cm_inline.specs.steps.Groups.{node_of, IsNoGroup}
-use Rattle.cm_inline.proofs.WrittenLemmas.{finished}
+use Rattle.cm_inline.proofs.StandaloneLemmas.{finished}
 use Rattle.cm_inline.specs.declared.runs.Marker.{Marker}
 use Rattle.cm_inline.specs.declared.runs.Marker.TheVariants.{Star, Underscore, Tilde}
 use Rattle.cm_inline.specs.declared.runs.DelimiterRun.{DelimiterRun}
@@ -474,7 +474,7 @@ lone-byte b feed space bang ampersand star angle left slash right underscore tic
 pub token-read : (rules : Rules) (source : List ℕ) (at : ℕ) (token : Token) (end : ℕ) → IsAtom rules source at (node_of [] token) end → IsNoGroup token
 token-read rules source at (tokens.Piece from to) end is = tt
 token-read rules source at (tokens.Characters chars) end is = tt
-token-read rules source at (tokens.Whole written) end is = tt
+token-read rules source at (tokens.Whole standalone) end is = tt
 token-read rules source at (tokens.Made number depth false) end is = absurd (omega (arith, is.fresh, emph-holds []))
 token-read rules source at (tokens.Made number depth true) end is = absurd (omega (arith, is.fresh, emph-holds []))
 token-read rules source at (tokens.Run run) end is = tt

@@ -69,7 +69,7 @@ split-last n (Opener image end ∷ nodes) (o ∷ others) b e =
     }
 split-last n (Piece from to ∷ nodes) others b e = behind n (Piece from to) nodes others b refl (split-last (suc n) nodes others b e)
 split-last n (Characters chars ∷ nodes) others b e = behind n (Characters chars) nodes others b refl (split-last (suc n) nodes others b e)
-split-last n (Whole written ∷ nodes) others b e = behind n (Whole written) nodes others b refl (split-last (suc n) nodes others b e)
+split-last n (Whole standalone ∷ nodes) others b e = behind n (Whole standalone) nodes others b refl (split-last (suc n) nodes others b e)
 split-last n (Finished inline depth holds ∷ nodes) others b e = behind n (Finished inline depth holds) nodes others b refl (split-last (suc n) nodes others b e)
 split-last n (Run run ∷ nodes) others b e = behind n (Run run) nodes others b refl (split-last (suc n) nodes others b e)
 
@@ -88,7 +88,7 @@ no-opener source n (x ∷ nodes) before after none =
         → last_opener (reverse (items_of source nodes) ++ item_of source x ∷ before) after ≡ last_opener before (item_of source x ∷ (items_of source nodes ++ after))
     go (Piece from to) e again = again (item_of source (Piece from to)) e
     go (Characters chars) e again = again (item_of source (Characters chars)) e
-    go (Whole written) e again = again (item_of source (Whole written)) e
+    go (Whole standalone) e again = again (item_of source (Whole standalone)) e
     go (Finished inline depth false) e again = again (item_of source (Finished inline depth false)) e
     go (Finished inline depth true) e again = again (item_of source (Finished inline depth true)) e
     go (Run run) e again = again (item_of source (Run run)) e

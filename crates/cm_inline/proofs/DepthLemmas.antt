@@ -12,9 +12,9 @@ use Rattle.cm_scan.specs.Pairing.{text_before, settled_after, settled, emphasise
 use Rattle.cm_inline.specs.steps.Nodes.{Node, Piece, Characters, Whole, Finished, Run, Opener, items_of, nodes_depth, AreParts}
 use Rattle.cm_scan.specs.CodeSpans.{one_line}
 use Rattle.std.specs.List.{slice_range}
-use Rattle.cm_inline.specs.declared.written.Written.{Written}
-use Rattle.cm_inline.specs.declared.written.Written.TheVariants as written
-use Rattle.cm_inline.specs.steps.Written.{inline_in, written_depth}
+use Rattle.cm_inline.specs.declared.standalone.Standalone.{Standalone}
+use Rattle.cm_inline.specs.declared.standalone.Standalone.TheVariants as standalone
+use Rattle.cm_inline.specs.steps.Standalone.{inline_in, standalone_depth}
 
 text-depth : (text : List ℕ) → depth_of (Text text) ≡ 0
 text-depth text = simp (fold_out-Inline ℕ depth_step, outs-Text)
@@ -37,17 +37,17 @@ link-depth link =
     omega (arith, one, text-depth link.text)
 
 -- an inline that stands by itself in a source
-pub whole-depth : (source : List ℕ) (w : Written) → depth_of (inline_in source w) ≡ written_depth w
-whole-depth source (written.Code from to) = code-depth (one_line (slice_range source from to))
-whole-depth source (written.Html from to) = html-depth (slice_range source from to)
-whole-depth source (written.Autolink is_address from to) = autolink (if is_address then codes "mailto:" ++ slice_range source from to else slice_range source from to) (slice_range source from to)
+pub whole-depth : (source : List ℕ) (w : Standalone) → depth_of (inline_in source w) ≡ standalone_depth w
+whole-depth source (standalone.Code from to) = code-depth (one_line (slice_range source from to))
+whole-depth source (standalone.Html from to) = html-depth (slice_range source from to)
+whole-depth source (standalone.Autolink is_address from to) = autolink (if is_address then codes "mailto:" ++ slice_range source from to else slice_range source from to) (slice_range source from to)
   where
     autolink : (dest text : List ℕ) → depth_of (Link dest [] (Text text ∷ [])) ≡ 1
     autolink dest text =
         let one : depth_of (Link dest [] (Text text ∷ [])) ≡ inlines_depth (Text text ∷ []) + 1 = simp (fold_out-Inline ℕ depth_step, outs-Link) in
         omega (arith, one, text-depth text)
-whole-depth source written.Soft = soft-depth
-whole-depth source written.Hard = hard-depth
+whole-depth source standalone.Soft = soft-depth
+whole-depth source standalone.Hard = hard-depth
 
 emph-depth : (content : List Inline) → depth_of (Emph content) ≡ inlines_depth content + 1
 emph-depth content = simp (fold_out-Inline ℕ depth_step, outs-Emph)
@@ -80,9 +80,9 @@ settled-after source text (Piece from to ∷ nodes) parts = settled-after source
 settled-after source text (Characters chars ∷ nodes) parts = settled-after source _ nodes parts.1 ∙ sym (none-deeper (nodes_depth nodes))
 settled-after source text (Run run ∷ nodes) parts = settled-after source _ nodes parts.1 ∙ sym (none-deeper (nodes_depth nodes))
 settled-after source text (Opener image behind ∷ nodes) parts = settled-after source _ nodes parts.1 ∙ sym (none-deeper (nodes_depth nodes))
-settled-after source text (Whole written ∷ nodes) parts =
-    text-first text (inline_in source written ∷ settled_after [] (items_of source nodes)) ∙ ap (λ n. max n (inlines_depth (settled_after [] (items_of source nodes)))) (whole-depth source written)
-    ∙ ap (λ n. max (written_depth written) n) (settled-after source [] nodes parts.1)
+settled-after source text (Whole standalone ∷ nodes) parts =
+    text-first text (inline_in source standalone ∷ settled_after [] (items_of source nodes)) ∙ ap (λ n. max n (inlines_depth (settled_after [] (items_of source nodes)))) (whole-depth source standalone)
+    ∙ ap (λ n. max (standalone_depth standalone) n) (settled-after source [] nodes parts.1)
 settled-after source text (Finished inline depth false ∷ nodes) parts =
     text-first text (inline source ∷ settled_after [] (items_of source nodes)) ∙ ap (λ n. max n (inlines_depth (settled_after [] (items_of source nodes)))) parts.0 ∙ ap (λ n. max depth n) (settled-after source [] nodes parts.1)
 settled-after source text (Finished inline depth true ∷ nodes) parts =

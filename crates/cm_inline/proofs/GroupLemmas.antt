@@ -1,12 +1,12 @@
 -- What groups come to.
-use Rattle.std.proofs.Common.{◌≡◌, ℕ, zero, suc, ◌+◌, ◌-◌, ◌<◌, List, [], ◌∷◌, ◌++◌, length, take, drop, get_or, refl, sym, ap, subst, ◌∙◌, arith, max}
+use Rattle.std.proofs.Common.{◌≡◌, ℕ, Bool, zero, suc, ◌+◌, ◌-◌, ◌<◌, List, [], ◌∷◌, ◌++◌, length, take, drop, get_or, refl, sym, ap, subst, ◌∙◌, arith, max}
 use Rattle.std.specs.List.{slice_range, list_any}
 use Rattle.std.specs.Prelude.{◌||◌}
 use Rattle.std.proofs.lemmas.List.{get_or_append_left, get_or_at, length_push, length-drop, length-take-le, drop-map}
 use Rattle.cm_inline.specs.declared.tokens.Token.{Token}
 use Rattle.cm_inline.specs.declared.tokens.Token.TheVariants as tokens
 use Rattle.cm_inline.specs.steps.Nodes.{node_depth, nodes_depth, is_closer, text_in, text_in_front, behind_texts, AreParts}
-use Rattle.cm_inline.specs.steps.Groups.{Made, Held, Grouped, nodes_in, nothing_made, node_of, nodes_of, group_made, groups_after, groups_made, AreGroups, IsGroup, ArePlaced, IsPlaced}
+use Rattle.cm_inline.specs.steps.Groups.{Made, Held, Grouped, nodes_in, nothing_made, node_of, nodes_of, nodes_among, group_made, groups_after, groups_made, AreAmong, AreBelow, AreGroups, IsAmong, IsBelow, IsGroup, IsGroupAmong, ArePlaced, IsPlaced}
 
 -- what is made of the groups, one by one
 
@@ -69,18 +69,21 @@ groups-front inside groups n group are low is =
     let both = front-of inside 0 groups n n group are low (omega arith) in
     (both.0, subst (IsGroup inside n) (sym is) both.1)
 
--- The groups before one are fewer, and it is a group behind them.
-pub record Behind (inside : List Token) (groups front : List Grouped) (group : Grouped) : Type 0 where
+-- The groups before one are fewer, and it holds some of them.
+pub record Behind (source : List ℕ) (inside : List Token) (groups front : List Grouped) (group : Grouped) : Type 0 where
   pub fewer : length front < length groups
-  pub first : AreGroups inside 0 front
-  pub is : IsGroup inside (length front) group
+  pub among : IsGroupAmong source inside front group
 
-pub behind-front : (inside : List Token) (groups front : List Grouped) (n : ℕ) (group : Grouped) → AreGroups inside 0 groups → n < length groups → group ≡ get_or groups n group → front ≡ take n groups
-    → Behind inside groups front group
-behind-front inside groups front n group are low at is =
-    let both = groups-front inside groups n group are low at in
+pub behind-front : (source : List ℕ) (inside : List Token) (groups front : List Grouped) (token : Token) (n depth : ℕ) (holds_link : Bool) (group : Grouped) → IsAmong source inside groups token → token ≡ tokens.Made n depth holds_link
+    → group ≡ get_or groups n group → front ≡ take n groups → Behind source inside groups front group
+behind-front source inside groups front token n depth holds_link group asked made at is =
+    let low : n < length groups = (subst (IsBelow (length groups)) made asked.below).0 in
+    let both = groups-front inside groups n group asked.groups low at in
     let long : length front ≡ n = ap length is ∙ length-take-le n groups (omega (arith, low)) in
-    record { fewer = omega (arith, low, long); first = subst (AreGroups inside 0) (sym is) both.0; is = subst (λ i. IsGroup inside i group) (sym long) both.1 }
+    record {
+      fewer = omega (arith, low, long);
+      among = record { placed = asked.placed; groups = subst (AreGroups inside 0) (sym is) both.0; group = subst (λ i. IsGroup inside i group) (sym long) both.1 };
+    }
 
 -- places
 
@@ -88,7 +91,7 @@ pub parts-placed : (source : List ℕ) (made : List Made) (held : List Token) �
 parts-placed source made [] parts = tt
 parts-placed source made (tokens.Piece from to ∷ held) parts = (parts.0, parts-placed source made held parts.1)
 parts-placed source made (tokens.Characters chars ∷ held) parts = (tt, parts-placed source made held parts.1)
-parts-placed source made (tokens.Whole written ∷ held) parts = (parts.0, parts-placed source made held parts.1)
+parts-placed source made (tokens.Whole standalone ∷ held) parts = (parts.0, parts-placed source made held parts.1)
 parts-placed source made (tokens.Made number depth holds_link ∷ held) parts = (tt, parts-placed source made held parts.1)
 parts-placed source made (tokens.Run run ∷ held) parts = (tt, parts-placed source made held parts.1)
 parts-placed source made (tokens.Opener image behind ∷ held) parts = (tt, parts-placed source made held parts.1)
@@ -119,7 +122,7 @@ placed-at source held n token placed low is = subst (IsPlaced source) (sym is) (
 depth-of : (made : List Made) (token : Token) → node_depth (node_of made token) ≡ node_depth (node_of [] token)
 depth-of made (tokens.Piece from to) = refl
 depth-of made (tokens.Characters chars) = refl
-depth-of made (tokens.Whole written) = refl
+depth-of made (tokens.Whole standalone) = refl
 depth-of made (tokens.Made number depth holds_link) = refl
 depth-of made (tokens.Run run) = refl
 depth-of made (tokens.Opener image behind) = refl
@@ -131,7 +134,7 @@ made-depth made (token ∷ held) = ap (λ d. max d (nodes_depth (nodes_of made h
 closer-of : (made : List Made) (token : Token) → is_closer (node_of made token) ≡ is_closer (node_of [] token)
 closer-of made (tokens.Piece from to) = refl
 closer-of made (tokens.Characters chars) = refl
-closer-of made (tokens.Whole written) = refl
+closer-of made (tokens.Whole standalone) = refl
 closer-of made (tokens.Made number depth holds_link) = refl
 closer-of made (tokens.Run run) = refl
 closer-of made (tokens.Opener image behind) = refl
@@ -148,7 +151,7 @@ pub made-text : (source : List ℕ) (made : List Made) (held : List Token) → t
 made-text source made [] = refl
 made-text source made (tokens.Piece from to ∷ held) = ap (λ t. slice_range source from to ++ t) (made-text source made held)
 made-text source made (tokens.Characters chars ∷ held) = ap (λ t. text_in source (node_of [] (tokens.Characters chars)) ++ t) (made-text source made held)
-made-text source made (tokens.Whole written ∷ held) = refl
+made-text source made (tokens.Whole standalone ∷ held) = refl
 made-text source made (tokens.Made number depth holds_link ∷ held) = refl
 made-text source made (tokens.Run run ∷ held) = ap (λ t. text_in source (node_of [] (tokens.Run run)) ++ t) (made-text source made held)
 made-text source made (tokens.Opener image behind ∷ held) = ap (λ t. text_in source (node_of [] (tokens.Opener image behind)) ++ t) (made-text source made held)
@@ -158,7 +161,7 @@ texts : List Token → ℕ
 texts [] = 0
 texts (tokens.Piece from to ∷ held) = suc (texts held)
 texts (tokens.Characters chars ∷ held) = suc (texts held)
-texts (tokens.Whole written ∷ held) = 0
+texts (tokens.Whole standalone ∷ held) = 0
 texts (tokens.Made number depth holds_link ∷ held) = 0
 texts (tokens.Run run ∷ held) = suc (texts held)
 texts (tokens.Opener image behind ∷ held) = suc (texts held)
@@ -168,7 +171,7 @@ unfolding texts
 behind-is made [] = refl
 behind-is made (tokens.Piece from to ∷ held) = behind-is made held
 behind-is made (tokens.Characters chars ∷ held) = behind-is made held
-behind-is made (tokens.Whole written ∷ held) = refl
+behind-is made (tokens.Whole standalone ∷ held) = refl
 behind-is made (tokens.Made number depth holds_link ∷ held) = refl
 behind-is made (tokens.Run run ∷ held) = behind-is made held
 behind-is made (tokens.Opener image behind ∷ held) = behind-is made held
@@ -191,6 +194,21 @@ nodes-length made (token ∷ held) = ap suc (nodes-length made held)
 pub nodes-in : (held : Held) → nodes_in held ≡ nodes_of (groups_made held.inside held.groups) held.before
 unfolding nodes_in
 nodes-in held = refl
+
+-- the tokens of the nodes that are held are among the groups there, and are those nodes
+
+pub are-among : (source : List ℕ) (held : Held) (inside : List Token) (groups : List Grouped) (some : List Token) → inside ≡ held.inside → groups ≡ held.groups → some ≡ held.before
+    → AreParts source (nodes_in held) → ArePlaced source held.inside → AreGroups held.inside 0 held.groups → AreBelow (length held.groups) held.before → AreAmong source inside groups some
+are-among source held inside groups some i g s parts placed are below = record {
+  placed = subst (ArePlaced source) (sym i) placed;
+  groups = subst (λ inside. AreGroups inside 0 groups) (sym i) (subst (AreGroups held.inside 0) (sym g) are);
+  below = subst (λ groups. AreBelow (length groups) some) (sym g) (subst (AreBelow (length held.groups)) (sym s) below);
+  tokens = subst (ArePlaced source) (sym s) (parts-placed source (groups_made held.inside held.groups) held.before (subst (AreParts source) (nodes-in held) parts));
+}
+
+pub nodes-among : (held : Held) (inside : List Token) (groups : List Grouped) (some : List Token) → inside ≡ held.inside → groups ≡ held.groups → some ≡ held.before → nodes_among inside groups some ≡ nodes_in held
+nodes-among held inside groups some i g s =
+    ap (λ inside. nodes_among inside groups some) i ∙ ap (λ groups. nodes_among held.inside groups some) g ∙ ap (nodes_among held.inside held.groups) s ∙ sym (nodes-in held)
 
 pub nodes-in-length : (held : Held) → length (nodes_in held) ≡ length held.before
 unfolding nodes_in

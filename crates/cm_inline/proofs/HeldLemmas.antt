@@ -12,9 +12,9 @@ use Rattle.cm_inline.specs.declared.tokens.Token.{Token}
 use Rattle.cm_inline.specs.declared.tokens.Token.TheVariants as tokens
 use Rattle.cm_inline.specs.steps.Nodes.{Node, Piece, Characters, Whole, Finished, Run, Opener, node_depth, nodes_depth, rest_in}
 use Rattle.cm_inline.specs.steps.Groups.{Made, Held, Grouped, nodes_in, waiting_in, nothing_made, node_of, nodes_of, made_by, group_made, groups_after, groups_made, is_run, IsNoGroup, IsBelow, AreBelow, AreGroups, IsGroup, AreHeld, Takes}
-use Rattle.cm_inline.specs.declared.written.Written.{Written}
-use Rattle.cm_inline.specs.declared.written.Written.TheVariants as written
-use Rattle.cm_inline.specs.steps.Written.{written_depth}
+use Rattle.cm_inline.specs.declared.standalone.Standalone.{Standalone}
+use Rattle.cm_inline.specs.declared.standalone.Standalone.TheVariants as standalone
+use Rattle.cm_inline.specs.steps.Standalone.{standalone_depth}
 use Rattle.cm_inline.proofs.GroupLemmas.{made-length, made-more, depth-from}
 
 -- groups below a number
@@ -23,7 +23,7 @@ pub below-more : (low high : ℕ) (held : List Token) → low ≤ high → AreBe
 below-more low high [] order below = tt
 below-more low high (tokens.Piece from to ∷ held) order below = (tt, below-more low high held order below.1)
 below-more low high (tokens.Characters chars ∷ held) order below = (tt, below-more low high held order below.1)
-below-more low high (tokens.Whole written ∷ held) order below = (tt, below-more low high held order below.1)
+below-more low high (tokens.Whole standalone ∷ held) order below = (tt, below-more low high held order below.1)
 below-more low high (tokens.Made number depth holds_link ∷ held) order below = ((omega (arith, order, below.0.0), below.0.1), below-more low high held order below.1)
 below-more low high (tokens.Run run ∷ held) order below = (tt, below-more low high held order below.1)
 below-more low high (tokens.Opener image behind ∷ held) order below = (tt, below-more low high held order below.1)
@@ -50,7 +50,7 @@ below-set bound (suc n) (first ∷ held) token below one = (below.0, below-set b
 read-below : (bound : ℕ) (token : Token) → IsNoGroup token → IsBelow bound token
 read-below bound (tokens.Piece from to) read = tt
 read-below bound (tokens.Characters chars) read = tt
-read-below bound (tokens.Whole written) read = tt
+read-below bound (tokens.Whole standalone) read = tt
 read-below bound (tokens.Made number depth holds_link) read = absurd read
 read-below bound (tokens.Run run) read = tt
 read-below bound (tokens.Opener image behind) read = tt
@@ -58,24 +58,24 @@ read-below bound (tokens.Opener image behind) read = tt
 read-node : (made : List Made) (token : Token) → IsNoGroup token → node_of made token ≡ node_of [] token
 read-node made (tokens.Piece from to) read = refl
 read-node made (tokens.Characters chars) read = refl
-read-node made (tokens.Whole written) read = refl
+read-node made (tokens.Whole standalone) read = refl
 read-node made (tokens.Made number depth holds_link) read = absurd read
 read-node made (tokens.Run run) read = refl
 read-node made (tokens.Opener image behind) read = refl
 
 -- how deep they nest
 
-written-depth : (written : Written) → written_depth written ≤ 1
-written-depth (written.Code from to) = omega arith
-written-depth (written.Html from to) = omega arith
-written-depth (written.Autolink is_address from to) = omega arith
-written-depth written.Soft = omega arith
-written-depth written.Hard = omega arith
+standalone-depth : (standalone : Standalone) → standalone_depth standalone ≤ 1
+standalone-depth (standalone.Code from to) = omega arith
+standalone-depth (standalone.Html from to) = omega arith
+standalone-depth (standalone.Autolink is_address from to) = omega arith
+standalone-depth standalone.Soft = omega arith
+standalone-depth standalone.Hard = omega arith
 
 one-depth : (bound : ℕ) (token : Token) → IsBelow bound token → node_depth (node_of [] token) ≤ bound + 1
 one-depth bound (tokens.Piece from to) below = omega arith
 one-depth bound (tokens.Characters chars) below = omega arith
-one-depth bound (tokens.Whole one) below = omega (arith, written-depth one)
+one-depth bound (tokens.Whole one) below = omega (arith, standalone-depth one)
 one-depth bound (tokens.Made number depth holds_link) below = omega (arith, below.0, below.1)
 one-depth bound (tokens.Run run) below = omega arith
 one-depth bound (tokens.Opener image behind) below = omega arith
@@ -183,7 +183,7 @@ any-last others node none other =
 no-run : (made : List Made) (token : Token) → ((run : DelimiterRun) → token ≡ tokens.Run run → ⊥) → is_run (node_of made token) ≡ false
 no-run made (tokens.Piece from to) other = refl
 no-run made (tokens.Characters chars) other = refl
-no-run made (tokens.Whole written) other = refl
+no-run made (tokens.Whole standalone) other = refl
 no-run made (tokens.Made number depth holds_link) other = refl
 no-run made (tokens.Run run) other = absurd (other run refl)
 no-run made (tokens.Opener image behind) other = refl
@@ -300,7 +300,7 @@ nodes-more : (made more : List Made) (held : List Token) → AreBelow (length ma
 nodes-more made more [] below = refl
 nodes-more made more (tokens.Piece from to ∷ held) below = ap (λ ns. Piece from to ∷ ns) (nodes-more made more held below.1)
 nodes-more made more (tokens.Characters chars ∷ held) below = ap (λ ns. Characters chars ∷ ns) (nodes-more made more held below.1)
-nodes-more made more (tokens.Whole written ∷ held) below = ap (λ ns. Whole written ∷ ns) (nodes-more made more held below.1)
+nodes-more made more (tokens.Whole standalone ∷ held) below = ap (λ ns. Whole standalone ∷ ns) (nodes-more made more held below.1)
 nodes-more made more (tokens.Made number depth holds_link ∷ held) below =
     ap (λ m. Finished m depth holds_link ∷ nodes_of (made ++ more) held) (get_or_append_left made more nothing_made number below.0.0)
     ∙ ap (λ ns. Finished (get_or made number nothing_made) depth holds_link ∷ ns) (nodes-more made more held below.1)

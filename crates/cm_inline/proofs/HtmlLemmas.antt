@@ -23,9 +23,9 @@ use Rattle.cm_inline.specs.declared.tokens.Token.{Token}
 use Rattle.cm_inline.specs.steps.Groups.{Made, made_of, made_by, start_html, end_html, node_of, nodes_of}
 use Rattle.cm_inline.specs.declared.runs.Marker.{Marker}
 use Rattle.cm_inline.specs.declared.runs.Marker.TheVariants.{Star, Underscore, Tilde}
-use Rattle.cm_inline.specs.declared.written.Written.{Written}
-use Rattle.cm_inline.specs.declared.written.Written.TheVariants.{Code, Html, Autolink, Soft, Hard}
-use Rattle.cm_inline.specs.steps.Written.{inline_in, written_html, written_plain, IsBetween}
+use Rattle.cm_inline.specs.declared.standalone.Standalone.{Standalone}
+use Rattle.cm_inline.specs.declared.standalone.Standalone.TheVariants.{Code, Html, Autolink, Soft, Hard}
+use Rattle.cm_inline.specs.steps.Standalone.{inline_in, standalone_html, standalone_plain, IsBetween}
 use Rattle.cm_inline.specs.steps.Runs.{byte_of}
 
 -- the text of a run is its own HTML
@@ -53,7 +53,7 @@ module _ (shown : List ℕ → List ℕ) (whole : Inline → List ℕ) (joined :
     (none : joined [] ≡ []) (one : (inline : Inline) (inlines : List Inline) → joined (inline ∷ inlines) ≡ whole inline ++ joined inlines)
     (of_text : (text : List ℕ) → whole (Text text) ≡ shown text)
     (text_part : (source : List ℕ) (node : Node) → is_text node ≡ true → part source node ≡ shown (text_in source node))
-    (whole_part : (source : List ℕ) (written : Written) → part source (Whole written) ≡ whole (inline_in source written))
+    (whole_part : (source : List ℕ) (standalone : Standalone) → part source (Whole standalone) ≡ whole (inline_in source standalone))
     (made_part : (source : List ℕ) (inline : Made) (depth : ℕ) (holds_link : Bool) → part source (Finished inline depth holds_link) ≡ whole (inline source)) where
   -- a text before inlines
   text-joined : (text : List ℕ) (inlines : List Inline) → joined (text_before text inlines) ≡ shown text ++ joined inlines
@@ -86,8 +86,8 @@ module _ (shown : List ℕ → List ℕ) (whole : Inline → List ℕ) (joined :
   settled-after source before (Opener image behind ∷ nodes) =
       let node = Opener image behind in
       text-next source before node (flat_map (part source) nodes) _ refl (settled-after source (before ++ text_in source node) nodes)
-  settled-after source before (Whole written ∷ nodes) =
-      inline-next before (inline_in source written) (settled (items_of source nodes)) _ (flat_map (part source) nodes) (whole_part source written) (settled-after source [] nodes)
+  settled-after source before (Whole standalone ∷ nodes) =
+      inline-next before (inline_in source standalone) (settled (items_of source nodes)) _ (flat_map (part source) nodes) (whole_part source standalone) (settled-after source [] nodes)
   settled-after source before (Finished inline depth false ∷ nodes) =
       inline-next before (inline source) (settled (items_of source nodes)) _ (flat_map (part source) nodes) (made_part source inline depth false) (settled-after source [] nodes)
   settled-after source before (Finished inline depth true ∷ nodes) =
@@ -97,29 +97,29 @@ text-html : (text : List ℕ) → (rendered (Text text)).html ≡ escape text
 text-html text = simp (fold_out-Inline Rendered inline_step, outs-Text)
 
 -- an inline that stands by itself in the source
-written-is : (source : List ℕ) (written : Written) → (rendered (inline_in source written)).html ≡ written_html source written
-written-is source (Code from to) = simp (fold_out-Inline Rendered inline_step, outs-Code)
-written-is source (Html from to) = simp (fold_out-Inline Rendered inline_step, outs-Html)
-written-is source (Autolink is_address from to) = linked (if is_address then codes "mailto:" ++ slice_range source from to else slice_range source from to) (slice_range source from to)
+standalone-is : (source : List ℕ) (standalone : Standalone) → (rendered (inline_in source standalone)).html ≡ standalone_html source standalone
+standalone-is source (Code from to) = simp (fold_out-Inline Rendered inline_step, outs-Code)
+standalone-is source (Html from to) = simp (fold_out-Inline Rendered inline_step, outs-Html)
+standalone-is source (Autolink is_address from to) = linked (if is_address then codes "mailto:" ++ slice_range source from to else slice_range source from to) (slice_range source from to)
   where
     link-is : (dest text : List ℕ) → (rendered (Link dest [] (Text text ∷ []))).html ≡ link_html dest [] (inlines_html (Text text ∷ []))
     link-is dest text = simp (fold_out-Inline Rendered inline_step, outs-Link)
 
     linked : (dest text : List ℕ) → (rendered (Link dest [] (Text text ∷ []))).html ≡ link_html dest [] (escape text)
     linked dest text = link-is dest text ∙ ap (link_html dest []) (append-nil (rendered (Text text)).html ∙ text-html text)
-written-is source Soft = simp (fold_out-Inline Rendered inline_step, outs-Soft)
-written-is source Hard = simp (fold_out-Inline Rendered inline_step, outs-Hard)
+standalone-is source Soft = simp (fold_out-Inline Rendered inline_step, outs-Soft)
+standalone-is source Hard = simp (fold_out-Inline Rendered inline_step, outs-Hard)
 
 -- the HTML of the inlines that come of nodes is that of the nodes, one after another
 pub settled-html : (source : List ℕ) (nodes : List Node) → inlines_html (settled (items_of source nodes)) ≡ nodes_html source nodes
 settled-html source nodes =
     settled-after escape (λ inline. (rendered inline).html) inlines_html node_html refl (flat_map-append escape_byte) refl (λ inline inlines. refl)
-    text-html text-part (λ source written. sym (written-is source written)) (λ source inline depth holds_link. refl) source [] nodes
+    text-html text-part (λ source standalone. sym (standalone-is source standalone)) (λ source inline depth holds_link. refl) source [] nodes
   where
     text-part : (source : List ℕ) (node : Node) → is_text node ≡ true → node_html source node ≡ escape (text_in source node)
     text-part source (Piece from to) is = refl
     text-part source (Characters chars) is = refl
-    text-part source (Whole written) is = absurd (cc is)
+    text-part source (Whole standalone) is = absurd (cc is)
     text-part source (Finished inline depth holds_link) is = absurd (cc is)
     text-part source (Run run) is = refl
     text-part source (Opener image behind) is = refl
@@ -129,28 +129,28 @@ settled-html source nodes =
 text-plain : (text : List ℕ) → (rendered (Text text)).plain ≡ text
 text-plain text = simp (fold_out-Inline Rendered inline_step, outs-Text)
 
-written-plain : (source : List ℕ) (written : Written) → (rendered (inline_in source written)).plain ≡ written_plain source written
-written-plain source (Code from to) = simp (fold_out-Inline Rendered inline_step, outs-Code)
-written-plain source (Html from to) = simp (fold_out-Inline Rendered inline_step, outs-Html)
-written-plain source (Autolink is_address from to) = linked (if is_address then codes "mailto:" ++ slice_range source from to else slice_range source from to) (slice_range source from to)
+standalone-plain : (source : List ℕ) (standalone : Standalone) → (rendered (inline_in source standalone)).plain ≡ standalone_plain source standalone
+standalone-plain source (Code from to) = simp (fold_out-Inline Rendered inline_step, outs-Code)
+standalone-plain source (Html from to) = simp (fold_out-Inline Rendered inline_step, outs-Html)
+standalone-plain source (Autolink is_address from to) = linked (if is_address then codes "mailto:" ++ slice_range source from to else slice_range source from to) (slice_range source from to)
   where
     link-is : (dest text : List ℕ) → (rendered (Link dest [] (Text text ∷ []))).plain ≡ (rendered (Text text)).plain ++ []
     link-is dest text = simp (fold_out-Inline Rendered inline_step, outs-Link)
 
     linked : (dest text : List ℕ) → (rendered (Link dest [] (Text text ∷ []))).plain ≡ text
     linked dest text = link-is dest text ∙ append-nil (rendered (Text text)).plain ∙ text-plain text
-written-plain source Soft = simp (fold_out-Inline Rendered inline_step, outs-Soft)
-written-plain source Hard = simp (fold_out-Inline Rendered inline_step, outs-Hard)
+standalone-plain source Soft = simp (fold_out-Inline Rendered inline_step, outs-Soft)
+standalone-plain source Hard = simp (fold_out-Inline Rendered inline_step, outs-Hard)
 
 settled-plain : (source : List ℕ) (nodes : List Node) → alternative_text (settled (items_of source nodes)) ≡ nodes_plain source nodes
 settled-plain source nodes =
     settled-after (λ text. text) (λ inline. (rendered inline).plain) alternative_text node_plain refl (λ a b. refl) refl (λ inline inlines. refl)
-    text-plain text-part (λ source written. sym (written-plain source written)) (λ source inline depth holds_link. refl) source [] nodes
+    text-plain text-part (λ source standalone. sym (standalone-plain source standalone)) (λ source inline depth holds_link. refl) source [] nodes
   where
     text-part : (source : List ℕ) (node : Node) → is_text node ≡ true → node_plain source node ≡ text_in source node
     text-part source (Piece from to) is = refl
     text-part source (Characters chars) is = refl
-    text-part source (Whole written) is = absurd (cc is)
+    text-part source (Whole standalone) is = absurd (cc is)
     text-part source (Finished inline depth holds_link) is = absurd (cc is)
     text-part source (Run run) is = refl
     text-part source (Opener image behind) is = refl

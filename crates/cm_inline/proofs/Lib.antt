@@ -23,7 +23,7 @@ pub mod PassingLemmas
 pub mod SettlingLemmas
 pub mod PlacedLemmas
 pub mod HeldLemmas
-pub mod EndsLemmas
+pub mod MissingEndsLemmas
 pub mod DeeperLemmas
 pub mod KeepsLemmas
 pub mod LabelLemmas
@@ -31,4 +31,4 @@ pub mod LinkLemmas
 pub mod PaysLemmas
 pub mod ReaderLemmas
 pub mod WholeLemmas
-pub mod WrittenLemmas
+pub mod StandaloneLemmas

@@ -8,7 +8,7 @@ use Rattle.cm_tree.specs.declared.tree.Inline.{Inline}
 use Rattle.cm_scan.specs.Pairing.{bracket_text, text_before, settled_after, settled}
 use Rattle.cm_inline.specs.steps.Nodes.{Node, Piece, Characters, Whole, Finished, Run, Opener, items_of, is_text, text_in, text_in_front, behind_texts, inline_of, AreParts}
 use Rattle.cm_inline.specs.steps.Runs.{byte_of}
-use Rattle.cm_inline.specs.steps.Written.{inline_in}
+use Rattle.cm_inline.specs.steps.Standalone.{inline_in}
 
 settled-texts : (source before : List ℕ) (nodes : List Node) → settled_after before (items_of source nodes) ≡ text_before (before ++ text_in_front source nodes) (settled (items_of source (behind_texts nodes)))
 unfolding settled_after
@@ -25,7 +25,7 @@ settled-texts source before (Run run ∷ nodes) =
 settled-texts source before (Opener image behind ∷ nodes) =
     let text = bracket_text image in
     settled-texts source (before ++ text) nodes ∙ ap (λ t. text_before t (settled (items_of source (behind_texts nodes)))) (append_assoc before text (text_in_front source nodes))
-settled-texts source before (Whole written ∷ nodes) = ap (λ t. text_before t (inline_in source written ∷ settled (items_of source nodes))) (sym (append-nil before))
+settled-texts source before (Whole standalone ∷ nodes) = ap (λ t. text_before t (inline_in source standalone ∷ settled (items_of source nodes))) (sym (append-nil before))
 settled-texts source before (Finished inline depth false ∷ nodes) = ap (λ t. text_before t (inline source ∷ settled (items_of source nodes))) (sym (append-nil before))
 settled-texts source before (Finished inline depth true ∷ nodes) = ap (λ t. text_before t (inline source ∷ settled (items_of source nodes))) (sym (append-nil before))
 
@@ -53,7 +53,7 @@ inline-first source (Piece from to ∷ nodes) node rest e = inline-first source 
 inline-first source (Characters chars ∷ nodes) node rest e = inline-first source nodes node rest e
 inline-first source (Run run ∷ nodes) node rest e = inline-first source nodes node rest e
 inline-first source (Opener image behind ∷ nodes) node rest e = inline-first source nodes node rest e
-inline-first source (Whole written ∷ nodes) node rest e = ap (λ t. inline_of source (first node t) ++ settled (items_of source (others t))) (sym e)
+inline-first source (Whole standalone ∷ nodes) node rest e = ap (λ t. inline_of source (first node t) ++ settled (items_of source (others t))) (sym e)
 inline-first source (Finished inline depth false ∷ nodes) node rest e = ap (λ t. inline_of source (first node t) ++ settled (items_of source (others t))) (sym e)
 inline-first source (Finished inline depth true ∷ nodes) node rest e = ap (λ t. inline_of source (first node t) ++ settled (items_of source (others t))) (sym e)
 
@@ -77,7 +77,7 @@ no-text source (Piece from to) e = absurd (cc e)
 no-text source (Characters chars) e = absurd (cc e)
 no-text source (Run run) e = absurd (cc e)
 no-text source (Opener image behind) e = absurd (cc e)
-no-text source (Whole written) e = refl
+no-text source (Whole standalone) e = refl
 no-text source (Finished inline depth holds_link) e = refl
 
 -- the inlines of what is left of the nodes, behind so many

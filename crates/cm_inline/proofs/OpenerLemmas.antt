@@ -8,7 +8,7 @@ use Rattle.cm_scan.specs.Delimiters.{Run, delimiters_match}
 use Rattle.cm_scan.specs.Pairing.{Item, Finished, Delimiters, nearest_opener}
 use Rattle.cm_inline.specs.steps.Entries.{Entry, Listed, above, reserve, updated, leave, first_place, from_place, after_place, without_place, between_gone, is_listed, Below, Falling}
 use Rattle.cm_inline.specs.steps.Searching.{kind, IsMarked, find_opener, looks_for, NoneAnswers, AreSound, openers_of, places_of, characters, bottoms_after}
-use Rattle.cm_inline.specs.steps.Openers.{spent, Ready, Closing, Open, IsClosing, FindsNone, Opens, Spends, cut}
+use Rattle.cm_inline.specs.steps.Openers.{spent, Ready, Closing, Open, IsClosing, openers, FindsNone, Opens, Spends, cut}
 use Rattle.std.specs.Prelude.{IfSome}
 use Rattle.cm_inline.specs.steps.Runs.{byte_of, run_of, rest_of, entry_of, MayBeEntry}
 use Rattle.cm_inline.specs.declared.runs.DelimiterRun.{DelimiterRun}
@@ -387,13 +387,13 @@ closer-finishes before l new bs place closer c h e m k =
 
 -- the same as the contracts say it
 pub spends-some : (l new : Listed) (bs : List ℕ) (o : Entry) (rest : Option DelimiterRun) (r : DelimiterRun) → rest ≡ Some r → IfSome rest (λ x. (run_of x ≡ cut x.left o.run) × (x.left < o.run.left)) →
-    new.entries ≡ leave o.place o.item r.left l.entries → new.next ≡ l.next → new.looks ≡ l.looks → Spends l bs new bs o (rest_of rest)
+    new.entries ≡ leave o.place o.item r.left l.entries → new.next ≡ l.next → new.looks ≡ l.looks → Spends (openers l bs) (openers new bs) o (rest_of rest)
 spends-some l new bs o rest r is fewer e m k before place closer n i w fits =
     let f : (run_of r ≡ cut r.left o.run) × (r.left < o.run.left) = subst (λ x. IfSome x (λ x. (run_of x ≡ cut x.left o.run) × (x.left < o.run.left))) is fewer in
     let s : Closing (Finished i ∷ Delimiters (cut r.left o.run) ∷ w.items) new bs place (cut n closer) × ((kinds : ℕ) → spent kinds new bs + 1 ≤ spent kinds l bs) = opener-stays before l new bs place closer o r.left n i w f.1 fits e m k in
     (subst (λ x. Closing (Finished i ∷ (rest_of x ++ w.items)) new bs place (cut n closer)) (sym is) (subst (λ x. Closing (Finished i ∷ Delimiters x ∷ w.items) new bs place (cut n closer)) (sym f.0) s.0), s.1, k)
 
-pub spends-none : (l new : Listed) (bs : List ℕ) (o : Entry) (rest : Option DelimiterRun) → rest ≡ None → new.entries ≡ without_place o.place l.entries → new.next ≡ l.next → new.looks ≡ l.looks → Spends l bs new bs o (rest_of rest)
+pub spends-none : (l new : Listed) (bs : List ℕ) (o : Entry) (rest : Option DelimiterRun) → rest ≡ None → new.entries ≡ without_place o.place l.entries → new.next ≡ l.next → new.looks ≡ l.looks → Spends (openers l bs) (openers new bs) o (rest_of rest)
 spends-none l new bs o rest is e m k before place closer n i w fits =
     let s : Closing (Finished i ∷ w.items) new bs place (cut n closer) × ((kinds : ℕ) → spent kinds new bs + 1 ≤ spent kinds l bs) = opener-goes before l new bs place closer o n i w fits e m k in
     (subst (λ x. Closing (Finished i ∷ (rest_of x ++ w.items)) new bs place (cut n closer)) (sym is) s.0, s.1, k)
@@ -401,7 +401,7 @@ spends-none l new bs o rest is e m k before place closer n i w fits =
 -- a search in vain, and one that found an opener
 pub fails : (l new : Listed) (bs after : List ℕ) (place : ℕ) (closer : Run) (found : Option Delimiter) → IsMarked closer → closer.closes ≡ true → found ≡ None →
     MayBeEntry found (find_opener closer (get_or bs (kind closer) 0) (after_place place l.entries)) → after ≡ bottoms_after found (kind closer) place bs → new.entries ≡ l.entries → new.next ≡ l.next →
-    new.looks ≡ l.looks + looks_for closer (get_or bs (kind closer) 0) (after_place place l.entries) → FindsNone l bs new after place closer
+    new.looks ≡ l.looks + looks_for closer (get_or bs (kind closer) 0) (after_place place l.entries) → FindsNone (openers l bs) (openers new after) place closer
 fails l new bs after place closer found m h is f a e n k before c =
     let g : find_opener closer (get_or bs (kind closer) 0) (after_place place l.entries) ≡ None = subst (λ o. MayBeEntry o (find_opener closer (get_or bs (kind closer) 0) (after_place place l.entries))) is f in
     let b : after ≡ set bs (kind closer) place = a ∙ ap (λ o. bottoms_after o (kind closer) place bs) is in
@@ -415,7 +415,7 @@ finds-listed l bs place closer found d c is f =
 pub finds : (l mid new : Listed) (bs after : List ℕ) (place : ℕ) (closer : Run) (found : Option Delimiter) (d : Delimiter) → found ≡ Some d →
     MayBeEntry found (find_opener closer (get_or bs (kind closer) 0) (after_place place l.entries)) → after ≡ bottoms_after found (kind closer) place bs → mid.entries ≡ l.entries → mid.next ≡ l.next →
     mid.looks ≡ l.looks + looks_for closer (get_or bs (kind closer) 0) (after_place place l.entries) → new.entries ≡ between_gone d.place mid.entries → new.looks ≡ mid.looks → new.next ≡ mid.next →
-    Opens l bs new after place closer (entry_of d)
+    Opens (openers l bs) (openers new after) place closer (entry_of d)
 finds l mid new bs after place closer found d is f a e n k e2 k2 n2 before c =
     let g : find_opener closer (get_or bs (kind closer) 0) (after_place place l.entries) ≡ Some (entry_of d) = subst (λ o. MayBeEntry o (find_opener closer (get_or bs (kind closer) 0) (after_place place l.entries))) is f in
     let b : after ≡ bs = a ∙ ap (λ o. bottoms_after o (kind closer) place bs) is in

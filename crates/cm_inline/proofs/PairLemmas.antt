@@ -20,7 +20,7 @@ use Rattle.cm_inline.specs.declared.runs.DelimiterRun.{DelimiterRun}
 use Rattle.cm_inline.specs.declared.delimiters.Delimiter.{Delimiter}
 use Rattle.cm_inline.specs.steps.Entries.{Entry, Listed, above, is_listed, reserve, Below, Falling}
 use Rattle.cm_inline.specs.steps.Searching.{NoneBeneath, kind, openers_of, places_of, characters}
-use Rattle.cm_inline.specs.steps.Openers.{zeros, spent, cut, Ready, Closing, Open, Opens, Spends, Finishes}
+use Rattle.cm_inline.specs.steps.Openers.{zeros, spent, cut, IsRestOf, Ready, Closing, Open, openers, Opens, Spends, Finishes}
 use Rattle.cm_inline.specs.steps.Runs.{byte_of, run_of, entry_of, rest_of}
 use Rattle.cm_inline.specs.steps.Pairs.{Adds, AreOf, Stays, opened_at, allowed, allowance, item_emphases, items_emphases}
 use Rattle.cm_inline.specs.declared.groups.Kind.{Kind}
@@ -58,7 +58,7 @@ unfolding pair_leftmost
 none-pairs source [] before e = refl
 none-pairs source (node.Piece from to ∷ nodes) before e = none-pairs source nodes (item_of source (node.Piece from to) ∷ before) e
 none-pairs source (node.Characters chars ∷ nodes) before e = none-pairs source nodes (item_of source (node.Characters chars) ∷ before) e
-none-pairs source (node.Whole written ∷ nodes) before e = none-pairs source nodes (item_of source (node.Whole written) ∷ before) e
+none-pairs source (node.Whole standalone ∷ nodes) before e = none-pairs source nodes (item_of source (node.Whole standalone) ∷ before) e
 none-pairs source (node.Finished inline depth false ∷ nodes) before e = none-pairs source nodes (item_of source (node.Finished inline depth false) ∷ before) e
 none-pairs source (node.Finished inline depth true ∷ nodes) before e = none-pairs source nodes (item_of source (node.Finished inline depth true) ∷ before) e
 none-pairs source (node.Run run ∷ nodes) before e =
@@ -146,8 +146,8 @@ pub record Paired (source : List ℕ) (nodes more : List Node) (l new : Listed) 
   pub nearest : nearest_opener (run_of closer) (reverse (items_of source nodes)) [] ≡ Some (opened_at source nodes opener)
 
 pub pair-law : (source : List ℕ) (nodes more : List Node) (l mid new : Listed) (bs bs1 bs2 : List ℕ) (place : ℕ) (closer : DelimiterRun) (opener : Delimiter) (left : ℕ)
-    → Closing (reverse (items_of source nodes)) l bs place (run_of closer) → Opens l bs mid bs1 place (run_of closer) (entry_of opener) → items_of source more ≡ up_to_pair (opened_at source nodes opener) (run_of closer)
-    → Spends mid bs1 new bs2 (entry_of opener) (without (used (run_of opener.run) (run_of closer)) (run_of opener.run)) → left ≤ closer.left → Paired source nodes more l new bs bs2 place closer opener left
+    → Closing (reverse (items_of source nodes)) l bs place (run_of closer) → Opens (openers l bs) (openers mid bs1) place (run_of closer) (entry_of opener) → items_of source more ≡ up_to_pair (opened_at source nodes opener) (run_of closer)
+    → Spends (openers mid bs1) (openers new bs2) (entry_of opener) (without (used (run_of opener.run) (run_of closer)) (run_of opener.run)) → left ≤ closer.left → Paired source nodes more l new bs bs2 place closer opener left
 pair-law source nodes more l mid new bs bs1 bs2 place closer opener left c os made sp fits = record {
   closing = subst (λ b. Closing b new bs2 place (cut left (run_of closer))) (sym turned) s.0;
   paid = λ kinds. omega (arith, s.1 kinds, t.1 kinds);
@@ -281,8 +281,8 @@ pub closer-there : (before : List Item) (l : Listed) (bs : List ℕ) (place : �
 closer-there before l bs place closer w = between-closer place l.entries (closing-there l bs place closer (before, w))
 
 -- something is left of the closer
-pub goes-on : (o : Option DelimiterRun) (r closer : DelimiterRun) → o ≡ Some r → IfSome o (λ x. (run_of x ≡ cut x.left (run_of closer)) × (x.left < closer.left)) → (run_of r ≡ cut r.left (run_of closer)) × (r.left < closer.left)
-goes-on o r closer is f = subst (λ x. IfSome x (λ x. (run_of x ≡ cut x.left (run_of closer)) × (x.left < closer.left))) is f
+pub goes-on : (o : Option DelimiterRun) (r closer : DelimiterRun) → o ≡ Some r → IfSome o (λ x. IsRestOf x closer) → IsRestOf r closer
+goes-on o r closer is f = subst (λ o. IfSome o (λ x. IsRestOf x closer)) is f
 
 -- what is left of a run is of its kind
 pub cut-kind : (left : ℕ) (run : Run) → kind (cut left run) ≡ kind run
@@ -291,9 +291,9 @@ cut-kind left run = refl
 
 pub add-end : (source : List ℕ) (old nodes more : List Node) (l mid new : Listed) (bs bs1 bs2 : List ℕ) (place item : ℕ) (closer run : DelimiterRun) → length nodes ≡ item → more ≡ nodes ++ node.Run closer ∷ []
     → Closing (reverse (items_of source nodes)) mid bs1 place (run_of closer) → ((kinds : ℕ) → kind (run_of run) < kinds → spent kinds mid bs1 ≤ spent kinds l bs + (kinds + 1 + run.left))
-    → l.looks + items_emphases (items_of source nodes) ≤ mid.looks + items_emphases (items_of source old) → Finishes mid bs1 new bs2 place (run_of closer) item
+    → l.looks + items_emphases (items_of source nodes) ≤ mid.looks + items_emphases (items_of source old) → Finishes (openers mid bs1) (openers new bs2) place (run_of closer) item
     → ((closer.closes ≡ false) ⊎ (nearest_opener (run_of closer) (reverse (items_of source nodes)) [] ≡ None))
-    → passed (reverse (items_of source nodes)) (Delimiters (run_of closer)) ≡ passed (reverse (items_of source old)) (Delimiters (run_of run)) → Adds source old l bs more new bs2 (run_of run)
+    → passed (reverse (items_of source nodes)) (Delimiters (run_of closer)) ≡ passed (reverse (items_of source old)) (Delimiters (run_of run)) → Adds source old (openers l bs) more (openers new bs2) (run_of run)
 add-end source old nodes more l mid new bs bs1 bs2 place item closer run n e c s h f stop p = record {
   ready = subst (λ v. Ready v new bs2) (sym turned) r.0;
   paid = λ kinds known. omega (arith, r.1 kinds, s kinds known);

@@ -10,8 +10,8 @@ use Rattle.cm_inline.specs.steps.Depths.{items_depth}
 use Rattle.cm_inline.specs.steps.Entries.{Listed}
 use Rattle.cm_inline.specs.steps.Groups.{Held, Takes, nodes_in, waiting_in, ArePlaced}
 use Rattle.cm_inline.specs.steps.Nodes.{Node, Run, item_of, items_of, rest_in, AreParts}
-use Rattle.cm_inline.specs.steps.Openers.{zeros, spent, Ready}
-use Rattle.cm_inline.specs.steps.Pairs.{Adds, AreLooks, AreOf, Stays, allowed, allowance, items_emphases}
+use Rattle.cm_inline.specs.steps.Openers.{zeros, spent, Ready, openers}
+use Rattle.cm_inline.specs.steps.Pairs.{Adds, AreLooks, AreOf, MakesPairs, Stays, allowed, allowance, items_emphases}
 use Rattle.cm_inline.specs.steps.Runs.{run_of}
 use Rattle.cm_inline.proofs.DeeperLemmas.{pass-deeper}
 use Rattle.cm_inline.proofs.EmphasisLemmas.{both-hold}
@@ -110,7 +110,7 @@ run-pays from old mid run left looks list bottoms p =
 -- and the run is added
 
 pub passing-adds : (from : ℕ) (old mid new : Held) (run : DelimiterRun) (left : List Node) (looks : ℕ) (list more : Listed) (bottoms others : List ℕ) → Passing from old mid (Run run ∷ left) looks list bottoms
-    → ((source : List ℕ) → Adds source (drop from (nodes_in mid)) list bottoms (drop from (nodes_in new)) more others (run_of run)) → Stays from mid new → Passing from old new left looks more others
+    → ((source : List ℕ) → Adds source (drop from (nodes_in mid)) (openers list bottoms) (drop from (nodes_in new)) (openers more others) (run_of run)) → Stays from mid new → Passing from old new left looks more others
 unfolding pass_from
 passing-adds from old mid new run left looks list more bottoms others p adds stays = record {
   long = stays.long;
@@ -134,16 +134,23 @@ passing-deep from old mid run left looks list bottoms limit source p deep =
 
 -- nothing is left
 
-pub all-passed : (from : ℕ) (old new : Held) (looks : ℕ) (list : Listed) (bottoms : List ℕ) → Passing from old new [] looks list bottoms → (source : List ℕ) → items_of source (drop from (nodes_in new)) ≡ pair_all (items_of source (drop from (nodes_in old)))
+all-passed : (from : ℕ) (old new : Held) (looks : ℕ) (list : Listed) (bottoms : List ℕ) → Passing from old new [] looks list bottoms → (source : List ℕ) → items_of source (drop from (nodes_in new)) ≡ pair_all (items_of source (drop from (nodes_in old)))
 unfolding pass_from
 all-passed from old new looks list bottoms p source = sym (reverse-reverse (items_of source (drop from (nodes_in new)))) ∙ p.passes source ∙ sym (pairs_in_one_pass (items_of source (drop from (nodes_in old))))
 
-pub passed-stays : (from : ℕ) (old new : Held) (looks : ℕ) (list : Listed) (bottoms : List ℕ) → Passing from old new [] looks list bottoms → Stays from old new
+passed-stays : (from : ℕ) (old new : Held) (looks : ℕ) (list : Listed) (bottoms : List ℕ) → Passing from old new [] looks list bottoms → Stays from old new
 passed-stays from old new looks list bottoms p = record { front = p.front; long = p.long; parts = λ source parts. (p.parts source parts).0; placed = p.placed }
 
-pub passed-looks : (from : ℕ) (old new : Held) (looks : ℕ) (list : Listed) (bottoms : List ℕ) → Passing from old new [] looks list bottoms → (source : List ℕ)
+passed-looks : (from : ℕ) (old new : Held) (looks : ℕ) (list : Listed) (bottoms : List ℕ) → Passing from old new [] looks list bottoms → (source : List ℕ)
     → AreLooks looks (items_of source (drop from (nodes_in old))) list.looks (items_emphases (pair_all (items_of source (drop from (nodes_in old)))))
 passed-looks from old new looks list bottoms p source = record {
   paid = λ kinds are. omega (arith, p.paid source kinds are);
   made = omega (arith, p.made source, ap items_emphases (all-passed from old new looks list bottoms p source));
+}
+
+pub passed-makes : (from : ℕ) (old new : Held) (looks : ℕ) (list : Listed) (bottoms : List ℕ) → Passing from old new [] looks list bottoms → MakesPairs from old looks new list.looks
+passed-makes from old new looks list bottoms p = record {
+  pairs = all-passed from old new looks list bottoms p;
+  stays = passed-stays from old new looks list bottoms p;
+  looks = passed-looks from old new looks list bottoms p;
 }

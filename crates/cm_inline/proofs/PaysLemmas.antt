@@ -179,7 +179,7 @@ pays-few rules defined source nodes at looks p small =
 allowed-in : (kinds : ℕ) (source other : List ℕ) (node : Node) → allowed kinds (item_of source node) ≡ allowed kinds (item_of other node)
 allowed-in kinds source other (Piece from to) = refl
 allowed-in kinds source other (nodes.Characters chars) = refl
-allowed-in kinds source other (nodes.Whole written) = refl
+allowed-in kinds source other (nodes.Whole standalone) = refl
 allowed-in kinds source other (nodes.Finished inline depth false) = refl
 allowed-in kinds source other (nodes.Finished inline depth true) = refl
 allowed-in kinds source other (nodes.Run run) = refl

@@ -18,7 +18,7 @@ use Rattle.cm_scan.specs.Atoms.{Atom, Plain, Whole, Delimiter, OpenBracket, Clos
 use Rattle.cm_scan.specs.Brackets.{Defined, is_linked, holds_link, made}
 use Rattle.cm_tree.specs.Definitions.{Target}
 use Rattle.cm_inline.specs.declared.brackets.Bracket.{Bracket}
-use Rattle.cm_inline.specs.declared.ends.Ends.{Ends}
+use Rattle.cm_inline.specs.declared.missing_ends.MissingEnds.{MissingEnds}
 use Rattle.cm_inline.specs.declared.links.LinkEnd.{LinkEnd}
 use Rattle.cm_inline.specs.steps.Nodes.{Node, Piece, Characters, Finished, Run, Opener, item_of, items_of, nodes_depth, rest_in, text_between, IsPart, IsOpener, AreParts}
 use Rattle.cm_inline.specs.steps.Nodes as nodes
@@ -218,7 +218,7 @@ module _ (source : List ℕ) (nodes : List Node) (others : List Bracket) (b : Br
       ∙ brackets-append 0 w.front (opener ∷ w.inside)
       ∙ ap (λ n. brackets_from 0 w.front ++ brackets_from (suc n) w.inside) place ∙ ap (λ t. brackets_from 0 w.front ++ t) w.inner ∙ append-nil (brackets_from 0 w.front) ∙ w.outer
 
-pub text-read : (source : List ℕ) (nodes : List Node) (others : List Bracket) (b : Bracket) (at links_end : ℕ) (ends : Ends) → IsUtf8 source → Stands source at 93 → IsRead source at nodes (others ++ b ∷ []) links_end ends
+pub text-read : (source : List ℕ) (nodes : List Node) (others : List Bracket) (b : Bracket) (at links_end : ℕ) (ends : MissingEnds) → IsUtf8 source → Stands source at 93 → IsRead source at nodes (others ++ b ∷ []) links_end ends
     → IsRead source (at + 1) (with_text nodes b at) others links_end ends
 text-read source nodes others b at links_end ends utf8 s r =
     let w = split-last 0 nodes others b r.unclosed in
@@ -237,7 +237,7 @@ text-read source nodes others b at links_end ends utf8 s r =
 
 -- a link or an image
 
-pub link-read : (source : List ℕ) (nodes more : List Node) (others : List Bracket) (b : Bracket) (made : Node) (at links_end end : ℕ) (ends : Ends) → IsRead source at nodes (others ++ b ∷ []) links_end ends
+pub link-read : (source : List ℕ) (nodes more : List Node) (others : List Bracket) (b : Bracket) (made : Node) (at links_end end : ℕ) (ends : MissingEnds) → IsRead source at nodes (others ++ b ∷ []) links_end ends
     → more ≡ take b.node nodes ++ made ∷ [] → IsPart source made → bracket_in (length (take b.node nodes) + 0) made ≡ []
     → LinksEnd source (take b.node nodes ++ made ∷ []) end → IsRead source at more others end ends
 unfolding brackets_from
@@ -265,7 +265,7 @@ links-before source nodes others b links_end w links none =
     subst (λ t. LinksEnd source t links_end) (sym (outside-is source nodes others b w)) (links-cut source w.front (Opener b.image b.behind ∷ w.inside) links_end inner (subst (λ t. LinksEnd source t links_end) w.whole links))
 
 -- nothing is read yet
-pub nothing-read : (source : List ℕ) (nodes : List Node) (brackets : List Bracket) (ends : Ends) → length source < 2 ^ 32 → IsUtf8 source → nodes ≡ [] → brackets ≡ [] → Knows source ends → IsRead source 0 nodes brackets 0 ends
+pub nothing-read : (source : List ℕ) (nodes : List Node) (brackets : List Bracket) (ends : MissingEnds) → length source < 2 ^ 32 → IsUtf8 source → nodes ≡ [] → brackets ≡ [] → Knows source ends → IsRead source 0 nodes brackets 0 ends
 unfolding brackets_from holds_link
 nothing-read source nodes brackets ends short utf8 no-nodes no-brackets knows = record {
   short = short;
@@ -310,7 +310,7 @@ pub record IsLink (source : List ℕ) (nodes more : List Node) (b : Bracket) (de
   pub depth_is : depth ≡ inlines_depth (emphasis_of (inside_of source nodes b))
   pub holds_is : holds ≡ (not b.image || nat_lt b.node links_end)
 
-module _ (source : List ℕ) (nodes more : List Node) (others : List Bracket) (b : Bracket) (dest title : List ℕ) (inline : List ℕ → Inline) (depth : ℕ) (holds : Bool) (at links_end : ℕ) (ends : Ends)
+module _ (source : List ℕ) (nodes more : List Node) (others : List Bracket) (b : Bracket) (dest title : List ℕ) (inline : List ℕ → Inline) (depth : ℕ) (holds : Bool) (at links_end : ℕ) (ends : MissingEnds)
     (r : IsRead source at nodes (others ++ b ∷ []) links_end ends) (m : IsLink source nodes more b dest title inline depth holds links_end) where
   abbrev node : Node
   node = Finished inline (depth + 1) holds
@@ -372,7 +372,7 @@ inside-items source nodes b first place =
 allowed-alike : (kinds : ℕ) (source other : List ℕ) (node : Node) → allowed kinds (item_of source node) ≡ allowed kinds (item_of other node)
 allowed-alike kinds source other (Piece from to) = refl
 allowed-alike kinds source other (Characters chars) = refl
-allowed-alike kinds source other (nodes.Whole written) = refl
+allowed-alike kinds source other (nodes.Whole standalone) = refl
 allowed-alike kinds source other (Finished inline depth true) = refl
 allowed-alike kinds source other (Finished inline depth false) = refl
 allowed-alike kinds source other (Run run) = refl
@@ -427,7 +427,7 @@ text-keeps source nodes more others b looks later w is same =
     (keeps-text looks (outside_of source nodes b) (inside_of source nodes b) b.image (drop b.behind source) (bracket_text b.image) (93 ∷ []))))
 
 -- reading goes on at a later place
-pub read-further : (source : List ℕ) (nodes : List Node) (brackets : List Bracket) (at end links_end : ℕ) (ends : Ends) → at ≤ end → IsCharBoundary source end → IsRead source at nodes brackets links_end ends
+pub read-further : (source : List ℕ) (nodes : List Node) (brackets : List Bracket) (at end links_end : ℕ) (ends : MissingEnds) → at ≤ end → IsCharBoundary source end → IsRead source at nodes brackets links_end ends
     → IsRead source end nodes brackets links_end ends
 read-further source nodes brackets at end links_end ends low boundary r = record {
   short = r.short;
@@ -441,7 +441,7 @@ read-further source nodes brackets at end links_end ends low boundary r = record
 }
 
 -- a piece of text more
-pub piece-read : (source : List ℕ) (nodes : List Node) (brackets : List Bracket) (at end links_end : ℕ) (ends : Ends) → at ≤ end → IsCharBoundary source end → IsRead source at nodes brackets links_end ends
+pub piece-read : (source : List ℕ) (nodes : List Node) (brackets : List Bracket) (at end links_end : ℕ) (ends : MissingEnds) → at ≤ end → IsCharBoundary source end → IsRead source at nodes brackets links_end ends
     → IsRead source end (nodes ++ Piece at end ∷ []) brackets links_end ends
 unfolding brackets_from
 piece-read source nodes brackets at end links_end ends low boundary r = record {
@@ -455,7 +455,7 @@ piece-read source nodes brackets at end links_end ends low boundary r = record {
   boundary = boundary;
 }
 
-pub text-more : (source : List ℕ) (nodes : List Node) (brackets : List Bracket) (at end links_end : ℕ) (ends : Ends) → at ≤ end → IsCharBoundary source end → IsRead source at nodes brackets links_end ends
+pub text-more : (source : List ℕ) (nodes : List Node) (brackets : List Bracket) (at end links_end : ℕ) (ends : MissingEnds) → at ≤ end → IsCharBoundary source end → IsRead source at nodes brackets links_end ends
     → IsRead source end (nodes ++ text_between at end) brackets links_end ends
 text-more source nodes brackets at end links_end ends low boundary r = go (nat_lt at end)
   where
@@ -464,7 +464,7 @@ text-more source nodes brackets at end links_end ends low boundary r = go (nat_l
     go false = subst (λ t. IsRead source end t brackets links_end ends) (sym (append-nil nodes)) (read-further source nodes brackets at end links_end ends low boundary r)
 
 -- a `]` that closes nothing
-pub closer-read : (source : List ℕ) (nodes : List Node) (brackets : List Bracket) (at links_end : ℕ) (ends : Ends) → IsUtf8 source → Stands source at 93 → IsRead source at nodes brackets links_end ends
+pub closer-read : (source : List ℕ) (nodes : List Node) (brackets : List Bracket) (at links_end : ℕ) (ends : MissingEnds) → IsUtf8 source → Stands source at 93 → IsRead source at nodes brackets links_end ends
     → IsRead source (at + 1) (nodes ++ Piece at (at + 1) ∷ []) brackets links_end ends
 closer-read source nodes brackets at links_end ends utf8 s r =
     piece-read source nodes brackets at (at + 1) links_end ends (omega arith) (IsCharBoundary-after_ascii source at utf8 s.within (omega (arith, s.byte))) r
@@ -495,12 +495,12 @@ opener-ends (OpenBracket other) source image behind end low within e =
 bracket-before : (a : Atom) (source : List ℕ) (n : ℕ) (node : Node) (end : ℕ) → IsPart source node → end ≤ length source → item_for a (drop end source) ≡ Some (item_of source node) → AreBefore end (bracket_in n node)
 bracket-before a source n (Piece from to) end known within e = tt
 bracket-before a source n (Characters chars) end known within e = tt
-bracket-before a source n (nodes.Whole written) end known within e = tt
+bracket-before a source n (nodes.Whole standalone) end known within e = tt
 bracket-before a source n (Finished inline depth holds) end known within e = tt
 bracket-before a source n (Run run) end known within e = tt
 bracket-before a source n (Opener image behind) end known within e = (opener-ends a source image behind end known.end.0 within e, tt)
 
-pub atom-read : (rules : Rules) (source : List ℕ) (nodes : List Node) (brackets : List Bracket) (at : ℕ) (node : Node) (end links_end : ℕ) (ends later : Ends) → IsAtom rules source at node end → Knows source later
+pub atom-read : (rules : Rules) (source : List ℕ) (nodes : List Node) (brackets : List Bracket) (at : ℕ) (node : Node) (end links_end : ℕ) (ends later : MissingEnds) → IsAtom rules source at node end → Knows source later
     → IsRead source at nodes brackets links_end ends → IsRead source end (nodes ++ node ∷ []) (brackets ++ bracket_in (length nodes) node) links_end later
 unfolding brackets_from
 atom-read rules source nodes brackets at node end links_end ends later is knows r =
@@ -550,7 +550,7 @@ makes source nodes paired more b dest title kind target first depth holds links_
     }
 
 -- what a `]` closes, once it is known what follows it
-pub closes : (rules : Rules) (defined : Defined) (source : List ℕ) (nodes : List Node) (others : List Bracket) (b : Bracket) (links_end at : ℕ) (ends : Ends) (found : Option LinkEnd) → IsRead source at nodes (others ++ b ∷ []) links_end ends
+pub closes : (rules : Rules) (defined : Defined) (source : List ℕ) (nodes : List Node) (others : List Bracket) (b : Bracket) (links_end at : ℕ) (ends : MissingEnds) (found : Option LinkEnd) → IsRead source at nodes (others ++ b ∷ []) links_end ends
     → Stands source at 93 → ends_of source found ≡ end_for rules defined source b links_end at → closed_at rules defined source nodes at ≡ closed_or source nodes b (drop (at + 1) source) (ends_of source found)
 closes rules defined source nodes others b links_end at ends found r stands is =
     closes-opener rules defined source nodes others b links_end at (split-last 0 nodes others b r.unclosed) r.links (before-split at others (b ∷ []) r.before).1.0 stands.within
@@ -565,7 +565,7 @@ none-left old new n size is = let none = none-there old size in (none, is ∙ ap
     take-none (suc n) = refl
 
 -- the same, told of the same
-pub same-read : (source : List ℕ) (at : ℕ) (nodes more : List Node) (brackets later : List Bracket) (links_end links : ℕ) (ends known : Ends) → more ≡ nodes → later ≡ brackets → links ≡ links_end → known ≡ ends
+pub same-read : (source : List ℕ) (at : ℕ) (nodes more : List Node) (brackets later : List Bracket) (links_end links : ℕ) (ends known : MissingEnds) → more ≡ nodes → later ≡ brackets → links ≡ links_end → known ≡ ends
     → IsRead source at nodes brackets links_end ends → IsRead source at more later links known
 same-read source at nodes more brackets later links_end links ends known n b l k r =
     subst (λ t. IsRead source at t later links known) (sym n) (subst (λ t. IsRead source at nodes t links known) (sym b) (subst (λ t. IsRead source at nodes brackets t known) (sym l)

@@ -1,4 +1,5 @@
 pub mod Brackets
+pub mod Bytes
 pub mod Depths
 pub mod Entries
 pub mod Groups
@@ -8,7 +9,8 @@ pub mod Nodes
 pub mod Openers
 pub mod Pairs
 pub mod Reads
+pub mod Prelude
 pub mod Runs
 pub mod Searching
 pub mod Slots
-pub mod Written
+pub mod Standalone

@@ -1,30 +1,26 @@
 //! The atoms of a leaf's source: what begins at a place (CommonMark 0.31.2, chapter 6).
-ghost use Rattle.std.specs.Prelude.{◌≡◌, ◌≢◌, ◌==◌, ◌+◌, ◌<◌, ◌≤◌, ◌^◌, ◌&&◌, ◌||◌, not, [], false, length, drop, slice_index, nat_le, if◌then◌else◌, IfOk, OnOk, IfSome, IsUtf8};
-ghost use Rattle.std.specs.Str.{IsCharBoundary};
-ghost use Rattle.cm_inline.specs.declared.written.Written.TheVariants.{Soft, Hard};
-ghost use Rattle.cm_scan.specs.RawHtml.{raw_html};
-ghost use Rattle.cm_scan.specs.Scanned.{reading_of, whole_of};
-ghost use Rattle.cm_text.specs.Rules.{Rules};
-ghost use Rattle.cm_inline.specs.steps.Missing.{Knows};
+ghost use Rattle.std.specs.Prelude.{◌≡◌, ◌≢◌, ◌==◌, ◌+◌, ◌<◌, ◌≤◌, ◌^◌, ◌&&◌, ◌||◌, [], if◌then◌else◌, not};
+ghost use Rattle.std.specs.Prelude.{false, length, drop, slice_index, nat_le, IfOk, OnOk, IfSome, IsUtf8};
+ghost use Rattle.cm_inline.specs.steps.Prelude.{IsCharBoundary, raw_html, reading_of, whole_of, Rules, Knows};
+ghost use Rattle.cm_inline.specs.steps.Prelude.{Puts, Stands, IsTextTo, IsAtom, node_of, byte_of};
+ghost use Rattle.cm_inline.specs.steps.Prelude.{right_bracket, backtick, less_than, backslash, ampersand};
+ghost use Rattle.cm_inline.specs.steps.Prelude.{space, line_feed, exclamation_mark, tilde};
+ghost use Rattle.cm_inline.specs.declared.standalone.Standalone.TheVariants.{Soft, Hard};
 ghost use Rattle.cm_inline.specs.declared.tokens.Token.TheVariants.{Piece, Opener};
-ghost use Rattle.cm_inline.specs.steps.Brackets.{Puts};
-ghost use Rattle.cm_inline.specs.steps.Reads.{Stands, IsTextTo, IsAtom};
-ghost use Rattle.cm_inline.specs.steps.Groups.{node_of};
-ghost use Rattle.cm_inline.specs.steps.Runs.{byte_of};
 
 use crate::brackets::Reader;
 use crate::code::content_between;
-use crate::ends::{Ends, form_at};
 use crate::flanking::run_between;
+use crate::missing_ends::{MissingEnds, form_at};
 use crate::runs::Marker;
+use crate::standalone::Standalone;
 use crate::tokens::Token;
-use crate::written::Written;
 use cm_scan::{after_run, autolink_by, code_span, is_next, raw_html_by, trim_end_spaces};
 use cm_text::{Rules, is_ascii_punct, next_markup, reference_at};
 use std::alloc::{AllocError, Global};
 
-/// The place where the text ends that goes on from a place: that of the next byte with which something else can
-/// begin, or that of the spaces before a line feed.
+/// The place where the text ends that goes on from a place: that of the next byte with which something else
+/// can begin, or that of the spaces before a line feed.
 pub(crate) fn text_end(source: &str, at: usize) -> usize
     requires { IsCharBoundary source.now at }
     ensures { IsTextTo source.now at result }
@@ -49,7 +45,7 @@ pub(crate) fn read_atom(
     requires within { at < length source.now }
     requires boundary { IsCharBoundary source.now at }
     requires ascii { slice_index source.now at < 128 }
-    requires other { slice_index source.now at ≢ 93 }
+    requires other { slice_index source.now at ≢ right_bracket }
     requires knows { Knows source.now reader.old.ends }
     ensures { IfOk result (λ end. Puts rules source.now at end reader.old reader.new) }
 {
@@ -143,11 +139,12 @@ fn backticks(
     alloc: Global,
     source: &str,
     at: usize,
-    ends: &mut Ends,
+    ends: &mut MissingEnds,
 ) -> Result<(Token, usize), AllocError>
-    requires stands { Stands source.now at 96 }
+    requires stands { Stands source.now at backtick }
     requires knows { Knows source.now ends.old }
-    ensures atom { IfOk result (λ read. (rules : Rules) → IsAtom rules source.now at (node_of [] read.0) read.1) }
+    ensures atom { IfOk result (λ read.
+        (rules : Rules) → IsAtom rules source.now at (node_of [] read.0) read.1) }
     ensures knows { OnOk result (Knows source.now ends.new) }
 {
     let start = after_run(b'`', source, at);
@@ -157,7 +154,7 @@ fn backticks(
     match code_span(source, at) {
         Some((inside, end)) => {
             let (from, to) = content_between(source, start, start + inside.len());
-            let code = Written::Code {
+            let code = Standalone::Code {
                 from: from as u32,
                 to: to as u32,
             };
@@ -171,14 +168,14 @@ fn backticks(
 }
 
 /// An autolink, raw HTML, or `<` as text (6.5 Autolinks, 6.6 Raw HTML).
-fn angle(rules: Rules, source: &str, at: usize, ends: &mut Ends) -> (Token, usize)
-    requires stands { Stands source.now at 60 }
+fn angle(rules: Rules, source: &str, at: usize, ends: &mut MissingEnds) -> (Token, usize)
+    requires stands { Stands source.now at less_than }
     requires knows { Knows source.now ends.old }
     ensures atom { IsAtom rules source.now at (node_of [] result.0) result.1 }
     ensures knows { Knows source.now ends.new }
 {
     if let Some((link, end)) = autolink_by(rules, source, at) {
-        let link = Written::Autolink {
+        let link = Standalone::Autolink {
             from: (at + 1) as u32,
             to: (end - 1) as u32,
             is_address: link.is_address,
@@ -187,7 +184,7 @@ fn angle(rules: Rules, source: &str, at: usize, ends: &mut Ends) -> (Token, usiz
     }
     match raw_html(rules, source, at, ends) {
         Some((_, end)) => {
-            let html = Written::Html {
+            let html = Standalone::Html {
                 from: at as u32,
                 to: end as u32,
             };
@@ -202,11 +199,12 @@ fn raw_html<'a>(
     rules: Rules,
     source: &'a str,
     at: usize,
-    ends: &mut Ends,
+    ends: &mut MissingEnds,
 ) -> Option<(&'a str, usize)>
-    requires stands { Stands source.now at 60 }
+    requires stands { Stands source.now at less_than }
     requires knows { Knows source.now ends.old }
-    ensures read { reading_of source.now result ≡ whole_of (drop at source.now) (raw_html rules (drop at source.now)) }
+    ensures read { reading_of source.now result
+        ≡ whole_of (drop at source.now) (raw_html rules (drop at source.now)) }
     ensures utf8 { IfSome result (λ read. IsUtf8 read.0.now) }
     ensures boundary { IfSome result (λ read. IsCharBoundary source.now read.1) }
     ensures knows { Knows source.now ends.new }
@@ -227,13 +225,14 @@ fn raw_html<'a>(
     html
 }
 
-/// A hard line break, an escaped character, or a backslash as text (6.7 Hard line breaks, 2.4 Backslash escapes).
+/// A hard line break, an escaped character, or a backslash as text (6.7 Hard
+/// line breaks, 2.4 Backslash escapes).
 fn backslash(source: &str, at: usize) -> (Token, usize)
-    requires { Stands source.now at 92 }
+    requires { Stands source.now at backslash }
     ensures { (rules : Rules) → IsAtom rules source.now at (node_of [] result.0) result.1 }
 {
     if is_next(source.as_bytes(), at + 1, b'\n') {
-        return (Token::Whole(Written::Hard), at + 2);
+        return (Token::Whole(Standalone::Hard), at + 2);
     }
     if at + 1 < source.len() && is_ascii_punct(source.as_bytes()[at + 1] as char) {
         return text(at + 1, at + 2);
@@ -243,7 +242,7 @@ fn backslash(source: &str, at: usize) -> (Token, usize)
 
 /// A reference, or `&` as text (2.5 Entity and numeric character references).
 fn ampersand(source: &str, at: usize) -> (Token, usize)
-    requires { Stands source.now at 38 }
+    requires { Stands source.now at ampersand }
     ensures { (rules : Rules) → IsAtom rules source.now at (node_of [] result.0) result.1 }
 {
     match reference_at(source, at) {
@@ -254,7 +253,7 @@ fn ampersand(source: &str, at: usize) -> (Token, usize)
 
 /// A line feed with the spaces before it, or one space as text (6.7 Hard line breaks, 6.8 Soft line breaks).
 fn line_break(source: &str, at: usize) -> (Token, usize)
-    requires { Stands source.now at 32 }
+    requires { Stands source.now at space }
     ensures { (rules : Rules) → IsAtom rules source.now at (node_of [] result.0) result.1 }
 {
     let feed = after_run(b' ', source, at);
@@ -267,26 +266,26 @@ fn line_break(source: &str, at: usize) -> (Token, usize)
 /// A line feed with no space before it (6.8 Soft line breaks).
 #[inline(always)]
 fn line_feed(source: &str, at: usize) -> (Token, usize)
-    requires { Stands source.now at 10 }
+    requires { Stands source.now at line_feed }
     ensures { (rules : Rules) → IsAtom rules source.now at (node_of [] result.0) result.1 }
 {
-    (Token::Whole(Written::Soft), at + 1)
+    (Token::Whole(Standalone::Soft), at + 1)
 }
 
 /// The line break behind so many spaces.
-fn break_behind(spaces: usize) -> Written
+fn break_behind(spaces: usize) -> Standalone
     ensures { result ≡ (if nat_le 2 spaces then Hard else Soft) }
 {
     if spaces >= 2 {
-        Written::Hard
+        Standalone::Hard
     } else {
-        Written::Soft
+        Standalone::Soft
     }
 }
 
 /// `![`, or `!` as text (6.4 Images).
 fn exclamation_mark(source: &str, at: usize) -> (Token, usize)
-    requires { Stands source.now at 33 }
+    requires { Stands source.now at exclamation_mark }
     ensures { (rules : Rules) → IsAtom rules source.now at (node_of [] result.0) result.1 }
 {
     if is_next(source.as_bytes(), at + 1, b'[') {
@@ -295,9 +294,10 @@ fn exclamation_mark(source: &str, at: usize) -> (Token, usize)
     text(at, at + 1)
 }
 
-/// Whether so many of a marker are a delimiter run: tildes are one only if strikethrough is on and there are two.
+/// Whether so many of a marker are a delimiter run: tildes are one only if
+/// strikethrough is on and there are two.
 fn is_run(rules: Rules, marker: Marker, count: usize) -> bool
-    ensures { result ≡ (not (byte_of marker == 126) || rules.strike && count == 2) }
+    ensures { result ≡ (not (byte_of marker == tilde) || rules.strike && count == 2) }
 {
     marker.byte() != b'~' || rules.strike() && count == 2
 }

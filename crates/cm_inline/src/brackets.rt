@@ -1,23 +1,17 @@
 //! Links and images by their brackets (CommonMark 0.31.2, 6.3 Links, 6.4 Images).
-ghost use Rattle.std.specs.Prelude.{◌≡◌, ◌+◌, ◌<◌, ◌≤◌, ◌^◌, ◌++◌, List, [], ◌∷◌, drop, length, reverse, not, ◌||◌, nat_lt, IfOk, OnOk, IfSome, Err};
-ghost use Rattle.std.specs.Str.{IsCharBoundary};
-ghost use Rattle.cm_scan.specs.Brackets.{defined_in};
-ghost use Rattle.cm_scan.specs.Pairing.{bracket_text};
-ghost use Rattle.cm_inline.specs.declared.fault.InlineFault.TheVariants.{InlinesTooDeep};
-ghost use Rattle.cm_tree.specs.LinkTargets.{led_to};
-ghost use Rattle.cm_tree.specs.declared.tree.Inline.{Inline};
-ghost use Rattle.cm_inline.specs.steps.Groups.{made_of, target_of, node_of, nodes_in, IsNoGroup};
-ghost use Rattle.cm_inline.specs.steps.Nodes.{items_of, IsOpener};
-ghost use Rattle.cm_inline.specs.steps.Depths.{items_depth};
-ghost use Rattle.cm_inline.specs.steps.Pairs.{Keeps, allowance};
-ghost use Rattle.cm_inline.specs.steps.Reads.{Stands};
-ghost use Rattle.cm_inline.specs.steps.Links.{ends_of, found_target};
-ghost use Rattle.cm_inline.specs.steps.Brackets.{IsReadTo, IsReadWith, bracket_in, link_of, link_made, left_as_text, closed_at, end_for};
+ghost use Rattle.std.specs.Prelude.{◌≡◌, ◌+◌, ◌<◌, ◌≤◌, ◌^◌, ◌++◌, [], ◌∷◌, ◌||◌};
+ghost use Rattle.std.specs.Prelude.{List, drop, length, reverse, not, nat_lt, IfOk, OnOk, IfSome, Err};
+ghost use Rattle.cm_inline.specs.steps.Prelude.{IsCharBoundary, defined_in, bracket_text, InlinesTooDeep};
+ghost use Rattle.cm_inline.specs.steps.Prelude.{led_to, Inline, made_of, target_of, node_of, nodes_in};
+ghost use Rattle.cm_inline.specs.steps.Prelude.{IsNoGroup, items_in, IsOpener, items_depth, Keeps, AreFew};
+ghost use Rattle.cm_inline.specs.steps.Prelude.{Stands, ends_of, found_target, IsReadTo, IsReadWith};
+ghost use Rattle.cm_inline.specs.steps.Prelude.{bracket_in, link_of, link_made, left_as_text, closed_at};
+ghost use Rattle.cm_inline.specs.steps.Prelude.{end_for, right_bracket};
 
-use crate::ends::Ends;
 use crate::fault::InlineFault;
 use crate::groups::{Kind, Making};
 use crate::links::{FoundTarget, LinkEnd, link_end};
+use crate::missing_ends::MissingEnds;
 use crate::nodes::Nodes;
 use crate::openers::Openers;
 use crate::pairing::pair_from;
@@ -41,11 +35,11 @@ pub(crate) struct Reader {
     pub(crate) nodes: Nodes,
     /// The brackets among the nodes that nothing was made of yet.
     pub(crate) brackets: Vec<Bracket>,
-    /// How many nodes there are up to the last one that is a link or holds one. A `[` with such a node behind it
-    /// makes no link.
+    /// How many nodes there are up to the last one that is a link or holds
+    /// one. A `[` with such a node behind it makes no link.
     pub(crate) links_end: usize,
     pub(crate) openers: Openers,
-    pub(crate) ends: Ends,
+    pub(crate) ends: MissingEnds,
 }
 
 impl Reader {
@@ -56,7 +50,7 @@ impl Reader {
             brackets: Vec::new(alloc),
             links_end: 0,
             openers: Openers::new(alloc),
-            ends: Ends::of(""),
+            ends: MissingEnds::of(""),
         }
     }
 
@@ -71,18 +65,20 @@ impl Reader {
         self.brackets.clear();
         self.links_end = 0;
         self.openers.list.restart();
-        self.ends = Ends::of(source);
+        self.ends = MissingEnds::of(source);
     }
 
     /// Adds a token that was read.
     #[inline(always)]
     pub(crate) fn add(&mut self, token: Token) -> Result<(), AllocError>
         requires { IsNoGroup token }
-        ensures nodes { OnOk result (nodes_in self.new.nodes ≡ nodes_in self.old.nodes ++ node_of [] token ∷ []) }
+        ensures nodes { OnOk result (nodes_in self.new.nodes
+            ≡ nodes_in self.old.nodes ++ node_of [] token ∷ []) }
         ensures brackets { OnOk result (self.new.brackets.items
             ≡ self.old.brackets.items ++ bracket_in (length (nodes_in self.old.nodes)) (node_of [] token)) }
         ensures inside { self.new.nodes.inside ≡ self.old.nodes.inside }
-        ensures same { (self.new.links_end ≡ self.old.links_end) × (self.new.openers ≡ self.old.openers) × (self.new.ends ≡ self.old.ends) }
+        ensures same { (self.new.links_end ≡ self.old.links_end)
+            × (self.new.openers ≡ self.old.openers) × (self.new.ends ≡ self.old.ends) }
     {
         if let Token::Opener { image, behind } = token {
             let node = self.nodes.len();
@@ -105,23 +101,22 @@ impl Reader {
         limit: usize,
         at: usize,
     ) -> Result<usize, InlineFault>
-        requires stands { Stands source.now at 93 }
+        requires stands { Stands source.now at right_bracket }
         requires read { IsReadTo source.now at self.old }
-        requires few { self.old.openers.list.looks + allowance 13 (items_of source.now (nodes_in self.old.nodes)) < 2 ^ 127 }
+        requires few { AreFew self.old.openers.list.looks (items_in source.now self.old.nodes) }
         ensures read { IfOk result (λ end. IsReadTo source.now end self.new) }
         ensures further { IfOk result (λ end. at < end) }
         ensures keeps { IfOk result (λ end. Keeps self.old.openers.list.looks
-            (items_of source.now (nodes_in self.old.nodes)) self.new.openers.list.looks
-            (items_of source.now (nodes_in self.new.nodes))) }
-        ensures closed { IfOk result (λ end. closed_at rules (defined_in definitions.now) source.now
-            (nodes_in self.old.nodes) at ≡ record {
-              items = reverse (items_of source.now
-                  (nodes_in self.new.nodes));
+            (items_in source.now self.old.nodes) self.new.openers.list.looks
+            (items_in source.now self.new.nodes)) }
+        ensures closed { IfOk result (λ end.
+            closed_at rules (defined_in definitions.now) source.now (nodes_in self.old.nodes) at
+            ≡ record {
+              items = reverse (items_in source.now self.new.nodes);
               rest = drop end source.now;
             }) }
-        ensures deep { result ≡ Err InlinesTooDeep
-            → limit < items_depth (closed_at rules (defined_in definitions.now) source.now
-            (nodes_in self.old.nodes) at).items }
+        ensures deep { result ≡ Err InlinesTooDeep → limit < items_depth
+            (closed_at rules (defined_in definitions.now) source.now (nodes_in self.old.nodes) at).items }
     {
         let Some(bracket) = self.brackets.pop() else {
             self.nodes.push(Token::Piece {
@@ -169,7 +164,7 @@ impl Reader {
     ) -> Result<Option<LinkEnd<'a>>, NoMemory>
         requires opener { IsOpener source.now bracket.image bracket.behind }
         requires order { bracket.behind ≤ at }
-        requires stands { Stands source.now at 93 }
+        requires stands { Stands source.now at right_bracket }
         ensures ends { IfOk result (λ found. ends_of source.now found
             ≡ end_for rules (defined_in definitions.now) source.now bracket self.now.links_end at) }
         ensures place { IfOk result (λ found. IfSome found (λ e. (at < e.end) ×
@@ -191,14 +186,14 @@ impl Reader {
         end: &LinkEnd<'_>,
     ) -> Result<(), InlineFault>
         requires read { IsReadWith source.now end.now.end self.old bracket }
-        requires few { self.old.openers.list.looks + allowance 13 (items_of source.now (nodes_in self.old.nodes)) < 2 ^ 127 }
+        requires few { AreFew self.old.openers.list.looks (items_in source.now self.old.nodes) }
         ensures read { OnOk result (IsReadTo source.now end.now.end self.new) }
         ensures keeps { OnOk result (Keeps self.old.openers.list.looks
-            (items_of source.now (nodes_in self.old.nodes)) self.new.openers.list.looks
-            (items_of source.now (nodes_in self.new.nodes))) }
-        ensures items { OnOk result (items_of source.now (nodes_in self.new.nodes)
-            ≡ link_made source.now (nodes_in self.old.nodes) bracket (found_target end.now.target).0
-            (found_target end.now.target).1) }
+            (items_in source.now self.old.nodes) self.new.openers.list.looks
+            (items_in source.now self.new.nodes)) }
+        ensures items { OnOk result (items_in source.now self.new.nodes
+            ≡ link_made source.now (nodes_in self.old.nodes) bracket
+            (found_target end.now.target).0 (found_target end.now.target).1) }
         ensures deep { result ≡ Err InlinesTooDeep
             → limit < items_depth (link_made source.now (nodes_in self.old.nodes) bracket
             (found_target end.now.target).0 (found_target end.now.target).1) }
@@ -223,11 +218,11 @@ impl Reader {
 
     /// Leaves a bracket and the `]` at a place as text.
     fn leave_as_text(&mut self, source: &str, bracket: Bracket, at: usize) -> Result<(), AllocError>
-        requires stands { Stands source.now at 93 }
+        requires stands { Stands source.now at right_bracket }
         requires read { IsReadWith source.now at self.old bracket }
         ensures read { OnOk result (IsReadTo source.now (at + 1) self.new) }
         ensures same { self.new.openers ≡ self.old.openers }
-        ensures items { OnOk result (items_of source.now (nodes_in self.new.nodes)
+        ensures items { OnOk result (items_in source.now self.new.nodes
             ≡ left_as_text source.now (nodes_in self.old.nodes) bracket) }
     {
         self.nodes.put_text(

@@ -2,7 +2,8 @@
 ghost use Rattle.std.specs.Prelude.{◌≡◌, ◌==◌, ◌||◌, IfOk};
 ghost use Rattle.std.specs.List.{list_all, slice_range};
 ghost use Rattle.cm_scan.specs.CodeSpans.{one_line, stripped};
-ghost use Rattle.cm_inline.specs.steps.Written.{IsBetween};
+ghost use Rattle.cm_inline.specs.steps.Bytes.{line_feed, space};
+ghost use Rattle.cm_inline.specs.steps.Standalone.{IsBetween};
 
 use crate::spare::Spare;
 use cm_text::cut_at;
@@ -13,7 +14,7 @@ use std::alloc::AllocError;
 /// Whether a byte is a space, or a line feed, which becomes one.
 #[inline(always)]
 fn is_space(b: u8) -> bool
-    ensures { result ≡ (b == 32 || b == 10) }
+    ensures { result ≡ (b == space || b == line_feed) }
 {
     b == b' ' || b == b'\n'
 }
@@ -21,16 +22,17 @@ fn is_space(b: u8) -> bool
 /// Whether each byte is a space or a line feed.
 #[inline(always)]
 fn are_spaces(bytes: &[u8]) -> bool
-    ensures { result ≡ list_all (λ b. b == 32 || b == 10) bytes.now }
+    ensures { result ≡ list_all (λ b. b == space || b == line_feed) bytes.now }
 {
     bytes.iter().all(|b| is_space(*b))
 }
 
-/// The places between which the content of a code span stands, by those of its backtick strings: without a space
-/// at each end, where there are both and something else stands between them.
+/// The places between which the content of a code span stands, by those of its backtick strings: without a
+/// space at each end, where there are both and something else stands between them.
 pub(crate) fn content_between(source: &str, from: usize, to: usize) -> (usize, usize)
     requires { IsBetween source.now from to }
-    ensures stripped { one_line (slice_range source.now result.0 result.1) ≡ stripped (one_line (slice_range source.now from to)) }
+    ensures stripped { one_line (slice_range source.now result.0 result.1)
+        ≡ stripped (one_line (slice_range source.now from to)) }
     ensures between { IsBetween source.now result.0 result.1 }
 {
     let bytes = &source.as_bytes()[from..to];

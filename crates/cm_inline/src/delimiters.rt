@@ -1,6 +1,8 @@
 //! The list of delimiter runs: entries in a Vec, linked both ways by their numbers.
-ghost use Rattle.std.specs.Prelude.{◌≡◌, ℕ, ◌+◌, ◌<◌, ◌≤◌, ◌^◌, true, List, [], ◌∷◌, length, IfOk, OnOk, IfSome};
-ghost use Rattle.cm_inline.specs.steps.Entries.{first_place, from_place, after_place, without_place, leave, Entry, is_listed, Below};
+ghost use Rattle.std.specs.Prelude.{◌≡◌, ◌+◌, ◌<◌, ◌≤◌, ◌^◌, [], ◌∷◌};
+ghost use Rattle.std.specs.Prelude.{ℕ, true, List, length, IfOk, OnOk, IfSome};
+ghost use Rattle.cm_inline.specs.steps.Entries.{first_place, from_place, after_place, without_place};
+ghost use Rattle.cm_inline.specs.steps.Entries.{leave, Entry, is_listed, Below};
 ghost use Rattle.cm_inline.specs.steps.Runs.{run_of, entry_of};
 ghost use Rattle.cm_inline.specs.steps.Slots.{slot_at, with_after, with_before, unlisted, with_left};
 
@@ -60,7 +62,11 @@ impl Model for DelimiterList {
     ghost use Rattle.cm_inline.specs.steps.Slots.{listed_below, AreLinked};
     ghost use Rattle.std.specs.Prelude.{length};
 
-    ghost view = { λ d. record { entries = listed_below d.slots.items (length d.slots.items); looks = d.looks; next = length d.slots.items } };
+    ghost view = { λ d. record {
+      entries = listed_below d.slots.items (length d.slots.items);
+      looks = d.looks;
+      next = length d.slots.items;
+    } };
 
     ghost invariant = { λ d. AreLinked d.slots.items d.last };
 }
@@ -157,7 +163,8 @@ impl DelimiterList {
     pub(crate) fn look(&mut self, place: Place) -> Delimiter
         requires there { is_listed place self.old.entries ≡ true }
         requires few { self.old.looks < 2 ^ 127 }
-        ensures read { from_place place self.old.entries ≡ entry_of result ∷ after_place place self.old.entries }
+        ensures read { from_place place self.old.entries
+            ≡ entry_of result ∷ after_place place self.old.entries }
         ensures place { result.place ≡ place }
         ensures same { (self.new.entries ≡ self.old.entries) × (self.new.next ≡ self.old.next) }
         ensures count { self.new.looks ≡ self.old.looks + 1 }
@@ -173,9 +180,11 @@ impl DelimiterList {
 
     /// Puts a run at the end.
     pub(crate) fn push(&mut self, run: DelimiterRun, item: usize) -> Result<Place, AllocError>
-        ensures put { IfOk result (λ place. self.new.entries ≡ record { place = place; item = item; run = run_of run } ∷ self.old.entries) }
+        ensures put { IfOk result (λ place. self.new.entries
+            ≡ record { place = place; item = item; run = run_of run } ∷ self.old.entries) }
         ensures last { IfOk result (λ place. Below place self.old.entries) }
-        ensures number { IfOk result (λ place. (place ≡ self.old.next) × (self.new.next ≡ self.old.next + 1)) }
+        ensures number { IfOk result (λ place.
+            (place ≡ self.old.next) × (self.new.next ≡ self.old.next + 1)) }
         ensures same { self.new.looks ≡ self.old.looks }
     {
         let place = Place {

@@ -1,4 +1,5 @@
-//! Which delimiter runs may open and may close emphasis (CommonMark 0.31.2, 6.2 Emphasis and strong emphasis).
+//! Which delimiter runs may open and may close emphasis (CommonMark 0.31.2,
+//! 6.2 Emphasis and strong emphasis).
 ghost use Rattle.std.specs.Prelude.{◌≡◌, ℕ, ◌-◌, ◌<◌, ◌≤◌, ◌^◌, length, take, drop, reverse};
 ghost use Rattle.std.specs.Str.{IsCharBoundary};
 ghost use Rattle.cm_scan.specs.Delimiters.{neighbour, is_left_flanking, may_open};
@@ -68,7 +69,8 @@ pub(crate) fn run_between(
     requires short { end < 2 ^ 32 }
     requires start { IsCharBoundary source.now at }
     requires end { IsCharBoundary source.now end }
-    ensures { run_of result ≡ run_between rules (byte_of marker) (end - at) (reverse (take at source.now)) (drop end source.now) }
+    ensures { run_of result ≡ run_between rules (byte_of marker) (end - at)
+        (reverse (take at source.now)) (drop end source.now) }
 {
     let before = Neighbour::of(rules, last_character(&source[..at]));
     let after = Neighbour::of(rules, first_character(&source[end..]));

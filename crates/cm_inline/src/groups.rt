@@ -1,6 +1,7 @@
 //! The groups of a leaf: its emphasis, links and images. A group has the places of what stands in it, and
 //! where it leads.
-ghost use Rattle.std.specs.Prelude.{◌≡◌, ◌++◌, ◌<◌, ◌≤◌, [], ◌∷◌, length, take, string_bytes, IfOk, OnOk, OnErr};
+ghost use Rattle.std.specs.Prelude.{◌≡◌, ◌++◌, ◌<◌, ◌≤◌, [], ◌∷◌};
+ghost use Rattle.std.specs.Prelude.{length, take, string_bytes, IfOk, OnOk, OnErr};
 ghost use Rattle.cm_tree.specs.LinkTargets.{led_to, Keeps};
 ghost use Rattle.cm_tree.specs.TargetPlaces.{GoesOn};
 ghost use Rattle.cm_inline.specs.steps.Groups.{group_of, grouped, IsAt};

@@ -1,23 +1,20 @@
 //! The HTML of settled nodes, of which nothing more is made. It is written from the source, and no inline is
 //! made for it.
-ghost use Rattle.std.specs.Prelude.{◌≡◌, ◌++◌, List, [], length, IfOk, IfSome, OnOk};
-ghost use Rattle.std.specs.List.{slice_range};
-ghost use Rattle.std.specs.Str.{IsCharBoundary};
-ghost use Rattle.cm_tree.specs.LinkTargets.{led_to};
-ghost use Rattle.cm_html.specs.Escape.{escape};
-ghost use Rattle.cm_html.specs.Html.{code_span_html, image_html, inlines_html, rendered};
-ghost use Rattle.cm_scan.specs.CodeSpans.{one_line};
-ghost use Rattle.cm_scan.specs.Pairing.{settled};
-ghost use Rattle.cm_inline.specs.steps.Written.{autolink_html, written_html, IsBetween, IsWithin};
-ghost use Rattle.cm_inline.specs.steps.Nodes.{items_of, node_html, nodes_html, AreParts};
-ghost use Rattle.cm_inline.specs.steps.Groups.{Made, grouped, target_of, end_html, group_made, groups_made, node_of, nodes_of, nodes_in, start_html, AreBelow, AreGroups, ArePlaced, IsBelow, IsGroup, IsPlaced};
+ghost use Rattle.std.specs.Prelude.{◌≡◌, ◌++◌, List, [], IfOk, IfSome, OnOk};
+ghost use Rattle.cm_inline.specs.steps.Prelude.{slice_range, IsCharBoundary, led_to, escape, code_span_html};
+ghost use Rattle.cm_inline.specs.steps.Prelude.{image_html, inlines_html, rendered, one_line, settled};
+ghost use Rattle.cm_inline.specs.steps.Prelude.{autolink_html, standalone_html, IsBetween, IsWithin};
+ghost use Rattle.cm_inline.specs.steps.Prelude.{node_html, nodes_html, AreParts, Made, grouped, target_of};
+ghost use Rattle.cm_inline.specs.steps.Prelude.{end_html, node_of, nodes_in, start_html, ArePlaced, IsPlaced};
+ghost use Rattle.cm_inline.specs.steps.Prelude.{items_in, node_among, nodes_among, made_among, IsAmong};
+ghost use Rattle.cm_inline.specs.steps.Prelude.{AreAmong, IsGroupAmong};
 
 use crate::alternative_text::push_alternative_text;
 use crate::groups::{FirstGroups, Group, Kind, Making};
 use crate::html_texts::{push_one_line, push_text_of};
 use crate::nodes::Nodes;
+use crate::standalone::{Standalone, destination_of, part};
 use crate::tokens::Token;
-use crate::written::{Written, destination_of, part};
 use cm_html::{Pages, push_image_end, push_image_start, push_link_start};
 use cm_scan::is_next;
 use cm_tree::LinkTarget;
@@ -60,25 +57,25 @@ fn push_autolink(
 
 /// Adds the HTML of an inline that stands by itself in the source.
 #[inline(always)]
-fn push_written(
+fn push_standalone(
     alloc: Global,
     html: &mut Pages,
     source: &str,
-    written: Written,
+    standalone: Standalone,
 ) -> Result<(), AllocError>
-    requires { IsWithin source.now written }
-    ensures { OnOk result (html.new ≡ html.old ++ written_html source.now written) }
+    requires { IsWithin source.now standalone }
+    ensures { OnOk result (html.new ≡ html.old ++ standalone_html source.now standalone) }
 {
-    match written {
-        Written::Code { from, to } => push_code_span(html, part(source, from, to)),
-        Written::Html { from, to } => html.push_str(part(source, from, to)),
-        Written::Autolink {
+    match standalone {
+        Standalone::Code { from, to } => push_code_span(html, part(source, from, to)),
+        Standalone::Html { from, to } => html.push_str(part(source, from, to)),
+        Standalone::Autolink {
             from,
             to,
             is_address,
         } => push_autolink(alloc, html, is_address, part(source, from, to)),
-        Written::Soft => html.push_str("\n"),
-        Written::Hard => html.push_str("<br />\n"),
+        Standalone::Soft => html.push_str("\n"),
+        Standalone::Hard => html.push_str("<br />\n"),
     }
 }
 
@@ -93,14 +90,12 @@ fn push_token(
     groups: &FirstGroups<'_>,
     token: Token,
 ) -> Result<(), AllocError>
-    requires placed { ArePlaced source.now inside.now }
-    requires groups { AreGroups inside.now 0 groups.now }
-    requires below { IsBelow (length groups.now) token }
-    requires token { IsPlaced source.now token }
-    ensures { OnOk result (html.new ≡ html.old ++ node_html source.now (node_of (groups_made inside.now groups.now) token)) }
+    requires { IsAmong source.now inside.now groups.now token }
+    ensures { OnOk result (html.new
+        ≡ html.old ++ node_html source.now (node_among inside.now groups.now token)) }
 {
     match token {
-        Token::Whole(written) => push_written(alloc, html, source, written),
+        Token::Whole(standalone) => push_standalone(alloc, html, source, standalone),
         Token::Made { number, .. } => push_group(
             alloc,
             html,
@@ -123,7 +118,7 @@ fn text_ahead(source: &str, at: usize, token: Token) -> Option<usize>
 {
     match token {
         Token::Piece { from, to } => (from as usize == at).then_some(to as usize),
-        Token::Whole(Written::Soft) => {
+        Token::Whole(Standalone::Soft) => {
             if is_next(source.as_bytes(), at, b'\n') {
                 Some(at + 1)
             } else {
@@ -154,7 +149,8 @@ fn push_text(html: &mut Pages, source: &str, from: usize, to: usize) -> Result<(
     html.push_escaped(&source[from..to])
 }
 
-/// Adds the HTML of a token. That of a piece of the source waits; its places are answered, or those of no text.
+/// Adds the HTML of a token. That of a piece of the source waits; its places
+/// are answered, or those of no text.
 #[cycle(html)]
 fn push_apart(
     alloc: Global,
@@ -164,13 +160,10 @@ fn push_apart(
     groups: &FirstGroups<'_>,
     token: Token,
 ) -> Result<(usize, usize), AllocError>
-    requires placed { ArePlaced source.now inside.now }
-    requires groups { AreGroups inside.now 0 groups.now }
-    requires below { IsBelow (length groups.now) token }
-    requires token { IsPlaced source.now token }
+    requires { IsAmong source.now inside.now groups.now token }
     ensures between { IfOk result (λ waits. IsBetween source.now waits.0 waits.1) }
     ensures html { IfOk result (λ waits. html.new ++ escape (slice_range source.now waits.0 waits.1)
-        ≡ html.old ++ node_html source.now (node_of (groups_made inside.now groups.now) token)) }
+        ≡ html.old ++ node_html source.now (node_among inside.now groups.now token)) }
 {
     if let Token::Piece { from, to } = token {
         return Ok((from as usize, to as usize));
@@ -189,11 +182,9 @@ fn push_tokens(
     groups: &FirstGroups<'_>,
     tokens: &[Token],
 ) -> Result<(), AllocError>
-    requires placed { ArePlaced source.now inside.now }
-    requires groups { AreGroups inside.now 0 groups.now }
-    requires below { AreBelow (length groups.now) tokens.now }
-    requires tokens { ArePlaced source.now tokens.now }
-    ensures { OnOk result (html.new ≡ html.old ++ nodes_html source.now (nodes_of (groups_made inside.now groups.now) tokens.now)) }
+    requires { AreAmong source.now inside.now groups.now tokens.now }
+    ensures { OnOk result (html.new
+        ≡ html.old ++ nodes_html source.now (nodes_among inside.now groups.now tokens.now)) }
 {
     let (mut from, mut to) = no_text(source);
     for token in tokens {
@@ -244,13 +235,10 @@ fn push_image(
     groups: &FirstGroups<'_>,
     group: Group<'_>,
 ) -> Result<(), AllocError>
-    requires placed { ArePlaced source.now inside.now }
-    requires groups { AreGroups inside.now 0 groups.now }
-    requires group { IsGroup inside.now (length groups.now) (grouped group) }
+    requires { IsGroupAmong source.now inside.now groups.now (grouped group) }
     ensures { OnOk result (html.new
         ≡ html.old ++ image_html (target_of group.entry.making).0 (target_of group.entry.making).1
-        (rendered (group_made inside.now (groups_made inside.now groups.now)
-        (grouped group.entry) source.now)).plain) }
+        (rendered (made_among inside.now groups.now (grouped group.entry) source.now)).plain) }
 {
     let target = group.making.target;
     push_image_start(html, target)?;
@@ -269,11 +257,9 @@ fn push_content(
     groups: &FirstGroups<'_>,
     tokens: &[Token],
 ) -> Result<(), AllocError>
-    requires placed { ArePlaced source.now inside.now }
-    requires groups { AreGroups inside.now 0 groups.now }
-    requires below { AreBelow (length groups.now) tokens.now }
-    requires tokens { ArePlaced source.now tokens.now }
-    ensures { OnOk result (html.new ≡ html.old ++ nodes_html source.now (nodes_of (groups_made inside.now groups.now) tokens.now)) }
+    requires { AreAmong source.now inside.now groups.now tokens.now }
+    ensures { OnOk result (html.new
+        ≡ html.old ++ nodes_html source.now (nodes_among inside.now groups.now tokens.now)) }
 {
     if tokens.len() == 1 {
         if let Token::Piece { from, to } = tokens[0] {
@@ -293,11 +279,9 @@ fn push_group(
     groups: &FirstGroups<'_>,
     group: Group<'_>,
 ) -> Result<(), AllocError>
-    requires placed { ArePlaced source.now inside.now }
-    requires groups { AreGroups inside.now 0 groups.now }
-    requires group { IsGroup inside.now (length groups.now) (grouped group) }
-    ensures { OnOk result (html.new ≡ html.old ++ (rendered (group_made inside.now
-        (groups_made inside.now groups.now) (grouped group.entry) source.now)).html) }
+    requires { IsGroupAmong source.now inside.now groups.now (grouped group) }
+    ensures { OnOk result (html.new
+        ≡ html.old ++ (rendered (made_among inside.now groups.now (grouped group.entry) source.now)).html) }
 {
     if let Kind::Image = group.making.kind {
         return push_image(html, source, inside, groups, group);
@@ -317,7 +301,7 @@ pub(crate) fn push_nodes(
 ) -> Result<(), AllocError>
     requires parts { AreParts source.now (nodes_in nodes.now) }
     requires placed { ArePlaced source.now nodes.now.inside }
-    ensures { OnOk result (html.new ≡ html.old ++ inlines_html (settled (items_of source.now (nodes_in nodes.now)))) }
+    ensures { OnOk result (html.new ≡ html.old ++ inlines_html (settled (items_in source.now nodes.now))) }
 {
     push_tokens(
         alloc,

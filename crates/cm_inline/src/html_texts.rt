@@ -8,8 +8,8 @@ ghost use Rattle.cm_inline.specs.steps.Nodes.{text_in};
 ghost use Rattle.cm_inline.specs.steps.Runs.{byte_of};
 
 use crate::runs::DelimiterRun;
+use crate::standalone::part;
 use crate::tokens::{Token, opener_text};
-use crate::written::part;
 use cm_html::Pages;
 use cm_text::{Chars, cut_at};
 use memchr::memchr;

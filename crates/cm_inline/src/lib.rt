@@ -1,7 +1,7 @@
 //! The inlines of a leaf (CommonMark 0.31.2, chapter 6).
 //!
-//! Begin with [`inlines`], or [`inlines_by`] for other rules. [`InlineReader::inlines`] reads one leaf after another in the same
-//! memory. The rest is what the crates above use.
+//! Begin with [`inlines`], or [`inlines_by`] for other rules. [`InlineReader::inlines`] reads one leaf after
+//! another in the same memory. The rest is what the crates above use.
 //!
 //! ```
 //! use cm_inline::{InlineFault, inlines};
@@ -23,24 +23,24 @@ mod atoms;
 mod brackets;
 mod code;
 mod delimiters;
-mod ends;
 mod fault;
 mod flanking;
 mod groups;
 mod html;
 mod html_texts;
+mod inlines_of_nodes;
 pub mod laws;
 mod links;
+mod missing_ends;
 mod nearest;
 mod nodes;
 mod openers;
 mod pairing;
 mod reading;
 mod runs;
-mod settling;
 mod spare;
+mod standalone;
 mod tokens;
-mod written;
 
 pub use fault::InlineFault;
 pub use reading::{InlineReader, Steps, inlines, inlines_by, is_one_text};

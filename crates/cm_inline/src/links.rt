@@ -1,11 +1,11 @@
 //! Where links and images lead, and where they end (CommonMark 0.31.2, 6.3 Links).
-ghost use Rattle.std.specs.Prelude.{◌≡◌, ◌+◌, ◌-◌, ◌<◌, ◌≤◌, ℕ, List, length, drop, slice_index, IfOk, IfSome};
+ghost use Rattle.std.specs.Prelude.{◌≡◌, ◌+◌, ◌-◌, ◌<◌, ◌≤◌, ℕ, List, length, drop, IfOk, IfSome};
 ghost use Rattle.std.specs.List.{slice_range};
 ghost use Rattle.std.specs.Str.{IsCharBoundary};
-ghost use Rattle.cm_scan.specs.Brackets.{closed, after_destination, inline_end, Defined, defined_in, target_of, target_between, reference_end, end_if_followed, end_at};
+ghost use Rattle.cm_scan.specs.Brackets.{closed, after_destination, inline_end, Defined, defined_in};
+ghost use Rattle.cm_scan.specs.Brackets.{target_of, target_between, reference_end, end_if_followed, end_at};
 ghost use Rattle.cm_text.specs.Addresses.{is_followed};
-ghost use Rattle.cm_inline.specs.steps.Reads.{Stands};
-ghost use Rattle.cm_inline.specs.steps.Links.{ends_of, leads_to, target_by, behind_brackets};
+ghost use Rattle.cm_inline.specs.steps.Links.{ends_of, leads_to, target_by, behind_brackets, AreBrackets};
 
 use cm_scan::{after_gap, destination, is_blank_next, is_next, label, title};
 use cm_text::{NoMemory, Rules, is_followed, unescape_or_lend};
@@ -30,8 +30,8 @@ pub(crate) struct LinkEnd<'a> {
     pub(crate) end: usize,
 }
 
-/// What follows the `]` at a place, whose opener ends at `behind`: where a link or an image leads. An inline link's end
-/// goes before a reference (6.3 Links). Neither is one where the rules don't follow its address.
+/// What follows the `]` at a place, whose opener ends at `behind`: where a link or an image leads. An inline
+/// link's end goes before a reference (6.3 Links). Neither is one where the rules don't follow its address.
 pub(crate) fn link_end<'a>(
     alloc: Global,
     rules: Rules,
@@ -40,11 +40,10 @@ pub(crate) fn link_end<'a>(
     behind: usize,
     at: usize,
 ) -> Result<Option<LinkEnd<'a>>, NoMemory>
-    requires bracket { (0 < behind) × (slice_index source.now (behind - 1) ≡ 91) }
-    requires order { behind ≤ at }
-    requires stands { Stands source.now at 93 }
+    requires { AreBrackets source.now behind at }
     ensures ends { IfOk result (λ found. ends_of source.now found
-        ≡ end_at rules (defined_in definitions.now) (slice_range source.now behind at) (drop (at + 1) source.now)) }
+        ≡ end_at rules (defined_in definitions.now)
+        (slice_range source.now behind at) (drop (at + 1) source.now)) }
     ensures place { IfOk result (λ found. IfSome found (λ e. (at < e.end) ×
         (e.end ≤ length source.now) × IsCharBoundary source.now e.end)) }
 {
@@ -62,8 +61,8 @@ fn leads_on(rules: Rules, dest: &str) -> bool
     rules.any_address() || is_followed(rules, dest)
 }
 
-/// The end of an inline link to an address that the rules follow: `(`, a destination and a title or not, and `)`, with
-/// gaps between.
+/// The end of an inline link to an address that the rules follow: `(`, a
+/// destination and a title or not, and `)`, with gaps between.
 fn inline_end<'a>(
     alloc: Global,
     rules: Rules,
@@ -71,7 +70,8 @@ fn inline_end<'a>(
     at: usize,
 ) -> Result<Option<LinkEnd<'a>>, NoMemory>
     requires { IsCharBoundary source.now at }
-    ensures ends { IfOk result (λ found. ends_of source.now found ≡ end_if_followed rules (inline_end (drop at source.now))) }
+    ensures ends { IfOk result (λ found. ends_of source.now found
+        ≡ end_if_followed rules (inline_end (drop at source.now))) }
     ensures boundary { IfOk result (λ found. IfSome found (λ e. IsCharBoundary source.now e.end)) }
 {
     if !is_next(source.as_bytes(), at, b'(') {
@@ -136,8 +136,8 @@ fn closed<'a>(
     }))
 }
 
-/// The end of a reference: a full one, a collapsed one or a shortcut. Where a label follows that isn't defined, or that
-/// leads to an address which the rules don't follow, there is none.
+/// The end of a reference: a full one, a collapsed one or a shortcut. Where a label follows that isn't
+/// defined, or that leads to an address which the rules don't follow, there is none.
 fn reference_end<'a>(
     alloc: Global,
     rules: Rules,
@@ -146,11 +146,10 @@ fn reference_end<'a>(
     behind: usize,
     at: usize,
 ) -> Result<Option<LinkEnd<'a>>, NoMemory>
-    requires bracket { (0 < behind) × (slice_index source.now (behind - 1) ≡ 91) }
-    requires order { behind ≤ at }
-    requires stands { Stands source.now at 93 }
+    requires { AreBrackets source.now behind at }
     ensures ends { IfOk result (λ found. ends_of source.now found
-        ≡ end_if_followed rules (reference_end (defined_in definitions.now) (slice_range source.now behind at) (drop (at + 1) source.now))) }
+        ≡ end_if_followed rules (reference_end (defined_in definitions.now)
+        (slice_range source.now behind at) (drop (at + 1) source.now))) }
     ensures boundary { IfOk result (λ found. IfSome found (λ e. IsCharBoundary source.now e.end)) }
 {
     if let Some((full, end)) = label(source, at + 1) {
@@ -168,8 +167,8 @@ fn reference_end<'a>(
     }
 }
 
-/// Where a reference by a label leads that ends at a place, if the label is defined and the rules follow its address,
-/// which the table knows.
+/// Where a reference by a label leads that ends at a place, if the label is defined and the rules follow its
+/// address, which the table knows.
 #[inline(always)]
 fn reference<'a>(
     alloc: Global,
@@ -178,8 +177,9 @@ fn reference<'a>(
     label: &str,
     end: usize,
 ) -> Result<Option<LinkEnd<'a>>, NoMemory>
-    ensures ends { IfOk result (λ found. (source : List ℕ) →
-        ends_of source found ≡ end_if_followed rules (leads_to (target_of (defined_in definitions.now) label.now) (drop end source))) }
+    ensures ends { IfOk result (λ found. (source : List ℕ) → ends_of source found
+        ≡ end_if_followed rules
+        (leads_to (target_of (defined_in definitions.now) label.now) (drop end source))) }
     ensures end { IfOk result (λ found. IfSome found (λ e. e.end ≡ end)) }
 {
     let Some(target) = definitions.target_by(rules, label)? else {
@@ -193,10 +193,9 @@ fn reference<'a>(
 
 /// The source between the brackets, if it is a link label.
 fn label_between(source: &str, behind: usize, at: usize) -> Option<&str>
-    requires bracket { (0 < behind) × (slice_index source.now (behind - 1) ≡ 91) }
-    requires order { behind ≤ at }
-    requires stands { Stands source.now at 93 }
-    ensures { (defined : Defined) → target_by defined result ≡ target_between defined (slice_range source.now behind at) }
+    requires { AreBrackets source.now behind at }
+    ensures { (defined : Defined) → target_by defined result
+        ≡ target_between defined (slice_range source.now behind at) }
 {
     let (between, end) = label(source, behind - 1)?;
     if end != at + 1 {

@@ -25,8 +25,10 @@ pub(crate) fn nearest(
     requires there { is_listed closer list.old.entries ≡ true }
     requires ordered { Falling list.old.entries }
     requires few { list.old.looks + length list.old.entries < 2 ^ 127 }
-    ensures found { MayBeEntry result (find_opener (run_of run) bottom (after_place closer list.old.entries)) }
-    ensures count { list.new.looks ≡ list.old.looks + looks_for (run_of run) bottom (after_place closer list.old.entries) }
+    ensures found { MayBeEntry result
+        (find_opener (run_of run) bottom (after_place closer list.old.entries)) }
+    ensures count { list.new.looks
+        ≡ list.old.looks + looks_for (run_of run) bottom (after_place closer list.old.entries) }
     ensures same { (list.new.entries ≡ list.old.entries) × (list.new.next ≡ list.old.next) }
 {
     let mut at = list.before(closer);

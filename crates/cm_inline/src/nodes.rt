@@ -1,7 +1,9 @@
 //! The nodes of a leaf: tokens, and groups of them, which are emphasis, links and images.
-ghost use Rattle.std.specs.Prelude.{◌≡◌, ◌++◌, ◌<◌, ◌≤◌, ◌^◌, [], ◌∷◌, suc, nat_lt, length, take, drop, set, IfOk, OnOk};
+ghost use Rattle.std.specs.Prelude.{◌≡◌, ◌++◌, ◌<◌, ◌≤◌, ◌^◌, [], ◌∷◌};
+ghost use Rattle.std.specs.Prelude.{suc, nat_lt, length, take, drop, set, IfOk, OnOk};
 ghost use Rattle.std.specs.List.{list_any};
-ghost use Rattle.cm_inline.specs.steps.Groups.{nodes_in, waiting_in, node_of, made_by, target_of, AreBelow, AreGroups, IsNoGroup, Takes};
+ghost use Rattle.cm_inline.specs.steps.Groups.{nodes_in, waiting_in, node_of, made_by, target_of};
+ghost use Rattle.cm_inline.specs.steps.Groups.{AreBelow, AreGroups, IsNoGroup, Takes};
 ghost use Rattle.cm_inline.specs.steps.Nodes.{Piece, Finished, is_closer, nodes_depth, rest_in};
 
 use crate::groups::{FirstGroups, Groups, Making};
@@ -10,8 +12,8 @@ use crate::tokens::{Token, depth_of_all, has_closer};
 use std::alloc::{AllocError, Global};
 use std::marker::Model;
 
-/// The nodes of a leaf. Each group holds tokens that were moved behind those of the groups before it, so nothing is made twice and
-/// no node owns memory.
+/// The nodes of a leaf. Each group holds tokens that were moved behind those of the groups before it, so
+/// nothing is made twice and no node owns memory.
 #[derive(Drop)]
 pub(crate) struct Nodes {
     /// The tokens up to those that wait to be paired.
@@ -31,9 +33,19 @@ impl Model for Nodes {
 
     ghost Value = { Held };
 
-    ghost view = { λ n. record { before = n.before.items; rest = drop n.passed n.rest.items; inside = n.inside.items; groups = n.groups } };
+    ghost view = { λ n. record {
+      before = n.before.items;
+      rest = drop n.passed n.rest.items;
+      inside = n.inside.items;
+      groups = n.groups;
+    } };
 
-    ghost invariant = { λ n. AreHeld (record { before = n.before.items; rest = drop n.passed n.rest.items; inside = n.inside.items; groups = n.groups }) };
+    ghost invariant = { λ n. AreHeld (record {
+      before = n.before.items;
+      rest = drop n.passed n.rest.items;
+      inside = n.inside.items;
+      groups = n.groups;
+    }) };
 }
 
 impl Nodes {
@@ -193,7 +205,8 @@ impl Nodes {
             ++ Finished (made_by making.entry.kind (target_of making.entry)
             (drop (suc opener) (nodes_in self.old))) depth holds_link ∷ [])) }
         ensures waiting { OnOk result (waiting_in self.new ≡ waiting_in self.old) }
-        ensures inside { OnOk result (self.new.inside ≡ self.old.inside ++ drop (suc opener) self.old.before) }
+        ensures inside { OnOk result (self.new.inside
+            ≡ self.old.inside ++ drop (suc opener) self.old.before) }
     {
         let made = Token::made(self.groups.len(), depth, holds_link)?;
         let from = self.inside.len();

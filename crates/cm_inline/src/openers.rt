@@ -1,10 +1,12 @@
 //! The delimiter runs that may open. Each kind of closer has a bottom: below it no run opens for such a
 //! closer.
-ghost use Rattle.std.specs.Prelude.{◌≡◌, ℕ, ◌+◌, ◌<◌, ◌^◌, true, [], length, Some, get_or, set, Option, IfOk, IfSome, MatchOption};
+ghost use Rattle.std.specs.Prelude.{◌≡◌, ◌+◌, ◌<◌, ◌^◌, []};
+ghost use Rattle.std.specs.Prelude.{ℕ, true, length, Some, get_or, set, Option, IfOk, IfSome, MatchOption};
 ghost use Rattle.cm_inline.specs.steps.Entries.{after_place, first_place, between_gone, is_listed, Falling};
 ghost use Rattle.cm_inline.specs.steps.Searching.{find_opener, looks_for, kind, bottoms_after};
 ghost use Rattle.cm_inline.specs.steps.Runs.{run_of, entry_of, rest_of, MayBeEntry};
-ghost use Rattle.cm_inline.specs.steps.Openers.{spent, IsClosing, BringsCloser, FindsNone, Opens, Spends, Finishes, Drops, cut, zeros};
+ghost use Rattle.cm_inline.specs.steps.Openers.{spent, IsClosing, BringsCloser, FindsNone, Opens};
+ghost use Rattle.cm_inline.specs.steps.Openers.{Spends, Finishes, Drops, zeros, IsRestOf};
 
 use crate::delimiters::{Delimiter, DelimiterList, Place};
 use crate::nearest::nearest;
@@ -46,7 +48,7 @@ pub(crate) fn begin(
     run: DelimiterRun,
     item: usize,
 ) -> Result<Place, AllocError>
-    ensures { IfOk result (λ place. BringsCloser openers.old.list openers.old.bottoms openers.new.list openers.new.bottoms place (run_of run)) }
+    ensures { IfOk result (λ place. BringsCloser openers.old openers.new place (run_of run)) }
 {
     let place = openers.list.push(run, item)?;
     Ok(place)
@@ -61,7 +63,8 @@ pub(crate) fn take_opener(
     requires closes { run.closes ≡ true }
     requires closing { IsClosing openers.old.list openers.old.bottoms closer (run_of run) }
     requires few { spent 13 openers.old.list openers.old.bottoms < 2 ^ 127 }
-    ensures { MatchOption result (FindsNone openers.old.list openers.old.bottoms openers.new.list openers.new.bottoms closer (run_of run)) (λ d. Opens openers.old.list openers.old.bottoms openers.new.list openers.new.bottoms closer (run_of run) (entry_of d)) }
+    ensures { MatchOption result (FindsNone openers.old openers.new closer (run_of run))
+        (λ opener. Opens openers.old openers.new closer (run_of run) (entry_of opener)) }
 {
     let Some(opener) = find(openers, closer, run) else {
         return None
@@ -73,8 +76,8 @@ pub(crate) fn take_opener(
 /// Writes down what a pair leaves of its opener, or takes it out.
 pub(crate) fn spend(openers: &mut Openers, opener: Delimiter, rest: Option<DelimiterRun>)
     requires there { is_listed opener.place openers.old.list.entries ≡ true }
-    requires fewer { IfSome rest (λ r. (run_of r ≡ cut r.left (run_of opener.run)) × (r.left < opener.run.left)) }
-    ensures { Spends openers.old.list openers.old.bottoms openers.new.list openers.new.bottoms (entry_of opener) (rest_of rest) }
+    requires fewer { IfSome rest (λ left. IsRestOf left opener.run) }
+    ensures { Spends openers.old openers.new (entry_of opener) (rest_of rest) }
 {
     match rest {
         Some(run) => openers.list.set(opener.place, opener.item, run.left),
@@ -85,7 +88,7 @@ pub(crate) fn spend(openers: &mut Openers, opener: Delimiter, rest: Option<Delim
 /// Puts the closer among the openers, or takes it out.
 pub(crate) fn finish(openers: &mut Openers, closer: Place, run: DelimiterRun, item: usize)
     requires there { is_listed closer openers.old.list.entries ≡ true }
-    ensures { Finishes openers.old.list openers.old.bottoms openers.new.list openers.new.bottoms closer (run_of run) item }
+    ensures { Finishes openers.old openers.new closer (run_of run) item }
 {
     if run.opens {
         openers.list.set(closer, item, run.left);
@@ -97,7 +100,7 @@ pub(crate) fn finish(openers: &mut Openers, closer: Place, run: DelimiterRun, it
 /// Takes out a closer of which nothing is left.
 pub(crate) fn drop_closer(openers: &mut Openers, closer: Place)
     requires there { is_listed closer openers.old.list.entries ≡ true }
-    ensures { Drops openers.old.list openers.old.bottoms openers.new.list openers.new.bottoms closer }
+    ensures { Drops openers.old openers.new closer }
 {
     openers.list.remove(closer);
 }
@@ -129,8 +132,10 @@ pub(crate) fn find(openers: &mut Openers, closer: Place, run: DelimiterRun) -> O
         (kind (run_of run)) 0) (after_place closer openers.old.list.entries)) }
     ensures count { openers.new.list.looks ≡ openers.old.list.looks + looks_for (run_of run)
         (get_or openers.old.bottoms (kind (run_of run)) 0) (after_place closer openers.old.list.entries) }
-    ensures bottoms { openers.new.bottoms ≡ bottoms_after result (kind (run_of run)) closer openers.old.bottoms }
-    ensures same { (openers.new.list.entries ≡ openers.old.list.entries) × (openers.new.list.next ≡ openers.old.list.next) }
+    ensures bottoms { openers.new.bottoms
+        ≡ bottoms_after result (kind (run_of run)) closer openers.old.bottoms }
+    ensures same { (openers.new.list.entries ≡ openers.old.list.entries)
+        × (openers.new.list.next ≡ openers.old.list.next) }
 {
     let number = kind(run);
     let bottom = openers.bottoms[number];

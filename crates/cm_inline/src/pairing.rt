@@ -1,17 +1,13 @@
 //! Emphasis by pairs of delimiter runs, made in one pass over the nodes (CommonMark 0.31.2, 6.2 Emphasis and
 //! strong emphasis).
-ghost use Rattle.std.specs.Prelude.{◌≡◌, ℕ, List, ◌+◌, ◌<◌, ◌≤◌, ◌^◌, true, suc, reverse, drop, length, IfOk, OnOk, IfSome, Err};
-ghost use Rattle.cm_scan.specs.Pairing.{pair_all, Delimiters, without, used, emphasised};
-ghost use Rattle.cm_scan.specs.OnePass.{up_to_pair, passed};
-ghost use Rattle.cm_tree.specs.declared.tree.Inline.{Inline};
-ghost use Rattle.cm_inline.specs.declared.fault.InlineFault.TheVariants.{InlinesTooDeep};
-ghost use Rattle.cm_inline.specs.steps.Depths.{items_depth};
-ghost use Rattle.cm_inline.specs.steps.Entries.{is_listed};
-ghost use Rattle.cm_inline.specs.steps.Openers.{spent, cut, Ready, Spends};
-ghost use Rattle.cm_inline.specs.steps.Runs.{run_of, rest_of, entry_of, byte_of};
-ghost use Rattle.cm_inline.specs.steps.Groups.{made_of, target_of, nodes_in, waiting_in};
-ghost use Rattle.cm_inline.specs.steps.Nodes.{items_of, nodes_depth, AreParts};
-ghost use Rattle.cm_inline.specs.steps.Pairs.{Adds, AreLooks, Stays, allowance, items_emphases, opened_at};
+ghost use Rattle.std.specs.Prelude.{◌≡◌, ◌+◌, ◌<◌, ◌≤◌, ◌^◌};
+ghost use Rattle.std.specs.Prelude.{ℕ, List, true, suc, reverse, drop, length, IfOk, OnOk, IfSome, Err};
+ghost use Rattle.cm_inline.specs.steps.Prelude.{Delimiters, without, used, emphasised, up_to_pair, passed};
+ghost use Rattle.cm_inline.specs.steps.Prelude.{Inline, InlinesTooDeep, items_depth, is_listed, spent, Ready};
+ghost use Rattle.cm_inline.specs.steps.Prelude.{Spends, IsRestOf, run_of, rest_of, entry_of, byte_of};
+ghost use Rattle.cm_inline.specs.steps.Prelude.{made_of, target_of, nodes_in, waiting_in, items_from};
+ghost use Rattle.cm_inline.specs.steps.Prelude.{nodes_depth, AreParts, Adds, Stays, opened_at, AreFew};
+ghost use Rattle.cm_inline.specs.steps.Prelude.{MakesPairs, PairsNestPast};
 
 use crate::delimiters::Delimiter;
 use crate::fault::InlineFault;
@@ -24,7 +20,8 @@ use cm_tree::LinkTarget;
 
 /// The emphasis that a pair makes of its content.
 fn emphasised(marker: Marker, count: u32) -> Making<'static>
-    ensures { (content : List Inline) → made_of result.kind (target_of result) content ≡ emphasised (byte_of marker) count content }
+    ensures { (content : List Inline) → made_of result.kind (target_of result) content
+        ≡ emphasised (byte_of marker) count content }
 {
     let kind = match marker {
         Marker::Tilde => Kind::Strike,
@@ -40,8 +37,8 @@ fn emphasised(marker: Marker, count: u32) -> Making<'static>
     }
 }
 
-/// Makes the pair of an opener, by its number among the nodes from a place on, and a closer that comes after all nodes, and
-/// gives what is left of the closer.
+/// Makes the pair of an opener, by its number among the nodes from a place on, and a closer that comes after
+/// all nodes, and gives what is left of the closer.
 fn make_pair(
     limit: usize,
     nodes: &mut Nodes,
@@ -52,14 +49,17 @@ fn make_pair(
 ) -> Result<Option<DelimiterRun>, InlineFault>
     requires within { from + opener.item < length (nodes_in nodes.old) }
     requires there { is_listed opener.place openers.old.list.entries ≡ true }
-    ensures made { OnOk result ((source : List ℕ) → items_of source (drop from (nodes_in nodes.new))
+    ensures made { OnOk result ((source : List ℕ) → items_from source from nodes.new
         ≡ up_to_pair (opened_at source (drop from (nodes_in nodes.old)) opener) (run_of closer)) }
     ensures stays { OnOk result (Stays from nodes.old nodes.new) }
     ensures waiting { OnOk result (waiting_in nodes.new ≡ waiting_in nodes.old) }
-    ensures deep { result ≡ Err InlinesTooDeep → limit ≤ nodes_depth (drop (suc opener.item) (drop from (nodes_in nodes.old))) }
-    ensures rest { IfOk result (λ rest. rest_of rest ≡ without (used (run_of opener.run) (run_of closer)) (run_of closer)) }
-    ensures fewer { IfOk result (λ rest. IfSome rest (λ run. (run_of run ≡ cut run.left (run_of closer)) × (run.left < closer.left))) }
-    ensures spends { OnOk result (Spends openers.old.list openers.old.bottoms openers.new.list openers.new.bottoms (entry_of opener) (without (used (run_of opener.run) (run_of closer)) (run_of opener.run))) }
+    ensures deep { result ≡ Err InlinesTooDeep
+        → limit ≤ nodes_depth (drop (suc opener.item) (drop from (nodes_in nodes.old))) }
+    ensures rest { IfOk result (λ rest.
+        rest_of rest ≡ without (used (run_of opener.run) (run_of closer)) (run_of closer)) }
+    ensures fewer { IfOk result (λ rest. IfSome rest (λ left. IsRestOf left closer)) }
+    ensures spends { OnOk result (Spends openers.old openers.new (entry_of opener)
+        (without (used (run_of opener.run) (run_of closer)) (run_of opener.run))) }
 {
     // How many nodes there are bounds the place of one.
     let _nodes = nodes.len();
@@ -85,16 +85,15 @@ fn add_run(
     run: DelimiterRun,
 ) -> Result<(), InlineFault>
     requires long { from ≤ length (nodes_in nodes.old) }
-    requires ready { (source : List ℕ) → Ready (reverse (items_of source
-        (drop from (nodes_in nodes.old)))) openers.old.list openers.old.bottoms }
+    requires ready { (source : List ℕ) →
+        Ready (reverse (items_from source from nodes.old)) openers.old.list openers.old.bottoms }
     requires few { spent 13 openers.old.list openers.old.bottoms + (14 + run.left) < 2 ^ 127 }
-    ensures adds { OnOk result ((source : List ℕ) → Adds source (drop from
-        (nodes_in nodes.old)) openers.old.list openers.old.bottoms (drop from
-        (nodes_in nodes.new)) openers.new.list openers.new.bottoms (run_of run)) }
+    ensures adds { OnOk result ((source : List ℕ) → Adds source (drop from (nodes_in nodes.old))
+        openers.old (drop from (nodes_in nodes.new)) openers.new (run_of run)) }
     ensures stays { OnOk result (Stays from nodes.old nodes.new) }
     ensures waiting { OnOk result (waiting_in nodes.new ≡ waiting_in nodes.old) }
-    ensures deep { result ≡ Err InlinesTooDeep → (source : List ℕ) → AreParts source (nodes_in nodes.old)
-        → limit < items_depth (passed (reverse (items_of source (drop from (nodes_in nodes.old)))) (Delimiters (run_of run))) }
+    ensures deep { result ≡ Err InlinesTooDeep → (source : List ℕ) → AreParts source (nodes_in nodes.old) →
+        limit < items_depth (passed (reverse (items_from source from nodes.old)) (Delimiters (run_of run))) }
 {
     let place = begin(openers, run, nodes.len() - from)?;
     let mut closer = run;
@@ -124,13 +123,10 @@ pub(crate) fn pair_from(
     from: usize,
 ) -> Result<(), InlineFault>
     requires long { from ≤ length (nodes_in nodes.old) }
-    requires few { (source : List ℕ) → openers.old.list.looks + allowance 13 (items_of source (drop from (nodes_in nodes.old))) < 2 ^ 127 }
-    ensures pairs { OnOk result ((source : List ℕ) → items_of source (drop from (nodes_in nodes.new))
-        ≡ pair_all (items_of source (drop from (nodes_in nodes.old)))) }
-    ensures stays { OnOk result (Stays from nodes.old nodes.new) }
-    ensures deep { result ≡ Err InlinesTooDeep → (source : List ℕ) → AreParts source (nodes_in nodes.old)
-        → limit < items_depth (pair_all (items_of source (drop from (nodes_in nodes.old)))) }
-    ensures looks { OnOk result ((source : List ℕ) → AreLooks openers.old.list.looks (items_of source (drop from (nodes_in nodes.old))) openers.new.list.looks (items_emphases (pair_all (items_of source (drop from (nodes_in nodes.old)))))) }
+    requires few { (source : List ℕ) → AreFew openers.old.list.looks (items_from source from nodes.old) }
+    ensures made { OnOk result
+        (MakesPairs from nodes.old openers.old.list.looks nodes.new openers.new.list.looks) }
+    ensures deep { result ≡ Err InlinesTooDeep → PairsNestPast limit from nodes.old }
 {
     if !nodes.has_closer_from(from) {
         return Ok(());
@@ -147,13 +143,10 @@ fn make_pairs(
     from: usize,
 ) -> Result<(), InlineFault>
     requires long { from ≤ length (nodes_in nodes.old) }
-    requires few { (source : List ℕ) → openers.old.list.looks + allowance 13 (items_of source (drop from (nodes_in nodes.old))) < 2 ^ 127 }
-    ensures pairs { OnOk result ((source : List ℕ) → items_of source (drop from (nodes_in nodes.new))
-        ≡ pair_all (items_of source (drop from (nodes_in nodes.old)))) }
-    ensures stays { OnOk result (Stays from nodes.old nodes.new) }
-    ensures deep { result ≡ Err InlinesTooDeep → (source : List ℕ) → AreParts source (nodes_in nodes.old)
-        → limit < items_depth (pair_all (items_of source (drop from (nodes_in nodes.old)))) }
-    ensures looks { OnOk result ((source : List ℕ) → AreLooks openers.old.list.looks (items_of source (drop from (nodes_in nodes.old))) openers.new.list.looks (items_emphases (pair_all (items_of source (drop from (nodes_in nodes.old)))))) }
+    requires few { (source : List ℕ) → AreFew openers.old.list.looks (items_from source from nodes.old) }
+    ensures made { OnOk result
+        (MakesPairs from nodes.old openers.old.list.looks nodes.new openers.new.list.looks) }
+    ensures deep { result ≡ Err InlinesTooDeep → PairsNestPast limit from nodes.old }
 {
     openers.clear();
     nodes.set_aside(from)?;

@@ -1,30 +1,20 @@
 //! The inlines of a leaf, or their HTML, read from its source.
-ghost use Rattle.std.specs.Prelude.{◌≡◌, ◌<◌, ◌^◌, ◌&&◌, not, ℕ, [], ◌∷◌, ◌++◌, true, false, length, string_bytes, IfOk, OnOk, IfErr, IsTrue, Err};
-ghost use Rattle.std.specs.List.{list_any};
-ghost use Rattle.cm_text.specs.Rules.{Rules, profile};
-ghost use Rattle.cm_text.specs.Search.{is_marked};
-ghost use Rattle.cm_scan.specs.Words.{is_empty};
-ghost use Rattle.cm_tree.specs.declared.tree.Inline.TheVariants.{Text};
-ghost use Rattle.cm_scan.specs.Brackets.{Defined, defined_in};
-ghost use Rattle.cm_scan.specs.Pairing.{emphasis_of, settled};
-ghost use Rattle.cm_scan.specs.Pieces.{in_pieces};
+ghost use Rattle.std.specs.Prelude.{◌≡◌, ◌<◌, ◌^◌, ◌&&◌, [], ◌∷◌, ◌++◌, not};
+ghost use Rattle.std.specs.Prelude.{ℕ, true, false, length, string_bytes, IfOk, OnOk, IfErr, IsTrue, Err};
+ghost use Rattle.cm_inline.specs.steps.Prelude.{list_any, Rules, profile, is_marked, is_empty, Text, Defined};
+ghost use Rattle.cm_inline.specs.steps.Prelude.{defined_in, emphasis_of, settled, in_pieces, inlines_depth};
+ghost use Rattle.cm_inline.specs.steps.Prelude.{InlinesTooDeep, inlines_html, Read, Reads, Refused, IsReadTo};
+ghost use Rattle.cm_inline.specs.steps.Prelude.{nodes_in, ArePlaced, items_in, items_of, text_between};
+ghost use Rattle.cm_inline.specs.steps.Prelude.{AreParts, IsAllText, IsTextTo, Pays, ahead};
 ghost use Rattle.cm_scan.specs.Inlines as inlines;
-ghost use Rattle.cm_tree.specs.Depth.{inlines_depth};
-ghost use Rattle.cm_inline.specs.declared.fault.InlineFault.TheVariants.{InlinesTooDeep};
-ghost use Rattle.cm_html.specs.Html.{inlines_html};
-ghost use Rattle.cm_inline.specs.Reading.{Read, Reads, Refused};
-ghost use Rattle.cm_inline.specs.steps.Brackets.{IsReadTo};
-ghost use Rattle.cm_inline.specs.steps.Groups.{nodes_in, ArePlaced};
-ghost use Rattle.cm_inline.specs.steps.Nodes.{items_of, text_between, AreParts};
-ghost use Rattle.cm_inline.specs.steps.Reads.{IsAllText, IsTextTo, Pays, ahead};
 
 use crate::atoms::{read_atom, text_end};
 use crate::brackets::Reader;
 use crate::fault::InlineFault;
 use crate::html::push_nodes;
+use crate::inlines_of_nodes::settle;
 use crate::nodes::Nodes;
 use crate::pairing::pair_from;
-use crate::settling::settle;
 use crate::spare::Spare;
 use crate::tokens::Token;
 use cm_html::Pages;
@@ -33,8 +23,9 @@ use cm_tree::{Block, Definitions, Inline, Items};
 use std::alloc::{AllocError, Global};
 use std::fmt;
 
-/// How many openers the pairing of delimiter runs has looked at: one or more for each emphasis, strong emphasis and
-/// strikethrough that it made, and at most 14 for each character of the runs, or 15 with strikethrough on.
+/// How many openers the pairing of delimiter runs has looked at: one or more
+/// for each emphasis, strong emphasis and strikethrough that it made, and at
+/// most 14 for each character of the runs, or 15 with strikethrough on.
 #[derive(Clone, Copy, Debug, PartialEq, Eq)]
 pub struct Steps(pub u128);
 
@@ -106,9 +97,10 @@ fn read_all(
     ensures read { OnOk result (IsReadTo source.now (length source.now) reader.new) }
     ensures pays { OnOk result (Pays rules (defined_in definitions.now) source.now (nodes_in reader.new.nodes)
         (length source.now) reader.new.openers.list.looks) }
-    ensures items { OnOk result (in_pieces (items_of source.now (nodes_in reader.new.nodes))
+    ensures items { OnOk result (in_pieces (items_in source.now reader.new.nodes)
         ≡ in_pieces (inlines.items_of rules (defined_in definitions.now) source.now)) }
-    ensures deep { result ≡ Err InlinesTooDeep → inlines.nests_past rules (defined_in definitions.now) limit source.now ≡ true }
+    ensures deep { result ≡ Err InlinesTooDeep
+        → inlines.nests_past rules (defined_in definitions.now) limit source.now ≡ true }
 {
     if source.len() > u32::MAX as usize {
         return Err(InlineFault::NoMemory);
@@ -122,8 +114,8 @@ fn read_all(
     Ok(())
 }
 
-/// Whether a source has none of the bytes with which anything but text may begin, and isn't empty: it is its one inline
-/// itself then, by all rules and whatever is defined. It takes no memory.
+/// Whether a source has none of the bytes with which anything but text may begin, and isn't empty: it is its
+/// one inline itself then, by all rules and whatever is defined. It takes no memory.
 ///
 /// Of other sources that come to one text, such as `a!`, it answers false.
 pub fn is_one_text(source: &str) -> bool
@@ -142,8 +134,9 @@ fn first_text_end(source: &str) -> usize
     text_end(source, 0)
 }
 
-/// Whether nothing but line feeds with no space before them parts the text of a source, which begins with text
-/// up to a place. What it writes is its own text then, since a soft line break is written as a line feed.
+/// Whether nothing but line feeds with no space before them parts the text of
+/// a source, which begins with text up to a place. What it writes is its own
+/// text then, since a soft line break is written as a line feed.
 fn is_all_text(source: &str, first: usize) -> bool
     requires { IsTextTo source.now 0 first }
     ensures { IsTrue result → IsAllText source.now }
@@ -158,33 +151,8 @@ fn is_all_text(source: &str, first: usize) -> bool
     true
 }
 
-/// Reads the nodes of a source, of which nothing more is made then, from the text at its front on, and answers
-/// how many openers were looked at.
-fn read_nodes(
-    alloc: Global,
-    rules: Rules,
-    source: &str,
-    definitions: &Definitions,
-    limit: usize,
-    reader: &mut Reader,
-    first: usize,
-) -> Result<Steps, InlineFault>
-    requires { IsTextTo source.now 0 first }
-    ensures parts { OnOk result (AreParts source.now (nodes_in reader.new.nodes)) }
-    ensures placed { OnOk result (ArePlaced source.now reader.new.nodes.inside) }
-    ensures read { IfOk result (λ steps. Read rules (defined_in definitions.now) limit source.now
-        (settled (items_of source.now (nodes_in reader.new.nodes)), steps)) }
-    ensures refused { IfErr result (λ fault. Refused fault rules definitions.now limit source.now) }
-{
-    read_all(alloc, rules, source, definitions, limit, reader, first)?;
-    pair_from(limit, &mut reader.nodes, &mut reader.openers, 0)?;
-    if reader.nodes.nest_past(limit) {
-        return Err(InlineFault::InlinesTooDeep);
-    }
-    Ok(Steps(reader.openers.list.looks()))
-}
-
-/// Reads the inlines of leaves, one after another, in the same memory, and takes more of it where a leaf needs more.
+/// Reads the inlines of leaves, one after another, in the same memory, and
+/// takes more of it where a leaf needs more.
 #[derive(Drop)]
 pub struct InlineReader {
     reader: Reader,
@@ -207,13 +175,40 @@ impl InlineReader {
         }
     }
 
+    /// Reads the nodes of a source, of which nothing more is made then, from the text at its front on, and
+    /// answers how many openers were looked at.
+    fn read_nodes(
+        &mut self,
+        rules: Rules,
+        source: &str,
+        definitions: &Definitions,
+        limit: usize,
+        first: usize,
+    ) -> Result<Steps, InlineFault>
+        requires { IsTextTo source.now 0 first }
+        ensures parts { OnOk result (AreParts source.now (nodes_in self.new.reader.nodes)) }
+        ensures placed { OnOk result (ArePlaced source.now self.new.reader.nodes.inside) }
+        ensures read { IfOk result (λ steps. Read rules (defined_in definitions.now) limit source.now
+            (settled (items_in source.now self.new.reader.nodes), steps)) }
+        ensures refused { IfErr result (λ fault. Refused fault rules definitions.now limit source.now) }
+    {
+        let alloc = self.spare.alloc();
+        let reader = &mut self.reader;
+        read_all(alloc, rules, source, definitions, limit, reader, first)?;
+        pair_from(limit, &mut reader.nodes, &mut reader.openers, 0)?;
+        if reader.nodes.nest_past(limit) {
+            return Err(InlineFault::InlinesTooDeep);
+        }
+        Ok(Steps(reader.openers.list.looks()))
+    }
+
     /// The inlines of a leaf with this source, whose lines are parted by line feeds, in a document with these
     /// definitions, by these rules, and how many openers were looked at (CommonMark 0.31.2, chapter 6).
     ///
     /// # Errors
     ///
-    /// `InlinesTooDeep` where the inlines nest deeper than the limit, `NoMemory` where a request for memory was
-    /// refused, or where the source has 2^32 bytes or more, to which no text within the limits comes. The
+    /// `InlinesTooDeep` where the inlines nest deeper than the limit, `NoMemory` where a request for memory
+    /// was refused, or where the source has 2^32 bytes or more, to which no text within the limits comes. The
     /// next leaf is read all the same.
     pub fn inlines(
         &mut self,
@@ -224,17 +219,8 @@ impl InlineReader {
     ) -> Result<(Items<Inline>, Steps), InlineFault>
         ensures { Reads result rules definitions.now limit source.now }
     {
-        let alloc = self.spare.alloc();
         let first = first_text_end(source);
-        let steps = read_nodes(
-            alloc,
-            rules,
-            source,
-            definitions,
-            limit,
-            &mut self.reader,
-            first,
-        )?;
+        let steps = self.read_nodes(rules, source, definitions, limit, first)?;
         Ok((settle(&mut self.spare, source, &self.reader.nodes)?, steps))
     }
 
@@ -254,7 +240,8 @@ impl InlineReader {
         self.spare.keep_block(block);
     }
 
-    /// Adds the HTML of these inlines. It takes less time and memory than they do, since a text is written from the source.
+    /// Adds the HTML of these inlines. It takes less time and memory than they
+    /// do, since a text is written from the source.
     ///
     /// # Errors
     ///
@@ -269,7 +256,8 @@ impl InlineReader {
     ) -> Result<(), InlineFault>
         ensures pushed { OnOk result (html.new ≡ html.old
             ++ inlines_html (inlines.inlines_of rules (defined_in definitions.now) source.now)) }
-        ensures within { OnOk result (inlines.nests_past rules (defined_in definitions.now) limit source.now ≡ false) }
+        ensures within { OnOk result
+            (inlines.nests_past rules (defined_in definitions.now) limit source.now ≡ false) }
         ensures refused { IfErr result (λ fault. Refused fault rules definitions.now limit source.now) }
     {
         let first = first_text_end(source);
@@ -277,17 +265,8 @@ impl InlineReader {
             html.push_escaped(source)?;
             return Ok(());
         }
-        let alloc = self.spare.alloc();
-        read_nodes(
-            alloc,
-            rules,
-            source,
-            definitions,
-            limit,
-            &mut self.reader,
-            first,
-        )?;
-        push_nodes(alloc, html, source, &self.reader.nodes)?;
+        self.read_nodes(rules, source, definitions, limit, first)?;
+        push_nodes(self.spare.alloc(), html, source, &self.reader.nodes)?;
         Ok(())
     }
 }

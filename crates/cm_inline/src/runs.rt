@@ -3,7 +3,7 @@ ghost use Rattle.std.specs.Prelude.{◌≡◌, [], ◌∷◌, ◌<◌, ◌≤◌
 ghost use Rattle.cm_scan.specs.Delimiters.{delimiters_match};
 ghost use Rattle.cm_scan.specs.Pairing.{used, without};
 ghost use Rattle.cm_inline.specs.steps.Searching.{kind};
-ghost use Rattle.cm_inline.specs.steps.Openers.{cut};
+ghost use Rattle.cm_inline.specs.steps.Openers.{IsRestOf};
 ghost use Rattle.cm_inline.specs.steps.Runs.{byte_of, run_of, rest_of};
 
 /// The character of a delimiter run.
@@ -94,7 +94,7 @@ pub(crate) fn used(opener: DelimiterRun, closer: DelimiterRun) -> u32
 pub(crate) fn without(run: DelimiterRun, count: u32) -> Option<DelimiterRun>
     requires { 1 ≤ count }
     ensures rest { rest_of result ≡ without count (run_of run) }
-    ensures fewer { IfSome result (λ rest. (run_of rest ≡ cut rest.left (run_of run)) × (rest.left < run.left)) }
+    ensures fewer { IfSome result (λ rest. IsRestOf rest run) }
 {
     if run.left <= count {
         return None;

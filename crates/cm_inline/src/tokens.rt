@@ -1,16 +1,18 @@
 //! The tokens into which a leaf's source is read.
-ghost use Rattle.std.specs.Prelude.{◌≡◌, ◌++◌, ◌≤◌, [], ◌∷◌, length, string_bytes, encode_utf8_all, replicate, drop, false, IfOk, OnOk};
+ghost use Rattle.std.specs.Prelude.{◌≡◌, ◌++◌, ◌≤◌, [], ◌∷◌, length};
+ghost use Rattle.std.specs.Prelude.{string_bytes, encode_utf8_all, replicate, drop, false, IfOk, OnOk};
 ghost use Rattle.std.specs.List.{list_any};
 ghost use Rattle.cm_text.specs.References.{chars_of};
 ghost use Rattle.cm_scan.specs.Pairing.{bracket_text, text_before};
 ghost use Rattle.cm_inline.specs.declared.tokens.Token.TheVariants.{Made};
 ghost use Rattle.cm_inline.specs.steps.Groups.{node_of, nodes_of, IsPlaced, ArePlaced};
 ghost use Rattle.cm_inline.specs.steps.Runs.{byte_of};
-ghost use Rattle.cm_inline.specs.steps.Nodes.{is_closer, is_text, node_depth, nodes_depth, text_in, text_in_front, behind_texts};
+ghost use Rattle.cm_inline.specs.steps.Nodes.{is_closer, is_text, node_depth, nodes_depth};
+ghost use Rattle.cm_inline.specs.steps.Nodes.{text_in, text_in_front, behind_texts};
 
 use crate::runs::DelimiterRun;
 use crate::spare::Spare;
-use crate::written::{Written, part};
+use crate::standalone::{Standalone, part};
 use cm_text::Chars;
 use cm_tree::{Inline, Text};
 use std::alloc::AllocError;
@@ -26,9 +28,9 @@ pub(crate) enum Token {
     /// The characters for which a reference stands.
     Characters(Chars),
     /// An inline that stands by itself in the source.
-    Whole(Written),
-    /// Emphasis, a link or an image by the number of its group, how deep it nests, and whether it is a link that a `]` made,
-    /// or an image that holds one.
+    Whole(Standalone),
+    /// Emphasis, a link or an image by the number of its group, how deep it nests, and whether it is a link
+    /// that a `]` made, or an image that holds one.
     Made {
         number: u32,
         depth: u32,
@@ -60,7 +62,7 @@ impl Token {
         ensures { result ≡ node_depth (node_of [] self.now) }
     {
         match self {
-            Token::Whole(written) => written.depth(),
+            Token::Whole(standalone) => standalone.depth(),
             Token::Made { depth, .. } => *depth as usize,
             _ => 0,
         }
@@ -124,7 +126,8 @@ fn size_of_text(tokens: &[Token]) -> usize {
 
 /// Adds what is left of a delimiter run.
 pub(crate) fn push_run(text: &mut String, run: DelimiterRun) -> Result<(), AllocError>
-    ensures { OnOk result (string_bytes text.new ≡ string_bytes text.old ++ replicate run.left (byte_of run.marker)) }
+    ensures { OnOk result (string_bytes text.new
+        ≡ string_bytes text.old ++ replicate run.left (byte_of run.marker)) }
 {
     for _ in 0..run.left {
         text.push_str(run.marker.text())?;
@@ -143,7 +146,8 @@ pub(crate) fn opener_text(image: bool) -> &'static str
 fn push_text_of(text: &mut String, source: &str, token: Token) -> Result<bool, AllocError>
     requires { IsPlaced source.now token }
     ensures told { IfOk result (λ told. told ≡ is_text (node_of [] token)) }
-    ensures pushed { OnOk result (string_bytes text.new ≡ string_bytes text.old ++ text_in source.now (node_of [] token)) }
+    ensures pushed { OnOk result (string_bytes text.new
+        ≡ string_bytes text.old ++ text_in source.now (node_of [] token)) }
 {
     match token {
         Token::Piece { from, to } => {
@@ -181,7 +185,8 @@ fn string_for(spare: &mut Spare, tokens: &[Token]) -> Result<String, AllocError>
 fn join(spare: &mut Spare, source: &str, tokens: &[Token]) -> Result<(Text, usize), AllocError>
     requires { ArePlaced source.now tokens.now }
     ensures text { IfOk result (λ joined. joined.0 ≡ text_in_front source.now (nodes_of [] tokens.now)) }
-    ensures rest { IfOk result (λ joined. nodes_of [] (drop joined.1 tokens.now) ≡ behind_texts (nodes_of [] tokens.now)) }
+    ensures rest { IfOk result (λ joined.
+        nodes_of [] (drop joined.1 tokens.now) ≡ behind_texts (nodes_of [] tokens.now)) }
     ensures within { IfOk result (λ joined. joined.1 ≤ length tokens.now) }
 {
     let mut text = string_for(spare, tokens)?;
@@ -202,7 +207,8 @@ pub(crate) fn push_texts(
 ) -> Result<usize, AllocError>
     requires { ArePlaced source.now tokens.now }
     ensures within { IfOk result (λ count. count ≤ length tokens.now) }
-    ensures rest { IfOk result (λ count. nodes_of [] (drop count tokens.now) ≡ behind_texts (nodes_of [] tokens.now)) }
+    ensures rest { IfOk result (λ count.
+        nodes_of [] (drop count tokens.now) ≡ behind_texts (nodes_of [] tokens.now)) }
     ensures pushed { OnOk result (content.new.items
         ≡ content.old.items ++ text_before (text_in_front source.now (nodes_of [] tokens.now)) []) }
 {

@@ -1,5 +1,6 @@
 //! Columns of lines that are seen without a copy.
-ghost use Rattle.std.specs.Prelude.{◌≡◌, ℕ, ◌+◌, ◌-◌, ◌*◌, ◌^◌, ◌<◌, ◌≤◌, ◌++◌, drop, take, length, replicate, string_bytes, true, List};
+ghost use Rattle.std.specs.Prelude.{◌≡◌, ◌+◌, ◌-◌, ◌*◌, ◌^◌, ◌<◌, ◌≤◌, ◌++◌};
+ghost use Rattle.std.specs.Prelude.{ℕ, drop, take, length, replicate, string_bytes, true, List};
 ghost use Rattle.std.specs.Str.{IsCharBoundary};
 ghost use Rattle.cm_text.specs.Indentation.{indent_of, indent_from, blank_width, strip_from, strip_columns};
 ghost use Rattle.cm_text.specs.LineText.{tabs};
@@ -41,7 +42,8 @@ pub(crate) fn indent_from(column: usize, text: &str) -> usize
     indent
 }
 
-/// Without so many columns of a text that begins at this column: the column after what is taken, how many columns a cut tab leaves there, and how many bytes are taken.
+/// Without so many columns of a text that begins at this column: the column after what is taken, how many
+/// columns a cut tab leaves there, and how many bytes are taken.
 pub(crate) fn take_columns(n: usize, column: usize, text: &str) -> (usize, usize, usize)
     requires { column + length text.now + 3 * tabs text.now < 2 ^ 64 }
     ensures taken { strip_from n column text.now
@@ -98,7 +100,11 @@ impl<'a> View<'a> {
         requires bare { self.now.spaces ≡ 0 }
         requires boundary { IsCharBoundary self.now.rest.now n }
         requires plain { tabs (take n self.now.rest.now) ≡ 0 }
-        ensures { seen_view result ≡ record { column = self.now.column + n; text = drop n self.now.rest.now; lazy = self.now.lazy } }
+        ensures { seen_view result ≡ record {
+          column = self.now.column + n;
+          text = drop n self.now.rest.now;
+          lazy = self.now.lazy;
+        } }
     {
         View {
             column: self.column + n,

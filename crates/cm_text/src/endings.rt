@@ -50,7 +50,8 @@ pub(crate) fn past_line_feed(text: &str, at: usize, after_return: bool) -> (usiz
     ensures boundary { IsCharBoundary text.now result.0 }
     ensures waits { result.1 ≡ true → result.0 ≡ length text.now }
     ensures stays { after_return ≡ false → result ≡ (at, false) }
-    ensures same { cut_more (begun after_return) (drop at text.now) ≡ cut_more (begun result.1) (drop result.0 text.now) }
+    ensures same { cut_more (begun after_return) (drop at text.now)
+        ≡ cut_more (begun result.1) (drop result.0 text.now) }
 {
     if !after_return || at >= text.len() {
         return (at, after_return);

@@ -1,5 +1,6 @@
 //! The lines of a text that comes in pieces, as values of their own.
-ghost use Rattle.std.specs.Prelude.{◌≡◌, ◌≢◌, ℕ, ◌+◌, ◌<◌, ◌≤◌, List, [], ◌∷◌, ◌++◌, length, map, OnOk, is_some, is_ok, IfOk, IfSome, IfNone, if◌then◌else◌, None, false, OnErr};
+ghost use Rattle.std.specs.Prelude.{◌≡◌, ◌≢◌, ◌+◌, ◌<◌, ◌≤◌, [], ◌∷◌, ◌++◌, if◌then◌else◌, ℕ, List, length};
+ghost use Rattle.std.specs.Prelude.{map, OnOk, is_some, is_ok, IfOk, IfSome, IfNone, None, false, OnErr};
 ghost use Rattle.cm_text.specs.Answers.{answer_after};
 ghost use Rattle.cm_text.specs.Lines.{LineView, seen_line};
 ghost use Rattle.cm_text.specs.Views.{seen_view};
@@ -45,7 +46,8 @@ impl Model for LineFeed {
 
     ghost view = { λ f. behind_ready (map seen_line f.ready.items) f.fault f.buffer };
 
-    ghost invariant = { λ f. (f.buffer.cut.ended ≡ []) × (count f.buffer ≤ f.buffer.limit) × (f.buffer.limit ≡ f.limits.bytes) };
+    ghost invariant = { λ f. (f.buffer.cut.ended ≡ []) × (count f.buffer ≤ f.buffer.limit)
+        × (f.buffer.limit ≡ f.limits.bytes) };
 }
 
 /// A copy of a line.
@@ -66,7 +68,8 @@ fn move_lines(
     buffer: &mut LineBuffer,
     ready: &mut VecDeque<Line>,
 ) -> Result<(), AllocError>
-    ensures moves { Moves (map seen_line ready.old.items) buffer.old (map seen_line ready.new.items) buffer.new }
+    ensures moves { Moves (map seen_line ready.old.items) buffer.old
+        (map seen_line ready.new.items) buffer.new }
     ensures all { OnOk result (buffer.new.cut.ended ≡ []) }
     ensures left { OnErr result (0 < length buffer.new.cut.ended) }
 {
@@ -87,8 +90,10 @@ fn copy_lines(
     requires { buffer.old.limit ≡ limits.bytes }
     ensures all { buffer.new.cut.ended ≡ [] }
     ensures limit { buffer.new.limit ≡ limits.bytes }
-    ensures moves { OnOk result (Moves (map seen_line ready.old.items) buffer.old (map seen_line ready.new.items) buffer.new) }
-    ensures refused { OnErr result (LetsGo (map seen_line ready.old.items) buffer.old (map seen_line ready.new.items) buffer.new) }
+    ensures moves { OnOk result (Moves (map seen_line ready.old.items) buffer.old
+        (map seen_line ready.new.items) buffer.new) }
+    ensures refused { OnErr result (LetsGo (map seen_line ready.old.items) buffer.old
+        (map seen_line ready.new.items) buffer.new) }
 {
     let moved = move_lines(alloc, buffer, ready);
     if moved.is_err() {
@@ -152,7 +157,8 @@ impl LineFeed {
             StandsFor self.old bytes taken → StandsFor self.new (bytes ++ piece.now) taken }
         // A fault is answered exactly where the bytes settle it.
         ensures settled { self.old.fault ≡ None → (bytes : List ℕ) (taken : ℕ) →
-            StandsFor self.old bytes taken → Answers result (settled_fault self.old.limit (bytes ++ piece.now)) }
+            StandsFor self.old bytes taken →
+            Answers result (settled_fault self.old.limit (bytes ++ piece.now)) }
         // From then on it is answered again.
         ensures answer { result ≡ answer_after self.new.fault }
         ensures failed { self.old.fault ≢ None → self.new ≡ self.old }

@@ -1,8 +1,10 @@
 //! Labels of links, in the form in which they are compared.
-ghost use Rattle.std.specs.Prelude.{◌≡◌, ◌<◌, true, ◌++◌, length, drop, string_bytes, encode_utf8, IfOk, OnOk};
+ghost use Rattle.std.specs.Prelude.{◌≡◌, ◌<◌, ◌++◌};
+ghost use Rattle.std.specs.Prelude.{true, length, drop, string_bytes, encode_utf8, IfOk, OnOk};
 ghost use Rattle.std.specs.Cow.{cow_str_bytes};
 ghost use Rattle.cm_text.specs.Labels.{case_fold, fold_label, is_gap, settle_gaps};
-ghost use Rattle.cm_text.specs.steps.LabelSteps.{begins_plain, is_plain, is_plain_byte, is_settled, is_single_space, put_after};
+ghost use Rattle.cm_text.specs.steps.LabelSteps.{begins_plain, is_plain, is_plain_byte};
+ghost use Rattle.cm_text.specs.steps.LabelSteps.{is_settled, is_single_space, put_after};
 
 use crate::device::NoMemory;
 use caseless::default_case_fold_str;
@@ -31,7 +33,8 @@ pub fn fold_label(alloc: Global, label: &str) -> Result<String, NoMemory>
     Ok(settle_gaps(alloc, &folded)?)
 }
 
-/// The same, but a label of visible ASCII characters without capitals, and single spaces between them, is lent as it is.
+/// The same, but a label of visible ASCII characters without capitals, and
+/// single spaces between them, is lent as it is.
 ///
 /// # Errors
 ///
@@ -45,7 +48,8 @@ pub fn fold_label_or_lend(alloc: Global, label: &str) -> Result<CowStr<'_, Globa
     Ok(CowStr::Owned(fold_label(alloc, label)?))
 }
 
-/// Whether a text that isn't empty is visible ASCII characters without capitals, and single spaces between them, as most labels are.
+/// Whether a text that isn't empty is visible ASCII characters without
+/// capitals, and single spaces between them, as most labels are.
 fn is_plain(text: &[u8]) -> bool
     ensures { result ≡ is_plain text.now }
 {
@@ -79,8 +83,8 @@ fn is_plain_byte(b: u8) -> bool
     PLAIN[usize::from(b)] == b'1'
 }
 
-/// Whether a space stands there, and such a character behind it. It is a call of its own, so that such characters are
-/// passed over with as little as that takes.
+/// Whether a space stands there, and such a character behind it. It is a call of its own, so that such
+/// characters are passed over with as little as that takes.
 #[inline(never)]
 fn is_single_space(text: &[u8], at: usize) -> bool
     requires { at < length text.now }
@@ -149,7 +153,8 @@ fn is_gap(c: char) -> bool
 }
 
 fn put(settled: &mut String, after_gap: bool, c: char) -> Result<(), AllocError>
-    ensures { OnOk result (string_bytes settled.new ≡ string_bytes settled.old ++ put_after (string_bytes settled.old) after_gap (encode_utf8 c)) }
+    ensures { OnOk result (string_bytes settled.new
+        ≡ string_bytes settled.old ++ put_after (string_bytes settled.old) after_gap (encode_utf8 c)) }
 {
     if after_gap && !settled.is_empty() {
         settled.push(' ')?;

@@ -1,10 +1,14 @@
 //! Laws: facts about the definitions alone. Each is the contract of a public function with an empty body.
 ghost use Rattle.cm_text.specs.AddressExamples.{AddressExamples};
-ghost use Rattle.cm_text.specs.Lines.{LinesAreComputed, LinesAreDetermined, LinesAreLines, LinesWithLineFeeds};
+ghost use Rattle.cm_text.specs.Lines.{LinesAreComputed, LinesAreDetermined};
+ghost use Rattle.cm_text.specs.Lines.{LinesAreLines, LinesWithLineFeeds};
 ghost use Rattle.cm_text.specs.Cut.{EndedLinesAreCut, LinesAreCut};
-ghost use Rattle.cm_text.specs.Indentation.{StripTakesColumns, StripInParts, SpacesAreColumns, SpacesAreStripped};
+ghost use Rattle.cm_text.specs.Indentation.{StripTakesColumns, StripInParts};
+ghost use Rattle.cm_text.specs.Indentation.{SpacesAreColumns, SpacesAreStripped};
 ghost use Rattle.cm_text.specs.Settled.{SettledIsTold};
-ghost use Rattle.cm_text.specs.WorkedExamples.{LineExamples, FaultExamples, IndentationExamples, LabelExamples, CharacterExamples, StripExamples, ReferenceExamples, UnescapeExamples, LimitExamples};
+ghost use Rattle.cm_text.specs.WorkedExamples.{LineExamples, FaultExamples, IndentationExamples};
+ghost use Rattle.cm_text.specs.WorkedExamples.{LabelExamples, CharacterExamples, StripExamples};
+ghost use Rattle.cm_text.specs.WorkedExamples.{ReferenceExamples, UnescapeExamples, LimitExamples};
 
 /// A text has one list of lines.
 pub fn lines_are_determined()
@@ -16,7 +20,8 @@ pub fn lines_are_computed()
     ensures { LinesAreComputed }
 {}
 
-/// No line of a text holds a line ending, and a text that is made of lines, each ended by a line feed, has these.
+/// No line of a text holds a line ending, and a text that is made of lines,
+/// each ended by a line feed, has these.
 pub fn lines_with_line_feeds()
     ensures line { LinesAreLines }
     ensures whole { LinesWithLineFeeds }

@@ -1,12 +1,13 @@
-//! The text of a document: its limits, its lines in whatever pieces it comes, its characters, escapes and references, and the
-//! devices that bytes come from and go to. It knows nothing of blocks and inlines.
+//! The text of a document: its limits, its lines in whatever pieces it comes, its characters, escapes and
+//! references, and the devices that bytes come from and go to. It knows nothing of blocks and inlines.
 //!
-//! Begin with [`Limits`] and [`Rules`], which each reading takes, and with [`LineFeed`] for the lines of a text.
+//! Begin with [`Limits`] and [`Rules`], which each reading takes, and with
+//! [`LineFeed`] for the lines of a text.
 //!
 //! - Devices: [`Source`], [`Sink`], [`FromRead`], [`FromWrite`], and in memory [`Pieces`] and [`Room`].
 //! - Lines: [`LineFeed`], [`Line`], [`View`], [`indent`] and [`strip`].
-//! - What is read in a text: [`reference_at`], [`unescape`], [`fold_label`], [`next_markup`], [`is_ascii_punct`], [`is_punct`] and
-//!   [`is_space`]; and where an address leads: [`is_followed`].
+//! - What is read in a text: [`reference_at`], [`unescape`], [`fold_label`], [`next_markup`],
+//!   [`is_ascii_punct`], [`is_punct`] and [`is_space`]; and where an address leads: [`is_followed`].
 //! - Faults: [`TextFault`], [`WriteFailed`], [`DeviceFailed`] and [`NoMemory`].
 //!
 //! The rest is what the crates above use.

@@ -1,5 +1,6 @@
 //! The lines of a text that comes in pieces, lent from where they are held.
-ghost use Rattle.std.specs.Prelude.{◌≡◌, ◌≢◌, ℕ, ◌+◌, ◌<◌, ◌≤◌, List, [], ◌∷◌, ◌++◌, length, drop, OnOk, is_ok, IfSome, IfNone, None, false};
+ghost use Rattle.std.specs.Prelude.{◌≡◌, ◌≢◌, ◌+◌, ◌<◌, ◌≤◌, [], ◌∷◌, ◌++◌};
+ghost use Rattle.std.specs.Prelude.{ℕ, List, length, drop, OnOk, is_ok, IfSome, IfNone, None, false};
 ghost use Rattle.cm_text.specs.Answers.{answer_after};
 ghost use Rattle.cm_text.specs.Lines.{plain_lines_of};
 ghost use Rattle.cm_text.specs.Views.{seen_view};
@@ -41,9 +42,17 @@ impl Model for LineBuffer {
 
     ghost Value = { Feed };
 
-    ghost view = { λ f. record { limit = f.limits.bytes; start = f.start; pending = f.pending.items; cut = cut_of f.unread; ended = f.ended; fault = f.fault } };
+    ghost view = { λ f. record {
+      limit = f.limits.bytes;
+      start = f.start;
+      pending = f.pending.items;
+      cut = cut_of f.unread;
+      ended = f.ended;
+      fault = f.fault;
+    } };
 
-    ghost invariant = { λ f. (f.start + length f.pending.items ≤ f.limits.bytes) × (string_len f.unread.text ≤ 3 * f.start + 1)
+    ghost invariant = { λ f. (f.start + length f.pending.items ≤ f.limits.bytes)
+        × (string_len f.unread.text ≤ 3 * f.start + 1)
         × (f.ended ≡ false → string_len f.unread.text ≤ 3 * f.start) × (f.limits.bytes ≤ 2 ^ 30) };
 }
 
@@ -122,7 +131,8 @@ impl LineBuffer {
             StandsFor self.old bytes taken → StandsFor self.new (bytes ++ piece.now) taken }
         // A fault is answered exactly where the bytes settle it.
         ensures settled { self.old.fault ≡ None → (bytes : List ℕ) (taken : ℕ) →
-            StandsFor self.old bytes taken → Answers result (settled_fault self.old.limit (bytes ++ piece.now)) }
+            StandsFor self.old bytes taken →
+            Answers result (settled_fault self.old.limit (bytes ++ piece.now)) }
         // From then on it is answered again.
         ensures answer { result ≡ answer_after self.new.fault }
         ensures failed { self.old.fault ≢ None → self.new ≡ self.old }
@@ -144,7 +154,8 @@ impl LineBuffer {
     /// The first line that has ended, or, once the text has, the unended last one: as it is held, without a
     /// copy.
     pub fn first_line(&self) -> Option<View<'_>>
-        ensures line { IfSome result (λ line. self.now.cut.ended ≡ seen_view line ∷ drop 1 self.now.cut.ended) }
+        ensures line { IfSome result (λ line.
+            self.now.cut.ended ≡ seen_view line ∷ drop 1 self.now.cut.ended) }
         ensures bare { IfSome result (λ line. line.spaces ≡ 0) }
         ensures none { IfNone result (self.now.cut.ended ≡ []) }
     {
@@ -154,14 +165,14 @@ impl LineBuffer {
     /// Goes past that line, if there is one. It takes no memory.
     pub fn pass_line(&mut self)
         ensures rest { self.new ≡ with_ready (drop 1 self.old.cut.ended) self.old }
-        ensures stands { 0 < length self.old.cut.ended → (bytes : List ℕ) (taken : ℕ) → StandsFor self.old bytes taken →
-            StandsFor self.new bytes (taken + 1) }
+        ensures stands { 0 < length self.old.cut.ended → (bytes : List ℕ) (taken : ℕ) →
+            StandsFor self.old bytes taken → StandsFor self.new bytes (taken + 1) }
     {
         self.unread.pass_line();
     }
 
-    /// Looks for lines of text at the front of those that have ended, each ended by a line feed alone. It takes no
-    /// memory.
+    /// Looks for lines of text at the front of those that have ended, each
+    /// ended by a line feed alone. It takes no memory.
     #[inline(always)]
     pub fn look_for_text(&mut self)
         ensures { self.new ≡ self.old }
@@ -169,8 +180,8 @@ impl LineBuffer {
         self.unread.look_for_text();
     }
 
-    /// The lines of text at the front that were looked for, as they are held, without a copy. There is none where it
-    /// wasn't looked for, and behind each `push`, `pass_line` and `pass_lines`.
+    /// The lines of text at the front that were looked for, as they are held, without a copy. There is none
+    /// where it wasn't looked for, and behind each `push`, `pass_line` and `pass_lines`.
     #[inline(always)]
     pub fn text_lines(&self) -> Option<TextLines<'_>>
         ensures { IfSome result (λ found.
@@ -179,8 +190,8 @@ impl LineBuffer {
         self.unread.text_lines()
     }
 
-    /// Goes past so many lines, or past all that have ended where there are fewer. For the lines of text that were looked for
-    /// it is one step. It takes no memory.
+    /// Goes past so many lines, or past all that have ended where there are fewer. For the lines of text that
+    /// were looked for it is one step. It takes no memory.
     #[inline(always)]
     pub fn pass_lines(&mut self, count: usize)
         ensures rest { self.new ≡ with_ready (drop count self.old.cut.ended) self.old }

@@ -1,10 +1,13 @@
 //! References to characters.
-ghost use Rattle.std.specs.Prelude.{◌≡◌, ◌∷◌, ◌++◌, IfSome, OnOk, ℕ, ◌+◌, ◌==◌, ◌<◌, ◌≤◌, ◌^◌, List, length, drop, take, Option, Some, None, if◌then◌else◌, option_copied, string_bytes, encode_utf8_all};
+ghost use Rattle.std.specs.Prelude.{◌≡◌, ◌∷◌, ◌++◌, ◌+◌, ◌==◌, ◌<◌, ◌≤◌, ◌^◌, if◌then◌else◌};
+ghost use Rattle.std.specs.Prelude.{IfSome, OnOk, ℕ, List, length, drop, take};
+ghost use Rattle.std.specs.Prelude.{Option, Some, None, option_copied, string_bytes, encode_utf8_all};
 ghost use Rattle.std.specs.Char.{is_ascii_digit, is_ascii_hexdigit, is_ascii_alphanumeric};
 ghost use Rattle.std.specs.List.{prefix_len};
 ghost use Rattle.std.specs.Str.{IsCharBoundary};
 ghost use Rattle.std.specs.Str.Parse.{AllDigits, digits_value};
-ghost use Rattle.cm_text.specs.References.{before_semicolon, chars_of, numbered_character, numbered, named, begins_with, reference, reference_at, read_of};
+ghost use Rattle.cm_text.specs.References.{before_semicolon, chars_of, numbered_character, numbered, named};
+ghost use Rattle.cm_text.specs.References.{begins_with, reference, reference_at, read_of};
 
 use crate::names::look_up;
 use std::alloc::AllocError;
@@ -25,7 +28,8 @@ impl Chars {
     ///
     /// `AllocError` where a request for memory was refused.
     pub fn push_to(self, text: &mut String) -> Result<(), AllocError>
-        ensures { OnOk result (string_bytes text.new ≡ string_bytes text.old ++ encode_utf8_all (chars_of self)) }
+        ensures { OnOk result (string_bytes text.new
+            ≡ string_bytes text.old ++ encode_utf8_all (chars_of self)) }
     {
         text.push(self.first)?;
         if let Some(second) = self.second {
@@ -35,8 +39,8 @@ impl Chars {
     }
 }
 
-/// The reference at a place in a text, which is the boundary of a character: what it stands for, and the place
-/// after its semicolon (CommonMark 0.31.2, 2.5 Entity and numeric character references).
+/// The reference at a place in a text, which is the boundary of a character: what it stands for, and the
+/// place after its semicolon (CommonMark 0.31.2, 2.5 Entity and numeric character references).
 ///
 /// U+0000 and what is no Unicode scalar value give U+FFFD.
 pub fn reference_at(text: &str, place: usize) -> Option<(Chars, usize)>
@@ -128,7 +132,8 @@ fn count_alphanumeric(text: &[u8]) -> usize
 /// What stands before a semicolon, if one stands after so many bytes.
 fn before_semicolon(text: &[u8], len: usize) -> Option<&[u8]>
     requires { len ≤ length text.now }
-    ensures { option_copied result ≡ (if begins_with 59 (drop len text.now) then Some (take len text.now) else None) }
+    ensures { option_copied result
+        ≡ (if begins_with 59 (drop len text.now) then Some (take len text.now) else None) }
 {
     if !begins_with(&text[len..], b';') {
         return None;

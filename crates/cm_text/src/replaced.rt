@@ -1,5 +1,6 @@
 //! Texts of which some bytes are written otherwise.
-ghost use Rattle.std.specs.Prelude.{◌≡◌, ℕ, ◌<◌, ◌++◌, List, [], ◌∷◌, true, false, position, flat_map, string_bytes, IsTrue, OnOk};
+ghost use Rattle.std.specs.Prelude.{◌≡◌, ◌<◌, ◌++◌, [], ◌∷◌};
+ghost use Rattle.std.specs.Prelude.{ℕ, List, true, false, position, flat_map, string_bytes, IsTrue, OnOk};
 
 use crate::parts::cut_at;
 use crate::search::{ByteKind, next_of};

@@ -4,18 +4,18 @@ ghost use Rattle.cm_text.specs.Rules.{profile, older_rules};
 
 use std::marker::Model;
 
-/// The rules by which a text is read, where readers of CommonMark differ: whether the older ones hold, whether there
-/// is strikethrough, whether there is raw HTML, and whether addresses of every scheme are followed. Each goes with
-/// any of the others.
+/// The rules by which a text is read, where readers of CommonMark differ: whether the older ones hold,
+/// whether there is strikethrough, whether there is raw HTML, and whether addresses of every scheme are
+/// followed. Each goes with any of the others.
 ///
 /// The older rules are this project's own, and stand for no earlier edition of the standard. By them Unicode
-/// punctuation is the general categories P and ASCII punctuation alone, without the other symbols; of the names
-/// that begin an HTML block of the sixth kind `source` is one in place of `search`; and a comment in raw HTML begins
-/// with neither `>` nor `->`, holds no `--`, and doesn't end with `-`.
+/// punctuation is the general categories P and ASCII punctuation alone, without the other symbols; of the
+/// names that begin an HTML block of the sixth kind `source` is one in place of `search`; and a comment in
+/// raw HTML begins with neither `>` nor `->`, holds no `--`, and doesn't end with `-`.
 ///
-/// Without raw HTML no line begins an HTML block, and no `<` raw HTML: both are text, and autolinks stay; and the info
-/// of a code block is one line. An address that isn't followed makes no link, image or autolink: what would be one is
-/// text.
+/// Without raw HTML no line begins an HTML block, and no `<` raw HTML: both are
+/// text, and autolinks stay; and the info of a code block is one line. An address
+/// that isn't followed makes no link, image or autolink: what would be one is text.
 #[derive(Clone, Copy, Debug, PartialEq, Eq, Drop)]
 pub struct Rules {
     older: bool,
@@ -45,8 +45,8 @@ impl Model for Rules {
 }
 
 impl Rules {
-    /// CommonMark 0.31.2 as this project reads it: neither the older rules nor strikethrough, with raw HTML and with
-    /// addresses of every scheme.
+    /// CommonMark 0.31.2 as this project reads it: neither the older rules nor strikethrough, with raw HTML
+    /// and with addresses of every scheme.
     pub fn profile() -> Rules
         ensures { result ≡ profile }
     {
@@ -108,8 +108,8 @@ impl Rules {
         self.raw_html
     }
 
-    /// The same rules with addresses of every scheme followed, or with those of the web alone: without a scheme, or
-    /// with `http`, `https` or `mailto`.
+    /// The same rules with addresses of every scheme followed, or with those of the web alone: without a
+    /// scheme, or with `http`, `https` or `mailto`.
     pub fn with_any_address(self, any_address: bool) -> Rules
         ensures { result ≡ record {
           older = self.older;

@@ -1,5 +1,6 @@
 //! The search for bytes of a kind, many at a time, each in a lane of a wide register.
-ghost use Rattle.std.specs.Prelude.{◌≡◌, ℕ, ◌+◌, ◌<◌, ◌≤◌, Bool, false, not, length, get_or, map, None, IfSome};
+ghost use Rattle.std.specs.Prelude.{◌≡◌, ◌+◌, ◌<◌, ◌≤◌};
+ghost use Rattle.std.specs.Prelude.{ℕ, Bool, false, not, length, get_or, map, None, IfSome};
 ghost use Rattle.std.specs.List.{prefix_len};
 ghost use Rattle.std.specs.Simd.Lanes.{chunk, mask_l};
 ghost use Rattle.cm_text.specs.Search.{next_place, is_marked};
@@ -105,8 +106,8 @@ pub(crate) fn next_far_of<K: ByteKind>(bytes: &[u8], from: usize) -> usize
     next_of::<K>(bytes, at)
 }
 
-/// Marked bytes, each at the place of its last four bits, which two of them share at most. A byte that isn't at its
-/// own place stands for none.
+/// Marked bytes, each at the place of its last four bits, which two of them share at most. A byte that isn't
+/// at its own place stands for none.
 const MARKED: [u8; 16] = [
     b'`', b'!', 0, 0, 0, 0, b'&', 0, 0, 0, b'\n', b'[', b'<', b'\r', b'~', b'_',
 ];
@@ -139,9 +140,9 @@ impl ByteKind for Marked {
     }
 }
 
-/// The least place, at or after `from`, of a byte with which an inline other than text can begin, or which ends
-/// a line; the length where there is none. The bytes are LF, CR, `!`, `&`, `*`, `<`, `[`, `\`, `]`, `_`, a
-/// backtick and `~`.
+/// The least place, at or after `from`, of a byte with which an inline other than
+/// text can begin, or which ends a line; the length where there is none. The
+/// bytes are LF, CR, `!`, `&`, `*`, `<`, `[`, `\`, `]`, `_`, a backtick and `~`.
 pub fn next_markup(bytes: &[u8], from: usize) -> usize
     ensures { result ≡ next_place is_marked bytes.now from }
 {

@@ -6,9 +6,9 @@ ghost use Rattle.cm_text.specs.steps.TextAhead.{IsAhead};
 
 use crate::endings::line_len;
 
-/// Lines of text that follow one another, seen without a copy: each begins with a letter of ASCII or with a character
-/// beyond it, the first behind spaces or not. No block but a paragraph begins so, and a line that begins so goes on
-/// with a paragraph that is open (CommonMark 0.31.2, 4.8).
+/// Lines of text that follow one another, seen without a copy: each begins with a letter of ASCII or with a
+/// character beyond it, the first behind spaces or not. No block but a paragraph begins so, and a line that
+/// begins so goes on with a paragraph that is open (CommonMark 0.31.2, 4.8).
 #[derive(Clone, Copy, Debug, PartialEq, Eq)]
 pub struct TextLines<'a> {
     /// The lines, each with the line feed that ends it.
@@ -67,7 +67,8 @@ fn begins_text(b: u8) -> bool
     b.is_ascii_alphabetic() || b >= 128
 }
 
-/// Whether a line of text may stand in front, as the first byte tells. Mostly there is none, and no more is looked at then.
+/// Whether a line of text may stand in front, as the first byte tells. Mostly
+/// there is none, and no more is looked at then.
 #[inline(always)]
 pub(crate) fn may_begin_text(bytes: &[u8]) -> bool {
     match bytes {
@@ -99,8 +100,8 @@ fn is_text_line(bytes: &[u8], first: usize, end: usize) -> bool
     end < bytes.len() && first < end && bytes[end] == b'\n' && begins_text(bytes[first])
 }
 
-/// How far the lines of text go with which a text begins, whose first line has so many bytes. It is a call of its own, made
-/// once for all of them.
+/// How far the lines of text go with which a text begins, whose first line has so many bytes. It is a call of
+/// its own, made once for all of them.
 #[inline(never)]
 pub(crate) fn text_ahead(text: &str, line: usize) -> TextAhead
     requires { IsFirstLine line text.now }

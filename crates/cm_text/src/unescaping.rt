@@ -1,5 +1,6 @@
 //! Texts with their escapes and references resolved.
-ghost use Rattle.std.specs.Prelude.{◌≡◌, [], ◌∷◌, ◌++◌, ◌<◌, ◌≤◌, length, drop, slice_index, string_bytes, option_map, IfOk, OnOk};
+ghost use Rattle.std.specs.Prelude.{◌≡◌, [], ◌∷◌, ◌++◌, ◌<◌, ◌≤◌};
+ghost use Rattle.std.specs.Prelude.{length, drop, slice_index, string_bytes, option_map, IfOk, OnOk};
 ghost use Rattle.std.specs.Str.{IsCharBoundary};
 ghost use Rattle.std.specs.Cow.{cow_str_bytes};
 ghost use Rattle.cm_text.specs.References.{read_of};
@@ -51,13 +52,15 @@ pub fn unescape_or_lend(alloc: Global, text: &str) -> Result<CowStr<'_, Global>,
     }
 }
 
-/// Writes what the escape or the reference at the front gives, or the one byte there, and answers how many bytes were read.
+/// Writes what the escape or the reference at the front gives, or the one byte
+/// there, and answers how many bytes were read.
 fn push_special(out: &mut String, text: &str) -> Result<usize, AllocError>
     requires some { 0 < length text.now }
     requires ascii { slice_index text.now 0 < 128 }
     ensures within { IfOk result (λ len. (1 ≤ len) × (len ≤ length text.now)) }
     ensures boundary { IfOk result (λ len. IsCharBoundary text.now len) }
-    ensures read { IfOk result (λ len. string_bytes out.new ++ unescape (drop len text.now) ≡ string_bytes out.old ++ unescape text.now) }
+    ensures read { IfOk result (λ len. string_bytes out.new ++ unescape (drop len text.now)
+        ≡ string_bytes out.old ++ unescape text.now) }
 {
     let Some((chars, len)) = special(text.as_bytes()) else {
         out.push_str(&text[..1])?;

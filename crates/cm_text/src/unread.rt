@@ -1,5 +1,6 @@
 //! The text that has come, and of which no line has been taken yet.
-ghost use Rattle.std.specs.Prelude.{◌≡◌, [], ◌∷◌, ◌++◌, map, ◌+◌, ◌*◌, ◌^◌, ◌<◌, ◌≤◌, length, drop, OnOk, OnErr, IfSome, IfNone, string_bytes, string_len, true};
+ghost use Rattle.std.specs.Prelude.{◌≡◌, [], ◌∷◌, ◌++◌, ◌+◌, ◌*◌, ◌^◌, ◌<◌, ◌≤◌, map, length};
+ghost use Rattle.std.specs.Prelude.{drop, OnOk, OnErr, IfSome, IfNone, string_bytes, string_len, true};
 ghost use Rattle.std.specs.Str.{IsCharBoundary};
 ghost use Rattle.cm_text.specs.steps.FirstLine.{IsFirstLine};
 ghost use Rattle.cm_text.specs.steps.TextAhead.{IsAhead};
@@ -59,7 +60,8 @@ impl Unread {
     /// The first line that has ended.
     pub(crate) fn first_line(&self) -> Option<View<'_>>
         requires { string_len self.now.text ≤ 2 ^ 61 }
-        ensures line { IfSome result (λ line. (cut_of self.now).ended ≡ seen_view line ∷ drop 1 (cut_of self.now).ended) }
+        ensures line { IfSome result (λ line.
+            (cut_of self.now).ended ≡ seen_view line ∷ drop 1 (cut_of self.now).ended) }
         ensures bare { IfSome result (λ line. line.spaces ≡ 0) }
         ensures none { IfNone result ((cut_of self.now).ended ≡ []) }
     {
@@ -143,7 +145,8 @@ impl Unread {
         self.passed += len;
     }
 
-    /// Goes past so many lines, or past all that there are. It is done in one step for the lines of text that were found.
+    /// Goes past so many lines, or past all that there are. It is done in one
+    /// step for the lines of text that were found.
     #[inline(always)]
     pub(crate) fn pass_lines(&mut self, count: usize)
         ensures cut { cut_of self.new ≡ without count (cut_of self.old) }

@@ -48,13 +48,17 @@ impl Unread {
             ≤ string_len self.old.text + 3 * (length pending.old.items + length piece.now) }
         ensures grown { IfOk result (λ r. string_len self.new.text ≤ string_len self.old.text + 3 * r.0) }
         ensures len { IfOk result (λ r. r.0 ≡ utf8_valid_len (pending.old.items ++ piece.now)) }
-        ensures count { IfOk result (λ r. r.0 + length pending.new.items ≡ length pending.old.items + length piece.now) }
-        ensures broken { IfOk result (λ r. r.1 ≡ is_some (utf8_error_len (left_of (pending.old.items ++ piece.now)))) }
+        ensures count { IfOk result (λ r.
+            r.0 + length pending.new.items ≡ length pending.old.items + length piece.now) }
+        ensures broken { IfOk result (λ r.
+            r.1 ≡ is_some (utf8_error_len (left_of (pending.old.items ++ piece.now)))) }
         ensures left { OnOk result (pending.new.items ≡ left_of (pending.old.items ++ piece.now)) }
-        ensures ok { OnOk result (cut_of self.new ≡ cut_valid (cut_of self.old) (pending.old.items ++ piece.now)) }
+        ensures ok { OnOk result (cut_of self.new
+            ≡ cut_valid (cut_of self.old) (pending.old.items ++ piece.now)) }
         ensures err { OnErr result (IsFront (cut_of self.new).ended
             (cut_valid (cut_of self.old) (pending.old.items ++ piece.now)).ended) }
-        ensures bound { OnErr result (length pending.new.items ≤ length pending.old.items + length piece.now) }
+        ensures bound { OnErr result
+            (length pending.new.items ≤ length pending.old.items + length piece.now) }
     {
         if pending.is_empty() {
             let (valid, broken) = self.take_utf8(piece)?;

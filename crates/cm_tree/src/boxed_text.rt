@@ -1,6 +1,7 @@
 //! A text that takes little room in a node.
 ghost use Rattle.std.specs.Cmp.{partial_equiv_from_equiv};
-ghost use Rattle.std.specs.Cmp.Lexicographic.{pointwise, slice_cmp, nat_list_eq_equiv, nat_list_cmp_total, texts_po, texts_ties};
+ghost use Rattle.std.specs.Cmp.Lexicographic.{pointwise, slice_cmp, nat_list_eq_equiv};
+ghost use Rattle.std.specs.Cmp.Lexicographic.{nat_list_cmp_total, texts_po, texts_ties};
 ghost use Rattle.std.specs.Ordering.{nat_cmp};
 ghost use Rattle.std.specs.Arc.{arc_value};
 ghost use Rattle.std.specs.Bool.{nat_eq};
@@ -14,8 +15,8 @@ use std::fmt;
 use std::marker::Model;
 use std::sync::Arc;
 
-/// A [`Text`] on the heap, which takes less room in a node, and which contracts see as its bytes too. Its clones share
-/// one copy of the bytes, which a count keeps. The text of no bytes takes no memory.
+/// A [`Text`] on the heap, which takes less room in a node, and which contracts see as its bytes too. Its
+/// clones share one copy of the bytes, which a count keeps. The text of no bytes takes no memory.
 #[derive(Drop)]
 pub struct BoxedText {
     text: Option<Arc<Text>>,

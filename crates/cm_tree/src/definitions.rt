@@ -1,5 +1,6 @@
 //! The table of link reference definitions.
-ghost use Rattle.std.specs.Prelude.{◌≡◌, ◌++◌, [], ◌∷◌, None, length, OnOk, OnErr, IfOk, option_map, string_bytes};
+ghost use Rattle.std.specs.Prelude.{◌≡◌, ◌++◌, [], ◌∷◌};
+ghost use Rattle.std.specs.Prelude.{None, length, OnOk, OnErr, IfOk, option_map, string_bytes};
 ghost use Rattle.std.specs.FinMap as map;
 ghost use Rattle.cm_text.specs.Labels.{fold_label};
 ghost use Rattle.cm_tree.specs.Definitions.{add_first, target_if_followed};
@@ -64,7 +65,8 @@ impl Definitions {
     ///
     /// `NoMemory` where a request for memory was refused; the table is then as it was.
     pub fn add(&mut self, label: &str, dest: &str, title: &str) -> Result<(), NoMemory>
-        ensures ok { OnOk result (self.new ≡ add_first self.old (fold_label label.now) (dest.now, title.now)) }
+        ensures ok { OnOk result (self.new
+            ≡ add_first self.old (fold_label label.now) (dest.now, title.now)) }
         ensures err { OnErr result (self.new ≡ self.old) }
     {
         let folded = fold_label_or_lend(self.alloc, label)?;
@@ -125,7 +127,8 @@ impl Definitions {
     ///
     /// `NoMemory` where a request for memory was refused.
     pub fn find(&self, label: &str) -> Result<Option<(&str, &str)>, NoMemory>
-        ensures { IfOk result (λ found. option_map (λ t. (t.0.now, t.1.now)) found ≡ map.get self.now (fold_label label.now)) }
+        ensures { IfOk result (λ found.
+            option_map (λ t. (t.0.now, t.1.now)) found ≡ map.get self.now (fold_label label.now)) }
     {
         match self.target(label)? {
             Some(target) => Ok(Some((target.dest(), target.title()))),
@@ -145,8 +148,8 @@ impl Definitions {
         self.target_by(Rules::profile(), label)
     }
 
-    /// The same, if the rules follow the address. That was judged once, when the definition was added: a look-up takes
-    /// no time for the length of an address.
+    /// The same, if the rules follow the address. That was judged once, when the definition was added: a
+    /// look-up takes no time for the length of an address.
     ///
     /// # Errors
     ///

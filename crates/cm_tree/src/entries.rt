@@ -1,5 +1,6 @@
 //! The entries of the table of definitions.
-ghost use Rattle.std.specs.Prelude.{◌≡◌, ◌≤◌, ℕ, None, Some, length, get_or, option_map, IfOk, IfSome, string_bytes};
+ghost use Rattle.std.specs.Prelude.{◌≡◌, ◌≤◌};
+ghost use Rattle.std.specs.Prelude.{ℕ, None, Some, length, get_or, option_map, IfOk, IfSome, string_bytes};
 ghost use Rattle.std.specs.Str.{bytes_eq};
 ghost use Rattle.cm_tree.specs.Definitions.{target_if_followed};
 ghost use Rattle.cm_tree.specs.LinkTargets.{kept_in, led_to};
@@ -33,7 +34,8 @@ impl Entry {
     ///
     /// # Errors
     ///
-    /// `AllocError` where a request for memory was refused; some of its texts may stand behind the others then.
+    /// `AllocError` where a request for memory was refused; some of its texts
+    /// may stand behind the others then.
     pub(crate) fn copy(
         alloc: Global,
         texts: &mut String,
@@ -72,7 +74,8 @@ impl Entry {
     #[inline(always)]
     pub(crate) fn lend<'a>(&'a self, rules: Rules, texts: &'a str) -> Option<LinkTarget<'a>>
         requires { IsEntry texts.now self.now }
-        ensures { option_map led_to result ≡ target_if_followed rules (Some (kept_in texts.now self.now.target)) }
+        ensures { option_map led_to result
+            ≡ target_if_followed rules (Some (kept_in texts.now self.now.target)) }
     {
         if !rules.any_address() && !self.is_web {
             return None;
@@ -122,7 +125,8 @@ fn in_slots(
     requires named { (slot : ℕ) → get_or slots.now slot 0 ≤ length entries.now }
     requires number { number ≡ number_of label.now }
     ensures there { IfSome result (λ entry. IsLabel (labels_in texts.now entries.now) entry label.now) }
-    ensures absent { result ≡ None → IsPassed slots.now (home slots.now number) (labels_in texts.now entries.now) label.now }
+    ensures absent { result ≡ None
+        → IsPassed slots.now (home slots.now number) (labels_in texts.now entries.now) label.now }
 {
     let from = home(slots, number);
     for slot in from..from + NEAR {

@@ -11,8 +11,8 @@ pub(crate) const NEAR: usize = 8;
 
 /// The entries of a table by their labels.
 ///
-/// Nearly all stand in the first slot that was free near the one that their number names. An entry that found none stands in
-/// a tree: so labels that were made to have equal numbers take no longer than by a tree alone.
+/// Nearly all stand in the first slot that was free near the one that their number names. An entry that found
+/// none stands in a tree: so labels that were made to have equal numbers take no longer than by a tree alone.
 #[derive(Debug, Drop)]
 pub(crate) struct LabelIndex {
     /// Entries, counted from 1; 0 is a free slot.
@@ -42,8 +42,8 @@ impl LabelIndex {
         })
     }
 
-    /// Whether there are fewer than four slots for each of so many entries and one more, but for those in the tree: slots that
-    /// labels were made to miss needn't be more.
+    /// Whether there are fewer than four slots for each of so many entries and one more, but for those in the
+    /// tree: slots that labels were made to miss needn't be more.
     pub(crate) fn is_full(&self, entries: usize) -> bool {
         entries.saturating_sub(self.crowded.len()) >= self.slots.len() / 4
     }

@@ -1,12 +1,15 @@
 #![tactic(auto)]
-//! The tree of a document, how deep it nests, blocks whose inlines haven't been read, and the table of its definitions.
+//! The tree of a document, how deep it nests, blocks whose inlines haven't
+//! been read, and the table of its definitions.
 //!
-//! Begin with [`Doc`]: its blocks are the tree, its owners tell what each line belongs to. The nodes are [`Block`] and [`Inline`].
-//! [`block_depth`], [`inline_depth`] and [`has_raw_html`] ask something of a tree, and [`Definitions`] is the table of link
-//! reference definitions. [`RawTree`] with what it is made of and [`TargetPlaces`] are what the crates above use.
+//! Begin with [`Doc`]: its blocks are the tree, its owners tell what each line belongs to. The nodes are
+//! [`Block`] and [`Inline`]. [`block_depth`], [`inline_depth`] and [`has_raw_html`] ask something of a tree,
+//! and [`Definitions`] is the table of link reference definitions. [`RawTree`] with what it is made of and
+//! [`TargetPlaces`] are what the crates above use.
 //!
-//! A tree is made of plain enums over [`Items`], [`Text`] and [`BoxedText`]. Contracts see the first, a `Vec`, as a list. They see
-//! the others, a `String` and a text on the heap, as bytes. So two trees are equal exactly where they look alike, and a clone is
+//! A tree is made of plain enums over [`Items`], [`Text`] and [`BoxedText`]. Contracts
+//! see the first, a `Vec`, as a list. They see the others, a `String` and a text on the
+//! heap, as bytes. So two trees are equal exactly where they look alike, and a clone is
 //! equal to its original. A clause can write a tree out, as that of `title` here.
 //!
 //! ```

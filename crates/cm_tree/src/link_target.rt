@@ -8,10 +8,12 @@ use crate::target_places::TargetPlaces;
 use crate::text::Text;
 use std::alloc::{AllocError, Global};
 
-/// A text of so many bytes is shared by all that refer to it. A shorter one is copied: a copy costs less than a count.
+/// A text of so many bytes is shared by all that refer to it. A shorter one is
+/// copied: a copy costs less than a count.
 const SHARED: usize = 64;
 
-/// Where a link leads, and its title: as plain texts, or as texts that a definition shares with its references.
+/// Where a link leads, and its title: as plain texts, or as texts that a
+/// definition shares with its references.
 #[derive(Clone, Copy, Debug)]
 pub enum LinkTarget<'a> {
     /// Plain texts.
@@ -75,7 +77,8 @@ impl KeptTarget {
         Ok(KeptTarget::Placed(TargetPlaces::push(texts, dest, title)?))
     }
 
-    /// Keeps copies of a destination and a title: behind a text where both are short, and else as texts to be shared.
+    /// Keeps copies of a destination and a title: behind a text where both are
+    /// short, and else as texts to be shared.
     ///
     /// # Errors
     ///

@@ -16,8 +16,8 @@ const FULL: usize = 32_768;
 /// How many bytes of texts there is room for at first, where more than a few are to come.
 const ROOM: usize = 40_960;
 
-/// A block whose inlines haven't been read. Its texts lie from one place to the next among the texts of [`RawBlocks`], and the blocks and
-/// items in it from one place to the next among the blocks and items there.
+/// A block whose inlines haven't been read. Its texts lie from one place to the next among the texts of
+/// [`RawBlocks`], and the blocks and items in it from one place to the next among the blocks and items there.
 #[derive(Clone, Copy, Debug, PartialEq, Eq)]
 pub enum RawBlock {
     /// A paragraph, and where its source lies.
@@ -74,7 +74,8 @@ pub struct RawItem {
     pub to: u32,
 }
 
-/// What [`RawBlock`]s are made of: the texts of all, the blocks that stand in others, each behind those in it, and the items.
+/// What [`RawBlock`]s are made of: the texts of all, the blocks that stand in
+/// others, each behind those in it, and the items.
 ///
 /// All that was made stays what it is when more is made. A call that makes something answers `AllocError`
 /// where a request for memory was refused, or where a place would need more than 32 bits, to which no text
@@ -152,7 +153,8 @@ impl RawBlocks {
     /// Puts a text behind the others.
     fn put_text(&mut self, text: &str) -> Result<(), AllocError>
         ensures text { OnOk result (self.new.text ≡ self.old.text ++ text.now) }
-        ensures between { OnOk result (IsBetween self.new.text (length self.old.text) (length self.new.text)) }
+        ensures between { OnOk result
+            (IsBetween self.new.text (length self.old.text) (length self.new.text)) }
         ensures blocks { self.new.blocks ≡ self.old.blocks }
         ensures items { self.new.items ≡ self.old.items }
         ensures grows { Grows self.old self.new }
@@ -181,7 +183,8 @@ impl RawBlocks {
     ///
     /// `AllocError` where a request for memory was refused.
     pub fn paragraph(&mut self, source: &str) -> Result<RawBlock, AllocError>
-        ensures block { IfOk result (λ block. block_in self.new block ≡ trees.Paragraph (raw_inlines source.now)) }
+        ensures block { IfOk result (λ block.
+            block_in self.new block ≡ trees.Paragraph (raw_inlines source.now)) }
         ensures placed { IfOk result (λ block. IsPlaced self.new block) }
         ensures grows { Grows self.old self.new }
     {
@@ -195,7 +198,8 @@ impl RawBlocks {
     ///
     /// `AllocError` where a request for memory was refused.
     pub fn heading(&mut self, level: u8, source: &str) -> Result<RawBlock, AllocError>
-        ensures block { IfOk result (λ block. block_in self.new block ≡ trees.Heading level (raw_inlines source.now)) }
+        ensures block { IfOk result (λ block.
+            block_in self.new block ≡ trees.Heading level (raw_inlines source.now)) }
         ensures placed { IfOk result (λ block. IsPlaced self.new block) }
         ensures grows { Grows self.old self.new }
     {
@@ -203,7 +207,8 @@ impl RawBlocks {
         Ok(RawBlock::Heading { level, from, to })
     }
 
-    /// Makes a code block with this resolved info string and these lines (4.4 Indented code blocks, 4.5 Fenced code blocks).
+    /// Makes a code block with this resolved info string and these lines (4.4
+    /// Indented code blocks, 4.5 Fenced code blocks).
     ///
     /// # Errors
     ///
@@ -236,8 +241,8 @@ impl RawBlocks {
         Ok(RawBlock::Html { from, to })
     }
 
-    /// Makes a definition with this label, as it stands in the source, and this resolved destination and title (4.7 Link reference
-    /// definitions).
+    /// Makes a definition with this label, as it stands in the source, and this resolved destination and
+    /// title (4.7 Link reference definitions).
     ///
     /// # Errors
     ///
@@ -248,7 +253,8 @@ impl RawBlocks {
         dest: &str,
         title: &str,
     ) -> Result<RawBlock, AllocError>
-        ensures block { IfOk result (λ block. block_in self.new block ≡ trees.Definition label.now dest.now title.now) }
+        ensures block { IfOk result (λ block.
+            block_in self.new block ≡ trees.Definition label.now dest.now title.now) }
         ensures placed { IfOk result (λ block. IsPlaced self.new block) }
         ensures grows { Grows self.old self.new }
     {
@@ -287,7 +293,8 @@ impl RawBlocks {
     /// `AllocError` where a request for memory was refused.
     pub fn quote(&mut self, blocks: &[RawBlock]) -> Result<RawBlock, AllocError>
         requires { ArePlaced self.old blocks.now }
-        ensures block { IfOk result (λ block. block_in self.new block ≡ trees.Quote (blocks_in self.old blocks.now)) }
+        ensures block { IfOk result (λ block.
+            block_in self.new block ≡ trees.Quote (blocks_in self.old blocks.now)) }
         ensures placed { IfOk result (λ block. IsPlaced self.new block) }
         ensures grows { Grows self.old self.new }
     {
@@ -307,7 +314,8 @@ impl RawBlocks {
         items: &[RawItem],
     ) -> Result<RawBlock, AllocError>
         requires { AreItems self.old items.now }
-        ensures block { IfOk result (λ block. block_in self.new block ≡ trees.List kind tight (items_in self.old items.now)) }
+        ensures block { IfOk result (λ block.
+            block_in self.new block ≡ trees.List kind tight (items_in self.old items.now)) }
         ensures placed { IfOk result (λ block. IsPlaced self.new block) }
         ensures grows { Grows self.old self.new }
     {

@@ -22,8 +22,10 @@ impl TargetPlaces {
     ///
     /// `AllocError` where a request for memory was refused; the destination may stand behind the text then.
     pub fn push(texts: &mut String, dest: &str, title: &str) -> Result<TargetPlaces, AllocError>
-        ensures places { IfOk result (λ places. places ≡ places_behind (string_bytes texts.old) dest.now title.now) }
-        ensures texts { OnOk result (string_bytes texts.new ≡ string_bytes texts.old ++ dest.now ++ title.now) }
+        ensures places { IfOk result (λ places.
+            places ≡ places_behind (string_bytes texts.old) dest.now title.now) }
+        ensures texts { OnOk result (string_bytes texts.new
+            ≡ string_bytes texts.old ++ dest.now ++ title.now) }
         ensures goes_on { GoesOn (string_bytes texts.old) (string_bytes texts.new) }
     {
         let from = texts.len();

@@ -9,7 +9,7 @@ use Rattle.cm_scan.specs.Pairing as items
 use Rattle.cm_scan.specs.Brackets.{Defined, LinkEnd, Bracketed, holds_link, made, close_bracket, end_at}
 use Rattle.cm_inline.specs.declared.brackets.Bracket.{Bracket}
 use Rattle.cm_inline.specs.declared.brackets.Reader.{Reader}
-use Rattle.cm_inline.specs.declared.ends.Ends.{Ends}
+use Rattle.cm_inline.specs.declared.missing_ends.MissingEnds.{MissingEnds}
 use Rattle.cm_inline.specs.steps.Nodes.{Node, Piece, Characters, Whole, Finished, Run, Opener, items_of, AreParts}
 use Rattle.cm_inline.specs.steps.Groups.{nodes_in, ArePlaced}
 use Rattle.cm_inline.specs.steps.Missing.{Knows}
@@ -19,7 +19,7 @@ use Rattle.cm_inline.specs.steps.Reads.{IsAtom}
 abbrev pub bracket_in : ℕ → Node → List Bracket
 bracket_in n (Piece from to) = []
 bracket_in n (Characters chars) = []
-bracket_in n (Whole written) = []
+bracket_in n (Whole standalone) = []
 bracket_in n (Finished inline depth holds_link) = []
 bracket_in n (Run run) = []
 bracket_in n (Opener image behind) = record { node = n; image = image; behind = behind } ∷ []
@@ -40,7 +40,7 @@ LinksEnd source nodes end = (n : ℕ) → holds_link (items_of source (drop n no
 
 -- A source whose places have 32 bits, read up to one of them: its nodes and those of them that are brackets, where its links end, and
 -- what is known of the rest.
-pub record IsRead (source : List ℕ) (at : ℕ) (nodes : List Node) (brackets : List Bracket) (links_end : ℕ) (ends : Ends) : Type 0 where
+pub record IsRead (source : List ℕ) (at : ℕ) (nodes : List Node) (brackets : List Bracket) (links_end : ℕ) (ends : MissingEnds) : Type 0 where
   pub short : length source < 2 ^ 32
   pub parts : AreParts source nodes
   pub unclosed : brackets_from 0 nodes ≡ brackets

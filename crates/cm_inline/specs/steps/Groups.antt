@@ -1,12 +1,12 @@
 -- The nodes of a leaf as they are held: tokens, and groups of them, which are emphasis, links and images.
-use Rattle.std.specs.Prelude.{◌≡◌, ℕ, ◌+◌, ◌<◌, ◌≤◌, Bool, true, false, List, [], ◌∷◌, ◌++◌, length, map, get_or, Option, None, codes, ⊤}
+use Rattle.std.specs.Prelude.{◌≡◌, ℕ, ◌+◌, ◌<◌, ◌≤◌, Bool, true, false, List, [], ◌∷◌, ◌++◌, length, drop, map, get_or, Option, None, codes, ⊤}
 use Rattle.std.specs.List.{slice_range, list_any}
 use Rattle.cm_tree.specs.declared.tree.Inline.{Inline}
 use Rattle.cm_tree.specs.declared.tree.Inline.TheVariants as inlines
 use Rattle.cm_tree.specs.Definitions.{Target}
 use Rattle.cm_tree.specs.LinkTargets.{led_to, kept_in, IsKept}
 use Rattle.cm_html.specs.Html.{link_start}
-use Rattle.cm_scan.specs.Pairing.{settled}
+use Rattle.cm_scan.specs.Pairing.{Item, settled}
 use Rattle.cm_inline.specs.declared.groups.Kind.{Kind}
 use Rattle.cm_inline.specs.declared.groups.Kind.TheVariants as kinds
 use Rattle.cm_inline.specs.declared.groups.Group.{Group}
@@ -15,7 +15,7 @@ use Rattle.cm_inline.specs.declared.groups.PlacedGroup.{PlacedGroup}
 use Rattle.cm_inline.specs.declared.runs.DelimiterRun.{DelimiterRun}
 use Rattle.cm_inline.specs.declared.tokens.Token.{Token}
 use Rattle.cm_inline.specs.declared.tokens.Token.TheVariants as tokens
-use Rattle.cm_inline.specs.steps.Written.{IsBetween, IsWithin}
+use Rattle.cm_inline.specs.steps.Standalone.{IsBetween, IsWithin}
 use Rattle.cm_inline.specs.steps.Nodes.{Node, Piece, Characters, Whole, Finished, Run, Opener, items_of, rest_in}
 
 -- an inline as it comes of a source
@@ -89,7 +89,7 @@ nothing_made source = inlines.Emph []
 abbrev pub node_of : List Made → Token → Node
 node_of made (tokens.Piece from to) = Piece from to
 node_of made (tokens.Characters chars) = Characters chars
-node_of made (tokens.Whole written) = Whole written
+node_of made (tokens.Whole standalone) = Whole standalone
 node_of made (tokens.Made number depth holds_link) = Finished (get_or made number nothing_made) depth holds_link
 node_of made (tokens.Run run) = Run run
 node_of made (tokens.Opener image behind) = Opener image behind
@@ -108,6 +108,16 @@ groups_after inside made (group ∷ groups) = groups_after inside (made ++ group
 abbrev pub groups_made : (inside : List Token) → List Grouped → List Made
 groups_made inside groups = groups_after inside [] groups
 
+-- a token and tokens as nodes, where these are the groups; and what is made of a group that holds some of these
+abbrev pub node_among : (inside : List Token) → List Grouped → Token → Node
+node_among inside groups token = node_of (groups_made inside groups) token
+
+abbrev pub nodes_among : (inside : List Token) → List Grouped → List Token → List Node
+nodes_among inside groups held = nodes_of (groups_made inside groups) held
+
+abbrev pub made_among : (inside : List Token) → List Grouped → Grouped → Made
+made_among inside groups group = group_made inside (groups_made inside groups) group
+
 -- The tokens up to those that wait to be paired; those; what stands in groups; and the groups.
 pub record Held : Type 0 where
   pub before : List Token
@@ -121,6 +131,13 @@ nodes_in held = nodes_of (groups_made held.inside held.groups) held.before
 
 unfoldable pub waiting_in : Held → List Node
 waiting_in held = nodes_of (groups_made held.inside held.groups) held.rest
+
+-- the items to which the nodes come, and those of the nodes from a number on
+abbrev pub items_in : List ℕ → Held → List Item
+items_in source held = items_of source (nodes_in held)
+
+abbrev pub items_from : List ℕ → ℕ → Held → List Item
+items_from source from held = items_of source (drop from (nodes_in held))
 
 -- a token that was read, which is no group
 abbrev pub IsNoGroup : Token → Type 0
@@ -156,18 +173,38 @@ pub record AreHeld (held : Held) : Type 0 where
 -- the places of a token part characters of the source
 abbrev pub IsPlaced : List ℕ → Token → Type 0
 IsPlaced source (tokens.Piece from to) = IsBetween source from to
-IsPlaced source (tokens.Whole written) = IsWithin source written
+IsPlaced source (tokens.Whole standalone) = IsWithin source standalone
 IsPlaced source _ = ⊤
 
 abbrev pub ArePlaced : List ℕ → List Token → Type 0
 ArePlaced source [] = ⊤
 ArePlaced source (token ∷ held) = IsPlaced source token × ArePlaced source held
 
+-- A token lies in the source, and so do those inside. If it is a group it is one of these, each of which holds groups before it alone.
+pub record IsAmong (source : List ℕ) (inside : List Token) (all : List Grouped) (one : Token) : Type 0 where
+  pub placed : ArePlaced source inside
+  pub groups : AreGroups inside 0 all
+  pub below : IsBelow (length all) one
+  pub token : IsPlaced source one
+
+-- the same of tokens
+pub record AreAmong (source : List ℕ) (inside : List Token) (all : List Grouped) (some : List Token) : Type 0 where
+  pub placed : ArePlaced source inside
+  pub groups : AreGroups inside 0 all
+  pub below : AreBelow (length all) some
+  pub tokens : ArePlaced source some
+
+-- and of a group, which holds some of these
+pub record IsGroupAmong (source : List ℕ) (inside : List Token) (all : List Grouped) (one : Grouped) : Type 0 where
+  pub placed : ArePlaced source inside
+  pub groups : AreGroups inside 0 all
+  pub group : IsGroup inside (length all) one
+
 -- the node is a delimiter run
 abbrev pub is_run : Node → Bool
 is_run (Piece from to) = false
 is_run (Characters chars) = false
-is_run (Whole written) = false
+is_run (Whole standalone) = false
 is_run (Finished inline depth holds_link) = false
 is_run (Run run) = true
 is_run (Opener image behind) = false

@@ -1,5 +1,5 @@
 -- Where a link or an image leads, and the place where it ends.
-use Rattle.std.specs.Prelude.{ℕ, List, drop, Option, Some, None, option_map, codes}
+use Rattle.std.specs.Prelude.{◌≡◌, ℕ, ◌-◌, ◌<◌, ◌≤◌, List, drop, slice_index, Option, Some, None, option_map, codes}
 use Rattle.std.specs.Borrow.{Bor}
 use Rattle.std.specs.Cow.{cow_str_bytes}
 use Rattle.cm_tree.specs.Definitions.{Target}
@@ -10,6 +10,14 @@ use Rattle.cm_tree.specs.LinkTargets.{led_to}
 use Rattle.cm_inline.specs.declared.links.LinkEnd.{LinkEnd}
 use Rattle.cm_inline.specs.declared.links.FoundTarget.{FoundTarget}
 use Rattle.cm_inline.specs.declared.links.FoundTarget.TheVariants as found
+use Rattle.cm_inline.specs.steps.Bytes.{left_bracket, right_bracket}
+use Rattle.cm_inline.specs.steps.Reads.{Stands}
+
+-- `[` ends at the one place, and `]` stands at the other, no further in front.
+pub record AreBrackets (source : List ℕ) (behind at : ℕ) : Type 0 where
+  pub bracket : (0 < behind) × (slice_index source (behind - 1) ≡ left_bracket)
+  pub order : behind ≤ at
+  pub stands : Stands source at right_bracket
 
 -- where it leads, and its title
 abbrev pub found_target : FoundTarget → Target

@@ -5,9 +5,9 @@ use Rattle.std.specs.Ordering.{nat_cmp}
 use Rattle.std.specs.BTreeMap.{BTreeMap, get}
 use Rattle.cm_scan.specs.RawHtml.{behind_word}
 use Rattle.cm_scan.specs.CodeSpans.{up_to_run}
-use Rattle.cm_inline.specs.declared.ends.Form.{Form}
-use Rattle.cm_inline.specs.declared.ends.Form.TheVariants.{Comment, Instruction, CharacterData, Declaration}
-use Rattle.cm_inline.specs.declared.ends.Ends.{Ends}
+use Rattle.cm_inline.specs.declared.missing_ends.Form.{Form}
+use Rattle.cm_inline.specs.declared.missing_ends.Form.TheVariants.{Comment, Instruction, CharacterData, Declaration}
+use Rattle.cm_inline.specs.declared.missing_ends.MissingEnds.{MissingEnds}
 
 -- the words with which a form begins and ends
 abbrev pub start_of : Form → List ℕ
@@ -27,7 +27,7 @@ abbrev pub Missing : List ℕ → List ℕ → ℕ → Type 0
 Missing source word from = (later : ℕ) → from ≤ later → behind_word word (drop later source) ≡ None
 
 -- from where on a form's end is known to be missing
-abbrev pub missing_from : Ends → Form → ℕ
+abbrev pub missing_from : MissingEnds → Form → ℕ
 missing_from ends Comment = ends.comment
 missing_from ends Instruction = ends.instruction
 missing_from ends CharacterData = ends.character_data
@@ -46,7 +46,7 @@ AreLastIfKnown source None = ⊤
 AreLastIfKnown source (Some last) = AreLast source last
 
 -- What is known of this source is so.
-pub record Knows (source : List ℕ) (ends : Ends) : Type 0 where
+pub record Knows (source : List ℕ) (ends : MissingEnds) : Type 0 where
   pub forms : (form : Form) → Missing source (end_of form) (missing_from ends form)
   pub backticks : AreLastIfKnown source ends.backticks
 

@@ -10,9 +10,9 @@ use Rattle.cm_html.specs.Escape.{escape}
 use Rattle.cm_html.specs.Html.{rendered}
 use Rattle.cm_scan.specs.Pairing as items
 use Rattle.cm_inline.specs.declared.runs.DelimiterRun.{DelimiterRun}
-use Rattle.cm_inline.specs.declared.written.Written.{Written}
+use Rattle.cm_inline.specs.declared.standalone.Standalone.{Standalone}
 use Rattle.cm_inline.specs.steps.Runs.{byte_of, run_of}
-use Rattle.cm_inline.specs.steps.Written.{inline_in, written_depth, written_html, written_plain, IsWithin}
+use Rattle.cm_inline.specs.steps.Standalone.{inline_in, standalone_depth, standalone_html, standalone_plain, IsWithin}
 
 -- The source between two places as text; the characters for which a reference stands; an inline that stands by itself in the source;
 -- an inline that was made of nodes, as it comes of a source, how deep it nests, and whether it is a link that a `]` made, or an image
@@ -20,7 +20,7 @@ use Rattle.cm_inline.specs.steps.Written.{inline_in, written_depth, written_html
 pub data Node : Type 0 where
   Piece : (from to : ℕ) → Node
   Characters : Chars → Node
-  Whole : Written → Node
+  Whole : Standalone → Node
   Finished : (inline : List ℕ → Inline) → (depth : ℕ) → (holds_link : Bool) → Node
   Run : DelimiterRun → Node
   Opener : (image : Bool) → (behind : ℕ) → Node
@@ -29,7 +29,7 @@ pub data Node : Type 0 where
 abbrev pub item_of : List ℕ → Node → items.Item
 item_of source (Piece from to) = items.Characters (slice_range source from to)
 item_of source (Characters chars) = items.Characters (encode_utf8_all (chars_of chars))
-item_of source (Whole written) = items.Finished (inline_in source written)
+item_of source (Whole standalone) = items.Finished (inline_in source standalone)
 item_of source (Finished inline depth false) = items.Finished (inline source)
 item_of source (Finished inline depth true) = items.Linked (inline source)
 item_of source (Run run) = items.Delimiters (run_of run)
@@ -51,7 +51,7 @@ rest_in (Some run) = Run run ∷ []
 abbrev pub inline_of : List ℕ → Node → List Inline
 inline_of source (Piece from to) = []
 inline_of source (Characters chars) = []
-inline_of source (Whole written) = inline_in source written ∷ []
+inline_of source (Whole standalone) = inline_in source standalone ∷ []
 inline_of source (Finished inline depth holds_link) = inline source ∷ []
 inline_of source (Run run) = []
 inline_of source (Opener image behind) = []
@@ -60,7 +60,7 @@ inline_of source (Opener image behind) = []
 abbrev pub node_depth : Node → ℕ
 node_depth (Piece from to) = 0
 node_depth (Characters chars) = 0
-node_depth (Whole written) = written_depth written
+node_depth (Whole standalone) = standalone_depth standalone
 node_depth (Finished inline depth holds_link) = depth
 node_depth (Run run) = 0
 node_depth (Opener image behind) = 0
@@ -72,7 +72,7 @@ nodes_depth nodes = greatest (map node_depth nodes)
 abbrev pub is_closer : Node → Bool
 is_closer (Piece from to) = false
 is_closer (Characters chars) = false
-is_closer (Whole written) = false
+is_closer (Whole standalone) = false
 is_closer (Finished inline depth holds_link) = false
 is_closer (Run run) = run.closes
 is_closer (Opener image behind) = false
@@ -81,7 +81,7 @@ is_closer (Opener image behind) = false
 abbrev pub is_text : Node → Bool
 is_text (Piece from to) = true
 is_text (Characters chars) = true
-is_text (Whole written) = false
+is_text (Whole standalone) = false
 is_text (Finished inline depth holds_link) = false
 is_text (Run run) = true
 is_text (Opener image behind) = true
@@ -90,14 +90,14 @@ is_text (Opener image behind) = true
 abbrev pub text_in : List ℕ → Node → List ℕ
 text_in source (Piece from to) = slice_range source from to
 text_in source (Characters chars) = encode_utf8_all (chars_of chars)
-text_in source (Whole written) = []
+text_in source (Whole standalone) = []
 text_in source (Finished inline depth holds_link) = []
 text_in source (Run run) = replicate run.left (byte_of run.marker)
 text_in source (Opener image behind) = items.bracket_text image
 
 -- the HTML of a node
 abbrev pub node_html : List ℕ → Node → List ℕ
-node_html source (Whole written) = written_html source written
+node_html source (Whole standalone) = standalone_html source standalone
 node_html source (Finished inline depth holds_link) = (rendered (inline source)).html
 node_html source node = escape (text_in source node)
 
@@ -106,7 +106,7 @@ nodes_html source nodes = flat_map (node_html source) nodes
 
 -- its part of an image's alternative text
 abbrev pub node_plain : List ℕ → Node → List ℕ
-node_plain source (Whole written) = written_plain source written
+node_plain source (Whole standalone) = standalone_plain source standalone
 node_plain source (Finished inline depth holds_link) = (rendered (inline source)).plain
 node_plain source node = text_in source node
 
@@ -135,7 +135,7 @@ pub record IsOpener (source : List ℕ) (image : Bool) (behind : ℕ) : Type 0 w
 abbrev pub IsPart : List ℕ → Node → Type 0
 IsPart source (Piece from to) = (from ≤ to) × IsCharBoundary source from × IsCharBoundary source to
 IsPart source (Characters chars) = ⊤
-IsPart source (Whole written) = IsWithin source written
+IsPart source (Whole standalone) = IsWithin source standalone
 IsPart source (Finished inline depth holds_link) = depth_of (inline source) ≡ depth
 IsPart source (Run run) = ⊤
 IsPart source (Opener image behind) = IsOpener source image behind

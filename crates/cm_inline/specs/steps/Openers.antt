@@ -3,6 +3,9 @@ use Rattle.std.specs.Prelude.{◌≡◌, ℕ, ◌+◌, ◌<◌, ◌≤◌, true,
 use Rattle.cm_scan.specs.Delimiters.{Run}
 use Rattle.cm_scan.specs.Pairing.{Item, Finished, Delimiters, nearest_opener}
 use Rattle.cm_tree.specs.declared.tree.Inline.{Inline}
+use Rattle.cm_inline.specs.declared.openers.Openers.{Openers}
+use Rattle.cm_inline.specs.declared.runs.DelimiterRun.{DelimiterRun}
+use Rattle.cm_inline.specs.steps.Runs.{run_of}
 use Rattle.cm_inline.specs.steps.Entries.{Entry, Listed, Below, Falling, answers, reserve}
 use Rattle.cm_inline.specs.steps.Searching.{AreSound, kind, openers_of, places_of, characters}
 
@@ -63,34 +66,53 @@ pub record Open (before : List Item) (l : Listed) (bottoms : List ℕ) (place : 
 abbrev pub IsClosing : Listed → List ℕ → ℕ → Run → Type 0
 IsClosing l bottoms place closer = (before : List Item) × Closing before l bottoms place closer
 
+-- the openers with this list and these bottoms
+abbrev pub openers : Listed → List ℕ → Openers
+openers list bottoms = record { list = list; bottoms = bottoms }
+
 -- a run that came in as a closer
-abbrev pub BringsCloser : Listed → List ℕ → Listed → List ℕ → ℕ → Run → Type 0
-BringsCloser old bottoms new new_bottoms place run =
-    (before : List Item) → Ready before old bottoms → Closing before new new_bottoms place run × ((kinds : ℕ) → spent kinds new new_bottoms ≤ spent kinds old bottoms + (kinds + 1 + run.left)) × (new.looks ≡ old.looks)
+abbrev pub BringsCloser : (old new : Openers) → ℕ → Run → Type 0
+BringsCloser old new place run =
+    (before : List Item) → Ready before old.list old.bottoms
+    → Closing before new.list new.bottoms place run × ((kinds : ℕ) → spent kinds new.list new.bottoms ≤ spent kinds old.list old.bottoms + (kinds + 1 + run.left))
+    × (new.list.looks ≡ old.list.looks)
 
 -- a search in vain, and one that found an opener
-abbrev pub FindsNone : Listed → List ℕ → Listed → List ℕ → ℕ → Run → Type 0
-FindsNone old bottoms new new_bottoms place closer =
-    (before : List Item) → Closing before old bottoms place closer → Closing before new new_bottoms place closer × (nearest_opener closer before [] ≡ None) × ((kinds : ℕ) → kind closer < kinds → spent kinds new new_bottoms ≤ spent kinds old bottoms) × (old.looks ≤ new.looks)
+abbrev pub FindsNone : (old new : Openers) → ℕ → Run → Type 0
+FindsNone old new place closer =
+    (before : List Item) → Closing before old.list old.bottoms place closer
+    → Closing before new.list new.bottoms place closer × (nearest_opener closer before [] ≡ None)
+    × ((kinds : ℕ) → kind closer < kinds → spent kinds new.list new.bottoms ≤ spent kinds old.list old.bottoms) × (old.list.looks ≤ new.list.looks)
 
-abbrev pub Opens : Listed → List ℕ → Listed → List ℕ → ℕ → Run → Entry → Type 0
-Opens old bottoms new new_bottoms place closer opener =
-    (before : List Item) → Closing before old bottoms place closer → Open before new new_bottoms place closer opener × ((kinds : ℕ) → spent kinds new new_bottoms ≤ spent kinds old bottoms + 1) × (old.looks + 1 ≤ new.looks)
+abbrev pub Opens : (old new : Openers) → ℕ → Run → Entry → Type 0
+Opens old new place closer opener =
+    (before : List Item) → Closing before old.list old.bottoms place closer
+    → Open before new.list new.bottoms place closer opener × ((kinds : ℕ) → spent kinds new.list new.bottoms ≤ spent kinds old.list old.bottoms + 1)
+    × (old.list.looks + 1 ≤ new.list.looks)
 
--- a pair that leaves so much of its opener and of the closer
+-- a run of which so much is left
 abbrev pub cut : ℕ → Run → Run
 cut left r = record r { left = left }
 
-abbrev pub Spends : Listed → List ℕ → Listed → List ℕ → Entry → List Item → Type 0
-Spends old bottoms new new_bottoms opener rest =
-    (before : List Item) (place : ℕ) (closer : Run) (n : ℕ) (i : Inline) (w : Open before old bottoms place closer opener) → n ≤ closer.left →
-    Closing (Finished i ∷ (rest ++ w.items)) new new_bottoms place (cut n closer) × ((kinds : ℕ) → spent kinds new new_bottoms + 1 ≤ spent kinds old bottoms) × (new.looks ≡ old.looks)
+-- this is what is left of a run of which something was taken
+abbrev pub IsRestOf : DelimiterRun → DelimiterRun → Type 0
+IsRestOf rest run = (run_of rest ≡ cut rest.left (run_of run)) × (rest.left < run.left)
+
+-- a pair that leaves so much of its opener and of the closer
+
+abbrev pub Spends : (old new : Openers) → Entry → List Item → Type 0
+Spends old new opener rest =
+    (before : List Item) (place : ℕ) (closer : Run) (n : ℕ) (i : Inline) (w : Open before old.list old.bottoms place closer opener) → n ≤ closer.left →
+    Closing (Finished i ∷ (rest ++ w.items)) new.list new.bottoms place (cut n closer) × ((kinds : ℕ) → spent kinds new.list new.bottoms + 1 ≤ spent kinds old.list old.bottoms)
+    × (new.list.looks ≡ old.list.looks)
 
 -- the closer among the items, and a closer that is gone
-abbrev pub Finishes : Listed → List ℕ → Listed → List ℕ → ℕ → Run → ℕ → Type 0
-Finishes old bottoms new new_bottoms place closer item =
-    (before : List Item) → length before ≡ item → Closing before old bottoms place closer → Ready (Delimiters closer ∷ before) new new_bottoms × ((kinds : ℕ) → spent kinds new new_bottoms ≤ spent kinds old bottoms) × (new.looks ≡ old.looks)
+abbrev pub Finishes : (old new : Openers) → ℕ → Run → ℕ → Type 0
+Finishes old new place closer item =
+    (before : List Item) → length before ≡ item → Closing before old.list old.bottoms place closer
+    → Ready (Delimiters closer ∷ before) new.list new.bottoms × ((kinds : ℕ) → spent kinds new.list new.bottoms ≤ spent kinds old.list old.bottoms) × (new.list.looks ≡ old.list.looks)
 
-abbrev pub Drops : Listed → List ℕ → Listed → List ℕ → ℕ → Type 0
-Drops old bottoms new new_bottoms place =
-    (before : List Item) (closer : Run) → Closing before old bottoms place closer → Ready before new new_bottoms × ((kinds : ℕ) → spent kinds new new_bottoms ≤ spent kinds old bottoms) × (new.looks ≡ old.looks)
+abbrev pub Drops : (old new : Openers) → ℕ → Type 0
+Drops old new place =
+    (before : List Item) (closer : Run) → Closing before old.list old.bottoms place closer
+    → Ready before new.list new.bottoms × ((kinds : ℕ) → spent kinds new.list new.bottoms ≤ spent kinds old.list old.bottoms) × (new.list.looks ≡ old.list.looks)

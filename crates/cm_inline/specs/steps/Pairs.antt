@@ -1,13 +1,14 @@
 -- Pairs of delimiter runs among the nodes of a source, made in one pass, and the looks that they take.
-use Rattle.std.specs.Prelude.{◌≡◌, ℕ, ◌+◌, ◌<◌, ◌≤◌, suc, List, [], ◌∷◌, length, take, drop, map, reverse, sum_by, ⊤}
+use Rattle.std.specs.Prelude.{◌≡◌, ℕ, ◌+◌, ◌^◌, ◌<◌, ◌≤◌, suc, List, [], ◌∷◌, length, take, drop, map, reverse, sum_by, ⊤}
 use Rattle.cm_scan.specs.Delimiters.{Run}
-use Rattle.cm_scan.specs.Pairing.{Item, Finished, Linked, Delimiters, Opened}
+use Rattle.cm_scan.specs.Pairing.{Item, Finished, Linked, Delimiters, Opened, pair_all}
 use Rattle.cm_scan.specs.OnePass.{passed}
 use Rattle.cm_inline.specs.Emphases.{sum, emphases_of}
+use Rattle.cm_inline.specs.steps.Depths.{items_depth}
 use Rattle.cm_inline.specs.steps.Nodes.{Node, items_of, AreParts}
-use Rattle.cm_inline.specs.steps.Entries.{Listed}
 use Rattle.cm_inline.specs.declared.delimiters.Delimiter.{Delimiter}
-use Rattle.cm_inline.specs.steps.Groups.{Held, nodes_in, ArePlaced}
+use Rattle.cm_inline.specs.declared.openers.Openers.{Openers}
+use Rattle.cm_inline.specs.steps.Groups.{Held, nodes_in, items_from, ArePlaced}
 use Rattle.cm_inline.specs.steps.Runs.{run_of}
 use Rattle.cm_inline.specs.steps.Openers.{Ready, spent}
 use Rattle.cm_inline.specs.steps.Searching.{kind}
@@ -20,6 +21,10 @@ allowed kinds _ = 0
 
 abbrev pub allowance : (kinds : ℕ) → List Item → ℕ
 allowance kinds items = sum_by (allowed kinds) items
+
+-- the looks so far and those for which items pay, of closers of all kinds, fit into the count of looks
+abbrev pub AreFew : (looks : ℕ) → List Item → Type 0
+AreFew looks items = looks + allowance 13 items < 2 ^ 127
 
 -- the runs among items are of the first so many kinds
 abbrev pub IsOf : (kinds : ℕ) → Item → Type 0
@@ -52,10 +57,10 @@ pub record Stays (from : ℕ) (old new : Held) : Type 0 where
 
 -- A run is added behind nodes, and makes all its pairs first: the list stands for the openers among the nodes again, the run pays for
 -- the looks, and each emphasis that is made takes one.
-pub record Adds (source : List ℕ) (old : List Node) (old_list : Listed) (old_bottoms : List ℕ) (new : List Node) (new_list : Listed) (new_bottoms : List ℕ) (run : Run) : Type 0 where
-  pub ready : Ready (reverse (items_of source new)) new_list new_bottoms
-  pub paid : (kinds : ℕ) → kind run < kinds → spent kinds new_list new_bottoms ≤ spent kinds old_list old_bottoms + (kinds + 1 + run.left)
-  pub made : old_list.looks + items_emphases (items_of source new) ≤ new_list.looks + items_emphases (items_of source old)
+pub record Adds (source : List ℕ) (old : List Node) (had : Openers) (new : List Node) (has : Openers) (run : Run) : Type 0 where
+  pub ready : Ready (reverse (items_of source new)) has.list has.bottoms
+  pub paid : (kinds : ℕ) → kind run < kinds → spent kinds has.list has.bottoms ≤ spent kinds had.list had.bottoms + (kinds + 1 + run.left)
+  pub made : had.list.looks + items_emphases (items_of source new) ≤ has.list.looks + items_emphases (items_of source old)
   pub passes : reverse (items_of source new) ≡ passed (reverse (items_of source old)) (Delimiters run)
 
 -- The looks at the end, where items come to what holds so many emphases: the items pay for those that were added, and each emphasis
@@ -63,6 +68,16 @@ pub record Adds (source : List ℕ) (old : List Node) (old_list : Listed) (old_b
 pub record AreLooks (looks : ℕ) (items : List Item) (later emphases : ℕ) : Type 0 where
   pub paid : (kinds : ℕ) → AreOf kinds items → later ≤ looks + allowance kinds items
   pub made : looks + emphases ≤ later + items_emphases items
+
+-- All pairs among the nodes from a number on are made, with so many looks before and so many at the end.
+pub record MakesPairs (from : ℕ) (old : Held) (sooner : ℕ) (new : Held) (later : ℕ) : Type 0 where
+  pub pairs : (source : List ℕ) → items_from source from new ≡ pair_all (items_from source from old)
+  pub stays : Stays from old new
+  pub looks : (source : List ℕ) → AreLooks sooner (items_from source from old) later (items_emphases (pair_all (items_from source from old)))
+
+-- whatever source the nodes are parts of, the pairs among them nest deeper than the limit
+abbrev pub PairsNestPast : (limit from : ℕ) → Held → Type 0
+PairsNestPast limit from held = (source : List ℕ) → AreParts source (nodes_in held) → limit < items_depth (pair_all (items_from source from held))
 
 -- Items come to others with more looks: those for which the items pay are still enough, and each emphasis that was made took one.
 pub record Keeps (looks : ℕ) (items : List Item) (later : ℕ) (others : List Item) : Type 0 where

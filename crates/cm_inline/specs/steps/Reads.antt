@@ -12,6 +12,7 @@ use Rattle.cm_html.specs.Html.{inlines_html}
 use Rattle.cm_scan.specs.Inlines.{items_after, inlines_of, nests_past}
 use Rattle.cm_scan.specs.InlineLaws.{is_plain_byte, keeps_spaces}
 use Rattle.cm_scan.specs.Runs.{runs_after, runs_of, characters_of}
+use Rattle.cm_inline.specs.steps.Bytes.{line_feed, space}
 use Rattle.cm_inline.specs.steps.Nodes.{Node, item_of, items_of, IsPart}
 use Rattle.cm_inline.specs.Emphases.{emphases_of}
 use Rattle.cm_inline.specs.Reading.{looks_at_most}
@@ -44,7 +45,7 @@ pub record IsAllText (source : List ℕ) : Type 0 where
 
 -- a byte with which a line break can begin
 abbrev pub is_break_byte : ℕ → Bool
-is_break_byte b = b == 10 || b == 32
+is_break_byte b = b == line_feed || b == space
 
 -- what an atom puts among the items; a `]` puts nothing by itself
 abbrev pub item_for : Atom → List ℕ → Option items.Item

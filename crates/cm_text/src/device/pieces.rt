@@ -1,5 +1,6 @@
 //! A source in memory.
-ghost use Rattle.std.specs.Prelude.{◌≡◌, ◌+◌, ◌-◌, ◌^◌, ◌<◌, [], length, take, drop, Some, OnErr, IsErr, is_ok, if◌then◌else◌, true, min, IfOk};
+ghost use Rattle.std.specs.Prelude.{◌≡◌, ◌+◌, ◌-◌, ◌^◌, ◌<◌, [], if◌then◌else◌};
+ghost use Rattle.std.specs.Prelude.{length, take, drop, Some, OnErr, IsErr, is_ok, true, min, IfOk};
 ghost use Rattle.std.specs.Io.{ReadsAtMost};
 ghost use Rattle.std.specs.Io.KnownBytes.{ReadConsumes};
 ghost use Rattle.std.specs.List.{flat_map};
@@ -51,21 +52,26 @@ fn give(bytes: &[u8], buf: &mut [u8]) -> usize
 impl Source for Pieces {
     ghost use Rattle.cm_text.specs.Devices.{fails_of, next_piece};
 
-    ghost remaining = { λ s. Some (drop s.start (flat_map (λ piece. piece.items) (drop s.index s.pieces.items))) };
+    ghost remaining = { λ s. Some (drop s.start
+        (flat_map (λ piece. piece.items) (drop s.index s.pieces.items))) };
 
     ghost failed = { λ s. s.failures };
 
     fn read(&mut self, buf: &mut [u8]) -> Result<usize, DeviceFailed>
         requires { ⟦<Pieces as Source>⟧.failed self.old < 2 ^ 64 - 1 }
         ensures bound { ReadsAtMost result buf.new }
-        ensures bytes { ReadConsumes (⟦<Pieces as Source>⟧.remaining self.old) (⟦<Pieces as Source>⟧.remaining self.new) result buf.new }
+        ensures bytes { ReadConsumes (⟦<Pieces as Source>⟧.remaining self.old)
+            (⟦<Pieces as Source>⟧.remaining self.new) result buf.new }
         ensures failures { ⟦<Pieces as Source>⟧.failed self.new
-            ≡ (if is_ok result then ⟦<Pieces as Source>⟧.failed self.old else ⟦<Pieces as Source>⟧.failed self.old + 1) }
+            ≡ (if is_ok result then ⟦<Pieces as Source>⟧.failed self.old
+            else ⟦<Pieces as Source>⟧.failed self.old + 1) }
         // It gives as much of the next piece as the buffer holds, and nothing of the one behind it.
         ensures piece { IfOk result (λ n. n ≡ min (length (next_piece self.old)) (length buf.old)) }
         // It fails exactly where the pieces are used up and it was made to.
-        ensures fails { OnErr result ((⟦<Pieces as Source>⟧.remaining self.old ≡ Some []) × (fails_of self.old ≡ true)) }
-        ensures ends { fails_of self.old ≡ true → ⟦<Pieces as Source>⟧.remaining self.old ≡ Some [] → IsErr result }
+        ensures fails { OnErr result ((⟦<Pieces as Source>⟧.remaining self.old ≡ Some [])
+            × (fails_of self.old ≡ true)) }
+        ensures ends { fails_of self.old ≡ true
+            → ⟦<Pieces as Source>⟧.remaining self.old ≡ Some [] → IsErr result }
         ensures kept { fails_of self.new ≡ fails_of self.old }
     {
         while self.index < self.pieces.len() {

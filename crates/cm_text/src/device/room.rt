@@ -1,5 +1,6 @@
 //! A sink in memory.
-ghost use Rattle.std.specs.Prelude.{◌≡◌, ◌+◌, ◌-◌, ◌^◌, ◌<◌, ◌≤◌, [], length, Some, IfOk, is_ok, if◌then◌else◌, vec_capacity, vec_len};
+ghost use Rattle.std.specs.Prelude.{◌≡◌, ◌+◌, ◌-◌, ◌^◌, ◌<◌, ◌≤◌, [], if◌then◌else◌};
+ghost use Rattle.std.specs.Prelude.{length, Some, IfOk, is_ok, vec_capacity, vec_len};
 ghost use Rattle.std.specs.Io.{WritesAtMost};
 ghost use Rattle.std.specs.Io.KnownBytes.{WriteAppends};
 
@@ -55,9 +56,11 @@ impl Sink for Room {
         requires { ⟦<Room as Sink>⟧.failed self.old < 2 ^ 64 - 1 }
         ensures bound { WritesAtMost result bytes.now }
         ensures some { IfOk result (λ n. 0 < length bytes.now → 0 < n) }
-        ensures bytes { WriteAppends (⟦<Room as Sink>⟧.taken self.old) (⟦<Room as Sink>⟧.taken self.new) result bytes.now }
+        ensures bytes { WriteAppends (⟦<Room as Sink>⟧.taken self.old)
+            (⟦<Room as Sink>⟧.taken self.new) result bytes.now }
         ensures failures { ⟦<Room as Sink>⟧.failed self.new
-            ≡ (if is_ok result then ⟦<Room as Sink>⟧.failed self.old else ⟦<Room as Sink>⟧.failed self.old + 1) }
+            ≡ (if is_ok result then ⟦<Room as Sink>⟧.failed self.old
+            else ⟦<Room as Sink>⟧.failed self.old + 1) }
         ensures answer { result ≡ room_answer self.old bytes.now }
         ensures capacity { capacity_of self.new ≡ capacity_of self.old }
         ensures at_most { at_most_of self.new ≡ at_most_of self.old }

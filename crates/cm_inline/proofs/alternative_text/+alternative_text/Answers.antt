@@ -18,8 +18,8 @@ push_alternative_text-loop-token-init t c =
     let asked = c.requires.1.1 in
     record {
       html = refl {a = c.args.html.now ++ escape (nodes_plain source (nodes_of (groups_made inside c.args.groups.now) (slice_range inside group.from group.to)))};
-      below = asked.1.1.below;
-      placed = placed-range source inside group.from group.to asked.0;
+      below = asked.group.below;
+      placed = placed-range source inside group.from group.to asked.placed;
     }
 
 pub push_alternative_text-returns : goal.push_alternative_text-returns
@@ -34,11 +34,8 @@ push_alternative_text-returns t c =
 
 pub push_token-push_alternative_text-requires : goal.push_token-push_alternative_text-requires
 push_token-push_alternative_text-requires t c =
-    let groups = c.args.groups.now in
-    let asked = c.requires.1.1 in
-    let low : c.in-Made.number < length groups = (subst (IsBelow (length groups)) c.in-Made.is asked.1.1.0).0 in
-    let behind = behind-front c.args.inside.now groups c.up_to.result c.in-Made.number (grouped c.get.result) asked.1.0 low c.get.ensures c.up_to.ensures in
-    (omega (arith, c.requires.1.0, behind.fewer), (asked.0, (behind.first, behind.is)))
+    let behind = behind-front c.args.source.now c.args.inside.now c.args.groups.now c.up_to.result c.args.token c.in-Made.number _ _ (grouped c.get.result) c.requires.1.1 c.in-Made.is c.get.ensures c.up_to.ensures in
+    (omega (arith, c.requires.1.0, behind.fewer), behind.among)
 
 pub push_token-returns-in-Made : goal.push_token-returns-in-Made
 push_token-returns-in-Made t c =
@@ -46,7 +43,7 @@ push_token-returns-in-Made t c =
     let inside = c.args.inside.now in
     let source = c.args.source.now in
     let number = c.in-Made.number in
-    let low : number < length groups = (subst (IsBelow (length groups)) c.in-Made.is c.requires.1.1.1.1.0).0 in
+    let low : number < length groups = (subst (IsBelow (length groups)) c.in-Made.is c.requires.1.1.below).0 in
     let group = grouped c.get.result in
     let same = made-at inside groups number group low c.get.ensures ∙ ap (λ gs. group_made inside (groups_made inside gs) group) (sym c.up_to.ensures) in
     let whole = sym (ap (λ token. node_plain source (node_of (groups_made inside groups) token)) c.in-Made.is ∙ ap (λ made. (rendered (made source)).plain) same) in

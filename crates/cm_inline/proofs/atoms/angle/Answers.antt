@@ -2,11 +2,11 @@ use Rattle.std.proofs.Common.{◌+◌, ◌-◌, ◌≤◌, [], refl, sym, subst,
 use Rattle.cm_scan.specs.Atoms.{link_of}
 use Rattle.cm_scan.specs.Scanned.{autolink_with}
 use Rattle.cm_inline.specs.declared.tokens.Token.TheVariants.{Piece}
-use Rattle.cm_inline.specs.declared.written.Written.TheVariants.{Html, Autolink}
+use Rattle.cm_inline.specs.declared.standalone.Standalone.TheVariants.{Html, Autolink}
 use Rattle.cm_tree.specs.declared.tree.Inline.TheVariants as inlines
 use Rattle.cm_inline.specs.steps.Reads.{IsAtom}
 use Rattle.cm_inline.proofs.AtomLemmas.{told, link-is, html-is, angle-is-text}
-use Rattle.cm_inline.proofs.WrittenLemmas.{finished, whole-is, link-placed, link-further, whole-placed, whole-text}
+use Rattle.cm_inline.proofs.StandaloneLemmas.{finished, whole-is, link-placed, link-further, whole-placed, whole-text}
 use Rattle.cm_inline.proofs.atoms.angle.Goals as goal
 
 pub returns-in-Some-clause-atom : goal.returns-in-Some-clause-atom

@@ -3,10 +3,10 @@ use Rattle.cm_inline.specs.declared.tokens.Token.TheVariants.{Piece}
 use Rattle.cm_inline.specs.steps.Reads.{IsAtom}
 use Rattle.std.specs.Prelude.{nat_le, if◌then◌else◌}
 use Rattle.cm_tree.specs.declared.tree.Inline.TheVariants as inlines
-use Rattle.cm_inline.specs.declared.written.Written.{Written}
-use Rattle.cm_inline.specs.declared.written.Written.TheVariants.{Soft, Hard}
-use Rattle.cm_inline.specs.steps.Written.{inline_in, IsWithin}
-use Rattle.cm_inline.proofs.WrittenLemmas.{finished, whole-is}
+use Rattle.cm_inline.specs.declared.standalone.Standalone.{Standalone}
+use Rattle.cm_inline.specs.declared.standalone.Standalone.TheVariants.{Soft, Hard}
+use Rattle.cm_inline.specs.steps.Standalone.{inline_in, IsWithin}
+use Rattle.cm_inline.proofs.StandaloneLemmas.{finished, whole-is}
 use Rattle.cm_inline.proofs.AtomLemmas.{told, break-is, space-is-text}
 use Rattle.cm_inline.proofs.LinkLemmas.{next-of}
 use Rattle.cm_inline.proofs.atoms.line_break.Goals as goal
@@ -24,6 +24,6 @@ returns c =
     (subst (λ inline. IsAtom rules c.args.source.now c.args.at (finished inline 0) (c.after_run-feed.result + 1)) (sym made.0)
     (break-is rules c.args.source.now c.args.at 32 c.after_run-feed.result c.utf8.source c.requires refl c.after_run-feed.ensures.end c.after_run-feed.ensures.behind (sym (next-of 10 c.args.source.now c.as_bytes.result.now c.after_run-feed.result c.is_next.result c.as_bytes.ensures.value c.is_next.ensures) ∙ c.if-not-is_next.false)))
   where
-    broken : (source : List ℕ) (hard : Bool) (w : Written) → w ≡ (if hard then Hard else Soft) → (inline_in source w ≡ (if hard then inlines.Hard else inlines.Soft)) × IsWithin source w
+    broken : (source : List ℕ) (hard : Bool) (w : Standalone) → w ≡ (if hard then Hard else Soft) → (inline_in source w ≡ (if hard then inlines.Hard else inlines.Soft)) × IsWithin source w
     broken source true w e = (ap (inline_in source) e, subst (IsWithin source) (sym e) tt)
     broken source false w e = (ap (inline_in source) e, subst (IsWithin source) (sym e) tt)

@@ -1,6 +1,6 @@
 use Rattle.std.proofs.Common.{◌+◌}
-use Rattle.cm_inline.specs.declared.written.Written.TheVariants.{Soft}
-use Rattle.cm_inline.proofs.WrittenLemmas.{whole-is}
+use Rattle.cm_inline.specs.declared.standalone.Standalone.TheVariants.{Soft}
+use Rattle.cm_inline.proofs.StandaloneLemmas.{whole-is}
 use Rattle.cm_inline.proofs.AtomLemmas.{feed-is}
 use Rattle.cm_inline.proofs.atoms.line_feed.Goals as goal
 

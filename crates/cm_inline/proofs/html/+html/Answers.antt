@@ -14,8 +14,8 @@ pub push_group-push_content-requires : goal.push_group-push_content-requires
 push_group-push_content-requires t c =
     let group = c.args.group in
     let asked = c.requires.1.1 in
-    let placed = placed-range c.args.source.now c.args.inside.now group.from group.to asked.0 in
-    (omega (arith, c.requires.1.0), (asked.0, (asked.1.0, (asked.1.1.below, placed))))
+    let placed = placed-range c.args.source.now c.args.inside.now group.from group.to asked.placed in
+    (omega (arith, c.requires.1.0), record { placed = asked.placed; groups = asked.groups; below = asked.group.below; tokens = placed })
 
 pub push_group-returns : goal.push_group-returns
 push_group-returns t c =
@@ -38,14 +38,8 @@ push_group-returns-in-Image t c =
 
 pub push_token-push_group-requires : goal.push_token-push_group-requires
 push_token-push_group-requires t c =
-    let groups = c.args.groups.now in
-    let number = c.in-Made.number in
-    let inside = c.args.inside.now in
-    let group = grouped c.get.result in
-    let asked = c.requires.1.1 in
-    let low : number < length groups = (subst (IsBelow (length groups)) c.in-Made.is asked.1.1.0).0 in
-    let behind = behind-front inside groups c.up_to.result number group asked.1.0 low c.get.ensures c.up_to.ensures in
-    (omega (arith, c.requires.1.0, behind.fewer), (asked.0, (behind.first, behind.is)))
+    let behind = behind-front c.args.source.now c.args.inside.now c.args.groups.now c.up_to.result c.args.token c.in-Made.number _ _ (grouped c.get.result) c.requires.1.1 c.in-Made.is c.get.ensures c.up_to.ensures in
+    (omega (arith, c.requires.1.0, behind.fewer), behind.among)
 
 pub push_token-returns-in-Made : goal.push_token-returns-in-Made
 push_token-returns-in-Made t c =
@@ -53,14 +47,14 @@ push_token-returns-in-Made t c =
     let inside = c.args.inside.now in
     let source = c.args.source.now in
     let number = c.in-Made.number in
-    let low : number < length groups = (subst (IsBelow (length groups)) c.in-Made.is c.requires.1.1.1.1.0).0 in
+    let low : number < length groups = (subst (IsBelow (length groups)) c.in-Made.is c.requires.1.1.below).0 in
     let group = grouped c.get.result in
     let same = made-at inside groups number group low c.get.ensures ∙ ap (λ gs. group_made inside (groups_made inside gs) group) (sym c.up_to.ensures) in
     let whole = sym (ap (λ token. node_html source (node_of (groups_made inside groups) token)) c.in-Made.is ∙ ap (λ made. (rendered (made source)).html) same) in
     subst (λ html. OnOk c.push_group.result (c.push_group.new.html ≡ c.args.html.now ++ html)) whole c.push_group.ensures
 
 pub push_tokens-loop-token-init : goal.push_tokens-loop-token-init
-push_tokens-loop-token-init t c = record { waits = c.no_text-from.ensures.between; html = ap (λ text. c.args.html.now ++ (escape text ++ nodes_html c.args.source.now (nodes_of (groups_made c.args.inside.now c.args.groups.now) c.args.tokens.now))) c.no_text-from.ensures.none; below = c.requires.1.1.1.1.0; placed = c.requires.1.1.1.1.1 }
+push_tokens-loop-token-init t c = record { waits = c.no_text-from.ensures.between; html = ap (λ text. c.args.html.now ++ (escape text ++ nodes_html c.args.source.now (nodes_of (groups_made c.args.inside.now c.args.groups.now) c.args.tokens.now))) c.no_text-from.ensures.none; below = c.requires.1.1.below; placed = c.requires.1.1.tokens }
 
 pub push_tokens-text_ahead-requires : goal.push_tokens-text_ahead-requires
 push_tokens-text_ahead-requires t c =
@@ -75,7 +69,7 @@ push_tokens-push_apart-requires t c =
     let step = drop_more tokens c.loop-token.token-index _ c.loop-token-test.true in
     let below = subst (AreBelow (length c.args.groups.now)) step c.loop-token.invariant.below in
     let placed = subst (ArePlaced c.args.source.now) step c.loop-token.invariant.placed in
-    (omega (arith, c.requires.1.0), (asked.0, (asked.1.0, (below.0, placed.0))))
+    (omega (arith, c.requires.1.0), record { placed = asked.placed; groups = asked.groups; below = below.0; token = placed.0 })
 
 pub push_tokens-loop-token-preserved-in-Some : goal.push_tokens-loop-token-preserved-in-Some
 push_tokens-loop-token-preserved-in-Some t c =

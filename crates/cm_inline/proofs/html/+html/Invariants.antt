@@ -2,7 +2,7 @@ use Rattle.std.proofs.Common.{◌≡◌, ◌++◌, ◌+◌, ◌*◌, length, dro
 use Rattle.std.specs.List.{slice_range}
 use Rattle.cm_html.specs.Escape.{escape}
 use Rattle.cm_inline.specs.steps.Nodes.{nodes_html}
-use Rattle.cm_inline.specs.steps.Written.{IsBetween}
+use Rattle.cm_inline.specs.steps.Standalone.{IsBetween}
 use Rattle.cm_inline.specs.steps.Groups.{groups_made, nodes_of, AreBelow, ArePlaced}
 use Rattle.cm_inline.proofs.html.+html.Given as goal
 

@@ -1,25 +1,19 @@
 use Rattle.std.proofs.Common.{◌≡◌, ◌++◌, sym, ap, subst, ◌∙◌}
 use Rattle.std.specs.Prelude.{OnOk}
-use Rattle.cm_inline.specs.steps.Nodes.{nodes_html, AreParts}
-use Rattle.cm_inline.specs.steps.Groups.{groups_made, nodes_in, nodes_of, ArePlaced}
-use Rattle.cm_inline.proofs.GroupLemmas.{nodes-in, parts-placed}
+use Rattle.cm_inline.specs.steps.Nodes.{nodes_html}
+use Rattle.cm_inline.specs.steps.Groups.{nodes_in}
+use Rattle.cm_inline.proofs.GroupLemmas.{are-among, nodes-among}
 use Rattle.cm_inline.proofs.HtmlLemmas.{settled-html}
 use Rattle.cm_inline.proofs.html.push_nodes.Goals as goal
 
-pub push_tokens-requires-clause-tokens : goal.push_tokens-requires-clause-tokens
-push_tokens-requires-clause-tokens c =
-    let source = c.args.source.now in
-    let held = c.args.nodes.now in
-    let parts = subst (AreParts source) (nodes-in held) c.requires.parts in
-    subst (ArePlaced source) (sym c.tokens.ensures.tokens) (parts-placed source (groups_made held.inside held.groups) held.before parts)
+pub push_tokens-requires : goal.push_tokens-requires
+push_tokens-requires c =
+    are-among c.args.source.now c.args.nodes.now c.inside.result.now c.groups.result c.tokens.result.now c.inside.ensures c.groups.ensures.groups c.tokens.ensures.tokens c.requires.parts c.requires.placed c.groups.ensures.are c.tokens.ensures.below
 
 pub returns : goal.returns
 returns c =
     let source = c.args.source.now in
     let held = c.args.nodes.now in
-    let before = c.args.html.now in
-    let same = ap (λ inside. nodes_of (groups_made inside c.groups.result) c.tokens.result.now) c.inside.ensures
-    ∙ ap (λ groups. nodes_of (groups_made held.inside groups) c.tokens.result.now) c.groups.ensures.groups
-    ∙ ap (nodes_of (groups_made held.inside held.groups)) c.tokens.ensures.tokens ∙ sym (nodes-in held) in
+    let same = nodes-among held c.inside.result.now c.groups.result c.tokens.result.now c.inside.ensures c.groups.ensures.groups c.tokens.ensures.tokens in
     let whole = ap (nodes_html source) same ∙ sym (settled-html source (nodes_in held)) in
-    subst (λ html. OnOk c.push_tokens.result (c.push_tokens.new.html ≡ before ++ html)) whole c.push_tokens.ensures
+    subst (λ html. OnOk c.push_tokens.result (c.push_tokens.new.html ≡ c.args.html.now ++ html)) whole c.push_tokens.ensures

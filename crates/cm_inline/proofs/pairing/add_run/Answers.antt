@@ -9,7 +9,7 @@ use Rattle.cm_inline.specs.steps.Depths.{items_depth}
 use Rattle.cm_inline.specs.steps.Entries.{is_listed}
 use Rattle.cm_inline.specs.steps.Groups.{nodes_in}
 use Rattle.cm_inline.specs.steps.Nodes.{Run, items_of, nodes_depth}
-use Rattle.cm_inline.specs.steps.Openers.{Closing, spent, cut}
+use Rattle.cm_inline.specs.steps.Openers.{Closing, spent, cut, IsRestOf}
 use Rattle.cm_inline.specs.steps.Pairs.{items_emphases}
 use Rattle.cm_inline.specs.steps.Runs.{run_of, rest_of, entry_of}
 use Rattle.cm_inline.specs.steps.Searching.{kind}
@@ -49,7 +49,7 @@ make_pair-requires-clause-there c =
     opener-there items c.take_opener.new.openers.list c.take_opener.new.openers.bottoms c.in_ok-place.place (run_of c.loop-closer.closer) (entry_of c.in-Some.opener) (c.in-Some.ensures items (c.loop-closer.invariant.closing [])).0
 
 -- the pair that was made, of which something of the closer is left
-goes-fewer : (c : goal.In-Some-2) → (run_of c.in-Some-2.rest ≡ cut c.in-Some-2.rest.left (run_of c.loop-closer.closer)) × (c.in-Some-2.rest.left < c.loop-closer.closer.left)
+goes-fewer : (c : goal.In-Some-2) → IsRestOf c.in-Some-2.rest c.loop-closer.closer
 goes-fewer c = goes-on c.in_ok-rest.field-0 c.in-Some-2.rest c.loop-closer.closer c.in-Some-2.is c.in_ok-rest.ensures.fewer
 
 pair-on : (c : goal.In-Some-2) (source : List ℕ)

@@ -40,4 +40,4 @@ returns-clause-stays c =
 
 pub returns-clause-spends : goal.returns-clause-spends
 returns-clause-spends c =
-    subst (Spends c.args.openers.now.list c.args.openers.now.bottoms c.spend.new.openers.list c.spend.new.openers.bottoms (entry_of c.args.opener)) (left-is c) c.spend.ensures
+    subst (Spends c.args.openers.now c.spend.new.openers (entry_of c.args.opener)) (left-is c) c.spend.ensures

@@ -3,7 +3,7 @@ use Rattle.std.specs.Prelude.{Err}
 use Rattle.cm_inline.specs.declared.fault.InlineFault.TheVariants.{InlinesTooDeep}
 use Rattle.cm_inline.specs.steps.Groups.{waiting_in}
 use Rattle.cm_inline.proofs.DeeperLemmas.{same-fault}
-use Rattle.cm_inline.proofs.PassingLemmas.{Passing, passing-none, passing-run, passing-end, passing-adds, fewer-wait, run-pays, passing-deep, all-passed, passed-stays, passed-looks}
+use Rattle.cm_inline.proofs.PassingLemmas.{Passing, passing-none, passing-run, passing-end, passing-adds, fewer-wait, run-pays, passing-deep, passed-makes}
 use Rattle.cm_inline.proofs.pairing.make_pairs.Goals as goal
 
 pub loop-run-init : goal.loop-run-init
@@ -52,20 +52,8 @@ returns-in_err-add_run-clause-deep c = λ e source parts.
 
 -- all nodes were taken
 
-pub returns-clause-pairs : goal.returns-clause-pairs
-returns-clause-pairs c =
-    all-passed c.args.from c.args.nodes.now c.pass.new.self c.args.openers.now.list.looks c.loop-run.openers.list c.loop-run.openers.bottoms
-    (passing-end c.args.from c.args.nodes.now c.loop-run.nodes c.pass.new.self c.in_ok-run.field-0 c.args.openers.now.list.looks c.loop-run.openers.list c.loop-run.openers.bottoms c.loop-run.invariant c.in_ok-run.ensures.takes
-    c.in_ok-run.ensures.inside c.in_default.not-Some)
-
-pub returns-clause-stays : goal.returns-clause-stays
-returns-clause-stays c =
-    passed-stays c.args.from c.args.nodes.now c.pass.new.self c.args.openers.now.list.looks c.loop-run.openers.list c.loop-run.openers.bottoms
-    (passing-end c.args.from c.args.nodes.now c.loop-run.nodes c.pass.new.self c.in_ok-run.field-0 c.args.openers.now.list.looks c.loop-run.openers.list c.loop-run.openers.bottoms c.loop-run.invariant c.in_ok-run.ensures.takes
-    c.in_ok-run.ensures.inside c.in_default.not-Some)
-
-pub returns-clause-looks : goal.returns-clause-looks
-returns-clause-looks c =
-    passed-looks c.args.from c.args.nodes.now c.pass.new.self c.args.openers.now.list.looks c.loop-run.openers.list c.loop-run.openers.bottoms
+pub returns-clause-made : goal.returns-clause-made
+returns-clause-made c =
+    passed-makes c.args.from c.args.nodes.now c.pass.new.self c.args.openers.now.list.looks c.loop-run.openers.list c.loop-run.openers.bottoms
     (passing-end c.args.from c.args.nodes.now c.loop-run.nodes c.pass.new.self c.in_ok-run.field-0 c.args.openers.now.list.looks c.loop-run.openers.list c.loop-run.openers.bottoms c.loop-run.invariant c.in_ok-run.ensures.takes
     c.in_ok-run.ensures.inside c.in_default.not-Some)

@@ -12,8 +12,8 @@ use std::collections::BTreeMap;
 /// Raw HTML).
 #[derive(Clone, Copy, Debug, PartialEq, Eq)]
 pub(crate) enum Form {
-    /// From `<!--` to `-->`. By the older rules a comment is over, or is none, at the next `--`, so that nothing
-    /// has to be remembered.
+    /// From `<!--` to `-->`. By the older rules a comment is over, or is none, at the next `--`, so that
+    /// nothing has to be remembered.
     Comment,
     /// From `<?` to `?>`.
     Instruction,
@@ -58,7 +58,7 @@ pub(crate) fn form_at(rules: Rules, source: &str, at: usize) -> Option<Form>
 /// From where on the end of each form stands nowhere in a source, as far as that is known, and where the last
 /// backtick strings end, once one has been looked for in vain.
 #[derive(Drop)]
-pub(crate) struct Ends {
+pub(crate) struct MissingEnds {
     comment: usize,
     instruction: usize,
     character_data: usize,
@@ -66,12 +66,12 @@ pub(crate) struct Ends {
     backticks: Option<BTreeMap<usize, usize>>,
 }
 
-impl Ends {
+impl MissingEnds {
     /// Nothing is known of the source yet.
-    pub(crate) fn of(source: &str) -> Ends
+    pub(crate) fn of(source: &str) -> MissingEnds
         ensures { Knows source.now result }
     {
-        Ends {
+        MissingEnds {
             comment: source.len(),
             instruction: source.len(),
             character_data: source.len(),

@@ -1,7 +1,7 @@
 use Rattle.std.proofs.Common.{◌+◌, ◌-◌, refl, arith}
 use Rattle.cm_scan.proofs.RunLemmas.{further}
-use Rattle.cm_inline.proofs.EndsLemmas.{next-tick, no-tick, none-behind-last}
-use Rattle.cm_inline.proofs.ends.last_backticks.Goals as goal
+use Rattle.cm_inline.proofs.MissingEndsLemmas.{next-tick, no-tick, none-behind-last}
+use Rattle.cm_inline.proofs.missing_ends.last_backticks.Goals as goal
 
 pub loop-plain-smaller : goal.loop-plain-smaller
 loop-plain-smaller c =

@@ -2,7 +2,7 @@ use Rattle.std.proofs.Common.{◌≡◌, ◌+◌, ◌-◌, ◌*◌, ◌++◌, le
 use Rattle.cm_scan.specs.Pairing.{settled}
 use Rattle.cm_inline.specs.steps.Groups.{groups_made, nodes_of}
 use Rattle.cm_inline.specs.steps.Nodes.{items_of}
-use Rattle.cm_inline.proofs.settling.+settling.Given as goal
+use Rattle.cm_inline.proofs.inlines_of_nodes.+inlines.Given as goal
 
 -- a group holds groups before it alone, so each call has fewer groups or is nearer to a token
 

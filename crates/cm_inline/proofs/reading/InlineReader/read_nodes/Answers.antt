@@ -15,7 +15,7 @@ use Rattle.cm_inline.proofs.DeeperLemmas.{settled-items}
 use Rattle.cm_inline.proofs.EmphasisLemmas.{settled-holds}
 use Rattle.cm_inline.proofs.PaysLemmas.{pays-most, pays-few-in}
 use Rattle.cm_inline.proofs.WholeLemmas.{inlines-are, nat_lt-false, nests, within-limit, refused}
-use Rattle.cm_inline.proofs.reading.read_nodes.Goals as goal
+use Rattle.cm_inline.proofs.reading.InlineReader.read_nodes.Goals as goal
 
 pub pair_from-requires-clause-few : goal.pair_from-requires-clause-few
 pair_from-requires-clause-few c =
@@ -36,15 +36,15 @@ pub returns-then-nest_past-clause-refused : goal.returns-then-nest_past-clause-r
 returns-then-nest_past-clause-refused c =
     let source = c.args.source.now in
     let items = items_of source (nodes_in c.read_all.new.reader.nodes) in
-    let depth = sym (settled-depth source (nodes_in c.pair_from.new.nodes) (c.in_ok-pair_from.ensures.stays.parts source c.in_ok-read_all.ensures.read.0.parts)) ∙ ap (λ t. inlines_depth (settled t)) (c.in_ok-pair_from.ensures.pairs source) in
+    let depth = sym (settled-depth source (nodes_in c.pair_from.new.nodes) (c.in_ok-pair_from.ensures.made.stays.parts source c.in_ok-read_all.ensures.read.0.parts)) ∙ ap (λ t. inlines_depth (settled t)) (c.in_ok-pair_from.ensures.made.pairs source) in
     let deep : nat_lt c.args.limit (inlines_depth (emphasis_of items)) ≡ true = ap (nat_lt c.args.limit) (sym depth) ∙ sym c.nest_past.ensures ∙ c.if-nest_past.true in
     nests c.args.rules (defined_in c.args.definitions.now) c.args.limit source items c.in_ok-read_all.ensures.items (grind (arith, nat_tests, deep))
 
 pub returns-clause-parts : goal.returns-clause-parts
-returns-clause-parts c = c.in_ok-pair_from.ensures.stays.parts c.args.source.now c.in_ok-read_all.ensures.read.0.parts
+returns-clause-parts c = c.in_ok-pair_from.ensures.made.stays.parts c.args.source.now c.in_ok-read_all.ensures.read.0.parts
 
 pub returns-clause-placed : goal.returns-clause-placed
-returns-clause-placed c = c.in_ok-pair_from.ensures.stays.placed c.args.source.now c.in_ok-read_all.ensures.read.0.parts c.in_ok-read_all.ensures.read.1
+returns-clause-placed c = c.in_ok-pair_from.ensures.made.stays.placed c.args.source.now c.in_ok-read_all.ensures.read.0.parts c.in_ok-read_all.ensures.read.1
 
 pub returns-clause-read : goal.returns-clause-read
 returns-clause-read c =
@@ -54,12 +54,12 @@ returns-clause-read c =
     let items = items_of source nodes in
     let looks = c.read_all.new.reader.openers.list.looks in
     let pays = c.in_ok-read_all.ensures.pays in
-    let content = ap settled (c.in_ok-pair_from.ensures.pairs source) in
-    let depth = sym (settled-depth source (nodes_in c.pair_from.new.nodes) (c.in_ok-pair_from.ensures.stays.parts source c.in_ok-read_all.ensures.read.0.parts)) ∙ ap inlines_depth content in
+    let content = ap settled (c.in_ok-pair_from.ensures.made.pairs source) in
+    let depth = sym (settled-depth source (nodes_in c.pair_from.new.nodes) (c.in_ok-pair_from.ensures.made.stays.parts source c.in_ok-read_all.ensures.read.0.parts)) ∙ ap inlines_depth content in
     let shallow : nat_lt c.args.limit (inlines_depth (emphasis_of items)) ≡ false = ap (nat_lt c.args.limit) (sym depth) ∙ sym c.nest_past.ensures ∙ c.if-nest_past.false in
     record {
       content = content ∙ inlines-are c.args.rules defined source items c.in_ok-read_all.ensures.items;
       within = within-limit c.args.rules defined c.args.limit source items c.in_ok-read_all.ensures.items (nat_lt-false c.args.limit (inlines_depth (emphasis_of items)) shallow);
-      most = omega (arith, c.looks.ensures, (c.in_ok-pair_from.ensures.looks source).paid (kinds_by c.args.rules) pays.are, pays-most c.args.rules defined source nodes (length source) looks pays);
-      least = omega (arith, c.looks.ensures, (c.in_ok-pair_from.ensures.looks source).made, settled-holds (pair_all items), pays.made, ap emphases content);
+      most = omega (arith, c.looks.ensures, (c.in_ok-pair_from.ensures.made.looks source).paid (kinds_by c.args.rules) pays.are, pays-most c.args.rules defined source nodes (length source) looks pays);
+      least = omega (arith, c.looks.ensures, (c.in_ok-pair_from.ensures.made.looks source).made, settled-holds (pair_all items), pays.made, ap emphases content);
     }

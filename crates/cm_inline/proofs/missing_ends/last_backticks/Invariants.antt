@@ -1,7 +1,7 @@
 use Rattle.std.proofs.Common.{◌≡◌, ℕ, ◌-◌, ◌≤◌, false, None, length, drop}
 use Rattle.cm_scan.specs.CodeSpans.{up_to_run}
 use Rattle.cm_inline.specs.steps.Missing.{behind_last}
-use Rattle.cm_inline.proofs.ends.last_backticks.Given as goal
+use Rattle.cm_inline.proofs.missing_ends.last_backticks.Given as goal
 
 -- what isn't found from here on isn't found behind the last one so far
 abbrev pub invariant-loop-plain : goal.invariant-loop-plain

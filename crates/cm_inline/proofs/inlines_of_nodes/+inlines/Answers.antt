@@ -7,25 +7,20 @@ use Rattle.cm_inline.specs.steps.Nodes.{items_of, inline_of}
 use Rattle.cm_inline.specs.steps.Groups.{Made, grouped, group_made, groups_made, node_of, nodes_of, IsBelow, ArePlaced}
 use Rattle.cm_inline.proofs.GroupLemmas.{made-at, behind-front, placed-range, placed-drop, placed-at}
 use Rattle.cm_inline.proofs.SettlingLemmas.{below-one, settled-behind, settled-further}
-use Rattle.cm_inline.proofs.settling.+settling.Goals as goal
+use Rattle.cm_inline.proofs.inlines_of_nodes.+inlines.Goals as goal
 
--- in a recursion over a text the clauses of `requires` have no names, and follow two other facts: `c.requires.1.1.0` is the first clause
+-- in a recursion over a text what is asked follows two other facts: it is `c.requires.1.1`
 
 pub group_inline-settle_tokens-requires : goal.group_inline-settle_tokens-requires
 group_inline-settle_tokens-requires t c =
     let group = c.args.group in
-    let placed = placed-range c.args.source.now c.args.inside.now group.from group.to c.requires.1.1.0 in
-    (omega arith, (c.requires.1.1.0, (c.requires.1.1.1.0, (c.requires.1.1.1.1.below, placed))))
+    let asked = c.requires.1.1 in
+    (omega arith, record { placed = asked.placed; groups = asked.groups; below = asked.group.below; tokens = placed-range c.args.source.now c.args.inside.now group.from group.to asked.placed })
 
 pub push_inline-group_inline-requires : goal.push_inline-group_inline-requires
 push_inline-group_inline-requires t c =
-    let inside = c.args.inside.now in
-    let groups = c.args.groups.now in
-    let number = c.in-Made.number in
-    let group = grouped c.get.result in
-    let low : number < length groups = (subst (IsBelow (length groups)) c.in-Made.is c.requires.1.1.1.1.0).0 in
-    let behind = behind-front inside groups c.up_to.result number group c.requires.1.1.1.0 low c.get.ensures c.up_to.ensures in
-    (omega (arith, behind.fewer), (c.requires.1.1.0, (behind.first, behind.is)))
+    let behind = behind-front c.args.source.now c.args.inside.now c.args.groups.now c.up_to.result c.args.token c.in-Made.number _ _ (grouped c.get.result) c.requires.1.1 c.in-Made.is c.get.ensures c.up_to.ensures in
+    (omega (arith, behind.fewer), behind.among)
 
 pub push_inline-returns-in_ok-push-in-Made : goal.push_inline-returns-in_ok-push-in-Made
 push_inline-returns-in_ok-push-in-Made t c =
@@ -34,7 +29,7 @@ push_inline-returns-in_ok-push-in-Made t c =
     let number = c.in-Made.number in
     let old = c.args.content.now.items in
     let made = groups_made c.args.inside.now groups in
-    let low : number < length groups = (subst (IsBelow (length groups)) c.in-Made.is c.requires.1.1.1.1.0).0 in
+    let low : number < length groups = (subst (IsBelow (length groups)) c.in-Made.is c.requires.1.1.below).0 in
     let inside = c.args.inside.now in
     let group = grouped c.get.result in
     let is = made-at inside groups number group low c.get.ensures in
@@ -47,7 +42,7 @@ settle_tokens-loop-at-init t c = ap (λ done. done ++ settled (items_of c.args.s
 
 pub settle_tokens-push_texts-requires : goal.settle_tokens-push_texts-requires
 settle_tokens-push_texts-requires t c =
-    subst (ArePlaced c.args.source.now) (sym (take_rest c.args.tokens.now c.loop-at.at)) (placed-drop c.args.source.now c.loop-at.at c.args.tokens.now c.requires.1.1.1.1.1)
+    subst (ArePlaced c.args.source.now) (sym (take_rest c.args.tokens.now c.loop-at.at)) (placed-drop c.args.source.now c.loop-at.at c.args.tokens.now c.requires.1.1.tokens)
 
 pub settle_tokens-push_inline-requires : goal.settle_tokens-push_inline-requires
 settle_tokens-push_inline-requires t c =
@@ -55,9 +50,10 @@ settle_tokens-push_inline-requires t c =
     let next = c.loop-at.at + c.in_ok-at.field-0 in
     let low : next < length held = omega (arith, c.if-at-tokens.true) in
     let token = get_or held next (tokens.Piece 0 0) in
-    let below = below-one (length c.args.groups.now) held next (tokens.Piece 0 0) c.requires.1.1.1.1.0 low in
-    let placed = placed-at c.args.source.now held next token c.requires.1.1.1.1.1 low (get_or_default held next (tokens.Piece 0 0) token low) in
-    (omega arith, (c.requires.1.1.0, (c.requires.1.1.1.0, (below, placed))))
+    let asked = c.requires.1.1 in
+    let below = below-one (length c.args.groups.now) held next (tokens.Piece 0 0) asked.below low in
+    let placed = placed-at c.args.source.now held next token asked.tokens low (get_or_default held next (tokens.Piece 0 0) token low) in
+    (omega arith, record { placed = asked.placed; groups = asked.groups; below = below; token = placed })
 
 pub settle_tokens-loop-at-preserved-then-at-tokens : goal.settle_tokens-loop-at-preserved-then-at-tokens
 settle_tokens-loop-at-preserved-then-at-tokens t c =

@@ -20,16 +20,16 @@ use Rattle.cm_scan.proofs.ReadFurther.{none-some}
 use Rattle.cm_scan.proofs.ReadingLemmas.{begins-at}
 use Rattle.cm_tree.specs.declared.tree.Inline.{Inline}
 use Rattle.cm_inline.specs.steps.Nodes.{Node, Whole, Finished}
-use Rattle.cm_inline.specs.declared.written.Written.{Written}
+use Rattle.cm_inline.specs.declared.standalone.Standalone.{Standalone}
 use Rattle.cm_inline.specs.steps.Reads.{IsAtom}
-use Rattle.cm_inline.specs.steps.Written.{inline_in, IsBetween, IsWithin}
+use Rattle.cm_inline.specs.steps.Standalone.{inline_in, IsBetween, IsWithin}
 
 -- an inline as a node
 abbrev pub finished : Inline → ℕ → Node
 finished inline depth = Finished (λ _. inline) depth false
 
 -- an atom that is an inline, by where it is written
-pub whole-is : (rules : Rules) (source : List ℕ) (at : ℕ) (w : Written) (depth end : ℕ) → IsWithin source w → IsAtom rules source at (finished (inline_in source w) depth) end → IsAtom rules source at (Whole w) end
+pub whole-is : (rules : Rules) (source : List ℕ) (at : ℕ) (w : Standalone) (depth end : ℕ) → IsWithin source w → IsAtom rules source at (finished (inline_in source w) depth) end → IsAtom rules source at (Whole w) end
 whole-is rules source at w depth end within is = record {
   rest = is.rest;
   item = is.item;

@@ -7,11 +7,11 @@ use Rattle.cm_tree.specs.declared.tree.Inline.TheVariants as inlines
 use Rattle.cm_html.specs.Escape.{escape}
 use Rattle.cm_html.specs.Html.{code_span_html, link_html}
 use Rattle.cm_scan.specs.CodeSpans.{one_line}
-use Rattle.cm_inline.specs.declared.written.Written.{Written}
-use Rattle.cm_inline.specs.declared.written.Written.TheVariants.{Code, Html, Autolink, Soft, Hard}
+use Rattle.cm_inline.specs.declared.standalone.Standalone.{Standalone}
+use Rattle.cm_inline.specs.declared.standalone.Standalone.TheVariants.{Code, Html, Autolink, Soft, Hard}
 
 -- the inline
-abbrev pub inline_in : List ℕ → Written → Inline
+abbrev pub inline_in : List ℕ → Standalone → Inline
 inline_in source (Code from to) = inlines.Code (one_line (slice_range source from to))
 inline_in source (Html from to) = inlines.Html (slice_range source from to)
 inline_in source (Autolink is_address from to) =
@@ -20,18 +20,18 @@ inline_in source Soft = inlines.Soft
 inline_in source Hard = inlines.Hard
 
 -- how deep it nests
-abbrev pub written_depth : Written → ℕ
-written_depth (Code from to) = 0
-written_depth (Html from to) = 0
-written_depth (Autolink is_address from to) = 1
-written_depth Soft = 0
-written_depth Hard = 0
+abbrev pub standalone_depth : Standalone → ℕ
+standalone_depth (Code from to) = 0
+standalone_depth (Html from to) = 0
+standalone_depth (Autolink is_address from to) = 1
+standalone_depth Soft = 0
+standalone_depth Hard = 0
 
 -- the places part characters of the source
 abbrev pub IsBetween : List ℕ → ℕ → ℕ → Type 0
 IsBetween source from to = (from ≤ to) × IsCharBoundary source from × IsCharBoundary source to
 
-abbrev pub IsWithin : List ℕ → Written → Type 0
+abbrev pub IsWithin : List ℕ → Standalone → Type 0
 IsWithin source (Code from to) = IsBetween source from to
 IsWithin source (Html from to) = IsBetween source from to
 IsWithin source (Autolink is_address from to) = IsBetween source from to
@@ -42,17 +42,17 @@ IsWithin source Hard = ⊤
 abbrev pub autolink_html : (is_address : Bool) → List ℕ → List ℕ
 autolink_html is_address text = link_html (if is_address then codes "mailto:" ++ text else text) [] (escape text)
 
-abbrev pub written_html : List ℕ → Written → List ℕ
-written_html source (Code from to) = code_span_html (one_line (slice_range source from to))
-written_html source (Html from to) = slice_range source from to
-written_html source (Autolink is_address from to) = autolink_html is_address (slice_range source from to)
-written_html source Soft = codes "\n"
-written_html source Hard = codes "<br />\n"
+abbrev pub standalone_html : List ℕ → Standalone → List ℕ
+standalone_html source (Code from to) = code_span_html (one_line (slice_range source from to))
+standalone_html source (Html from to) = slice_range source from to
+standalone_html source (Autolink is_address from to) = autolink_html is_address (slice_range source from to)
+standalone_html source Soft = codes "\n"
+standalone_html source Hard = codes "<br />\n"
 
 -- its part of an image's alternative text
-abbrev pub written_plain : List ℕ → Written → List ℕ
-written_plain source (Code from to) = one_line (slice_range source from to)
-written_plain source (Html from to) = slice_range source from to
-written_plain source (Autolink is_address from to) = slice_range source from to
-written_plain source Soft = codes " "
-written_plain source Hard = codes " "
+abbrev pub standalone_plain : List ℕ → Standalone → List ℕ
+standalone_plain source (Code from to) = one_line (slice_range source from to)
+standalone_plain source (Html from to) = slice_range source from to
+standalone_plain source (Autolink is_address from to) = slice_range source from to
+standalone_plain source Soft = codes " "
+standalone_plain source Hard = codes " "

@@ -19,9 +19,9 @@ use Rattle.cm_scan.proofs.FoundLemmas.{word-there}
 use Rattle.cm_scan.proofs.RawHtmlLemmas.{word-front}
 use Rattle.cm_scan.proofs.RunLemmas.{Found, found-at, nowhere, no-run-here, none-before, none-behind}
 use Rattle.cm_scan.proofs.NeededLemmas.{comment-needs, instruction-needs, section-needs, any-needs}
-use Rattle.cm_inline.specs.declared.ends.Form.{Form}
-use Rattle.cm_inline.specs.declared.ends.Form.TheVariants.{Comment, Instruction, CharacterData, Declaration}
-use Rattle.cm_inline.specs.declared.ends.Ends.{Ends}
+use Rattle.cm_inline.specs.declared.missing_ends.Form.{Form}
+use Rattle.cm_inline.specs.declared.missing_ends.Form.TheVariants.{Comment, Instruction, CharacterData, Declaration}
+use Rattle.cm_inline.specs.declared.missing_ends.MissingEnds.{MissingEnds}
 use Rattle.cm_inline.specs.steps.Missing.{start_of, end_of, Missing, missing_from, behind_last, Knows, NoneFrom}
 
 -- at the end of a source stands no word
@@ -33,7 +33,7 @@ missing-at-end : (word source : List ℕ) → Missing source word (length source
 missing-at-end word source later high = ap (behind_word word) (drop_all later source high) ∙ past-nothing word
 
 -- what is said of a source before anything is looked for
-abbrev of_length : ℕ → Ends
+abbrev of_length : ℕ → MissingEnds
 of_length len = record { comment = len; instruction = len; character_data = len; declaration = len; backticks = None }
 
 pub known-at-end : (source : List ℕ) → Knows source (of_length (length source))
@@ -72,7 +72,7 @@ form-begins text form told result there h = subst (λ r. IfSome r (Begins text))
 needs-none : (start end : List ℕ) → NeedsEnd start end → (rules : Rules) (text rest : List ℕ) → text ≡ start ++ rest → behind_word end text ≡ None → raw_html rules text ≡ None
 needs-none start end needs rules text rest begins missing = ap (raw_html rules) begins ∙ needs rules rest (ap (behind_word end) (sym begins) ∙ missing)
 
-pub no-raw-html : (rules : Rules) (source : List ℕ) (ends : Ends) (form : Form) (at : ℕ) → Knows source ends → missing_from ends form ≤ at
+pub no-raw-html : (rules : Rules) (source : List ℕ) (ends : MissingEnds) (form : Form) (at : ℕ) → Knows source ends → missing_from ends form ≤ at
     → ((rest : List ℕ) × (drop at source ≡ start_of form ++ rest)) → raw_html rules (drop at source) ≡ None
 no-raw-html rules source ends form at knows low begins = go form begins (knows.forms form at low)
   where

@@ -1,7 +1,7 @@
 //! Inlines in which no other inline nests: code spans, raw HTML, autolinks and breaks.
 ghost use Rattle.std.specs.Prelude.{◌≡◌, ◌++◌, [], ◌∷◌, string_bytes, codes, if◌then◌else◌, IfOk};
 ghost use Rattle.cm_tree.specs.declared.tree.Inline.TheVariants as inlines;
-ghost use Rattle.cm_inline.specs.steps.Written.{inline_in, written_depth, IsBetween, IsWithin};
+ghost use Rattle.cm_inline.specs.steps.Standalone.{inline_in, standalone_depth, IsBetween, IsWithin};
 ghost use Rattle.std.specs.List.{slice_range};
 
 use crate::code::one_line;
@@ -11,7 +11,7 @@ use std::alloc::{AllocError, Global};
 
 /// An inline in which nothing nests but text, by the places between which its text stands.
 #[derive(Clone, Copy, Debug)]
-pub(crate) enum Written {
+pub(crate) enum Standalone {
     /// A code span: what stands between its backtick strings, without the spaces that are stripped.
     Code {
         from: u32,
@@ -41,33 +41,33 @@ pub(crate) fn part(source: &str, from: u32, to: u32) -> &str
     &source[from as usize..to as usize]
 }
 
-impl Written {
+impl Standalone {
     /// The inline.
     pub(crate) fn inline(self, spare: &mut Spare, source: &str) -> Result<Inline, AllocError>
         requires { IsWithin source.now self }
         ensures { IfOk result (λ inline. inline ≡ inline_in source.now self) }
     {
         match self {
-            Written::Code { from, to } => {
+            Standalone::Code { from, to } => {
                 Ok(Inline::Code(one_line(spare, part(source, from, to))?))
             }
-            Written::Html { from, to } => Ok(Inline::Html(spare.text(part(source, from, to))?)),
-            Written::Autolink {
+            Standalone::Html { from, to } => Ok(Inline::Html(spare.text(part(source, from, to))?)),
+            Standalone::Autolink {
                 from,
                 to,
                 is_address,
             } => link_to(spare, is_address, part(source, from, to)),
-            Written::Soft => Ok(Inline::Soft),
-            Written::Hard => Ok(Inline::Hard),
+            Standalone::Soft => Ok(Inline::Soft),
+            Standalone::Hard => Ok(Inline::Hard),
         }
     }
 
     /// How deep it nests.
     pub(crate) fn depth(self) -> usize
-        ensures { result ≡ written_depth self }
+        ensures { result ≡ standalone_depth self }
     {
         match self {
-            Written::Autolink { .. } => 1,
+            Standalone::Autolink { .. } => 1,
             _ => 0,
         }
     }
@@ -79,7 +79,8 @@ pub(crate) fn destination_of(
     is_address: bool,
     text: &str,
 ) -> Result<String, AllocError>
-    ensures { IfOk result (λ dest. string_bytes dest ≡ (if is_address then codes "mailto:" ++ text.now else text.now)) }
+    ensures { IfOk result (λ dest.
+        string_bytes dest ≡ (if is_address then codes "mailto:" ++ text.now else text.now)) }
 {
     let mut dest = String::new(alloc);
     if is_address {

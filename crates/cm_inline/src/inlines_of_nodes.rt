@@ -1,8 +1,10 @@
 //! The inlines that settled nodes become, of which nothing more is made.
-ghost use Rattle.std.specs.Prelude.{◌≡◌, [], ◌++◌, length, IfOk, OnOk};
+ghost use Rattle.std.specs.Prelude.{◌≡◌, [], ◌++◌, IfOk, OnOk};
 ghost use Rattle.cm_tree.specs.LinkTargets.{led_to};
 ghost use Rattle.cm_scan.specs.Pairing.{settled};
-ghost use Rattle.cm_inline.specs.steps.Groups.{grouped, group_made, groups_made, made_of, target_of, node_of, nodes_of, nodes_in, AreBelow, AreGroups, ArePlaced, IsBelow, IsGroup, IsPlaced};
+ghost use Rattle.cm_inline.specs.steps.Groups.{grouped, made_of, target_of, nodes_in};
+ghost use Rattle.cm_inline.specs.steps.Groups.{ArePlaced, items_in, node_among, nodes_among};
+ghost use Rattle.cm_inline.specs.steps.Groups.{made_among, IsAmong, AreAmong, IsGroupAmong};
 ghost use Rattle.cm_inline.specs.steps.Nodes.{inline_of, items_of, AreParts};
 
 use crate::groups::{FirstGroups, Group, Kind, Making};
@@ -77,7 +79,7 @@ fn made(spare: &mut Spare, making: Making<'_>, content: Items<Inline>) -> Result
 }
 
 /// The inline of a group, which holds groups before it.
-#[cycle(settling)]
+#[cycle(inlines)]
 fn group_inline(
     spare: &mut Spare,
     source: &str,
@@ -85,17 +87,16 @@ fn group_inline(
     groups: &FirstGroups<'_>,
     group: Group<'_>,
 ) -> Result<Inline, AllocError>
-    requires placed { ArePlaced source.now inside.now }
-    requires groups { AreGroups inside.now 0 groups.now }
-    requires group { IsGroup inside.now (length groups.now) (grouped group) }
-    ensures { IfOk result (λ inline. inline ≡ group_made inside.now (groups_made inside.now groups.now) (grouped group.entry) source.now) }
+    requires { IsGroupAmong source.now inside.now groups.now (grouped group) }
+    ensures { IfOk result (λ inline.
+        inline ≡ made_among inside.now groups.now (grouped group.entry) source.now) }
 {
     let content = settle_tokens(spare, source, inside, groups, &inside[group.from..group.to])?;
     made(spare, group.making, content)
 }
 
 /// Adds the inline that a token is, if it is one.
-#[cycle(settling)]
+#[cycle(inlines)]
 fn push_inline(
     spare: &mut Spare,
     source: &str,
@@ -104,16 +105,13 @@ fn push_inline(
     token: Token,
     content: &mut Vec<Inline>,
 ) -> Result<(), AllocError>
-    requires placed { ArePlaced source.now inside.now }
-    requires groups { AreGroups inside.now 0 groups.now }
-    requires below { IsBelow (length groups.now) token }
-    requires token { IsPlaced source.now token }
+    requires { IsAmong source.now inside.now groups.now token }
     ensures { OnOk result (content.new.items ≡ content.old.items
-        ++ inline_of source.now (node_of (groups_made inside.now groups.now) token)) }
+        ++ inline_of source.now (node_among inside.now groups.now token)) }
 {
     match token {
-        Token::Whole(written) => {
-            let inline = written.inline(spare, source)?;
+        Token::Whole(standalone) => {
+            let inline = standalone.inline(spare, source)?;
             Ok(content.push(inline)?)
         }
         Token::Made { number, .. } => {
@@ -131,7 +129,7 @@ fn push_inline(
 }
 
 /// The inlines of tokens, where texts side by side are one.
-#[cycle(settling)]
+#[cycle(inlines)]
 fn settle_tokens(
     spare: &mut Spare,
     source: &str,
@@ -139,11 +137,9 @@ fn settle_tokens(
     groups: &FirstGroups<'_>,
     tokens: &[Token],
 ) -> Result<Items<Inline>, AllocError>
-    requires placed { ArePlaced source.now inside.now }
-    requires groups { AreGroups inside.now 0 groups.now }
-    requires below { AreBelow (length groups.now) tokens.now }
-    requires tokens { ArePlaced source.now tokens.now }
-    ensures { IfOk result (λ content. content ≡ settled (items_of source.now (nodes_of (groups_made inside.now groups.now) tokens.now))) }
+    requires { AreAmong source.now inside.now groups.now tokens.now }
+    ensures { IfOk result (λ content.
+        content ≡ settled (items_of source.now (nodes_among inside.now groups.now tokens.now))) }
 {
     let mut content = list_for(spare, tokens)?;
     let mut at = 0;
@@ -165,7 +161,7 @@ pub(crate) fn settle(
 ) -> Result<Items<Inline>, AllocError>
     requires parts { AreParts source.now (nodes_in nodes.now) }
     requires placed { ArePlaced source.now nodes.now.inside }
-    ensures { IfOk result (λ content. content ≡ settled (items_of source.now (nodes_in nodes.now))) }
+    ensures { IfOk result (λ content. content ≡ settled (items_in source.now nodes.now)) }
 {
     settle_tokens(
         spare,

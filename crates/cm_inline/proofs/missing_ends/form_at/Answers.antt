@@ -1,7 +1,7 @@
 use Rattle.std.proofs.Common.{◌≡◌, true, codes, drop}
-use Rattle.cm_inline.specs.declared.ends.Form.TheVariants.{Comment, Declaration}
-use Rattle.cm_inline.proofs.EndsLemmas.{word-begins, form-begins}
-use Rattle.cm_inline.proofs.ends.form_at.Goals as goal
+use Rattle.cm_inline.specs.declared.missing_ends.Form.TheVariants.{Comment, Declaration}
+use Rattle.cm_inline.proofs.MissingEndsLemmas.{word-begins, form-begins}
+use Rattle.cm_inline.proofs.missing_ends.form_at.Goals as goal
 
 pub returns-then-starts_with : goal.returns-then-starts_with
 returns-then-starts_with c =

@@ -1,0 +1,5 @@
+use Rattle.cm_inline.proofs.MissingEndsLemmas.{known-at-end}
+use Rattle.cm_inline.proofs.missing_ends.MissingEnds.of.Goals as goal
+
+pub returns : goal.returns
+returns c = known-at-end c.args.source.now
