@@ -56,7 +56,8 @@ pub(crate) fn after_line(text: &[u8], at: usize) -> Option<usize>
     requires { at ≤ length text.now }
     ensures ended { option_map (λ end. drop end text.now) result ≡ after_line (drop at text.now) }
     ensures within { IfSome result (λ end. end ≤ length text.now) }
-    ensures boundary { IfSome result (λ end. IsUtf8 text.now → IsCharBoundary text.now at → IsCharBoundary text.now end) }
+    ensures boundary { IfSome result (λ end.
+        IsUtf8 text.now → IsCharBoundary text.now at → IsCharBoundary text.now end) }
 {
     let end = after_blanks(text, at);
     if end == text.len() {

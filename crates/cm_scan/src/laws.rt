@@ -1,7 +1,10 @@
 //! Laws: facts about the definitions alone. Each is the contract of a public function with an empty body.
-ghost use Rattle.cm_scan.specs.Laws.{NoLines, FixedPoint, BlankCase, BreakCase, HeadingCase, FenceCase, HtmlCase, CodeCase, TextCase, OneMoreStays, QuoteCase, ItemCase, OneOwnerALine, RunsInOrder, HeadingLevels};
+ghost use Rattle.cm_scan.specs.Laws.{NoLines, FixedPoint, BlankCase, BreakCase, HeadingCase};
+ghost use Rattle.cm_scan.specs.Laws.{FenceCase, HtmlCase, CodeCase, TextCase, OneMoreStays, QuoteCase};
+ghost use Rattle.cm_scan.specs.Laws.{ItemCase, OneOwnerALine, RunsInOrder, HeadingLevels};
 ghost use Rattle.cm_scan.specs.Looseness.{PartsHaveLines, LooseByOwners};
-ghost use Rattle.cm_scan.specs.WorkedExamples.{LeafExamples, ContainerExamples, DefinitionExamples, DepthExamples, BoundExamples};
+ghost use Rattle.cm_scan.specs.WorkedExamples.{LeafExamples, ContainerExamples};
+ghost use Rattle.cm_scan.specs.WorkedExamples.{DefinitionExamples, DepthExamples, BoundExamples};
 
 /// The parts of a list of lines are given by the cases on its first line, in which the parts of fewer
 /// lines stand: nothing rests on the bound by which the definition computes.
@@ -12,7 +15,7 @@ pub fn parts_by_cases()
 {}
 
 /// The same for each kind of leaf, and for a blank line.
-#[tactic(auto, using(crate::proofs::Cases::blank_case, crate::proofs::Cases::break_case, crate::proofs::Cases::heading_case, crate::proofs::Cases::fence_case, crate::proofs::Cases::html_case, crate::proofs::Cases::code_case, crate::proofs::Cases::text_case))]
+#[tactic(auto, using(crate::proofs::Cases::leaf_cases))]
 pub fn leaf_cases()
     ensures blank_line { BlankCase }
     ensures thematic_break { BreakCase }
@@ -24,7 +27,7 @@ pub fn leaf_cases()
 {}
 
 /// The same for a quote and an item, by the lines that stay in them and the first that leaves.
-#[tactic(auto, using(crate::proofs::Cases::quote_case, crate::proofs::Cases::item_case, crate::proofs::Cases::one_more_stays))]
+#[tactic(auto, using(crate::proofs::Cases::container_cases))]
 pub fn container_cases()
     ensures quote { QuoteCase }
     ensures item { ItemCase }
