@@ -8,7 +8,7 @@ ghost use Rattle.cm_scan.specs.WorkedExamples.{DefinitionExamples, DepthExamples
 
 /// The parts of a list of lines are given by the cases on its first line, in which the parts of fewer
 /// lines stand: nothing rests on the bound by which the definition computes.
-#[tactic(auto, using(crate::proofs::Cases::no_lines, crate::proofs::Cases::fixed_point))]
+#[tactic(auto, using(crate::proofs::Cases::all_cases))]
 pub fn parts_by_cases()
     ensures none { NoLines }
     ensures cases { FixedPoint }
@@ -45,7 +45,7 @@ pub fn worked_examples()
 
 /// Each line has one owner, and the leaves of the tree are those that the lines name: each leaf's lines
 /// are one nonempty unbroken run, and the runs stand in the order of the leaves' numbers.
-#[tactic(auto, using(crate::proofs::Counted::one_owner, crate::proofs::Counted::in_order))]
+#[tactic(auto, using(crate::proofs::Counted::owners))]
 pub fn owners_of_lines()
     ensures one_a_line { OneOwnerALine }
     ensures runs { RunsInOrder }
