@@ -221,7 +221,7 @@ fn is_raw_text_start(behind: &[u8]) -> bool
 }
 
 /// Start condition 4, behind the `<`.
-#[tactic(auto, unfolding(crate::specs::HtmlBlocks::is_declaration_start, crate::specs::Words::after_word))]
+#[tactic(auto, using(crate::proofs::StartLemmas::declarations))]
 fn is_declaration_start(behind: &[u8]) -> bool
     ensures { result ≡ is_declaration_start (60 ∷ behind.now) }
 {
@@ -292,6 +292,7 @@ pub fn html_start(text: &str, at: usize) -> Option<HtmlKind>
 
 /// The same by these rules, which decide which names start condition 6 has, and whether any
 /// line starts an HTML block.
+#[tactic(auto, using(crate::proofs::StartLemmas::html_starts))]
 pub fn html_start_by(rules: Rules, text: &str, at: usize) -> Option<HtmlKind>
     requires within { at ≤ length text.now }
     ensures { option_map kind_of result ≡ html_start rules (drop at text.now) }
