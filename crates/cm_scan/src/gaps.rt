@@ -1,5 +1,5 @@
 //! Spaces, tabs and line feeds between the parts of a construct.
-ghost use Rattle.std.specs.Prelude.{◌≡◌, ℕ, ◌≤◌, length, drop, option_map, IfSome, IsUtf8};
+ghost use Rattle.std.specs.Prelude.{◌≡◌, ◌≤◌, length, drop, option_map, IfSome, IsUtf8};
 ghost use Rattle.std.specs.Str.{IsCharBoundary};
 ghost use Rattle.cm_scan.specs.Words.{is_space_or_tab, trim_start};
 ghost use Rattle.cm_scan.specs.Tags.{is_blank_byte, is_blank_next, after_gap};

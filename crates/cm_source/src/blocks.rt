@@ -1,8 +1,8 @@
 //! Blocks, spelled line by line.
-ghost use Rattle.std.specs.Prelude.{not, true, [], ◌∷◌, ◌++◌, replicate, map, OnOk};
+ghost use Rattle.std.specs.Prelude.{not, true, [], ◌∷◌, ◌++◌, replicate, OnOk};
 ghost use Rattle.cm_source.specs.Texts.{spelled_text};
 ghost use Rattle.cm_source.specs.Inlines.{spelled_content};
-ghost use Rattle.cm_source.specs.Spelling.{parted_lines, after_space, heading_lines, code_lines, gap, joined};
+ghost use Rattle.cm_source.specs.Spelling.{parted_lines, after_space, heading_lines, code_lines, gap};
 ghost use Rattle.cm_source.specs.Spelling.{quote_lines, item_lines, marker, lines_of_block, lines_of_blocks};
 ghost use Rattle.cm_source.specs.steps.Laid.{Lays, Writes};
 

@@ -1,6 +1,6 @@
 //! The source that is spelled so far, line by line.
 ghost use Rattle.std.specs.Prelude.{◌≡◌, ◌≢◌, ◌==◌, ◌<◌, [], ◌∷◌, ◌+◌, ◌++◌};
-ghost use Rattle.std.specs.Prelude.{ℕ, false, length, replicate, codes, string_bytes, IfOk, OnOk};
+ghost use Rattle.std.specs.Prelude.{false, length, replicate, codes, string_bytes, IfOk, OnOk};
 ghost use Rattle.std.specs.List.{list_any};
 ghost use Rattle.std.specs.Str.{IsAscii};
 ghost use Rattle.cm_scan.specs.Words.{trim_end_spaces};

@@ -1,6 +1,6 @@
 //! Texts, spelled so that no character of theirs is markup.
 ghost use Rattle.std.specs.Prelude.{◌≡◌, ◌&&◌, ◌||◌, ◌==◌, ◌<◌, ◌≤◌, ◌++◌};
-ghost use Rattle.std.specs.Prelude.{ℕ, false, not, length, position, string_bytes, IsTrue, OnOk};
+ghost use Rattle.std.specs.Prelude.{false, not, length, string_bytes, OnOk};
 ghost use Rattle.cm_source.specs.Texts.{numbered, spelled_byte, spelled_bytes, spelled_text};
 ghost use Rattle.cm_source.specs.Texts.{longest_run, is_padded, spelled_title, spelled_target};
 ghost use Rattle.std.specs.List.{list_all, list_any};
