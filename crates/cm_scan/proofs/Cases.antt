@@ -188,3 +188,10 @@ unfolding parts_by_start item_parts
 item_case rules marker line lines inner rest begins all leaves =
     starting rules (ItemStart marker) line (lines ++ rest) begins
     ∙ ap (λ (r : Inside). put_item marker.kind (parts_of rules r.inner) (parts_of rules r.following)) (inside-split rules _ _ lines inner rest all leaves)
+
+-- the cases whatever the first line is, those of leaves and of blank lines, and those of containers
+pub ruleset all_cases = (no_lines, fixed_point)
+
+pub ruleset leaf_cases = (blank_case, break_case, heading_case, fence_case, html_case, code_case, text_case)
+
+pub ruleset container_cases = (quote_case, item_case, one_more_stays)

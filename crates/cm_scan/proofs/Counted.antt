@@ -1,18 +1,18 @@
 -- The parts of lines have as many lines as there are, and each leaf has one at least.
-use Rattle.std.proofs.Common.{◌≡◌, ℕ, zero, suc, ◌+◌, ◌-◌, ◌<◌, ◌≤◌, Bool, true, false, List, [], ◌∷◌, ◌++◌, length, drop, refl, sym, ◌∙◌, ap, arith, le_refl, Some, None, IfSome, length-append}
-use Rattle.std.specs.Prelude.{⊤, Option, replicate}
+use Rattle.std.proofs.Common.{◌≡◌, ℕ, zero, suc, ◌+◌, ◌<◌, ◌≤◌, Bool, true, false, List, [], ◌∷◌, ◌++◌, length, refl, sym, ◌∙◌, ap, arith, le_refl, Some, None, IfSome, length-append}
+use Rattle.std.specs.Prelude.{⊤, Option, ◌==◌, if◌then◌else◌}
 use Rattle.std.specs.List.{list_all}
 use Rattle.cm_text.specs.Rules.{Rules}
 use Rattle.cm_text.specs.LineText.{is_line}
 use Rattle.cm_text.specs.Lines.{LineView}
-use Rattle.cm_text.specs.Indentation.{indent_of, blank_width, strip_from, strip_columns}
+use Rattle.cm_text.specs.Indentation.{indent_of}
 use Rattle.cm_tree.specs.declared.tree.ListKind.{ListKind}
 use Rattle.cm_scan.specs.Words.{is_space_or_tab, is_blank_text, is_empty, skip, trim_start, keep_byte, trim_end_by, trim_end}
-use Rattle.cm_scan.specs.Lines.{is_blank, content_of, past, marks}
+use Rattle.cm_scan.specs.Lines.{is_blank, content_of, marks}
 use Rattle.cm_scan.specs.LineForms.{Fence, ItemMarker}
 use Rattle.cm_scan.specs.HtmlBlocks.{HtmlKind}
 use Rattle.cm_scan.specs.Links.{LinkDefinition, label, link_definition, Definitions, definitions_within, definitions_of}
-use Rattle.cm_scan.specs.Starts.{Start, QuoteMarker, start_of, Place, Stays, StaysIfOpen, Leaves, place_if_lazy, behind_quote_marker, quote_place, place_in_quote, content_offset, behind_marker, first_content, place_in_item}
+use Rattle.cm_scan.specs.Starts.{Start, QuoteMarker, start_of, Place, Stays, StaysIfOpen, Leaves, behind_quote_marker, place_in_quote, first_content, place_in_item}
 use Rattle.cm_scan.specs.Parts.{LeafPart, Parts, none, blank, leaf, quote, list, ItemParts, leaves_paragraph_open, next_items, put_before, put_item, put_leaves}
 use Rattle.cm_scan.specs.Blocks.{add_text, rest_of, NextLine, GoesOn, Ends, Underlines, next_line, TextRun, text_run, line_feeds, line_count, definition_leaves, content_leaf, leaves_of_run, fenced, html_to_end, html_to_blank, html_lines, indented, Inside, inside, is_bare}
 use Rattle.cm_scan.specs.Starts.{IndentedCode, AtxHeading, OpeningFence, HtmlStart, BreakLine, ItemStart, TextLine, content_column}
@@ -20,6 +20,7 @@ use Rattle.cm_scan.specs.Blocks.{code_line, quote_parts, item_parts, fence_parts
 use Rattle.cm_scan.specs.Parts.{line_owners}
 use Rattle.cm_scan.specs.Lines.{size}
 use Rattle.cm_scan.specs.Laws.{OneOwnerALine, RunsInOrder}
+use Rattle.cm_scan.proofs.ByteSums.{AddsUp, NoMore, sum-append, sum-behind_quote_marker, sum-first_content, no_more-quote, no_more-item}
 use Rattle.cm_scan.proofs.Sizes.{by_place, marks-behind_quote_marker, marks-first_content, keeps-quote, keeps-item, size-fenced, size-html_lines, size-indented, size-text_run, size-following, size-inner, some-inner}
 use Rattle.cm_scan.proofs.Cases.{no_lines, blank_case, starting}
 use Rattle.cm_scan.proofs.Feeds.{feeds-skip, takes_a_line}
@@ -48,79 +49,18 @@ plain_lines (l ∷ ls) e =
     let k : list_all (λ line. is_line line.text) ls ≡ true = grind (arith, e) in
     (no_feeds l.text h, plain_lines ls k)
 
-feeds-drop : (n : ℕ) (bs : List ℕ) → line_feeds (drop n bs) ≤ line_feeds bs
+feeds-one_more : (b : ℕ) (bs : List ℕ) → line_feeds (b ∷ bs) ≡ (if b == 10 then 1 else 0) + line_feeds bs
 unfolding line_feeds
-feeds-drop zero bs = le_refl _
-feeds-drop (suc n) [] = le_refl _
-feeds-drop (suc n) (b ∷ bs) = let h : line_feeds (drop n bs) ≤ line_feeds bs = feeds-drop n bs in grind (arith, h)
+feeds-one_more b bs = grind arith
 
-feeds-append : (bs cs : List ℕ) → line_feeds (bs ++ cs) ≡ line_feeds bs + line_feeds cs
+feeds-adds : AddsUp line_feeds
 unfolding line_feeds
-feeds-append [] cs = omega arith
-feeds-append (b ∷ bs) cs = let h : line_feeds (bs ++ cs) ≡ line_feeds bs + line_feeds cs = feeds-append bs cs in grind (arith, h)
-
-feeds-spaces : (n : ℕ) → line_feeds (replicate n 32) ≡ 0
-unfolding line_feeds
-feeds-spaces zero = refl
-feeds-spaces (suc n) = feeds-spaces n
-
-feeds-strip_from : (n column : ℕ) (bs : List ℕ) → line_feeds (strip_from n column bs).1 ≤ line_feeds bs
-unfolding line_feeds
-feeds-strip_from n column [] = le_refl _
-feeds-strip_from n column (b ∷ bs) =
-    let width = blank_width column b in
-    let h : line_feeds (strip_from (n - width) (column + width) bs).1 ≤ line_feeds bs = feeds-strip_from (n - width) (column + width) bs in
-    let k : line_feeds (replicate (width - n) 32 ++ bs) ≡ line_feeds (replicate (width - n) 32) + line_feeds bs = feeds-append (replicate (width - n) 32) bs in
-    let z : line_feeds (replicate (width - n) 32) ≡ 0 = feeds-spaces (width - n) in
-    grind (arith, h, k, z)
-
-feeds-strip : (n : ℕ) (line : LineView) → line_feeds (strip_columns n line).text ≤ line_feeds line.text
-feeds-strip n line = feeds-strip_from n line.column line.text
-
-feeds-past : (n : ℕ) (line : LineView) → line_feeds (past n line).text ≤ line_feeds line.text
-unfolding past
-feeds-past n line = omega (arith, feeds-drop n (trim_start line.text), feeds-skip is_space_or_tab line.text)
-
-feeds-behind_quote_marker : (line : LineView) → line_feeds (behind_quote_marker line).text ≤ line_feeds line.text
-unfolding behind_quote_marker
-feeds-behind_quote_marker line = omega (arith, feeds-strip 1 (past 1 line), feeds-past 1 line)
-
-feeds-first_content : (marker : ItemMarker) (line : LineView) → line_feeds (first_content marker line).text ≤ line_feeds line.text
-unfolding first_content
-feeds-first_content marker line =
-    omega (arith, feeds-strip (content_offset (behind_marker marker line)) (behind_marker marker line), feeds-past (suc marker.digits) line)
-
--- what stays goes inward with no more
-abbrev KeepsFeeds : LineView → Place → Type 0
-KeepsFeeds line (Stays inner) = line_feeds inner.text ≤ line_feeds line.text
-KeepsFeeds line (StaysIfOpen inner) = line_feeds inner.text ≤ line_feeds line.text
-KeepsFeeds line Leaves = ⊤
-
-keeps_feeds-lazy : (rules : Rules) (line : LineView) → KeepsFeeds line (place_if_lazy rules line)
-unfolding place_if_lazy
-keeps_feeds-lazy rules line = let h : line_feeds line.text ≤ line_feeds line.text = le_refl _ in grind (arith, h)
-
-keeps_feeds-quote : (rules : Rules) (line : LineView) → KeepsFeeds line (place_in_quote rules line)
-unfolding place_in_quote
-keeps_feeds-quote rules line = go (start_of rules line)
-  where
-    go : (start : Start) → KeepsFeeds line (quote_place rules start line)
-    go start =
-        let h : KeepsFeeds line (place_if_lazy rules line) = keeps_feeds-lazy rules line in
-        let k : line_feeds (behind_quote_marker line).text ≤ line_feeds line.text = feeds-behind_quote_marker line in
-        grind (arith, h, k)
-
-keeps_feeds-item : (rules : Rules) (column : ℕ) (bare : Bool) (line : LineView) → KeepsFeeds line (place_in_item rules column bare line)
-unfolding place_in_item
-keeps_feeds-item rules column bare line =
-    let h : KeepsFeeds line (place_if_lazy rules line) = keeps_feeds-lazy rules line in
-    let k : line_feeds (strip_columns column line).text ≤ line_feeds line.text = feeds-strip column line in
-    grind (arith, h, k)
+feeds-adds = record { of_byte = λ b. if b == 10 then 1 else 0; of_nothing = refl; one_more = feeds-one_more; of_space = refl }
 
 -- the lines of a container and those that follow are all
 
 abbrev LetsIn : (Bool → LineView → Place) → Type 0
-LetsIn place = (bare : Bool) (line : LineView) → KeepsFeeds line (place bare line)
+LetsIn place = (bare : Bool) (line : LineView) → NoMore line_feeds line (place bare line)
 
 -- so many lines, without line feeds
 abbrev Whole : ℕ → Inside → Type 0
@@ -146,7 +86,7 @@ inside-whole rules parts place lets so_far (line ∷ lines) h k =
         let w = more inner (plain-append so_far (inner ∷ []) h (zero-le _ _ le k.0, tt)) k.1 in
         (omega (arith, w.0, length-append so_far (inner ∷ [])), w.1, w.2)
 
-    go : (p : Place) → KeepsFeeds line p
+    go : (p : Place) → NoMore line_feeds line p
         → ((inner : LineView) → Plain (so_far ++ inner ∷ []) → Plain lines → Whole (length (so_far ++ inner ∷ []) + length lines) (inside rules parts place (so_far ++ inner ∷ []) lines))
         → Whole n (by_place rules parts place so_far line lines p)
     go (Stays inner) le more = longer inner le more
@@ -309,7 +249,7 @@ feeds-add_text : (source : List ℕ) (line : LineView) → Firm source → line_
 unfolding line_feeds
 feeds-add_text [] line h e = absurd h
 feeds-add_text (b ∷ bs) line h e =
-    let k : line_feeds ((b ∷ bs) ++ 10 ∷ content_of line) ≡ line_feeds (b ∷ bs) + line_feeds (10 ∷ content_of line) = feeds-append (b ∷ bs) (10 ∷ content_of line) in
+    let k : line_feeds ((b ∷ bs) ++ 10 ∷ content_of line) ≡ line_feeds (b ∷ bs) + line_feeds (10 ∷ content_of line) = sum-append line_feeds feeds-adds (b ∷ bs) (10 ∷ content_of line) in
     let l : line_feeds (content_of line) ≤ line_feeds line.text = feeds-skip is_space_or_tab line.text in
     omega (arith, k, l, e)
 
@@ -587,8 +527,8 @@ module _ (rules : Rules) (line : LineView) (lines : List LineView) (plain : Plai
       let first = behind_quote_marker line in
       let less : marks first.text < marks line.text = marks-behind_quote_marker line firm in
       let i = inside rules (parts_of rules) place (first ∷ []) lines in
-      let w = inside-whole rules (parts_of rules) place (λ bare l. keeps_feeds-quote rules l) (first ∷ []) lines
-      (zero-le _ _ (feeds-behind_quote_marker line) plain.0, tt) plain.1 in
+      let w = inside-whole rules (parts_of rules) place (λ bare l. no_more-quote line_feeds feeds-adds rules l) (first ∷ []) lines
+      (zero-le _ _ (sum-behind_quote_marker line_feeds feeds-adds line) plain.0, tt) plain.1 in
       let g = good i.inner (omega (arith, size-inner rules (parts_of rules) place (λ bare l. keeps-quote rules l) (first ∷ []) lines)) w.1 in
       let h = good i.following (omega (arith, size-following rules (parts_of rules) place (first ∷ []) lines)) w.2 in
       let some : 0 < length i.inner = some-inner rules (parts_of rules) place (first ∷ []) lines (omega arith) in
@@ -601,8 +541,8 @@ module _ (rules : Rules) (line : LineView) (lines : List LineView) (plain : Plai
       let first = first_content marker line in
       let less : marks first.text < marks line.text = marks-first_content marker line firm in
       let i = inside rules (parts_of rules) place (first ∷ []) lines in
-      let w = inside-whole rules (parts_of rules) place (keeps_feeds-item rules (content_column marker line)) (first ∷ []) lines
-      (zero-le _ _ (feeds-first_content marker line) plain.0, tt) plain.1 in
+      let w = inside-whole rules (parts_of rules) place (no_more-item line_feeds feeds-adds rules (content_column marker line)) (first ∷ []) lines
+      (zero-le _ _ (sum-first_content line_feeds feeds-adds marker line) plain.0, tt) plain.1 in
       let g = good i.inner (omega (arith, size-inner rules (parts_of rules) place (keeps-item rules (content_column marker line)) (first ∷ []) lines)) w.1 in
       let h = good i.following (omega (arith, size-following rules (parts_of rules) place (first ∷ []) lines)) w.2 in
       let some : 0 < length i.inner = some-inner rules (parts_of rules) place (first ∷ []) lines (omega arith) in (
@@ -646,3 +586,6 @@ unfolding owners_of line_owners blocks_of
 in_order rules lines e =
     leaves_in_order (parts_of rules lines) (parts_have_lines rules lines e)
     ∙ ap Some (sym (tree-leaves (parts_of rules lines)))
+
+-- the owners of lines
+pub ruleset owners = (one_owner, in_order)

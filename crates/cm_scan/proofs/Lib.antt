@@ -1,3 +1,4 @@
+pub mod ByteSums
 pub mod Sizes
 pub mod Cases
 pub mod Feeds

@@ -1,39 +1,26 @@
 -- What a container's lines and the lines behind a block come to in size.
-use Rattle.std.proofs.Common.{◌≡◌, ℕ, zero, suc, ◌+◌, ◌-◌, ◌<◌, ◌≤◌, Bool, true, false, List, [], ◌∷◌, ◌++◌, drop, length, length-append, refl, arith, le_refl}
-use Rattle.std.specs.Prelude.{⊤, replicate}
+use Rattle.std.proofs.Common.{◌≡◌, ℕ, suc, ◌+◌, ◌<◌, ◌≤◌, Bool, true, false, List, [], ◌∷◌, ◌++◌, drop, length, length-append, refl, arith, le_refl}
+use Rattle.std.specs.Prelude.{if◌then◌else◌}
 use Rattle.cm_text.specs.Rules.{Rules}
 use Rattle.cm_text.specs.Lines.{LineView}
-use Rattle.cm_text.specs.Indentation.{blank_width, strip_from, strip_columns}
-use Rattle.cm_scan.specs.Words.{is_blank_text, skip, trim_start}
+use Rattle.cm_scan.specs.Words.{is_space_or_tab, is_blank_text, skip, trim_start}
 use Rattle.cm_scan.specs.Lines.{is_blank, past, marks, size}
 use Rattle.cm_scan.specs.LineForms.{Fence, ItemMarker}
 use Rattle.cm_scan.specs.HtmlBlocks.{HtmlKind}
 use Rattle.cm_scan.specs.Parts.{Parts, leaves_paragraph_open}
-use Rattle.cm_scan.specs.Starts.{Start, start_of, Place, Stays, StaysIfOpen, Leaves, place_if_lazy, behind_quote_marker, quote_place, place_in_quote, content_offset, behind_marker, first_content, place_in_item}
+use Rattle.cm_scan.specs.Starts.{Place, Stays, StaysIfOpen, Leaves, behind_quote_marker, place_in_quote, content_offset, behind_marker, first_content, place_in_item}
 use Rattle.cm_scan.specs.Blocks.{text_run, fenced, html_to_end, html_to_blank, html_lines, indented, Inside, inside, is_bare}
+use Rattle.cm_scan.proofs.ByteSums.{AddsUp, NoMore, sum-drop, sum-strip, no_more-quote, no_more-item}
 
 -- marks never grow
 
-marks-drop : (n : ℕ) (bs : List ℕ) → marks (drop n bs) ≤ marks bs
+marks-one_more : (b : ℕ) (bs : List ℕ) → marks (b ∷ bs) ≡ (if is_space_or_tab b then 0 else 1) + marks bs
 unfolding marks
-marks-drop zero bs = le_refl _
-marks-drop (suc n) [] = le_refl _
-marks-drop (suc n) (b ∷ bs) = let h : marks (drop n bs) ≤ marks bs = marks-drop n bs in grind (arith, h)
+marks-one_more b bs = grind arith
 
-marks-append : (bs cs : List ℕ) → marks (bs ++ cs) ≡ marks bs + marks cs
+marks-adds : AddsUp marks
 unfolding marks
-marks-append [] cs = omega arith
-marks-append (b ∷ bs) cs = let h : marks (bs ++ cs) ≡ marks bs + marks cs = marks-append bs cs in grind (arith, h)
-
-marks-spaces : (n : ℕ) → marks (replicate n 32) ≡ 0
-unfolding marks
-marks-spaces zero = refl
-marks-spaces (suc n) = marks-spaces n
-
-marks-trim_start : (bs : List ℕ) → marks (trim_start bs) ≡ marks bs
-unfolding marks skip
-marks-trim_start [] = refl
-marks-trim_start (b ∷ bs) = let h : marks (trim_start bs) ≡ marks bs = marks-trim_start bs in grind (arith, h)
+marks-adds = record { of_byte = λ b. if is_space_or_tab b then 0 else 1; of_nothing = refl; one_more = marks-one_more; of_space = refl }
 
 -- behind the first byte that is neither space nor tab there is one less
 marks-past : (n : ℕ) (bs : List ℕ) → is_blank_text bs ≡ false → marks (drop (suc n) (trim_start bs)) < marks bs
@@ -41,21 +28,8 @@ unfolding marks skip
 marks-past n [] e = grind arith
 marks-past n (b ∷ bs) e =
     let h : is_blank_text bs ≡ false → marks (drop (suc n) (trim_start bs)) < marks bs = marks-past n bs in
-    let k : marks (drop n bs) ≤ marks bs = marks-drop n bs in
+    let k : marks (drop n bs) ≤ marks bs = sum-drop marks marks-adds n bs in
     grind (arith, h, k)
-
-marks-strip_from : (n column : ℕ) (bs : List ℕ) → marks (strip_from n column bs).1 ≤ marks bs
-unfolding marks
-marks-strip_from n column [] = le_refl _
-marks-strip_from n column (b ∷ bs) =
-    let width = blank_width column b in
-    let h : marks (strip_from (n - width) (column + width) bs).1 ≤ marks bs = marks-strip_from (n - width) (column + width) bs in
-    let k : marks (replicate (width - n) 32 ++ bs) ≡ marks (replicate (width - n) 32) + marks bs = marks-append (replicate (width - n) 32) bs in
-    let z : marks (replicate (width - n) 32) ≡ 0 = marks-spaces (width - n) in
-    grind (arith, h, k, z)
-
-pub marks_strip : (n : ℕ) (line : LineView) → marks (strip_columns n line).text ≤ marks line.text
-marks_strip n line = marks-strip_from n line.column line.text
 
 -- the first line of a quote and of an item has one less
 
@@ -63,46 +37,25 @@ pub marks-behind_quote_marker : (line : LineView) → is_blank line ≡ false �
 unfolding past behind_quote_marker
 marks-behind_quote_marker line e =
     let h : marks (drop 1 (trim_start line.text)) < marks line.text = marks-past 0 line.text e in
-    let k : marks (behind_quote_marker line).text ≤ marks (past 1 line).text = marks_strip 1 (past 1 line) in
+    let k : marks (behind_quote_marker line).text ≤ marks (past 1 line).text = sum-strip marks marks-adds 1 (past 1 line) in
     omega (arith, h, k)
 
 pub marks-first_content : (marker : ItemMarker) (line : LineView) → is_blank line ≡ false → marks (first_content marker line).text < marks line.text
 unfolding past first_content
 marks-first_content marker line e =
     let h : marks (drop (suc marker.digits) (trim_start line.text)) < marks line.text = marks-past marker.digits line.text e in
-    let k : marks (first_content marker line).text ≤ marks (behind_marker marker line).text = marks_strip (content_offset (behind_marker marker line)) (behind_marker marker line) in
+    let k : marks (first_content marker line).text ≤ marks (behind_marker marker line).text = sum-strip marks marks-adds (content_offset (behind_marker marker line)) (behind_marker marker line) in
     omega (arith, h, k)
-
-marks-behind_quote_marker_le : (line : LineView) → marks (behind_quote_marker line).text ≤ marks line.text
-unfolding past behind_quote_marker
-marks-behind_quote_marker_le line = omega (arith, marks_strip 1 (past 1 line), marks-drop 1 (trim_start line.text), marks-trim_start line.text)
 
 -- what stays goes inward with no more
 abbrev pub Keeps : LineView → Place → Type 0
-Keeps line (Stays inner) = marks inner.text ≤ marks line.text
-Keeps line (StaysIfOpen inner) = marks inner.text ≤ marks line.text
-Keeps line Leaves = ⊤
-
-keeps-lazy : (rules : Rules) (line : LineView) → Keeps line (place_if_lazy rules line)
-unfolding place_if_lazy
-keeps-lazy rules line = let h : marks line.text ≤ marks line.text = le_refl _ in grind (arith, h)
+Keeps line place = NoMore marks line place
 
 pub keeps-quote : (rules : Rules) (line : LineView) → Keeps line (place_in_quote rules line)
-unfolding place_in_quote
-keeps-quote rules line = go (start_of rules line)
-  where
-    go : (start : Start) → Keeps line (quote_place rules start line)
-    go start =
-        let h : Keeps line (place_if_lazy rules line) = keeps-lazy rules line in
-        let k : marks (behind_quote_marker line).text ≤ marks line.text = marks-behind_quote_marker_le line in
-        grind (arith, h, k)
+keeps-quote = no_more-quote marks marks-adds
 
 pub keeps-item : (rules : Rules) (column : ℕ) (bare : Bool) (line : LineView) → Keeps line (place_in_item rules column bare line)
-unfolding place_in_item
-keeps-item rules column bare line =
-    let h : Keeps line (place_if_lazy rules line) = keeps-lazy rules line in
-    let k : marks (strip_columns column line).text ≤ marks line.text = marks_strip column line in
-    grind (arith, h, k)
+keeps-item = no_more-item marks marks-adds
 
 -- sizes
 

@@ -1,10 +1,32 @@
 -- What starts an HTML block, behind its `<`.
-use Rattle.std.proofs.Common.{◌≡◌, ℕ, Bool, true, false, ◌&&◌, List, [], ◌∷◌, Option, Some, None, codes, refl, sym, ap, arith}
+use Rattle.std.proofs.Common.{◌≡◌, ℕ, Bool, true, false, ◌&&◌, List, [], ◌∷◌, Option, Some, None, codes, refl, sym, ap, arith, ◌∙◌, nat_eq}
 use Rattle.std.specs.Prelude.{not}
+use Rattle.std.specs.List.{starts_with}
 use Rattle.cm_text.specs.Rules.{Rules}
-use Rattle.cm_scan.specs.Words.{is_at_word, is_blank_text, is_among, after_word, given, ◌<|>◌}
+use Rattle.cm_scan.specs.Words.{is_letter, is_at_word, is_blank_text, is_among, after_word, given, ◌<|>◌}
 use Rattle.cm_scan.specs.Tags.{Named, tag_name, open_tag, closing_tag}
 use Rattle.cm_scan.specs.HtmlBlocks.{HtmlKind, RawText, Comment, Instruction, Declaration, CharacterData, BlockTag, AnyTag, lower, raw_text_names, block_names, is_at_tag_end, is_raw_text_start, is_declaration_start, is_block_tag_start, is_any_tag_start, html_start}
+use Rattle.cm_scan.proofs.HtmlLemmas.{starts_at}
+
+-- condition 4
+
+pub declaration_alone : is_declaration_start (60 ∷ []) ≡ false
+unfolding is_declaration_start after_word
+declaration_alone = refl
+
+pub declaration_other : (b : ℕ) (bs : List ℕ) → (b ≡ 33 → ⊥) → is_declaration_start (60 ∷ b ∷ bs) ≡ false
+unfolding is_declaration_start after_word
+declaration_other b bs other = grind (arith, other)
+
+pub declaration_ends : is_declaration_start (60 ∷ 33 ∷ []) ≡ false
+unfolding is_declaration_start after_word
+declaration_ends = refl
+
+pub declaration_letter : (b : ℕ) (bs : List ℕ) → is_declaration_start (60 ∷ 33 ∷ b ∷ bs) ≡ is_letter b
+unfolding is_declaration_start after_word
+declaration_letter b bs = refl
+
+pub ruleset declarations = (declaration_alone, declaration_other, declaration_ends, declaration_letter)
 
 -- condition 6
 
@@ -88,3 +110,18 @@ no_start_without rules off (b ∷ bs) = grind (arith, off)
 pub no_start_at_end : (rules : Rules) → html_start rules [] ≡ None
 unfolding html_start
 no_start_at_end rules = refl
+
+-- the same as the code asks it
+pub code_starts : (rules : Rules) → rules.raw_html ≡ true → (behind : List ℕ) → html_start rules (60 ∷ behind)
+    ≡ (given (is_raw_text_start (60 ∷ behind)) RawText
+    <|> given (starts_with nat_eq behind (codes "!--")) Comment
+    <|> given (starts_with nat_eq behind (codes "?")) Instruction
+    <|> given (is_declaration_start (60 ∷ behind)) Declaration
+    <|> given (starts_with nat_eq behind (codes "![CDATA[")) CharacterData
+    <|> given (is_block_tag_start rules (60 ∷ behind)) BlockTag
+    <|> given (is_any_tag_start (60 ∷ behind)) AnyTag)
+code_starts rules on behind =
+    starts rules on behind ∙ rw (starts_at (codes "!--") behind, starts_at (codes "?") behind, starts_at (codes "![CDATA[") behind) refl
+
+-- what each line comes to
+pub ruleset html_starts = (code_starts, no_start, no_start_without, no_start_at_end)

@@ -2,7 +2,8 @@
 ghost use Rattle.std.specs.Prelude.{◌≡◌, List, ℕ, ◌||◌, ◌==◌, option_map, IfSome};
 ghost use Rattle.std.specs.List.{list_all};
 ghost use Rattle.cm_scan.specs.Words.{is_letter_or_digit, skip};
-ghost use Rattle.cm_scan.specs.Autolinks.{continues_scheme, is_absolute, stands_in_address, labels, is_host_label, is_address, as_autolink};
+ghost use Rattle.cm_scan.specs.Autolinks.{continues_scheme, is_absolute, stands_in_address};
+ghost use Rattle.cm_scan.specs.Autolinks.{labels, is_host_label, is_address, as_autolink};
 ghost use Rattle.cm_scan.specs.Scanned.{autolink_with};
 ghost use Rattle.cm_scan.specs.steps.SpanSteps.{is_host_byte};
 
@@ -22,7 +23,8 @@ pub struct Autolink<'a> {
 
 /// The autolink that a text between `<` and `>` makes: an absolute URI, or else an e-mail address.
 pub(crate) fn link_of<'a>(inside: &'a str) -> Option<Autolink<'a>>
-    ensures read { (rest : List ℕ) → option_map (λ link. autolink_with link.is_address link.text.now rest) result
+    ensures read { (rest : List ℕ) →
+        option_map (λ link. autolink_with link.is_address link.text.now rest) result
         ≡ as_autolink (record { text = inside.now; rest = rest }) }
     ensures text { IfSome result (λ link. link.text.now ≡ inside.now) }
 {

@@ -14,11 +14,12 @@ use cm_text::{Rules, is_followed};
 /// The autolink at a place in a text, which is the boundary of a character, and the place behind its `>`
 /// (CommonMark 0.31.2, 6.5 Autolinks).
 ///
-/// An absolute URI goes before an e-mail address. Nothing is read behind the first space, control character or
-/// `<` inside.
+/// An absolute URI goes before an e-mail address. Nothing is read behind the first space,
+/// control character or `<` inside.
 pub fn autolink<'a>(text: &'a str, at: usize) -> Option<(Autolink<'a>, usize)>
     requires { IsCharBoundary text.now at }
-    ensures read { option_map (λ r. autolink_with r.0.is_address r.0.text.now (drop r.1 text.now)) result ≡ autolink (drop at text.now) }
+    ensures read { option_map (λ r. autolink_with r.0.is_address r.0.text.now (drop r.1 text.now)) result
+        ≡ autolink (drop at text.now) }
     ensures utf8 { IfSome result (λ r. IsUtf8 r.0.text.now) }
     ensures boundary { IfSome result (λ r. IsCharBoundary text.now r.1) }
 {
@@ -29,7 +30,8 @@ pub fn autolink<'a>(text: &'a str, at: usize) -> Option<(Autolink<'a>, usize)>
 /// The same by these rules: an autolink to an address that they don't follow is none.
 pub fn autolink_by<'a>(rules: Rules, text: &'a str, at: usize) -> Option<(Autolink<'a>, usize)>
     requires { IsCharBoundary text.now at }
-    ensures read { option_map (λ r. autolink_with r.0.is_address r.0.text.now (drop r.1 text.now)) result ≡ followed_autolink rules (drop at text.now) }
+    ensures read { option_map (λ r. autolink_with r.0.is_address r.0.text.now (drop r.1 text.now)) result
+        ≡ followed_autolink rules (drop at text.now) }
     ensures utf8 { IfSome result (λ r. IsUtf8 r.0.text.now) }
     ensures boundary { IfSome result (λ r. IsCharBoundary text.now r.1) }
 {
@@ -40,9 +42,11 @@ pub fn autolink_by<'a>(rules: Rules, text: &'a str, at: usize) -> Option<(Autoli
     Some((link, end))
 }
 
-/// Whether the rules follow the address of an autolink with this text. That of an e-mail address they always follow.
+/// Whether the rules follow the address of an autolink with this text. That of an e-mail
+/// address they always follow.
 fn leads_on(rules: Rules, is_address: bool, text: &str) -> bool
-    ensures { (rest : List ℕ) → result ≡ is_followed rules (autolink_with is_address text.now rest).destination }
+    ensures { (rest : List ℕ) → result
+        ≡ is_followed rules (autolink_with is_address text.now rest).destination }
 {
     is_address || is_followed(rules, text)
 }

@@ -1,14 +1,17 @@
 //! Laws of single blocks, with any lines behind them. Each is the contract of a public function with an empty
 //! body.
-ghost use Rattle.cm_scan.specs.BlockLaws.{UnindentedLine, QuoteAndSpace, QuoteAlone, ItemAndSpace, ItemAlone, RunUpToItsEnd, RunUpToItsUnderline};
-ghost use Rattle.cm_scan.specs.BlockLaws.{FencedUpToItsEnd, FencedToTheLast, HtmlUpToItsEnd, HtmlUpToABlankLine, KindOfItself, ItemBeforeItsList, ItemByItself};
+ghost use Rattle.cm_scan.specs.BlockLaws.{UnindentedLine, QuoteAndSpace, QuoteAlone, ItemAndSpace};
+ghost use Rattle.cm_scan.specs.BlockLaws.{ItemAlone, RunUpToItsEnd, RunUpToItsUnderline};
+ghost use Rattle.cm_scan.specs.BlockLaws.{FencedUpToItsEnd, FencedToTheLast, HtmlUpToItsEnd};
+ghost use Rattle.cm_scan.specs.BlockLaws.{HtmlUpToABlankLine, KindOfItself, ItemBeforeItsList, ItemByItself};
 
 /// A line at the margin that isn't lazy begins, and is as an underline, what its text as it stands tells.
 pub fn lines_at_the_margin()
     ensures { UnindentedLine }
 {}
 
-/// Behind the marker of a quote or an item and one space the content begins, and also behind the marker alone.
+/// Behind the marker of a quote or an item and one space the content begins, and also
+/// behind the marker alone.
 pub fn content_behind_markers()
     ensures quote { QuoteAndSpace }
     ensures quote_alone { QuoteAlone }

@@ -9,17 +9,19 @@ ghost use Rattle.cm_scan.specs.steps.SpanSteps.{run_at};
 use crate::words::{after_run, bytes_from};
 use memchr::memchr;
 
-/// The code span at a place in a text, which is the boundary of a character: what stands between its two
-/// backtick strings, as it is written, and the place behind the second one (CommonMark 0.31.2, 6.1 Code spans).
+/// The code span at a place in a text, which is the boundary of a character: what stands
+/// between its two backtick strings, as it is written, and the place behind the second one
+/// (CommonMark 0.31.2, 6.1 Code spans).
 ///
 /// The backtick string there has as many backticks as stand in a row from that place on, and the other is the
-/// next one of just as many. Where there is none, no backtick string of as many further on has one either, so a
-/// caller has no need to look for the end of those.
+/// next one of just as many. Where there is none, no backtick string of as many further on has one either, so
+/// a caller has no need to look for the end of those.
 pub fn code_span<'a>(text: &'a str, at: usize) -> Option<(&'a str, usize)>
     requires { IsCharBoundary text.now at }
     ensures read { reading_of text.now result ≡ spanned_as_written (drop at text.now) }
     ensures content { span_content (reading_of text.now result) ≡ code_span (drop at text.now) }
-    ensures none_later { result ≡ None → (later : ℕ) → at ≤ later → run_length 96 (drop later text.now) ≡ run_length 96 (drop at text.now)
+    ensures none_later { result ≡ None → (later : ℕ) → at ≤ later
+        → run_length 96 (drop later text.now) ≡ run_length 96 (drop at text.now)
         → spanned_as_written (drop later text.now) ≡ None }
     ensures utf8 { IfSome result (λ read. IsUtf8 read.0.now) }
     ensures boundary { IfSome result (λ read. IsCharBoundary text.now read.1) }
@@ -32,8 +34,8 @@ pub fn code_span<'a>(text: &'a str, at: usize) -> Option<(&'a str, usize)>
     Some((&text[start..close], end))
 }
 
-/// The places where the next run of just so many backticks begins and ends, from a place on. Backticks in front
-/// of the place don't count.
+/// The places where the next run of just so many backticks begins and ends, from a place
+/// on. Backticks in front of the place don't count.
 fn next_run(text: &str, from: usize, count: usize) -> Option<(usize, usize)>
     requires { IsCharBoundary text.now from }
     ensures read { run_at text.now from result ≡ up_to_run count false (drop from text.now) }

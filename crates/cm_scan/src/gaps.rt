@@ -1,5 +1,5 @@
 //! Spaces, tabs and line feeds between the parts of a construct.
-ghost use Rattle.std.specs.Prelude.{◌≡◌, ℕ, ◌≤◌, length, drop, option_map, IfSome, IsUtf8};
+ghost use Rattle.std.specs.Prelude.{◌≡◌, ◌≤◌, length, drop, option_map, IfSome, IsUtf8};
 ghost use Rattle.std.specs.Str.{IsCharBoundary};
 ghost use Rattle.cm_scan.specs.Words.{is_space_or_tab, trim_start};
 ghost use Rattle.cm_scan.specs.Tags.{is_blank_byte, is_blank_next, after_gap};
@@ -56,7 +56,8 @@ pub(crate) fn after_line(text: &[u8], at: usize) -> Option<usize>
     requires { at ≤ length text.now }
     ensures ended { option_map (λ end. drop end text.now) result ≡ after_line (drop at text.now) }
     ensures within { IfSome result (λ end. end ≤ length text.now) }
-    ensures boundary { IfSome result (λ end. IsUtf8 text.now → IsCharBoundary text.now at → IsCharBoundary text.now end) }
+    ensures boundary { IfSome result (λ end.
+        IsUtf8 text.now → IsCharBoundary text.now at → IsCharBoundary text.now end) }
 {
     let end = after_blanks(text, at);
     if end == text.len() {

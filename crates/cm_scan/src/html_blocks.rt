@@ -1,9 +1,14 @@
 //! HTML blocks: what starts one and what ends it (4.6 HTML blocks).
-ghost use Rattle.std.specs.Prelude.{◌≡◌, ◌+◌, ◌<◌, ◌≤◌, ◌∷◌, false, length, drop, slice_index, ◌++◌, codes, Some, option_map};
+ghost use Rattle.std.specs.Prelude.{◌≡◌, ◌+◌, ◌<◌, ◌≤◌, ◌∷◌, ◌++◌};
+ghost use Rattle.std.specs.Prelude.{false, length, drop, slice_index, codes, Some, option_map};
 ghost use Rattle.std.specs.List.{list_any};
 ghost use Rattle.cm_text.specs.Rules.{profile};
-ghost use Rattle.cm_scan.specs.Words.{is_letter, is_at_word, holds_word, after_word, same_bytes, is_among, given, ◌<|>◌};
-ghost use Rattle.cm_scan.specs.HtmlBlocks.{lower, raw_text_names, common_block_names, block_name_by, block_names, is_at_name_end, is_at_tag_end, is_named_start, is_raw_text_start, is_declaration_start, is_block_tag_start, is_any_tag_start, html_start, is_html_end};
+ghost use Rattle.cm_scan.specs.Words.{is_letter, is_at_word, holds_word, after_word};
+ghost use Rattle.cm_scan.specs.Words.{same_bytes, is_among, given, ◌<|>◌};
+ghost use Rattle.cm_scan.specs.HtmlBlocks.{lower, raw_text_names, common_block_names, block_name_by};
+ghost use Rattle.cm_scan.specs.HtmlBlocks.{block_names, is_at_name_end, is_at_tag_end, is_named_start};
+ghost use Rattle.cm_scan.specs.HtmlBlocks.{is_raw_text_start, is_declaration_start};
+ghost use Rattle.cm_scan.specs.HtmlBlocks.{is_block_tag_start, is_any_tag_start, html_start, is_html_end};
 ghost use Rattle.cm_scan.specs.HtmlKinds.{kind_of};
 
 use crate::tags::{closing_tag, first_of, is_letter, open_tag, tag_name};
@@ -216,7 +221,7 @@ fn is_raw_text_start(behind: &[u8]) -> bool
 }
 
 /// Start condition 4, behind the `<`.
-#[tactic(auto, unfolding(crate::specs::HtmlBlocks::is_declaration_start, crate::specs::Words::after_word))]
+#[tactic(auto, using(crate::proofs::StartLemmas::declarations))]
 fn is_declaration_start(behind: &[u8]) -> bool
     ensures { result ≡ is_declaration_start (60 ∷ behind.now) }
 {
@@ -235,7 +240,8 @@ fn is_declaration_start(behind: &[u8]) -> bool
 /// What stands behind a `/`, or else behind the `<` itself.
 #[tactic(auto, unfolding(crate::specs::Words::after_word))]
 fn name_of_tag(behind: &[u8]) -> &[u8]
-    ensures { Some result.now ≡ (after_word (codes "</") (60 ∷ behind.now) <|> after_word (codes "<") (60 ∷ behind.now)) }
+    ensures { Some result.now
+        ≡ (after_word (codes "</") (60 ∷ behind.now) <|> after_word (codes "<") (60 ∷ behind.now)) }
 {
     let Some((b, inside)) = first_of(behind) else {
         return behind;
@@ -284,7 +290,9 @@ pub fn html_start(text: &str, at: usize) -> Option<HtmlKind>
     html_start_by(Rules::profile(), text, at)
 }
 
-/// The same by these rules, which decide which names start condition 6 has, and whether any line starts an HTML block.
+/// The same by these rules, which decide which names start condition 6 has, and whether any
+/// line starts an HTML block.
+#[tactic(auto, using(crate::proofs::StartLemmas::html_starts))]
 pub fn html_start_by(rules: Rules, text: &str, at: usize) -> Option<HtmlKind>
     requires within { at ≤ length text.now }
     ensures { option_map kind_of result ≡ html_start rules (drop at text.now) }
@@ -322,7 +330,8 @@ pub fn html_start_by(rules: Rules, text: &str, at: usize) -> Option<HtmlKind>
 
 /// Whether the closing tag of an element stands somewhere whose text is not markup.
 fn holds_raw_text_end(bytes: &[u8]) -> bool
-    ensures { result ≡ list_any (λ name. holds_word (codes "</" ++ name ++ codes ">") (lower bytes.now)) raw_text_names }
+    ensures { result
+        ≡ list_any (λ name. holds_word (codes "</" ++ name ++ codes ">") (lower bytes.now)) raw_text_names }
 {
     holds_word(b"</pre>", bytes)
         || holds_word(b"</script>", bytes)

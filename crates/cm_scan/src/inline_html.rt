@@ -1,9 +1,10 @@
 //! Raw HTML in a text (CommonMark 0.31.2, 6.6 Raw HTML).
-ghost use Rattle.std.specs.Prelude.{◌≡◌, ◌∷◌, ◌≤◌, ◌<◌, ℕ, false, length, drop, codes, IfSome, IsUtf8};
+ghost use Rattle.std.specs.Prelude.{◌≡◌, ◌∷◌, ◌≤◌, ◌<◌, ℕ, false, length, drop, IfSome, IsUtf8};
 ghost use Rattle.std.specs.Str.{IsCharBoundary};
 ghost use Rattle.cm_text.specs.Rules.{profile};
 ghost use Rattle.cm_scan.specs.Words.{after_word, holds_word};
-ghost use Rattle.cm_scan.specs.RawHtml.{behind_word, short_end, after_comment, after_declaration, html_tag, raw_html};
+ghost use Rattle.cm_scan.specs.RawHtml.{behind_word, short_end, after_comment};
+ghost use Rattle.cm_scan.specs.RawHtml.{after_declaration, html_tag, raw_html};
 ghost use Rattle.cm_scan.specs.Scanned.{reading_of, whole_of};
 ghost use Rattle.cm_scan.specs.steps.SpanSteps.{left_of};
 
@@ -18,7 +19,8 @@ use memchr::memmem;
 /// It is an open tag, a closing tag, a comment, a processing instruction, a declaration or a CDATA section.
 pub fn raw_html<'a>(text: &'a str, at: usize) -> Option<(&'a str, usize)>
     requires { IsCharBoundary text.now at }
-    ensures read { reading_of text.now result ≡ whole_of (drop at text.now) (raw_html profile (drop at text.now)) }
+    ensures read { reading_of text.now result
+        ≡ whole_of (drop at text.now) (raw_html profile (drop at text.now)) }
     ensures utf8 { IfSome result (λ read. IsUtf8 read.0.now) }
     ensures boundary { IfSome result (λ read. IsCharBoundary text.now read.1) }
 {
@@ -29,7 +31,8 @@ pub fn raw_html<'a>(text: &'a str, at: usize) -> Option<(&'a str, usize)>
 /// with `-`, and holds no `--`. By those without raw HTML there is none.
 pub fn raw_html_by<'a>(rules: Rules, text: &'a str, at: usize) -> Option<(&'a str, usize)>
     requires { IsCharBoundary text.now at }
-    ensures read { reading_of text.now result ≡ whole_of (drop at text.now) (raw_html rules (drop at text.now)) }
+    ensures read { reading_of text.now result
+        ≡ whole_of (drop at text.now) (raw_html rules (drop at text.now)) }
     ensures utf8 { IfSome result (λ read. IsUtf8 read.0.now) }
     ensures boundary { IfSome result (λ read. IsCharBoundary text.now read.1) }
 {
@@ -43,12 +46,13 @@ pub fn raw_html_by<'a>(rules: Rules, text: &'a str, at: usize) -> Option<(&'a st
 
 /// Whether a word stands in a text from a place on.
 ///
-/// Where it doesn't, it stands behind no later place either. So a caller that has found no `-->`, `?>`, `]]>` or
-/// `>` has no need to try the raw HTML further on which needs it for its end (`raw_html_needs_its_end`).
+/// Where it doesn't, it stands behind no later place either. So a caller that has found no `-->`, `?>`, `]]>`
+/// or `>` has no need to try the raw HTML further on which needs it for its end (`raw_html_needs_its_end`).
 pub fn holds_from(text: &str, from: usize, word: &str) -> bool
     requires { from ≤ length text.now }
     ensures held { result ≡ holds_word word.now (drop from text.now) }
-    ensures none_later { result ≡ false → (later : ℕ) → from ≤ later → behind_word word.now (drop later text.now) ≡ None }
+    ensures none_later { result ≡ false → (later : ℕ) → from ≤ later
+        → behind_word word.now (drop later text.now) ≡ None }
 {
     memmem::find(bytes_from(text, from), word.as_bytes()).is_some()
 }

@@ -1,9 +1,17 @@
 //! Laws of the definitions of inlines. Each is the contract of a public function with an empty body.
-ghost use Rattle.cm_scan.specs.InlineLaws.{ReadingGoesOn, StepLeavesAnEnd, BracketStep, UnmarkedIsPlain, PlainIsItself, PlainFrontIsText, SpacesAndLineFeed};
+ghost use Rattle.cm_scan.specs.InlineLaws.{ReadingGoesOn, StepLeavesAnEnd, BracketStep, UnmarkedIsPlain};
+ghost use Rattle.cm_scan.specs.InlineLaws.{PlainIsItself, PlainFrontIsText, SpacesAndLineFeed};
 ghost use Rattle.cm_scan.specs.Pieces.{TextsInPieces, ReadingInPieces};
 ghost use Rattle.cm_scan.specs.Runs.{RunsAreFew};
 ghost use Rattle.cm_scan.specs.OnePass.{OnePassExamples, PairsInOnePass};
-ghost use Rattle.cm_scan.specs.InlineExamples.{CodeSpanExamples, OpensEmphasisExamples, ClosesEmphasisExamples, OpensStrongExamples, ClosesStrongExamples, InsideEmphasisExamples, LeftOverExamples, AmbiguityExamples, InlineLinkExamples, ReferenceLinkExamples, ImageExamples, AutolinkExamples, RawHtmlExamples, LineBreakExamples, TextExamples, StrikeExamples, OlderRulesExamples, NestingExamples};
+ghost use Rattle.cm_scan.specs.InlineExamples.{CodeSpanExamples, OpensEmphasisExamples};
+ghost use Rattle.cm_scan.specs.InlineExamples.{ClosesEmphasisExamples, OpensStrongExamples};
+ghost use Rattle.cm_scan.specs.InlineExamples.{ClosesStrongExamples, InsideEmphasisExamples};
+ghost use Rattle.cm_scan.specs.InlineExamples.{LeftOverExamples, AmbiguityExamples};
+ghost use Rattle.cm_scan.specs.InlineExamples.{InlineLinkExamples, ReferenceLinkExamples};
+ghost use Rattle.cm_scan.specs.InlineExamples.{ImageExamples, AutolinkExamples, RawHtmlExamples};
+ghost use Rattle.cm_scan.specs.InlineExamples.{LineBreakExamples, TextExamples, StrikeExamples};
+ghost use Rattle.cm_scan.specs.InlineExamples.{OlderRulesExamples, NestingExamples};
 
 /// Worked examples of the inlines of leaves, by computation.
 pub fn inline_examples()
@@ -40,8 +48,9 @@ pub fn runs_are_few()
     ensures { RunsAreFew }
 {}
 
-/// What `cm_text::next_markup` passes over is plain, and a source of plain bytes is one text, itself. In front of
-/// anything else plain bytes are text, but for spaces before a line feed, which are a line break with it.
+/// What `cm_text::next_markup` passes over is plain, and a source of plain bytes is one
+/// text, itself. In front of anything else plain bytes are text, but for spaces before a
+/// line feed, which are a line break with it.
 pub fn plain_is_itself()
     ensures unmarked { UnmarkedIsPlain }
     ensures whole { PlainIsItself }

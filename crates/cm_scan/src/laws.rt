@@ -1,18 +1,21 @@
 //! Laws: facts about the definitions alone. Each is the contract of a public function with an empty body.
-ghost use Rattle.cm_scan.specs.Laws.{NoLines, FixedPoint, BlankCase, BreakCase, HeadingCase, FenceCase, HtmlCase, CodeCase, TextCase, OneMoreStays, QuoteCase, ItemCase, OneOwnerALine, RunsInOrder, HeadingLevels};
+ghost use Rattle.cm_scan.specs.Laws.{NoLines, FixedPoint, BlankCase, BreakCase, HeadingCase};
+ghost use Rattle.cm_scan.specs.Laws.{FenceCase, HtmlCase, CodeCase, TextCase, OneMoreStays, QuoteCase};
+ghost use Rattle.cm_scan.specs.Laws.{ItemCase, OneOwnerALine, RunsInOrder, HeadingLevels};
 ghost use Rattle.cm_scan.specs.Looseness.{PartsHaveLines, LooseByOwners};
-ghost use Rattle.cm_scan.specs.WorkedExamples.{LeafExamples, ContainerExamples, DefinitionExamples, DepthExamples, BoundExamples};
+ghost use Rattle.cm_scan.specs.WorkedExamples.{LeafExamples, ContainerExamples};
+ghost use Rattle.cm_scan.specs.WorkedExamples.{DefinitionExamples, DepthExamples, BoundExamples};
 
 /// The parts of a list of lines are given by the cases on its first line, in which the parts of fewer
 /// lines stand: nothing rests on the bound by which the definition computes.
-#[tactic(auto, using(crate::proofs::Cases::no_lines, crate::proofs::Cases::fixed_point))]
+#[tactic(auto, using(crate::proofs::Cases::all_cases))]
 pub fn parts_by_cases()
     ensures none { NoLines }
     ensures cases { FixedPoint }
 {}
 
 /// The same for each kind of leaf, and for a blank line.
-#[tactic(auto, using(crate::proofs::Cases::blank_case, crate::proofs::Cases::break_case, crate::proofs::Cases::heading_case, crate::proofs::Cases::fence_case, crate::proofs::Cases::html_case, crate::proofs::Cases::code_case, crate::proofs::Cases::text_case))]
+#[tactic(auto, using(crate::proofs::Cases::leaf_cases))]
 pub fn leaf_cases()
     ensures blank_line { BlankCase }
     ensures thematic_break { BreakCase }
@@ -24,7 +27,7 @@ pub fn leaf_cases()
 {}
 
 /// The same for a quote and an item, by the lines that stay in them and the first that leaves.
-#[tactic(auto, using(crate::proofs::Cases::quote_case, crate::proofs::Cases::item_case, crate::proofs::Cases::one_more_stays))]
+#[tactic(auto, using(crate::proofs::Cases::container_cases))]
 pub fn container_cases()
     ensures quote { QuoteCase }
     ensures item { ItemCase }
@@ -42,7 +45,7 @@ pub fn worked_examples()
 
 /// Each line has one owner, and the leaves of the tree are those that the lines name: each leaf's lines
 /// are one nonempty unbroken run, and the runs stand in the order of the leaves' numbers.
-#[tactic(auto, using(crate::proofs::Counted::one_owner, crate::proofs::Counted::in_order))]
+#[tactic(auto, using(crate::proofs::Counted::owners))]
 pub fn owners_of_lines()
     ensures one_a_line { OneOwnerALine }
     ensures runs { RunsInOrder }

@@ -1,14 +1,15 @@
-//! The definitions of CommonMark's block structure and inlines (`specs/`), and the scanners of their forms. Each scanner takes a
-//! text and a place in it. It answers what it read there and where that ends, or None.
+//! The definitions of CommonMark's block structure and inlines (`specs/`), and the scanners of their forms.
+//! Each scanner takes a text and a place in it. It answers what it read there and where that ends, or None.
 //!
 //! Begin with the scanner of the form that you look for.
 //!
-//! - Lines: [`thematic`], [`atx`], [`underline`], [`fence`], [`fence_end`], [`html_start`], [`html_end`], [`quote_marker`] and
-//!   [`item_marker`].
+//! - Lines: [`thematic`], [`atx`], [`underline`], [`fence`], [`fence_end`], [`html_start`],
+//!   [`html_end`], [`quote_marker`] and [`item_marker`].
 //! - Link reference definitions: [`label`], [`destination`], [`title`] and [`definition`].
 //! - Inlines: [`autolink`], [`raw_html`] and [`code_span`].
 //!
-//! [`autolink_by`], [`html_start_by`] and [`raw_html_by`] are the same by any rules. The rest is what the crates above use.
+//! [`autolink_by`], [`html_start_by`] and [`raw_html_by`] are the same by any rules. The
+//! rest is what the crates above use.
 //!
 //! ```
 //! use cm_scan::{atx, autolink};

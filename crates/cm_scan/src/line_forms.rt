@@ -1,10 +1,13 @@
 //! What one line is by itself, behind its indentation (CommonMark 0.31.2, chapters 4 and 5). Each call reads
 //! a text from a place on to its end. It takes no memory, and answers where what it read ends.
-ghost use Rattle.std.specs.Prelude.{◌≡◌, ℕ, ◌+◌, ◌==◌, ◌<◌, ◌≤◌, List, Some, None, length, drop, true, MatchOption, IfSome};
+ghost use Rattle.std.specs.Prelude.{◌≡◌, ◌+◌, ◌==◌, ◌<◌, ◌≤◌};
+ghost use Rattle.std.specs.Prelude.{ℕ, List, Some, None, length, drop, true, MatchOption, IfSome};
 ghost use Rattle.std.specs.List.{list_any};
 ghost use Rattle.std.specs.Str.{IsCharBoundary};
 ghost use Rattle.cm_scan.specs.Words.{given, begins_with};
-ghost use Rattle.cm_scan.specs.LineForms.{is_break_of, is_thematic_break, without_closing, atx_heading, is_underline_of, underline, fence_of, opening_fence, is_closing_fence};
+ghost use Rattle.cm_scan.specs.LineForms.{is_break_of, is_thematic_break, without_closing};
+ghost use Rattle.cm_scan.specs.LineForms.{atx_heading, is_underline_of, underline};
+ghost use Rattle.cm_scan.specs.LineForms.{fence_of, opening_fence, is_closing_fence};
 ghost use Rattle.cm_scan.specs.Scanned.{ending};
 ghost use Rattle.cm_scan.specs.steps.LineSteps.{is_break_marker};
 
@@ -103,7 +106,8 @@ fn without_closing(content: &str) -> &str
 pub fn atx(text: &str, at: usize) -> Option<(AtxHeading<'_>, usize)>
     requires boundary { IsCharBoundary text.now at }
     ensures heading { MatchOption result (atx_heading (drop at text.now) ≡ None)
-        (λ r. atx_heading (drop at text.now) ≡ Some (record { level = r.0.level; content = r.0.content.now })) }
+        (λ r. atx_heading (drop at text.now)
+        ≡ Some (record { level = r.0.level; content = r.0.content.now })) }
     ensures end { IfSome result (λ r. r.1 ≡ length text.now) }
 {
     let behind = after_run(b'#', text, at);
@@ -181,17 +185,21 @@ pub fn fence(text: &str, at: usize) -> Option<(OpeningFence<'_>, usize)>
 fn is_closing_fence(kind: FenceKind, text: &str, at: usize) -> bool
     requires { at ≤ length text.now }
     ensures { (info : List ℕ) → result
-        ≡ is_closing_fence (record { marker = kind.marker; count = kind.count; info = info }) (drop at text.now) }
+        ≡ is_closing_fence (record { marker = kind.marker; count = kind.count; info = info })
+        (drop at text.now) }
 {
     let behind = after_run(kind.marker, text, at);
     behind - at >= kind.count && is_blank_text(bytes_from(text, behind))
 }
 
-/// What closes an open fence, from a place on (4.5 Fenced code blocks): where it ends, which is the text's end.
+/// What closes an open fence, from a place on (4.5 Fenced code blocks): where it ends,
+/// which is the text's end.
 pub fn fence_end(kind: FenceKind, text: &str, at: usize) -> Option<usize>
     requires within { at ≤ length text.now }
-    ensures { (info : List ℕ) → result
-        ≡ given (is_closing_fence (record { marker = kind.marker; count = kind.count; info = info }) (drop at text.now)) (length text.now) }
+    ensures { (info : List ℕ) → result ≡ given
+        (is_closing_fence (record { marker = kind.marker; count = kind.count; info = info })
+        (drop at text.now))
+        (length text.now) }
 {
     if !is_closing_fence(kind, text, at) {
         return None;

@@ -1,13 +1,17 @@
 //! Link labels, destinations, titles and reference definitions (CommonMark 0.31.2, 6.3 Links and 4.7 Link
 //! reference definitions).
-ghost use Rattle.std.specs.Prelude.{◌≡◌, ℕ, ◌+◌, List, true, ◌==◌, ◌&&◌, ◌||◌, not, false, ◌≤◌, ◌<◌, suc, length, drop, slice_index, option_map, IfSome, IsUtf8, if◌then◌else◌};
+ghost use Rattle.std.specs.Prelude.{◌≡◌, ℕ, ◌+◌, List, true, ◌==◌, ◌&&◌, ◌||◌, not, false, ◌≤◌, ◌<◌, suc};
+ghost use Rattle.std.specs.Prelude.{length, drop, slice_index, option_map, IfSome, IsUtf8, if◌then◌else◌};
 ghost use Rattle.std.specs.List.{list_all};
 ghost use Rattle.std.specs.Str.{IsCharBoundary};
 ghost use Rattle.cm_scan.specs.Tags.{is_blank_byte};
 ghost use Rattle.cm_scan.specs.Words.{begins_with, ◌<|>◌};
-ghost use Rattle.cm_scan.specs.Links.{escapes_next, keep_if, up_to_closing, label, destination, title, bare_run, is_filled, opened_by, titled, untitled, link_definition};
+ghost use Rattle.cm_scan.specs.Links.{escapes_next, keep_if, up_to_closing, label, destination, title};
+ghost use Rattle.cm_scan.specs.Links.{bare_run, is_filled, opened_by, titled, untitled, link_definition};
 ghost use Rattle.cm_scan.specs.Scanned.{reading_of, definition_with};
-ghost use Rattle.cm_scan.specs.steps.LinkSteps.{closed_at, ended_at, title_end, ends_bare, begins_character, is_barred, fits, blank_follows, is_plain, is_plain_in_run, is_refused};
+ghost use Rattle.cm_scan.specs.steps.LinkSteps.{closed_at, ended_at, title_end, ends_bare};
+ghost use Rattle.cm_scan.specs.steps.LinkSteps.{begins_character, is_barred, fits, blank_follows};
+ghost use Rattle.cm_scan.specs.steps.LinkSteps.{is_plain, is_plain_in_run, is_refused};
 
 use crate::gaps::{after_blanks, after_gap, after_line, is_blank_byte, is_blank_next};
 use cm_text::is_ascii_punct;
@@ -89,7 +93,8 @@ pub fn title<'a>(text: &'a str, at: usize) -> Option<(&'a str, usize)>
     enclosed(text, at, bounds)
 }
 
-/// A link reference definition, each part as it is written (CommonMark 0.31.2, 4.7 Link reference definitions).
+/// A link reference definition, each part as it is written (CommonMark 0.31.2, 4.7 Link
+/// reference definitions).
 #[derive(Clone, Copy, Debug, PartialEq, Eq, Drop)]
 pub struct LinkDefinition<'a> {
     /// What stands between the brackets of its label.
@@ -106,7 +111,9 @@ pub struct LinkDefinition<'a> {
 #[inline(always)]
 pub fn definition<'a>(text: &'a str, at: usize) -> Option<(LinkDefinition<'a>, usize)>
     requires { IsCharBoundary text.now at }
-    ensures read { option_map (λ r. definition_with r.0.label.now r.0.dest.now r.0.title.now (drop r.1 text.now)) result ≡ link_definition (drop at text.now) }
+    ensures read { option_map (λ r.
+        definition_with r.0.label.now r.0.dest.now r.0.title.now (drop r.1 text.now)) result
+        ≡ link_definition (drop at text.now) }
     ensures utf8 { IfSome result (λ r. IsUtf8 r.0.label.now × IsUtf8 r.0.dest.now × IsUtf8 r.0.title.now) }
     ensures boundary { IfSome result (λ r. IsCharBoundary text.now r.1) }
 {
@@ -122,7 +129,8 @@ pub fn definition<'a>(text: &'a str, at: usize) -> Option<(LinkDefinition<'a>, u
 /// What stands behind a destination: a title and the end of its line, or the end of the line.
 fn end_of_definition<'a>(text: &'a str, at: usize) -> Option<(&'a str, usize)>
     requires { IsCharBoundary text.now at }
-    ensures read { (label dest : List ℕ) → option_map (λ r. definition_with label dest r.0.now (drop r.1 text.now)) result
+    ensures read { (label dest : List ℕ) →
+        option_map (λ r. definition_with label dest r.0.now (drop r.1 text.now)) result
         ≡ (titled label dest (drop at text.now) <|> untitled label dest (drop at text.now)) }
     ensures utf8 { IfSome result (λ r. IsUtf8 r.0.now) }
     ensures boundary { IfSome result (λ r. IsCharBoundary text.now r.1) }
@@ -137,7 +145,9 @@ fn end_of_definition<'a>(text: &'a str, at: usize) -> Option<(&'a str, usize)>
 /// A title behind a destination, and the place behind its line.
 fn titled<'a>(text: &'a str, at: usize) -> Option<(&'a str, usize)>
     requires { IsCharBoundary text.now at }
-    ensures read { (label dest : List ℕ) → option_map (λ r. definition_with label dest r.0.now (drop r.1 text.now)) result ≡ titled label dest (drop at text.now) }
+    ensures read { (label dest : List ℕ) →
+        option_map (λ r. definition_with label dest r.0.now (drop r.1 text.now)) result
+        ≡ titled label dest (drop at text.now) }
     ensures utf8 { IfSome result (λ r. IsUtf8 r.0.now) }
     ensures boundary { IfSome result (λ r. IsCharBoundary text.now r.1) }
 {
@@ -177,7 +187,8 @@ fn enclosed<'a>(text: &'a str, at: usize, bounds: Bounds) -> Option<(&'a str, us
     requires no_blanks { (is_blank_byte bounds.open ≡ false) × (is_blank_byte bounds.close ≡ false) }
     requires marks { (is_plain bounds.open ≡ false) × (is_plain bounds.close ≡ false) }
     ensures read { reading_of text.now result ≡ keep_if (fits bounds.most bounds.blank_lines)
-        (up_to_closing (λ c. c == bounds.close) (is_barred bounds.open bounds.one_line) false (drop (suc at) text.now)) }
+        (up_to_closing (λ c. c == bounds.close)
+        (is_barred bounds.open bounds.one_line) false (drop (suc at) text.now)) }
     ensures utf8 { IfSome result (λ read. IsUtf8 read.0.now) }
     ensures boundary { IfSome result (λ read. IsCharBoundary text.now read.1) }
 {
@@ -207,7 +218,8 @@ fn closed(text: &[u8], from: usize, bounds: Bounds) -> Option<usize>
     requires no_blanks { (is_blank_byte bounds.open ≡ false) × (is_blank_byte bounds.close ≡ false) }
     requires marks { (is_plain bounds.open ≡ false) × (is_plain bounds.close ≡ false) }
     ensures read { closed_at text.now from result ≡ keep_if (fits bounds.most bounds.blank_lines)
-        (up_to_closing (λ c. c == bounds.close) (is_barred bounds.open bounds.one_line) false (drop from text.now)) }
+        (up_to_closing (λ c. c == bounds.close)
+        (is_barred bounds.open bounds.one_line) false (drop from text.now)) }
     ensures within { IfSome result (λ end. (from ≤ end) × (end < length text.now)) }
     ensures close { IfSome result (λ end. slice_index text.now end ≡ bounds.close) }
 {
@@ -235,8 +247,8 @@ fn closed(text: &[u8], from: usize, bounds: Bounds) -> Option<usize>
     None
 }
 
-/// For each byte a digit, of whose last two bits the lower is set where the byte means nothing in a part, and the higher where it
-/// means nothing in the run of a destination.
+/// For each byte a digit, of whose last two bits the lower is set where the byte means nothing in a part, and
+/// the higher where it means nothing in the run of a destination.
 static PLAIN: [u8; 256] = *b"\
     11111111110111111111111111111111\
     13233332003333333333333333332323\
@@ -253,7 +265,8 @@ fn plain_end(text: &[u8], from: usize, most: usize) -> usize
     requires { from ≤ length text.now }
     ensures within { (from ≤ result) × (result ≤ length text.now) × (result ≤ from + most) }
     ensures plain { (k : ℕ) → from ≤ k → k < result → is_plain (slice_index text.now k) ≡ true }
-    ensures next { result < length text.now → result < from + most → is_plain (slice_index text.now result) ≡ false }
+    ensures next { result < length text.now → result < from + most
+        → is_plain (slice_index text.now result) ≡ false }
 {
     let end = text.len().min(from.saturating_add(most));
     let mut at = from;
@@ -359,7 +372,8 @@ fn is_end(b: u8, escaped: bool, bounds: Bounds) -> bool
 /// Whether no part can hold the byte there.
 fn is_refused(text: &[u8], at: usize, left: usize, escaped: bool, bounds: Bounds) -> bool
     requires { at < length text.now }
-    ensures { result ≡ is_refused left bounds.blank_lines (not escaped && is_barred bounds.open bounds.one_line (slice_index text.now at))
+    ensures { result ≡ is_refused left bounds.blank_lines
+        (not escaped && is_barred bounds.open bounds.one_line (slice_index text.now at))
         (slice_index text.now at) (drop (suc at) text.now) }
 {
     !escaped && is_barred(text[at], bounds)

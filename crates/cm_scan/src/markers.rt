@@ -1,9 +1,11 @@
 //! The markers of list items (5.2 List items).
-ghost use Rattle.std.specs.Prelude.{◌≡◌, ◌+◌, ◌-◌, ◌==◌, ◌<◌, ◌≤◌, [], Some, None, length, drop, MatchOption, IfSome, if◌then◌else◌};
+ghost use Rattle.std.specs.Prelude.{◌≡◌, ◌+◌, ◌-◌, ◌==◌, ◌<◌, ◌≤◌, [], if◌then◌else◌};
+ghost use Rattle.std.specs.Prelude.{Some, None, length, drop, MatchOption, IfSome};
 ghost use Rattle.std.specs.List.{fold};
 ghost use Rattle.std.specs.Str.{IsCharBoundary};
 ghost use Rattle.cm_scan.specs.Words.{is_digit, front_of, skip};
-ghost use Rattle.cm_scan.specs.LineForms.{item_marker, is_same_kind, bullet_kind, ordered_kind, decimal_value};
+ghost use Rattle.cm_scan.specs.LineForms.{item_marker, is_same_kind, bullet_kind};
+ghost use Rattle.cm_scan.specs.LineForms.{ordered_kind, decimal_value};
 ghost use Rattle.cm_scan.specs.steps.LineSteps.{with_digit};
 
 use crate::words::{bytes_from, is_at_gap, is_digit};
@@ -58,8 +60,10 @@ fn number_at(text: &str, at: usize) -> (u32, usize)
     requires { at ≤ length text.now }
     ensures begin { at ≤ result.1 }
     ensures within { result.1 ≤ length text.now }
-    ensures count { result.1 + length (front_of is_digit (drop result.1 text.now)) ≡ at + length (front_of is_digit (drop at text.now)) }
-    ensures value { fold with_digit result.0 (front_of is_digit (drop result.1 text.now)) ≡ decimal_value (front_of is_digit (drop at text.now)) }
+    ensures count { result.1 + length (front_of is_digit (drop result.1 text.now))
+        ≡ at + length (front_of is_digit (drop at text.now)) }
+    ensures value { fold with_digit result.0 (front_of is_digit (drop result.1 text.now))
+        ≡ decimal_value (front_of is_digit (drop at text.now)) }
     ensures left { skip is_digit (drop result.1 text.now) ≡ skip is_digit (drop at text.now) }
     ensures few { result.1 - at ≤ 9 }
     ensures whole { result.1 - at < 9 → front_of is_digit (drop result.1 text.now) ≡ [] }

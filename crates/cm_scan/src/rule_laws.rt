@@ -1,5 +1,5 @@
-//! Laws of rules without raw HTML, and of rules that follow the web's addresses alone. Each is the contract of a public
-//! function with an empty body.
+//! Laws of rules without raw HTML, and of rules that follow the web's addresses alone. Each
+//! is the contract of a public function with an empty body.
 ghost use Rattle.cm_scan.specs.RuleExamples.{RuleExamples};
 ghost use Rattle.cm_scan.specs.RuleLaws.{NoHtmlBlock, NoRawHtml, NoHtml, InlinesFollowed, TreesFollowed};
 
@@ -10,8 +10,8 @@ pub fn no_html()
     ensures trees { NoHtml }
 {}
 
-/// Each link and image of a text leads to an address that the rules follow, and each info is one that they leave as it
-/// is.
+/// Each link and image of a text leads to an address that the rules follow, and each info
+/// is one that they leave as it is.
 pub fn addresses_are_followed()
     ensures inlines { InlinesFollowed }
     ensures trees { TreesFollowed }

@@ -2,7 +2,9 @@
 //! of the text behind it.
 ghost use Rattle.std.specs.Prelude.{◌≡◌, suc, [], ◌∷◌, Some, None, length, codes, MatchOption};
 ghost use Rattle.cm_scan.specs.Words.{is_letter, skip, after_word};
-ghost use Rattle.cm_scan.specs.Tags.{begins_attribute, continues_attribute, is_unquoted, after_gap, after_quoted, after_value, after_specification, after_attribute, after_tag_end, after_attributes, tag_name, open_tag, closing_tag};
+ghost use Rattle.cm_scan.specs.Tags.{begins_attribute, continues_attribute, is_unquoted, after_gap};
+ghost use Rattle.cm_scan.specs.Tags.{after_quoted, after_value, after_specification, after_attribute};
+ghost use Rattle.cm_scan.specs.Tags.{after_tag_end, after_attributes, tag_name, open_tag, closing_tag};
 ghost use Rattle.cm_scan.specs.steps.TagNames.{continues_name};
 
 use crate::gaps::{self, is_blank_byte, is_blank_next};
@@ -105,7 +107,8 @@ fn after_gap(bytes: &[u8]) -> &[u8]
 
 /// What is left behind a value that this quotation mark ends.
 fn after_quoted(quote: u8, bytes: &[u8]) -> Option<&[u8]>
-    ensures { MatchOption result (after_quoted quote bytes.now ≡ None) (λ rest. after_quoted quote bytes.now ≡ Some rest.now) }
+    ensures { MatchOption result (after_quoted quote bytes.now ≡ None)
+        (λ rest. after_quoted quote bytes.now ≡ Some rest.now) }
 {
     let at = memchr(quote, bytes)?;
     Some(&bytes[at + 1..])
@@ -114,7 +117,8 @@ fn after_quoted(quote: u8, bytes: &[u8]) -> Option<&[u8]>
 /// What is left behind the value of an attribute: in double quotes, in single quotes, or unquoted.
 #[tactic(auto, unfolding(crate::specs::Tags::after_value, crate::specs::Tags::after_unquoted))]
 fn after_value(bytes: &[u8]) -> Option<&[u8]>
-    ensures { MatchOption result (after_value bytes.now ≡ None) (λ rest. after_value bytes.now ≡ Some rest.now) }
+    ensures { MatchOption result (after_value bytes.now ≡ None)
+        (λ rest. after_value bytes.now ≡ Some rest.now) }
 {
     let (b, behind) = first_of(bytes)?;
     if b == b'"' || b == b'\'' {
@@ -129,7 +133,8 @@ fn after_value(bytes: &[u8]) -> Option<&[u8]>
 /// What is left behind the value of an attribute with its `=`, where one comes next.
 #[tactic(auto, unfolding(crate::specs::Tags::after_specification, crate::specs::Words::after_word))]
 fn after_specification(bytes: &[u8]) -> Option<&[u8]>
-    ensures { MatchOption result (after_specification bytes.now ≡ None) (λ rest. after_specification bytes.now ≡ Some rest.now) }
+    ensures { MatchOption result (after_specification bytes.now ≡ None)
+        (λ rest. after_specification bytes.now ≡ Some rest.now) }
 {
     let Some((b, behind)) = first_of(after_gap(bytes)) else {
         return Some(bytes);
@@ -143,7 +148,8 @@ fn after_specification(bytes: &[u8]) -> Option<&[u8]>
 /// What is left behind an attribute.
 #[tactic(auto, unfolding(crate::specs::Tags::after_attribute))]
 fn after_attribute(bytes: &[u8]) -> Option<&[u8]>
-    ensures { MatchOption result (after_attribute bytes.now ≡ None) (λ rest. after_attribute bytes.now ≡ Some rest.now) }
+    ensures { MatchOption result (after_attribute bytes.now ≡ None)
+        (λ rest. after_attribute bytes.now ≡ Some rest.now) }
 {
     let (b, behind) = first_of(bytes)?;
     if !begins_attribute(b) {
@@ -155,7 +161,8 @@ fn after_attribute(bytes: &[u8]) -> Option<&[u8]>
 /// What is left behind a `>`.
 #[tactic(auto, unfolding(crate::specs::Words::after_word))]
 fn after_bracket(bytes: &[u8]) -> Option<&[u8]>
-    ensures { MatchOption result (after_word (codes ">") bytes.now ≡ None) (λ rest. after_word (codes ">") bytes.now ≡ Some rest.now) }
+    ensures { MatchOption result (after_word (codes ">") bytes.now ≡ None)
+        (λ rest. after_word (codes ">") bytes.now ≡ Some rest.now) }
 {
     let (b, behind) = first_of(bytes)?;
     if b != b'>' {
@@ -167,7 +174,8 @@ fn after_bracket(bytes: &[u8]) -> Option<&[u8]>
 /// What is left behind the end of an open tag: `/` or not, and `>`.
 #[tactic(auto, unfolding(crate::specs::Tags::after_tag_end, crate::specs::Words::after_word))]
 fn after_tag_end(bytes: &[u8]) -> Option<&[u8]>
-    ensures { MatchOption result (after_tag_end bytes.now ≡ None) (λ rest. after_tag_end bytes.now ≡ Some rest.now) }
+    ensures { MatchOption result (after_tag_end bytes.now ≡ None)
+        (λ rest. after_tag_end bytes.now ≡ Some rest.now) }
 {
     let (b, behind) = first_of(bytes)?;
     if b != b'/' {
@@ -225,7 +233,8 @@ pub(crate) fn open_tag(inside: &[u8]) -> Option<Tag<'_>>
 /// A closing tag behind its `</`.
 pub(crate) fn closing_tag(inside: &[u8]) -> Option<Tag<'_>>
     ensures { MatchOption result (closing_tag (60 ∷ 47 ∷ inside.now) ≡ None)
-        (λ tag. closing_tag (60 ∷ 47 ∷ inside.now) ≡ Some (record { name = tag.name.now; rest = tag.rest.now })) }
+        (λ tag. closing_tag (60 ∷ 47 ∷ inside.now)
+        ≡ Some (record { name = tag.name.now; rest = tag.rest.now })) }
 {
     let tag = tag_name(inside)?;
     let rest = after_bracket(after_gap(tag.rest))?;

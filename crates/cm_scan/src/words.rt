@@ -2,7 +2,9 @@
 ghost use Rattle.std.specs.Prelude.{◌≡◌, ◌+◌, ◌<◌, ◌≤◌, ℕ, Bool, length, drop};
 ghost use Rattle.std.specs.List.{find};
 ghost use Rattle.std.specs.Str.{IsCharBoundary};
-ghost use Rattle.cm_scan.specs.Words.{is_space_or_tab, is_digit, skip, run_length, after_run, trim_start, is_trimmed, trim_end_by, trim_end, trim_end_spaces, trim, is_blank_text, is_at_gap};
+ghost use Rattle.cm_scan.specs.Words.{is_space_or_tab, is_digit, skip, run_length, after_run};
+ghost use Rattle.cm_scan.specs.Words.{trim_start, is_trimmed, trim_end_by, trim_end};
+ghost use Rattle.cm_scan.specs.Words.{trim_end_spaces, trim, is_blank_text, is_at_gap};
 ghost use Rattle.cm_scan.specs.steps.LineSteps.{is_plain};
 
 /// Whether a byte is a space or a tab.
@@ -34,7 +36,9 @@ pub(crate) fn bytes_from(text: &str, at: usize) -> &[u8]
 #[inline(always)]
 pub(crate) fn skip_while<F: Fn(u8) -> bool>(bytes: &[u8], test: F) -> &[u8]
     requires { F.IsAlwaysCallable test }
-    ensures { (passes : ℕ → Bool) → ((b : ℕ) (told : Bool) → b < 256 → F.post test b told → told ≡ passes b) → result.now ≡ skip passes bytes.now }
+    ensures { (passes : ℕ → Bool) →
+        ((b : ℕ) (told : Bool) → b < 256 → F.post test b told → told ≡ passes b)
+        → result.now ≡ skip passes bytes.now }
 {
     for (i, b) in bytes.iter().enumerate() {
         if !test(*b) {

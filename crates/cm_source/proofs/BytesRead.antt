@@ -21,7 +21,7 @@ use Rattle.cm_scan.proofs.PairingLemmas.{reverse-first}
 use Rattle.cm_source.specs.Texts.{numbered, spelled_byte, edge_byte, spelled_text}
 use Rattle.cm_source.specs.InlineRefusals.{has_nul}
 use Rattle.cm_source.specs.steps.ContentBack.{is_before_line_end}
-use Rattle.cm_source.proofs.Ways.{Way, ByNumber, Escaped, AsItIs, is_numbered, way, number_read}
+use Rattle.cm_source.proofs.Ways.{SpellsByte, ByNumber, Escaped, AsItIs, is_numbered, spells_byte, number_read}
 use Rattle.cm_source.proofs.UnescapeBack.{ascii_alone, escape_here}
 
 -- Where a front stands behind these bytes and before the rest, reading goes on behind it with these items put to those so far.
@@ -93,20 +93,20 @@ printed_no_feed : (b : ℕ) → is_numbered b ≡ false → (b == 10) ≡ false
 printed_no_feed b e = grind (arith, nat_tests, e)
 
 -- none ends right before a byte that is no space
-way_no_line : (b : ℕ) (front rest : List ℕ) → Way b front → (b == 32) ≡ false → is_before_line_end (front ++ rest) ≡ false
+spelling_no_line : (b : ℕ) (front rest : List ℕ) → SpellsByte b front → (b == 32) ≡ false → is_before_line_end (front ++ rest) ≡ false
 unfolding after_run
-way_no_line b front rest (ByNumber low) e = refl
-way_no_line b front rest (Escaped punct tick) e = refl
-way_no_line b front rest (AsItIs printed plain) e = no-line-here b rest e (printed_no_feed b printed)
+spelling_no_line b front rest (ByNumber low) e = refl
+spelling_no_line b front rest (Escaped punct tick) e = refl
+spelling_no_line b front rest (AsItIs printed plain) e = no-line-here b rest e (printed_no_feed b printed)
 
 edge_no_line : (at_edge : Bool) (b : ℕ) (rest : List ℕ) → (at_edge ≡ false → is_before_line_end rest ≡ false) → is_before_line_end (edge_byte at_edge b ++ rest) ≡ false
 unfolding spelled_byte after_run
-edge_no_line true b rest h = cond_both (b == 32) (numbered 32) (spelled_byte b) (λ t. is_before_line_end (t ++ rest) ≡ false) (λ e. refl) (λ e. way_no_line b (spelled_byte b) rest (way b) e)
+edge_no_line true b rest h = cond_both (b == 32) (numbered 32) (spelled_byte b) (λ t. is_before_line_end (t ++ rest) ≡ false) (λ e. refl) (λ e. spelling_no_line b (spelled_byte b) rest (spells_byte b) e)
 edge_no_line false b rest h = go (b == 32) refl
   where
     go : (t : Bool) → (b == 32) ≡ t → is_before_line_end (spelled_byte b ++ rest) ≡ false
     go true e = subst (λ c. is_before_line_end (spelled_byte c ++ rest) ≡ false) (sym (eqb-true b 32 e)) (h refl)
-    go false e = way_no_line b (spelled_byte b) rest (way b) e
+    go false e = spelling_no_line b (spelled_byte b) rest (spells_byte b) e
 
 -- none ends behind a byte of a text that is no edge
 text_no_line : (first last : Bool) (bs rest : List ℕ) → (last ≡ false → is_before_line_end rest ≡ false) → (first || last && is_empty bs) ≡ false
@@ -156,20 +156,20 @@ module _ (rules : Rules) (defined : Defined) where
   no_markup : (b : ℕ) → is_numbered b ≡ false → is_ascii_punct b ≡ false → (b == 32) ≡ false → is_markup b ≡ false
   no_markup b e f g = grind (arith, nat_tests, e, f, g)
 
-  reads_way : (before : List ℕ) (b : ℕ) (front rest : List ℕ) → Way b front → (b == 0) ≡ false → ((b == 32) ≡ true → is_before_line_end rest ≡ false) → ReadsAs rules defined before front rest (one_by_one (b ∷ []))
-  reads_way before b front rest (ByNumber low) some h = reads_number before b rest low some
-  reads_way before b front rest (Escaped punct tick) some h = reads_plain before 92 (b ∷ []) rest (b ∷ []) (atom_escape rules before b rest punct)
-  reads_way before b front rest (AsItIs printed plain) some h = go (b == 32) refl
+  reads_spelling : (before : List ℕ) (b : ℕ) (front rest : List ℕ) → SpellsByte b front → (b == 0) ≡ false → ((b == 32) ≡ true → is_before_line_end rest ≡ false) → ReadsAs rules defined before front rest (one_by_one (b ∷ []))
+  reads_spelling before b front rest (ByNumber low) some h = reads_number before b rest low some
+  reads_spelling before b front rest (Escaped punct tick) some h = reads_plain before 92 (b ∷ []) rest (b ∷ []) (atom_escape rules before b rest punct)
+  reads_spelling before b front rest (AsItIs printed plain) some h = go (b == 32) refl
     where
       go : (t : Bool) → (b == 32) ≡ t → ReadsAs rules defined before (b ∷ []) rest (one_by_one (b ∷ []))
       go false e = reads_plain before b [] rest (b ∷ []) (atom_plain rules before b rest (no_markup b printed plain e))
       go true e = subst (λ c. ReadsAs rules defined before (c ∷ []) rest (one_by_one (c ∷ []))) (sym (eqb-true b 32 e)) (reads_plain before 32 [] rest (32 ∷ []) (atom_space rules before rest (h e)))
 
   reads_edge : (before : List ℕ) (at_edge : Bool) (b : ℕ) (rest : List ℕ) → (b == 0) ≡ false → (at_edge ≡ false → is_before_line_end rest ≡ false) → ReadsAs rules defined before (edge_byte at_edge b) rest (one_by_one (b ∷ []))
-  reads_edge before false b rest some h = reads_way before b (spelled_byte b) rest (way b) some (λ e. h refl)
+  reads_edge before false b rest some h = reads_spelling before b (spelled_byte b) rest (spells_byte b) some (λ e. h refl)
   reads_edge before true b rest some h = cond_both (b == 32) (numbered 32) (spelled_byte b) (λ front. ReadsAs rules defined before front rest (one_by_one (b ∷ [])))
       (λ e. subst (λ c. ReadsAs rules defined before (numbered 32) rest (one_by_one (c ∷ []))) (sym (eqb-true b 32 e)) (reads_number before 32 rest (omega arith) refl))
-      (λ e. reads_way before b (spelled_byte b) rest (way b) some (λ g. absurd (false≢true (sym e ∙ g))))
+      (λ e. reads_spelling before b (spelled_byte b) rest (spells_byte b) some (λ g. absurd (false≢true (sym e ∙ g))))
 
   -- a text is read byte by byte
   pub reads_text : (before : List ℕ) (first last : Bool) (text rest : List ℕ) → has_nul text ≡ false → (last ≡ false → is_before_line_end rest ≡ false) → ReadsAs rules defined before (spelled_text first last text) rest (one_by_one text)

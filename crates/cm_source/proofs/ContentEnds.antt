@@ -22,7 +22,7 @@ use Rattle.cm_source.proofs.LineFronts.{ends_number, seen_view, Front, front-lin
 use Rattle.cm_source.proofs.ContentFronts.{text-front}
 use Rattle.cm_source.proofs.TagLemmas.{tag-begins, tag-ends}
 use Rattle.cm_source.proofs.PlacesBack.{bare-front}
-use Rattle.cm_source.proofs.Ways.{Way, ByNumber, Escaped, AsItIs, no-control, way}
+use Rattle.cm_source.proofs.Ways.{SpellsByte, ByNumber, Escaped, AsItIs, no-control, spells_byte}
 use Rattle.cm_scan.proofs.Apart.{differs, differs'}
 
 -- the last byte is neither blank nor an unescaped `#`; the mark says that the first byte is escaped
@@ -118,14 +118,14 @@ trimmed-start (b ∷ bs) e = go (is_space_or_tab b) e
 
 -- ---- kinds of inlines
 
-way-ends-well : (b : ℕ) (front : List ℕ) → Way b front → (b == 32) ≡ false → EndsWell front
+spelling-ends-well : (b : ℕ) (front : List ℕ) → SpellsByte b front → (b == 32) ≡ false → EndsWell front
 unfolding ends_well
-way-ends-well b front (ByNumber low) space = behind (codes "&#" ++ decimal b) (codes ";") (record { some = refl; well = refl })
-way-ends-well b front (Escaped punct tick) space = record { some = refl; well = ap (λ v. not v && true) (blank b punct) }
+spelling-ends-well b front (ByNumber low) space = behind (codes "&#" ++ decimal b) (codes ";") (record { some = refl; well = refl })
+spelling-ends-well b front (Escaped punct tick) space = record { some = refl; well = ap (λ v. not v && true) (blank b punct) }
   where
     blank : (c : ℕ) → is_ascii_punct c ≡ true → is_space_or_tab c ≡ false
     blank c punct = ap (λ v. v || c == 9) (differs is_ascii_punct c 32 punct refl) ∙ differs is_ascii_punct c 9 punct refl
-way-ends-well b front (AsItIs printed punct) space = record {
+spelling-ends-well b front (AsItIs printed punct) space = record {
   some = refl;
   well = ap (λ v. not (v || b == 9) && not (b == 35)) space ∙ ap (λ v. not v && not (b == 35)) (differs' is_ascii_control b 9 (no-control b printed) refl) ∙ ap not (differs' is_ascii_punct b 35 punct refl);
 }
@@ -136,7 +136,7 @@ last-well b = go (b == 32) refl
   where
     go : (v : Bool) → (b == 32) ≡ v → EndsWell (if v then numbered 32 else spelled_byte b)
     go true p = behind (codes "&#" ++ decimal 32) (codes ";") (record { some = refl; well = refl })
-    go false p = way-ends-well b (spelled_byte b) (way b) p
+    go false p = spelling-ends-well b (spelled_byte b) (spells_byte b) p
 
 pub text-well : (first : Bool) (text : List ℕ) → is_empty text ≡ false → EndsWell (spelled_text first true text)
 unfolding spelled_text

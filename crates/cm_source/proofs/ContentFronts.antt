@@ -22,7 +22,7 @@ use Rattle.cm_source.proofs.KeptBytes.{is_line_byte, one-line, padding-line, tex
 use Rattle.cm_scan.proofs.QuietStarts.{starters, is_quiet}
 use Rattle.cm_source.proofs.LineFronts.{enders, is_inner, ends_number, ends-digit, ends-other, seen_view, Front, quiet, number, one_star, two_stars, two_tildes, backticks, LinesBegin}
 use Rattle.cm_source.proofs.TagLemmas.{tag-begins}
-use Rattle.cm_source.proofs.Ways.{Way, ByNumber, Escaped, AsItIs, no-control, way, edge_way}
+use Rattle.cm_source.proofs.Ways.{SpellsByte, ByNumber, Escaped, AsItIs, no-control, spells_byte, spells_edge}
 use Rattle.cm_scan.proofs.Apart.{differs', none-passes}
 use Rattle.cm_source.proofs.Tests.{all-both}
 
@@ -58,11 +58,11 @@ starts-with b rest inner = record { byte = b; rest = rest; is = refl; inner = in
 
 -- ---- texts
 
-way-ends : (b : ℕ) (front : List ℕ) → Way b front → (rest : List ℕ) → ends_number rest ≡ true → ends_number (front ++ rest) ≡ true
+spelling-ends : (b : ℕ) (front : List ℕ) → SpellsByte b front → (rest : List ℕ) → ends_number rest ≡ true → ends_number (front ++ rest) ≡ true
 unfolding ends_number
-way-ends b front (ByNumber low) rest e = refl
-way-ends b front (Escaped punct tick) rest e = refl
-way-ends b front (AsItIs printed punct) rest e = go (is_digit b) refl
+spelling-ends b front (ByNumber low) rest e = refl
+spelling-ends b front (Escaped punct tick) rest e = refl
+spelling-ends b front (AsItIs printed punct) rest e = go (is_digit b) refl
   where
     go : (v : Bool) → is_digit b ≡ v → ends_number (b ∷ rest) ≡ true
     go true d = ends-digit b rest d ∙ e
@@ -75,22 +75,22 @@ text-ends last [] more e = e
 text-ends last (b ∷ bs) more e =
     let at_edge = last && is_empty bs in
     ap ends_number (append_assoc (edge_byte at_edge b) (spelled_text false last bs) more)
-    ∙ way-ends b (edge_byte at_edge b) (edge_way at_edge b) (spelled_text false last bs ++ more) (text-ends last bs more e)
+    ∙ spelling-ends b (edge_byte at_edge b) (spells_edge at_edge b) (spelled_text false last bs ++ more) (text-ends last bs more e)
 
-way-front : (b : ℕ) (front : List ℕ) → Way b front → (b == 32) ≡ false → (rest : List ℕ) → ends_number rest ≡ true → Front (front ++ rest)
+spelling-front : (b : ℕ) (front : List ℕ) → SpellsByte b front → (b == 32) ≡ false → (rest : List ℕ) → ends_number rest ≡ true → Front (front ++ rest)
 unfolding is_quiet
-way-front b front (ByNumber low) space rest e = quiet 38 _ refl refl
-way-front b front (Escaped punct tick) space rest e = quiet 92 _ refl refl
-way-front b front (AsItIs printed punct) space rest e = go (is_digit b) refl
+spelling-front b front (ByNumber low) space rest e = quiet 38 _ refl refl
+spelling-front b front (Escaped punct tick) space rest e = quiet 92 _ refl refl
+spelling-front b front (AsItIs printed punct) space rest e = go (is_digit b) refl
   where
     go : (v : Bool) → is_digit b ≡ v → Front (b ∷ rest)
     go true d = number b rest d (ends-digit b rest d ∙ e)
     go false d = quiet b rest (quiet-itself b (unmarked b punct (no-control b printed) space)) d
 
-way-filled : (b : ℕ) (front : List ℕ) → Way b front → (rest : List ℕ) → is_empty (front ++ rest) ≡ false
-way-filled b front (ByNumber low) rest = refl
-way-filled b front (Escaped punct tick) rest = refl
-way-filled b front (AsItIs printed punct) rest = refl
+spelling-filled : (b : ℕ) (front : List ℕ) → SpellsByte b front → (rest : List ℕ) → is_empty (front ++ rest) ≡ false
+spelling-filled b front (ByNumber low) rest = refl
+spelling-filled b front (Escaped punct tick) rest = refl
+spelling-filled b front (AsItIs printed punct) rest = refl
 
 pub text-front : (last : Bool) (b : ℕ) (bs more : List ℕ) → ends_number more ≡ true → Front (spelled_text true last (b ∷ bs) ++ more)
 unfolding spelled_text is_quiet
@@ -99,18 +99,18 @@ text-front last b bs more e = go (b == 32) refl
     go : (v : Bool) → (b == 32) ≡ v → Front ((if v then numbered 32 else spelled_byte b) ++ spelled_text false last bs ++ more)
     go true p = quiet 38 _ refl refl
     go false p = subst Front (sym (append_assoc (spelled_byte b) (spelled_text false last bs) more))
-        (way-front b (spelled_byte b) (way b) p (spelled_text false last bs ++ more) (text-ends last bs more e))
+        (spelling-front b (spelled_byte b) (spells_byte b) p (spelled_text false last bs ++ more) (text-ends last bs more e))
 
 -- inside of stars or tildes no text begins with a space
-way-inner : (b : ℕ) (front : List ℕ) → Way b front → (b == 32) ≡ false → (rest : List ℕ) → StartsInner (front ++ rest)
+spelling-inner : (b : ℕ) (front : List ℕ) → SpellsByte b front → (b == 32) ≡ false → (rest : List ℕ) → StartsInner (front ++ rest)
 unfolding is_inner
-way-inner b front (ByNumber low) space rest = starts-with 38 _ refl
-way-inner b front (Escaped punct tick) space rest = starts-with 92 _ refl
-way-inner b front (AsItIs printed punct) space rest = starts-with b rest (inner-itself b (unmarked b punct (no-control b printed) space))
+spelling-inner b front (ByNumber low) space rest = starts-with 38 _ refl
+spelling-inner b front (Escaped punct tick) space rest = starts-with 92 _ refl
+spelling-inner b front (AsItIs printed punct) space rest = starts-with b rest (inner-itself b (unmarked b punct (no-control b printed) space))
 
 text-inner : (last : Bool) (b : ℕ) (bs : List ℕ) → (b == 32) ≡ false → StartsInner (spelled_text false last (b ∷ bs))
 unfolding spelled_text
-text-inner last b bs space = way-inner b (edge_byte (last && is_empty bs) b) (edge_way (last && is_empty bs) b) space (spelled_text false last bs)
+text-inner last b bs space = spelling-inner b (edge_byte (last && is_empty bs) b) (spells_edge (last && is_empty bs) b) space (spelled_text false last bs)
 
 -- ---- code spans
 
@@ -387,7 +387,7 @@ module _ (rules : Rules) where
   text-begins first last (b ∷ bs) more some ends begin = go first
     where
       filled : (at_edge : Bool) → is_empty (edge_byte at_edge b ++ spelled_text false last bs) ≡ false
-      filled at_edge = way-filled b (edge_byte at_edge b) (edge_way at_edge b) (spelled_text false last bs)
+      filled at_edge = spelling-filled b (edge_byte at_edge b) (spells_edge at_edge b) (spelled_text false last bs)
 
       go : (first : Bool) → LinesBegin first (spelled_text first last (b ∷ bs) ++ more)
       go true = begin-with true (spelled_text true last (b ∷ bs)) more (filled true) (text-is-line true last (b ∷ bs)) (λ e. text-front last b bs more ends) begin

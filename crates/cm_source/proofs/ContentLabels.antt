@@ -20,7 +20,7 @@ use Rattle.cm_source.proofs.InlineInduction.{AllHold, Cases, by-cases, all-by-ca
 use Rattle.cm_source.proofs.SpelledBytes.{all-digits}
 use Rattle.cm_source.proofs.TagLemmas.{tag-begins, tag-ends}
 use Rattle.cm_source.proofs.TextLemmas.{escapes-none}
-use Rattle.cm_source.proofs.Ways.{Way, ByNumber, Escaped, AsItIs, edge_way}
+use Rattle.cm_source.proofs.Ways.{SpellsByte, ByNumber, Escaped, AsItIs, spells_edge}
 use Rattle.cm_scan.proofs.Apart.{differs, differs'}
 use Rattle.cm_source.proofs.Tests.{all-both, all-so}
 
@@ -138,12 +138,12 @@ unfolding passes_byte
 digit-passes b d = ap (λ v. not v && (not (b == 92) && not (b == 93))) (differs is_digit b 91 d refl)
     ∙ ap (λ v. not v && not (b == 93)) (differs is_digit b 92 d refl) ∙ ap not (differs is_digit b 93 d refl)
 
-way-passes : (b : ℕ) (front : List ℕ) → Way b front → (more : List ℕ) → is_no_label false more ≡ true → is_no_label false (front ++ more) ≡ true
+spelling-passes : (b : ℕ) (front : List ℕ) → SpellsByte b front → (more : List ℕ) → is_no_label false more ≡ true → is_no_label false (front ++ more) ≡ true
 unfolding passes_byte is_no_label
-way-passes b front (ByNumber low) more h =
+spelling-passes b front (ByNumber low) more h =
     all-pass (numbered b) more (all-both passes_byte (decimal b) (59 ∷ []) (all-so is_digit passes_byte digit-passes (decimal b) (all-digits b low)) refl) h
-way-passes b front (Escaped punct tick) more h = ap (λ v. is_no_label v (b ∷ more)) punct ∙ h
-way-passes b front (AsItIs printed punct) more h =
+spelling-passes b front (Escaped punct tick) more h = ap (λ v. is_no_label v (b ∷ more)) punct ∙ h
+spelling-passes b front (AsItIs printed punct) more h =
     one-passes b more (differs' is_ascii_punct b 91 punct refl) (differs' is_ascii_punct b 92 punct refl) (differs' is_ascii_punct b 93 punct refl) h
 
 text-passes : (first last : Bool) (text more : List ℕ) → is_no_label false more ≡ true → is_no_label false (spelled_text first last text ++ more) ≡ true
@@ -152,7 +152,7 @@ text-passes first last [] more h = h
 text-passes first last (b ∷ bs) more h =
     let at_edge = first || last && is_empty bs in
     ap (is_no_label false) (append_assoc (edge_byte at_edge b) (spelled_text false last bs) more)
-    ∙ way-passes b (edge_byte at_edge b) (edge_way at_edge b) (spelled_text false last bs ++ more) (text-passes false last bs more h)
+    ∙ spelling-passes b (edge_byte at_edge b) (spells_edge at_edge b) (spelled_text false last bs ++ more) (text-passes false last bs more h)
 
 -- ---- code and raw HTML
 
@@ -303,16 +303,16 @@ module _ (rules : Rules) where
       → link_definition ((spelled i).spelling true last ++ more) ≡ None
   none-told i s e last more k = ap (λ (z : Spelled). link_definition (z.spelling true last ++ more)) e ∙ k
 
-  way-none : (b : ℕ) (front : List ℕ) → Way b front → (more : List ℕ) → link_definition (front ++ more) ≡ None
-  way-none b front (ByNumber low) more = other-none 38 _ refl
-  way-none b front (Escaped punct tick) more = other-none 92 (b ∷ more) refl
-  way-none b front (AsItIs printed punct) more = other-none b more (differs' is_ascii_punct b 91 punct refl)
+  spelling-none : (b : ℕ) (front : List ℕ) → SpellsByte b front → (more : List ℕ) → link_definition (front ++ more) ≡ None
+  spelling-none b front (ByNumber low) more = other-none 38 _ refl
+  spelling-none b front (Escaped punct tick) more = other-none 92 (b ∷ more) refl
+  spelling-none b front (AsItIs printed punct) more = other-none b more (differs' is_ascii_punct b 91 punct refl)
 
   text-none : (last : Bool) (text more : List ℕ) → is_empty text ≡ false → link_definition (spelled_text true last text ++ more) ≡ None
   unfolding spelled_text
   text-none last [] more some = absurd (cc some)
   text-none last (b ∷ bs) more some =
-      ap link_definition (append_assoc (edge_byte true b) (spelled_text false last bs) more) ∙ way-none b (edge_byte true b) (edge_way true b) (spelled_text false last bs ++ more)
+      ap link_definition (append_assoc (edge_byte true b) (spelled_text false last bs) more) ∙ spelling-none b (edge_byte true b) (spells_edge true b) (spelled_text false last bs ++ more)
 
   link-none : (dest title : List ℕ) (is : List Inline) (place : Place) → place.opens_paragraph ≡ true → refusal_of_all (inside_link place) None (map (judged rules) is) ≡ None
       → (first last : Bool) (more : List ℕ) → link_definition ((between (codes "[") (map spelled is) (spelled_target dest title)).spelling first last ++ more) ≡ None

@@ -27,3 +27,5 @@ paragraphs_read_back rules defined content e utf8 = paragraph-back rules defined
 
 pub headings_read_back : HeadingsReadBack
 headings_read_back rules defined content e utf8 = heading-back rules defined content e (accepted-texts rules of_heading content e utf8)
+
+pub ruleset contents_read_back = (paragraphs_read_back, headings_read_back)

@@ -15,7 +15,7 @@ use Rattle.cm_source.specs.Texts.{edge_byte, spelled_text}
 use Rattle.cm_source.specs.InlineRefusals.{Face, is_text, is_code, is_break, is_emphasis, is_none, first_of, last_of, is_whitespace, is_plain}
 use Rattle.cm_source.specs.steps.ContentBack.{is_before_line_end}
 use Rattle.cm_source.proofs.Neighbours.{ascii-utf8, Beside, is_blank, punctuation-seen, first-ascii, last-ascii}
-use Rattle.cm_source.proofs.Ways.{Way, ByNumber, Escaped, AsItIs, edge_way}
+use Rattle.cm_source.proofs.Ways.{SpellsByte, ByNumber, Escaped, AsItIs, spells_edge}
 use Rattle.cm_source.proofs.BytesRead.{no-line-here}
 use Rattle.cm_scan.proofs.Apart.{differs'}
 
@@ -27,17 +27,17 @@ pub record IsHidden (m : ℕ) : Type 0 where
   pub no_ampersand : (38 == m) ≡ false
   pub no_backslash : (92 == m) ≡ false
 
-way-hidden : (m b : ℕ) (front rest : List ℕ) → Way b front → IsHidden m → begins_with m (front ++ rest) ≡ false
-way-hidden m b front rest (ByNumber low) h = h.no_ampersand
-way-hidden m b front rest (Escaped punct tick) h = h.no_backslash
-way-hidden m b front rest (AsItIs printed plain) h = differs' is_ascii_punct b m plain h.punctuation
+spelling-hidden : (m b : ℕ) (front rest : List ℕ) → SpellsByte b front → IsHidden m → begins_with m (front ++ rest) ≡ false
+spelling-hidden m b front rest (ByNumber low) h = h.no_ampersand
+spelling-hidden m b front rest (Escaped punct tick) h = h.no_backslash
+spelling-hidden m b front rest (AsItIs printed plain) h = differs' is_ascii_punct b m plain h.punctuation
 
 pub text-hidden : (m : ℕ) (first last : Bool) (text rest : List ℕ) → IsHidden m → is_empty text ≡ false → begins_with m (spelled_text first last text ++ rest) ≡ false
 unfolding spelled_text
 text-hidden m first last [] rest h some = absurd (cc some)
 text-hidden m first last (b ∷ bs) rest h some =
     ap (begins_with m) (append_assoc (edge_byte (first || last && is_empty bs) b) (spelled_text false last bs) rest)
-    ∙ way-hidden m b (edge_byte (first || last && is_empty bs) b) (spelled_text false last bs ++ rest) (edge_way (first || last && is_empty bs) b) h
+    ∙ spelling-hidden m b (edge_byte (first || last && is_empty bs) b) (spelled_text false last bs ++ rest) (spells_edge (first || last && is_empty bs) b) h
 
 pub tick-hidden : IsHidden 96
 tick-hidden = record { punctuation = refl; no_ampersand = refl; no_backslash = refl }

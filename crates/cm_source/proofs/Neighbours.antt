@@ -17,7 +17,7 @@ use Rattle.cm_scan.specs.Delimiters.{Neighbour, whitespace, punctuation, other, 
 use Rattle.cm_scan.specs.Atoms.{first_character, last_character}
 use Rattle.cm_source.specs.Texts.{numbered, spelled_byte, edge_byte, spelled_text}
 use Rattle.cm_source.specs.InlineRefusals.{is_whitespace, is_plain}
-use Rattle.cm_source.proofs.Ways.{Way, ByNumber, Escaped, AsItIs, edge_way}
+use Rattle.cm_source.proofs.Ways.{SpellsByte, ByNumber, Escaped, AsItIs, spells_edge}
 
 -- a run sees whitespace
 abbrev pub is_blank : Neighbour → Bool
@@ -138,13 +138,13 @@ ascii-encodes (x ∷ xs) h =
     let ih = ascii-encodes xs p.1 in
     (ap (λ l. l ++ encodes xs) (encode_ascii x low) ∙ ap (λ l. x ∷ l) ih.0, ap (λ t. t && scalars xs) (low_scalar x (omega (arith, low))) ∙ ih.1)
 
-way-ascii : (c : ℕ) (front : List ℕ) → Way c front → c < 128 → list_all is_ascii front ≡ true
-way-ascii c front (ByNumber low) h = numbered-ascii c h
-way-ascii c front (Escaped punct tick) h = ap (λ v. v && true) (lt-ltb c 128 h)
-way-ascii c front (AsItIs printed plain) h = ap (λ v. v && true) (lt-ltb c 128 h)
+spelling-ascii : (c : ℕ) (front : List ℕ) → SpellsByte c front → c < 128 → list_all is_ascii front ≡ true
+spelling-ascii c front (ByNumber low) h = numbered-ascii c h
+spelling-ascii c front (Escaped punct tick) h = ap (λ v. v && true) (lt-ltb c 128 h)
+spelling-ascii c front (AsItIs printed plain) h = ap (λ v. v && true) (lt-ltb c 128 h)
 
 pub edge-ascii : (at_edge : Bool) (c : ℕ) → c < 128 → list_all is_ascii (edge_byte at_edge c) ≡ true
-edge-ascii at_edge c h = way-ascii c (edge_byte at_edge c) (edge_way at_edge c) h
+edge-ascii at_edge c h = spelling-ascii c (edge_byte at_edge c) (spells_edge at_edge c) h
 
 -- bytes of characters beyond ASCII
 abbrev pub AllHigh : List ℕ → Type 0

@@ -7,7 +7,7 @@ use Rattle.std.proofs.lemmas.Bool.{and_parts, agree_below_at, or_from}
 use Rattle.cm_text.specs.Characters.{is_ascii_punct}
 use Rattle.cm_scan.specs.Words.{is_digit, is_empty}
 use Rattle.cm_source.specs.Texts.{numbered, spelled_byte, spelled_bytes, edge_byte, spelled_text, spelled_title, spelled_target}
-use Rattle.cm_source.proofs.Ways.{Way, ByNumber, Escaped, AsItIs, no-control, way, edge_way}
+use Rattle.cm_source.proofs.Ways.{SpellsByte, ByNumber, Escaped, AsItIs, no-control, spells_byte, spells_edge}
 use Rattle.cm_scan.proofs.Apart.{differs, differs'}
 use Rattle.cm_source.proofs.Tests.{all-both, all-so}
 
@@ -34,12 +34,12 @@ number-tame : (b : ℕ) → b < 128 → list_all is_tame (numbered b) ≡ true
 unfolding is_tame
 number-tame b low = all-both is_tame (decimal b) (59 ∷ []) (all-so is_digit is_tame digit-tame (decimal b) (all-digits b low)) refl
 
-way-tame : (b : ℕ) (front : List ℕ) → Way b front → list_all is_tame front ≡ true
+spelling-tame : (b : ℕ) (front : List ℕ) → SpellsByte b front → list_all is_tame front ≡ true
 unfolding is_tame
-way-tame b front (ByNumber low) = number-tame b low
-way-tame b front (Escaped punct tick) =
+spelling-tame b front (ByNumber low) = number-tame b low
+spelling-tame b front (Escaped punct tick) =
     ap (λ v. v && true) (tame b (differs is_ascii_punct b 0 punct refl) (differs is_ascii_punct b 10 punct refl) (differs is_ascii_punct b 13 punct refl) tick)
-way-tame b front (AsItIs printed punct) =
+spelling-tame b front (AsItIs printed punct) =
     ap (λ v. v && true) (tame b (differs' is_ascii_control b 0 (no-control b printed) refl) (differs' is_ascii_control b 10 (no-control b printed) refl) (differs' is_ascii_control b 13 (no-control b printed) refl) (differs' is_ascii_punct b 96 punct refl))
 
 pub text-tame : (first last : Bool) (text : List ℕ) → list_all is_tame (spelled_text first last text) ≡ true
@@ -47,11 +47,11 @@ unfolding spelled_text
 text-tame first last [] = refl
 text-tame first last (b ∷ bs) =
     let at_edge = first || last && is_empty bs in
-    all-both is_tame (edge_byte at_edge b) (spelled_text false last bs) (way-tame b (edge_byte at_edge b) (edge_way at_edge b)) (text-tame false last bs)
+    all-both is_tame (edge_byte at_edge b) (spelled_text false last bs) (spelling-tame b (edge_byte at_edge b) (spells_edge at_edge b)) (text-tame false last bs)
 
 pub bytes-tame : (text : List ℕ) → list_all is_tame (spelled_bytes text) ≡ true
 bytes-tame [] = refl
-bytes-tame (b ∷ bs) = all-both is_tame (spelled_byte b) (spelled_bytes bs) (way-tame b (spelled_byte b) (way b)) (bytes-tame bs)
+bytes-tame (b ∷ bs) = all-both is_tame (spelled_byte b) (spelled_bytes bs) (spelling-tame b (spelled_byte b) (spells_byte b)) (bytes-tame bs)
 
 title-tame : (title : List ℕ) → list_all is_tame (spelled_title title) ≡ true
 unfolding is_tame

@@ -15,7 +15,7 @@ use Rattle.cm_scan.specs.Brackets.{LinkEnd, link_end, closed, after_destination,
 use Rattle.cm_source.specs.Texts.{numbered, spelled_bytes, spelled_title, spelled_target}
 use Rattle.cm_source.specs.InlineRefusals.{has_nul}
 use Rattle.cm_source.proofs.BytesRead.{reading}
-use Rattle.cm_source.proofs.Ways.{Way, ByNumber, Escaped, AsItIs, Ways, NoByte, OneByte, is_numbered, ways}
+use Rattle.cm_source.proofs.Ways.{SpellsByte, ByNumber, Escaped, AsItIs, SpellsBytes, NoByte, OneByte, is_numbered, spells_bytes}
 use Rattle.cm_source.proofs.UnescapeBack.{unescape_bytes}
 use Rattle.cm_source.proofs.TextLemmas.{escapes-none}
 use Rattle.cm_source.proofs.FeedLemmas.{has_feed}
@@ -80,26 +80,26 @@ module _ (closes forbidden : ℕ → Bool) (others : PassesOthers closes forbidd
   plain_passes : (b : ℕ) → is_numbered b ≡ false → is_ascii_punct b ≡ false → is_passed b ≡ true
   plain_passes b e f = grind (arith, nat_tests, e, f)
 
-  way_passed : (b : ℕ) (front rest : List ℕ) → Way b front → up_to_closing closes forbidden false (front ++ rest) ≡ onto front (up_to_closing closes forbidden false rest)
+  spelling_passed : (b : ℕ) (front rest : List ℕ) → SpellsByte b front → up_to_closing closes forbidden false (front ++ rest) ≡ onto front (up_to_closing closes forbidden false rest)
   unfolding up_to_closing onto
-  way_passed b front rest (ByNumber low) = bytes_passed (numbered b) rest (agree_below_at (λ b. list_all is_passed (numbered b)) (λ b. true) 128 b numbers_pass low)
-  way_passed b front rest (Escaped punct tick) = byte_passed 92 (b ∷ rest) true refl punct
-  way_passed b front rest (AsItIs printed plain) = bytes_passed (b ∷ []) rest (ap (λ t. t && true) (plain_passes b printed plain))
+  spelling_passed b front rest (ByNumber low) = bytes_passed (numbered b) rest (agree_below_at (λ b. list_all is_passed (numbered b)) (λ b. true) 128 b numbers_pass low)
+  spelling_passed b front rest (Escaped punct tick) = byte_passed 92 (b ∷ rest) true refl punct
+  spelling_passed b front rest (AsItIs printed plain) = bytes_passed (b ∷ []) rest (ap (λ t. t && true) (plain_passes b printed plain))
 
-  ways_passed : (text front rest : List ℕ) → Ways text front → up_to_closing closes forbidden false (front ++ rest) ≡ onto front (up_to_closing closes forbidden false rest)
+  spellings_passed : (text front rest : List ℕ) → SpellsBytes text front → up_to_closing closes forbidden false (front ++ rest) ≡ onto front (up_to_closing closes forbidden false rest)
   unfolding onto
-  ways_passed text front rest NoByte = refl
-  ways_passed text front rest (OneByte {b = b} {bs = bs} {first = first} {others = further} one more) =
+  spellings_passed text front rest NoByte = refl
+  spellings_passed text front rest (OneByte {b = b} {bs = bs} {first = first} {others = further} one more) =
       ap (up_to_closing closes forbidden false) (append_assoc first further rest)
-      ∙ way_passed b first (further ++ rest) one
-      ∙ ap (onto first) (ways_passed bs further rest more)
+      ∙ spelling_passed b first (further ++ rest) one
+      ∙ ap (onto first) (spellings_passed bs further rest more)
       ∙ sym (onto_append first further (up_to_closing closes forbidden false rest))
 
   -- spelled bytes up to the one that closes
   closed_read : (close : ℕ) (text rest : List ℕ) → closes close ≡ true → up_to_closing closes forbidden false (spelled_bytes text ++ close ∷ rest) ≡ Some (reading (spelled_bytes text) rest)
   unfolding up_to_closing by_tests
   closed_read close text rest e =
-      ways_passed text (spelled_bytes text) (close ∷ rest) (ways text)
+      spellings_passed text (spelled_bytes text) (close ∷ rest) (spells_bytes text)
       ∙ ap (λ t. onto (spelled_bytes text) (by_tests close rest t (forbidden close) (escapes_next close rest))) e
       ∙ onto_read (spelled_bytes text) [] rest ∙ ap (λ t. Some (reading t rest)) (append-nil (spelled_bytes text))
 

@@ -26,14 +26,14 @@ use Rattle.cm_source.proofs.Neighbours.{ascii-utf8, edge-ascii, AllHigh, high-by
 use Rattle.cm_source.proofs.SpelledUtf8.{ticks-utf8, utf8-as}
 use Rattle.cm_source.proofs.InlineEdges.{second-fails, split-ascii, before-ascii, Ends}
 use Rattle.cm_source.proofs.EdgesOfKinds.{code-ends, html-ends, soft-ends, hard-ends, between-ends, link-ends, image-ends}
-use Rattle.cm_source.proofs.Ways.{Way, ByNumber, Escaped, AsItIs, edge_way}
+use Rattle.cm_source.proofs.Ways.{SpellsByte, ByNumber, Escaped, AsItIs, spells_edge}
 
 -- ---- texts
 
-way-first : (b : ℕ) (front : List ℕ) → Way b front → b < 128 → (x : ℕ) × (ys : List ℕ) × (front ≡ x ∷ ys) × (x < 128)
-way-first b front (ByNumber low) h = (38, drop 1 (numbered b), refl, omega arith)
-way-first b front (Escaped punct tick) h = (92, b ∷ [], refl, omega arith)
-way-first b front (AsItIs printed plain) h = (b, [], refl, h)
+spelling-first : (b : ℕ) (front : List ℕ) → SpellsByte b front → b < 128 → (x : ℕ) × (ys : List ℕ) × (front ≡ x ∷ ys) × (x < 128)
+spelling-first b front (ByNumber low) h = (38, drop 1 (numbered b), refl, omega arith)
+spelling-first b front (Escaped punct tick) h = (92, b ∷ [], refl, omega arith)
+spelling-first b front (AsItIs printed plain) h = (b, [], refl, h)
 
 -- high bytes at the front of a spelled text stand in the text
 high-front : (hs more : List ℕ) (last : Bool) (text : List ℕ) → AllHigh hs → hs ++ more ≡ spelled_text false last text → (behind : List ℕ) × (text ≡ hs ++ behind) × (more ≡ spelled_text false last behind)
@@ -48,7 +48,7 @@ high-front (h ∷ hs) more last (b ∷ bs) k e = go (cases_lt b 128) (high-front
     go : (b < 128) ⊎ (128 ≤ b) → (hs ++ more ≡ spelled_text false last bs → (behind : List ℕ) × (bs ≡ hs ++ behind) × (more ≡ spelled_text false last behind))
         → (behind : List ℕ) × (b ∷ bs ≡ (h ∷ hs) ++ behind) × (more ≡ spelled_text false last behind)
     go (inl low) again =
-        let first = way-first b (edge_byte at_edge b) (edge_way at_edge b) low in
+        let first = spelling-first b (edge_byte at_edge b) (spells_edge at_edge b) low in
         let same = e ∙ ap (λ l. l ++ spelled_text false last bs) first.2 in
         let head : h ≡ first.0 = ap (λ l. get_or l 0 0) same in
         absurd (omega (arith, head, k.0, first.3))

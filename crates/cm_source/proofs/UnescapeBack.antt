@@ -10,7 +10,7 @@ use Rattle.cm_text.proofs.UnescapingLemmas.{special-escape, special-reference, s
 use Rattle.cm_source.specs.Texts.{numbered, spelled_bytes, spelled_text}
 use Rattle.cm_source.specs.InlineRefusals.{has_nul}
 use Rattle.cm_source.specs.steps.ContentBack.{TextUnescapes, BytesUnescape}
-use Rattle.cm_source.proofs.Ways.{Way, ByNumber, Escaped, AsItIs, Ways, NoByte, OneByte, ways, text_ways, number_read}
+use Rattle.cm_source.proofs.Ways.{SpellsByte, ByNumber, Escaped, AsItIs, SpellsBytes, NoByte, OneByte, spells_bytes, spells_text, number_read}
 
 pub punct_small : (b : ℕ) → is_ascii_punct b ≡ true → b < 128
 punct_small b e = grind (arith, nat_tests, e)
@@ -28,7 +28,7 @@ no_ampersand b e = grind (arith, nat_tests, e)
 pub escape_here : (b : ℕ) (rest : List ℕ) → is_ascii_punct b ≡ true → escape (92 ∷ b ∷ rest) ≡ Some (b ∷ [], 2)
 escape_here b rest e = grind (arith, e)
 
-byte_unescaped : (b : ℕ) (front rest : List ℕ) → (b == 0) ≡ false → Way b front → unescape (front ++ rest) ≡ b ∷ unescape rest
+byte_unescaped : (b : ℕ) (front rest : List ℕ) → (b == 0) ≡ false → SpellsByte b front → unescape (front ++ rest) ≡ b ∷ unescape rest
 byte_unescaped b front rest some (ByNumber low) =
     let text : List ℕ = numbered b ++ rest in
     unescape-special text (b ∷ []) (length (numbered b)) (special-reference text refl ∙ number_read b rest low some)
@@ -39,7 +39,7 @@ byte_unescaped b front rest some (Escaped punct tick) =
     ∙ ap (λ t. t ++ unescape rest) (ascii_alone b (punct_small b punct))
 byte_unescaped b front rest some (AsItIs printed plain) = unescape-other b rest (special-none b rest (no_backslash b plain) (no_ampersand b plain))
 
-pub all_unescaped : (text front : List ℕ) → Ways text front → has_nul text ≡ false → unescape front ≡ text
+pub all_unescaped : (text front : List ℕ) → SpellsBytes text front → has_nul text ≡ false → unescape front ≡ text
 unfolding unescape_after
 all_unescaped text front NoByte some = refl
 all_unescaped text front (OneByte {b = b} {bs = bs} {first = first} {others = others} one more) some =
@@ -48,8 +48,8 @@ all_unescaped text front (OneByte {b = b} {bs = bs} {first = first} {others = ot
 
 -- a text of an inline, or an info string, which stands on a line by itself
 pub unescape_text : TextUnescapes
-unescape_text first last text some = all_unescaped text (spelled_text first last text) (text_ways first last text) some
+unescape_text first last text some = all_unescaped text (spelled_text first last text) (spells_text first last text) some
 
 -- a destination or a title
 pub unescape_bytes : BytesUnescape
-unescape_bytes text some = all_unescaped text (spelled_bytes text) (ways text) some
+unescape_bytes text some = all_unescaped text (spelled_bytes text) (spells_bytes text) some

@@ -18,15 +18,16 @@ use Rattle.cm_source.specs.Texts.{numbered, spelled_byte, spelled_bytes, edge_by
 abbrev pub is_numbered : ℕ → Bool
 is_numbered b = b == 96 || is_ascii_control b
 
-pub data Way (b : ℕ) : List ℕ → Type 0 where
-  ByNumber : b < 128 → Way b (numbered b)
-  Escaped : is_ascii_punct b ≡ true → (b == 96) ≡ false → Way b (92 ∷ b ∷ [])
-  AsItIs : is_numbered b ≡ false → is_ascii_punct b ≡ false → Way b (b ∷ [])
+-- these bytes spell this one, in one of three ways
+pub data SpellsByte (b : ℕ) : List ℕ → Type 0 where
+  ByNumber : b < 128 → SpellsByte b (numbered b)
+  Escaped : is_ascii_punct b ≡ true → (b == 96) ≡ false → SpellsByte b (92 ∷ b ∷ [])
+  AsItIs : is_numbered b ≡ false → is_ascii_punct b ≡ false → SpellsByte b (b ∷ [])
 
--- the bytes of a text, each in one of these ways
-pub data Ways : List ℕ → List ℕ → Type 0 where
-  NoByte : Ways [] []
-  OneByte : {b : ℕ} {bs first others : List ℕ} → Way b first → Ways bs others → Ways (b ∷ bs) (first ++ others)
+-- these bytes spell those of a text, each in one of these ways
+pub data SpellsBytes : List ℕ → List ℕ → Type 0 where
+  NoByte : SpellsBytes [] []
+  OneByte : {b : ℕ} {bs first others : List ℕ} → SpellsByte b first → SpellsBytes bs others → SpellsBytes (b ∷ bs) (first ++ others)
 
 -- a byte that isn't is no control character
 pub no-control : (b : ℕ) → is_numbered b ≡ false → is_ascii_control b ≡ false
@@ -35,25 +36,25 @@ no-control b e = (or_parts (b == 96) (is_ascii_control b) e).1
 numbered_small : (b : ℕ) → is_numbered b ≡ true → b < 128
 numbered_small b e = grind (arith, nat_tests, e)
 
-pub way : (b : ℕ) → Way b (spelled_byte b)
+pub spells_byte : (b : ℕ) → SpellsByte b (spelled_byte b)
 unfolding spelled_byte
-way b =
-    cond_both (is_numbered b) (numbered b) (if is_ascii_punct b then 92 ∷ b ∷ [] else b ∷ []) (Way b) (λ e. ByNumber (numbered_small b e))
-    (λ e. cond_both (is_ascii_punct b) (92 ∷ b ∷ []) (b ∷ []) (Way b) (λ g. Escaped g (or_parts (b == 96) (is_ascii_control b) e).0) (λ g. AsItIs e g))
+spells_byte b =
+    cond_both (is_numbered b) (numbered b) (if is_ascii_punct b then 92 ∷ b ∷ [] else b ∷ []) (SpellsByte b) (λ e. ByNumber (numbered_small b e))
+    (λ e. cond_both (is_ascii_punct b) (92 ∷ b ∷ []) (b ∷ []) (SpellsByte b) (λ g. Escaped g (or_parts (b == 96) (is_ascii_control b) e).0) (λ g. AsItIs e g))
 
-pub edge_way : (at_edge : Bool) (b : ℕ) → Way b (edge_byte at_edge b)
-edge_way false b = way b
-edge_way true b = cond_both (b == 32) (numbered 32) (spelled_byte b) (Way b)
-    (λ e. subst (λ c. Way c (numbered 32)) (sym (eqb-true b 32 e)) (ByNumber (omega arith))) (λ e. way b)
+pub spells_edge : (at_edge : Bool) (b : ℕ) → SpellsByte b (edge_byte at_edge b)
+spells_edge false b = spells_byte b
+spells_edge true b = cond_both (b == 32) (numbered 32) (spelled_byte b) (SpellsByte b)
+    (λ e. subst (λ c. SpellsByte c (numbered 32)) (sym (eqb-true b 32 e)) (ByNumber (omega arith))) (λ e. spells_byte b)
 
-pub ways : (text : List ℕ) → Ways text (spelled_bytes text)
-ways [] = NoByte
-ways (b ∷ bs) = OneByte (way b) (ways bs)
+pub spells_bytes : (text : List ℕ) → SpellsBytes text (spelled_bytes text)
+spells_bytes [] = NoByte
+spells_bytes (b ∷ bs) = OneByte (spells_byte b) (spells_bytes bs)
 
-pub text_ways : (first last : Bool) (text : List ℕ) → Ways text (spelled_text first last text)
+pub spells_text : (first last : Bool) (text : List ℕ) → SpellsBytes text (spelled_text first last text)
 unfolding spelled_text
-text_ways first last [] = NoByte
-text_ways first last (b ∷ bs) = OneByte (edge_way (first || last && is_empty bs) b) (text_ways false last bs)
+spells_text first last [] = NoByte
+spells_text first last (b ∷ bs) = OneByte (spells_edge (first || last && is_empty bs) b) (spells_text false last bs)
 
 -- ---- a number is read back
 

@@ -1,8 +1,9 @@
 //! Blocks, spelled line by line.
-ghost use Rattle.std.specs.Prelude.{not, true, [], ◌∷◌, ◌++◌, replicate, map, OnOk};
+ghost use Rattle.std.specs.Prelude.{not, true, [], ◌∷◌, ◌++◌, replicate, OnOk};
 ghost use Rattle.cm_source.specs.Texts.{spelled_text};
 ghost use Rattle.cm_source.specs.Inlines.{spelled_content};
-ghost use Rattle.cm_source.specs.Spelling.{parted_lines, after_space, heading_lines, code_lines, gap, joined, quote_lines, item_lines, marker, lines_of_block, lines_of_blocks};
+ghost use Rattle.cm_source.specs.Spelling.{parted_lines, after_space, heading_lines, code_lines, gap};
+ghost use Rattle.cm_source.specs.Spelling.{quote_lines, item_lines, marker, lines_of_block, lines_of_blocks};
 ghost use Rattle.cm_source.specs.steps.Laid.{Lays, Writes};
 
 use crate::inlines::{spell_inlines, spell_text};
@@ -43,7 +44,8 @@ fn spell_heading(source: &mut Source, level: u8, content: &[Inline]) -> Result<(
 
 /// Spells a fence of so many backticks, with an info string.
 fn spell_fence(source: &mut Source, marks: usize, info: &str) -> Result<(), AllocError>
-    ensures { OnOk result (Writes source.old source.new ((replicate marks 96 ++ spelled_text true true info.now) ∷ [])) }
+    ensures { OnOk result (Writes source.old source.new
+        ((replicate marks 96 ++ spelled_text true true info.now) ∷ [])) }
 {
     source.begin_line()?;
     source.push_marks('`', marks)?;
@@ -132,7 +134,8 @@ fn spell_item(
     tight: bool,
     blocks: &[Block],
 ) -> Result<(), AllocError>
-    ensures { OnOk result (Writes source.old source.new (item_lines (marker kind) (lines_of_blocks (not tight) blocks.now))) }
+    ensures { OnOk result (Writes source.old source.new
+        (item_lines (marker kind) (lines_of_blocks (not tight) blocks.now))) }
 {
     let front = source.enter_item(kind)?;
     spell_blocks(source, blocks, !tight)?;

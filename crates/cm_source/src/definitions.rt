@@ -33,8 +33,8 @@ pub fn without_definitions(alloc: Global, blocks: Items<Block>) -> Items<Block>
     Items::from(blocks)
 }
 
-/// A block without the link reference definitions inside of it, at every depth, or nothing where it is one itself. It takes no
-/// memory.
+/// A block without the link reference definitions inside of it, at every depth, or nothing
+/// where it is one itself. It takes no memory.
 pub fn block_without_definitions(alloc: Global, mut block: Block) -> Option<Block>
     ensures kept { IfSome result (λ kept. without_definitions (block ∷ []) ≡ kept ∷ []) }
     ensures gone { IfNone result (without_definitions (block ∷ []) ≡ []) }

@@ -3,7 +3,13 @@ ghost use Rattle.std.specs.Prelude.{◌≡◌, ◌==◌, [], ◌∷◌, None, no
 ghost use Rattle.cm_text.specs.Rules as text_rules;
 ghost use Rattle.cm_scan.specs.Words.{is_empty, ◌<|>◌};
 ghost use Rattle.cm_source.specs.Answers.{ok_unless};
-ghost use Rattle.cm_source.specs.InlineRefusals.{refused, has_nul, has_line_ending, is_text, is_emphasis, is_whitespace, is_plain, first_of, last_of, further_in, inside_link, judged, first_face, last_face, hold_emphasis, hold_link, has_wrong_edge, emphasis_reasons, emphasis, ends_a_label, is_one_tag, code_reasons, html_reasons, break_reasons, link_reasons, image_reasons, refusal_of_all, paragraph_refusal, heading_refusal};
+ghost use Rattle.cm_source.specs.InlineRefusals.{refused, has_nul, has_line_ending, is_text, is_emphasis};
+ghost use Rattle.cm_source.specs.InlineRefusals.{is_whitespace, is_plain, first_of, last_of, further_in};
+ghost use Rattle.cm_source.specs.InlineRefusals.{inside_link, judged, first_face, last_face};
+ghost use Rattle.cm_source.specs.InlineRefusals.{hold_emphasis, hold_link, has_wrong_edge, emphasis_reasons};
+ghost use Rattle.cm_source.specs.InlineRefusals.{emphasis, ends_a_label, is_one_tag, code_reasons};
+ghost use Rattle.cm_source.specs.InlineRefusals.{html_reasons, break_reasons, link_reasons, image_reasons};
+ghost use Rattle.cm_source.specs.InlineRefusals.{refusal_of_all, paragraph_refusal, heading_refusal};
 ghost use Rattle.cm_source.specs.steps.InlineFaces.{shown, seen, place_of};
 
 use crate::why::Why;
@@ -240,7 +246,8 @@ fn has_link(inline: &Inline) -> bool
     }
 }
 
-/// Whether a delimiter run wouldn't open or close emphasis between these characters, outside and inside of it.
+/// Whether a delimiter run wouldn't open or close emphasis between these characters,
+/// outside and inside of it.
 fn is_wrong_edge(rules: Rules, outside: Option<char>, inside: Option<char>) -> bool
     ensures { result ≡ (is_whitespace inside || is_plain rules outside && not (is_plain rules inside)) }
 {
@@ -254,7 +261,8 @@ fn has_wrong_edge(
     content: &[Inline],
     after: Option<Face<'_>>,
 ) -> bool
-    ensures { result ≡ has_wrong_edge rules (seen before.entry) (map (judged rules) content.now) (seen after.entry) }
+    ensures { result
+        ≡ has_wrong_edge rules (seen before.entry) (map (judged rules) content.now) (seen after.entry) }
 {
     if content.is_empty() {
         return true;
@@ -266,15 +274,16 @@ fn has_wrong_edge(
 
 /// Refuses emphasis with such a content between these.
 ///
-/// Where emphasis holds another, the walk ends here. So no inline is searched for emphasis twice, however deep it
-/// stands, and the walk takes time in proportion to the tree.
+/// Where emphasis holds another, the walk ends here. So no inline is searched for emphasis twice, however
+/// deep it stands, and the walk takes time in proportion to the tree.
 fn check_emphasis(
     rules: Rules,
     content: &[Inline],
     before: Option<Face<'_>>,
     after: Option<Face<'_>>,
 ) -> Result<(), Why>
-    ensures { result ≡ ok_unless (refused (emphasis_reasons rules (map (judged rules) content.now) (seen before.entry) (seen after.entry))) }
+    ensures { result ≡ ok_unless (refused (emphasis_reasons rules
+        (map (judged rules) content.now) (seen before.entry) (seen after.entry))) }
 {
     refuse_if(hold_emphasis(content), Why::EmphasisNested)?;
     refuse_if(is_emphasis(before), Why::EmphasisTouching)?;
@@ -307,7 +316,8 @@ fn is_one_tag(rules: Rules, text: &str) -> bool
 
 /// Refuses a text behind this.
 fn check_text(text: &str, before: Option<Face<'_>>) -> Result<(), Why>
-    ensures { result ≡ ok_unless (refused ((has_nul text.now, Why.Nul) ∷ (is_empty text.now || is_text (seen before.entry), Why.Text) ∷ [])) }
+    ensures { result ≡ ok_unless (refused ((has_nul text.now, Why.Nul)
+        ∷ (is_empty text.now || is_text (seen before.entry), Why.Text) ∷ [])) }
 {
     refuse_if(has_nul(text), Why::Nul)?;
     refuse_if(
@@ -332,7 +342,8 @@ fn check_code(place: Place, text: &str, before: Option<Face<'_>>) -> Result<(), 
 
 /// Refuses raw HTML at a place, behind this.
 fn check_html(rules: Rules, place: Place, text: &str, before: Option<Face<'_>>) -> Result<(), Why>
-    ensures { result ≡ ok_unless (refused (html_reasons rules (place_of place) text.now (seen before.entry))) }
+    ensures { result
+        ≡ ok_unless (refused (html_reasons rules (place_of place) text.now (seen before.entry))) }
 {
     refuse_if(has_nul(text), Why::Nul)?;
     refuse_if(
@@ -347,7 +358,8 @@ fn check_html(rules: Rules, place: Place, text: &str, before: Option<Face<'_>>) 
 
 /// Refuses a line break at a place, behind this and before these.
 fn check_break(place: Place, before: Option<Face<'_>>, rest: &[Inline]) -> Result<(), Why>
-    ensures { (rules : text_rules.Rules) → result ≡ ok_unless (refused (break_reasons (place_of place) (seen before.entry) (first_face (map (judged rules) rest.now)))) }
+    ensures { (rules : text_rules.Rules) → result ≡ ok_unless (refused
+        (break_reasons (place_of place) (seen before.entry) (first_face (map (judged rules) rest.now)))) }
 {
     refuse_if(
         place.heading || before.is_none() || rest.is_empty() || matches!(before, Some(Face::Break)),
@@ -379,7 +391,8 @@ fn check_inline(
     before: Option<Face<'_>>,
     rest: &[Inline],
 ) -> Result<(), Why>
-    ensures { result ≡ ok_unless ((judged rules inline.now).refusal (place_of place) (seen before.entry) (first_face (map (judged rules) rest.now))) }
+    ensures { result ≡ ok_unless ((judged rules inline.now).refusal
+        (place_of place) (seen before.entry) (first_face (map (judged rules) rest.now))) }
 {
     match inline {
         Inline::Text(text) => check_text(text.as_str(), before),
@@ -438,7 +451,8 @@ fn check_between(
     before: Option<Face<'_>>,
     rest: &[Inline],
 ) -> Result<(), Why>
-    ensures { result ≡ ok_unless ((emphasis rules strike (map (judged rules) content.now)).refusal (place_of place) (seen before.entry) (first_face (map (judged rules) rest.now))) }
+    ensures { result ≡ ok_unless ((emphasis rules strike (map (judged rules) content.now)).refusal
+        (place_of place) (seen before.entry) (first_face (map (judged rules) rest.now))) }
 {
     check_emphasis(rules, content, before, first_face(rest))?;
     check_strike(rules, strike)?;
@@ -449,7 +463,8 @@ fn check_between(
 ///
 /// Where a link holds another, the walk ends here. So no inline is searched for links twice.
 fn check_target(rules: Rules, dest: &str, title: &str, content: &[Inline]) -> Result<(), Why>
-    ensures { result ≡ ok_unless (refused (link_reasons rules dest.now title.now (map (judged rules) content.now))) }
+    ensures { result
+        ≡ ok_unless (refused (link_reasons rules dest.now title.now (map (judged rules) content.now))) }
 {
     refuse_if(has_nul_in(dest, title), Why::Nul)?;
     refuse_if(hold_link(content), Why::LinkInLink)?;
@@ -473,7 +488,9 @@ fn check_link(
     title: &str,
     content: &[Inline],
 ) -> Result<(), Why>
-    ensures { result ≡ ok_unless (refused (link_reasons rules dest.now title.now (map (judged rules) content.now)) <|> refusal_of_all (inside_link (place_of place)) None (map (judged rules) content.now)) }
+    ensures { result
+        ≡ ok_unless (refused (link_reasons rules dest.now title.now (map (judged rules) content.now))
+        <|> refusal_of_all (inside_link (place_of place)) None (map (judged rules) content.now)) }
 {
     check_target(rules, dest, title, content)?;
     check_inlines(rules, place.inside_link(), content)
@@ -488,7 +505,8 @@ fn check_image(
     title: &str,
     content: &[Inline],
 ) -> Result<(), Why>
-    ensures { result ≡ ok_unless (refused (image_reasons rules dest.now title.now) <|> refusal_of_all (further_in (place_of place)) None (map (judged rules) content.now)) }
+    ensures { result ≡ ok_unless (refused (image_reasons rules dest.now title.now)
+        <|> refusal_of_all (further_in (place_of place)) None (map (judged rules) content.now)) }
 {
     check_source(rules, dest, title)?;
     check_inlines(rules, place.further(), content)

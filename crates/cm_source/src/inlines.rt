@@ -134,7 +134,8 @@ fn spell_inline(
 #[cycle(inlines)]
 fn spell_between(source: &mut Source, mark: &str, content: &[Inline]) -> Result<(), AllocError>
     requires { list_any (λ b. b == 10) mark.now ≡ false }
-    ensures { OnOk result (Lays source.old source.new (mark.now ++ spelled_inlines false false content.now ++ mark.now)) }
+    ensures { OnOk result (Lays source.old source.new
+        (mark.now ++ spelled_inlines false false content.now ++ mark.now)) }
 {
     source.push(mark)?;
     spell_inlines(source, content, false, false)?;
@@ -151,7 +152,8 @@ fn spell_link(
     title: &str,
 ) -> Result<(), AllocError>
     requires { list_any (λ b. b == 10) mark.now ≡ false }
-    ensures { OnOk result (Lays source.old source.new (mark.now ++ spelled_inlines false false content.now ++ spelled_target dest.now title.now)) }
+    ensures { OnOk result (Lays source.old source.new
+        (mark.now ++ spelled_inlines false false content.now ++ spelled_target dest.now title.now)) }
 {
     source.push(mark)?;
     spell_inlines(source, content, false, false)?;

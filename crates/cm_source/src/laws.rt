@@ -1,5 +1,7 @@
 //! Laws: facts about the definitions alone. Each is the contract of a public function with an empty body.
-ghost use Rattle.cm_source.specs.ReadingBackExamples.{LeafBlockExamples, ContainerExamples, ContentExamples, RuleExamples, MisreadExamples, SourceExamples, NotUtf8Examples};
+ghost use Rattle.cm_source.specs.ReadingBackExamples.{LeafBlockExamples, ContainerExamples};
+ghost use Rattle.cm_source.specs.ReadingBackExamples.{ContentExamples, RuleExamples, MisreadExamples};
+ghost use Rattle.cm_source.specs.ReadingBackExamples.{SourceExamples, NotUtf8Examples};
 ghost use Rattle.cm_source.specs.RefusalExamples.{InlineRefusalExamples, RefusalExamples};
 ghost use Rattle.cm_source.specs.WorkedExamples.{TextExamples, InlineExamples, BlockExamples};
 
@@ -16,8 +18,8 @@ pub fn refusal_examples()
     ensures blocks { RefusalExamples }
 {}
 
-/// The same of whole trees that read back, and of some that wouldn't, by the definitions of reading; of the blocks of
-/// their lines; and of a tree that no program has, which shows why a law speaks of UTF-8.
+/// The same of whole trees that read back, and of some that wouldn't, by the definitions of reading; of the
+/// blocks of their lines; and of a tree that no program has, which shows why a law speaks of UTF-8.
 pub fn reading_back_examples()
     ensures leaves { LeafBlockExamples }
     ensures containers { ContainerExamples }

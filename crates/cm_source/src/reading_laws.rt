@@ -1,8 +1,9 @@
 //! Laws of reading back what is spelled. Each is the contract of a public function with an empty body.
-ghost use Rattle.cm_source.specs.ReadingBack.{ParagraphsReadBack, HeadingsReadBack, BlocksReadBack, SpellingIsText, TreesReadBack};
+ghost use Rattle.cm_source.specs.ReadingBack.{ParagraphsReadBack, HeadingsReadBack};
+ghost use Rattle.cm_source.specs.ReadingBack.{BlocksReadBack, SpellingIsText, TreesReadBack};
 
 /// A content that isn't refused is what its spelling is read as, whatever is defined.
-#[tactic(auto, using(crate::proofs::ContentsBack::paragraphs_read_back, crate::proofs::ContentsBack::headings_read_back))]
+#[tactic(auto, using(crate::proofs::ContentsBack::contents_read_back))]
 pub fn contents_read_back()
     ensures paragraphs { ParagraphsReadBack }
     ensures headings { HeadingsReadBack }

@@ -7,8 +7,11 @@ ghost use Rattle.cm_scan.specs.Words.{◌<|>◌};
 ghost use Rattle.cm_tree.specs.Followed.{is_line_space, is_read_info};
 ghost use Rattle.cm_source.specs.Answers.{ok_unless};
 ghost use Rattle.cm_source.specs.InlineRefusals.{refused, has_nul, paragraph_refusal, heading_refusal};
-ghost use Rattle.cm_source.specs.Refusals.{is_list, has_two, begins_late, can_follow, is_tight_item, is_as_said, begins_too_high, is_code_text, code_reasons, is_html_block, faces, judged_block, is_behind_same, list_reasons, is_filled, refusal_of_all, refusal_of};
-ghost use Rattle.cm_source.specs.steps.BlockFaces.{shown, seen, is_paragraph};
+ghost use Rattle.cm_source.specs.Refusals.{is_list, has_two, begins_late, can_follow, is_tight_item};
+ghost use Rattle.cm_source.specs.Refusals.{is_as_said, begins_too_high, is_code_text, code_reasons};
+ghost use Rattle.cm_source.specs.Refusals.{is_html_block, faces, judged_block, is_behind_same};
+ghost use Rattle.cm_source.specs.Refusals.{list_reasons, is_filled, refusal_of_all, refusal_of};
+ghost use Rattle.cm_source.specs.steps.BlockFaces.{shown, seen, is_paragraph, faces_of_items};
 
 use crate::html_alone::is_html_block;
 use crate::inline_refusals::{
@@ -89,7 +92,8 @@ fn is_paragraph(face: Face) -> bool
 
 /// Whether an item of a tight list can have these blocks.
 fn is_tight_item(blocks: &[Block]) -> bool
-    ensures { (rules : text_rules.Rules) → result ≡ is_tight_item (faces (map (judged_block rules) blocks.now)) }
+    ensures { (rules : text_rules.Rules) → result
+        ≡ is_tight_item (faces (map (judged_block rules) blocks.now)) }
 {
     match blocks {
         [] => true,
@@ -101,7 +105,7 @@ fn is_tight_item(blocks: &[Block]) -> bool
 
 /// Whether a tight list can have these items.
 fn are_tight(items: &[Items<Block>]) -> bool
-    ensures { (rules : text_rules.Rules) → result ≡ list_all is_tight_item (map faces (map (map (judged_block rules)) items.now)) }
+    ensures { (rules : text_rules.Rules) → result ≡ list_all is_tight_item (faces_of_items rules items.now) }
 {
     for item in items {
         if !is_tight_item(item.as_slice()) {
@@ -113,7 +117,7 @@ fn are_tight(items: &[Items<Block>]) -> bool
 
 /// Whether one of these items has two blocks or more.
 fn any_has_two(items: &[Items<Block>]) -> bool
-    ensures { (rules : text_rules.Rules) → result ≡ list_any has_two (map faces (map (map (judged_block rules)) items.now)) }
+    ensures { (rules : text_rules.Rules) → result ≡ list_any has_two (faces_of_items rules items.now) }
 {
     for item in items {
         if item.len() > 1 {
@@ -125,7 +129,7 @@ fn any_has_two(items: &[Items<Block>]) -> bool
 
 /// Whether a list with these items is tight or loose, as it says.
 fn is_as_said(tight: bool, items: &[Items<Block>]) -> bool
-    ensures { (rules : text_rules.Rules) → result ≡ is_as_said tight (map faces (map (map (judged_block rules)) items.now)) }
+    ensures { (rules : text_rules.Rules) → result ≡ is_as_said tight (faces_of_items rules items.now) }
 {
     if tight {
         return are_tight(items);
@@ -166,7 +170,7 @@ fn begins_with_list(item: &[Block]) -> bool
 
 /// Whether an item of these begins with a list.
 fn any_begins_with_list(items: &[Items<Block>]) -> bool
-    ensures { (rules : text_rules.Rules) → result ≡ list_any is_list (map faces (map (map (judged_block rules)) items.now)) }
+    ensures { (rules : text_rules.Rules) → result ≡ list_any is_list (faces_of_items rules items.now) }
 {
     for item in items {
         if begins_with_list(item.as_slice()) {
@@ -178,7 +182,8 @@ fn any_begins_with_list(items: &[Items<Block>]) -> bool
 
 /// Whether a list has no items, or begins at 10^9 or later.
 fn is_malformed(kind: ListKind, items: &[Items<Block>]) -> bool
-    ensures { (rules : text_rules.Rules) → result ≡ (not (list_any (λ item. true) (map faces (map (map (judged_block rules)) items.now))) || begins_too_high kind) }
+    ensures { (rules : text_rules.Rules) → result
+        ≡ (not (list_any (λ item. true) (faces_of_items rules items.now)) || begins_too_high kind) }
 {
     items.is_empty() || begins_too_high(kind)
 }
@@ -190,7 +195,8 @@ fn check_list(
     items: &[Items<Block>],
     before: Option<Face>,
 ) -> Result<(), Why>
-    ensures { (rules : text_rules.Rules) → result ≡ ok_unless (refused (list_reasons kind tight (map faces (map (map (judged_block rules)) items.now)) (seen before))) }
+    ensures { (rules : text_rules.Rules) → result
+        ≡ ok_unless (refused (list_reasons kind tight (faces_of_items rules items.now) (seen before))) }
 {
     refuse_if(is_malformed(kind, items), Why::Shape)?;
     refuse_if(is_behind_same(kind, before), Why::AdjacentLists)?;
@@ -225,7 +231,8 @@ fn has_line_space(info: &str) -> bool
 
 /// Refuses an HTML block.
 fn check_html(rules: Rules, text: &str) -> Result<(), Why>
-    ensures { result ≡ ok_unless (refused ((has_nul text.now, Why.Nul) ∷ (not (is_html_block rules text.now), Why.HtmlBlock) ∷ [])) }
+    ensures { result ≡ ok_unless (refused ((has_nul text.now, Why.Nul)
+        ∷ (not (is_html_block rules text.now), Why.HtmlBlock) ∷ [])) }
 {
     refuse_if(has_nul(text), Why::Nul)?;
     refuse_if(!is_html_block(rules, text), Why::HtmlBlock)
@@ -233,7 +240,8 @@ fn check_html(rules: Rules, text: &str) -> Result<(), Why>
 
 /// Refuses a paragraph.
 fn check_paragraph(rules: Rules, content: &[Inline]) -> Result<(), Why>
-    ensures { result ≡ ok_unless (refused ((not (list_any (λ i. true) content.now), Why.Shape) ∷ []) <|> paragraph_refusal rules content.now) }
+    ensures { result ≡ ok_unless (refused ((not (list_any (λ i. true) content.now), Why.Shape) ∷ [])
+        <|> paragraph_refusal rules content.now) }
 {
     refuse_if(content.is_empty(), Why::Shape)?;
     check_in_paragraph(rules, content)
@@ -241,7 +249,8 @@ fn check_paragraph(rules: Rules, content: &[Inline]) -> Result<(), Why>
 
 /// Refuses a heading.
 fn check_heading(rules: Rules, level: u8, content: &[Inline]) -> Result<(), Why>
-    ensures { result ≡ ok_unless (refused ((not (nat_le 1 level && nat_le level 6), Why.Shape) ∷ []) <|> heading_refusal rules content.now) }
+    ensures { result ≡ ok_unless (refused ((not (nat_le 1 level && nat_le level 6), Why.Shape) ∷ [])
+        <|> heading_refusal rules content.now) }
 {
     refuse_if(!(1..=6).contains(&level), Why::Shape)?;
     check_in_heading(rules, content)
@@ -283,12 +292,13 @@ pub(crate) fn check_block(rules: Rules, block: &Block, before: Option<Face>) -> 
     }
 }
 
-/// Whether a tree can be spelled as plain CommonMark source that reads back as the same tree. It takes no memory.
+/// Whether a tree can be spelled as plain CommonMark source that reads back as the same
+/// tree. It takes no memory.
 ///
 /// # Errors
 ///
-/// Why it can't: the reason for which the first node in the order of the document is refused, parents first. A
-/// reason that rests on two neighbours is that of the second.
+/// Why it can't: the reason for which the first node in the order of the document is refused, parents first.
+/// A reason that rests on two neighbours is that of the second.
 pub fn spellable(blocks: &[Block]) -> Result<(), Why>
     ensures { result ≡ ok_unless (refusal_of profile blocks.now) }
 {
@@ -297,8 +307,8 @@ pub fn spellable(blocks: &[Block]) -> Result<(), Why>
 
 /// The same by these rules.
 ///
-/// They decide what a plain character beside emphasis is, which texts are raw HTML and HTML blocks, and whether
-/// there is strikethrough.
+/// They decide what a plain character beside emphasis is, which texts are raw HTML and HTML
+/// blocks, and whether there is strikethrough.
 ///
 /// # Errors
 ///

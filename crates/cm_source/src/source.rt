@@ -1,5 +1,6 @@
 //! The source that is spelled so far, line by line.
-ghost use Rattle.std.specs.Prelude.{◌≡◌, ◌≢◌, ◌==◌, ◌<◌, ℕ, [], ◌∷◌, false, length, replicate, ◌+◌, ◌++◌, codes, string_bytes, IfOk, OnOk};
+ghost use Rattle.std.specs.Prelude.{◌≡◌, ◌≢◌, ◌==◌, ◌<◌, [], ◌∷◌, ◌+◌, ◌++◌};
+ghost use Rattle.std.specs.Prelude.{false, length, replicate, codes, string_bytes, IfOk, OnOk};
 ghost use Rattle.std.specs.List.{list_any};
 ghost use Rattle.std.specs.Str.{IsAscii};
 ghost use Rattle.cm_scan.specs.Words.{trim_end_spaces};
@@ -193,7 +194,8 @@ impl Source {
 
     /// Enters an item, and answers how many bytes stood in front of further lines before.
     pub(crate) fn enter_item(&mut self, kind: ListKind) -> Result<usize, AllocError>
-        ensures enters { OnOk result (Enters self.old self.new (marker kind ++ codes " ") (replicate (length (marker kind) + 1) 32)) }
+        ensures enters { OnOk result (Enters self.old self.new
+            (marker kind ++ codes " ") (replicate (length (marker kind) + 1) 32)) }
         ensures front { IfOk result (λ front. front ≡ length (string_bytes self.old.front)) }
     {
         self.begin_line()?;

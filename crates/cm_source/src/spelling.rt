@@ -43,7 +43,8 @@ pub fn spell(alloc: Global, blocks: &[Block]) -> Result<String, SourceFault>
     spell_by(alloc, Rules::profile(), blocks)
 }
 
-/// The same by these rules, which decide whether a tree can be spelled, as in `spellable_by`, and nothing else.
+/// The same by these rules, which decide whether a tree can be spelled, as in
+/// `spellable_by`, and nothing else.
 ///
 /// # Errors
 ///
@@ -58,9 +59,9 @@ pub fn spell_by(alloc: Global, rules: Rules, blocks: &[Block]) -> Result<String,
 
 /// Spells blocks one after another, so that a tree needn't be held whole.
 ///
-/// Hand over each block once, in the order of the document, by `push`, and let go of it; take the source by `finish`. It
-/// is the source that `spell_by` spells for all of them. For example, a paragraph `a` that is pushed, and then a paragraph
-/// `b`, are finished as `a`, an empty line, and `b`.
+/// Hand over each block once, in the order of the document, by `push`, and let go of it; take the source by
+/// `finish`. It is the source that `spell_by` spells for all of them. For example, a paragraph `a` that is
+/// pushed, and then a paragraph `b`, are finished as `a`, an empty line, and `b`.
 #[derive(Drop)]
 pub struct Speller {
     rules: Rules,
@@ -92,15 +93,15 @@ impl Speller {
     ///
     /// # Errors
     ///
-    /// `Unspellable` where the blocks can't be spelled with this one, with the reason that `spellable_by` tells of them,
-    /// whatever stands behind; the speller stays as it was then. `NoMemory` where a request for memory was refused, after
-    /// which nothing is known of what `finish` answers.
+    /// `Unspellable` where the blocks can't be spelled with this one, with the reason that `spellable_by`
+    /// tells of them, whatever stands behind; the speller stays as it was then. `NoMemory` where a request
+    /// for memory was refused, after which nothing is known of what `finish` answers.
     pub fn push(&mut self, block: &Block) -> Result<(), SourceFault>
         // Whatever blocks it stood for, it stands for them and the block.
-        ensures stands { OnOk result ((rules : text_rules.Rules) (blocks : List trees.Block) → StandsFor rules self.old blocks →
-            StandsFor rules self.new (blocks ++ block.now ∷ [])) }
-        ensures told { IfErr result (λ fault. (rules : text_rules.Rules) (blocks : List trees.Block) → StandsFor rules self.old blocks →
-            Refuses fault rules blocks block.now) }
+        ensures stands { OnOk result ((rules : text_rules.Rules) (blocks : List trees.Block) →
+            StandsFor rules self.old blocks → StandsFor rules self.new (blocks ++ block.now ∷ [])) }
+        ensures told { IfErr result (λ fault. (rules : text_rules.Rules) (blocks : List trees.Block) →
+            StandsFor rules self.old blocks → Refuses fault rules blocks block.now) }
         ensures same { IfErr result (λ fault. fault ≢ faults.NoMemory → self.new ≡ self.old) }
     {
         check_block(self.rules, block, self.before)?;
@@ -110,8 +111,10 @@ impl Speller {
 
     /// Writes a block behind those so far.
     fn add(&mut self, block: &Block) -> Result<(), NoMemory>
-        ensures writes { OnOk result (Writes self.old.source self.new.source (gap (is_some self.old.before) ++ lines_of_block block.now)) }
-        ensures before { OnOk result ((rules : text_rules.Rules) → seen self.new.before ≡ Some (judged_block rules block.now).face) }
+        ensures writes { OnOk result (Writes self.old.source self.new.source
+            (gap (is_some self.old.before) ++ lines_of_block block.now)) }
+        ensures before { OnOk result ((rules : text_rules.Rules) →
+            seen self.new.before ≡ Some (judged_block rules block.now).face) }
         ensures rules { self.new.rules ≡ self.old.rules }
     {
         spell_gap(&mut self.source, self.before.is_some())?;
@@ -122,10 +125,11 @@ impl Speller {
 
     /// The source of the blocks so far, which reads back as just these.
     pub fn finish(self) -> String
-        ensures spelled { (rules : text_rules.Rules) (blocks : List trees.Block) → StandsFor rules self blocks →
+        ensures spelled { (rules : text_rules.Rules) (blocks : List trees.Block) →
+            StandsFor rules self blocks →
             IsSpellable rules blocks × (string_bytes result ≡ spelling_of blocks) }
-        ensures reads_back { (rules : text_rules.Rules) (blocks : List trees.Block) → StandsFor rules self blocks →
-            tree_of rules (string_bytes result) ≡ blocks }
+        ensures reads_back { (rules : text_rules.Rules) (blocks : List trees.Block) →
+            StandsFor rules self blocks → tree_of rules (string_bytes result) ≡ blocks }
     {
         self.source.text
     }

@@ -1,6 +1,8 @@
 //! Texts, spelled so that no character of theirs is markup.
-ghost use Rattle.std.specs.Prelude.{◌≡◌, ℕ, false, not, ◌&&◌, ◌||◌, ◌==◌, ◌<◌, ◌≤◌, ◌++◌, length, position, string_bytes, IsTrue, OnOk};
-ghost use Rattle.cm_source.specs.Texts.{numbered, spelled_byte, spelled_bytes, spelled_text, longest_run, is_padded, spelled_title, spelled_target};
+ghost use Rattle.std.specs.Prelude.{◌≡◌, ◌&&◌, ◌||◌, ◌==◌, ◌<◌, ◌≤◌, ◌++◌};
+ghost use Rattle.std.specs.Prelude.{false, not, length, string_bytes, OnOk};
+ghost use Rattle.cm_source.specs.Texts.{numbered, spelled_byte, spelled_bytes, spelled_text};
+ghost use Rattle.cm_source.specs.Texts.{longest_run, is_padded, spelled_title, spelled_target};
 ghost use Rattle.std.specs.List.{list_all, list_any};
 ghost use Rattle.cm_scan.specs.Words.{begins_with, is_empty};
 ghost use Rattle.cm_scan.specs.Autolinks.{ends_with};
@@ -194,7 +196,8 @@ fn is_spaces(text: &[u8]) -> bool
 
 /// Whether a text has a space at both ends and something else besides.
 fn has_outer_spaces(text: &[u8]) -> bool
-    ensures { result ≡ (begins_with 32 text.now && ends_with 32 text.now && not (list_all (λ b. b == 32) text.now)) }
+    ensures { result
+        ≡ (begins_with 32 text.now && ends_with 32 text.now && not (list_all (λ b. b == 32) text.now)) }
 {
     is_next(text, 0, b' ') && ends_with(text, b' ') && !is_spaces(text)
 }

@@ -3,8 +3,8 @@ ghost use Rattle.std.specs.Prelude.{◌≡◌};
 
 use thiserror::Error;
 
-/// Why a tree can't be spelled: what its first node is, in the order of the document, that no source gives or that
-/// its spelling wouldn't give back.
+/// Why a tree can't be spelled: what its first node is, in the order of the document, that
+/// no source gives or that its spelling wouldn't give back.
 #[derive(Clone, Copy, Debug, PartialEq, Eq, Drop, Error)]
 pub enum Why {
     /// A link reference definition.
@@ -13,8 +13,8 @@ pub enum Why {
     /// U+0000 in a string.
     #[error("U+0000")]
     Nul,
-    /// A heading's level that isn't from 1 to 6, a list without items, an ordered list that begins at 10^9 or later,
-    /// a paragraph without inlines.
+    /// A heading's level that isn't from 1 to 6, a list without items, an ordered list that
+    /// begins at 10^9 or later, a paragraph without inlines.
     #[error("a malformed node")]
     Shape,
     /// An empty text, or a text right behind a text.
@@ -32,8 +32,8 @@ pub enum Why {
     /// A code span that is empty, has a line ending, stands right behind another, or would end a label.
     #[error("a code span")]
     CodeSpan,
-    /// Raw HTML that isn't one line of one tag, begins a paragraph, stands right behind a line break, or would end a
-    /// label.
+    /// Raw HTML that isn't one line of one tag, begins a paragraph, stands right behind a
+    /// line break, or would end a label.
     #[error("raw HTML")]
     RawHtml,
     /// A link that holds a link at any depth.
