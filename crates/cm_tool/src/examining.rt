@@ -116,7 +116,8 @@ fn push_difference(
 
 /// The HTML of a source.
 fn rendered(alloc: Global, source: &str, limits: Limits) -> Result<String, Fault>
-    ensures html { IfOk result (λ html. (fault_of limits source.now ≡ None) × (string_bytes html ≡ converted limits.rules source.now)) }
+    ensures html { IfOk result (λ html. (fault_of limits source.now ≡ None)
+        × (string_bytes html ≡ converted limits.rules source.now)) }
     ensures told { IfErr result (λ fault. TellsFault fault (fault_of limits source.now)) }
 {
     let mut parser = Parser::new(alloc, limits);

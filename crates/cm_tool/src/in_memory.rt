@@ -36,8 +36,8 @@ pub fn doc_of(alloc: Global, bytes: &[u8], limits: Limits) -> Result<Doc, Fault>
     doc_of_outline(alloc, limits, outline_of(alloc, bytes, limits)?)
 }
 
-/// The HTML of these bytes, which `convert` writes for a source that has them. Its pages can be written to a sink, or made
-/// one string.
+/// The HTML of these bytes, which `convert` writes for a source that has them. Its pages can be written to a
+/// sink, or made one string.
 ///
 /// # Errors
 ///
@@ -48,8 +48,8 @@ pub fn html_of(alloc: Global, bytes: &[u8], limits: Limits) -> Result<Pages, Fau
     html_of_outline(alloc, limits, outline_of(alloc, bytes, limits)?)
 }
 
-/// Plain source of these bytes' tree without its link reference definitions, which `rewrite` writes for a source that has
-/// them.
+/// Plain source of these bytes' tree without its link reference definitions, which `rewrite` writes for a
+/// source that has them.
 ///
 /// # Errors
 ///

@@ -53,16 +53,16 @@ pub fn text_is_no_markup()
     ensures tags { TextIsNoMarkup }
 {}
 
-/// By rules without raw HTML what `convert` writes of any bytes is markup, and its tags are those of the tree.
-/// Each address in it is one that the rules follow, and each class is `language-` and a word.
+/// By rules without raw HTML what `convert` writes of any bytes is markup, and its tags are those of the
+/// tree. Each address in it is one that the rules follow, and each class is `language-` and a word.
 pub fn texts_from_strangers()
     ensures { TextsFromStrangers }
 {}
 
 /// The examples of a file are those that stand among its lines. An opening line is 32 backticks, a space and
-/// `example`. Behind it come the lines of the source, a line `.`, the lines of the HTML, and a closing line of
-/// 32 backticks. Lines outside of examples are passed over. An opening line behind which a closing line comes
-/// before the line `.`, or none comes, is the fault of the file: the first one is told.
+/// `example`. Behind it come the lines of the source, a line `.`, the lines of the HTML, and a closing line
+/// of 32 backticks. Lines outside of examples are passed over. An opening line behind which a closing line
+/// comes before the line `.`, or none comes, is the fault of the file: the first one is told.
 pub fn examples_by_lines()
     ensures text { ExamplesOfText }
     ensures told { ExamplesAreTold }

@@ -86,8 +86,8 @@ impl Unread {
         requires { IsBetween self.now.raw.text from to }
         ensures read { IfOk result (λ inlines. inlines ≡ content_at self.now from to) }
         ensures within { OnOk result (inlines_depth (content_at self.now from to) ≤ self.now.limits.inlines) }
-        ensures deep { IfErr result (λ fault. fault ≡ inline_faults.InlinesTooDeep →
-            self.now.limits.inlines < inlines_depth (content_at self.now from to)) }
+        ensures deep { IfErr result (λ fault. fault ≡ inline_faults.InlinesTooDeep
+            → self.now.limits.inlines < inlines_depth (content_at self.now from to)) }
     {
         let source = self.raw.text(from, to);
         if source.is_empty() {
@@ -117,8 +117,8 @@ impl Unread {
         requires { IsBetween self.now.raw.text from to }
         ensures pushed { OnOk result (html.new ≡ html.old ++ inlines_html (content_at self.now from to)) }
         ensures within { OnOk result (inlines_depth (content_at self.now from to) ≤ self.now.limits.inlines) }
-        ensures deep { IfErr result (λ fault. fault ≡ inline_faults.InlinesTooDeep →
-            self.now.limits.inlines < inlines_depth (content_at self.now from to)) }
+        ensures deep { IfErr result (λ fault. fault ≡ inline_faults.InlinesTooDeep
+            → self.now.limits.inlines < inlines_depth (content_at self.now from to)) }
     {
         let source = self.raw.text(from, to);
         let limits = self.limits;
@@ -146,8 +146,8 @@ fn count_leaf(next: &mut usize) -> Result<usize, Fault>
 
 /// What is told of a leaf that can't be read.
 fn leaf_fault(fault: InlineFault, leaf: usize) -> Fault
-    ensures { (limit depth : ℕ) → (fault ≡ inline_faults.InlinesTooDeep → limit < depth) →
-        TellsLeaf result limit leaf (depth ∷ []) }
+    ensures { (limit depth : ℕ) → (fault ≡ inline_faults.InlinesTooDeep → limit < depth)
+        → TellsLeaf result limit leaf (depth ∷ []) }
 {
     match fault {
         InlineFault::InlinesTooDeep => Fault::InlinesTooDeep { leaf },

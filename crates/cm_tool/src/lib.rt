@@ -1,5 +1,5 @@
-//! From the bytes of a CommonMark text, in whatever pieces they come, to its document, its HTML and its plain source; and the
-//! program `cmk` round that.
+//! From the bytes of a CommonMark text, in whatever pieces they come, to its document, its HTML and its plain
+//! source; and the program `cmk` round that.
 //!
 //! Begin with [`html_of`], [`doc_of`] or [`source_of`] for a text in memory.
 //!

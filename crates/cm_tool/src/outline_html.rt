@@ -145,13 +145,13 @@ impl HtmlWalk {
     }
 
     /// Adds the HTML of a block that stands in an item. The mark says that it begins on a new line, unless
-    /// it is a
-    /// paragraph of a tight list; answers the mark for the next block.
+    /// it is a paragraph of a tight list; answers the mark for the next block.
     #[cycle(html)]
     fn push_part(&mut self, tight: bool, fresh: bool, block: RawBlock) -> Result<bool, Fault>
         requires { IsPlaced self.old.walk.unread.raw block }
-        ensures pushed { IfOk result (λ mark. (others : List Written) →
-            self.new.html ++ inside_from tight mark others ≡ self.old.html ++ inside_from tight fresh
+        ensures pushed { IfOk result (λ mark. (others : List Written)
+            → self.new.html ++ inside_from tight mark others
+            ≡ self.old.html ++ inside_from tight fresh
             (written (block_read_of self.old.walk.unread block) ∷ others)) }
         ensures passes { OnOk result (HasRead self.old.walk self.new.walk
             (depths_in (block_read_of self.old.walk.unread block))) }
@@ -216,8 +216,7 @@ impl HtmlWalk {
 }
 
 /// The HTML of the blocks with the inlines of their leaves, in pages. The inlines of a leaf are let go of
-/// before those
-/// of the next one are read, and each part of the document before the next one is.
+/// before those of the next one are read, and each part of the document before the next one is.
 ///
 /// # Errors
 ///

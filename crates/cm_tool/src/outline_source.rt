@@ -39,8 +39,8 @@ impl PlainSource {
 
     /// Goes on with one more block. Where those so far can't be spelled, nothing is.
     fn push(&mut self, block: &Block) -> Result<(), NoMemory>
-        ensures { OnOk result ((rules : text_rules.Rules) (blocks : List trees.Block) →
-            HasTaken rules self.old blocks → HasTaken rules self.new (blocks ++ block.now ∷ [])) }
+        ensures { OnOk result ((rules : text_rules.Rules) (blocks : List trees.Block)
+            → HasTaken rules self.old blocks → HasTaken rules self.new (blocks ++ block.now ∷ [])) }
     {
         if self.refused.is_some() {
             return Ok(());
@@ -62,9 +62,9 @@ impl PlainSource {
         reader: &mut InlineReader,
         block: Block,
     ) -> Result<(), NoMemory>
-        ensures { OnOk result ((rules : text_rules.Rules) (blocks : List trees.Block) →
-            HasTaken rules self.old blocks →
-            HasTaken rules self.new (blocks ++ without_definitions (block ∷ []))) }
+        ensures { OnOk result ((rules : text_rules.Rules) (blocks : List trees.Block)
+            → HasTaken rules self.old blocks
+            → HasTaken rules self.new (blocks ++ without_definitions (block ∷ []))) }
     {
         if let Some(block) = block_without_definitions(alloc, block) {
             self.push(&block)?;
@@ -75,8 +75,8 @@ impl PlainSource {
 
     /// The source of the blocks so far.
     fn finish(self) -> Result<String, Why>
-        ensures { (rules : text_rules.Rules) (blocks : List trees.Block) →
-            HasTaken rules self blocks → Spelled rules blocks result }
+        ensures { (rules : text_rules.Rules) (blocks : List trees.Block)
+            → HasTaken rules self blocks → Spelled rules blocks result }
     {
         let PlainSource { speller, refused } = self;
         match refused {
@@ -95,12 +95,12 @@ struct SourceWalk {
 
 impl SourceWalk {
     /// Goes on with all blocks that are left. The definitions of a block are leaves too, so they are taken
-    /// out once it
-    /// is read.
+    /// out once it is read.
     fn push_all(&mut self) -> Result<(), Fault>
         requires { ArePlacedLeft self.old.walk.unread }
-        ensures pushed { OnOk result ((rules : text_rules.Rules) (taken : List trees.Block) →
-            HasTaken rules self.old.source taken → HasTaken rules self.new.source
+        ensures pushed { OnOk result ((rules : text_rules.Rules) (taken : List trees.Block)
+            → HasTaken rules self.old.source taken
+            → HasTaken rules self.new.source
             (taken ++ without_definitions (all_left self.old.walk.unread))) }
         ensures passes { OnOk result (HasReadAll self.old.walk self.new.walk) }
         ensures told { IfErr result (λ fault. TellsOf self.old.walk fault

@@ -38,8 +38,8 @@ pub(crate) fn html_of_outline(
     limits: Limits,
     outline: Outline,
 ) -> Result<Pages, Fault>
-    ensures { (bytes : List ℕ) → IsOutline limits bytes outline →
-        Makes (λ pages. pages ≡ converted limits.rules bytes) result limits bytes }
+    ensures { (bytes : List ℕ) → IsOutline limits bytes outline
+        → Makes (λ pages. pages ≡ converted limits.rules bytes) result limits bytes }
 {
     let Outline {
         blocks,
@@ -58,8 +58,8 @@ pub(crate) fn source_of_outline(
     limits: Limits,
     outline: Outline,
 ) -> Result<Result<String, Why>, Fault>
-    ensures { (bytes : List ℕ) → IsOutline limits bytes outline →
-        Makes (Spelled limits.rules (kept_tree limits.rules bytes)) result limits bytes }
+    ensures { (bytes : List ℕ) → IsOutline limits bytes outline
+        → Makes (Spelled limits.rules (kept_tree limits.rules bytes)) result limits bytes }
 {
     let Outline {
         blocks,

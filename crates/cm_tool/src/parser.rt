@@ -1,5 +1,6 @@
 //! A document that comes in pieces.
-ghost use Rattle.std.specs.Prelude.{◌≡◌, ◌≢◌, ℕ, ◌+◌, ◌-◌, ◌≤◌, List, [], ◌++◌, length, IfOk, IfErr, OnOk, Some, None, Err, false};
+ghost use Rattle.std.specs.Prelude.{◌≡◌, ◌≢◌, ◌+◌, ◌-◌, ◌≤◌, [], ◌++◌};
+ghost use Rattle.std.specs.Prelude.{ℕ, List, length, IfOk, IfErr, OnOk, Some, None, Err, false};
 ghost use Rattle.cm_text.specs.Answers.{answer_after};
 ghost use Rattle.cm_text.specs.Limits.{LimitsView};
 ghost use Rattle.cm_text.specs.Lines.{LineView};
@@ -75,11 +76,12 @@ impl Parser {
     /// A fault is answered as soon as the bytes settle it, however they go on.
     pub fn feed(&mut self, piece: &[u8]) -> Result<(), Fault>
         // Whatever bytes it stood for, it stands for them and the piece.
-        ensures stands { OnOk result ((limits : LimitsView) (bytes : List ℕ) → StandsFor limits self.old bytes →
-            StandsFor limits self.new (bytes ++ piece.now)) }
+        ensures stands { OnOk result ((limits : LimitsView) (bytes : List ℕ)
+            → StandsFor limits self.old bytes → StandsFor limits self.new (bytes ++ piece.now)) }
         // A fault is answered exactly where the bytes settle it.
-        ensures settled { (limits : LimitsView) (bytes : List ℕ) → StandsFor limits self.old bytes →
-            Answers result (settled_fault_of limits (bytes ++ piece.now)) }
+        ensures settled { (limits : LimitsView) (bytes : List ℕ)
+            → StandsFor limits self.old bytes
+            → Answers result (settled_fault_of limits (bytes ++ piece.now)) }
         // From then on it is answered again.
         ensures answer { result ≡ answer_after self.new.fault }
         ensures failed { self.old.fault ≢ None → self.new ≡ self.old }
@@ -99,10 +101,10 @@ impl Parser {
 
     /// The outline of the document, where the bytes so far are all.
     pub(crate) fn outline(self) -> Result<Outline, Fault>
-        ensures outline { IfOk result (λ outline. (limits : LimitsView) (bytes : List ℕ) → StandsFor limits self bytes →
-            IsOutline limits bytes outline) }
-        ensures told { IfErr result (λ fault. (limits : LimitsView) (bytes : List ℕ) → StandsFor limits self bytes →
-            TellsFault fault (fault_of limits bytes)) }
+        ensures outline { IfOk result (λ outline. (limits : LimitsView) (bytes : List ℕ)
+            → StandsFor limits self bytes → IsOutline limits bytes outline) }
+        ensures told { IfErr result (λ fault. (limits : LimitsView) (bytes : List ℕ)
+            → StandsFor limits self bytes → TellsFault fault (fault_of limits bytes)) }
         ensures failed { (fault : faults.Fault) → self.fault ≡ Some fault → result ≡ Err fault }
     {
         let Parser {
@@ -123,8 +125,8 @@ impl Parser {
     ///
     /// As `finish`.
     pub fn finish_html(self) -> Result<Pages, Fault>
-        ensures { (limits : LimitsView) (bytes : List ℕ) → StandsFor limits self bytes →
-            Makes (λ pages. pages ≡ converted limits.rules bytes) result limits bytes }
+        ensures { (limits : LimitsView) (bytes : List ℕ) → StandsFor limits self bytes
+            → Makes (λ pages. pages ≡ converted limits.rules bytes) result limits bytes }
     {
         let (alloc, limits) = (self.alloc, self.blocks.limits());
         html_of_outline(alloc, limits, self.outline()?)
@@ -132,8 +134,8 @@ impl Parser {
 
     /// The document, where the bytes so far are all.
     pub fn finish(self) -> Result<Doc, Fault>
-        ensures finishes { (limits : LimitsView) (bytes : List ℕ) → StandsFor limits self bytes →
-            Finishes result limits bytes }
+        ensures finishes { (limits : LimitsView) (bytes : List ℕ) → StandsFor limits self bytes
+            → Finishes result limits bytes }
         ensures failed { (fault : faults.Fault) → self.fault ≡ Some fault → result ≡ Err fault }
     {
         let (alloc, limits) = (self.alloc, self.blocks.limits());
@@ -186,10 +188,10 @@ fn push_part(feed: &mut LineBuffer, blocks: &mut BlockParser, piece: &[u8]) -> R
 /// The outline of the bytes.
 fn outline(mut feed: LineBuffer, mut blocks: BlockParser) -> Result<Outline, Fault>
     requires { feed.ended ≡ false }
-    ensures outline { IfOk result (λ outline. (limits : LimitsView) (bytes : List ℕ) → Goes limits feed blocks bytes →
-        IsOutline limits bytes outline) }
-    ensures told { IfErr result (λ fault. (limits : LimitsView) (bytes : List ℕ) → Goes limits feed blocks bytes →
-        TellsFault fault (fault_of limits bytes)) }
+    ensures outline { IfOk result (λ outline. (limits : LimitsView) (bytes : List ℕ)
+        → Goes limits feed blocks bytes → IsOutline limits bytes outline) }
+    ensures told { IfErr result (λ fault. (limits : LimitsView) (bytes : List ℕ)
+        → Goes limits feed blocks bytes → TellsFault fault (fault_of limits bytes)) }
 {
     feed.end()?;
     hand_over(&mut feed, &mut blocks)?;
@@ -219,20 +221,20 @@ fn hand_over_text(feed: &mut LineBuffer, blocks: &mut BlockParser) -> Result<(),
     Ok(())
 }
 
-/// Lends the lines that have ended to the blocks, one after another. Lines of text that go on with a run of text go there
-/// together.
+/// Lends the lines that have ended to the blocks, one after another. Lines of text that go on with a run of
+/// text go there together.
 fn hand_over(feed: &mut LineBuffer, blocks: &mut BlockParser) -> Result<(), BlockFault>
     ensures ready { OnOk result (feed.new ≡ with_ready [] feed.old) }
     ensures ended { feed.new.ended ≡ feed.old.ended }
     ensures limit { feed.new.limit ≡ feed.old.limit }
     ensures limits { blocks.new.limits ≡ blocks.old.limits }
-    ensures stands { OnOk result ((bytes : List ℕ) (taken : ℕ) → FeedStandsFor feed.old bytes taken →
-        FeedStandsFor feed.new bytes (taken + length feed.old.cut.ended)) }
-    ensures handed { OnOk result ((lines : List LineView) → HasTaken blocks.old lines →
-        HasTaken blocks.new (lines ++ feed.old.cut.ended)) }
-    ensures told { IfErr result (λ fault. (lines : List LineView) → HasTaken blocks.old lines →
-        AreLines (lines ++ feed.old.cut.ended) →
-        TellsDepth fault blocks.old.limits (lines ++ feed.old.cut.ended)) }
+    ensures stands { OnOk result ((bytes : List ℕ) (taken : ℕ) → FeedStandsFor feed.old bytes taken
+        → FeedStandsFor feed.new bytes (taken + length feed.old.cut.ended)) }
+    ensures handed { OnOk result ((lines : List LineView) → HasTaken blocks.old lines
+        → HasTaken blocks.new (lines ++ feed.old.cut.ended)) }
+    ensures told { IfErr result (λ fault. (lines : List LineView) → HasTaken blocks.old lines
+        → AreLines (lines ++ feed.old.cut.ended)
+        → TellsDepth fault blocks.old.limits (lines ++ feed.old.cut.ended)) }
 {
     loop {
         hand_over_text(feed, blocks)?;

@@ -13,7 +13,8 @@ use std::fmt::Write;
 
 /// Puts what is written of an example that differs to the end.
 fn push_difference_text(out: &mut String, difference: &Difference) -> Result<(), AllocError>
-    ensures { OnOk result (string_bytes out.new ≡ string_bytes out.old ++ difference_text (difference_of difference.now)) }
+    ensures { OnOk result (string_bytes out.new
+        ≡ string_bytes out.old ++ difference_text (difference_of difference.now)) }
 {
     let Difference {
         number,

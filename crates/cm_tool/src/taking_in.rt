@@ -22,15 +22,15 @@ pub(crate) trait TakesBytes {
 
     /// Takes in one more piece. A fault is answered as soon as the bytes settle it.
     fn take(&mut self, piece: &[u8]) -> Result<(), Fault>
-        ensures stands { OnOk result ((limits : LimitsView) (bytes : List ℕ) → stands limits self.old bytes →
-            stands limits self.new (bytes ++ piece.now)) }
-        ensures settled { (limits : LimitsView) (bytes : List ℕ) → stands limits self.old bytes →
-            Answers result (settled limits (bytes ++ piece.now)) }
+        ensures stands { OnOk result ((limits : LimitsView) (bytes : List ℕ)
+            → stands limits self.old bytes → stands limits self.new (bytes ++ piece.now)) }
+        ensures settled { (limits : LimitsView) (bytes : List ℕ)
+            → stands limits self.old bytes → Answers result (settled limits (bytes ++ piece.now)) }
         ensures left { OnOk result (left self.new + length piece.now ≡ left self.old) };
 }
 
-/// Gives a source to its taker, in pieces of the buffer's length. A fault that the bytes settle ends the reading: no read is
-/// made after it. So does a failed read.
+/// Gives a source to its taker, in pieces of the buffer's length. A fault that the bytes settle ends the
+/// reading: no read is made after it. So does a failed read.
 pub(crate) fn take_all<R: Source, T: TakesBytes>(
     source: &mut R,
     taker: &mut T,
@@ -39,8 +39,8 @@ pub(crate) fn take_all<R: Source, T: TakesBytes>(
     requires failures { R.failed source.old < 2 ^ 64 - 1 }
     requires room { 0 < length buffer.old }
     ensures { (bytes : List ℕ) × Consumes (R.remaining source.old) (R.remaining source.new) bytes
-        × ((limits : LimitsView) → T.stands limits taker.old [] → T.settled limits [] ≡ None →
-        TakesIn (T.stands limits taker.new) (T.settled limits) result bytes
+        × ((limits : LimitsView) → T.stands limits taker.old [] → T.settled limits [] ≡ None
+        → TakesIn (T.stands limits taker.new) (T.settled limits) result bytes
         (record { remaining = R.remaining source.old; failed = R.failed source.old })
         (record { remaining = R.remaining source.new; failed = R.failed source.new })) }
 {

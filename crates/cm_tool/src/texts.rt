@@ -16,7 +16,8 @@ use cm_text::{Limits, LineBuffer, Source, text_of};
 use std::alloc::Global;
 use std::marker::Model;
 
-/// The bytes of a text that comes in pieces. The feed is asked for faults alone, and its lines aren't looked at.
+/// The bytes of a text that comes in pieces. The feed is asked for faults alone, and its lines aren't looked
+/// at.
 #[derive(Drop)]
 struct TextBytes {
     feed: LineBuffer,
@@ -38,10 +39,11 @@ impl Model for TextBytes {
 impl TextBytes {
     /// The text, where the bytes so far are all.
     fn text(self, alloc: Global) -> Result<String, Fault>
-        ensures text { IfOk result (λ text. (limits : LimitsView) (bytes : List ℕ) → StandsFor limits self bytes →
-            (fault_of_text limits bytes ≡ None) × (string_bytes text ≡ text_of bytes)) }
-        ensures told { IfErr result (λ fault. (limits : LimitsView) (bytes : List ℕ) → StandsFor limits self bytes →
-            TellsFault fault (fault_of_text limits bytes)) }
+        ensures text { IfOk result (λ text. (limits : LimitsView) (bytes : List ℕ)
+            → StandsFor limits self bytes
+            → (fault_of_text limits bytes ≡ None) × (string_bytes text ≡ text_of bytes)) }
+        ensures told { IfErr result (λ fault. (limits : LimitsView) (bytes : List ℕ)
+            → StandsFor limits self bytes → TellsFault fault (fault_of_text limits bytes)) }
     {
         let TextBytes { mut feed, bytes } = self;
         feed.end()?;
