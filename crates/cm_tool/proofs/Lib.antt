@@ -16,6 +16,7 @@ pub mod ReportingLemmas
 pub mod RewritingLemmas
 pub mod SettledLemmas
 pub mod SourceLemmas
+pub mod TellingLemmas
 pub mod TextLemmas
 pub mod WithinLemmas
 pub mod PassedLemmas

@@ -1,10 +1,8 @@
 use Rattle.std.proofs.Common.{◌≡◌, ◌∙◌, ◌++◌, ◌+◌, [], ◌∷◌, ap, sym, subst, arith}
 use Rattle.std.proofs.lemmas.Result.{err_from_is_err_and}
 use Rattle.cm_tree.proofs.RawWalks.{joined}
-use Rattle.cm_tool.specs.Leaves.{depths_in, leaf_depths}
-use Rattle.cm_tool.specs.steps.Items.{items_leaf_depths}
 use Rattle.cm_tool.specs.steps.LeafWalks.{block_read_of, blocks_read_at, items_read_at, TellsOf}
-use Rattle.cm_tool.proofs.LeafWalkLemmas.{reads_next, reads_told, blocks_first, less_deep, items_first, item_less_deep, quote_leaves, list_leaves}
+use Rattle.cm_tool.proofs.LeafWalkLemmas.{blocks_first, less_deep, items_first, item_less_deep, block_told, block_next, item_told, item_next, quote_leaves, list_leaves}
 use Rattle.cm_tool.proofs.leaf_walk.LeafWalk.+blocks.Goals as goal
 
 pub block-returns-in_err-blocks-in-Quote-clause-told : goal.block-returns-in_err-blocks-in-Quote-clause-told
@@ -29,12 +27,8 @@ blocks-block-requires t c =
 pub blocks-returns-in_err-block-clause-told : goal.blocks-returns-in_err-block-clause-told
 blocks-returns-in_err-block-clause-told t c =
     let p = err_from_is_err_and c.from_residual-in_err-block.result c.from_residual-in_err-block.ensures.1 in
-    let first = c.args.self.now in
-    let now = c.loop-at.self in
-    let step = blocks_first first now c.args.from c.loop-at.at c.args.to c.loop-at.invariant.leaves.0 c.loop-at.auto.at c.loop-at-test.true c.block_at-block.result c.requires.1 c.block_at-block.ensures.block in
-    rw (p.1, p.2) (reads_told first now (leaf_depths (blocks_read_at first.unread c.args.from c.args.to)) (depths_in (block_read_of now.unread c.block_at-block.result))
-    (leaf_depths (blocks_read_at first.unread (c.loop-at.at + 1) c.args.to)) (leaf_depths (blocks_read_at first.unread c.loop-at.at c.args.to)) (ap leaf_depths step) c.loop-at.invariant.leaves
-    c.in_err-block.field-0.0 c.in_err-block.ensures.told)
+    rw (p.1, p.2) (block_told c.args.self.now c.loop-at.self c.args.from c.loop-at.at c.args.to c.loop-at.auto.at c.loop-at-test.true c.loop-at.invariant.leaves
+    c.block_at-block.result c.requires.1 c.block_at-block.ensures.block c.in_err-block.field-0.0 c.in_err-block.ensures.told)
 
 pub blocks-loop-at-preserved : goal.blocks-loop-at-preserved
 blocks-loop-at-preserved t c =
@@ -47,8 +41,8 @@ blocks-loop-at-preserved t c =
     record {
       read = joined c.loop-at.read c.push.new.self (block ∷ []) rest whole (subst (λ blocks. c.loop-at.read ++ blocks ≡ whole) step c.loop-at.invariant.read)
           (c.in_ok-push.ensures.ok ∙ ap (λ b. c.loop-at.read ++ b ∷ []) c.in_ok-block.ensures.read);
-      leaves = reads_next first now (leaf_depths whole) (depths_in block) (leaf_depths rest) (leaf_depths (blocks_read_at first.unread c.loop-at.at c.args.to)) (ap leaf_depths step)
-          c.loop-at.invariant.leaves c.block.new.self c.in_ok-block.ensures.passes;
+      leaves = block_next first now c.args.from c.loop-at.at c.args.to c.loop-at.auto.at c.loop-at-test.true c.loop-at.invariant.leaves
+          c.block_at-block.result c.requires.1 c.block_at-block.ensures.block c.block.new.self c.in_ok-block.ensures.passes;
     }
 
 pub items-blocks-requires : goal.items-blocks-requires
@@ -59,13 +53,8 @@ items-blocks-requires t c =
 pub items-returns-in_err-blocks-clause-told : goal.items-returns-in_err-blocks-clause-told
 items-returns-in_err-blocks-clause-told t c =
     let p = err_from_is_err_and c.from_residual-in_err-blocks.result c.from_residual-in_err-blocks.ensures.1 in
-    let first = c.args.self.now in
-    let now = c.loop-at.self in
-    let item = c.item_at-item.result in
-    let step = items_first first now c.args.from c.loop-at.at c.args.to c.loop-at.invariant.leaves.0 c.loop-at.auto.at c.loop-at-test.true item c.requires.1 c.item_at-item.ensures.item in
-    rw (p.1, p.2) (reads_told first now (items_leaf_depths (items_read_at first.unread c.args.from c.args.to)) (leaf_depths (blocks_read_at now.unread item.from item.to))
-    (items_leaf_depths (items_read_at first.unread (c.loop-at.at + 1) c.args.to)) (items_leaf_depths (items_read_at first.unread c.loop-at.at c.args.to)) (ap items_leaf_depths step) c.loop-at.invariant.leaves
-    c.in_err-blocks.field-0.0 c.in_err-blocks.ensures.told)
+    rw (p.1, p.2) (item_told c.args.self.now c.loop-at.self c.args.from c.loop-at.at c.args.to c.loop-at.auto.at c.loop-at-test.true c.loop-at.invariant.leaves
+    c.item_at-item.result c.requires.1 c.item_at-item.ensures.item c.in_err-blocks.field-0.0 c.in_err-blocks.ensures.told)
 
 pub items-loop-at-preserved : goal.items-loop-at-preserved
 items-loop-at-preserved t c =
@@ -79,6 +68,6 @@ items-loop-at-preserved t c =
     record {
       read = joined c.loop-at.read c.push.new.self (blocks ∷ []) rest whole (subst (λ items. c.loop-at.read ++ items ≡ whole) step c.loop-at.invariant.read)
           (c.in_ok-push.ensures.ok ∙ ap (λ b. c.loop-at.read ++ b ∷ []) c.in_ok-blocks.ensures.read);
-      leaves = reads_next first now (items_leaf_depths whole) (leaf_depths blocks) (items_leaf_depths rest) (items_leaf_depths (items_read_at first.unread c.loop-at.at c.args.to)) (ap items_leaf_depths step)
-          c.loop-at.invariant.leaves c.blocks-in-loop-at.new.self c.in_ok-blocks.ensures.passes;
+      leaves = item_next first now c.args.from c.loop-at.at c.args.to c.loop-at.auto.at c.loop-at-test.true c.loop-at.invariant.leaves
+          item c.requires.1 c.item_at-item.ensures.item c.blocks-in-loop-at.new.self c.in_ok-blocks.ensures.passes;
     }

@@ -12,9 +12,8 @@ use Rattle.cm_html.proofs.ItemLemmas.{inside_added}
 use Rattle.cm_scan.specs.Brackets.{defined_in}
 use Rattle.cm_tool.specs.declared.leaf_walk.Unread.{Unread}
 use Rattle.cm_tool.specs.Leaves.{depths_in, leaf_depths}
-use Rattle.cm_tool.specs.steps.Items.{items_leaf_depths}
 use Rattle.cm_tool.specs.steps.LeafWalks.{all_read, content_at, block_read_of, blocks_read_at, items_read_at, HasRead, TellsOf}
-use Rattle.cm_tool.proofs.LeafWalkLemmas.{reads_next, reads_none, reads_told, none_there, blocks_first, less_deep, items_first, item_less_deep}
+use Rattle.cm_tool.proofs.LeafWalkLemmas.{reads_none, none_there, blocks_first, less_deep, items_first, item_less_deep, block_told, block_next, item_told, item_next}
 use Rattle.cm_tool.proofs.RawWalkLemmas.{enclosed, paragraph_depths, heading_depths, code_depths, html_depths, break_depths, definition_depths, quote_depths, list_depths, paragraph_written, heading_written, code_written, html_written, break_written, definition_written, quote_written, list_written, whole_written, nothing_inside, inlines_inside, loose_inlines_inside, whole_inside}
 use Rattle.cm_tool.proofs.outline_html.HtmlWalk.+html.Goals as goal
 
@@ -205,12 +204,8 @@ push_blocks-push_block-requires t c =
 pub push_blocks-returns-in_err-push_block-clause-told : goal.push_blocks-returns-in_err-push_block-clause-told
 push_blocks-returns-in_err-push_block-clause-told t c =
     let p = err_from_is_err_and c.from_residual.result c.from_residual.ensures.1 in
-    let first = c.args.self.now.walk in
-    let now = c.loop-at.self.walk in
-    let block = c.block_at-block.result in
-    let step = blocks_first first now c.args.from c.loop-at.at c.args.to c.loop-at.invariant.leaves.0 c.loop-at.auto.at c.loop-at-test.true block c.requires.1 c.block_at-block.ensures.block in
-    rw (p.1, p.2) (reads_told first now (leaf_depths (blocks_read_at first.unread c.args.from c.args.to)) (depths_in (block_read_of now.unread block)) (leaf_depths (blocks_read_at first.unread (c.loop-at.at + 1) c.args.to)) (leaf_depths (blocks_read_at first.unread c.loop-at.at c.args.to))
-    (ap leaf_depths step) c.loop-at.invariant.leaves c.in_err-push_block.field-0.0 c.in_err-push_block.ensures.told)
+    rw (p.1, p.2) (block_told c.args.self.now.walk c.loop-at.self.walk c.args.from c.loop-at.at c.args.to c.loop-at.auto.at c.loop-at-test.true c.loop-at.invariant.leaves
+    c.block_at-block.result c.requires.1 c.block_at-block.ensures.block c.in_err-push_block.field-0.0 c.in_err-push_block.ensures.told)
 
 pub push_blocks-loop-at-preserved : goal.push_blocks-loop-at-preserved
 push_blocks-loop-at-preserved t c =
@@ -224,7 +219,8 @@ push_blocks-loop-at-preserved t c =
     let all = c.args.self.now.html ++ html_of whole in
     record {
       html = joined html c.push_block.new.self.html (alone (written (block_read_of now.unread block))) (html_of rest) all (subst (λ blocks. html ++ html_of blocks ≡ all) step c.loop-at.invariant.html) c.in_ok-push_block.ensures.pushed;
-      leaves = reads_next first now (leaf_depths whole) (depths_in (block_read_of now.unread block)) (leaf_depths rest) (leaf_depths (blocks_read_at first.unread c.loop-at.at c.args.to)) (ap leaf_depths step) c.loop-at.invariant.leaves c.push_block.new.self.walk c.in_ok-push_block.ensures.passes;
+      leaves = block_next first now c.args.from c.loop-at.at c.args.to c.loop-at.auto.at c.loop-at-test.true c.loop-at.invariant.leaves block c.requires.1 c.block_at-block.ensures.block
+          c.push_block.new.self.walk c.in_ok-push_block.ensures.passes;
     }
 
 pub push_item-push_part-requires : goal.push_item-push_part-requires
@@ -235,12 +231,8 @@ push_item-push_part-requires t c =
 pub push_item-returns-in_err-fresh-clause-told : goal.push_item-returns-in_err-fresh-clause-told
 push_item-returns-in_err-fresh-clause-told t c =
     let p = err_from_is_err_and c.from_residual-in_err-fresh.result c.from_residual-in_err-fresh.ensures.1 in
-    let first = c.args.self.now.walk in
-    let now = c.loop-at.self.walk in
-    let block = c.block_at-block.result in
-    let step = blocks_first first now c.args.item.from c.loop-at.at c.args.item.to c.loop-at.invariant.leaves.0 c.loop-at.auto.at c.loop-at-test.true block c.requires.1 c.block_at-block.ensures.block in
-    rw (p.1, p.2) (reads_told first now (leaf_depths (blocks_read_at first.unread c.args.item.from c.args.item.to)) (depths_in (block_read_of now.unread block)) (leaf_depths (blocks_read_at first.unread (c.loop-at.at + 1) c.args.item.to)) (leaf_depths (blocks_read_at first.unread c.loop-at.at c.args.item.to))
-    (ap leaf_depths step) c.loop-at.invariant.leaves c.in_err-fresh.field-0.0 c.in_err-fresh.ensures.told)
+    rw (p.1, p.2) (block_told c.args.self.now.walk c.loop-at.self.walk c.args.item.from c.loop-at.at c.args.item.to c.loop-at.auto.at c.loop-at-test.true c.loop-at.invariant.leaves
+    c.block_at-block.result c.requires.1 c.block_at-block.ensures.block c.in_err-fresh.field-0.0 c.in_err-fresh.ensures.told)
 
 pub push_item-loop-at-preserved : goal.push_item-loop-at-preserved
 push_item-loop-at-preserved t c =
@@ -255,7 +247,8 @@ push_item-loop-at-preserved t c =
     let all = c.push_str.new.self ++ inside_from tight true (map written whole) in
     record {
       html = c.in_ok-fresh.ensures.pushed (map written rest) ∙ subst (λ blocks. html ++ inside_from tight c.loop-at.fresh (map written blocks) ≡ all) step c.loop-at.invariant.html;
-      leaves = reads_next first now (leaf_depths whole) (depths_in (block_read_of now.unread block)) (leaf_depths rest) (leaf_depths (blocks_read_at first.unread c.loop-at.at c.args.item.to)) (ap leaf_depths step) c.loop-at.invariant.leaves c.push_part.new.self.walk c.in_ok-fresh.ensures.passes;
+      leaves = block_next first now c.args.item.from c.loop-at.at c.args.item.to c.loop-at.auto.at c.loop-at-test.true c.loop-at.invariant.leaves block c.requires.1 c.block_at-block.ensures.block
+          c.push_part.new.self.walk c.in_ok-fresh.ensures.passes;
     }
 
 pub push_item-returns-clause-pushed : goal.push_item-returns-clause-pushed
@@ -282,12 +275,8 @@ push_items-push_item-requires t c =
 pub push_items-returns-in_err-push_item-clause-told : goal.push_items-returns-in_err-push_item-clause-told
 push_items-returns-in_err-push_item-clause-told t c =
     let p = err_from_is_err_and c.from_residual.result c.from_residual.ensures.1 in
-    let first = c.args.self.now.walk in
-    let now = c.loop-at.self.walk in
-    let item = c.item_at-item.result in
-    let step = items_first first now c.args.from c.loop-at.at c.args.to c.loop-at.invariant.leaves.0 c.loop-at.auto.at c.loop-at-test.true item c.requires.1 c.item_at-item.ensures.item in
-    rw (p.1, p.2) (reads_told first now (items_leaf_depths (items_read_at first.unread c.args.from c.args.to)) (leaf_depths (blocks_read_at now.unread item.from item.to)) (items_leaf_depths (items_read_at first.unread (c.loop-at.at + 1) c.args.to)) (items_leaf_depths (items_read_at first.unread c.loop-at.at c.args.to))
-    (ap items_leaf_depths step) c.loop-at.invariant.leaves c.in_err-push_item.field-0.0 c.in_err-push_item.ensures.told)
+    rw (p.1, p.2) (item_told c.args.self.now.walk c.loop-at.self.walk c.args.from c.loop-at.at c.args.to c.loop-at.auto.at c.loop-at-test.true c.loop-at.invariant.leaves
+    c.item_at-item.result c.requires.1 c.item_at-item.ensures.item c.in_err-push_item.field-0.0 c.in_err-push_item.ensures.told)
 
 pub push_items-loop-at-preserved : goal.push_items-loop-at-preserved
 push_items-loop-at-preserved t c =
@@ -303,7 +292,8 @@ push_items-loop-at-preserved t c =
     record {
       html = joined html c.push_item.new.self.html (item_html tight (map written (blocks_read_at now.unread item.from item.to))) (items_html tight (map (map written) rest)) all
           (subst (λ items. html ++ items_html tight (map (map written) items) ≡ all) step c.loop-at.invariant.html) c.in_ok-push_item.ensures.pushed;
-      leaves = reads_next first now (items_leaf_depths whole) (leaf_depths (blocks_read_at now.unread item.from item.to)) (items_leaf_depths rest) (items_leaf_depths (items_read_at first.unread c.loop-at.at c.args.to)) (ap items_leaf_depths step) c.loop-at.invariant.leaves c.push_item.new.self.walk c.in_ok-push_item.ensures.passes;
+      leaves = item_next first now c.args.from c.loop-at.at c.args.to c.loop-at.auto.at c.loop-at-test.true c.loop-at.invariant.leaves item c.requires.1 c.item_at-item.ensures.item
+          c.push_item.new.self.walk c.in_ok-push_item.ensures.passes;
     }
 
 pub push_part-returns-in_err-pass-in-Definition-clause-told : goal.push_part-returns-in_err-pass-in-Definition-clause-told
