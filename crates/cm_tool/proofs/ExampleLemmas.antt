@@ -18,7 +18,7 @@ use Rattle.cm_tool.proofs.TellingLemmas.{tells_other}
 use Rattle.cm_tool.specs.ExampleFiles.{Example, Examines, examples_of, report_on, reported, sound_report, agrees, difference_of, differences_from, first_fault, standard_limits, DifferenceView, closing_line, example_line, examples_from, middle_line, put_example, tab_for_arrow, InHtml, InSource, Outside}
 use Rattle.cm_text.specs.Rules.{Rules}
 use Rattle.cm_tool.specs.declared.example_files.Example as code
-use Rattle.cm_tool.specs.declared.examining.Difference.{Difference}
+use Rattle.cm_tool.specs.declared.example_files.examining.Difference.{Difference}
 use Rattle.cm_tool.specs.steps.ExampleSteps.{Part, example_of, part_from}
 
 -- what comes of a file whose source is this, and of one whose HTML is this

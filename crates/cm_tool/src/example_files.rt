@@ -1,4 +1,4 @@
-//! The examples of a file, line by line.
+//! Files of examples: their lines, what comes of their sources, and the report.
 ghost use Rattle.std.specs.Prelude.{◌≡◌, ◌≢◌, ◌∷◌, [], ◌++◌, ◌+◌, ◌-◌, ◌^◌, ◌<◌, ◌≤◌};
 ghost use Rattle.std.specs.Prelude.{length, map, option_map, string_bytes, IfOk, IfErr, OnOk};
 ghost use Rattle.std.specs.Prelude.{IfSome, IfNone, Ok};
@@ -7,9 +7,14 @@ ghost use Rattle.cm_tool.specs.ExampleFiles.{example_line, examples_of, put_exam
 ghost use Rattle.cm_tool.specs.steps.ExampleSteps.{example_of, part_of, part_from, TellsUnclosed};
 ghost use Rattle.cm_tool.specs.steps.ExampleSteps.{examples_left, examples_opened};
 
+mod examining;
+mod reporting;
+
 use crate::fault::Fault;
 use cm_text::cut_at;
+pub use examining::{Difference, Report, examples, examples_by};
 use memchr::memchr2;
+pub(crate) use reporting::report;
 use std::alloc::{AllocError, Global};
 
 /// The line that opens an example.

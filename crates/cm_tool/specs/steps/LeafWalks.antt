@@ -10,8 +10,8 @@ use Rattle.cm_tree.specs.RawTrees.{all_blocks}
 use Rattle.cm_scan.specs.Brackets.{defined_in}
 use Rattle.cm_scan.specs.Documents.{block_read, content_read, with_inlines}
 use Rattle.cm_tool.specs.declared.fault.Fault.{Fault}
-use Rattle.cm_tool.specs.declared.leaf_walk.Unread.{Unread}
-use Rattle.cm_tool.specs.declared.leaf_walk.LeafWalk.{LeafWalk}
+use Rattle.cm_tool.specs.declared.outputs.leaf_walk.Unread.{Unread}
+use Rattle.cm_tool.specs.declared.outputs.leaf_walk.LeafWalk.{LeafWalk}
 use Rattle.cm_tool.specs.Leaves.{leaf_depths}
 use Rattle.cm_tool.specs.steps.Items.{items_read}
 use Rattle.cm_tool.specs.steps.Numbering.{Passes, TellsLeaf}
