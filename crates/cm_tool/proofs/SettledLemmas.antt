@@ -26,7 +26,7 @@ use Rattle.cm_block.proofs.Depths.{too_deep_stays}
 use Rattle.cm_tool.specs.declared.fault.Fault.{Fault}
 use Rattle.cm_tool.specs.declared.fault.Fault.TheVariants.{BlocksTooDeep, InlinesTooDeep}
 use Rattle.cm_tool.specs.Parsing.{TellsFault}
-use Rattle.cm_tool.specs.Fault.{told}
+use Rattle.cm_tool.specs.ToldFaults.{told}
 use Rattle.cm_tool.specs.Faults.{SettledIsTold, fault_of, settled_fault_of}
 use Rattle.cm_tool.proofs.TellingLemmas.{tells_other}
 use Rattle.cm_tool.specs.steps.FaultOrder.{of_two, of_four, fault_met, settled_fault_met, ended_deep, all_deep, leaf_deep}

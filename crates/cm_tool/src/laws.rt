@@ -1,10 +1,10 @@
 //! Laws: facts about the definitions alone. Each is the contract of a public function with an empty body.
 ghost use Rattle.cm_tool.specs.ExampleLaws.{ExamplesAreDetermined, ExamplesAreTold, ExamplesOfText};
-ghost use Rattle.cm_tool.specs.Examples.{Examples};
+ghost use Rattle.cm_tool.specs.HtmlExamples.{HtmlExamples};
 ghost use Rattle.cm_tool.specs.Faults.{SettledIsTold};
-ghost use Rattle.cm_tool.specs.FileExamples.{FileExamples};
+ghost use Rattle.cm_tool.specs.ReportExamples.{ReportExamples};
 ghost use Rattle.cm_tool.specs.Owners.{OneOwnerALine, RunsInOrder};
-ghost use Rattle.cm_tool.specs.ReadingExamples.{ReadingExamples};
+ghost use Rattle.cm_tool.specs.FaultExamples.{FaultExamples};
 ghost use Rattle.cm_tool.specs.TextMarkup.{HeadingLevels, TextIsNoMarkup, TextsFromStrangers};
 ghost use Rattle.cm_tool.specs.Within.{NoFaultJustWithin, SpelledWithoutFault};
 ghost use Rattle.cm_tool.specs.steps.FaultOrder.{FaultsInOrder};
@@ -12,11 +12,11 @@ ghost use Rattle.cm_tool.specs.steps.FaultOrder.{FaultsInOrder};
 /// Worked examples, by computation.
 pub fn worked_examples()
     // Of faults.
-    ensures reading { ReadingExamples }
+    ensures faults { FaultExamples }
     // From the bytes of a text to its HTML.
-    ensures html { Examples }
+    ensures html { HtmlExamples }
     // From a file of examples to their report.
-    ensures files { FileExamples }
+    ensures files { ReportExamples }
 {}
 
 /// A parser meets faults in an order that gives the fault of the input: first a line that has ended and

@@ -4,8 +4,8 @@ ghost use Rattle.std.specs.Prelude.{◌≡◌, ℕ, List};
 ghost use Rattle.cm_tool.specs.Parsing.{Finishes, Makes};
 ghost use Rattle.cm_tool.specs.Rewriting.{kept_tree};
 ghost use Rattle.cm_tool.specs.Writing.{converted};
-ghost use Rattle.cm_tool.specs.steps.Ends.{IsOutline};
-ghost use Rattle.cm_tool.specs.steps.Sources.{Spelled};
+ghost use Rattle.cm_tool.specs.steps.ReadingSteps.{IsOutline};
+ghost use Rattle.cm_tool.specs.steps.PlainSources.{Spelled};
 
 mod conversion;
 mod html;

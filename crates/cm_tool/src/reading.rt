@@ -3,7 +3,7 @@
 ghost use Rattle.std.specs.Prelude.{◌≡◌, ℕ, ◌-◌, ◌^◌, ◌<◌, List, IfOk, length};
 ghost use Rattle.std.specs.Io.KnownBytes.{Consumes};
 ghost use Rattle.cm_tool.specs.Reading.{Reads};
-ghost use Rattle.cm_tool.specs.steps.Ends.{ReadsOutline};
+ghost use Rattle.cm_tool.specs.steps.ReadingSteps.{ReadsOutline};
 
 mod in_memory;
 mod parser;

@@ -9,7 +9,7 @@ ghost use Rattle.cm_tool.specs.declared.fault.Fault.TheVariants as faults;
 ghost use Rattle.cm_tool.specs.Leaves.{first_leaf_past, leaf_depths};
 ghost use Rattle.cm_tool.specs.Parsing.{TellsFault};
 ghost use Rattle.cm_tool.specs.steps.LeafWalks.{all_left, ArePlacedLeft, HasReadAll, TellsOf};
-ghost use Rattle.cm_tool.specs.steps.Sources.{HasTaken, Spelled};
+ghost use Rattle.cm_tool.specs.steps.PlainSources.{HasTaken, Spelled};
 
 use crate::fault::Fault;
 use crate::outputs::leaf_walk::LeafWalk;
@@ -88,12 +88,12 @@ impl PlainSource {
 
 /// A walk over an outline, and the source of what has been read.
 #[derive(Drop)]
-struct SourceWalk {
+struct PlainSourceWalk {
     walk: LeafWalk,
     source: PlainSource,
 }
 
-impl SourceWalk {
+impl PlainSourceWalk {
     /// Goes on with all blocks that are left. The definitions of a block are leaves too, so they are taken
     /// out once it is read.
     fn push_all(&mut self) -> Result<(), Fault>
@@ -140,7 +140,7 @@ pub(crate) fn leaves_source(
 {
     let source = PlainSource::new(alloc, limits.rules());
     let walk = LeafWalk::new(alloc, limits, definitions, blocks);
-    let mut walk = SourceWalk { walk, source };
+    let mut walk = PlainSourceWalk { walk, source };
     walk.push_all()?;
     Ok(walk.source.finish())
 }

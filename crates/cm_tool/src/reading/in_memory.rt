@@ -4,7 +4,7 @@ ghost use Rattle.cm_tool.specs.Faults.{fault_of};
 ghost use Rattle.cm_tool.specs.Parsing.{Finishes, Makes, TellsFault};
 ghost use Rattle.cm_tool.specs.Rewriting.{MakesSource};
 ghost use Rattle.cm_tool.specs.Writing.{converted};
-ghost use Rattle.cm_tool.specs.steps.Ends.{IsOutline};
+ghost use Rattle.cm_tool.specs.steps.ReadingSteps.{IsOutline};
 
 use crate::fault::Fault;
 use crate::outputs::{doc_of_outline, html_of_outline, source_of_outline};

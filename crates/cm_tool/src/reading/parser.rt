@@ -10,9 +10,9 @@ ghost use Rattle.cm_block.specs.Parser.{StandsFor as HasTaken, TellsDepth};
 ghost use Rattle.cm_block.specs.declared.fault.BlockFault.TheVariants as block_faults;
 ghost use Rattle.cm_tool.specs.declared.fault.Fault as faults;
 ghost use Rattle.cm_tool.specs.Faults.{fault_of, settled_fault_of};
-ghost use Rattle.cm_tool.specs.Parsing.{Goes, StandsFor, Answers, Finishes, TellsFault, Makes};
+ghost use Rattle.cm_tool.specs.Parsing.{Goes, HasTakenIn, Answers, Finishes, TellsFault, Makes};
 ghost use Rattle.cm_tool.specs.Writing.{converted};
-ghost use Rattle.cm_tool.specs.steps.Ends.{IsOutline};
+ghost use Rattle.cm_tool.specs.steps.ReadingSteps.{IsOutline};
 ghost use Rattle.cm_tool.specs.steps.Handing.{Hands};
 ghost use Rattle.cm_tool.specs.steps.Pushing.{Pushes, Counts};
 
@@ -60,7 +60,7 @@ impl Model for Parser {
 impl Parser {
     /// A parser of nothing so far. It takes no memory.
     pub fn new(alloc: Global, limits: Limits) -> Parser
-        ensures { StandsFor limits result [] }
+        ensures { HasTakenIn limits result [] }
     {
         Parser {
             alloc,
@@ -75,12 +75,12 @@ impl Parser {
     ///
     /// A fault is answered as soon as the bytes settle it, however they go on.
     pub fn feed(&mut self, piece: &[u8]) -> Result<(), Fault>
-        // Whatever bytes it stood for, it stands for them and the piece.
+        // Whatever bytes it had taken in, it has taken in them and the piece.
         ensures stands { OnOk result ((limits : LimitsView) (bytes : List ℕ)
-            → StandsFor limits self.old bytes → StandsFor limits self.new (bytes ++ piece.now)) }
+            → HasTakenIn limits self.old bytes → HasTakenIn limits self.new (bytes ++ piece.now)) }
         // A fault is answered exactly where the bytes settle it.
         ensures settled { (limits : LimitsView) (bytes : List ℕ)
-            → StandsFor limits self.old bytes
+            → HasTakenIn limits self.old bytes
             → Answers result (settled_fault_of limits (bytes ++ piece.now)) }
         // From then on it is answered again.
         ensures answer { result ≡ answer_after self.new.fault }
@@ -102,9 +102,9 @@ impl Parser {
     /// The outline of the document, where the bytes so far are all.
     pub(crate) fn outline(self) -> Result<Outline, Fault>
         ensures outline { IfOk result (λ outline. (limits : LimitsView) (bytes : List ℕ)
-            → StandsFor limits self bytes → IsOutline limits bytes outline) }
+            → HasTakenIn limits self bytes → IsOutline limits bytes outline) }
         ensures told { IfErr result (λ fault. (limits : LimitsView) (bytes : List ℕ)
-            → StandsFor limits self bytes → TellsFault fault (fault_of limits bytes)) }
+            → HasTakenIn limits self bytes → TellsFault fault (fault_of limits bytes)) }
         ensures failed { (fault : faults.Fault) → self.fault ≡ Some fault → result ≡ Err fault }
     {
         let Parser {
@@ -125,7 +125,7 @@ impl Parser {
     ///
     /// As `finish`.
     pub fn finish_html(self) -> Result<Pages, Fault>
-        ensures { (limits : LimitsView) (bytes : List ℕ) → StandsFor limits self bytes
+        ensures { (limits : LimitsView) (bytes : List ℕ) → HasTakenIn limits self bytes
             → Makes (λ pages. pages ≡ converted limits.rules bytes) result limits bytes }
     {
         let (alloc, limits) = (self.alloc, self.blocks.limits());
@@ -134,7 +134,7 @@ impl Parser {
 
     /// The document, where the bytes so far are all.
     pub fn finish(self) -> Result<Doc, Fault>
-        ensures finishes { (limits : LimitsView) (bytes : List ℕ) → StandsFor limits self bytes
+        ensures finishes { (limits : LimitsView) (bytes : List ℕ) → HasTakenIn limits self bytes
             → Finishes result limits bytes }
         ensures failed { (fault : faults.Fault) → self.fault ≡ Some fault → result ≡ Err fault }
     {
@@ -144,7 +144,7 @@ impl Parser {
 }
 
 impl TakesBytes for Parser {
-    ghost stands = { λ limits parser bytes. StandsFor limits parser bytes };
+    ghost has_taken_in = { λ limits parser bytes. HasTakenIn limits parser bytes };
 
     ghost settled = { settled_fault_of };
 

@@ -4,15 +4,15 @@ ghost use Rattle.std.specs.Io.KnownBytes.{Consumes};
 ghost use Rattle.cm_text.specs.Limits.{LimitsView};
 ghost use Rattle.cm_tool.specs.declared.fault.Fault as faults;
 ghost use Rattle.cm_tool.specs.Parsing.{Answers};
-ghost use Rattle.cm_tool.specs.steps.Ends.{TakesIn};
+ghost use Rattle.cm_tool.specs.steps.ReadingSteps.{TakesIn};
 
 use crate::fault::Fault;
 use cm_text::Source;
 
 /// What takes in bytes, piece by piece.
 pub(crate) trait TakesBytes {
-    // It has been given these bytes, which settle no fault.
-    ghost stands: { LimitsView → Self → List ℕ → Type 0 };
+    // It has taken in these bytes, which settle no fault.
+    ghost has_taken_in: { LimitsView → Self → List ℕ → Type 0 };
 
     // The fault that bytes settle.
     ghost settled: { LimitsView → List ℕ → Option faults.Fault };
@@ -23,9 +23,9 @@ pub(crate) trait TakesBytes {
     /// Takes in one more piece. A fault is answered as soon as the bytes settle it.
     fn take(&mut self, piece: &[u8]) -> Result<(), Fault>
         ensures stands { OnOk result ((limits : LimitsView) (bytes : List ℕ)
-            → stands limits self.old bytes → stands limits self.new (bytes ++ piece.now)) }
+            → has_taken_in limits self.old bytes → has_taken_in limits self.new (bytes ++ piece.now)) }
         ensures settled { (limits : LimitsView) (bytes : List ℕ)
-            → stands limits self.old bytes → Answers result (settled limits (bytes ++ piece.now)) }
+            → has_taken_in limits self.old bytes → Answers result (settled limits (bytes ++ piece.now)) }
         ensures left { OnOk result (left self.new + length piece.now ≡ left self.old) };
 }
 
@@ -39,8 +39,8 @@ pub(crate) fn take_all<R: Source, T: TakesBytes>(
     requires failures { R.failed source.old < 2 ^ 64 - 1 }
     requires room { 0 < length buffer.old }
     ensures { (bytes : List ℕ) × Consumes (R.remaining source.old) (R.remaining source.new) bytes
-        × ((limits : LimitsView) → T.stands limits taker.old [] → T.settled limits [] ≡ None
-        → TakesIn (T.stands limits taker.new) (T.settled limits) result bytes
+        × ((limits : LimitsView) → T.has_taken_in limits taker.old [] → T.settled limits [] ≡ None
+        → TakesIn (T.has_taken_in limits taker.new) (T.settled limits) result bytes
         (record { remaining = R.remaining source.old; failed = R.failed source.old })
         (record { remaining = R.remaining source.new; failed = R.failed source.new })) }
 {

@@ -6,7 +6,7 @@ ghost use Rattle.cm_text.specs.Limits.{LimitsView};
 ghost use Rattle.cm_text.specs.Lines.{text_of};
 ghost use Rattle.cm_tool.specs.Parsing.{TellsFault};
 ghost use Rattle.cm_tool.specs.Reading.{ReadsText, settled_of_text, fault_of_text};
-ghost use Rattle.cm_tool.specs.steps.Texts.{StandsFor};
+ghost use Rattle.cm_tool.specs.steps.Texts.{HasGathered};
 
 use crate::fault::Fault;
 use crate::reading::parser::PART;
@@ -40,10 +40,10 @@ impl TextBytes {
     /// The text, where the bytes so far are all.
     fn text(self, alloc: Global) -> Result<String, Fault>
         ensures text { IfOk result (λ text. (limits : LimitsView) (bytes : List ℕ)
-            → StandsFor limits self bytes
+            → HasGathered limits self bytes
             → (fault_of_text limits bytes ≡ None) × (string_bytes text ≡ text_of bytes)) }
         ensures told { IfErr result (λ fault. (limits : LimitsView) (bytes : List ℕ)
-            → StandsFor limits self bytes → TellsFault fault (fault_of_text limits bytes)) }
+            → HasGathered limits self bytes → TellsFault fault (fault_of_text limits bytes)) }
     {
         let TextBytes { mut feed, bytes } = self;
         feed.end()?;
@@ -52,7 +52,7 @@ impl TextBytes {
 }
 
 impl TakesBytes for TextBytes {
-    ghost stands = { λ limits text bytes. StandsFor limits text bytes };
+    ghost has_taken_in = { λ limits text bytes. HasGathered limits text bytes };
 
     ghost settled = { settled_of_text };
 

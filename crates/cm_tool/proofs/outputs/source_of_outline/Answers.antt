@@ -1,5 +1,5 @@
 use Rattle.cm_source.specs.Definitions.{without_definitions}
-use Rattle.cm_tool.specs.steps.Sources.{Spelled}
+use Rattle.cm_tool.specs.steps.PlainSources.{Spelled}
 use Rattle.cm_tool.proofs.ParserLemmas.{tree_made}
 use Rattle.cm_tool.proofs.outputs.source_of_outline.Goals as goal
 

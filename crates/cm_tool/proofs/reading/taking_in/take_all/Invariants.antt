@@ -5,8 +5,8 @@ use Rattle.cm_tool.proofs.reading.taking_in.take_all.Given as goal
 
 abbrev pub invariant-loop-n : goal.invariant-loop-n
 invariant-loop-n g l = (read : List ℕ)
-    × ((limits : LimitsView) → g.T.TakesBytes.stands limits l.initial.taker [] → g.T.TakesBytes.settled limits [] ≡ None →
-    g.T.TakesBytes.stands limits l.taker read × (g.T.TakesBytes.settled limits read ≡ None))
+    × ((limits : LimitsView) → g.T.TakesBytes.has_taken_in limits l.initial.taker [] → g.T.TakesBytes.settled limits [] ≡ None →
+    g.T.TakesBytes.has_taken_in limits l.taker read × (g.T.TakesBytes.settled limits read ≡ None))
     × SoFar
     (record { remaining = g.R.Source.remaining l.initial.source; failed = g.R.Source.failed l.initial.source })
     (record { remaining = g.R.Source.remaining l.source; failed = g.R.Source.failed l.source }) read

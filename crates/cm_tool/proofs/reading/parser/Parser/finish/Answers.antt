@@ -1,7 +1,7 @@
 use Rattle.std.proofs.Common.{◌∙◌, ap, subst}
 use Rattle.cm_text.specs.Limits.{LimitsView}
 use Rattle.cm_tool.specs.Parsing.{ParserView, Finishes}
-use Rattle.cm_tool.specs.steps.Ends.{IsOutline}
+use Rattle.cm_tool.specs.steps.ReadingSteps.{IsOutline}
 use Rattle.cm_tool.proofs.reading.parser.Parser.finish.Goals as goal
 
 pub returns-clause-finishes : goal.returns-clause-finishes

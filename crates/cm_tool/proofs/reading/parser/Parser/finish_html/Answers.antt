@@ -2,7 +2,7 @@ use Rattle.std.proofs.Common.{◌≡◌, ◌∙◌, ap, subst}
 use Rattle.cm_text.specs.Limits.{LimitsView}
 use Rattle.cm_tool.specs.Parsing.{ParserView, Makes}
 use Rattle.cm_tool.specs.Writing.{converted}
-use Rattle.cm_tool.specs.steps.Ends.{IsOutline}
+use Rattle.cm_tool.specs.steps.ReadingSteps.{IsOutline}
 use Rattle.cm_tool.proofs.reading.parser.Parser.finish_html.Goals as goal
 
 pub returns : goal.returns

@@ -2,8 +2,8 @@ use Rattle.std.proofs.Common.{ap, rules, subst, sym}
 use Rattle.std.specs.Prelude.{option_map}
 use Rattle.std.proofs.lemmas.Result.{err_from_is_err_and}
 use Rattle.cm_text.specs.Faults.{text_fault}
-use Rattle.cm_tool.specs.Fault.{told}
-use Rattle.cm_tool.specs.steps.Texts.{TextSoFar, StandsFor}
+use Rattle.cm_tool.specs.ToldFaults.{told}
+use Rattle.cm_tool.specs.steps.Texts.{TextSoFar, HasGathered}
 use Rattle.cm_tool.proofs.ParserLemmas.{no_fault}
 use Rattle.cm_tool.proofs.TextLemmas.{feed_told, feed_goes, had_none, sound_is_utf8}
 use Rattle.cm_tool.proofs.reading.texts.TextBytes.text.Goals as goal
@@ -14,7 +14,7 @@ returns-in_err-end-clause-told c =
     let t = c.self.inside in
     let fault = c.in_err-end.field-0.0 in
     rw (p.1, p.2) (λ limits bytes stands.
-    let s = subst (λ (t : TextSoFar). StandsFor limits t bytes) (sym c.self.view_is) stands in
+    let s = subst (λ (t : TextSoFar). HasGathered limits t bytes) (sym c.self.view_is) stands in
     rw (← s.same, ← s.limit) (feed_told fault (text_fault t.feed.limit t.bytes.items)
     (c.in_err-end.ensures.told s.sound t.bytes.items 0 (feed_goes t.feed t.bytes.items c.self.invariant.0 c.self.invariant.1 s.sound))))
 
@@ -28,7 +28,7 @@ unwrap-requires c =
 pub returns-clause-text : goal.returns-clause-text
 returns-clause-text c = λ limits bytes stands.
     let t = c.self.inside in
-    let s = subst (λ (t : TextSoFar). StandsFor limits t bytes) (sym c.self.view_is) stands in
+    let s = subst (λ (t : TextSoFar). HasGathered limits t bytes) (sym c.self.view_is) stands in
     rw (← s.same, ← s.limit) (
       ap (option_map told) (c.in_ok-end.ensures.told s.sound t.bytes.items 0 (feed_goes t.feed t.bytes.items c.self.invariant.0 c.self.invariant.1 s.sound)),
       search rules,

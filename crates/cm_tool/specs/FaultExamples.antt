@@ -9,7 +9,7 @@ use Rattle.cm_tool.specs.Faults.{fault_of, settled_fault_of}
 abbrev pub at_most : (blocks inlines : ℕ) → LimitsView
 at_most blocks inlines = record { bytes = 2 ^ 28; blocks = blocks; inlines = inlines; rules = profile }
 
-pub record ReadingExamples : Type 0 where
+pub record FaultExamples : Type 0 where
   pub line_before_a_fault : settled_fault_of (at_most 1 100) (codes "> > a\n" ++ 0xFF ∷ []) ≡ Some (BlocksTooDeep 1)
   pub line_cut_by_a_fault : fault_of (at_most 1 100) (codes "> > a" ++ 0xFF ∷ []) ≡ Some (NotUtf8 5)
   pub past_the_limit : fault_of (at_most 2 100) (codes "a\n> > > b\n") ≡ Some (BlocksTooDeep 2)

@@ -7,7 +7,7 @@ use Rattle.cm_tool.specs.Writing.{converted}
 abbrev pub safe : Rules
 safe = record profile { raw_html = false; any_address = false }
 
-pub record Examples : Type 0 where
+pub record HtmlExamples : Type 0 where
   pub no_text : converted profile [] ≡ []
   pub paragraph_over_two_lines : converted profile (codes "a\n b \n\n") ≡ codes "<p>a\nb</p>\n"
   pub break_between_paragraphs : converted profile (codes "a\n***\nb\n") ≡ codes "<p>a</p>\n<hr />\n<p>b</p>\n"

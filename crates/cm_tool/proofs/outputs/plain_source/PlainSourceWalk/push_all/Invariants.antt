@@ -3,10 +3,10 @@ use Rattle.cm_text.specs.Rules.{Rules}
 use Rattle.cm_tree.specs.declared.tree.Block.{Block}
 use Rattle.cm_source.specs.Definitions.{without_definitions}
 use Rattle.cm_tool.specs.steps.LeafWalks.{all_left}
-use Rattle.cm_tool.specs.steps.Sources.{HasTaken}
+use Rattle.cm_tool.specs.steps.PlainSources.{HasTaken}
 use Rattle.cm_tool.proofs.LeafWalkLemmas.{Goes}
-use Rattle.cm_tool.proofs.SourceLemmas.{Takes}
-use Rattle.cm_tool.proofs.outputs.plain_source.SourceWalk.push_all.Given as goal
+use Rattle.cm_tool.proofs.PlainSourceLemmas.{Takes}
+use Rattle.cm_tool.proofs.outputs.plain_source.PlainSourceWalk.push_all.Given as goal
 
 -- What was taken and what is left come to the whole.
 abbrev pub invariant-loop-block : goal.invariant-loop-block

@@ -11,7 +11,7 @@ use Rattle.cm_source.specs.Definitions.{cleared, is_definition, kept, without_de
 use Rattle.cm_source.specs.Refusals.{refusal_of}
 use Rattle.cm_source.specs.Speller.{StandsFor, Refuses}
 use Rattle.cm_tool.specs.declared.outputs.plain_source.PlainSource as code
-use Rattle.cm_tool.specs.steps.Sources.{Spells, HasTaken}
+use Rattle.cm_tool.specs.steps.PlainSources.{Spells, HasTaken}
 
 -- one more block behind those that a source has taken
 

@@ -14,7 +14,7 @@ file lines = flat_map with_line_feed lines
 abbrev pub arrow : List ℕ
 arrow = 0xE2 ∷ 0x86 ∷ 0x92 ∷ []
 
-pub record FileExamples : Type 0 where
+pub record ReportExamples : Type 0 where
   pub no_examples : report_on profile (file (codes "a" ∷ middle_line ∷ closing_line ∷ [])) ≡ Ok (record { total = 0; agree = 0; differ = [] })
   pub agrees : report_on profile (file (codes "outside" ∷ example_lines (codes "a" ∷ []) (codes "<p>a</p>" ∷ []))) ≡ Ok (record { total = 1; agree = 1; differ = [] })
   pub empty_source : report_on profile (file (example_lines [] [])) ≡ Ok (record { total = 1; agree = 1; differ = [] })
