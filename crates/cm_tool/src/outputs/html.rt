@@ -4,14 +4,11 @@ ghost use Rattle.std.specs.Prelude.{None};
 ghost use Rattle.cm_tree.specs.RawBlocks.{IsItem, IsPlaced, IsRange, item_in};
 ghost use Rattle.cm_html.specs.Html.{html_of, item_html, items_html, Written, written, alone};
 ghost use Rattle.cm_html.specs.steps.ItemPass.{inside_from, line_feed};
-ghost use Rattle.cm_scan.specs.Brackets.{defined_in};
-ghost use Rattle.cm_scan.specs.Documents.{with_inlines};
 ghost use Rattle.cm_tool.specs.declared.fault.Fault.TheVariants as faults;
-ghost use Rattle.cm_tool.specs.Leaves.{depths_in, leaf_depths, first_leaf_past};
-ghost use Rattle.cm_tool.specs.Parsing.{TellsFault};
-ghost use Rattle.cm_tool.specs.steps.Items.{items_leaf_depths};
-ghost use Rattle.cm_tool.specs.steps.LeafWalks.{block_read_of, blocks_read_at, items_read_at, all_left};
-ghost use Rattle.cm_tool.specs.steps.LeafWalks.{ArePlacedLeft, HasRead, HasReadAll, TellsOf};
+ghost use Rattle.cm_tool.specs.steps.LeafWalks.{defined_in, with_inlines, depths_in, leaf_depths};
+ghost use Rattle.cm_tool.specs.steps.LeafWalks.{items_leaf_depths, first_leaf_past, block_read_of};
+ghost use Rattle.cm_tool.specs.steps.LeafWalks.{blocks_read_at, items_read_at, all_left, ArePlacedLeft};
+ghost use Rattle.cm_tool.specs.steps.LeafWalks.{HasRead, HasReadAll, TellsOf, TellsFault};
 
 use crate::fault::Fault;
 use crate::outputs::leaf_walk::LeafWalk;

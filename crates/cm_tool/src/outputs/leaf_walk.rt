@@ -3,14 +3,11 @@ ghost use Rattle.std.specs.Prelude.{◌≡◌, ◌≤◌, ◌<◌, ◌+◌, ◌+
 ghost use Rattle.std.specs.Prelude.{true, false, IfOk, IfErr, IfSome, OnOk, None};
 ghost use Rattle.cm_tree.specs.Depth.{inlines_depth};
 ghost use Rattle.cm_tree.specs.RawBlocks.{IsBetween, IsPlaced};
-ghost use Rattle.cm_scan.specs.Brackets.{defined_in};
-ghost use Rattle.cm_scan.specs.Documents.{with_inlines};
 ghost use Rattle.cm_html.specs.Html.{inlines_html};
 ghost use Rattle.cm_inline.specs.declared.fault.InlineFault.TheVariants as inline_faults;
 ghost use Rattle.cm_tool.specs.declared.fault.Fault.TheVariants as faults;
-ghost use Rattle.cm_tool.specs.steps.Numbering.{TellsLeaf};
-ghost use Rattle.cm_tool.specs.steps.LeafWalks.{content_at, block_read_of, all_left, ArePlacedLeft, HasRead};
-ghost use Rattle.cm_tool.specs.steps.LeafWalks.{TellsOf};
+ghost use Rattle.cm_tool.specs.steps.LeafWalks.{defined_in, with_inlines, content_at, block_read_of};
+ghost use Rattle.cm_tool.specs.steps.LeafWalks.{all_left, ArePlacedLeft, HasRead, TellsOf, TellsLeaf};
 
 use crate::fault::Fault;
 use cm_html::Pages;

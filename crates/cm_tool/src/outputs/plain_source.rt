@@ -2,14 +2,11 @@
 ghost use Rattle.std.specs.Prelude.{◌≡◌, List, [], ◌∷◌, ◌++◌, IfOk, IfErr, OnOk, None, option_map};
 ghost use Rattle.cm_text.specs.Rules as text_rules;
 ghost use Rattle.cm_tree.specs.declared.tree.Block as trees;
-ghost use Rattle.cm_scan.specs.Brackets.{defined_in};
-ghost use Rattle.cm_scan.specs.Documents.{with_inlines};
 ghost use Rattle.cm_source.specs.Definitions.{without_definitions};
 ghost use Rattle.cm_tool.specs.declared.fault.Fault.TheVariants as faults;
-ghost use Rattle.cm_tool.specs.Leaves.{first_leaf_past, leaf_depths};
-ghost use Rattle.cm_tool.specs.Parsing.{TellsFault};
-ghost use Rattle.cm_tool.specs.steps.LeafWalks.{all_left, ArePlacedLeft, HasReadAll, TellsOf};
 ghost use Rattle.cm_tool.specs.steps.PlainSources.{HasTaken, Spelled};
+ghost use Rattle.cm_tool.specs.steps.LeafWalks.{defined_in, with_inlines, leaf_depths, first_leaf_past};
+ghost use Rattle.cm_tool.specs.steps.LeafWalks.{all_left, ArePlacedLeft, HasReadAll, TellsOf, TellsFault};
 
 use crate::fault::Fault;
 use crate::outputs::leaf_walk::LeafWalk;

@@ -2,14 +2,11 @@
 ghost use Rattle.std.specs.Prelude.{◌≡◌, ◌++◌, [], length, option_map, IfOk, IfErr, OnOk, None};
 ghost use Rattle.std.specs.List.{slice_range};
 ghost use Rattle.cm_tree.specs.RawBlocks.{IsBetween, IsPlaced, IsRange};
-ghost use Rattle.cm_scan.specs.Brackets.{defined_in};
-ghost use Rattle.cm_scan.specs.Documents.{with_inlines};
 ghost use Rattle.cm_tool.specs.declared.fault.Fault.TheVariants as faults;
-ghost use Rattle.cm_tool.specs.Leaves.{depths_in, leaf_depths, first_leaf_past};
-ghost use Rattle.cm_tool.specs.Parsing.{TellsFault};
-ghost use Rattle.cm_tool.specs.steps.Items.{items_leaf_depths};
-ghost use Rattle.cm_tool.specs.steps.LeafWalks.{block_read_of, blocks_read_at, items_read_at, all_left};
-ghost use Rattle.cm_tool.specs.steps.LeafWalks.{ArePlacedLeft, HasRead, HasReadAll, TellsOf};
+ghost use Rattle.cm_tool.specs.steps.LeafWalks.{defined_in, with_inlines, depths_in, leaf_depths};
+ghost use Rattle.cm_tool.specs.steps.LeafWalks.{items_leaf_depths, first_leaf_past, block_read_of};
+ghost use Rattle.cm_tool.specs.steps.LeafWalks.{blocks_read_at, items_read_at, all_left, ArePlacedLeft};
+ghost use Rattle.cm_tool.specs.steps.LeafWalks.{HasRead, HasReadAll, TellsOf, TellsFault};
 
 use crate::fault::Fault;
 use crate::outputs::leaf_walk::{LeafWalk, Unread};
