@@ -24,7 +24,7 @@ use cm_tree::Doc;
 pub use conversion::convert;
 use html::leaves_html;
 pub(crate) use listing::list;
-use plain_source::leaves_source;
+use plain_source::leaves_plain_source;
 pub use rewriting::rewrite;
 use std::alloc::Global;
 use tree::read_leaves;
@@ -65,7 +65,7 @@ pub(crate) fn html_of_outline(
 }
 
 /// The plain source of an outline's document without its definitions, or why it can't be spelled.
-pub(crate) fn source_of_outline(
+pub(crate) fn plain_source_of_outline(
     alloc: Global,
     limits: Limits,
     outline: Outline,
@@ -80,5 +80,5 @@ pub(crate) fn source_of_outline(
         ..
     } = outline;
     drop(owners);
-    leaves_source(alloc, limits, definitions, blocks)
+    leaves_plain_source(alloc, limits, definitions, blocks)
 }

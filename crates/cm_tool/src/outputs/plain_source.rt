@@ -122,7 +122,7 @@ impl PlainSourceWalk {
 /// # Errors
 ///
 /// As `read_leaves`.
-pub(crate) fn leaves_source(
+pub(crate) fn leaves_plain_source(
     alloc: Global,
     limits: Limits,
     definitions: Definitions,

@@ -4,7 +4,7 @@ ghost use Rattle.std.specs.Io.KnownBytes.{Consumes};
 ghost use Rattle.cm_tool.specs.Rewriting.{Rewrites};
 
 use crate::fault::Fault;
-use crate::outputs::source_of_outline;
+use crate::outputs::plain_source_of_outline;
 use crate::reading::outline_of;
 use cm_text::{Limits, Sink, Source, write_all};
 use std::alloc::Global;
@@ -31,7 +31,7 @@ pub fn rewrite<R: Source, W: Sink>(
         (record { taken = W.taken sink.new; failed = W.failed sink.new }) }
 {
     let outline = outline_of(alloc, source, limits)?;
-    let text = source_of_outline(alloc, limits, outline)??;
+    let text = plain_source_of_outline(alloc, limits, outline)??;
     write_all(sink, text.as_bytes())?;
     Ok(text.len())
 }

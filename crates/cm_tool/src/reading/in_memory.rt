@@ -2,12 +2,12 @@
 ghost use Rattle.std.specs.Prelude.{◌≡◌, IfErr, IfOk};
 ghost use Rattle.cm_tool.specs.Faults.{fault_of};
 ghost use Rattle.cm_tool.specs.Parsing.{Finishes, Makes, TellsFault};
-ghost use Rattle.cm_tool.specs.Rewriting.{MakesSource};
+ghost use Rattle.cm_tool.specs.Rewriting.{MakesPlainSource};
 ghost use Rattle.cm_tool.specs.Writing.{converted};
 ghost use Rattle.cm_tool.specs.steps.ReadingSteps.{IsOutline};
 
 use crate::fault::Fault;
-use crate::outputs::{doc_of_outline, html_of_outline, source_of_outline};
+use crate::outputs::{doc_of_outline, html_of_outline, plain_source_of_outline};
 use crate::reading::parser::Parser;
 use cm_block::Outline;
 use cm_html::Pages;
@@ -55,8 +55,8 @@ pub fn html_of(alloc: Global, bytes: &[u8], limits: Limits) -> Result<Pages, Fau
 ///
 /// As `doc_of`, and `Fault::Unspellable` where the text has no fault and its tree can't be spelled.
 pub fn source_of(alloc: Global, bytes: &[u8], limits: Limits) -> Result<String, Fault>
-    ensures { MakesSource result limits bytes.now }
+    ensures { MakesPlainSource result limits bytes.now }
 {
     let outline = outline_of(alloc, bytes, limits)?;
-    Ok(source_of_outline(alloc, limits, outline)??)
+    Ok(plain_source_of_outline(alloc, limits, outline)??)
 }

@@ -12,7 +12,7 @@ returns-in_err-write_all g c =
     let limits = c.args.limits in
     let outline = c.in_ok-outline.ensures in
     let bytes = outline.0 in
-    let made = c.in_ok-source_of_outline.ensures bytes outline.2.2 in
+    let made = c.in_ok-plain_source_of_outline.ensures bytes outline.2.2 in
     let read = read_whole limits c.in_ok-outline.outline _ _ bytes outline.2 made.0 in
     let spelled = subst (Spelled limits.rules (kept_tree limits.rules bytes)) c.in_ok-text.was made.1 in
     rw (p.1, p.2) (bytes, outline.1, was_lost limits bytes _ _ _ _ read c.in_ok-text.text spelled c.as_bytes.result.now c.in_err-write_all.field-0.0.written c.as_bytes.ensures.value c.in_err-write_all.ensures)
@@ -22,7 +22,7 @@ returns g c =
     let limits = c.args.limits in
     let outline = c.in_ok-outline.ensures in
     let bytes = outline.0 in
-    let made = c.in_ok-source_of_outline.ensures bytes outline.2.2 in
+    let made = c.in_ok-plain_source_of_outline.ensures bytes outline.2.2 in
     let read = read_whole limits c.in_ok-outline.outline _ _ bytes outline.2 made.0 in
     let spelled = subst (Spelled limits.rules (kept_tree limits.rules bytes)) c.in_ok-text.was made.1 in
     (bytes, outline.1, went_out limits bytes _ _ _ _ read c.in_ok-text.text spelled c.as_bytes.result.now c.len.result c.as_bytes.ensures.value (c.len.ensures ∙ sym c.as_bytes.ensures.len ∙ ap length c.as_bytes.ensures.value) c.in_ok-write_all.ensures)
