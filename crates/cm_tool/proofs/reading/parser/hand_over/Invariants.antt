@@ -1,6 +1,4 @@
-use Rattle.std.proofs.Common.{◌≡◌, List, ◌++◌, length}
-use Rattle.cm_text.specs.Lines.{LineView}
-use Rattle.cm_block.specs.Parser.{StandsFor as HasTaken}
+use Rattle.std.proofs.Common.{◌≡◌, length}
 use Rattle.cm_tool.specs.steps.Handing.{Hands}
 use Rattle.cm_tool.proofs.reading.parser.hand_over.Given as goal
 
