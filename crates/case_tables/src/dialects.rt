@@ -9,7 +9,8 @@ fn safe(rules: Rules) -> Rules {
     rules.with_raw_html(false).with_any_address(false)
 }
 
-/// The rules of this name: `profile`; `older`, `strike` or both; `no_html`, `web_links`, or `safe`, which is both; or all.
+/// The rules of this name: `profile`; `older`, `strike` or both; `no_html`, `web_links`, or `safe`, which is
+/// both; or all.
 pub fn rules_of(alloc: Global, name: &str) -> Result<Rules, Trouble> {
     match name {
         "profile" => Ok(Rules::profile()),

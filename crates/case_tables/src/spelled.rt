@@ -63,7 +63,8 @@ fn is_kept(alloc: Global, wanted: &str, blocks: &Items<Block>) -> Result<(), Tro
     same(alloc, "kept", wanted.as_bytes(), got.as_bytes())
 }
 
-/// The source that is spelled for blocks one after another without their definitions, and why some are refused.
+/// The source that is spelled for blocks one after another without their definitions, and why some are
+/// refused.
 fn pushed(alloc: Global, rules: Rules, blocks: &Items<Block>) -> Result<(String, String), Trouble> {
     let mut speller = Speller::new(alloc, rules);
     let mut reasons = String::new(alloc);

@@ -6,7 +6,7 @@ use Rattle.cm_text.specs.Writing.{SinkView}
 use Rattle.cm_html.specs.declared.fault.HtmlFault.{HtmlFault}
 use Rattle.cm_html.specs.declared.fault.HtmlFault.TheVariants as html
 use Rattle.cm_html.specs.Writing.{WritesText}
-use Rattle.cm_tool.specs.Fault.{unwritten}
+use Rattle.cm_tool.specs.ToldFaults.{unwritten}
 use Rattle.cm_tool.specs.Reading.{SourceView, ReadWhole}
 use Rattle.cm_tool.specs.Writing.{Converts, converted}
 

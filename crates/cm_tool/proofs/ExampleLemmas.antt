@@ -1,25 +1,24 @@
 -- The examples of a file, part by part.
-use Rattle.std.proofs.Common.{◌≡◌, ◌∙◌, ◌+◌, ◌++◌, ◌^◌, ℕ, zero, suc, Bool, true, false, cond, List, [], ◌∷◌, Option, Some, None, refl, sym, ap, ap₂, map, append_assoc, append-nil, add-one, get_or, ◌<◌, ◌≤◌, drop, ne_eqb, subst, length, length-append, arith, IsUtf8}
+use Rattle.std.proofs.Common.{◌≡◌, ◌∙◌, ◌+◌, ◌++◌, ◌^◌, ℕ, zero, suc, Bool, true, false, cond, List, [], ◌∷◌, Option, Some, None, refl, sym, ap, ap₂, map, append_assoc, add-one, get_or, ◌<◌, ◌≤◌, drop, ne_eqb, subst, length, length-append, arith, IsUtf8}
 use Rattle.std.specs.List.{count_by}
 use Rattle.std.specs.Option.{option_or}
 use Rattle.cm_tool.specs.Writing.{converted}
 use Rattle.std.specs.Prelude.{Result, string_bytes, unwrap_or, Ok, Err, OnOk, is_ok, option_map}
 use Rattle.std.specs.Str.{bytes_eq, chars}
 use Rattle.std.proofs.lemmas.Bool.{and_parts}
-use Rattle.std.proofs.lemmas.List.Elements.{All-nil}
 use Rattle.std.proofs.lemmas.List.Sums.{sum_by-cons}
 use Rattle.std.proofs.lemmas.Str.{IsUtf8-nil, chars_from_encodes, chars_past_char, encode_same, length-encode, len_utf8_bounds}
 use lib.Utf8.{encode, encodes, scalars}
 use Rattle.cm_text.specs.Limits.{LimitsView, limits_for}
 use Rattle.cm_tool.specs.declared.fault.Fault.{Fault}
 use Rattle.cm_tool.specs.declared.fault.Fault.TheVariants.{NotUtf8, TooLong, BlocksTooDeep, InlinesTooDeep, NoMemory, ReadFailed, WriteFailed, Unspellable, BadExampleFile, ExampleDiffers}
-use Rattle.cm_tool.specs.Faults.{fault_of, settled_fault_of}
+use Rattle.cm_tool.specs.Faults.{fault_of}
 use Rattle.cm_tool.specs.Parsing.{TellsFault}
-use Rattle.cm_tool.proofs.SettledLemmas.{settled_is_told}
+use Rattle.cm_tool.proofs.TellingLemmas.{tells_other}
 use Rattle.cm_tool.specs.ExampleFiles.{Example, Examines, examples_of, report_on, reported, sound_report, agrees, difference_of, differences_from, first_fault, standard_limits, DifferenceView, closing_line, example_line, examples_from, middle_line, put_example, tab_for_arrow, InHtml, InSource, Outside}
 use Rattle.cm_text.specs.Rules.{Rules}
 use Rattle.cm_tool.specs.declared.example_files.Example as code
-use Rattle.cm_tool.specs.declared.examining.Difference.{Difference}
+use Rattle.cm_tool.specs.declared.example_files.examining.Difference.{Difference}
 use Rattle.cm_tool.specs.steps.ExampleSteps.{Part, example_of, part_from}
 
 -- what comes of a file whose source is this, and of one whose HTML is this
@@ -129,27 +128,6 @@ pub if_put : {E : Type 0} (r : Result (Unit {0}) E) (old new put whole : List �
 if_put (Ok x) old new put whole is done = is ∙ done
 if_put (Err e) old new put whole is done = tt
 
--- ---- sources
-
--- a fault that is settled is that of the source
-pub settled_is : (limits : LimitsView) (source : List ℕ) (fault : Fault) → TellsFault fault (settled_fault_of limits source) → TellsFault fault (fault_of limits source)
-settled_is limits source fault told = by_fault fault told
-  where
-    whole : (fault : Fault) → settled_fault_of limits source ≡ Some fault → fault_of limits source ≡ Some fault
-    whole fault is = ap (fault_of limits) (sym (append-nil source)) ∙ (settled_is_told limits source fault).0 is [] (All-nil (λ b. b < 256))
-
-    by_fault : (fault : Fault) → TellsFault fault (settled_fault_of limits source) → TellsFault fault (fault_of limits source)
-    by_fault (NotUtf8 at) h = whole (NotUtf8 at) h
-    by_fault (TooLong at) h = whole (TooLong at) h
-    by_fault (BlocksTooDeep line) h = whole (BlocksTooDeep line) h
-    by_fault (InlinesTooDeep leaf) h = whole (InlinesTooDeep leaf) h
-    by_fault NoMemory h = tt
-    by_fault ReadFailed h = absurd h
-    by_fault (WriteFailed written) h = absurd h
-    by_fault (Unspellable why) h = absurd h
-    by_fault (BadExampleFile line) h = absurd h
-    by_fault (ExampleDiffers number) h = absurd h
-
 -- ---- reports
 
 -- what so many of these examples have come to
@@ -207,23 +185,11 @@ module _ (rules : Rules) (examples : List code.Example) (agree : ℕ) (differ : 
 
   -- one has a fault
   pub one_fault : (fault : Fault) → TellsFault fault (fault_of (standard_limits rules) (string_bytes e.source)) → TellsFault fault (first_fault rules (map example_of examples))
-  one_fault fault h = by_fault fault h
+  one_fault fault h = tells_other (fault_of (standard_limits rules) (string_bytes e.source)) (first_fault rules (map example_of examples)) first fault h
     where
       first : (fault : Fault) → fault_of (standard_limits rules) (string_bytes e.source) ≡ Some fault → first_fault rules (map example_of examples) ≡ Some fault
       first fault is =
           sym so_far.sound ∙ ap (λ xs. first_fault rules (map example_of xs)) next ∙ ap (λ o. option_or o (first_fault rules behind)) is
-
-      by_fault : (fault : Fault) → TellsFault fault (fault_of (standard_limits rules) (string_bytes e.source)) → TellsFault fault (first_fault rules (map example_of examples))
-      by_fault (NotUtf8 at) h = first (NotUtf8 at) h
-      by_fault (TooLong at) h = first (TooLong at) h
-      by_fault (BlocksTooDeep line) h = first (BlocksTooDeep line) h
-      by_fault (InlinesTooDeep leaf) h = first (InlinesTooDeep leaf) h
-      by_fault NoMemory h = tt
-      by_fault ReadFailed h = absurd h
-      by_fault (WriteFailed written) h = absurd h
-      by_fault (Unspellable why) h = absurd h
-      by_fault (BadExampleFile line) h = absurd h
-      by_fault (ExampleDiffers number) h = absurd h
 
 -- the element at a place, and what stands behind it
 pub drop_at : {X : Type 0} (xs : List X) (k : ℕ) (d : X) → k < length xs → d ≡ get_or xs k d → drop k xs ≡ d ∷ drop (k + 1) xs

@@ -16,8 +16,8 @@ use Rattle.cm_scan.specs.Brackets.{defined_in}
 use Rattle.std.specs.Prelude.{option_map, None}
 use Rattle.cm_tool.specs.declared.fault.Fault.{Fault}
 use Rattle.cm_tool.specs.declared.fault.Fault.TheVariants.{InlinesTooDeep}
-use Rattle.cm_tool.specs.declared.leaf_walk.LeafWalk.{LeafWalk}
-use Rattle.cm_tool.specs.declared.leaf_walk.Unread.{Unread}
+use Rattle.cm_tool.specs.declared.outputs.leaf_walk.LeafWalk.{LeafWalk}
+use Rattle.cm_tool.specs.declared.outputs.leaf_walk.Unread.{Unread}
 use Rattle.cm_tool.specs.Leaves.{depths_in, first_leaf_past, leaf_depths}
 use Rattle.cm_tool.specs.Parsing.{TellsFault}
 use Rattle.cm_tool.specs.steps.Items.{items_leaf_depths, items_read}
@@ -98,6 +98,39 @@ module _ (first now : LeafWalk) (from at to : ℕ) (same : now.unread ≡ first.
     item_less_deep =
         subst (λ unread. blocks_depth (item_in unread.raw item) < items_depth (slice_range first.unread.raw.items from to)) (sym same)
         (item_depth from at to begins less first.unread.raw.items (item_in first.unread.raw item) ends item_there)
+
+-- ---- one more block, or item, of those between two places: its leaves come behind those that have been read
+
+module _ (first now : LeafWalk) (from at to : ℕ) (begins : from ≤ at) (less : at < to) where
+  module _ (so_far : Reads first now (leaf_depths (blocks_read_at first.unread from to)) (leaf_depths (blocks_read_at first.unread at to)))
+      (block : RawBlock) (ends : to ≤ length first.unread.raw.blocks) (is : block_in now.unread.raw block ≡ get_or now.unread.raw.blocks at (block_in now.unread.raw block)) where
+    next_block : leaf_depths (blocks_read_at first.unread at to) ≡ depths_in (block_read_of now.unread block) ++ leaf_depths (blocks_read_at first.unread (at + 1) to)
+    next_block = ap leaf_depths (blocks_first first now from at to so_far.0 begins less block ends is)
+
+    pub block_told : (fault : Fault) → TellsOf now fault (depths_in (block_read_of now.unread block)) → TellsOf first fault (leaf_depths (blocks_read_at first.unread from to))
+    block_told = reads_told first now (leaf_depths (blocks_read_at first.unread from to)) (depths_in (block_read_of now.unread block))
+        (leaf_depths (blocks_read_at first.unread (at + 1) to)) (leaf_depths (blocks_read_at first.unread at to)) next_block so_far
+
+    pub block_next : (behind : LeafWalk) → HasRead now behind (depths_in (block_read_of now.unread block))
+        → Reads first behind (leaf_depths (blocks_read_at first.unread from to)) (leaf_depths (blocks_read_at first.unread (at + 1) to))
+    block_next = reads_next first now (leaf_depths (blocks_read_at first.unread from to)) (depths_in (block_read_of now.unread block))
+        (leaf_depths (blocks_read_at first.unread (at + 1) to)) (leaf_depths (blocks_read_at first.unread at to)) next_block so_far
+
+  module _ (so_far : Reads first now (items_leaf_depths (items_read_at first.unread from to)) (items_leaf_depths (items_read_at first.unread at to)))
+      (item : RawItem) (ends : to ≤ length first.unread.raw.items) (is : item_in now.unread.raw item ≡ get_or now.unread.raw.items at (item_in now.unread.raw item)) where
+    next_item : items_leaf_depths (items_read_at first.unread at to)
+        ≡ leaf_depths (blocks_read_at now.unread item.from item.to) ++ items_leaf_depths (items_read_at first.unread (at + 1) to)
+    next_item = ap items_leaf_depths (items_first first now from at to so_far.0 begins less item ends is)
+
+    pub item_told : (fault : Fault) → TellsOf now fault (leaf_depths (blocks_read_at now.unread item.from item.to))
+        → TellsOf first fault (items_leaf_depths (items_read_at first.unread from to))
+    item_told = reads_told first now (items_leaf_depths (items_read_at first.unread from to)) (leaf_depths (blocks_read_at now.unread item.from item.to))
+        (items_leaf_depths (items_read_at first.unread (at + 1) to)) (items_leaf_depths (items_read_at first.unread at to)) next_item so_far
+
+    pub item_next : (behind : LeafWalk) → HasRead now behind (leaf_depths (blocks_read_at now.unread item.from item.to))
+        → Reads first behind (items_leaf_depths (items_read_at first.unread from to)) (items_leaf_depths (items_read_at first.unread (at + 1) to))
+    item_next = reads_next first now (items_leaf_depths (items_read_at first.unread from to)) (leaf_depths (blocks_read_at now.unread item.from item.to))
+        (items_leaf_depths (items_read_at first.unread (at + 1) to)) (items_leaf_depths (items_read_at first.unread at to)) next_item so_far
 
 -- ---- how deep the leaves of a block nest
 

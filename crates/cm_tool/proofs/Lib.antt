@@ -15,7 +15,8 @@ pub mod ReadLemmas
 pub mod ReportingLemmas
 pub mod RewritingLemmas
 pub mod SettledLemmas
-pub mod SourceLemmas
+pub mod PlainSourceLemmas
+pub mod TellingLemmas
 pub mod TextLemmas
 pub mod WithinLemmas
 pub mod PassedLemmas

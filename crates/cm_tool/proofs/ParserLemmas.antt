@@ -25,14 +25,14 @@ use Rattle.cm_block.specs.Parser.{StandsFor as HasTaken, TellsDepth}
 use Rattle.cm_block.proofs.Depths.{too_deep_stays}
 use Rattle.cm_tool.specs.declared.fault.Fault.{Fault}
 use Rattle.cm_tool.specs.declared.fault.Fault.TheVariants.{BlocksTooDeep, InlinesTooDeep}
-use Rattle.cm_tool.specs.Fault.{told, refused}
+use Rattle.cm_tool.specs.ToldFaults.{told, refused}
 use Rattle.cm_tool.specs.Leaves.{first_leaf_past}
 use Rattle.cm_scan.specs.Documents.{with_inlines}
 use Rattle.cm_tool.specs.Document.{doc_of}
 use Rattle.cm_scan.specs.Documents.{tree_of}
 use Rattle.cm_tool.specs.Faults.{fault_of, settled_fault_of}
 use Rattle.cm_tool.specs.Parsing.{Goes, TellsFault, Makes}
-use Rattle.cm_tool.specs.steps.Ends.{IsOutline}
+use Rattle.cm_tool.specs.steps.ReadingSteps.{IsOutline}
 use Rattle.cm_tool.proofs.EndedLemmas.{all_are_lines, ended_are_lines, ended_stay}
 use Rattle.cm_tool.specs.steps.FaultOrder.{leaf_deep, of_four, of_two}
 use Rattle.cm_tool.proofs.OrderLemmas.{faults_in_order}

@@ -8,9 +8,9 @@ use Rattle.cm_tool.specs.declared.fault.Fault.{Fault}
 use Rattle.cm_tool.specs.declared.fault.Fault.TheVariants.{NotUtf8, TooLong, BlocksTooDeep, InlinesTooDeep, NoMemory, ReadFailed, WriteFailed, Unspellable, BadExampleFile, ExampleDiffers}
 use Rattle.cm_tool.specs.Faults.{fault_of, settled_fault_of}
 use Rattle.cm_block.specs.declared.parser.Outline.{Outline}
-use Rattle.cm_tool.specs.Parsing.{ParserView, StandsFor, TellsFault, Finishes}
+use Rattle.cm_tool.specs.Parsing.{ParserView, HasTakenIn, TellsFault, Finishes}
 use Rattle.cm_tool.specs.Reading.{SourceView, HasFailed, RefusesBy, Refuses, Reads, ReadWhole}
-use Rattle.cm_tool.specs.steps.Ends.{IsOutline, ReadsOutline}
+use Rattle.cm_tool.specs.steps.ReadingSteps.{IsOutline, ReadsOutline}
 
 -- these bytes have been read so far, and no read has failed
 pub record SoFar (source now : SourceView) (read : List ℕ) : Type 0 where
@@ -59,9 +59,9 @@ end_told settled whole (ExampleDiffers number) source later same at_end sound h 
 
 -- a parser that has been given all the bytes answers their outline
 pub outline_read : (limits : LimitsView) (source later : SourceView) (read : List ℕ) (parser : ParserView)
-    → (later.failed ≡ source.failed) × IsAtEnd later.remaining × StandsFor limits parser read × (settled_fault_of limits read ≡ None) → (r : Result Outline Fault)
-    → IfOk r (λ outline. (limits : LimitsView) (bytes : List ℕ) → StandsFor limits parser bytes → IsOutline limits bytes outline)
-    → IfErr r (λ fault. (limits : LimitsView) (bytes : List ℕ) → StandsFor limits parser bytes → TellsFault fault (fault_of limits bytes))
+    → (later.failed ≡ source.failed) × IsAtEnd later.remaining × HasTakenIn limits parser read × (settled_fault_of limits read ≡ None) → (r : Result Outline Fault)
+    → IfOk r (λ outline. (limits : LimitsView) (bytes : List ℕ) → HasTakenIn limits parser bytes → IsOutline limits bytes outline)
+    → IfErr r (λ fault. (limits : LimitsView) (bytes : List ℕ) → HasTakenIn limits parser bytes → TellsFault fault (fault_of limits bytes))
     → ReadsOutline r limits read source later
 outline_read limits source later read parser taken (Ok outline) made told = (taken.0, taken.1, made limits read taken.2)
 outline_read limits source later read parser taken (Err fault) made told =

@@ -9,7 +9,7 @@ use Rattle.cm_tool.specs.declared.fault.Fault.TheVariants.{WriteFailed}
 use Rattle.cm_tool.specs.Faults.{fault_of}
 use Rattle.cm_tool.specs.Reading.{SourceView, ReadWhole}
 use Rattle.cm_tool.specs.Rewriting.{Rewrites, IsLasting, kept_tree}
-use Rattle.cm_tool.specs.steps.Sources.{Spelled}
+use Rattle.cm_tool.specs.steps.PlainSources.{Spelled}
 use Rattle.cm_tool.proofs.LastingLemmas.{is_lasting}
 
 -- what is spelled lasts

@@ -24,10 +24,11 @@ use Rattle.cm_scan.specs.Blocks.{first_too_deep}
 use Rattle.cm_scan.specs.Laws.{AreLines}
 use Rattle.cm_block.proofs.Depths.{too_deep_stays}
 use Rattle.cm_tool.specs.declared.fault.Fault.{Fault}
-use Rattle.cm_tool.specs.declared.fault.Fault.TheVariants.{NotUtf8, TooLong, BlocksTooDeep, InlinesTooDeep, NoMemory, ReadFailed, WriteFailed, Unspellable, BadExampleFile, ExampleDiffers}
+use Rattle.cm_tool.specs.declared.fault.Fault.TheVariants.{BlocksTooDeep, InlinesTooDeep}
 use Rattle.cm_tool.specs.Parsing.{TellsFault}
-use Rattle.cm_tool.specs.Fault.{told}
+use Rattle.cm_tool.specs.ToldFaults.{told}
 use Rattle.cm_tool.specs.Faults.{SettledIsTold, fault_of, settled_fault_of}
+use Rattle.cm_tool.proofs.TellingLemmas.{tells_other}
 use Rattle.cm_tool.specs.steps.FaultOrder.{of_two, of_four, fault_met, settled_fault_met, ended_deep, all_deep, leaf_deep}
 use Rattle.cm_tool.proofs.OrderLemmas.{faults_in_order}
 use Rattle.cm_tool.proofs.EndedLemmas.{wider, cut_on, ended_stay, ended_are_lines}
@@ -229,19 +230,7 @@ settled_is_told limits bytes fault = (
 
 -- a fault that bytes settle is theirs where they are all
 pub tells_whole : (limits : LimitsView) (bytes : List ℕ) (fault : Fault) → TellsFault fault (settled_fault_of limits bytes) → TellsFault fault (fault_of limits bytes)
-tells_whole limits bytes fault tells = by_fault fault tells
+tells_whole limits bytes fault tells = tells_other (settled_fault_of limits bytes) (fault_of limits bytes) whole fault tells
   where
     whole : (f : Fault) → settled_fault_of limits bytes ≡ Some f → fault_of limits bytes ≡ Some f
     whole f e = ap (fault_of limits) (sym (append-nil bytes)) ∙ (settled_is_told limits bytes f).0 e [] (All-nil (λ b. b < 256))
-
-    by_fault : (f : Fault) → TellsFault f (settled_fault_of limits bytes) → TellsFault f (fault_of limits bytes)
-    by_fault (NotUtf8 at) e = whole (NotUtf8 at) e
-    by_fault (TooLong at) e = whole (TooLong at) e
-    by_fault (BlocksTooDeep line) e = whole (BlocksTooDeep line) e
-    by_fault (InlinesTooDeep leaf) e = whole (InlinesTooDeep leaf) e
-    by_fault NoMemory e = tt
-    by_fault ReadFailed e = absurd e
-    by_fault (WriteFailed written) e = absurd e
-    by_fault (Unspellable why) e = absurd e
-    by_fault (BadExampleFile line) e = absurd e
-    by_fault (ExampleDiffers number) e = absurd e

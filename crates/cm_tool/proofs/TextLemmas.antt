@@ -9,7 +9,7 @@ use Rattle.std.proofs.lemmas.Bool.{ltb-false}
 use Rattle.std.proofs.lemmas.Str.{utf8_valid_len_le}
 use Rattle.cm_text.proofs.FeedLemmas.{goes_on}
 use Rattle.cm_text.proofs.Utf8Lemmas.{valid_front-IsUtf8}
-use Rattle.cm_tool.specs.Fault.{told}
+use Rattle.cm_tool.specs.ToldFaults.{told}
 use Rattle.cm_tool.specs.Parsing.{TellsFault}
 
 -- what a feed answers is told as the fault of the bytes

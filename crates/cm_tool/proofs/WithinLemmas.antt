@@ -18,7 +18,7 @@ use Rattle.cm_source.specs.Spelling.{spelling_of}
 use Rattle.cm_source.proofs.DocumentsBack.{trees_read_back}
 use Rattle.cm_tool.specs.declared.fault.Fault.{Fault}
 use Rattle.cm_tool.specs.declared.fault.Fault.TheVariants.{BlocksTooDeep, InlinesTooDeep}
-use Rattle.cm_tool.specs.Fault.{told}
+use Rattle.cm_tool.specs.ToldFaults.{told}
 use Rattle.cm_tool.specs.Faults.{fault_of, fault_by, ended_too_deep}
 use Rattle.cm_tool.specs.Leaves.{first_leaf_past, leaf_depths}
 use Rattle.cm_tool.specs.Within.{IsWithin, NoFaultJustWithin, SpelledWithoutFault}

@@ -9,7 +9,7 @@ use Rattle.cm_text.specs.Settled.{AreBytes}
 use Rattle.cm_scan.specs.Blocks.{first_too_deep}
 use Rattle.cm_tool.specs.declared.fault.Fault.{Fault}
 use Rattle.cm_tool.specs.declared.fault.Fault.TheVariants.{BlocksTooDeep, InlinesTooDeep}
-use Rattle.cm_tool.specs.Fault.{told}
+use Rattle.cm_tool.specs.ToldFaults.{told}
 use Rattle.cm_tool.specs.Leaves.{first_leaf_past}
 use Rattle.cm_scan.specs.Documents.{tree_of}
 

@@ -1,4 +1,4 @@
--- What a parser stands for: the bytes so far, whose ended lines have been handed on.
+-- What a parser has taken in: the bytes so far, whose ended lines have been handed on.
 use Rattle.std.specs.Prelude.{◌≡◌, ℕ, false, List, length, Option, Some, None, Result, Ok, Err, ⊤}
 use Rattle.cm_text.specs.Limits.{LimitsView}
 use Rattle.cm_text.specs.Feed.{Feed, Goes as FeedGoes, cut_bytes}
@@ -25,8 +25,8 @@ pub record Goes (limits : LimitsView) (feed : Feed) (blocks : BlockParser) (byte
   pub feeds : FeedGoes feed bytes (length (cut_bytes limits.bytes bytes).ended)
   pub handed : HasTaken blocks (cut_bytes limits.bytes bytes).ended
 
--- A parser with these limits has been given these bytes, which settle no fault, and can be given more.
-pub record StandsFor (limits : LimitsView) (parser : ParserView) (bytes : List ℕ) : Type 0 where
+-- A parser with these limits has taken in these bytes, which settle no fault, and can take in more.
+pub record HasTakenIn (limits : LimitsView) (parser : ParserView) (bytes : List ℕ) : Type 0 where
   pub no_fault : parser.fault ≡ None
   pub goes : Goes limits parser.feed parser.blocks bytes
 

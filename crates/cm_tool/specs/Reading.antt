@@ -9,7 +9,7 @@ use Rattle.cm_tree.specs.declared.tree.Doc.{Doc}
 use Rattle.cm_tool.specs.declared.fault.Fault.{Fault}
 use Rattle.cm_tool.specs.declared.fault.Fault.TheVariants.{NotUtf8, TooLong, BlocksTooDeep, InlinesTooDeep, NoMemory, ReadFailed}
 use Rattle.cm_tool.specs.Document.{doc_of}
-use Rattle.cm_tool.specs.Fault.{told}
+use Rattle.cm_tool.specs.ToldFaults.{told}
 use Rattle.cm_tool.specs.Faults.{fault_of, settled_fault_of}
 
 -- a source, by the bytes still to come, where they are known, and the number of failed reads

@@ -48,9 +48,9 @@ Rewrites answer limits bytes from left old new =
     Writes (λ old new text. IsUnwritten old new) rewritten answer limits bytes from left old new × LastingIfWritten answer limits bytes
 
 -- the end of the input: the spelling of its tree without definitions, or the input's fault, or why the tree can't be spelled
-abbrev pub MakesSource : Result (String Global) Fault → LimitsView → List ℕ → Type 0
-MakesSource (Ok text) limits bytes =
+abbrev pub MakesPlainSource : Result (String Global) Fault → LimitsView → List ℕ → Type 0
+MakesPlainSource (Ok text) limits bytes =
     (fault_of limits bytes ≡ None) × IsLasting limits bytes × (string_bytes text ≡ rewritten limits.rules bytes)
-MakesSource (Err (Unspellable why)) limits bytes =
+MakesPlainSource (Err (Unspellable why)) limits bytes =
     (fault_of limits bytes ≡ None) × (refusal_of limits.rules (kept_tree limits.rules bytes) ≡ Some why)
-MakesSource (Err fault) limits bytes = TellsFault fault (fault_of limits bytes)
+MakesPlainSource (Err fault) limits bytes = TellsFault fault (fault_of limits bytes)

@@ -4,7 +4,7 @@ pub mod Handing
 pub mod Numbering
 pub mod Items
 pub mod LeafWalks
-pub mod Ends
+pub mod ReadingSteps
 pub mod ExampleSteps
-pub mod Sources
+pub mod PlainSources
 pub mod Texts

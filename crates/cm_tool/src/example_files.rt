@@ -1,12 +1,20 @@
-//! The examples of a file, line by line.
-ghost use Rattle.std.specs.Prelude.{◌≡◌, ◌≢◌, ◌∷◌, [], ◌++◌, ◌+◌, ◌-◌, ◌^◌, ◌<◌, ◌≤◌, length, map, option_map, string_bytes, IfOk, IfErr, OnOk, IfSome, IfNone, Ok};
+//! Files of examples: their lines, what comes of their sources, and the report.
+ghost use Rattle.std.specs.Prelude.{◌≡◌, ◌≢◌, ◌∷◌, [], ◌++◌, ◌+◌, ◌-◌, ◌^◌, ◌<◌, ◌≤◌};
+ghost use Rattle.std.specs.Prelude.{length, map, option_map, string_bytes, IfOk, IfErr, OnOk};
+ghost use Rattle.std.specs.Prelude.{IfSome, IfNone, Ok};
 ghost use Rattle.cm_text.specs.Lines.{lines_of};
-ghost use Rattle.cm_tool.specs.ExampleFiles.{example_line, examples_from, examples_of, put_example, InSource, Outside};
+ghost use Rattle.cm_tool.specs.ExampleFiles.{example_line, examples_of, put_example};
 ghost use Rattle.cm_tool.specs.steps.ExampleSteps.{example_of, part_of, part_from, TellsUnclosed};
+ghost use Rattle.cm_tool.specs.steps.ExampleSteps.{examples_left, examples_opened};
+
+mod examining;
+mod reporting;
 
 use crate::fault::Fault;
 use cm_text::cut_at;
+pub use examining::{Difference, Report, examples, examples_by};
 use memchr::memchr2;
+pub(crate) use reporting::report;
 use std::alloc::{AllocError, Global};
 
 /// The line that opens an example.
@@ -52,7 +60,8 @@ fn first_line(text: &str) -> (&str, &str)
 impl<'a> Lines<'a> {
     /// Takes the next line.
     fn next(&mut self) -> Option<&'a str>
-        ensures line { IfSome result (λ line. lines_of self.old.rest.now ≡ line.now ∷ lines_of self.new.rest.now) }
+        ensures line { IfSome result (λ line.
+            lines_of self.old.rest.now ≡ line.now ∷ lines_of self.new.rest.now) }
         ensures taken { IfSome result (λ _. self.new.taken ≡ self.old.taken + 1) }
         ensures shorter { IfSome result (λ _. length self.new.rest.now < length self.old.rest.now) }
         ensures none { IfNone result (lines_of self.old.rest.now ≡ []) }
@@ -70,7 +79,8 @@ impl<'a> Lines<'a> {
     /// Takes the lines up to the one that ends them, and that one, and answers their text. None where they
     /// close the example before, or the file ends.
     fn take_part(&mut self, alloc: Global, end: &str) -> Result<Option<String>, AllocError>
-        ensures part { IfOk result (λ part. option_map (λ text. part_of (string_bytes text) self.new.taken self.new.rest.now) part
+        ensures part { IfOk result (λ part.
+            option_map (λ text. part_of (string_bytes text) self.new.taken self.new.rest.now) part
             ≡ part_from end.now [] (self.old.taken + 1) (lines_of self.old.rest.now)) }
         ensures shorter { length self.new.rest.now ≤ length self.old.rest.now }
     {
@@ -89,10 +99,10 @@ impl<'a> Lines<'a> {
 
     /// Takes the lines of an example of which the opening line was taken last.
     fn take_example(&mut self, alloc: Global) -> Result<Example, Fault>
-        ensures example { IfOk result (λ example. examples_from (InSource self.old.taken []) (self.old.taken + 1) (lines_of self.old.rest.now)
-            ≡ put_example (example_of example) (examples_from Outside (self.new.taken + 1) (lines_of self.new.rest.now))) }
-        ensures unclosed { IfErr result (λ fault. TellsUnclosed fault
-            (examples_from (InSource self.old.taken []) (self.old.taken + 1) (lines_of self.old.rest.now))) }
+        ensures example { IfOk result (λ example. examples_opened self.old.taken self.old.rest.now
+            ≡ put_example (example_of example) (examples_left self.new.taken self.new.rest.now)) }
+        ensures unclosed { IfErr result (λ fault.
+            TellsUnclosed fault (examples_opened self.old.taken self.old.rest.now)) }
         ensures shorter { length self.new.rest.now ≤ length self.old.rest.now }
     {
         let unclosed = Fault::BadExampleFile { line: self.taken };

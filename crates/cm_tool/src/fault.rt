@@ -45,7 +45,7 @@ pub enum Fault {
 
 impl From<TextFault> for Fault {
     ghost use Rattle.std.specs.Prelude.{◌≡◌};
-    ghost use Rattle.cm_tool.specs.Fault.{told};
+    ghost use Rattle.cm_tool.specs.ToldFaults.{told};
 
     ghost from_gives = { λ fault e. e ≡ told fault };
 
@@ -60,7 +60,7 @@ impl From<TextFault> for Fault {
 
 impl From<BlockFault> for Fault {
     ghost use Rattle.std.specs.Prelude.{◌≡◌};
-    ghost use Rattle.cm_tool.specs.Fault.{refused};
+    ghost use Rattle.cm_tool.specs.ToldFaults.{refused};
 
     ghost from_gives = { λ fault e. e ≡ refused fault };
 
@@ -109,7 +109,7 @@ impl From<WriteFailed> for Fault {
 
 impl From<HtmlFault> for Fault {
     ghost use Rattle.std.specs.Prelude.{◌≡◌};
-    ghost use Rattle.cm_tool.specs.Fault.{unwritten};
+    ghost use Rattle.cm_tool.specs.ToldFaults.{unwritten};
 
     ghost from_gives = { λ fault e. e ≡ unwritten fault };
 
@@ -123,7 +123,7 @@ impl From<HtmlFault> for Fault {
 
 impl From<SourceFault> for Fault {
     ghost use Rattle.std.specs.Prelude.{◌≡◌};
-    ghost use Rattle.cm_tool.specs.Fault.{unspelled};
+    ghost use Rattle.cm_tool.specs.ToldFaults.{unspelled};
 
     ghost from_gives = { λ fault e. e ≡ unspelled fault };
 

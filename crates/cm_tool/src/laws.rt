@@ -1,10 +1,10 @@
 //! Laws: facts about the definitions alone. Each is the contract of a public function with an empty body.
 ghost use Rattle.cm_tool.specs.ExampleLaws.{ExamplesAreDetermined, ExamplesAreTold, ExamplesOfText};
-ghost use Rattle.cm_tool.specs.Examples.{Examples};
+ghost use Rattle.cm_tool.specs.HtmlExamples.{HtmlExamples};
 ghost use Rattle.cm_tool.specs.Faults.{SettledIsTold};
-ghost use Rattle.cm_tool.specs.FileExamples.{FileExamples};
+ghost use Rattle.cm_tool.specs.ReportExamples.{ReportExamples};
 ghost use Rattle.cm_tool.specs.Owners.{OneOwnerALine, RunsInOrder};
-ghost use Rattle.cm_tool.specs.ReadingExamples.{ReadingExamples};
+ghost use Rattle.cm_tool.specs.FaultExamples.{FaultExamples};
 ghost use Rattle.cm_tool.specs.TextMarkup.{HeadingLevels, TextIsNoMarkup, TextsFromStrangers};
 ghost use Rattle.cm_tool.specs.Within.{NoFaultJustWithin, SpelledWithoutFault};
 ghost use Rattle.cm_tool.specs.steps.FaultOrder.{FaultsInOrder};
@@ -12,11 +12,11 @@ ghost use Rattle.cm_tool.specs.steps.FaultOrder.{FaultsInOrder};
 /// Worked examples, by computation.
 pub fn worked_examples()
     // Of faults.
-    ensures reading { ReadingExamples }
+    ensures faults { FaultExamples }
     // From the bytes of a text to its HTML.
-    ensures html { Examples }
+    ensures html { HtmlExamples }
     // From a file of examples to their report.
-    ensures files { FileExamples }
+    ensures files { ReportExamples }
 {}
 
 /// A parser meets faults in an order that gives the fault of the input: first a line that has ended and
@@ -53,16 +53,16 @@ pub fn text_is_no_markup()
     ensures tags { TextIsNoMarkup }
 {}
 
-/// By rules without raw HTML what `convert` writes of any bytes is markup, and its tags are those of the tree.
-/// Each address in it is one that the rules follow, and each class is `language-` and a word.
+/// By rules without raw HTML what `convert` writes of any bytes is markup, and its tags are those of the
+/// tree. Each address in it is one that the rules follow, and each class is `language-` and a word.
 pub fn texts_from_strangers()
     ensures { TextsFromStrangers }
 {}
 
 /// The examples of a file are those that stand among its lines. An opening line is 32 backticks, a space and
-/// `example`. Behind it come the lines of the source, a line `.`, the lines of the HTML, and a closing line of
-/// 32 backticks. Lines outside of examples are passed over. An opening line behind which a closing line comes
-/// before the line `.`, or none comes, is the fault of the file: the first one is told.
+/// `example`. Behind it come the lines of the source, a line `.`, the lines of the HTML, and a closing line
+/// of 32 backticks. Lines outside of examples are passed over. An opening line behind which a closing line
+/// comes before the line `.`, or none comes, is the fault of the file: the first one is told.
 pub fn examples_by_lines()
     ensures text { ExamplesOfText }
     ensures told { ExamplesAreTold }

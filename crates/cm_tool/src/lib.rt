@@ -1,5 +1,5 @@
-//! From the bytes of a CommonMark text, in whatever pieces they come, to its document, its HTML and its plain source; and the
-//! program `cmk` round that.
+//! From the bytes of a CommonMark text, in whatever pieces they come, to its document, its HTML and its plain
+//! source; and the program `cmk` round that.
 //!
 //! Begin with [`html_of`], [`doc_of`] or [`source_of`] for a text in memory.
 //!
@@ -29,33 +29,16 @@
 //! ```
 #![tactic(auto)]
 
-mod conversion;
-mod examining;
 mod example_files;
 mod fault;
-mod in_memory;
 pub mod laws;
-mod leaf_walk;
-mod listing;
-mod outline_html;
-mod outline_source;
-mod outline_tree;
-mod outlines;
-mod parser;
+mod outputs;
 mod reading;
-mod reporting;
-mod rewriting;
 mod running;
-mod taking_in;
-mod texts;
 
 pub use cm_command::{Job, Stop, Task, task};
-pub use conversion::convert;
-pub use examining::{Difference, Report, examples, examples_by};
+pub use example_files::{Difference, Report, examples, examples_by};
 pub use fault::Fault;
-pub use in_memory::{doc_of, html_of, source_of};
-pub use parser::Parser;
-pub use reading::read;
-pub use rewriting::rewrite;
+pub use outputs::{convert, rewrite};
+pub use reading::{Parser, doc_of, html_of, read, read_text, source_of};
 pub use running::{run, tell};
-pub use texts::read_text;

@@ -1,17 +1,26 @@
-//! Reading a source to its end.
+//! Reading: from bytes to the outline of their document. They come from a source, which is read to its end,
+//! in pieces, or as a text in memory.
 ghost use Rattle.std.specs.Prelude.{◌≡◌, ℕ, ◌-◌, ◌^◌, ◌<◌, List, IfOk, length};
 ghost use Rattle.std.specs.Io.KnownBytes.{Consumes};
 ghost use Rattle.cm_tool.specs.Reading.{Reads};
-ghost use Rattle.cm_tool.specs.steps.Ends.{ReadsOutline};
+ghost use Rattle.cm_tool.specs.steps.ReadingSteps.{ReadsOutline};
+
+mod in_memory;
+mod parser;
+mod taking_in;
+mod texts;
 
 use crate::fault::Fault;
-use crate::outlines::doc_of_outline;
-use crate::parser::{PART, Parser};
-use crate::taking_in::take_all;
+use crate::outputs::doc_of_outline;
 use cm_block::Outline;
 use cm_text::{Limits, Source};
 use cm_tree::Doc;
+pub use in_memory::{doc_of, html_of, source_of};
+use parser::PART;
+pub use parser::Parser;
 use std::alloc::{AllocError, Global};
+use taking_in::take_all;
+pub use texts::read_text;
 
 pub(crate) fn zeros(alloc: Global, count: usize) -> Result<Vec<u8>, AllocError>
     ensures { IfOk result (λ zeros. length zeros.items ≡ count) }

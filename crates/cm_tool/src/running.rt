@@ -4,11 +4,9 @@ ghost use Rattle.std.specs.Io.KnownBytes.{Consumes};
 ghost use Rattle.cm_tool.specs.declared.fault.Fault as faults;
 ghost use Rattle.cm_tool.specs.Running.{Does, Offered, OfferedLine, Tells, RunsTo};
 
-use crate::conversion::convert;
+use crate::example_files::report;
 use crate::fault::Fault;
-use crate::listing::list;
-use crate::reporting::report;
-use crate::rewriting::rewrite;
+use crate::outputs::{convert, list, rewrite};
 use cm_command::{Job, Stop, Task};
 use cm_text::{Sink, Source, WriteFailed, write_all};
 use std::alloc::Global;

@@ -1,6 +1,7 @@
 //! The program `cmk`: from CommonMark to HTML, to a listing of its tree, or to plain source.
 //!
-//! `main` asks `cm_tool` for the task that the words name, and has it done. docs/cmk.md describes the program.
+//! `main` asks `cm_tool` for the task that the words name, and has it done. docs/cmk.md describes the
+//! program.
 #![tactic(auto)]
 
 ghost use Rattle.std.specs.Prelude.{◌≡◌, ◌+◌, ◌-◌, ◌^◌, ◌<◌, None, is_ok, if◌then◌else◌};

@@ -10,7 +10,7 @@ use Rattle.cm_tool.specs.declared.fault.Fault.{Fault}
 use Rattle.cm_tool.specs.declared.fault.Fault.TheVariants.{NotUtf8, TooLong, BlocksTooDeep, InlinesTooDeep, NoMemory, ReadFailed, WriteFailed, Unspellable, BadExampleFile, ExampleDiffers}
 use Rattle.cm_tool.specs.Faults.{fault_of}
 use Rattle.cm_tool.specs.Parsing.{TellsFault}
-use Rattle.cm_tool.specs.Rewriting.{MakesSource, kept_tree}
+use Rattle.cm_tool.specs.Rewriting.{MakesPlainSource, kept_tree}
 use Rattle.cmk_c.specs.Calls.{Gives, ended, rewriting_fault}
 
 -- a text that was made, if there was memory for it
@@ -46,7 +46,7 @@ module _ (limits : LimitsView) (text : List ℕ) where
   pub no_fault : fault_of limits text ≡ None → IsSpellable limits.rules (kept_tree limits.rules text) → rewriting_fault limits text ≡ None
   no_fault none spellable = behind none ∙ ap (option_map Unspellable) spellable
 
-  pub unrewritten : (fault : Fault) (output : List ℕ) → MakesSource (Err fault) limits text → Gives (rewriting_fault limits text) output (Err fault)
+  pub unrewritten : (fault : Fault) (output : List ℕ) → MakesPlainSource (Err fault) limits text → Gives (rewriting_fault limits text) output (Err fault)
   unrewritten (NotUtf8 at) output e = ap (λ f. option_or f (option_map Unspellable (refusal_of limits.rules (kept_tree limits.rules text)))) e
   unrewritten (TooLong at) output e = ap (λ f. option_or f (option_map Unspellable (refusal_of limits.rules (kept_tree limits.rules text)))) e
   unrewritten (BlocksTooDeep line) output e = ap (λ f. option_or f (option_map Unspellable (refusal_of limits.rules (kept_tree limits.rules text)))) e

@@ -22,7 +22,7 @@ use Rattle.cm_source.specs.Refusals.{refusal_of}
 use Rattle.cm_source.specs.declared.why.Why.{Why}
 use Rattle.cm_tool.specs.declared.fault.Fault.{Fault}
 use Rattle.cm_tool.specs.declared.fault.Fault.TheVariants.{NotUtf8, TooLong, BlocksTooDeep, InlinesTooDeep, NoMemory, ReadFailed, WriteFailed, Unspellable, BadExampleFile, ExampleDiffers}
-use Rattle.cm_tool.specs.Fault.{told}
+use Rattle.cm_tool.specs.ToldFaults.{told}
 use Rattle.cm_tool.specs.Faults.{fault_by, fault_of, sound_front}
 use Rattle.cm_tool.specs.Rewriting.{kept_tree}
 use Rattle.cm_tool.proofs.EndedLemmas.{all_are_lines, front_are_lines}

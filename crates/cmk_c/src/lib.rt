@@ -1,7 +1,8 @@
 //! CommonMark for C: a text to HTML, to the listing of its tree, or to plain source.
 //!
-//! A call takes the text as a pointer and a length, and has no state of its own. `include/cmk.h` declares the calls for C. Begin
-//! with [`cmk_html`]; `examples/render.c` is a whole program, which the gate compiles and runs.
+//! A call takes the text as a pointer and a length, and has no state of its own. `include/cmk.h` declares the
+//! calls for C. Begin with [`cmk_html`]; `examples/render.c` is a whole program, which the gate compiles and
+//! runs.
 //!
 //! ```c
 //! cmk_options options = CMK_OPTIONS;

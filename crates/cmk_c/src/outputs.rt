@@ -14,7 +14,8 @@ use std::alloc::Global;
 
 /// The bytes of a text with a NUL behind them, if there was memory for it.
 fn with_nul(text: Option<String>) -> Result<Vec<u8>, Fault>
-    ensures value { (output : List ℕ) → IfSome text (λ text. string_bytes text ≡ output) → IfOk result (λ made. made.items ≡ ended output) }
+    ensures value { (output : List ℕ) → IfSome text (λ text. string_bytes text ≡ output)
+        → IfOk result (λ made. made.items ≡ ended output) }
     ensures memory { IfErr result (λ fault. fault ≡ NoMemory) }
 {
     let Some(text) = text else {

@@ -19,8 +19,8 @@ pub(crate) struct Done<'a> {
 }
 
 impl Done<'_> {
-    /// Whether the bytes of the text settle no fault, so that they are read to their end: of a file of examples
-    /// too deep lines are none.
+    /// Whether the bytes of the text settle no fault, so that they are read to their end: of a file of
+    /// examples too deep lines are none.
     fn is_unsettled(&self) -> bool {
         let is_of_bytes = self.errors.starts_with(b"cmk: F1 ")
             || self.errors.starts_with(b"cmk: F2 ");
@@ -28,8 +28,8 @@ impl Done<'_> {
         !is_of_bytes && !is_too_deep
     }
 
-    /// That the task, done on the text whole with so much room, comes to a front of its output, and that the text
-    /// is read to its end.
+    /// That the task, done on the text whole with so much room, comes to a front of its output, and that the
+    /// text is read to its end.
     fn is_written(&self, space: Space) -> Result<(), Trouble> {
         let alloc = self.alloc;
         let given = (pieces(alloc, self.input, Cut::Nowhere)?, false);
@@ -53,8 +53,8 @@ impl Done<'_> {
         Ok(())
     }
 
-    /// That nothing but a failed read is told where the reader fails behind so many bytes, and that no read is made
-    /// after it.
+    /// That nothing but a failed read is told where the reader fails behind so many bytes, and that no read
+    /// is made after it.
     fn is_failed(&self, place: usize) -> Result<(), Trouble> {
         let alloc = self.alloc;
         let front = self.input.get(..place).unwrap_or(self.input);

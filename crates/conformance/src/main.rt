@@ -1,8 +1,9 @@
-//! Reads tables of cases from the files that its arguments name. It says how many of them come out as the tables say, and for each
-//! other what was wanted and what came.
+//! Reads tables of cases from the files that its arguments name. It says how many of them come out as the
+//! tables say, and for each other what was wanted and what came.
 //!
-//! A file `.cases` has cases of several lines, `.calls` calls of one line. A file `.txt` has examples in the form of the CommonMark
-//! specification, by the older rules in `older.txt`. docs/testing.md says how to add a case.
+//! A file `.cases` has cases of several lines, `.calls` calls of one line. A file `.txt` has examples in the
+//! form of the CommonMark specification, by the older rules in `older.txt`. docs/testing.md says how to add a
+//! case.
 #![tactic(auto)]
 
 mod calls;

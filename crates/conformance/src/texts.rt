@@ -1,4 +1,5 @@
-//! Whole texts: their HTML, their listing and their fault, in every cut, and with readers and writers that fail.
+//! Whole texts: their HTML, their listing and their fault, in every cut, and with readers and writers that
+//! fail.
 
 use crate::examples::FENCE;
 use crate::runs::{Page, READ, SHORT, Space, ample, answered, in_memory, ran, text_read};
@@ -297,8 +298,8 @@ impl Text<'_> {
         }
     }
 
-    /// That a failed read is told where the reader fails behind any byte of a text that has no settled fault, and
-    /// that no read is made after it.
+    /// That a failed read is told where the reader fails behind any byte of a text that has no settled fault,
+    /// and that no read is made after it.
     fn fails_at_each_place(&self) -> Result<(), Trouble> {
         if self.fails || self.input.len() > READ || !self.is_unsettled() {
             return Ok(());
@@ -336,8 +337,8 @@ impl Text<'_> {
         same(alloc, "output in memory", whole, made.as_bytes())
     }
 
-    /// That it comes to what is wanted, however it is cut, however much of the output is taken, and wherever the
-    /// reader fails.
+    /// That it comes to what is wanted, however it is cut, however much of the output is taken, and wherever
+    /// the reader fails.
     fn agrees_in_cuts(&self) -> Result<(), Trouble> {
         for cut in &cuts(self.alloc, self.input.len())? {
             match self.is_read(*cut) {

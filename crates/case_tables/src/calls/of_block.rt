@@ -26,8 +26,8 @@ fn tell(answer: &mut Answer, at: usize, refusal: Option<BlockFault>) -> Result<(
     Ok(())
 }
 
-/// The parser of these limits behind lines. The answer has the number of each line that is refused, counted from 0,
-/// and its fault.
+/// The parser of these limits behind lines. The answer has the number of each line that is refused, counted
+/// from 0, and its fault.
 fn behind(answer: &mut Answer, limits: Limits, lines: &[Line]) -> Result<BlockParser, Trouble> {
     let mut parser = BlockParser::new(answer.alloc, limits);
     for (at, line) in lines.iter().enumerate() {

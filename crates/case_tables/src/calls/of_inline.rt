@@ -31,8 +31,8 @@ fn html_of(
     reader.push_html(html, rules, leaf, table, limit)
 }
 
-/// What one reader reads of leaves, one after another, each as inlines and then as HTML: the inlines of each, or
-/// the faults, and the HTML of all.
+/// What one reader reads of leaves, one after another, each as inlines and then as HTML: the inlines of each,
+/// or the faults, and the HTML of all.
 fn read(
     answer: &mut Answer,
     (rules, limit): (Rules, usize),

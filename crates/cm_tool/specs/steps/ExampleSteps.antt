@@ -5,7 +5,7 @@ use Rattle.cm_text.specs.Lines.{lines_of}
 use Rattle.cm_tool.specs.declared.fault.Fault.{Fault}
 use Rattle.cm_tool.specs.declared.fault.Fault.TheVariants.{BadExampleFile, NoMemory}
 use Rattle.cm_tool.specs.declared.example_files.Example as code
-use Rattle.cm_tool.specs.ExampleFiles.{Example, closing_line, example_line}
+use Rattle.cm_tool.specs.ExampleFiles.{Example, closing_line, example_line, examples_from, InSource, Outside}
 
 abbrev pub example_of : code.Example → Example
 example_of example = record { source = string_bytes example.source; html = string_bytes example.html }
@@ -30,6 +30,14 @@ part_from end so_far number (line ∷ lines) = elim (bytes_eq line end) [
     | false ↦ part_from end (so_far ++ example_line line) (number + 1) lines
   ]
 ]
+
+-- the examples of what is left of a file, where so many of its lines have been taken: outside of examples, and where the last line
+-- that was taken opened one
+abbrev pub examples_left : (taken : ℕ) (rest : List ℕ) → Result (List Example) ℕ
+examples_left taken rest = examples_from Outside (taken + 1) (lines_of rest)
+
+abbrev pub examples_opened : (taken : ℕ) (rest : List ℕ) → Result (List Example) ℕ
+examples_opened taken rest = examples_from (InSource taken []) (taken + 1) (lines_of rest)
 
 -- examples before those that follow them
 abbrev pub put_examples : List Example → Result (List Example) ℕ → Result (List Example) ℕ

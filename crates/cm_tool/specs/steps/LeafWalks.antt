@@ -1,4 +1,5 @@
--- A walk over the blocks of an outline: what is read of them, and what a call of it has read.
+-- A walk over the blocks of an outline: what is read of them, and what a call of it has read. It passes on the words for trees and
+-- leaves that the contracts of walks name too.
 use Rattle.std.specs.Prelude.{◌≡◌, ℕ, ◌≤◌, List, ◌++◌, drop, length}
 use Rattle.std.specs.List.{slice_range}
 use Rattle.std.specs.Vec.Iter.{into_iter_items}
@@ -7,14 +8,18 @@ use Rattle.cm_tree.specs.declared.tree.Inline.{Inline}
 use Rattle.cm_tree.specs.declared.raw_blocks.RawBlock.{RawBlock}
 use Rattle.cm_tree.specs.RawBlocks.{raw_inlines, block_in, blocks_in, ArePlaced}
 use Rattle.cm_tree.specs.RawTrees.{all_blocks}
-use Rattle.cm_scan.specs.Brackets.{defined_in}
-use Rattle.cm_scan.specs.Documents.{block_read, content_read, with_inlines}
+pub use Rattle.cm_scan.specs.Brackets.{defined_in}
+use Rattle.cm_scan.specs.Documents.{block_read, content_read}
+pub use Rattle.cm_scan.specs.Documents.{with_inlines}
 use Rattle.cm_tool.specs.declared.fault.Fault.{Fault}
-use Rattle.cm_tool.specs.declared.leaf_walk.Unread.{Unread}
-use Rattle.cm_tool.specs.declared.leaf_walk.LeafWalk.{LeafWalk}
-use Rattle.cm_tool.specs.Leaves.{leaf_depths}
+use Rattle.cm_tool.specs.declared.outputs.leaf_walk.Unread.{Unread}
+use Rattle.cm_tool.specs.declared.outputs.leaf_walk.LeafWalk.{LeafWalk}
+pub use Rattle.cm_tool.specs.Leaves.{depths_in, leaf_depths, first_leaf_past}
+pub use Rattle.cm_tool.specs.Parsing.{TellsFault}
 use Rattle.cm_tool.specs.steps.Items.{items_read}
-use Rattle.cm_tool.specs.steps.Numbering.{Passes, TellsLeaf}
+pub use Rattle.cm_tool.specs.steps.Items.{items_leaf_depths}
+use Rattle.cm_tool.specs.steps.Numbering.{Passes}
+pub use Rattle.cm_tool.specs.steps.Numbering.{TellsLeaf}
 
 -- what is read of blocks: of one, of several, and of items
 abbrev pub read : Unread → Block → Block

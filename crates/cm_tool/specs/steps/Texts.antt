@@ -9,7 +9,7 @@ pub record TextSoFar : Type 0 where
   pub bytes : List ℕ
 
 -- these bytes have come, which settle no fault
-pub record StandsFor (limits : LimitsView) (text : TextSoFar) (bytes : List ℕ) : Type 0 where
+pub record HasGathered (limits : LimitsView) (text : TextSoFar) (bytes : List ℕ) : Type 0 where
   pub limit : text.feed.limit ≡ limits.bytes
   pub sound : text.feed.fault ≡ None
   pub same : text.bytes ≡ bytes

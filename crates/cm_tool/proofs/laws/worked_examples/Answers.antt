@@ -43,9 +43,9 @@ link_page : converted profile (codes "[a]\n\n[A]: /u\n") ≡ codes "<p><a href=\
 unfolding block_structure is_kept destination_byte
 link_page = simp (fold_out-Block Block, fold_out-Block Written block_step, fold_out-Inline Rendered inline_step, link_made defined_behind its_target, paragraph, definition, text, link)
 
-pub returns-clause-reading : goal.returns-clause-reading
+pub returns-clause-faults : goal.returns-clause-faults
 unfolding block_structure inline_structure utf8_valid_len utf8_error_len is_utf8 chars encode
-returns-clause-reading c = record {
+returns-clause-faults c = record {
   line_before_a_fault = refl;
   line_cut_by_a_fault = refl;
   past_the_limit = refl;

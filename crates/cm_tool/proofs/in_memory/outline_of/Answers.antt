@@ -1,9 +1,0 @@
-use Rattle.std.proofs.Common.{[]}
-use Rattle.std.proofs.lemmas.Result.{err_from_is_err_and}
-use Rattle.cm_tool.proofs.SettledLemmas.{tells_whole}
-use Rattle.cm_tool.proofs.in_memory.outline_of.Goals as goal
-
-pub returns-in_err-feed-clause-told : goal.returns-in_err-feed-clause-told
-returns-in_err-feed-clause-told c =
-    let p = err_from_is_err_and c.from_residual.result c.from_residual.ensures.1 in
-    rw (p.1, p.2) (tells_whole c.args.limits c.args.bytes.now c.in_err-feed.field-0.0 (c.in_err-feed.ensures.settled c.args.limits [] c.new-parser.ensures))

@@ -1,0 +1,15 @@
+use Rattle.std.proofs.Common.{◌≡◌, ℕ, List, [], None}
+use Rattle.cm_text.specs.Limits.{LimitsView}
+use Rattle.cm_tool.proofs.ReadLemmas.{SoFar}
+use Rattle.cm_tool.proofs.reading.taking_in.take_all.Given as goal
+
+abbrev pub invariant-loop-n : goal.invariant-loop-n
+invariant-loop-n g l = (read : List ℕ)
+    × ((limits : LimitsView) → g.T.TakesBytes.has_taken_in limits l.initial.taker [] → g.T.TakesBytes.settled limits [] ≡ None →
+    g.T.TakesBytes.has_taken_in limits l.taker read × (g.T.TakesBytes.settled limits read ≡ None))
+    × SoFar
+    (record { remaining = g.R.Source.remaining l.initial.source; failed = g.R.Source.failed l.initial.source })
+    (record { remaining = g.R.Source.remaining l.source; failed = g.R.Source.failed l.source }) read
+
+abbrev pub decreases-loop-n : goal.decreases-loop-n
+decreases-loop-n g l = g.T.TakesBytes.left l.taker

@@ -1,0 +1,65 @@
+//! The report of a file of examples, from a source of its bytes to what is written.
+ghost use Rattle.std.specs.Prelude.{◌≡◌, ℕ, ◌-◌, ◌^◌, ◌<◌, ◌++◌, List, IfOk, OnOk, string_bytes};
+ghost use Rattle.std.specs.Io.KnownBytes.{Consumes};
+ghost use Rattle.cm_tool.specs.ExampleFiles.{difference_of, report_view};
+ghost use Rattle.cm_tool.specs.Reporting.{difference_text, report_text, WritesReport};
+
+use crate::example_files::examining::{Difference, Report, examples_by};
+use crate::fault::Fault;
+use crate::reading::read_text;
+use cm_text::{Limits, Sink, Source, write_all};
+use std::alloc::{AllocError, Global};
+use std::fmt::Write;
+
+/// Puts what is written of an example that differs to the end.
+fn push_difference_text(out: &mut String, difference: &Difference) -> Result<(), AllocError>
+    ensures { OnOk result (string_bytes out.new
+        ≡ string_bytes out.old ++ difference_text (difference_of difference.now)) }
+{
+    let Difference {
+        number,
+        expected,
+        got,
+    } = difference;
+    write!(out, "example {number}\nexpected:\n{expected}got:\n{got}")
+}
+
+/// What is written of a report.
+fn report_text(alloc: Global, report: &Report) -> Result<String, AllocError>
+    ensures { IfOk result (λ text. string_bytes text ≡ report_text (report_view report.now)) }
+{
+    let mut out = String::new(alloc);
+    for difference in &report.differ {
+        push_difference_text(&mut out, difference)?;
+    }
+    write!(out, "{} of {} agree\n", report.agree, report.total)?;
+    Ok(out)
+}
+
+/// Writes the report of the source's examples, read by the rules of the limits, and answers how many
+/// there are, or the first that differs.
+///
+/// Nothing is written before the report is whole. A fault that the bytes settle ends the reading: no
+/// read is made after it. On `Fault::WriteFailed` what went out is the first `written` bytes of the
+/// report, and where there is no report, nothing.
+pub(crate) fn report<R: Source, W: Sink>(
+    alloc: Global,
+    source: &mut R,
+    sink: &mut W,
+    limits: Limits,
+) -> Result<usize, Fault>
+    requires reads { R.failed source.old < 2 ^ 64 - 1 }
+    requires writes { W.failed sink.old < 2 ^ 64 - 1 }
+    ensures { (bytes : List ℕ) × Consumes (R.remaining source.old) (R.remaining source.new) bytes
+        × WritesReport result limits bytes
+        (record { remaining = R.remaining source.old; failed = R.failed source.old })
+        (record { remaining = R.remaining source.new; failed = R.failed source.new })
+        (record { taken = W.taken sink.old; failed = W.failed sink.old })
+        (record { taken = W.taken sink.new; failed = W.failed sink.new }) }
+{
+    let text = read_text(alloc, source, limits)?;
+    let report = examples_by(alloc, limits.rules(), &text)?;
+    let output = report_text(alloc, &report)?;
+    write_all(sink, output.as_bytes())?;
+    report.verdict()
+}

@@ -1,0 +1,84 @@
+//! Outputs: the document, its HTML, or its plain source, which are made of an outline; and the calls that
+//! read a source and write one of them to a sink.
+ghost use Rattle.std.specs.Prelude.{◌≡◌, ℕ, List};
+ghost use Rattle.cm_tool.specs.Parsing.{Finishes, Makes};
+ghost use Rattle.cm_tool.specs.Rewriting.{kept_tree};
+ghost use Rattle.cm_tool.specs.Writing.{converted};
+ghost use Rattle.cm_tool.specs.steps.ReadingSteps.{IsOutline};
+ghost use Rattle.cm_tool.specs.steps.PlainSources.{Spelled};
+
+mod conversion;
+mod html;
+mod leaf_walk;
+mod listing;
+mod plain_source;
+mod rewriting;
+mod tree;
+
+use crate::fault::Fault;
+use cm_block::Outline;
+use cm_html::Pages;
+use cm_source::Why;
+use cm_text::Limits;
+use cm_tree::Doc;
+pub use conversion::convert;
+use html::leaves_html;
+pub(crate) use listing::list;
+use plain_source::leaves_plain_source;
+pub use rewriting::rewrite;
+use std::alloc::Global;
+use tree::read_leaves;
+
+/// The document of an outline.
+pub(crate) fn doc_of_outline(alloc: Global, limits: Limits, outline: Outline) -> Result<Doc, Fault>
+    ensures { (bytes : List ℕ) → IsOutline limits bytes outline → Finishes result limits bytes }
+{
+    let Outline {
+        blocks,
+        owners,
+        definitions,
+        ..
+    } = outline;
+    let blocks = read_leaves(alloc, limits, definitions, blocks)?;
+    let owners = owners.to_items(alloc)?;
+    Ok(Doc { blocks, owners })
+}
+
+/// The HTML of an outline's document in pages.
+pub(crate) fn html_of_outline(
+    alloc: Global,
+    limits: Limits,
+    outline: Outline,
+) -> Result<Pages, Fault>
+    ensures { (bytes : List ℕ) → IsOutline limits bytes outline
+        → Makes (λ pages. pages ≡ converted limits.rules bytes) result limits bytes }
+{
+    let Outline {
+        blocks,
+        owners,
+        definitions,
+        ..
+    } = outline;
+    // The HTML goes into the memory of the owners, which it doesn't show.
+    drop(owners);
+    leaves_html(alloc, limits, definitions, blocks)
+}
+
+/// The plain source of an outline's document without its definitions, or why it can't be spelled.
+pub(crate) fn plain_source_of_outline(
+    alloc: Global,
+    limits: Limits,
+    outline: Outline,
+) -> Result<Result<String, Why>, Fault>
+    ensures { (bytes : List ℕ) → IsOutline limits bytes outline
+        → Makes (Spelled limits.rules (kept_tree limits.rules bytes)) result limits bytes }
+{
+    let Outline {
+        blocks,
+        owners,
+        definitions,
+        ..
+    } = outline;
+    drop(owners);
+    leaves_plain_source(alloc, limits, definitions, blocks)
+}

@@ -1,0 +1,62 @@
+//! The document, the HTML and the plain source of a text that lies in memory, without a device.
+ghost use Rattle.std.specs.Prelude.{◌≡◌, IfErr, IfOk};
+ghost use Rattle.cm_tool.specs.Faults.{fault_of};
+ghost use Rattle.cm_tool.specs.Parsing.{Finishes, Makes, TellsFault};
+ghost use Rattle.cm_tool.specs.Rewriting.{MakesPlainSource};
+ghost use Rattle.cm_tool.specs.Writing.{converted};
+ghost use Rattle.cm_tool.specs.steps.ReadingSteps.{IsOutline};
+
+use crate::fault::Fault;
+use crate::outputs::{doc_of_outline, html_of_outline, plain_source_of_outline};
+use crate::reading::parser::Parser;
+use cm_block::Outline;
+use cm_html::Pages;
+use cm_text::Limits;
+use cm_tree::Doc;
+use std::alloc::Global;
+
+/// The outline of these bytes.
+fn outline_of(alloc: Global, bytes: &[u8], limits: Limits) -> Result<Outline, Fault>
+    ensures outline { IfOk result (λ outline. IsOutline limits bytes.now outline) }
+    ensures told { IfErr result (λ fault. TellsFault fault (fault_of limits bytes.now)) }
+{
+    let mut parser = Parser::new(alloc, limits);
+    parser.feed(bytes)?;
+    parser.outline()
+}
+
+/// The document of these bytes, as `read` answers it for a source that has them.
+///
+/// # Errors
+///
+/// The text's one fault, or `Fault::NoMemory` where a request for memory was refused.
+pub fn doc_of(alloc: Global, bytes: &[u8], limits: Limits) -> Result<Doc, Fault>
+    ensures { Finishes result limits bytes.now }
+{
+    doc_of_outline(alloc, limits, outline_of(alloc, bytes, limits)?)
+}
+
+/// The HTML of these bytes, which `convert` writes for a source that has them. Its pages can be written to a
+/// sink, or made one string.
+///
+/// # Errors
+///
+/// As `doc_of`.
+pub fn html_of(alloc: Global, bytes: &[u8], limits: Limits) -> Result<Pages, Fault>
+    ensures { Makes (λ pages. pages ≡ converted limits.rules bytes.now) result limits bytes.now }
+{
+    html_of_outline(alloc, limits, outline_of(alloc, bytes, limits)?)
+}
+
+/// Plain source of these bytes' tree without its link reference definitions, which `rewrite` writes for a
+/// source that has them.
+///
+/// # Errors
+///
+/// As `doc_of`, and `Fault::Unspellable` where the text has no fault and its tree can't be spelled.
+pub fn source_of(alloc: Global, bytes: &[u8], limits: Limits) -> Result<String, Fault>
+    ensures { MakesPlainSource result limits bytes.now }
+{
+    let outline = outline_of(alloc, bytes, limits)?;
+    Ok(plain_source_of_outline(alloc, limits, outline)??)
+}

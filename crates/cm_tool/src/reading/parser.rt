@@ -1,0 +1,247 @@
+//! A document that comes in pieces.
+ghost use Rattle.std.specs.Prelude.{◌≡◌, ◌≢◌, ◌+◌, ◌-◌, ◌≤◌, [], ◌++◌};
+ghost use Rattle.std.specs.Prelude.{ℕ, List, length, IfOk, IfErr, OnOk, Some, None, Err, false};
+ghost use Rattle.cm_text.specs.Answers.{answer_after};
+ghost use Rattle.cm_text.specs.Limits.{LimitsView};
+ghost use Rattle.cm_text.specs.Lines.{LineView};
+ghost use Rattle.cm_text.specs.Feed.{StandsFor as FeedStandsFor, with_ready, count};
+ghost use Rattle.cm_scan.specs.Laws.{AreLines};
+ghost use Rattle.cm_block.specs.Parser.{StandsFor as HasTaken, TellsDepth};
+ghost use Rattle.cm_block.specs.declared.fault.BlockFault.TheVariants as block_faults;
+ghost use Rattle.cm_tool.specs.declared.fault.Fault as faults;
+ghost use Rattle.cm_tool.specs.Faults.{fault_of, settled_fault_of};
+ghost use Rattle.cm_tool.specs.Parsing.{Goes, HasTakenIn, Answers, Finishes, TellsFault, Makes};
+ghost use Rattle.cm_tool.specs.Writing.{converted};
+ghost use Rattle.cm_tool.specs.steps.ReadingSteps.{IsOutline};
+ghost use Rattle.cm_tool.specs.steps.Handing.{Hands};
+ghost use Rattle.cm_tool.specs.steps.Pushing.{Pushes, Counts};
+
+use crate::fault::Fault;
+use crate::outputs::{doc_of_outline, html_of_outline};
+use crate::reading::taking_in::TakesBytes;
+use cm_block::{BlockFault, BlockParser, Outline};
+use cm_html::Pages;
+use cm_text::{Limits, LineBuffer, TextFault};
+use cm_tree::Doc;
+use std::alloc::Global;
+use std::marker::Model;
+
+/// How many bytes are taken in at once.
+pub(crate) const PART: usize = 8192;
+
+/// Reads a document that comes in pieces. Each line is taken in once, as soon as it has ended.
+///
+/// Hand over the bytes by `feed`, in whatever pieces they come, and tell by `finish` that they are all.
+/// After a fault each further call answers that fault.
+#[derive(Debug, Drop)]
+pub struct Parser {
+    alloc: Global,
+    feed: LineBuffer,
+    blocks: BlockParser,
+    fault: Option<Fault>,
+}
+
+impl Model for Parser {
+    ghost use Rattle.std.specs.Prelude.{◌≡◌, false};
+    ghost use Rattle.cm_tool.specs.Parsing.{ParserView};
+    ghost use Rattle.cm_tree.specs.contracts.tree.Block as block;
+    ghost use Rattle.cm_block.specs.OwnedCode.{owned_code};
+    ghost use Rattle.std.specs.Coded.{codes};
+
+    ghost Value = { ParserView };
+
+    ghost coded = { Prim.hlevel (codes, block.the_row.coded, owned_code) };
+
+    ghost view = { λ p. record { feed = p.feed; blocks = p.blocks; fault = p.fault } };
+
+    ghost invariant = { λ p. p.feed.ended ≡ false };
+}
+
+impl Parser {
+    /// A parser of nothing so far. It takes no memory.
+    pub fn new(alloc: Global, limits: Limits) -> Parser
+        ensures { HasTakenIn limits result [] }
+    {
+        Parser {
+            alloc,
+            feed: LineBuffer::new(alloc, limits),
+            blocks: BlockParser::new(alloc, limits),
+            fault: None,
+        }
+    }
+
+    /// Goes on with one more piece, which may be empty and may end anywhere. Of a long piece no more lines
+    /// are held at once than of a short one.
+    ///
+    /// A fault is answered as soon as the bytes settle it, however they go on.
+    pub fn feed(&mut self, piece: &[u8]) -> Result<(), Fault>
+        // Whatever bytes it had taken in, it has taken in them and the piece.
+        ensures stands { OnOk result ((limits : LimitsView) (bytes : List ℕ)
+            → HasTakenIn limits self.old bytes → HasTakenIn limits self.new (bytes ++ piece.now)) }
+        // A fault is answered exactly where the bytes settle it.
+        ensures settled { (limits : LimitsView) (bytes : List ℕ)
+            → HasTakenIn limits self.old bytes
+            → Answers result (settled_fault_of limits (bytes ++ piece.now)) }
+        // From then on it is answered again.
+        ensures answer { result ≡ answer_after self.new.fault }
+        ensures failed { self.old.fault ≢ None → self.new ≡ self.old }
+        ensures limit { self.new.feed.limit ≡ self.old.feed.limit }
+        ensures count { OnOk result (count self.new.feed ≡ count self.old.feed + length piece.now) }
+        ensures within { OnOk result (count self.new.feed ≤ self.new.feed.limit) }
+    {
+        if let Some(fault) = self.fault {
+            return Err(fault);
+        }
+        let result = push(&mut self.feed, &mut self.blocks, piece);
+        if let Err(fault) = result {
+            self.fault = Some(fault);
+        }
+        result
+    }
+
+    /// The outline of the document, where the bytes so far are all.
+    pub(crate) fn outline(self) -> Result<Outline, Fault>
+        ensures outline { IfOk result (λ outline. (limits : LimitsView) (bytes : List ℕ)
+            → HasTakenIn limits self bytes → IsOutline limits bytes outline) }
+        ensures told { IfErr result (λ fault. (limits : LimitsView) (bytes : List ℕ)
+            → HasTakenIn limits self bytes → TellsFault fault (fault_of limits bytes)) }
+        ensures failed { (fault : faults.Fault) → self.fault ≡ Some fault → result ≡ Err fault }
+    {
+        let Parser {
+            feed,
+            blocks,
+            fault,
+            ..
+        } = self;
+        match fault {
+            Some(fault) => Err(fault),
+            None => outline(feed, blocks),
+        }
+    }
+
+    /// The HTML of the document in pages, where the bytes so far are all. No tree is made.
+    ///
+    /// # Errors
+    ///
+    /// As `finish`.
+    pub fn finish_html(self) -> Result<Pages, Fault>
+        ensures { (limits : LimitsView) (bytes : List ℕ) → HasTakenIn limits self bytes
+            → Makes (λ pages. pages ≡ converted limits.rules bytes) result limits bytes }
+    {
+        let (alloc, limits) = (self.alloc, self.blocks.limits());
+        html_of_outline(alloc, limits, self.outline()?)
+    }
+
+    /// The document, where the bytes so far are all.
+    pub fn finish(self) -> Result<Doc, Fault>
+        ensures finishes { (limits : LimitsView) (bytes : List ℕ) → HasTakenIn limits self bytes
+            → Finishes result limits bytes }
+        ensures failed { (fault : faults.Fault) → self.fault ≡ Some fault → result ≡ Err fault }
+    {
+        let (alloc, limits) = (self.alloc, self.blocks.limits());
+        doc_of_outline(alloc, limits, self.outline()?)
+    }
+}
+
+impl TakesBytes for Parser {
+    ghost has_taken_in = { λ limits parser bytes. HasTakenIn limits parser bytes };
+
+    ghost settled = { settled_fault_of };
+
+    ghost left = { λ parser. parser.feed.limit - count parser.feed };
+
+    fn take(&mut self, piece: &[u8]) -> Result<(), Fault> {
+        self.feed(piece)
+    }
+}
+
+/// Goes on with one more piece, part by part, as far as it goes.
+fn push(feed: &mut LineBuffer, blocks: &mut BlockParser, piece: &[u8]) -> Result<(), Fault>
+    requires { feed.old.ended ≡ false }
+    ensures pushes { Pushes result piece.now feed.old blocks.old feed.new blocks.new }
+    ensures counts { Counts result piece.now feed.old feed.new }
+{
+    let mut rest = piece;
+    while let Some((part, behind)) = rest.split_at_checked(PART) {
+        push_part(feed, blocks, part)?;
+        rest = behind;
+    }
+    push_part(feed, blocks, rest)
+}
+
+/// Goes on with one more part of a piece, as far as it goes. The lines that end before a fault of the text
+/// are taken in first, since one that is too deep goes before it.
+fn push_part(feed: &mut LineBuffer, blocks: &mut BlockParser, piece: &[u8]) -> Result<(), Fault>
+    requires { feed.old.ended ≡ false }
+    ensures pushes { Pushes result piece.now feed.old blocks.old feed.new blocks.new }
+    ensures counts { Counts result piece.now feed.old feed.new }
+{
+    let pushed = feed.push(piece);
+    if pushed == Err(TextFault::NoMemory) {
+        return Err(Fault::NoMemory);
+    }
+    hand_over(feed, blocks)?;
+    pushed?;
+    Ok(())
+}
+
+/// The outline of the bytes.
+fn outline(mut feed: LineBuffer, mut blocks: BlockParser) -> Result<Outline, Fault>
+    requires { feed.ended ≡ false }
+    ensures outline { IfOk result (λ outline. (limits : LimitsView) (bytes : List ℕ)
+        → Goes limits feed blocks bytes → IsOutline limits bytes outline) }
+    ensures told { IfErr result (λ fault. (limits : LimitsView) (bytes : List ℕ)
+        → Goes limits feed blocks bytes → TellsFault fault (fault_of limits bytes)) }
+{
+    feed.end()?;
+    hand_over(&mut feed, &mut blocks)?;
+    let outline = blocks.finish()?;
+    Ok(outline)
+}
+
+/// Lends the lines of text at the front to the blocks, if they go on with a run of text there.
+#[inline(always)]
+fn hand_over_text(feed: &mut LineBuffer, blocks: &mut BlockParser) -> Result<(), BlockFault>
+    ensures ended { feed.new.ended ≡ feed.old.ended }
+    ensures limit { feed.new.limit ≡ feed.old.limit }
+    ensures limits { blocks.new.limits ≡ blocks.old.limits }
+    ensures handed { OnOk result (Hands feed.old blocks.old feed.new blocks.new) }
+    ensures memory { IfErr result (λ fault. fault ≡ block_faults.NoMemory) }
+{
+    if !blocks.is_in_text() {
+        return Ok(());
+    }
+    feed.look_for_text();
+    let Some(lines) = feed.text_lines() else {
+        return Ok(());
+    };
+    let count = lines.count;
+    blocks.text_lines(&lines)?;
+    feed.pass_lines(count);
+    Ok(())
+}
+
+/// Lends the lines that have ended to the blocks, one after another. Lines of text that go on with a run of
+/// text go there together.
+fn hand_over(feed: &mut LineBuffer, blocks: &mut BlockParser) -> Result<(), BlockFault>
+    ensures ready { OnOk result (feed.new ≡ with_ready [] feed.old) }
+    ensures ended { feed.new.ended ≡ feed.old.ended }
+    ensures limit { feed.new.limit ≡ feed.old.limit }
+    ensures limits { blocks.new.limits ≡ blocks.old.limits }
+    ensures stands { OnOk result ((bytes : List ℕ) (taken : ℕ) → FeedStandsFor feed.old bytes taken
+        → FeedStandsFor feed.new bytes (taken + length feed.old.cut.ended)) }
+    ensures handed { OnOk result ((lines : List LineView) → HasTaken blocks.old lines
+        → HasTaken blocks.new (lines ++ feed.old.cut.ended)) }
+    ensures told { IfErr result (λ fault. (lines : List LineView) → HasTaken blocks.old lines
+        → AreLines (lines ++ feed.old.cut.ended)
+        → TellsDepth fault blocks.old.limits (lines ++ feed.old.cut.ended)) }
+{
+    loop {
+        hand_over_text(feed, blocks)?;
+        let Some(line) = feed.first_line() else {
+            return Ok(());
+        };
+        blocks.line_view(&line)?;
+        feed.pass_line();
+    }
+}

@@ -1,0 +1,56 @@
+//! A source is given to what takes in its bytes, to its end.
+ghost use Rattle.std.specs.Prelude.{◌≡◌, ℕ, ◌+◌, ◌-◌, ◌^◌, ◌<◌, List, [], ◌++◌, Option, None, length, OnOk};
+ghost use Rattle.std.specs.Io.KnownBytes.{Consumes};
+ghost use Rattle.cm_text.specs.Limits.{LimitsView};
+ghost use Rattle.cm_tool.specs.declared.fault.Fault as faults;
+ghost use Rattle.cm_tool.specs.Parsing.{Answers};
+ghost use Rattle.cm_tool.specs.steps.ReadingSteps.{TakesIn};
+
+use crate::fault::Fault;
+use cm_text::Source;
+
+/// What takes in bytes, piece by piece.
+pub(crate) trait TakesBytes {
+    // It has taken in these bytes, which settle no fault.
+    ghost has_taken_in: { LimitsView → Self → List ℕ → Type 0 };
+
+    // The fault that bytes settle.
+    ghost settled: { LimitsView → List ℕ → Option faults.Fault };
+
+    // How many bytes it may still be given.
+    ghost left: { Self → ℕ };
+
+    /// Takes in one more piece. A fault is answered as soon as the bytes settle it.
+    fn take(&mut self, piece: &[u8]) -> Result<(), Fault>
+        ensures stands { OnOk result ((limits : LimitsView) (bytes : List ℕ)
+            → has_taken_in limits self.old bytes → has_taken_in limits self.new (bytes ++ piece.now)) }
+        ensures settled { (limits : LimitsView) (bytes : List ℕ)
+            → has_taken_in limits self.old bytes → Answers result (settled limits (bytes ++ piece.now)) }
+        ensures left { OnOk result (left self.new + length piece.now ≡ left self.old) };
+}
+
+/// Gives a source to its taker, in pieces of the buffer's length. A fault that the bytes settle ends the
+/// reading: no read is made after it. So does a failed read.
+pub(crate) fn take_all<R: Source, T: TakesBytes>(
+    source: &mut R,
+    taker: &mut T,
+    buffer: &mut [u8],
+) -> Result<(), Fault>
+    requires failures { R.failed source.old < 2 ^ 64 - 1 }
+    requires room { 0 < length buffer.old }
+    ensures { (bytes : List ℕ) × Consumes (R.remaining source.old) (R.remaining source.new) bytes
+        × ((limits : LimitsView) → T.has_taken_in limits taker.old [] → T.settled limits [] ≡ None
+        → TakesIn (T.has_taken_in limits taker.new) (T.settled limits) result bytes
+        (record { remaining = R.remaining source.old; failed = R.failed source.old })
+        (record { remaining = R.remaining source.new; failed = R.failed source.new })) }
+{
+    loop {
+        let Ok(n) = source.read(buffer) else {
+            return Err(Fault::ReadFailed);
+        };
+        if n == 0 {
+            return Ok(());
+        }
+        taker.take(&buffer[..n])?;
+    }
+}
