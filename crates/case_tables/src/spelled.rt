@@ -5,8 +5,8 @@ use crate::dialects::rules_of;
 use crate::trouble::{Trouble, same, wrong};
 use cm_html::listing;
 use cm_source::{
-    SourceFault, Speller, Why, block_without_definitions, spell, spell_by, spellable, spellable_by,
-    without_definitions,
+    Reason, SourceFault, Speller, block_without_definitions, spell, spell_by, spellable,
+    spellable_by, without_definitions,
 };
 use cm_text::Rules;
 use cm_tree::{Block, Doc, Items};
@@ -21,7 +21,7 @@ fn source_of(alloc: Global, rules: Option<Rules>, blocks: &[Block]) -> Result<St
 }
 
 /// Why a tree can't be spelled by these rules, or by the standard's.
-fn refusal(rules: Option<Rules>, blocks: &[Block]) -> Option<Why> {
+fn refusal(rules: Option<Rules>, blocks: &[Block]) -> Option<Reason> {
     match rules {
         Some(rules) => spellable_by(rules, blocks).err(),
         None => spellable(blocks).err(),

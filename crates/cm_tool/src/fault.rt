@@ -3,7 +3,7 @@ ghost use Rattle.std.specs.Prelude.{◌≡◌};
 
 use cm_block::BlockFault;
 use cm_html::HtmlFault;
-use cm_source::{SourceFault, Why};
+use cm_source::{Reason, SourceFault};
 use cm_text::{NoMemory, TextFault, WriteFailed};
 use std::alloc::AllocError;
 use thiserror::Error;
@@ -34,7 +34,7 @@ pub enum Fault {
     WriteFailed { written: usize },
     /// The tree can't be spelled as plain source.
     #[error("F8 cannot be spelled: {why}")]
-    Unspellable { why: Why },
+    Unspellable { why: Reason },
     /// An example isn't closed, whose opening line, counted from 1, is this.
     #[error("F9 bad example file at line {line}")]
     BadExampleFile { line: usize },
@@ -135,13 +135,13 @@ impl From<SourceFault> for Fault {
     }
 }
 
-impl From<Why> for Fault {
+impl From<Reason> for Fault {
     ghost use Rattle.std.specs.Prelude.{◌≡◌};
     ghost use Rattle.cm_tool.specs.declared.fault.Fault.TheVariants.{Unspellable};
 
     ghost from_gives = { λ why e. e ≡ Unspellable why };
 
-    fn from(why: Why) -> Fault {
+    fn from(why: Reason) -> Fault {
         Fault::Unspellable { why }
     }
 }

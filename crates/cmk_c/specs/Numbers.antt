@@ -1,7 +1,7 @@
 -- Faults as numbers.
 use Rattle.std.specs.Prelude.{◌≡◌, ◌==◌, ℕ, Option, Some, None, option_map, if◌then◌else◌}
-use Rattle.cm_source.specs.declared.why.Why.{Why}
-use Rattle.cm_source.specs.declared.why.Why.TheVariants as whys
+use Rattle.cm_source.specs.declared.reason.Reason.{Reason}
+use Rattle.cm_source.specs.declared.reason.Reason.TheVariants as whys
 use Rattle.cm_tool.specs.declared.fault.Fault.{Fault}
 use Rattle.cm_tool.specs.declared.fault.Fault.TheVariants.{NotUtf8, TooLong, BlocksTooDeep, InlinesTooDeep, NoMemory, ReadFailed, WriteFailed, Unspellable, BadExampleFile, ExampleDiffers}
 use Rattle.cmk_c.specs.declared.message.Message.{Message}
@@ -21,7 +21,7 @@ number_of (BadExampleFile line) = 9
 number_of (ExampleDiffers number) = 10
 
 -- the number of a reason why a tree can't be spelled
-abbrev pub reason_of : Why → ℕ
+abbrev pub reason_of : Reason → ℕ
 reason_of whys.Definition = 1
 reason_of whys.Nul = 2
 reason_of whys.Shape = 3
@@ -56,7 +56,7 @@ place_of (BadExampleFile line) = line
 place_of (ExampleDiffers number) = number
 
 -- the reason with this number
-abbrev pub why_numbered : ℕ → Option Why
+abbrev pub why_numbered : ℕ → Option Reason
 why_numbered number =
     if number == 1 then Some whys.Definition
     else if number == 2 then Some whys.Nul

@@ -11,7 +11,7 @@ ghost use Rattle.cm_tool.specs.steps.LeafWalks.{all_left, ArePlacedLeft, HasRead
 use crate::fault::Fault;
 use crate::outputs::leaf_walk::LeafWalk;
 use cm_inline::InlineReader;
-use cm_source::{SourceFault, Speller, Why, block_without_definitions};
+use cm_source::{Reason, SourceFault, Speller, block_without_definitions};
 use cm_text::{Limits, NoMemory, Rules};
 use cm_tree::{Block, Definitions, RawTree};
 use std::alloc::Global;
@@ -20,7 +20,7 @@ use std::alloc::Global;
 #[derive(Drop)]
 struct PlainSource {
     speller: Speller,
-    refused: Option<Why>,
+    refused: Option<Reason>,
 }
 
 impl PlainSource {
@@ -71,7 +71,7 @@ impl PlainSource {
     }
 
     /// The source of the blocks so far.
-    fn finish(self) -> Result<String, Why>
+    fn finish(self) -> Result<String, Reason>
         ensures { (rules : text_rules.Rules) (blocks : List trees.Block)
             → HasTaken rules self blocks → Spelled rules blocks result }
     {
@@ -127,7 +127,7 @@ pub(crate) fn leaves_plain_source(
     limits: Limits,
     definitions: Definitions,
     blocks: RawTree,
-) -> Result<Result<String, Why>, Fault>
+) -> Result<Result<String, Reason>, Fault>
     ensures source { IfOk result (λ source. Spelled limits.rules
         (without_definitions (with_inlines limits.rules (defined_in definitions) blocks)) source) }
     ensures within { IfOk result (λ _.

@@ -6,7 +6,7 @@ use thiserror::Error;
 /// Why a tree can't be spelled: what its first node is, in the order of the document, that
 /// no source gives or that its spelling wouldn't give back.
 #[derive(Clone, Copy, Debug, PartialEq, Eq, Drop, Error)]
-pub enum Why {
+pub enum Reason {
     /// A link reference definition.
     #[error("a definition")]
     Definition,
