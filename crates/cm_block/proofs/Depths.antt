@@ -9,15 +9,15 @@ use Rattle.cm_text.specs.LineText.{is_line}
 use Rattle.cm_text.specs.Rules.{Rules}
 use Rattle.cm_text.specs.Lines.{LineView}
 use Rattle.cm_tree.specs.declared.tree.ListKind.{ListKind}
-use Rattle.cm_scan.specs.Lines.{marks}
-use Rattle.cm_scan.specs.LineForms.{is_same_kind}
-use Rattle.cm_scan.specs.Starts.{place_in_quote, place_in_item}
-use Rattle.cm_scan.specs.Parts.{LeafPart, Parts, none, blank, leaf, quote, list, ItemParts, last_item, item, next_items, put_before, put_item, line_owners, depths_of, item_depths_of}
-use Rattle.cm_scan.specs.Blocks.{parts_of, owners_of, first_too_deep}
-use Rattle.cm_scan.specs.Laws.{goes_inward, AreLines}
-use Rattle.cm_scan.specs.Looseness.{line_total, items_total}
-use Rattle.cm_scan.proofs.Owners.{one_owner_a_line}
-use Rattle.cm_scan.proofs.Counted.{one_owner}
+use Rattle.cm_scan.specs.blocks.Lines.{marks}
+use Rattle.cm_scan.specs.blocks.LineForms.{is_same_kind}
+use Rattle.cm_scan.specs.blocks.Starts.{place_in_quote, place_in_item}
+use Rattle.cm_scan.specs.blocks.Parts.{LeafPart, Parts, none, blank, leaf, quote, list, ItemParts, last_item, item, next_items, put_before, put_item, line_owners, depths_of, item_depths_of}
+use Rattle.cm_scan.specs.blocks.Blocks.{parts_of, owners_of, first_too_deep}
+use Rattle.cm_scan.specs.laws.Laws.{goes_inward, AreLines}
+use Rattle.cm_scan.specs.laws.Looseness.{line_total, items_total}
+use Rattle.cm_scan.proofs.lemmas.blocks.OwnersOfLines.{one_owner_a_line}
+use Rattle.cm_scan.proofs.lemmas.blocks.CountedLines.{one_owner}
 use Rattle.cm_block.specs.OpenLeaf.{OpenLeaf, no_leaf, closed_leaves, blank_lines_behind, LeafLine, stays_open, is_last, line_of_leaf, LineOpens, begins_nothing, begins_leaf, begins_quote, begins_item, begin_of}
 use Rattle.cm_block.specs.Machine.{Piece, blank_piece, leaf_piece, quote_piece, item_piece, put, put_all, Open, in_leaf, in_quote, in_item, has_open_text, Change, change, leaf_pieces, closing, leaf_change, begin_by, begin_within, begin, after_closing, leaf_step, step, Machine, new_machine, take_line, take_lines, close, parts_in_one_pass}
 use Rattle.cm_block.specs.Level.{Level, empty_level}

@@ -2,7 +2,7 @@
 use Rattle.std.proofs.Common.{◌≡◌, ℕ, zero, suc, ◌+◌, ◌≤◌, Bool, true, false, List, [], ◌∷◌, ◌++◌, length, replicate, refl, ap, ◌∙◌, arith}
 use Rattle.std.specs.Prelude.{if◌then◌else◌}
 use Rattle.cm_text.specs.LineText.{is_line}
-use Rattle.cm_scan.specs.Blocks.{line_feeds}
+use Rattle.cm_scan.specs.blocks.Blocks.{line_feeds}
 
 -- no text has more of them than bytes
 pub feeds_within : (text : List ℕ) → line_feeds text ≤ length text

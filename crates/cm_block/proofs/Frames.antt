@@ -3,8 +3,8 @@ use Rattle.std.specs.Prelude.{length, take, drop, ◌==◌}
 use Rattle.std.proofs.Common.{◌≡◌, ℕ, suc, Bool, true, false, ◌&&◌, List, [], ◌∷◌, refl, ◌∙◌, sym, ap, ap₂, arith, Option, Some, None}
 use Rattle.cm_text.specs.Rules.{Rules}
 use Rattle.cm_text.specs.Lines.{LineView}
-use Rattle.cm_scan.specs.Starts.{place_in_quote, place_in_item}
-use Rattle.cm_scan.specs.Laws.{goes_inward}
+use Rattle.cm_scan.specs.blocks.Starts.{place_in_quote, place_in_item}
+use Rattle.cm_scan.specs.laws.Laws.{goes_inward}
 use Rattle.cm_block.specs.OpenLeaf.{OpenLeaf, is_open_text, LeafLine, line_of_leaf}
 use Rattle.cm_block.specs.Machine.{Open, in_leaf, has_open_text}
 use Rattle.cm_block.specs.Level.{Level}

@@ -5,7 +5,7 @@ use Rattle.cm_text.specs.Rules.{Rules}
 use Rattle.cm_text.specs.Lines.{LineView}
 use Rattle.cm_tree.specs.declared.tree.Block.{Block}
 use Rattle.cm_tree.specs.declared.tree.ListKind.{ListKind}
-use Rattle.cm_scan.specs.LineForms.{is_same_kind}
+use Rattle.cm_scan.specs.blocks.LineForms.{is_same_kind}
 use Rattle.cm_block.specs.Level.{OpenList, Level, with_list, closed_blocks, separated_next, block_opens, block_closes, Item, item_closes, item_opens, item_opens_in, list_opens, list_goes_on}
 use Rattle.cm_block.specs.Frames.{Container, Frame}
 use Rattle.cm_block.specs.steps.FrameSteps.{matching, quoted_by}

@@ -4,7 +4,7 @@ use Rattle.std.specs.Prelude.{flat_map, if◌then◌else◌}
 use Rattle.cm_text.specs.Rules.{Rules}
 use Rattle.cm_text.specs.Unescaping.{unescape}
 use Rattle.cm_tree.specs.Followed.{is_line_space}
-use Rattle.cm_scan.specs.Parts.{as_space, info_of}
+use Rattle.cm_scan.specs.blocks.Parts.{as_space, info_of}
 
 pub line_space_ascii : (b : ℕ) → is_line_space b ≡ true → b < 128
 line_space_ascii b h = grind (arith, h)

@@ -6,7 +6,7 @@ use Rattle.cm_text.specs.Lines.{LineView}
 use Rattle.cm_text.specs.Indentation.{indent_of, strip_from, strip_columns}
 use Rattle.cm_text.proofs.ViewLemmas.{indent_spaces, strip_all}
 use Rattle.cm_scan.specs.Words.{is_blank_text, is_space_or_tab}
-use Rattle.cm_scan.specs.Lines.{is_blank}
+use Rattle.cm_scan.specs.blocks.Lines.{is_blank}
 use Rattle.cm_block.specs.steps.PlaceViews.{begins_plain}
 use Rattle.cm_block.proofs.PlaceLemmas.{blank_spaces}
 

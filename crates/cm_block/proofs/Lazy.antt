@@ -2,10 +2,10 @@
 use Rattle.std.proofs.Common.{◌≡◌, ℕ, Bool, true, false, List, ◌∙◌, sym, ap, ap₂, arith, Option, Some, None}
 use Rattle.cm_text.specs.Rules.{Rules}
 use Rattle.cm_text.specs.Lines.{LineView}
-use Rattle.cm_scan.specs.Lines.{is_blank, as_lazy}
-use Rattle.cm_scan.specs.Starts.{TextLine, start_of, interrupts_paragraph, underline_of, Place, StaysIfOpen, place_if_lazy, place_in_quote, place_in_item, quote_place}
-use Rattle.cm_scan.specs.Blocks.{GoesOn, next_line}
-use Rattle.cm_scan.specs.Laws.{goes_inward}
+use Rattle.cm_scan.specs.blocks.Lines.{is_blank, as_lazy}
+use Rattle.cm_scan.specs.blocks.Starts.{TextLine, start_of, interrupts_paragraph, underline_of, Place, StaysIfOpen, place_if_lazy, place_in_quote, place_in_item, quote_place}
+use Rattle.cm_scan.specs.blocks.Blocks.{GoesOn, next_line}
+use Rattle.cm_scan.specs.laws.Laws.{goes_inward}
 use Rattle.cm_block.specs.OpenLeaf.{no_leaf, open_text, open_code, open_fence, open_html, line_of_text, line_of_leaf}
 use Rattle.cm_block.specs.Machine.{Open, in_leaf, in_quote, in_item, has_open_text}
 use Rattle.cm_block.specs.Level.{Level}

@@ -8,12 +8,12 @@ use Rattle.cm_text.specs.Rules.{Rules}
 use Rattle.cm_text.specs.Lines.{LineView}
 use Rattle.cm_text.specs.Indentation.{indent_of, strip_columns}
 use Rattle.cm_scan.specs.Words.{given, is_at_word, holds_word}
-use Rattle.cm_scan.specs.Lines.{is_blank, with_ending}
-use Rattle.cm_scan.specs.HtmlBlocks.{HtmlKind, RawText, Comment, Instruction, Declaration, CharacterData, BlockTag, AnyTag, is_html_end, ends_at_blank_line}
-use Rattle.cm_scan.specs.LineForms.{Fence}
-use Rattle.cm_scan.specs.Starts.{IndentedCode, OpeningFence, HtmlStart}
-use Rattle.cm_scan.specs.Parts.{html, info_of}
-use Rattle.cm_scan.specs.Blocks.{line_feeds, NextLine, next_line, closes_fence, code_line}
+use Rattle.cm_scan.specs.blocks.Lines.{is_blank, with_ending}
+use Rattle.cm_scan.specs.blocks.HtmlBlocks.{HtmlKind, RawText, Comment, Instruction, Declaration, CharacterData, BlockTag, AnyTag, is_html_end, ends_at_blank_line}
+use Rattle.cm_scan.specs.blocks.LineForms.{Fence}
+use Rattle.cm_scan.specs.blocks.Starts.{IndentedCode, OpeningFence, HtmlStart}
+use Rattle.cm_scan.specs.blocks.Parts.{html, info_of}
+use Rattle.cm_scan.specs.blocks.Blocks.{line_feeds, NextLine, next_line, closes_fence, code_line}
 use Rattle.cm_block.proofs.FeedLemmas.{feeds_append, feeds_ended}
 use Rattle.cm_block.specs.declared.leaf.OpenLeaf.{OpenLeaf}
 use Rattle.cm_block.specs.declared.leaf.OpenLeaf.TheVariants as leaf

@@ -7,8 +7,8 @@ use Rattle.cm_tree.specs.declared.tree.ListKind.{ListKind}
 use Rattle.cm_tree.specs.declared.tree.Block.{Block}
 use Rattle.cm_tree.specs.declared.tree.Block.TheVariants.{Quote, List as ListBlock}
 use Rattle.cm_scan.specs.Words.{given}
-use Rattle.cm_scan.specs.LineForms.{is_same_kind}
-use Rattle.cm_scan.specs.Parts.{Parts, none, blank, leaf, quote, list, ItemParts, last_item, item, leaf_block, is_separated, is_loose, items_end_blank, ends_blank_after, next_items, put_before, put_item, blocks_of_parts, blocks_of_items}
+use Rattle.cm_scan.specs.blocks.LineForms.{is_same_kind}
+use Rattle.cm_scan.specs.blocks.Parts.{Parts, none, blank, leaf, quote, list, ItemParts, last_item, item, leaf_block, is_separated, is_loose, items_end_blank, ends_blank_after, next_items, put_before, put_item, blocks_of_parts, blocks_of_items}
 use Rattle.cm_block.specs.Machine.{Piece, blank_piece, leaf_piece, quote_piece, item_piece, put, put_all}
 use Rattle.cm_block.specs.Level.{OpenList, Item, Level, empty_level, closed_blocks, push_blank, list_opens, list_goes_on, item_opens_in, item_closes, push_block, push_item, item_of_parts, add, add_all, LevelOfParts}
 

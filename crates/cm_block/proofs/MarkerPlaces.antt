@@ -8,11 +8,11 @@ use Rattle.cm_text.specs.Lines.{LineView}
 use Rattle.cm_text.specs.LineText.{tabs}
 use Rattle.cm_text.specs.Indentation.{indent_of}
 use Rattle.cm_scan.specs.Words.{begins_with, is_digit, front_of, skip, is_at_gap, given, ◌<|>◌}
-use Rattle.cm_scan.specs.Lines.{content_of}
-use Rattle.cm_scan.specs.LineForms.{Heading, Fence, ItemMarker, is_thematic_break, atx_heading, opening_fence, bullet_kind, ordered_kind, marker_at_gap, bullet_marker, decimal_value, is_number, marker_behind, ordered_marker, item_marker}
+use Rattle.cm_scan.specs.blocks.Lines.{content_of}
+use Rattle.cm_scan.specs.blocks.LineForms.{Heading, Fence, ItemMarker, is_thematic_break, atx_heading, opening_fence, bullet_kind, ordered_kind, marker_at_gap, bullet_marker, decimal_value, is_number, marker_behind, ordered_marker, item_marker}
 use Rattle.cm_tree.specs.declared.tree.ListKind.{ListKind}
-use Rattle.cm_scan.specs.HtmlBlocks.{HtmlKind, html_start}
-use Rattle.cm_scan.specs.Starts.{Start, QuoteMarker, ItemStart, start_of_content, start_by, start_of}
+use Rattle.cm_scan.specs.blocks.HtmlBlocks.{HtmlKind, html_start}
+use Rattle.cm_scan.specs.blocks.Starts.{Start, QuoteMarker, ItemStart, start_of_content, start_by, start_of}
 use Rattle.cm_block.specs.steps.PlaceViews.{begins_quote}
 use Rattle.cm_block.proofs.StartLemmas.{first}
 

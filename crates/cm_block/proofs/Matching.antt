@@ -3,9 +3,9 @@ use Rattle.std.proofs.Common.{◌≡◌, ℕ, zero, suc, ◌+◌, ◌-◌, ◌<�
 use Rattle.cm_text.specs.Rules.{Rules}
 use Rattle.cm_text.specs.Lines.{LineView}
 use Rattle.cm_text.specs.Indentation.{indent_of, strip_columns}
-use Rattle.cm_scan.specs.Lines.{is_blank, past, as_lazy}
-use Rattle.cm_scan.specs.Laws.{goes_inward}
-use Rattle.cm_scan.specs.Starts.{Start, IndentedCode, QuoteMarker, AtxHeading, OpeningFence, HtmlStart, BreakLine, ItemStart, TextLine, start_of, Place, Stays, StaysIfOpen, Leaves, may_be_lazy, place_if_lazy, behind_quote_marker, quote_place, place_in_quote, item_place, place_in_item}
+use Rattle.cm_scan.specs.blocks.Lines.{is_blank, past, as_lazy}
+use Rattle.cm_scan.specs.laws.Laws.{goes_inward}
+use Rattle.cm_scan.specs.blocks.Starts.{Start, IndentedCode, QuoteMarker, AtxHeading, OpeningFence, HtmlStart, BreakLine, ItemStart, TextLine, start_of, Place, Stays, StaysIfOpen, Leaves, may_be_lazy, place_if_lazy, behind_quote_marker, quote_place, place_in_quote, item_place, place_in_item}
 use Rattle.std.specs.Prelude.{nat_le}
 use Rattle.std.specs.List.{slice_index_or}
 use Rattle.cm_block.specs.declared.stack.Frame as code

@@ -6,17 +6,17 @@ use Rattle.cm_text.specs.Rules.{Rules}
 use Rattle.cm_text.specs.Lines.{LineView}
 use Rattle.cm_text.specs.Indentation.{indent_of}
 use Rattle.cm_scan.specs.Words.{is_blank_text, is_empty, trim_end}
-use Rattle.cm_scan.specs.Lines.{is_blank, content_of, past}
-use Rattle.cm_scan.specs.LineForms.{ItemMarker, underline}
+use Rattle.cm_scan.specs.blocks.Lines.{is_blank, content_of, past}
+use Rattle.cm_scan.specs.blocks.LineForms.{ItemMarker, underline}
 use Rattle.cm_scan.specs.Scanned.{ending}
-use Rattle.cm_scan.specs.Links.{definitions_of}
-use Rattle.cm_scan.specs.Starts.{Start, TextLine, start_of, ItemStart, starts_at_one, can_interrupt, interrupts_paragraph, underline_of}
+use Rattle.cm_scan.specs.inlines.Links.{definitions_of}
+use Rattle.cm_scan.specs.blocks.Starts.{Start, TextLine, start_of, ItemStart, starts_at_one, can_interrupt, interrupts_paragraph, underline_of}
 use Rattle.cm_text.specs.Views.{seen_view}
 use Rattle.cm_text.specs.declared.view.View.{View}
-use Rattle.cm_scan.specs.HtmlBlocks.{is_at_letter}
-use Rattle.cm_scan.specs.Blocks.{rest_of, NextLine, GoesOn, Ends, Underlines, by_interruption, by_underline, next_line}
+use Rattle.cm_scan.specs.blocks.HtmlBlocks.{is_at_letter}
+use Rattle.cm_scan.specs.blocks.Blocks.{rest_of, NextLine, GoesOn, Ends, Underlines, by_interruption, by_underline, next_line}
 use Rattle.std.specs.List.{slice_range}
-use Rattle.cm_scan.proofs.HtmlLemmas.{slice_from}
+use Rattle.cm_scan.proofs.lemmas.blocks.WordsInAnyCase.{slice_from}
 use Rattle.cm_block.specs.steps.LeafSteps.{level_above, heading_level}
 use Rattle.cm_block.proofs.StartLemmas.{at_letter, starts_lazy, letter_starts, letter_underlines}
 

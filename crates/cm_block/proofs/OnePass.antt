@@ -8,15 +8,15 @@ use Rattle.cm_text.specs.Rules.{Rules}
 use Rattle.cm_text.specs.Lines.{LineView}
 use Rattle.cm_text.specs.Indentation.{indent_of, strip_columns}
 use Rattle.cm_tree.specs.declared.tree.ListKind.{ListKind}
-use Rattle.cm_scan.specs.Lines.{is_blank, content_of, with_ending, marks, size}
-use Rattle.cm_scan.specs.LineForms.{Fence, is_closing_fence}
-use Rattle.cm_scan.specs.HtmlBlocks.{HtmlKind, RawText, Comment, Instruction, Declaration, CharacterData, BlockTag, AnyTag, is_html_end, ends_at_blank_line}
-use Rattle.cm_scan.specs.Starts.{Start, IndentedCode, QuoteMarker, AtxHeading, OpeningFence, HtmlStart, BreakLine, ItemStart, TextLine, start_of, Place, Stays, StaysIfOpen, Leaves, behind_quote_marker, place_in_quote, content_column, first_content, place_in_item}
-use Rattle.cm_scan.specs.Parts.{LeafPart, heading, code, html, thematic_break, Parts, none, blank, leaf, leaves_paragraph_open, put_leaves, info_of}
-use Rattle.cm_scan.specs.Blocks.{add_text, NextLine, GoesOn, Ends, Underlines, next_line, TextRun, text_run, leaves_of_run, Taken, taken, closes_fence, fenced, html_to_end, html_to_blank, html_lines, code_line, indented, Inside, inside, is_bare, quote_parts, item_parts, fence_parts, html_parts, code_parts, text_parts, parts_by_start, parts_of}
-use Rattle.cm_scan.specs.Laws.{goes_inward, next_inward}
-use Rattle.cm_scan.proofs.Sizes.{marks-behind_quote_marker, marks-first_content, Keeps, keeps-quote, keeps-item, size-append}
-use Rattle.cm_scan.proofs.Cases.{no_lines, blank_case, starting, inside-in, inside-out}
+use Rattle.cm_scan.specs.blocks.Lines.{is_blank, content_of, with_ending, marks, size}
+use Rattle.cm_scan.specs.blocks.LineForms.{Fence, is_closing_fence}
+use Rattle.cm_scan.specs.blocks.HtmlBlocks.{HtmlKind, RawText, Comment, Instruction, Declaration, CharacterData, BlockTag, AnyTag, is_html_end, ends_at_blank_line}
+use Rattle.cm_scan.specs.blocks.Starts.{Start, IndentedCode, QuoteMarker, AtxHeading, OpeningFence, HtmlStart, BreakLine, ItemStart, TextLine, start_of, Place, Stays, StaysIfOpen, Leaves, behind_quote_marker, place_in_quote, content_column, first_content, place_in_item}
+use Rattle.cm_scan.specs.blocks.Parts.{LeafPart, heading, code, html, thematic_break, Parts, none, blank, leaf, leaves_paragraph_open, put_leaves, info_of}
+use Rattle.cm_scan.specs.blocks.Blocks.{add_text, NextLine, GoesOn, Ends, Underlines, next_line, TextRun, text_run, leaves_of_run, Taken, taken, closes_fence, fenced, html_to_end, html_to_blank, html_lines, code_line, indented, Inside, inside, is_bare, quote_parts, item_parts, fence_parts, html_parts, code_parts, text_parts, parts_by_start, parts_of}
+use Rattle.cm_scan.specs.laws.Laws.{goes_inward, next_inward}
+use Rattle.cm_scan.proofs.lemmas.blocks.LineSizes.{marks-behind_quote_marker, marks-first_content, Keeps, keeps-quote, keeps-item, size-append}
+use Rattle.cm_scan.proofs.lemmas.blocks.PartsByCases.{no_lines, blank_case, starting, inside-in, inside-out}
 use Rattle.cm_block.specs.OpenLeaf.{OpenLeaf, no_leaf, open_text, open_code, open_fence, open_html, run_leaves, closed_leaves, blank_lines_behind, LeafLine, stays_open, is_last, line_of_text, line_of_code, line_of_fence, line_of_html, line_of_leaf, LineOpens, begins_nothing, begin_of_start, begin_of, open_as}
 use Rattle.cm_block.specs.Machine.{Piece, blank_piece, quote_piece, item_piece, put, put_all, Open, in_leaf, in_quote, in_item, has_open_text, Change, change, leaf_pieces, closing, leaf_change, begin_by, begin, after_closing, leaf_step, step, Machine, new_machine, take_line, take_lines, close, parts_in_one_pass}
 use Rattle.cm_block.specs.Laws.{OnePass}

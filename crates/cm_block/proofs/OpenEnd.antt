@@ -7,15 +7,15 @@ use Rattle.cm_text.specs.Lines.{LineView}
 use Rattle.cm_text.specs.Indentation.{indent_of}
 use Rattle.cm_tree.specs.declared.tree.ListKind.{ListKind}
 use Rattle.cm_scan.specs.Words.{is_space_or_tab, is_empty, keep_byte, trim_end_by, trim_end, given}
-use Rattle.cm_scan.specs.Lines.{is_blank, marks}
-use Rattle.cm_scan.specs.LineForms.{is_same_kind}
-use Rattle.cm_scan.specs.HtmlBlocks.{HtmlKind, is_html_end, ends_at_blank_line}
-use Rattle.cm_scan.specs.Links.{LinkDefinition, Definitions, link_definition, definitions_within, definitions_of}
-use Rattle.cm_scan.specs.Starts.{Start, IndentedCode, QuoteMarker, AtxHeading, OpeningFence, HtmlStart, BreakLine, ItemStart, TextLine, start_of, place_in_quote, place_in_item}
-use Rattle.cm_scan.specs.Parts.{LeafPart, is_open_leaf, Parts, none, blank, leaf, quote, list, ItemParts, leaves_open_after, items_leave_open, leaves_paragraph_open, next_items, put_before, put_item}
-use Rattle.cm_scan.specs.Blocks.{rest_of, NextLine, GoesOn, Ends, Underlines, next_line, definition_leaves, content_leaf, leaves_of_run, closes_fence}
-use Rattle.cm_scan.specs.Laws.{goes_inward}
-use Rattle.cm_scan.proofs.Counted.{Firm, firm-content, firm-add_text, underlined}
+use Rattle.cm_scan.specs.blocks.Lines.{is_blank, marks}
+use Rattle.cm_scan.specs.blocks.LineForms.{is_same_kind}
+use Rattle.cm_scan.specs.blocks.HtmlBlocks.{HtmlKind, is_html_end, ends_at_blank_line}
+use Rattle.cm_scan.specs.inlines.Links.{LinkDefinition, Definitions, link_definition, definitions_within, definitions_of}
+use Rattle.cm_scan.specs.blocks.Starts.{Start, IndentedCode, QuoteMarker, AtxHeading, OpeningFence, HtmlStart, BreakLine, ItemStart, TextLine, start_of, place_in_quote, place_in_item}
+use Rattle.cm_scan.specs.blocks.Parts.{LeafPart, is_open_leaf, Parts, none, blank, leaf, quote, list, ItemParts, leaves_open_after, items_leave_open, leaves_paragraph_open, next_items, put_before, put_item}
+use Rattle.cm_scan.specs.blocks.Blocks.{rest_of, NextLine, GoesOn, Ends, Underlines, next_line, definition_leaves, content_leaf, leaves_of_run, closes_fence}
+use Rattle.cm_scan.specs.laws.Laws.{goes_inward}
+use Rattle.cm_scan.proofs.lemmas.blocks.CountedLines.{Firm, firm-content, firm-add_text, underlined}
 use Rattle.cm_block.specs.OpenLeaf.{OpenLeaf, no_leaf, open_text, open_code, open_fence, open_html, run_leaves, closed_leaves, is_open_text, LeafLine, stays_open, is_last, line_of_text, line_of_code, line_of_fence, line_of_html, line_of_leaf, LineOpens, begins_nothing, begins_leaf, begins_quote, begins_item, begin_of_start, begin_of}
 use Rattle.cm_block.specs.Machine.{Piece, blank_piece, leaf_piece, quote_piece, item_piece, put, put_all, Open, in_leaf, in_quote, in_item, has_open_text, Change, change, leaf_pieces, closing, leaf_change, begin_by, begin_within, begin, after_closing, leaf_step, step, Machine, new_machine, take_line, take_lines}
 use Rattle.cm_block.proofs.BeginCases.{OfInner, inner-less, of-less}

@@ -4,8 +4,8 @@ use Rattle.cm_text.specs.Rules.{Rules}
 use Rattle.cm_text.specs.Lines.{LineView}
 use Rattle.cm_tree.specs.declared.tree.ListKind.{ListKind}
 use Rattle.cm_tree.specs.declared.tree.Owner.TheVariants.{Marker}
-use Rattle.cm_scan.specs.Lines.{is_blank}
-use Rattle.cm_scan.specs.Starts.{Start, start_of}
+use Rattle.cm_scan.specs.blocks.Lines.{is_blank}
+use Rattle.cm_scan.specs.blocks.Starts.{Start, start_of}
 use Rattle.cm_block.specs.OpenLeaf.{no_leaf, LeafLine, LineOpens, begins_nothing, begins_leaf, begins_quote, begins_item, begin_of_start, begin_of}
 use Rattle.cm_block.specs.Level.{Level, empty_level, push_blank, block_opens, item_opens}
 use Rattle.cm_block.specs.Stack.{Owned, own_lines, blank_owner, push_leaf_line, push_by, push_begin}

@@ -8,8 +8,8 @@ use Rattle.cm_tree.specs.declared.tree.Owner.TheVariants.{Leaf, Marker, Blank}
 use Rattle.cm_tree.specs.Definitions.{Target, Targets, add_first, add_all}
 use Rattle.cm_text.specs.Labels.{fold_label}
 use Rattle.cm_text.specs.Unescaping.{unescape}
-use Rattle.cm_scan.specs.LineForms.{is_same_kind}
-use Rattle.cm_scan.specs.Parts.{LeafPart, paragraph, heading, code, html, thematic_break, definition, Parts, none, blank, leaf, quote, list, ItemParts, next_items, put_before, put_item, leaf_count, item_leaf_count, marked, marked_first, owners_after, item_owners_after, definitions_in, item_definitions_in}
+use Rattle.cm_scan.specs.blocks.LineForms.{is_same_kind}
+use Rattle.cm_scan.specs.blocks.Parts.{LeafPart, paragraph, heading, code, html, thematic_break, definition, Parts, none, blank, leaf, quote, list, ItemParts, next_items, put_before, put_item, leaf_count, item_leaf_count, marked, marked_first, owners_after, item_owners_after, definitions_in, item_definitions_in}
 use Rattle.cm_block.specs.Machine.{Piece, blank_piece, leaf_piece, quote_piece, item_piece, put, put_all, leaf_pieces}
 use Rattle.cm_block.proofs.OpenEnd.{given-is}
 use Rattle.cm_block.specs.Stack.{Owned, table_with, own_leaf, own_lines, own_leaves, own_blanks}

@@ -5,10 +5,10 @@ use Rattle.cm_text.specs.Rules.{Rules}
 use Rattle.cm_text.specs.Lines.{LineView}
 use Rattle.cm_text.specs.LineText.{is_line}
 use Rattle.std.specs.FinMap as map
-use Rattle.cm_scan.specs.Lines.{size}
-use Rattle.cm_scan.specs.Parts.{LeafPart, depths_of}
-use Rattle.cm_scan.specs.Blocks.{parts_within, parts_of, blocks_of, owners_of, reference_table, first_too_deep}
-use Rattle.cm_scan.specs.Laws.{AreLines}
+use Rattle.cm_scan.specs.blocks.Lines.{size}
+use Rattle.cm_scan.specs.blocks.Parts.{LeafPart, depths_of}
+use Rattle.cm_scan.specs.blocks.Blocks.{parts_within, parts_of, blocks_of, owners_of, reference_table, first_too_deep}
+use Rattle.cm_scan.specs.laws.Laws.{AreLines}
 use Rattle.cm_block.specs.OpenLeaf.{OpenLeaf, no_leaf, open_text as a_run, is_open_text, run_leaves, closed_leaves, blank_lines_behind, LeafLine, stays_open, is_last, line_of_leaf}
 use Rattle.cm_block.specs.Machine.{in_leaf}
 use Rattle.cm_block.specs.Level.{Level, empty_level, closed_blocks, push_blank}

@@ -8,10 +8,10 @@ use Rattle.cm_text.specs.Rules.{Rules}
 use Rattle.cm_text.specs.Lines.{LineView}
 use Rattle.cm_text.specs.LineText.{is_line, tabs}
 use Rattle.cm_scan.specs.Words.{is_blank_text, run_length}
-use Rattle.cm_scan.specs.Lines.{is_blank, content_of, past, as_lazy}
-use Rattle.cm_scan.specs.Starts.{Start, IndentedCode, QuoteMarker, AtxHeading, OpeningFence, HtmlStart, BreakLine, ItemStart, TextLine, start_of, Place, Stays, StaysIfOpen, Leaves, may_be_lazy, place_if_lazy, behind_quote_marker, quote_place, place_in_quote, behind_marker, content_offset, content_column, first_content, place_in_item}
-use Rattle.cm_scan.specs.LineForms.{ItemMarker}
-use Rattle.cm_scan.specs.Laws.{goes_inward}
+use Rattle.cm_scan.specs.blocks.Lines.{is_blank, content_of, past, as_lazy}
+use Rattle.cm_scan.specs.blocks.Starts.{Start, IndentedCode, QuoteMarker, AtxHeading, OpeningFence, HtmlStart, BreakLine, ItemStart, TextLine, start_of, Place, Stays, StaysIfOpen, Leaves, may_be_lazy, place_if_lazy, behind_quote_marker, quote_place, place_in_quote, behind_marker, content_offset, content_column, first_content, place_in_item}
+use Rattle.cm_scan.specs.blocks.LineForms.{ItemMarker}
+use Rattle.cm_scan.specs.laws.Laws.{goes_inward}
 use Rattle.cm_text.specs.Indentation.{indent_of, strip_columns}
 use Rattle.cm_text.specs.Views.{seen_view}
 use Rattle.cm_text.specs.declared.view.View.{View}

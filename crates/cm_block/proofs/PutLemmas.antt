@@ -4,10 +4,10 @@ use Rattle.std.specs.List.{slice_range}
 use Rattle.std.proofs.lemmas.List.{drop_all, take-append-drop, length-drop}
 use Rattle.cm_tree.specs.declared.tree.Block.TheVariants.{Paragraph, Heading}
 use Rattle.cm_scan.specs.Words.{trim_end}
-use Rattle.cm_scan.specs.Links.{link_definition, Definitions, definitions_of}
-use Rattle.cm_scan.specs.Parts.{LeafPart, leaf_block, definition}
+use Rattle.cm_scan.specs.inlines.Links.{link_definition, Definitions, definitions_of}
+use Rattle.cm_scan.specs.blocks.Parts.{LeafPart, leaf_block, definition}
 use Rattle.cm_tree.specs.RawBlocks.{raw_inlines}
-use Rattle.cm_scan.specs.Blocks.{line_feeds, line_count, definition_leaves, content_leaf, leaves_of_run}
+use Rattle.cm_scan.specs.blocks.Blocks.{line_feeds, line_count, definition_leaves, content_leaf, leaves_of_run}
 use Rattle.cm_block.specs.Level.{Level, block_closes}
 use Rattle.cm_block.specs.OpenLeaf.{run_leaves}
 use Rattle.cm_block.specs.Stack.{Owned, table_with, close_leaves, own_leaf, own_leaves}

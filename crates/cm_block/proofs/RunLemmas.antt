@@ -4,10 +4,10 @@ use Rattle.std.specs.Prelude.{◌==◌}
 use Rattle.std.proofs.lemmas.List.{drop_all}
 use Rattle.std.proofs.lemmas.Bool.Decides.{nat_tests}
 use Rattle.memchr.specs.Find.{is_byte, places, places_from}
-use Rattle.cm_scan.specs.Links.{LinkDefinition, label, link_definition, Definitions, definitions_within, definitions_of}
-use Rattle.cm_scan.specs.Blocks.{line_feeds, line_count}
+use Rattle.cm_scan.specs.inlines.Links.{LinkDefinition, label, link_definition, Definitions, definitions_within, definitions_of}
+use Rattle.cm_scan.specs.blocks.Blocks.{line_feeds, line_count}
 use Rattle.cm_scan.specs.Scanned.{definition_with}
-use Rattle.cm_scan.proofs.Feeds.{takes_a_line}
+use Rattle.cm_scan.proofs.lemmas.links.LineFeedsLeft.{takes_a_line}
 use Rattle.cm_block.proofs.FeedLemmas.{feeds_within}
 
 -- the places of line feeds are as many as these

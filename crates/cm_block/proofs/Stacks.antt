@@ -9,12 +9,12 @@ use Rattle.cm_tree.specs.declared.tree.ListKind.{ListKind}
 use Rattle.cm_tree.specs.declared.tree.Block.{Block}
 use Rattle.cm_tree.specs.declared.tree.Block.TheVariants.{Quote}
 use Rattle.cm_tree.specs.declared.tree.Owner.TheVariants.{Marker}
-use Rattle.cm_scan.specs.Lines.{is_blank, marks}
-use Rattle.cm_scan.specs.Starts.{place_in_quote, place_in_item}
-use Rattle.cm_scan.specs.Parts.{LeafPart, Parts, none, blank, leaf, quote, list, ItemParts, last_item, next_items, put_before, put_item, leaf_block, is_separated, items_end_blank, ends_blank_after, blocks_of_parts, line_owners, table_of}
-use Rattle.cm_scan.specs.Blocks.{blocks_of, owners_of, reference_table}
-use Rattle.cm_scan.specs.Laws.{goes_inward}
-use Rattle.cm_scan.proofs.Counted.{one_owner}
+use Rattle.cm_scan.specs.blocks.Lines.{is_blank, marks}
+use Rattle.cm_scan.specs.blocks.Starts.{place_in_quote, place_in_item}
+use Rattle.cm_scan.specs.blocks.Parts.{LeafPart, Parts, none, blank, leaf, quote, list, ItemParts, last_item, next_items, put_before, put_item, leaf_block, is_separated, items_end_blank, ends_blank_after, blocks_of_parts, line_owners, table_of}
+use Rattle.cm_scan.specs.blocks.Blocks.{blocks_of, owners_of, reference_table}
+use Rattle.cm_scan.specs.laws.Laws.{goes_inward}
+use Rattle.cm_scan.proofs.lemmas.blocks.CountedLines.{one_owner}
 use Rattle.cm_block.specs.OpenLeaf.{OpenLeaf, no_leaf, open_text, open_code, open_fence, open_html, run_leaves, closed_leaves, blank_lines_behind, LeafLine, stays_open, is_last, line_of_leaf, LineOpens, begins_nothing, begins_leaf, begins_quote, begins_item, begin_of}
 use Rattle.cm_block.specs.Machine.{Piece, blank_piece, leaf_piece, quote_piece, item_piece, put_all, Open, in_leaf, in_quote, in_item, has_open_text, Change, change, leaf_pieces, closing, leaf_change, begin_by, begin_within, begin, after_closing, leaf_step, step, Machine, new_machine, take_line, take_lines, close, parts_in_one_pass}
 use Rattle.cm_block.specs.Level.{Level, empty_level, closed_blocks, push_blank, separated_next, block_opens, item_opens, block_closes, Item, push_block, push_item, item_of_parts, add, add_all}

@@ -6,17 +6,17 @@ use Rattle.cm_text.specs.Indentation.{indent_from, indent_of, strip_columns, aft
 use Rattle.cm_text.specs.Views.{seen_view}
 use Rattle.cm_text.specs.declared.view.View.{View}
 use Rattle.cm_text.proofs.StripLemmas.{strip_takes_columns}
-use Rattle.cm_scan.specs.Lines.{content_of}
+use Rattle.cm_scan.specs.blocks.Lines.{content_of}
 use Rattle.std.specs.Option.{is_some}
 use Rattle.cm_text.specs.Rules.{Rules}
 use Rattle.cm_scan.specs.Words.{is_digit, begins_with, given, ◌<|>◌, skip, front_of, run_length, trim_start}
-use Rattle.cm_scan.specs.LineForms.{Heading, Fence, ItemMarker, is_thematic_break, atx_heading, opening_fence, fence_of, item_marker, bullet_marker, ordered_marker, marker_behind}
-use Rattle.cm_scan.specs.HtmlBlocks.{HtmlKind, html_start, is_at_letter}
-use Rattle.cm_scan.proofs.Apart.{differs}
+use Rattle.cm_scan.specs.blocks.LineForms.{Heading, Fence, ItemMarker, is_thematic_break, atx_heading, opening_fence, fence_of, item_marker, bullet_marker, ordered_marker, marker_behind}
+use Rattle.cm_scan.specs.blocks.HtmlBlocks.{HtmlKind, html_start, is_at_letter}
+use Rattle.cm_scan.proofs.lemmas.texts.ToldApart.{differs}
 use Rattle.std.proofs.lemmas.Bool.Decides.{nat_tests}
-use Rattle.cm_scan.proofs.QuietStarts.{no-heading, no-fence, no-html-start, no-bullet, no-number, no-break, letter-starts, letter-underlines, letter-content}
+use Rattle.cm_scan.proofs.lemmas.blocks.QuietStarts.{no-heading, no-fence, no-html-start, no-bullet, no-number, no-break, letter-starts, letter-underlines, letter-content}
 use Rattle.std.proofs.lemmas.Bool.{and_parts, eqb-true, ne_eqb}
-use Rattle.cm_scan.specs.Starts.{Start, IndentedCode, QuoteMarker, AtxHeading, OpeningFence, HtmlStart, BreakLine, ItemStart, TextLine, seen_as, or_text, start_of_content, start_of, underline_of}
+use Rattle.cm_scan.specs.blocks.Starts.{Start, IndentedCode, QuoteMarker, AtxHeading, OpeningFence, HtmlStart, BreakLine, ItemStart, TextLine, seen_as, or_text, start_of_content, start_of, underline_of}
 
 -- the first of these that is there
 abbrev pub first : Bool → Option Heading → Option Fence → Option HtmlKind → Bool → Option ItemMarker → Start

@@ -8,13 +8,13 @@ use Rattle.cm_text.specs.Indentation.{indent_of, strip_columns}
 use Rattle.cm_text.specs.TextLines.{begins_text, is_text_behind}
 use Rattle.cm_text.proofs.StripLemmas.{strip_takes_columns}
 use Rattle.cm_scan.specs.Words.{is_digit, is_space_or_tab, is_blank_text, trim_start, skip}
-use Rattle.cm_scan.specs.Lines.{is_blank, content_of, as_lazy}
-use Rattle.cm_scan.specs.LineForms.{underline}
-use Rattle.cm_scan.specs.Starts.{Start, IndentedCode, QuoteMarker, TextLine, start_of_content, start_of, start_by, may_be_lazy, can_interrupt, interrupts_paragraph, underline_of, underline_if, Place, Stays, StaysIfOpen, Leaves, place_if_lazy, quote_place, place_in_quote, item_place, place_in_item}
-use Rattle.cm_scan.specs.Blocks.{add_text, NextLine, GoesOn, Ends, by_underline, next_line}
-use Rattle.cm_scan.specs.Laws.{goes_inward}
-use Rattle.cm_scan.proofs.Apart.{differs, none-passes}
-use Rattle.cm_scan.proofs.QuietStarts.{starters, is_quiet, unmarked-start, no-number, no-level}
+use Rattle.cm_scan.specs.blocks.Lines.{is_blank, content_of, as_lazy}
+use Rattle.cm_scan.specs.blocks.LineForms.{underline}
+use Rattle.cm_scan.specs.blocks.Starts.{Start, IndentedCode, QuoteMarker, TextLine, start_of_content, start_of, start_by, may_be_lazy, can_interrupt, interrupts_paragraph, underline_of, underline_if, Place, Stays, StaysIfOpen, Leaves, place_if_lazy, quote_place, place_in_quote, item_place, place_in_item}
+use Rattle.cm_scan.specs.blocks.Blocks.{add_text, NextLine, GoesOn, Ends, by_underline, next_line}
+use Rattle.cm_scan.specs.laws.Laws.{goes_inward}
+use Rattle.cm_scan.proofs.lemmas.texts.ToldApart.{differs, none-passes}
+use Rattle.cm_scan.proofs.lemmas.blocks.QuietStarts.{starters, is_quiet, unmarked-start, no-number, no-level}
 use Rattle.cm_block.specs.OpenLeaf.{OpenLeaf, no_leaf, open_text, open_code, open_fence, open_html, line_of_text, line_of_leaf}
 use Rattle.cm_block.specs.Machine.{Open, in_leaf, in_quote, in_item, has_open_text}
 use Rattle.cm_block.specs.Level.{Level}

@@ -8,9 +8,9 @@ use Rattle.cm_text.specs.Lines.{LineView, lines_of, plain_line, plain_lines_of, 
 use Rattle.cm_text.specs.TextLines.{begins_text, is_text_behind, are_text, AreTextLines}
 use Rattle.cm_text.proofs.TextLineLemmas.{all_lines, begins_as_text}
 use Rattle.cm_scan.specs.Words.{is_space_or_tab, trim_start, skip}
-use Rattle.cm_scan.specs.Lines.{content_of}
-use Rattle.cm_scan.specs.Blocks.{line_feeds, add_text}
-use Rattle.cm_scan.proofs.Apart.{differs}
+use Rattle.cm_scan.specs.blocks.Lines.{content_of}
+use Rattle.cm_scan.specs.blocks.Blocks.{line_feeds, add_text}
+use Rattle.cm_scan.proofs.lemmas.texts.ToldApart.{differs}
 use Rattle.cm_block.specs.steps.TextRuns.{add_lines, with_line}
 use Rattle.cm_block.proofs.FeedLemmas.{feeds_append, feeds_of_line, feeds_ended}
 

@@ -7,8 +7,8 @@ use Rattle.cm_text.specs.LineText.{is_line}
 use Rattle.cm_text.specs.Lines.{LineView, plain_line}
 use Rattle.cm_text.specs.TextLines.{is_text_behind, are_text}
 use Rattle.cm_scan.specs.Words.{trim_start}
-use Rattle.cm_scan.specs.Lines.{content_of}
-use Rattle.cm_scan.specs.Blocks.{add_text}
+use Rattle.cm_scan.specs.blocks.Lines.{content_of}
+use Rattle.cm_scan.specs.blocks.Blocks.{add_text}
 use Rattle.cm_block.specs.OpenLeaf.{OpenLeaf, no_leaf, open_text, open_code, open_fence, open_html, is_open_text, stays_open}
 use Rattle.cm_block.specs.Machine.{Open}
 use Rattle.cm_block.specs.Level.{Level}

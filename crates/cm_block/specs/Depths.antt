@@ -5,9 +5,9 @@ use Rattle.std.specs.List.{position}
 use Rattle.std.specs.Option.{option_map}
 use Rattle.cm_text.specs.Rules.{Rules}
 use Rattle.cm_text.specs.Lines.{LineView}
-use Rattle.cm_scan.specs.Parts.{depths_of}
-use Rattle.cm_scan.specs.Blocks.{parts_of, first_too_deep}
-use Rattle.cm_scan.specs.Laws.{AreLines}
+use Rattle.cm_scan.specs.blocks.Parts.{depths_of}
+use Rattle.cm_scan.specs.blocks.Blocks.{parts_of, first_too_deep}
+use Rattle.cm_scan.specs.laws.Laws.{AreLines}
 use Rattle.cm_block.specs.Machine.{Open, in_leaf, in_quote, in_item}
 use Rattle.cm_block.specs.Stack.{Stack, empty_stack, push_line, push_lines}
 

@@ -4,8 +4,8 @@ use Rattle.std.specs.Prelude.{◌≡◌, Bool, true, false}
 use Rattle.cm_text.specs.Rules.{Rules}
 use Rattle.cm_text.specs.Lines.{LineView}
 use Rattle.cm_text.specs.TextLines.{is_text_behind}
-use Rattle.cm_scan.specs.Lines.{is_blank, content_of}
-use Rattle.cm_scan.specs.Blocks.{add_text}
+use Rattle.cm_scan.specs.blocks.Lines.{is_blank, content_of}
+use Rattle.cm_scan.specs.blocks.Blocks.{add_text}
 use Rattle.cm_block.specs.OpenLeaf.{OpenLeaf, open_text}
 use Rattle.cm_block.specs.Machine.{Open, in_leaf, in_quote, in_item, has_open_text}
 use Rattle.cm_block.specs.Level.{Level}

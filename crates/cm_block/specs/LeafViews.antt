@@ -1,8 +1,8 @@
 -- The open leaf and the closed ones, as the code has them. The code counts the lines of a leaf by the line
 -- feeds in its text.
 use Rattle.std.specs.Prelude.{ℕ, suc, List, [], ◌∷◌, ◌++◌, string_bytes}
-use Rattle.cm_scan.specs.HtmlKinds.{kind_of}
-use Rattle.cm_scan.specs.Blocks.{line_feeds}
+use Rattle.cm_scan.specs.blocks.HtmlKinds.{kind_of}
+use Rattle.cm_scan.specs.blocks.Blocks.{line_feeds}
 use Rattle.cm_block.specs.declared.leaf.OpenLeaf.{OpenLeaf}
 use Rattle.cm_block.specs.declared.leaf.OpenLeaf.TheVariants.{Nothing, Run, Code, Fence, Html}
 use Rattle.cm_block.specs.OpenLeaf as spec

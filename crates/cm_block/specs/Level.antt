@@ -4,8 +4,8 @@ use Rattle.std.specs.Prelude.{◌≡◌, Bool, true, false, not, ◌&&◌, ◌||
 use Rattle.cm_tree.specs.declared.tree.ListKind.{ListKind}
 use Rattle.cm_tree.specs.declared.tree.Block.{Block}
 use Rattle.cm_tree.specs.declared.tree.Block.TheVariants.{Quote, List as ListBlock}
-use Rattle.cm_scan.specs.LineForms.{is_same_kind}
-use Rattle.cm_scan.specs.Parts.{Parts, none, last_item, leaf_block, is_separated, items_end_blank, ends_blank_after, blocks_of_parts}
+use Rattle.cm_scan.specs.blocks.LineForms.{is_same_kind}
+use Rattle.cm_scan.specs.blocks.Parts.{Parts, none, last_item, leaf_block, is_separated, items_end_blank, ends_blank_after, blocks_of_parts}
 use Rattle.cm_block.specs.Machine.{Piece, blank_piece, leaf_piece, quote_piece, item_piece, put_all}
 
 -- A list with its closed items and its mark of looseness. A further item of it may be open.

@@ -5,12 +5,12 @@ use Rattle.cm_text.specs.Rules.{Rules}
 use Rattle.cm_text.specs.Lines.{LineView}
 use Rattle.cm_text.specs.Indentation.{indent_of, strip_columns}
 use Rattle.cm_tree.specs.declared.tree.ListKind.{ListKind}
-use Rattle.cm_scan.specs.Lines.{is_blank, content_of, with_ending}
-use Rattle.cm_scan.specs.LineForms.{Fence}
-use Rattle.cm_scan.specs.HtmlBlocks.{HtmlKind, is_html_end, ends_at_blank_line}
-use Rattle.cm_scan.specs.Starts.{Start, IndentedCode, QuoteMarker, AtxHeading, OpeningFence, HtmlStart, BreakLine, ItemStart, TextLine, start_of, behind_quote_marker, content_column, first_content}
-use Rattle.cm_scan.specs.Parts.{info_of, LeafPart, heading, code, html, thematic_break}
-use Rattle.cm_scan.specs.Blocks.{add_text, NextLine, GoesOn, Ends, Underlines, next_line, leaves_of_run, closes_fence, code_line}
+use Rattle.cm_scan.specs.blocks.Lines.{is_blank, content_of, with_ending}
+use Rattle.cm_scan.specs.blocks.LineForms.{Fence}
+use Rattle.cm_scan.specs.blocks.HtmlBlocks.{HtmlKind, is_html_end, ends_at_blank_line}
+use Rattle.cm_scan.specs.blocks.Starts.{Start, IndentedCode, QuoteMarker, AtxHeading, OpeningFence, HtmlStart, BreakLine, ItemStart, TextLine, start_of, behind_quote_marker, content_column, first_content}
+use Rattle.cm_scan.specs.blocks.Parts.{info_of, LeafPart, heading, code, html, thematic_break}
+use Rattle.cm_scan.specs.blocks.Blocks.{add_text, NextLine, GoesOn, Ends, Underlines, next_line, leaves_of_run, closes_fence, code_line}
 
 -- What is open: a run of text, by its source; indented code, with the text of the blank lines that wait for a further line of code,
 -- and how many they are; a fence, with the columns that each line loses; an HTML block.

@@ -13,19 +13,19 @@ use Rattle.cm_text.specs.declared.references.Chars.{Chars}
 use Rattle.cm_tree.specs.Depth.{depth_of}
 use Rattle.cm_tree.specs.declared.tree.Inline.TheVariants as inline
 use Rattle.cm_scan.specs.Words.{begins_with, run_length, after_run, after_word}
-use Rattle.cm_scan.specs.Links.{Reading}
-use Rattle.cm_scan.specs.Autolinks.{Autolink, followed_autolink}
-use Rattle.cm_scan.specs.RawHtml.{raw_html}
-use Rattle.cm_scan.specs.Angles.{Angled, Addressed, Tagged, before, tagged, at_angle}
-use Rattle.cm_scan.specs.CodeSpans.{span_content, one_line, stripped, code_span}
+use Rattle.cm_scan.specs.inlines.Links.{Reading}
+use Rattle.cm_scan.specs.spans.Autolinks.{Autolink, followed_autolink}
+use Rattle.cm_scan.specs.spans.RawHtml.{raw_html}
+use Rattle.cm_scan.specs.spans.Angles.{Angled, Addressed, Tagged, before, tagged, at_angle}
+use Rattle.cm_scan.specs.spans.CodeSpans.{span_content, one_line, stripped, code_span}
 use Rattle.cm_scan.specs.Scanned.{whole_of}
-use Rattle.cm_scan.specs.Delimiters as delimiters
-use Rattle.cm_scan.specs.Pairing as items
-use Rattle.cm_scan.specs.Atoms.{AtomRead, Plain, Whole, Delimiter, OpenBracket, read, is_markup, or_byte, byte_atom, backtick_atom, angle_atom, link_of, backslash_atom, reference_atom, break_atom, run_between, run_atom, tilde_atom, bang_atom, markup_atom, atom_at}
-use Rattle.cm_scan.proofs.ReadFurther.{none-some, false-true}
-use Rattle.cm_scan.proofs.ReadingLemmas.{begins-at}
-use Rattle.cm_scan.proofs.LeftLemmas.{atom-left}
-use Rattle.cm_scan.proofs.RunLemmas.{not-same}
+use Rattle.cm_scan.specs.inlines.Delimiters as delimiters
+use Rattle.cm_scan.specs.inlines.Pairing as items
+use Rattle.cm_scan.specs.inlines.Atoms.{AtomRead, Plain, Whole, Delimiter, OpenBracket, read, is_markup, or_byte, byte_atom, backtick_atom, angle_atom, link_of, backslash_atom, reference_atom, break_atom, run_between, run_atom, tilde_atom, bang_atom, markup_atom, atom_at}
+use Rattle.cm_scan.proofs.lemmas.texts.WordsGoOn.{none-some, false-true}
+use Rattle.cm_scan.proofs.lemmas.texts.ScannerAnswers.{begins-at}
+use Rattle.cm_scan.proofs.lemmas.inlines.LeftByEachStep.{atom-left}
+use Rattle.cm_scan.proofs.lemmas.spans.BacktickStrings.{not-same}
 use Rattle.cm_inline.proofs.BottomLemmas.{kind-small, kind-untilded}
 use Rattle.cm_inline.proofs.EmphasisLemmas.{emph-holds, code-holds, html-holds, hard-holds, soft-holds, autolink-holds}
 use Rattle.cm_inline.proofs.DepthLemmas.{code-depth, html-depth, hard-depth, soft-depth, link-depth}

@@ -1,9 +1,9 @@
 -- Closers of one kind match the same openers, and the search for an opener passes over items of which none is one.
 use Rattle.std.proofs.Common.{◌≡◌, inl, inr, ℕ, ◌+◌, ◌%◌, ◌<◌, Bool, true, false, cond, not, ◌&&◌, ◌||◌, ◌==◌, List, [], ◌∷◌, ◌++◌, reverse, Some, None, refl, sym, ap, ◌∙◌, arith, append-nil}
 use Rattle.std.specs.Prelude.{⊤}
-use Rattle.cm_scan.specs.Delimiters.{Run, is_multiple_of_3, delimiters_match}
-use Rattle.cm_scan.specs.Pairing.{Item, Characters, Finished, Linked, Delimiters, Opener, nearest_opener}
-use Rattle.cm_scan.proofs.PairingLemmas.{reverse-first, nearest-found, nearest-passes, opened_at}
+use Rattle.cm_scan.specs.inlines.Delimiters.{Run, is_multiple_of_3, delimiters_match}
+use Rattle.cm_scan.specs.inlines.Pairing.{Item, Characters, Finished, Linked, Delimiters, Opener, nearest_opener}
+use Rattle.cm_scan.proofs.lemmas.inlines.PairingLemmas.{reverse-first, nearest-found, nearest-passes, opened_at}
 use Rattle.cm_inline.specs.steps.Searching.{kind, IsMarked}
 
 -- closers of stars or underscores with these in common

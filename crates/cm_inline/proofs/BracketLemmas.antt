@@ -5,8 +5,8 @@ use Rattle.std.specs.List.{slice_range}
 use Rattle.std.proofs.lemmas.List.{append-nil, reverse-append, map-append}
 use Rattle.std.proofs.Math.Seq.{take-append_seam, drop-append-add}
 use Rattle.cm_text.specs.Rules.{Rules}
-use Rattle.cm_scan.specs.Pairing.{Item, bracket_text}
-use Rattle.cm_scan.specs.Brackets.{Defined, LinkEnd, Bracketed, OpenerFound, last_opener, source_up_to, end_at, holds_link, made, bracket_is_text, brackets_are_text, closed_by_bracket, close_bracket}
+use Rattle.cm_scan.specs.inlines.Pairing.{Item, bracket_text}
+use Rattle.cm_scan.specs.inlines.Brackets.{Defined, LinkEnd, Bracketed, OpenerFound, last_opener, source_up_to, end_at, holds_link, made, bracket_is_text, brackets_are_text, closed_by_bracket, close_bracket}
 use Rattle.cm_inline.specs.declared.brackets.Bracket.{Bracket}
 use Rattle.cm_inline.specs.steps.Nodes.{Node, Piece, Characters, Whole, Finished, Run, Opener, item_of, items_of}
 use Rattle.cm_inline.specs.steps.Brackets.{bracket_in, brackets_from, LinksEnd, closed_at, end_for, outside_of, inside_of, link_made, left_as_text}

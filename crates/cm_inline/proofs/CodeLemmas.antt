@@ -4,8 +4,8 @@ use Rattle.std.specs.List.{list_all, slice_range}
 use Rattle.std.proofs.lemmas.Bool.Decides.{nat_tests}
 use Rattle.std.proofs.lemmas.List.{take-take, drop-drop, length-take-le, get_or-take, get_or-drop}
 use Rattle.memchr.specs.Find.{is_byte, Passes, Nowhere}
-use Rattle.cm_scan.specs.Autolinks.{ends_with}
-use Rattle.cm_scan.specs.CodeSpans.{one_line, but_last, stripped}
+use Rattle.cm_scan.specs.spans.Autolinks.{ends_with}
+use Rattle.cm_scan.specs.spans.CodeSpans.{one_line, but_last, stripped}
 
 abbrev pub is_space : ℕ → Bool
 is_space b = b == 32 || b == 10

@@ -10,14 +10,14 @@ use Rattle.cm_tree.specs.declared.tree.Inline.TheVariants.{Link, Image}
 use Rattle.cm_tree.specs.declared.tree.Inline.TheViews.{outs-Link, outs-Image}
 use Rattle.cm_tree.specs.declared.tree.Inline.TheFolds.{fold_out-Inline}
 use Rattle.cm_tree.specs.Depth.{depth_step, depth_of, inlines_depth}
-use Rattle.cm_scan.specs.Delimiters.{Run}
-use Rattle.cm_scan.specs.Pairing.{Item, Characters, Finished, Linked, Delimiters, Opener, Opened, nearest_opener, without, used, emphasised, settled_after, settled, pair_all, emphasis_of, bracket_text}
-use Rattle.cm_scan.specs.OnePass.{up_to_pair, closer_left, closed_within, passed, pass_from}
-use Rattle.cm_scan.specs.Atoms.{Atom, Plain, Whole, Delimiter, OpenBracket, CloseBracket, atom_at}
-use Rattle.cm_scan.specs.Brackets.{LinkEnd, Defined, end_at, OpenerFound, last_opener, holds_link, made, Bracketed, bracket_is_text, brackets_are_text, source_up_to, closed_by_bracket, close_bracket}
-use Rattle.cm_scan.specs.Inlines.{add_atom, item_step, items_after}
-use Rattle.cm_scan.proofs.PairingLemmas.{nearest-splits, together}
-use Rattle.cm_scan.proofs.OnePassLemmas.{pairs_in_one_pass, closed-none, closed-gone, closed-more, closed_by-gone, closed_by-more}
+use Rattle.cm_scan.specs.inlines.Delimiters.{Run}
+use Rattle.cm_scan.specs.inlines.Pairing.{Item, Characters, Finished, Linked, Delimiters, Opener, Opened, nearest_opener, without, used, emphasised, settled_after, settled, pair_all, emphasis_of, bracket_text}
+use Rattle.cm_scan.specs.inlines.OnePass.{up_to_pair, closer_left, closed_within, passed, pass_from}
+use Rattle.cm_scan.specs.inlines.Atoms.{Atom, Plain, Whole, Delimiter, OpenBracket, CloseBracket, atom_at}
+use Rattle.cm_scan.specs.inlines.Brackets.{LinkEnd, Defined, end_at, OpenerFound, last_opener, holds_link, made, Bracketed, bracket_is_text, brackets_are_text, source_up_to, closed_by_bracket, close_bracket}
+use Rattle.cm_scan.specs.inlines.Inlines.{add_atom, item_step, items_after}
+use Rattle.cm_scan.proofs.lemmas.inlines.PairingLemmas.{nearest-splits, together}
+use Rattle.cm_scan.proofs.lemmas.inlines.OnePassLemmas.{pairs_in_one_pass, closed-none, closed-gone, closed-more, closed_by-gone, closed_by-more}
 use Rattle.cm_inline.specs.declared.fault.InlineFault.{InlineFault}
 use Rattle.cm_inline.specs.steps.Nodes.{Node, items_of, nodes_depth, AreParts}
 use Rattle.cm_inline.specs.steps.Depths.{item_depth, items_depth}

@@ -6,11 +6,11 @@ use Rattle.cm_tree.specs.declared.tree.Inline.TheVariants.{Text, Code, Html, Sof
 use Rattle.cm_tree.specs.declared.tree.Inline.TheViews.{outs-Text, outs-Code, outs-Html, outs-Soft, outs-Hard, outs-Link, outs-Emph, outs-Strong, outs-Strike}
 use Rattle.cm_tree.specs.declared.tree.Inline.TheFolds.{fold_out-Inline}
 use Rattle.cm_tree.specs.Depth.{depth_step, depth_of, inlines_depth}
-use Rattle.cm_scan.specs.Autolinks.{Autolink}
-use Rattle.cm_scan.specs.Atoms.{link_of}
-use Rattle.cm_scan.specs.Pairing.{text_before, settled_after, settled, emphasised}
+use Rattle.cm_scan.specs.spans.Autolinks.{Autolink}
+use Rattle.cm_scan.specs.inlines.Atoms.{link_of}
+use Rattle.cm_scan.specs.inlines.Pairing.{text_before, settled_after, settled, emphasised}
 use Rattle.cm_inline.specs.steps.Nodes.{Node, Piece, Characters, Whole, Finished, Run, Opener, items_of, nodes_depth, AreParts}
-use Rattle.cm_scan.specs.CodeSpans.{one_line}
+use Rattle.cm_scan.specs.spans.CodeSpans.{one_line}
 use Rattle.std.specs.List.{slice_range}
 use Rattle.cm_inline.specs.declared.standalone.Standalone.{Standalone}
 use Rattle.cm_inline.specs.declared.standalone.Standalone.TheVariants as standalone

@@ -6,13 +6,13 @@ use Rattle.cm_tree.specs.declared.tree.Inline.{Inline}
 use Rattle.cm_tree.specs.declared.tree.Inline.TheVariants.{Text, Code, Html, Soft, Hard, Emph, Strong, Strike, Link, Image}
 use Rattle.cm_tree.specs.declared.tree.Inline.TheViews.{outs-Text, outs-Code, outs-Html, outs-Soft, outs-Hard, outs-Emph, outs-Strong, outs-Strike, outs-Link, outs-Image}
 use Rattle.cm_tree.specs.declared.tree.Inline.TheFolds.{fold_out-Inline}
-use Rattle.cm_scan.specs.Autolinks.{Autolink}
-use Rattle.cm_scan.specs.Atoms.{link_of}
-use Rattle.cm_scan.specs.Delimiters.{Run}
-use Rattle.cm_scan.specs.Pairing.{Item, Characters, Finished, Linked, Delimiters, Opener, Opened, bracket_text, text_before, settled_after, settled, emphasis_of, emphasised, used, without, nearest_opener}
-use Rattle.cm_scan.specs.Brackets.{holds_link, made}
-use Rattle.cm_scan.specs.OnePass.{up_to_pair}
-use Rattle.cm_scan.proofs.PairingLemmas.{nearest-splits}
+use Rattle.cm_scan.specs.spans.Autolinks.{Autolink}
+use Rattle.cm_scan.specs.inlines.Atoms.{link_of}
+use Rattle.cm_scan.specs.inlines.Delimiters.{Run}
+use Rattle.cm_scan.specs.inlines.Pairing.{Item, Characters, Finished, Linked, Delimiters, Opener, Opened, bracket_text, text_before, settled_after, settled, emphasis_of, emphasised, used, without, nearest_opener}
+use Rattle.cm_scan.specs.inlines.Brackets.{holds_link, made}
+use Rattle.cm_scan.specs.inlines.OnePass.{up_to_pair}
+use Rattle.cm_scan.proofs.lemmas.inlines.PairingLemmas.{nearest-splits}
 use Rattle.cm_inline.specs.Emphases.{emphases_step, emphases_of, emphases}
 use Rattle.cm_inline.specs.steps.Pairs.{items_emphases}
 

@@ -13,8 +13,8 @@ use Rattle.cm_tree.specs.declared.tree.Inline.TheVariants.{Text, Emph, Strong, S
 use Rattle.cm_html.specs.Escape.{escape_byte, escape}
 use Rattle.cm_html.specs.steps.AlternativeText.{alternative_text}
 use Rattle.cm_html.specs.Html.{Rendered, inline_step, inlines_html, rendered, link_html, image_html, emph_html, strong_html, strike_html}
-use Rattle.cm_scan.specs.CodeSpans.{one_line}
-use Rattle.cm_scan.specs.Pairing.{text_before, settled_after, settled}
+use Rattle.cm_scan.specs.spans.CodeSpans.{one_line}
+use Rattle.cm_scan.specs.inlines.Pairing.{text_before, settled_after, settled}
 use Rattle.cm_inline.specs.steps.Nodes.{Node, Piece, Characters, Whole, Finished, Run, Opener, items_of, is_text, text_in, node_html, nodes_html, node_plain, nodes_plain}
 use Rattle.cm_tree.specs.Definitions.{Target}
 use Rattle.cm_inline.specs.declared.groups.Kind.{Kind}

@@ -2,8 +2,8 @@
 use Rattle.std.proofs.Common.{◌≡◌, ℕ, ◌+◌, Bool, true, false, List, [], ◌∷◌, ◌++◌, refl, ap, ◌∙◌, arith}
 use Rattle.std.specs.Prelude.{if◌then◌else◌}
 use Rattle.cm_tree.specs.declared.tree.Inline.TheVariants.{Image}
-use Rattle.cm_scan.specs.Brackets.{holds_link, made}
-use Rattle.cm_scan.specs.Pairing.{Item, Characters, Finished, Linked, Opener, emphasis_of}
+use Rattle.cm_scan.specs.inlines.Brackets.{holds_link, made}
+use Rattle.cm_scan.specs.inlines.Pairing.{Item, Characters, Finished, Linked, Opener, emphasis_of}
 use Rattle.cm_inline.specs.Emphases.{emphases}
 use Rattle.cm_inline.specs.steps.Pairs.{IsOf, AreLooks, Keeps, allowed, allowance}
 use Rattle.cm_inline.proofs.EmphasisLemmas.{both-hold, made-holds}

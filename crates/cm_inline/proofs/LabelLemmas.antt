@@ -2,10 +2,10 @@
 use Rattle.std.proofs.Common.{◌≡◌, ◌≢◌, ℕ, ◌<◌, ◌==◌, Bool, true, false, List, [], ◌∷◌, ◌++◌, length, Option, Some, None, IfSome, refl, sym, ap, subst, ◌∙◌, arith}
 use Rattle.std.proofs.lemmas.List.{length-append}
 use Rattle.cm_scan.specs.Words.{is_empty, given}
-use Rattle.cm_scan.specs.Links.{Reading, behind, keep_if, escapes_next, up_to_closing, is_label, label}
+use Rattle.cm_scan.specs.inlines.Links.{Reading, behind, keep_if, escapes_next, up_to_closing, is_label, label}
 use Rattle.cm_tree.specs.Definitions.{Target}
-use Rattle.cm_scan.specs.Brackets.{Defined, target_of, target_between}
-use Rattle.cm_scan.proofs.ClosedLemmas.{ahead}
+use Rattle.cm_scan.specs.inlines.Brackets.{Defined, target_of, target_between}
+use Rattle.cm_scan.proofs.lemmas.links.BracketedParts.{ahead}
 
 -- up to the first right bracket that nothing escapes
 abbrev inside_of : Bool → List ℕ → Option Reading

@@ -8,12 +8,12 @@ use Rattle.cm_text.specs.Addresses.{is_followed}
 use Rattle.cm_text.specs.Unescaping.{unescape}
 use Rattle.cm_tree.specs.Definitions.{Target}
 use Rattle.cm_scan.specs.Words.{begins_with, after_word}
-use Rattle.cm_scan.specs.Tags.{is_blank_next, after_gap}
-use Rattle.cm_scan.specs.Links.{Reading, label, destination, title}
-use Rattle.cm_scan.specs.Brackets as brackets
-use Rattle.cm_scan.specs.Brackets.{Defined, closed, after_destination, inline_end, target_of, target_between, collapsed_or_shortcut, reference_end, end_if_followed, end_at}
-use Rattle.cm_scan.proofs.ReadingLemmas.{begins-at}
-use Rattle.cm_scan.proofs.LeftLemmas.{end_at-end}
+use Rattle.cm_scan.specs.spans.Tags.{is_blank_next, after_gap}
+use Rattle.cm_scan.specs.inlines.Links.{Reading, label, destination, title}
+use Rattle.cm_scan.specs.inlines.Brackets as brackets
+use Rattle.cm_scan.specs.inlines.Brackets.{Defined, closed, after_destination, inline_end, target_of, target_between, collapsed_or_shortcut, reference_end, end_if_followed, end_at}
+use Rattle.cm_scan.proofs.lemmas.texts.ScannerAnswers.{begins-at}
+use Rattle.cm_scan.proofs.lemmas.inlines.LeftByEachStep.{end_at-end}
 use Rattle.cm_inline.specs.declared.links.LinkEnd.{LinkEnd}
 use Rattle.cm_inline.specs.steps.Reads.{Stands}
 use Rattle.cm_inline.specs.steps.Links.{found_target, ends_of, leads_to, behind_brackets}

@@ -11,14 +11,14 @@ use Rattle.std.proofs.lemmas.List.{drop_all}
 use Rattle.memchr.specs.Find.{IsFirstByte, is_byte}
 use Rattle.cm_text.specs.Rules.{Rules}
 use Rattle.cm_scan.specs.Words.{run_length, after_run}
-use Rattle.cm_scan.specs.RawHtml.{behind_word, raw_html}
-use Rattle.cm_scan.specs.CodeSpans.{up_to_run, spanned_as_written}
-use Rattle.cm_scan.specs.SpanLaws.{NeedsEnd}
-use Rattle.cm_scan.proofs.HtmlLemmas.{slice_from, starts_at}
-use Rattle.cm_scan.proofs.FoundLemmas.{word-there}
-use Rattle.cm_scan.proofs.RawHtmlLemmas.{word-front}
-use Rattle.cm_scan.proofs.RunLemmas.{Found, found-at, nowhere, no-run-here, none-before, none-behind}
-use Rattle.cm_scan.proofs.NeededLemmas.{comment-needs, instruction-needs, section-needs, any-needs}
+use Rattle.cm_scan.specs.spans.RawHtml.{behind_word, raw_html}
+use Rattle.cm_scan.specs.spans.CodeSpans.{up_to_run, spanned_as_written}
+use Rattle.cm_scan.specs.laws.SpanLaws.{NeedsEnd}
+use Rattle.cm_scan.proofs.lemmas.blocks.WordsInAnyCase.{slice_from, starts_at}
+use Rattle.cm_scan.proofs.lemmas.texts.FoundWords.{word-there}
+use Rattle.cm_scan.proofs.lemmas.spans.RawHtmlGoesOn.{word-front}
+use Rattle.cm_scan.proofs.lemmas.spans.BacktickStrings.{Found, found-at, nowhere, no-run-here, none-before, none-behind}
+use Rattle.cm_scan.proofs.lemmas.spans.RawHtmlNeedsItsEnd.{comment-needs, instruction-needs, section-needs, any-needs}
 use Rattle.cm_inline.specs.declared.missing_ends.Form.{Form}
 use Rattle.cm_inline.specs.declared.missing_ends.Form.TheVariants.{Comment, Instruction, CharacterData, Declaration}
 use Rattle.cm_inline.specs.declared.missing_ends.MissingEnds.{MissingEnds}

@@ -5,7 +5,7 @@ use Rattle.std.specs.List.{slice_range}
 use Rattle.std.proofs.lemmas.List.{append-nil}
 use Rattle.cm_text.specs.References.{chars_of}
 use Rattle.cm_tree.specs.declared.tree.Inline.{Inline}
-use Rattle.cm_scan.specs.Pairing.{bracket_text, text_before, settled_after, settled}
+use Rattle.cm_scan.specs.inlines.Pairing.{bracket_text, text_before, settled_after, settled}
 use Rattle.cm_inline.specs.steps.Nodes.{Node, Piece, Characters, Whole, Finished, Run, Opener, items_of, is_text, text_in, text_in_front, behind_texts, inline_of, AreParts}
 use Rattle.cm_inline.specs.steps.Runs.{byte_of}
 use Rattle.cm_inline.specs.steps.Standalone.{inline_in}

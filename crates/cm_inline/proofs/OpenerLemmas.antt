@@ -4,8 +4,8 @@ use Rattle.std.proofs.lemmas.Bool.{cond-true, cond-false, eq-eqb, ne_eqb, le-leb
 use Rattle.std.proofs.lemmas.List.{get_or-set_same, get_or-set_other, get_or-take, length-set, length-take}
 use Rattle.std.proofs.Math.Seq.{take-set-lt}
 use Rattle.std.proofs.lemmas.List.Sums.{sum_by-append, sum_by-cons, sum_by-set}
-use Rattle.cm_scan.specs.Delimiters.{Run, delimiters_match}
-use Rattle.cm_scan.specs.Pairing.{Item, Finished, Delimiters, nearest_opener}
+use Rattle.cm_scan.specs.inlines.Delimiters.{Run, delimiters_match}
+use Rattle.cm_scan.specs.inlines.Pairing.{Item, Finished, Delimiters, nearest_opener}
 use Rattle.cm_inline.specs.steps.Entries.{Entry, Listed, above, reserve, updated, leave, first_place, from_place, after_place, without_place, between_gone, is_listed, Below, Falling}
 use Rattle.cm_inline.specs.steps.Searching.{kind, IsMarked, find_opener, looks_for, NoneAnswers, AreSound, openers_of, places_of, characters, bottoms_after}
 use Rattle.cm_inline.specs.steps.Openers.{spent, Ready, Closing, Open, IsClosing, openers, FindsNone, Opens, Spends, cut}

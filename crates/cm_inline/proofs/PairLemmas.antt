@@ -8,11 +8,11 @@ use Rattle.std.proofs.lemmas.List.Sums.{sum_by-append, sum_by-cons}
 use Rattle.std.proofs.Math.Seq.{take-append_seam, drop-append-add}
 use Rattle.cm_tree.specs.declared.tree.Inline.{Inline}
 use Rattle.cm_tree.specs.Depth.{depth_of}
-use Rattle.cm_scan.specs.Delimiters.{Run}
-use Rattle.cm_scan.specs.Pairing.{Item, Finished, Delimiters, Opened, nearest_opener, pair_leftmost, pair_all, without, used, emphasised, settled}
-use Rattle.cm_scan.specs.OnePass.{up_to_pair, closer_left, closed_by, passed, pass_from}
-use Rattle.cm_scan.proofs.PairingLemmas.{nearest-splits, leftmost-no_closer, pair_all-stop}
-use Rattle.cm_scan.proofs.OnePassLemmas.{closed_by-none, closed_by-gone, closed_by-more}
+use Rattle.cm_scan.specs.inlines.Delimiters.{Run}
+use Rattle.cm_scan.specs.inlines.Pairing.{Item, Finished, Delimiters, Opened, nearest_opener, pair_leftmost, pair_all, without, used, emphasised, settled}
+use Rattle.cm_scan.specs.inlines.OnePass.{up_to_pair, closer_left, closed_by, passed, pass_from}
+use Rattle.cm_scan.proofs.lemmas.inlines.PairingLemmas.{nearest-splits, leftmost-no_closer, pair_all-stop}
+use Rattle.cm_scan.proofs.lemmas.inlines.OnePassLemmas.{closed_by-none, closed_by-gone, closed_by-more}
 use Rattle.cm_inline.specs.steps.Nodes as node
 use Rattle.cm_inline.specs.steps.Nodes.{Node, item_of, items_of, is_closer, nodes_depth, rest_in, IsPart, AreParts}
 use Rattle.cm_tree.specs.Definitions.{Target}

@@ -2,9 +2,9 @@
 use Rattle.std.proofs.Common.{◌≡◌, ◌≢◌, ℕ, ◌+◌, ◌<◌, ◌≤◌, List, [], ◌∷◌, ◌++◌, length, reverse, take, drop, Option, Some, sym, ap, subst, ◌∙◌, arith, length-append, length-take}
 use Rattle.std.proofs.lemmas.List.{take-append-le, take-take, drop-take, map-append, reverse-reverse}
 use Rattle.std.proofs.lemmas.List.Sums.{sum_by-cons}
-use Rattle.cm_scan.specs.Pairing.{Delimiters, pair_all}
-use Rattle.cm_scan.specs.OnePass.{passed, pass_from}
-use Rattle.cm_scan.proofs.OnePassLemmas.{pairs_in_one_pass}
+use Rattle.cm_scan.specs.inlines.Pairing.{Delimiters, pair_all}
+use Rattle.cm_scan.specs.inlines.OnePass.{passed, pass_from}
+use Rattle.cm_scan.proofs.lemmas.inlines.OnePassLemmas.{pairs_in_one_pass}
 use Rattle.cm_inline.specs.declared.runs.DelimiterRun.{DelimiterRun}
 use Rattle.cm_inline.specs.steps.Depths.{items_depth}
 use Rattle.cm_inline.specs.steps.Entries.{Listed}

@@ -6,14 +6,14 @@ use Rattle.std.proofs.lemmas.List.{append-nil, drop_more, map-append}
 use Rattle.std.proofs.lemmas.List.Sums.{sum_by-append, sum_by-cons}
 use Rattle.std.proofs.lemmas.Option.{same_Some}
 use Rattle.cm_text.specs.Rules.{Rules}
-use Rattle.cm_scan.specs.Atoms.{Atom, Plain, Whole, Delimiter, OpenBracket, CloseBracket, markup_atom, atom_at}
-use Rattle.cm_scan.specs.Brackets.{Bracketed, Defined}
-use Rattle.cm_scan.specs.Delimiters.{Run}
-use Rattle.cm_scan.specs.Inlines.{with_item, item_step}
-use Rattle.cm_scan.specs.Pairing as items
-use Rattle.cm_scan.specs.Pieces.{one_by_one}
-use Rattle.cm_scan.specs.Runs.{run_in, runs_after, runs_of, characters_of}
-use Rattle.cm_scan.proofs.RunsLemmas.{runs-go-on, runs-behind-text, runs-in-pieces, runs_are_few}
+use Rattle.cm_scan.specs.inlines.Atoms.{Atom, Plain, Whole, Delimiter, OpenBracket, CloseBracket, markup_atom, atom_at}
+use Rattle.cm_scan.specs.inlines.Brackets.{Bracketed, Defined}
+use Rattle.cm_scan.specs.inlines.Delimiters.{Run}
+use Rattle.cm_scan.specs.inlines.Inlines.{with_item, item_step}
+use Rattle.cm_scan.specs.inlines.Pairing as items
+use Rattle.cm_scan.specs.inlines.Pieces.{one_by_one}
+use Rattle.cm_scan.specs.inlines.Runs.{run_in, runs_after, runs_of, characters_of}
+use Rattle.cm_scan.proofs.lemmas.inlines.DelimiterRuns.{runs-go-on, runs-behind-text, runs-in-pieces, runs_are_few}
 use Rattle.cm_inline.specs.Reading.{looks_at_most}
 use Rattle.cm_inline.specs.steps.Nodes.{Node, Piece, item_of, items_of, text_between}
 use Rattle.cm_inline.specs.steps.Nodes as nodes

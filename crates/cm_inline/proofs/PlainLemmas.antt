@@ -12,14 +12,14 @@ use Rattle.cm_tree.specs.declared.tree.Inline.TheFolds.{fold_out-Inline}
 use Rattle.cm_tree.specs.declared.tree.Inline.TheVariants.{Soft, outs-Soft}
 use Rattle.cm_html.specs.Escape.{escape_byte, escape}
 use Rattle.cm_html.specs.Html.{Rendered, inline_step, inlines_html, rendered}
-use Rattle.cm_scan.specs.Pairing.{Item, Characters, Finished, settled_after, settled, pair_leftmost, pair_all}
-use Rattle.cm_scan.specs.Pieces.{one_by_one}
-use Rattle.cm_scan.specs.Brackets.{Defined}
-use Rattle.cm_scan.specs.Inlines.{items_after, inlines_of, depth_of_leaf}
-use Rattle.cm_scan.specs.Inlines as inlines
-use Rattle.cm_scan.specs.InlineLaws.{is_plain_byte}
-use Rattle.cm_scan.proofs.InlineLemmas.{plain_front_is_text, spaces_and_line_feed}
-use Rattle.cm_scan.proofs.PairingLemmas.{pair_all-stop}
+use Rattle.cm_scan.specs.inlines.Pairing.{Item, Characters, Finished, settled_after, settled, pair_leftmost, pair_all}
+use Rattle.cm_scan.specs.inlines.Pieces.{one_by_one}
+use Rattle.cm_scan.specs.inlines.Brackets.{Defined}
+use Rattle.cm_scan.specs.inlines.Inlines.{items_after, inlines_of, depth_of_leaf}
+use Rattle.cm_scan.specs.inlines.Inlines as inlines
+use Rattle.cm_scan.specs.laws.InlineLaws.{is_plain_byte}
+use Rattle.cm_scan.proofs.lemmas.inlines.ReadingSteps.{plain_front_is_text, spaces_and_line_feed}
+use Rattle.cm_scan.proofs.lemmas.inlines.PairingLemmas.{pair_all-stop}
 use Rattle.cm_inline.specs.steps.Depths.{items_depth}
 use Rattle.cm_inline.specs.steps.Reads.{IsAllText, IsTextTo}
 use Rattle.cm_inline.proofs.DeeperLemmas.{settled-items}

@@ -10,12 +10,12 @@ use Rattle.std.proofs.Math.Seq.{take-append_seam, set-append_seam}
 use Rattle.cm_tree.specs.declared.tree.Inline.{Inline}
 use Rattle.cm_tree.specs.declared.tree.Inline.TheVariants.{Link, Image}
 use Rattle.cm_tree.specs.Depth.{depth_of, inlines_depth}
-use Rattle.cm_scan.specs.Pairing.{Item, bracket_text, settled, pair_all, emphasis_of}
+use Rattle.cm_scan.specs.inlines.Pairing.{Item, bracket_text, settled, pair_all, emphasis_of}
 use Rattle.cm_text.specs.Rules.{Rules}
 use Rattle.std.proofs.lemmas.List.Sums.{sum_by-cons}
 use Rattle.std.proofs.lemmas.Option.{same_Some}
-use Rattle.cm_scan.specs.Atoms.{Atom, Plain, Whole, Delimiter, OpenBracket, CloseBracket}
-use Rattle.cm_scan.specs.Brackets.{Defined, is_linked, holds_link, made}
+use Rattle.cm_scan.specs.inlines.Atoms.{Atom, Plain, Whole, Delimiter, OpenBracket, CloseBracket}
+use Rattle.cm_scan.specs.inlines.Brackets.{Defined, is_linked, holds_link, made}
 use Rattle.cm_tree.specs.Definitions.{Target}
 use Rattle.cm_inline.specs.declared.brackets.Bracket.{Bracket}
 use Rattle.cm_inline.specs.declared.missing_ends.MissingEnds.{MissingEnds}

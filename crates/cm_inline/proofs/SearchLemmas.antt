@@ -3,11 +3,11 @@ use Rattle.std.proofs.Common.{◌≡◌, ◌⊎◌, inl, inr, ℕ, zero, suc, �
 use Rattle.std.proofs.lemmas.Bool.{cond-true, cond-false, ltb-true, ltb-false, le-leb}
 use Rattle.std.proofs.lemmas.Option.{none-some, same_Some}
 use Rattle.std.proofs.lemmas.List.{get_or-set_other}
-use Rattle.cm_scan.specs.Delimiters.{Run, delimiters_match}
-use Rattle.cm_scan.specs.Pairing.{Item, Characters, Finished, Linked, Delimiters, Opener, nearest_opener}
+use Rattle.cm_scan.specs.inlines.Delimiters.{Run, delimiters_match}
+use Rattle.cm_scan.specs.inlines.Pairing.{Item, Characters, Finished, Linked, Delimiters, Opener, nearest_opener}
 use Rattle.cm_inline.specs.steps.Entries.{Entry, answers, above, Below, Falling}
 use Rattle.cm_inline.specs.steps.Searching.{kind, IsMarked, find_opener, looks_for, NoneBeneath, NoneAnswers, AreSound, openers_of, places_of}
-use Rattle.cm_scan.proofs.PairingLemmas.{opened_at}
+use Rattle.cm_scan.proofs.lemmas.inlines.PairingLemmas.{opened_at}
 use Rattle.cm_inline.proofs.BottomLemmas.{opens_for, NoOpener, nearest-none, nearest-at, kind-match}
 use Rattle.cm_inline.proofs.ReserveLemmas.{above-cons}
 use Rattle.cm_inline.proofs.ListedLemmas.{true-false}

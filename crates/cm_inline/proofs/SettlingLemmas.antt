@@ -2,7 +2,7 @@
 use Rattle.std.proofs.Common.{◌≡◌, ℕ, zero, suc, ◌+◌, ◌<◌, List, [], ◌∷◌, ◌++◌, length, drop, get_or, sym, ap, subst, ◌∙◌, arith, drop-drop}
 use Rattle.std.proofs.lemmas.List.{drop_more}
 use Rattle.cm_tree.specs.declared.tree.Inline.{Inline}
-use Rattle.cm_scan.specs.Pairing.{text_before, settled}
+use Rattle.cm_scan.specs.inlines.Pairing.{text_before, settled}
 use Rattle.cm_inline.specs.declared.tokens.Token.{Token}
 use Rattle.cm_inline.specs.steps.Nodes.{items_of, inline_of, text_in_front, behind_texts}
 use Rattle.cm_inline.specs.steps.Groups.{Made, node_of, nodes_of, IsBelow, AreBelow}

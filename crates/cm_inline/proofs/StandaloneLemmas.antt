@@ -11,13 +11,13 @@ use Rattle.std.proofs.Math.Seq.{take-append_seam, drop-append_seam}
 use Rattle.cm_text.specs.Rules.{Rules}
 use Rattle.cm_text.specs.Addresses.{is_followed}
 use Rattle.cm_scan.specs.Words.{begins_with, run_length, after_run, after_word, front_of, skip}
-use Rattle.cm_scan.specs.Links.{Reading, behind}
-use Rattle.cm_scan.specs.Angles.{before}
-use Rattle.cm_scan.specs.Autolinks.{Autolink, is_inside, ended, in_angles, is_absolute, is_address, as_autolink, autolink, link_if_followed, followed_autolink}
+use Rattle.cm_scan.specs.inlines.Links.{Reading, behind}
+use Rattle.cm_scan.specs.spans.Angles.{before}
+use Rattle.cm_scan.specs.spans.Autolinks.{Autolink, is_inside, ended, in_angles, is_absolute, is_address, as_autolink, autolink, link_if_followed, followed_autolink}
 use Rattle.cm_scan.specs.Scanned.{whole_of}
-use Rattle.cm_scan.specs.CodeSpans.{up_to_run, as_written, spanned_as_written}
-use Rattle.cm_scan.proofs.ReadFurther.{none-some}
-use Rattle.cm_scan.proofs.ReadingLemmas.{begins-at}
+use Rattle.cm_scan.specs.spans.CodeSpans.{up_to_run, as_written, spanned_as_written}
+use Rattle.cm_scan.proofs.lemmas.texts.WordsGoOn.{none-some}
+use Rattle.cm_scan.proofs.lemmas.texts.ScannerAnswers.{begins-at}
 use Rattle.cm_tree.specs.declared.tree.Inline.{Inline}
 use Rattle.cm_inline.specs.steps.Nodes.{Node, Whole, Finished}
 use Rattle.cm_inline.specs.declared.standalone.Standalone.{Standalone}

@@ -2,7 +2,7 @@
 use Rattle.std.proofs.Common.{◌≡◌, ℕ, suc, ◌<◌, ◌≤◌, Bool, true, false, cond, ◌||◌, ◌==◌, nat_lt, List, [], ◌∷◌, length, Option, Some, None, refl, sym, ap, subst, ◌∙◌, arith}
 use Rattle.std.proofs.lemmas.Bool.{cond-true, cond-false, eq-eqb, ne_eqb, lt-ltb, le-ltb}
 use Rattle.std.proofs.lemmas.Option.{none-some, same_Some}
-use Rattle.cm_scan.specs.Delimiters.{Run}
+use Rattle.cm_scan.specs.inlines.Delimiters.{Run}
 use Rattle.cm_inline.specs.steps.Entries.{Entry, answers, first_place, from_place, after_place, is_listed, Below, Falling}
 use Rattle.cm_inline.specs.steps.Searching.{find_opener, looks_for, from_at}
 use Rattle.cm_inline.proofs.ListedLemmas.{true-false}

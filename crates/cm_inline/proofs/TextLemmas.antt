@@ -9,14 +9,14 @@ use Rattle.std.proofs.lemmas.List.{drop_more, length-take}
 use Rattle.std.proofs.lemmas.Str.{IsCharBoundary-before_ascii}
 use Rattle.cm_text.specs.Search.{next_place, is_marked}
 use Rattle.cm_scan.specs.Words.{begins_with, is_empty, trim_end_spaces}
-use Rattle.cm_scan.specs.Autolinks.{ends_with}
-use Rattle.cm_scan.specs.InlineLaws.{is_plain_byte, keeps_spaces}
-use Rattle.cm_scan.proofs.TrimLemmas.{trimmed}
-use Rattle.cm_scan.proofs.InlineLemmas.{unmarked_is_plain, plain_is_itself}
+use Rattle.cm_scan.specs.spans.Autolinks.{ends_with}
+use Rattle.cm_scan.specs.laws.InlineLaws.{is_plain_byte, keeps_spaces}
+use Rattle.cm_scan.proofs.lemmas.texts.TrimLemmas.{trimmed}
+use Rattle.cm_scan.proofs.lemmas.inlines.ReadingSteps.{unmarked_is_plain, plain_is_itself}
 use Rattle.cm_text.specs.Rules.{Rules}
 use Rattle.cm_tree.specs.declared.tree.Inline.TheVariants.{Text}
-use Rattle.cm_scan.specs.Brackets.{Defined}
-use Rattle.cm_scan.specs.Inlines.{inlines_of}
+use Rattle.cm_scan.specs.inlines.Brackets.{Defined}
+use Rattle.cm_scan.specs.inlines.Inlines.{inlines_of}
 use Rattle.cm_inline.proofs.SliceLemmas.{slice-front}
 use Rattle.cm_inline.specs.steps.Reads.{IsTextTo}
 

@@ -8,16 +8,16 @@ use Rattle.std.proofs.lemmas.List.Concat.{flat_map-append}
 use Rattle.cm_text.specs.Rules.{Rules}
 use Rattle.cm_tree.specs.Definitions.{Targets}
 use Rattle.cm_tree.specs.Depth.{inlines_depth}
-use Rattle.cm_scan.specs.Pairing as pairing
-use Rattle.cm_scan.specs.Pairing.{emphasis_of}
-use Rattle.cm_scan.specs.Pieces.{one_by_one, pieces_of, in_pieces}
-use Rattle.cm_scan.specs.Atoms.{Atom, Plain, Whole, Delimiter, OpenBracket, CloseBracket}
-use Rattle.cm_scan.specs.Brackets.{Defined, Bracketed, defined_in}
-use Rattle.cm_scan.specs.Inlines.{with_item, add_atom, item_step, items_after, inlines_of, depth_of_leaf, nests_past}
-use Rattle.cm_scan.specs.Inlines as inlines
-use Rattle.cm_scan.proofs.InlineLemmas.{reading_goes_on, bracket_step, plain_front_is_text}
-use Rattle.cm_scan.proofs.PiecesLemmas.{texts_in_pieces}
-use Rattle.cm_scan.proofs.PiecesReading.{reading_in_pieces}
+use Rattle.cm_scan.specs.inlines.Pairing as pairing
+use Rattle.cm_scan.specs.inlines.Pairing.{emphasis_of}
+use Rattle.cm_scan.specs.inlines.Pieces.{one_by_one, pieces_of, in_pieces}
+use Rattle.cm_scan.specs.inlines.Atoms.{Atom, Plain, Whole, Delimiter, OpenBracket, CloseBracket}
+use Rattle.cm_scan.specs.inlines.Brackets.{Defined, Bracketed, defined_in}
+use Rattle.cm_scan.specs.inlines.Inlines.{with_item, add_atom, item_step, items_after, inlines_of, depth_of_leaf, nests_past}
+use Rattle.cm_scan.specs.inlines.Inlines as inlines
+use Rattle.cm_scan.proofs.lemmas.inlines.ReadingSteps.{reading_goes_on, bracket_step, plain_front_is_text}
+use Rattle.cm_scan.proofs.lemmas.inlines.PairingInPieces.{texts_in_pieces}
+use Rattle.cm_scan.proofs.lemmas.inlines.ReadingInPieces.{reading_in_pieces}
 use Rattle.cm_inline.specs.Reading.{Refused}
 use Rattle.cm_inline.specs.declared.fault.InlineFault.{InlineFault}
 use Rattle.cm_inline.specs.declared.fault.InlineFault.TheVariants.{InlinesTooDeep, NoMemory}

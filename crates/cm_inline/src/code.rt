@@ -1,7 +1,7 @@
 //! The content of a code span (CommonMark 0.31.2, 6.1 Code spans).
 ghost use Rattle.std.specs.Prelude.{◌≡◌, ◌==◌, ◌||◌, IfOk};
 ghost use Rattle.std.specs.List.{list_all, slice_range};
-ghost use Rattle.cm_scan.specs.CodeSpans.{one_line, stripped};
+ghost use Rattle.cm_scan.specs.spans.CodeSpans.{one_line, stripped};
 ghost use Rattle.cm_inline.specs.steps.Bytes.{line_feed, space};
 ghost use Rattle.cm_inline.specs.steps.Standalone.{IsBetween};
 

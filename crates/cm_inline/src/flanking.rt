@@ -2,8 +2,8 @@
 //! 6.2 Emphasis and strong emphasis).
 ghost use Rattle.std.specs.Prelude.{◌≡◌, ℕ, ◌-◌, ◌<◌, ◌≤◌, ◌^◌, length, take, drop, reverse};
 ghost use Rattle.std.specs.Str.{IsCharBoundary};
-ghost use Rattle.cm_scan.specs.Delimiters.{neighbour, is_left_flanking, may_open};
-ghost use Rattle.cm_scan.specs.Atoms.{run_between};
+ghost use Rattle.cm_scan.specs.inlines.Delimiters.{neighbour, is_left_flanking, may_open};
+ghost use Rattle.cm_scan.specs.inlines.Atoms.{run_between};
 ghost use Rattle.cm_inline.specs.steps.Runs.{byte_of, run_of, neighbour_of};
 
 use crate::runs::{DelimiterRun, Marker};
@@ -21,7 +21,7 @@ pub(crate) enum Neighbour {
 
 impl Neighbour {
     /// The character that stands beside a run, if one does.
-    #[tactic(auto, unfolding(cm_scan::specs::Delimiters::neighbour))]
+    #[tactic(auto, unfolding(cm_scan::specs::inlines::Delimiters::neighbour))]
     fn of(rules: Rules, beside: Option<char>) -> Neighbour
         ensures { neighbour_of result ≡ neighbour rules beside }
     {
@@ -56,7 +56,7 @@ fn may_open(marker: Marker, before: Neighbour, after: Neighbour) -> bool
 }
 
 /// The delimiter run that stands between two places.
-#[tactic(auto, unfolding(cm_scan::specs::Atoms::run_between))]
+#[tactic(auto, unfolding(cm_scan::specs::inlines::Atoms::run_between))]
 #[inline(always)]
 pub(crate) fn run_between(
     rules: Rules,

@@ -2,7 +2,7 @@
 ghost use Rattle.std.specs.Prelude.{◌≡◌, ◌++◌, [], replicate, encode_utf8_all, OnOk};
 ghost use Rattle.cm_text.specs.References.{chars_of};
 ghost use Rattle.cm_html.specs.Escape.{escape};
-ghost use Rattle.cm_scan.specs.CodeSpans.{one_line};
+ghost use Rattle.cm_scan.specs.spans.CodeSpans.{one_line};
 ghost use Rattle.cm_inline.specs.steps.Groups.{node_of, IsPlaced};
 ghost use Rattle.cm_inline.specs.steps.Nodes.{text_in};
 ghost use Rattle.cm_inline.specs.steps.Runs.{byte_of};

@@ -1,7 +1,7 @@
 //! The inlines that settled nodes become, of which nothing more is made.
 ghost use Rattle.std.specs.Prelude.{◌≡◌, [], ◌++◌, IfOk, OnOk};
 ghost use Rattle.cm_tree.specs.LinkTargets.{led_to};
-ghost use Rattle.cm_scan.specs.Pairing.{settled};
+ghost use Rattle.cm_scan.specs.inlines.Pairing.{settled};
 ghost use Rattle.cm_inline.specs.steps.Groups.{grouped, made_of, target_of, nodes_in};
 ghost use Rattle.cm_inline.specs.steps.Groups.{ArePlaced, items_in, node_among, nodes_among};
 ghost use Rattle.cm_inline.specs.steps.Groups.{made_among, IsAmong, AreAmong, IsGroupAmong};

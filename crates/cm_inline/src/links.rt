@@ -2,8 +2,9 @@
 ghost use Rattle.std.specs.Prelude.{◌≡◌, ◌+◌, ◌-◌, ◌<◌, ◌≤◌, ℕ, List, length, drop, IfOk, IfSome};
 ghost use Rattle.std.specs.List.{slice_range};
 ghost use Rattle.std.specs.Str.{IsCharBoundary};
-ghost use Rattle.cm_scan.specs.Brackets.{closed, after_destination, inline_end, Defined, defined_in};
-ghost use Rattle.cm_scan.specs.Brackets.{target_of, target_between, reference_end, end_if_followed, end_at};
+ghost use Rattle.cm_scan.specs.inlines.Brackets.{closed, after_destination, inline_end, Defined, defined_in};
+ghost use Rattle.cm_scan.specs.inlines.Brackets.{target_of, target_between};
+ghost use Rattle.cm_scan.specs.inlines.Brackets.{reference_end, end_if_followed, end_at};
 ghost use Rattle.cm_text.specs.Addresses.{is_followed};
 ghost use Rattle.cm_inline.specs.steps.Links.{ends_of, leads_to, target_by, behind_brackets, AreBrackets};
 

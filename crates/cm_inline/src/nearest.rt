@@ -1,7 +1,7 @@
 //! The search for the nearest opener of a delimiter run that may close.
 ghost use Rattle.std.specs.Prelude.{◌≡◌, ℕ, ◌+◌, ◌<◌, ◌^◌, true, ◌&&◌, length};
 ghost use Rattle.cm_inline.specs.steps.Entries.{after_place, is_listed, Falling};
-ghost use Rattle.cm_scan.specs.Delimiters.{delimiters_match};
+ghost use Rattle.cm_scan.specs.inlines.Delimiters.{delimiters_match};
 ghost use Rattle.cm_inline.specs.steps.Searching.{find_opener, looks_for};
 ghost use Rattle.cm_inline.specs.steps.Runs.{run_of, MayBeEntry};
 

@@ -6,7 +6,7 @@ ghost use Rattle.cm_inline.specs.steps.Prelude.{defined_in, emphasis_of, settled
 ghost use Rattle.cm_inline.specs.steps.Prelude.{InlinesTooDeep, inlines_html, Read, Reads, Refused, IsReadTo};
 ghost use Rattle.cm_inline.specs.steps.Prelude.{nodes_in, ArePlaced, items_in, items_of, text_between};
 ghost use Rattle.cm_inline.specs.steps.Prelude.{AreParts, IsAllText, IsTextTo, Pays, ahead};
-ghost use Rattle.cm_scan.specs.Inlines as inlines;
+ghost use Rattle.cm_scan.specs.inlines.Inlines as inlines;
 
 use crate::atoms::{read_atom, text_end};
 use crate::brackets::Reader;

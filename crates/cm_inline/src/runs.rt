@@ -1,7 +1,7 @@
 //! Delimiter runs (CommonMark 0.31.2, 6.2 Emphasis and strong emphasis).
 ghost use Rattle.std.specs.Prelude.{◌≡◌, [], ◌∷◌, ◌<◌, ◌≤◌, ◌&&◌, IfSome};
-ghost use Rattle.cm_scan.specs.Delimiters.{delimiters_match};
-ghost use Rattle.cm_scan.specs.Pairing.{used, without};
+ghost use Rattle.cm_scan.specs.inlines.Delimiters.{delimiters_match};
+ghost use Rattle.cm_scan.specs.inlines.Pairing.{used, without};
 ghost use Rattle.cm_inline.specs.steps.Searching.{kind};
 ghost use Rattle.cm_inline.specs.steps.Openers.{IsRestOf};
 ghost use Rattle.cm_inline.specs.steps.Runs.{byte_of, run_of, rest_of};
@@ -51,7 +51,7 @@ pub(crate) struct DelimiterRun {
 }
 
 /// Whether an opener and a closer match (rules 9 and 10).
-#[tactic(auto, unfolding(cm_scan::specs::Delimiters::delimiters_match))]
+#[tactic(auto, unfolding(cm_scan::specs::inlines::Delimiters::delimiters_match))]
 pub(crate) fn delimiters_match(closer: DelimiterRun, opener: DelimiterRun) -> bool
     ensures { result ≡ delimiters_match (run_of closer) (run_of opener) }
 {

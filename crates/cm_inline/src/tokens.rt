@@ -3,7 +3,7 @@ ghost use Rattle.std.specs.Prelude.{◌≡◌, ◌++◌, ◌≤◌, [], ◌∷�
 ghost use Rattle.std.specs.Prelude.{string_bytes, encode_utf8_all, replicate, drop, false, IfOk, OnOk};
 ghost use Rattle.std.specs.List.{list_any};
 ghost use Rattle.cm_text.specs.References.{chars_of};
-ghost use Rattle.cm_scan.specs.Pairing.{bracket_text, text_before};
+ghost use Rattle.cm_scan.specs.inlines.Pairing.{bracket_text, text_before};
 ghost use Rattle.cm_inline.specs.declared.tokens.Token.TheVariants.{Made};
 ghost use Rattle.cm_inline.specs.steps.Groups.{node_of, nodes_of, IsPlaced, ArePlaced};
 ghost use Rattle.cm_inline.specs.steps.Runs.{byte_of};

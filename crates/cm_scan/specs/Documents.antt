@@ -9,9 +9,9 @@ use Rattle.cm_tree.specs.declared.tree.Block.{Block, Block-F}
 use Rattle.cm_tree.specs.declared.tree.Block.TheOpen as block
 use Rattle.cm_tree.specs.declared.tree.Block.TheVariants.{Paragraph, Heading, Code, Html, Break, Definition, Quote, List as ListBlock}
 use Rattle.cm_tree.specs.declared.tree.Block.TheFolds.{fold-Block}
-use Rattle.cm_scan.specs.Blocks.{blocks_of, reference_table}
-use Rattle.cm_scan.specs.Brackets.{Defined, defined_in}
-use Rattle.cm_scan.specs.Inlines.{inlines_of}
+use Rattle.cm_scan.specs.blocks.Blocks.{blocks_of, reference_table}
+use Rattle.cm_scan.specs.inlines.Brackets.{Defined, defined_in}
+use Rattle.cm_scan.specs.inlines.Inlines.{inlines_of}
 
 -- the content of a paragraph or heading, which in an outline is one text, its source, or nothing
 abbrev pub content_read : Rules → Defined → List Inline → List Inline

@@ -1,9 +1,9 @@
 -- How a scanner's answer is compared with the definitions: what it read, and what is left behind that.
 use Rattle.std.specs.Prelude.{List, drop, option_map, ℕ, Option, Some, None, Bool, if◌then◌else◌, ◌++◌, codes}
 use Rattle.std.specs.Borrow.{Bor}
-use Rattle.cm_scan.specs.Links.{Reading, LinkDefinition}
-use Rattle.cm_scan.specs.Autolinks.{Autolink}
-use Rattle.cm_scan.specs.Angles.{before}
+use Rattle.cm_scan.specs.inlines.Links.{Reading, LinkDefinition}
+use Rattle.cm_scan.specs.spans.Autolinks.{Autolink}
+use Rattle.cm_scan.specs.spans.Angles.{before}
 
 -- what was read, if it was, with the place where it ends
 abbrev pub ending : {A : Type 0} → Option A → ℕ → Option (A × ℕ)

@@ -2,8 +2,8 @@
 ghost use Rattle.std.specs.Prelude.{◌≡◌, List, ℕ, ◌||◌, ◌==◌, option_map, IfSome};
 ghost use Rattle.std.specs.List.{list_all};
 ghost use Rattle.cm_scan.specs.Words.{is_letter_or_digit, skip};
-ghost use Rattle.cm_scan.specs.Autolinks.{continues_scheme, is_absolute, stands_in_address};
-ghost use Rattle.cm_scan.specs.Autolinks.{labels, is_host_label, is_address, as_autolink};
+ghost use Rattle.cm_scan.specs.spans.Autolinks.{continues_scheme, is_absolute, stands_in_address};
+ghost use Rattle.cm_scan.specs.spans.Autolinks.{labels, is_host_label, is_address, as_autolink};
 ghost use Rattle.cm_scan.specs.Scanned.{autolink_with};
 ghost use Rattle.cm_scan.specs.steps.SpanSteps.{is_host_byte};
 

@@ -4,7 +4,7 @@ ghost use Rattle.std.specs.Str.{IsCharBoundary};
 ghost use Rattle.std.specs.List.{slice_range};
 ghost use Rattle.cm_text.specs.Addresses.{is_followed};
 ghost use Rattle.cm_scan.specs.Words.{skip, front_of};
-ghost use Rattle.cm_scan.specs.Autolinks.{is_inside, in_angles, autolink, followed_autolink};
+ghost use Rattle.cm_scan.specs.spans.Autolinks.{is_inside, in_angles, autolink, followed_autolink};
 ghost use Rattle.cm_scan.specs.Scanned.{reading_of, autolink_with};
 
 use crate::angled::{Autolink, link_of};

@@ -1,9 +1,10 @@
 //! Laws of single blocks, with any lines behind them. Each is the contract of a public function with an empty
 //! body.
-ghost use Rattle.cm_scan.specs.BlockLaws.{UnindentedLine, QuoteAndSpace, QuoteAlone, ItemAndSpace};
-ghost use Rattle.cm_scan.specs.BlockLaws.{ItemAlone, RunUpToItsEnd, RunUpToItsUnderline};
-ghost use Rattle.cm_scan.specs.BlockLaws.{FencedUpToItsEnd, FencedToTheLast, HtmlUpToItsEnd};
-ghost use Rattle.cm_scan.specs.BlockLaws.{HtmlUpToABlankLine, KindOfItself, ItemBeforeItsList, ItemByItself};
+ghost use Rattle.cm_scan.specs.laws.BlockLaws.{UnindentedLine, QuoteAndSpace, QuoteAlone, ItemAndSpace};
+ghost use Rattle.cm_scan.specs.laws.BlockLaws.{ItemAlone, RunUpToItsEnd, RunUpToItsUnderline};
+ghost use Rattle.cm_scan.specs.laws.BlockLaws.{FencedUpToItsEnd, FencedToTheLast, HtmlUpToItsEnd};
+ghost use Rattle.cm_scan.specs.laws.BlockLaws.{HtmlUpToABlankLine, KindOfItself};
+ghost use Rattle.cm_scan.specs.laws.BlockLaws.{ItemBeforeItsList, ItemByItself};
 
 /// A line at the margin that isn't lazy begins, and is as an underline, what its text as it stands tells.
 pub fn lines_at_the_margin()

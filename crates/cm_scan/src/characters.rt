@@ -1,6 +1,6 @@
 //! The first and the last character of a text.
 ghost use Rattle.std.specs.Prelude.{◌≡◌, reverse};
-ghost use Rattle.cm_scan.specs.Atoms.{first_character, last_character};
+ghost use Rattle.cm_scan.specs.inlines.Atoms.{first_character, last_character};
 
 /// The first character of a text.
 pub fn first_character(text: &str) -> Option<char>

@@ -2,7 +2,7 @@
 ghost use Rattle.std.specs.Prelude.{◌≡◌, ◌≤◌, ℕ, None, false, length, drop, IfSome, IsUtf8};
 ghost use Rattle.std.specs.Str.{IsCharBoundary};
 ghost use Rattle.cm_scan.specs.Words.{run_length};
-ghost use Rattle.cm_scan.specs.CodeSpans.{up_to_run, span_content, spanned_as_written, code_span};
+ghost use Rattle.cm_scan.specs.spans.CodeSpans.{up_to_run, span_content, spanned_as_written, code_span};
 ghost use Rattle.cm_scan.specs.Scanned.{reading_of};
 ghost use Rattle.cm_scan.specs.steps.SpanSteps.{run_at};
 

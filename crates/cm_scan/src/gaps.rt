@@ -2,8 +2,8 @@
 ghost use Rattle.std.specs.Prelude.{◌≡◌, ◌≤◌, length, drop, option_map, IfSome, IsUtf8};
 ghost use Rattle.std.specs.Str.{IsCharBoundary};
 ghost use Rattle.cm_scan.specs.Words.{is_space_or_tab, trim_start};
-ghost use Rattle.cm_scan.specs.Tags.{is_blank_byte, is_blank_next, after_gap};
-ghost use Rattle.cm_scan.specs.Links.{after_line};
+ghost use Rattle.cm_scan.specs.spans.Tags.{is_blank_byte, is_blank_next, after_gap};
+ghost use Rattle.cm_scan.specs.inlines.Links.{after_line};
 
 use crate::words::is_space_or_tab;
 

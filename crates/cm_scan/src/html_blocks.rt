@@ -5,11 +5,12 @@ ghost use Rattle.std.specs.List.{list_any};
 ghost use Rattle.cm_text.specs.Rules.{profile};
 ghost use Rattle.cm_scan.specs.Words.{is_letter, is_at_word, holds_word, after_word};
 ghost use Rattle.cm_scan.specs.Words.{same_bytes, is_among, given, ◌<|>◌};
-ghost use Rattle.cm_scan.specs.HtmlBlocks.{lower, raw_text_names, common_block_names, block_name_by};
-ghost use Rattle.cm_scan.specs.HtmlBlocks.{block_names, is_at_name_end, is_at_tag_end, is_named_start};
-ghost use Rattle.cm_scan.specs.HtmlBlocks.{is_raw_text_start, is_declaration_start};
-ghost use Rattle.cm_scan.specs.HtmlBlocks.{is_block_tag_start, is_any_tag_start, html_start, is_html_end};
-ghost use Rattle.cm_scan.specs.HtmlKinds.{kind_of};
+ghost use Rattle.cm_scan.specs.blocks.HtmlBlocks.{lower, raw_text_names, common_block_names, block_name_by};
+ghost use Rattle.cm_scan.specs.blocks.HtmlBlocks.{block_names, is_at_name_end, is_at_tag_end, is_named_start};
+ghost use Rattle.cm_scan.specs.blocks.HtmlBlocks.{is_raw_text_start, is_declaration_start};
+ghost use Rattle.cm_scan.specs.blocks.HtmlBlocks.{is_block_tag_start, is_any_tag_start};
+ghost use Rattle.cm_scan.specs.blocks.HtmlBlocks.{html_start, is_html_end};
+ghost use Rattle.cm_scan.specs.blocks.HtmlKinds.{kind_of};
 
 use crate::tags::{closing_tag, first_of, is_letter, open_tag, tag_name};
 use crate::words::{bytes_from, is_blank_text, is_space_or_tab};
@@ -175,7 +176,7 @@ fn is_common_block_name(name: &[u8]) -> bool
 }
 
 /// Whether a name is one of start condition 6.
-#[tactic(auto, unfolding(crate::specs::HtmlBlocks::block_names))]
+#[tactic(auto, unfolding(crate::specs::blocks::HtmlBlocks::block_names))]
 fn is_block_name(rules: Rules, name: &[u8]) -> bool
     ensures { result ≡ is_among (block_names rules) (lower name.now) }
 {
@@ -210,7 +211,7 @@ fn is_named_start(name: &str, behind: &[u8]) -> bool
 }
 
 /// Start condition 1, behind the `<`.
-#[tactic(auto, unfolding(crate::specs::HtmlBlocks::is_raw_text_start))]
+#[tactic(auto, unfolding(crate::specs::blocks::HtmlBlocks::is_raw_text_start))]
 fn is_raw_text_start(behind: &[u8]) -> bool
     ensures { result ≡ is_raw_text_start (60 ∷ behind.now) }
 {
@@ -221,7 +222,7 @@ fn is_raw_text_start(behind: &[u8]) -> bool
 }
 
 /// Start condition 4, behind the `<`.
-#[tactic(auto, using(crate::proofs::StartLemmas::declarations))]
+#[tactic(auto, using(crate::proofs::lemmas::blocks::HtmlStarts::declarations))]
 fn is_declaration_start(behind: &[u8]) -> bool
     ensures { result ≡ is_declaration_start (60 ∷ behind.now) }
 {
@@ -292,7 +293,7 @@ pub fn html_start(text: &str, at: usize) -> Option<HtmlKind>
 
 /// The same by these rules, which decide which names start condition 6 has, and whether any
 /// line starts an HTML block.
-#[tactic(auto, using(crate::proofs::StartLemmas::html_starts))]
+#[tactic(auto, using(crate::proofs::lemmas::blocks::HtmlStarts::html_starts))]
 pub fn html_start_by(rules: Rules, text: &str, at: usize) -> Option<HtmlKind>
     requires within { at ≤ length text.now }
     ensures { option_map kind_of result ≡ html_start rules (drop at text.now) }

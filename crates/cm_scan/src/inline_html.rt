@@ -3,8 +3,8 @@ ghost use Rattle.std.specs.Prelude.{◌≡◌, ◌∷◌, ◌≤◌, ◌<◌, �
 ghost use Rattle.std.specs.Str.{IsCharBoundary};
 ghost use Rattle.cm_text.specs.Rules.{profile};
 ghost use Rattle.cm_scan.specs.Words.{after_word, holds_word};
-ghost use Rattle.cm_scan.specs.RawHtml.{behind_word, short_end, after_comment};
-ghost use Rattle.cm_scan.specs.RawHtml.{after_declaration, html_tag, raw_html};
+ghost use Rattle.cm_scan.specs.spans.RawHtml.{behind_word, short_end, after_comment};
+ghost use Rattle.cm_scan.specs.spans.RawHtml.{after_declaration, html_tag, raw_html};
 ghost use Rattle.cm_scan.specs.Scanned.{reading_of, whole_of};
 ghost use Rattle.cm_scan.specs.steps.SpanSteps.{left_of};
 

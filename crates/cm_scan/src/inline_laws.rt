@@ -1,17 +1,17 @@
 //! Laws of the definitions of inlines. Each is the contract of a public function with an empty body.
-ghost use Rattle.cm_scan.specs.InlineLaws.{ReadingGoesOn, StepLeavesAnEnd, BracketStep, UnmarkedIsPlain};
-ghost use Rattle.cm_scan.specs.InlineLaws.{PlainIsItself, PlainFrontIsText, SpacesAndLineFeed};
-ghost use Rattle.cm_scan.specs.Pieces.{TextsInPieces, ReadingInPieces};
-ghost use Rattle.cm_scan.specs.Runs.{RunsAreFew};
-ghost use Rattle.cm_scan.specs.OnePass.{OnePassExamples, PairsInOnePass};
-ghost use Rattle.cm_scan.specs.InlineExamples.{CodeSpanExamples, OpensEmphasisExamples};
-ghost use Rattle.cm_scan.specs.InlineExamples.{ClosesEmphasisExamples, OpensStrongExamples};
-ghost use Rattle.cm_scan.specs.InlineExamples.{ClosesStrongExamples, InsideEmphasisExamples};
-ghost use Rattle.cm_scan.specs.InlineExamples.{LeftOverExamples, AmbiguityExamples};
-ghost use Rattle.cm_scan.specs.InlineExamples.{InlineLinkExamples, ReferenceLinkExamples};
-ghost use Rattle.cm_scan.specs.InlineExamples.{ImageExamples, AutolinkExamples, RawHtmlExamples};
-ghost use Rattle.cm_scan.specs.InlineExamples.{LineBreakExamples, TextExamples, StrikeExamples};
-ghost use Rattle.cm_scan.specs.InlineExamples.{OlderRulesExamples, NestingExamples};
+ghost use Rattle.cm_scan.specs.laws.InlineLaws.{ReadingGoesOn, StepLeavesAnEnd, BracketStep, UnmarkedIsPlain};
+ghost use Rattle.cm_scan.specs.laws.InlineLaws.{PlainIsItself, PlainFrontIsText, SpacesAndLineFeed};
+ghost use Rattle.cm_scan.specs.inlines.Pieces.{TextsInPieces, ReadingInPieces};
+ghost use Rattle.cm_scan.specs.inlines.Runs.{RunsAreFew};
+ghost use Rattle.cm_scan.specs.inlines.OnePass.{OnePassExamples, PairsInOnePass};
+ghost use Rattle.cm_scan.specs.laws.InlineExamples.{CodeSpanExamples, OpensEmphasisExamples};
+ghost use Rattle.cm_scan.specs.laws.InlineExamples.{ClosesEmphasisExamples, OpensStrongExamples};
+ghost use Rattle.cm_scan.specs.laws.InlineExamples.{ClosesStrongExamples, InsideEmphasisExamples};
+ghost use Rattle.cm_scan.specs.laws.InlineExamples.{LeftOverExamples, AmbiguityExamples};
+ghost use Rattle.cm_scan.specs.laws.InlineExamples.{InlineLinkExamples, ReferenceLinkExamples};
+ghost use Rattle.cm_scan.specs.laws.InlineExamples.{ImageExamples, AutolinkExamples, RawHtmlExamples};
+ghost use Rattle.cm_scan.specs.laws.InlineExamples.{LineBreakExamples, TextExamples, StrikeExamples};
+ghost use Rattle.cm_scan.specs.laws.InlineExamples.{OlderRulesExamples, NestingExamples};
 
 /// Worked examples of the inlines of leaves, by computation.
 pub fn inline_examples()

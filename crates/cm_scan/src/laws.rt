@@ -1,21 +1,21 @@
 //! Laws: facts about the definitions alone. Each is the contract of a public function with an empty body.
-ghost use Rattle.cm_scan.specs.Laws.{NoLines, FixedPoint, BlankCase, BreakCase, HeadingCase};
-ghost use Rattle.cm_scan.specs.Laws.{FenceCase, HtmlCase, CodeCase, TextCase, OneMoreStays, QuoteCase};
-ghost use Rattle.cm_scan.specs.Laws.{ItemCase, OneOwnerALine, RunsInOrder, HeadingLevels};
-ghost use Rattle.cm_scan.specs.Looseness.{PartsHaveLines, LooseByOwners};
-ghost use Rattle.cm_scan.specs.WorkedExamples.{LeafExamples, ContainerExamples};
-ghost use Rattle.cm_scan.specs.WorkedExamples.{DefinitionExamples, DepthExamples, BoundExamples};
+ghost use Rattle.cm_scan.specs.laws.Laws.{NoLines, FixedPoint, BlankCase, BreakCase, HeadingCase};
+ghost use Rattle.cm_scan.specs.laws.Laws.{FenceCase, HtmlCase, CodeCase, TextCase, OneMoreStays, QuoteCase};
+ghost use Rattle.cm_scan.specs.laws.Laws.{ItemCase, OneOwnerALine, RunsInOrder, HeadingLevels};
+ghost use Rattle.cm_scan.specs.laws.Looseness.{PartsHaveLines, LooseByOwners};
+ghost use Rattle.cm_scan.specs.laws.WorkedExamples.{LeafExamples, ContainerExamples};
+ghost use Rattle.cm_scan.specs.laws.WorkedExamples.{DefinitionExamples, DepthExamples, BoundExamples};
 
 /// The parts of a list of lines are given by the cases on its first line, in which the parts of fewer
 /// lines stand: nothing rests on the bound by which the definition computes.
-#[tactic(auto, using(crate::proofs::Cases::all_cases))]
+#[tactic(auto, using(crate::proofs::lemmas::blocks::PartsByCases::all_cases))]
 pub fn parts_by_cases()
     ensures none { NoLines }
     ensures cases { FixedPoint }
 {}
 
 /// The same for each kind of leaf, and for a blank line.
-#[tactic(auto, using(crate::proofs::Cases::leaf_cases))]
+#[tactic(auto, using(crate::proofs::lemmas::blocks::PartsByCases::leaf_cases))]
 pub fn leaf_cases()
     ensures blank_line { BlankCase }
     ensures thematic_break { BreakCase }
@@ -27,7 +27,7 @@ pub fn leaf_cases()
 {}
 
 /// The same for a quote and an item, by the lines that stay in them and the first that leaves.
-#[tactic(auto, using(crate::proofs::Cases::container_cases))]
+#[tactic(auto, using(crate::proofs::lemmas::blocks::PartsByCases::container_cases))]
 pub fn container_cases()
     ensures quote { QuoteCase }
     ensures item { ItemCase }
@@ -45,7 +45,7 @@ pub fn worked_examples()
 
 /// Each line has one owner, and the leaves of the tree are those that the lines name: each leaf's lines
 /// are one nonempty unbroken run, and the runs stand in the order of the leaves' numbers.
-#[tactic(auto, using(crate::proofs::Counted::owners))]
+#[tactic(auto, using(crate::proofs::lemmas::blocks::CountedLines::owners))]
 pub fn owners_of_lines()
     ensures one_a_line { OneOwnerALine }
     ensures runs { RunsInOrder }

@@ -5,9 +5,9 @@ ghost use Rattle.std.specs.Prelude.{ℕ, List, Some, None, length, drop, true, M
 ghost use Rattle.std.specs.List.{list_any};
 ghost use Rattle.std.specs.Str.{IsCharBoundary};
 ghost use Rattle.cm_scan.specs.Words.{given, begins_with};
-ghost use Rattle.cm_scan.specs.LineForms.{is_break_of, is_thematic_break, without_closing};
-ghost use Rattle.cm_scan.specs.LineForms.{atx_heading, is_underline_of, underline};
-ghost use Rattle.cm_scan.specs.LineForms.{fence_of, opening_fence, is_closing_fence};
+ghost use Rattle.cm_scan.specs.blocks.LineForms.{is_break_of, is_thematic_break, without_closing};
+ghost use Rattle.cm_scan.specs.blocks.LineForms.{atx_heading, is_underline_of, underline};
+ghost use Rattle.cm_scan.specs.blocks.LineForms.{fence_of, opening_fence, is_closing_fence};
 ghost use Rattle.cm_scan.specs.Scanned.{ending};
 ghost use Rattle.cm_scan.specs.steps.LineSteps.{is_break_marker};
 

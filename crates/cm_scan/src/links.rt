@@ -4,10 +4,12 @@ ghost use Rattle.std.specs.Prelude.{◌≡◌, ℕ, ◌+◌, List, true, ◌==�
 ghost use Rattle.std.specs.Prelude.{length, drop, slice_index, option_map, IfSome, IsUtf8, if◌then◌else◌};
 ghost use Rattle.std.specs.List.{list_all};
 ghost use Rattle.std.specs.Str.{IsCharBoundary};
-ghost use Rattle.cm_scan.specs.Tags.{is_blank_byte};
+ghost use Rattle.cm_scan.specs.spans.Tags.{is_blank_byte};
 ghost use Rattle.cm_scan.specs.Words.{begins_with, ◌<|>◌};
-ghost use Rattle.cm_scan.specs.Links.{escapes_next, keep_if, up_to_closing, label, destination, title};
-ghost use Rattle.cm_scan.specs.Links.{bare_run, is_filled, opened_by, titled, untitled, link_definition};
+ghost use Rattle.cm_scan.specs.inlines.Links.{escapes_next, keep_if, up_to_closing};
+ghost use Rattle.cm_scan.specs.inlines.Links.{label, destination, title};
+ghost use Rattle.cm_scan.specs.inlines.Links.{bare_run, is_filled, opened_by};
+ghost use Rattle.cm_scan.specs.inlines.Links.{titled, untitled, link_definition};
 ghost use Rattle.cm_scan.specs.Scanned.{reading_of, definition_with};
 ghost use Rattle.cm_scan.specs.steps.LinkSteps.{closed_at, ended_at, title_end, ends_bare};
 ghost use Rattle.cm_scan.specs.steps.LinkSteps.{begins_character, is_barred, fits, blank_follows};

@@ -4,8 +4,8 @@ ghost use Rattle.std.specs.Prelude.{Some, None, length, drop, MatchOption, IfSom
 ghost use Rattle.std.specs.List.{fold};
 ghost use Rattle.std.specs.Str.{IsCharBoundary};
 ghost use Rattle.cm_scan.specs.Words.{is_digit, front_of, skip};
-ghost use Rattle.cm_scan.specs.LineForms.{item_marker, is_same_kind, bullet_kind};
-ghost use Rattle.cm_scan.specs.LineForms.{ordered_kind, decimal_value};
+ghost use Rattle.cm_scan.specs.blocks.LineForms.{item_marker, is_same_kind, bullet_kind};
+ghost use Rattle.cm_scan.specs.blocks.LineForms.{ordered_kind, decimal_value};
 ghost use Rattle.cm_scan.specs.steps.LineSteps.{with_digit};
 
 use crate::words::{bytes_from, is_at_gap, is_digit};

@@ -1,7 +1,7 @@
 //! Laws of rules without raw HTML, and of rules that follow the web's addresses alone. Each
 //! is the contract of a public function with an empty body.
-ghost use Rattle.cm_scan.specs.RuleExamples.{RuleExamples};
-ghost use Rattle.cm_scan.specs.RuleLaws.{NoHtmlBlock, NoRawHtml, NoHtml, InlinesFollowed, TreesFollowed};
+ghost use Rattle.cm_scan.specs.laws.RuleExamples.{RuleExamples};
+ghost use Rattle.cm_scan.specs.laws.RuleLaws.{NoHtmlBlock, NoRawHtml, NoHtml, InlinesFollowed, TreesFollowed};
 
 /// By rules without raw HTML no text has any: no line starts an HTML block, and no `<` raw HTML.
 pub fn no_html()

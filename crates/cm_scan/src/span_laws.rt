@@ -1,9 +1,11 @@
 //! Laws of code spans, autolinks and raw HTML. Each is the contract of a public function with an empty body.
 ghost use Rattle.std.specs.Prelude.{[], codes};
-ghost use Rattle.cm_scan.specs.SpanExamples.{AutolinkExamples, CodeSpanExamples};
-ghost use Rattle.cm_scan.specs.SpanExamples.{OlderExamples, RawHtmlExamples};
-ghost use Rattle.cm_scan.specs.SpanLaws.{RawHtmlGoesOn, WholeRawHtmlGoesOn, AutolinkGoesOn, NoAutolinkGoesOn};
-ghost use Rattle.cm_scan.specs.SpanLaws.{CodeSpanGoesOn, AngledGoesOn, WholeTagGoesOn, OlderIsRead, NeedsEnd};
+ghost use Rattle.cm_scan.specs.laws.SpanExamples.{AutolinkExamples, CodeSpanExamples};
+ghost use Rattle.cm_scan.specs.laws.SpanExamples.{OlderExamples, RawHtmlExamples};
+ghost use Rattle.cm_scan.specs.laws.SpanLaws.{RawHtmlGoesOn, WholeRawHtmlGoesOn};
+ghost use Rattle.cm_scan.specs.laws.SpanLaws.{AutolinkGoesOn, NoAutolinkGoesOn};
+ghost use Rattle.cm_scan.specs.laws.SpanLaws.{CodeSpanGoesOn, AngledGoesOn};
+ghost use Rattle.cm_scan.specs.laws.SpanLaws.{WholeTagGoesOn, OlderIsRead, NeedsEnd};
 
 /// What is raw HTML at the front of a text is so with anything behind the text.
 pub fn raw_html_goes_on()

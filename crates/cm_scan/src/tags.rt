@@ -2,9 +2,9 @@
 //! of the text behind it.
 ghost use Rattle.std.specs.Prelude.{◌≡◌, suc, [], ◌∷◌, Some, None, length, codes, MatchOption};
 ghost use Rattle.cm_scan.specs.Words.{is_letter, skip, after_word};
-ghost use Rattle.cm_scan.specs.Tags.{begins_attribute, continues_attribute, is_unquoted, after_gap};
-ghost use Rattle.cm_scan.specs.Tags.{after_quoted, after_value, after_specification, after_attribute};
-ghost use Rattle.cm_scan.specs.Tags.{after_tag_end, after_attributes, tag_name, open_tag, closing_tag};
+ghost use Rattle.cm_scan.specs.spans.Tags.{begins_attribute, continues_attribute, is_unquoted, after_gap};
+ghost use Rattle.cm_scan.specs.spans.Tags.{after_quoted, after_value, after_specification, after_attribute};
+ghost use Rattle.cm_scan.specs.spans.Tags.{after_tag_end, after_attributes, tag_name, open_tag, closing_tag};
 ghost use Rattle.cm_scan.specs.steps.TagNames.{continues_name};
 
 use crate::gaps::{self, is_blank_byte, is_blank_next};
@@ -115,7 +115,7 @@ fn after_quoted(quote: u8, bytes: &[u8]) -> Option<&[u8]>
 }
 
 /// What is left behind the value of an attribute: in double quotes, in single quotes, or unquoted.
-#[tactic(auto, unfolding(crate::specs::Tags::after_value, crate::specs::Tags::after_unquoted))]
+#[tactic(auto, unfolding(crate::specs::spans::Tags::after_value, crate::specs::spans::Tags::after_unquoted))]
 fn after_value(bytes: &[u8]) -> Option<&[u8]>
     ensures { MatchOption result (after_value bytes.now ≡ None)
         (λ rest. after_value bytes.now ≡ Some rest.now) }
@@ -131,7 +131,7 @@ fn after_value(bytes: &[u8]) -> Option<&[u8]>
 }
 
 /// What is left behind the value of an attribute with its `=`, where one comes next.
-#[tactic(auto, unfolding(crate::specs::Tags::after_specification, crate::specs::Words::after_word))]
+#[tactic(auto, unfolding(crate::specs::spans::Tags::after_specification, crate::specs::Words::after_word))]
 fn after_specification(bytes: &[u8]) -> Option<&[u8]>
     ensures { MatchOption result (after_specification bytes.now ≡ None)
         (λ rest. after_specification bytes.now ≡ Some rest.now) }
@@ -146,7 +146,7 @@ fn after_specification(bytes: &[u8]) -> Option<&[u8]>
 }
 
 /// What is left behind an attribute.
-#[tactic(auto, unfolding(crate::specs::Tags::after_attribute))]
+#[tactic(auto, unfolding(crate::specs::spans::Tags::after_attribute))]
 fn after_attribute(bytes: &[u8]) -> Option<&[u8]>
     ensures { MatchOption result (after_attribute bytes.now ≡ None)
         (λ rest. after_attribute bytes.now ≡ Some rest.now) }
@@ -172,7 +172,7 @@ fn after_bracket(bytes: &[u8]) -> Option<&[u8]>
 }
 
 /// What is left behind the end of an open tag: `/` or not, and `>`.
-#[tactic(auto, unfolding(crate::specs::Tags::after_tag_end, crate::specs::Words::after_word))]
+#[tactic(auto, unfolding(crate::specs::spans::Tags::after_tag_end, crate::specs::Words::after_word))]
 fn after_tag_end(bytes: &[u8]) -> Option<&[u8]>
     ensures { MatchOption result (after_tag_end bytes.now ≡ None)
         (λ rest. after_tag_end bytes.now ≡ Some rest.now) }

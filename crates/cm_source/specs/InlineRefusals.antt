@@ -10,8 +10,8 @@ use Rattle.cm_tree.specs.declared.tree.Inline.{Inline, Inline-F}
 use Rattle.cm_tree.specs.declared.tree.Inline.TheOpen as inline
 use Rattle.cm_tree.specs.declared.tree.Inline.TheFolds.{fold-Inline}
 use Rattle.cm_scan.specs.Words.{is_empty, holds_word, ◌<|>◌}
-use Rattle.cm_scan.specs.Angles.{Addressed, Tagged, at_angle}
-use Rattle.cm_scan.specs.Atoms.{first_character, last_character}
+use Rattle.cm_scan.specs.spans.Angles.{Addressed, Tagged, at_angle}
+use Rattle.cm_scan.specs.inlines.Atoms.{first_character, last_character}
 use Rattle.cm_source.specs.declared.reason.Reason.{Reason}
 use Rattle.cm_source.specs.declared.reason.Reason.TheVariants.{Nul, Text, EmphasisNested, EmphasisTouching, EmphasisEdge, CodeSpan, RawHtml, LinkInLink, LineBreak, StrikeOff, AddressOff}
 

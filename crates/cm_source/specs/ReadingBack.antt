@@ -6,10 +6,10 @@ use Rattle.cm_tree.specs.declared.tree.Inline.{Inline}
 use Rattle.cm_tree.specs.declared.tree.Block.{Block, Block-F}
 use Rattle.cm_tree.specs.declared.tree.Block.TheFolds.{fold-Block}
 use Rattle.cm_tree.specs.RawBlocks.{raw_inlines}
-use Rattle.cm_scan.specs.Blocks.{blocks_of}
-use Rattle.cm_scan.specs.Brackets.{Defined}
+use Rattle.cm_scan.specs.blocks.Blocks.{blocks_of}
+use Rattle.cm_scan.specs.inlines.Brackets.{Defined}
 use Rattle.cm_scan.specs.Documents.{change_step, tree_of}
-use Rattle.cm_scan.specs.Inlines.{inlines_of}
+use Rattle.cm_scan.specs.inlines.Inlines.{inlines_of}
 use Rattle.cm_source.specs.InlineRefusals.{paragraph_refusal, heading_refusal}
 use Rattle.cm_source.specs.Inlines.{spelled_content}
 use Rattle.cm_source.specs.Refusals.{IsSpellable}

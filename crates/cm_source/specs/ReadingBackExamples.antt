@@ -8,11 +8,11 @@ use Rattle.cm_tree.specs.declared.tree.Inline.TheVariants.{Text, Code, Html, Sof
 use Rattle.cm_tree.specs.declared.tree.Block.{Block}
 use Rattle.cm_tree.specs.declared.tree.Block.TheVariants as block
 use Rattle.cm_tree.specs.declared.tree.ListKind.TheVariants.{Dash, Plus, Star, Dot, Paren}
-use Rattle.cm_scan.specs.Blocks.{blocks_of}
+use Rattle.cm_scan.specs.blocks.Blocks.{blocks_of}
 use Rattle.cm_scan.specs.Documents.{tree_of}
-use Rattle.cm_scan.specs.InlineExamples.{struck}
-use Rattle.cm_scan.specs.RuleExamples.{safe}
-use Rattle.cm_scan.specs.Inlines.{inlines_of}
+use Rattle.cm_scan.specs.laws.InlineExamples.{struck}
+use Rattle.cm_scan.specs.laws.RuleExamples.{safe}
+use Rattle.cm_scan.specs.inlines.Inlines.{inlines_of}
 use Rattle.cm_source.specs.declared.reason.Reason.{Reason}
 use Rattle.cm_source.specs.declared.reason.Reason.TheVariants as why
 use Rattle.cm_source.specs.InlineRefusals.{paragraph_refusal, heading_refusal}

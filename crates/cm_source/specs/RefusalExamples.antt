@@ -4,8 +4,8 @@ use Rattle.cm_text.specs.Rules.{profile}
 use Rattle.cm_tree.specs.declared.tree.Inline.TheVariants.{Text, Code, Html, Soft, Hard, Emph, Strong, Strike, Link, Image}
 use Rattle.cm_tree.specs.declared.tree.Block.TheVariants as block
 use Rattle.cm_tree.specs.declared.tree.ListKind.TheVariants.{Dash, Plus, Dot}
-use Rattle.cm_scan.specs.InlineExamples.{struck}
-use Rattle.cm_scan.specs.RuleExamples.{safe}
+use Rattle.cm_scan.specs.laws.InlineExamples.{struck}
+use Rattle.cm_scan.specs.laws.RuleExamples.{safe}
 use Rattle.cm_source.specs.declared.reason.Reason.TheVariants as why
 use Rattle.cm_source.specs.InlineRefusals.{paragraph_refusal, heading_refusal}
 use Rattle.cm_source.specs.Refusals.{refusal_of}

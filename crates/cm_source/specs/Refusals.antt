@@ -11,11 +11,11 @@ use Rattle.cm_tree.specs.Followed.{is_read_info}
 use Rattle.cm_tree.specs.declared.tree.ListKind.{ListKind}
 use Rattle.cm_tree.specs.declared.tree.ListKind.TheVariants.{Dot, Paren}
 use Rattle.cm_scan.specs.Words.{is_empty, begins_with, same_bytes, ◌<|>◌}
-use Rattle.cm_scan.specs.Autolinks.{ends_with}
-use Rattle.cm_scan.specs.LineForms.{is_same_kind}
-use Rattle.cm_scan.specs.HtmlBlocks.{html_start, is_html_end, ends_at_blank_line}
-use Rattle.cm_scan.specs.Parts.{Parts, none, leaf, html}
-use Rattle.cm_scan.specs.Blocks.{parts_of}
+use Rattle.cm_scan.specs.spans.Autolinks.{ends_with}
+use Rattle.cm_scan.specs.blocks.LineForms.{is_same_kind}
+use Rattle.cm_scan.specs.blocks.HtmlBlocks.{html_start, is_html_end, ends_at_blank_line}
+use Rattle.cm_scan.specs.blocks.Parts.{Parts, none, leaf, html}
+use Rattle.cm_scan.specs.blocks.Blocks.{parts_of}
 use Rattle.cm_source.specs.declared.reason.Reason.{Reason}
 use Rattle.cm_source.specs.declared.reason.Reason.TheVariants.{Definition, Nul, Shape, CodeText, HtmlBlock, AdjacentLists, ItemBeginsWithList, Looseness, InfoOff}
 use Rattle.cm_source.specs.InlineRefusals.{refused, has_nul, paragraph_refusal, heading_refusal}

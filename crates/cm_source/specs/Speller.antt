@@ -8,7 +8,7 @@ use Rattle.cm_source.specs.declared.fault.SourceFault.TheVariants.{Unspellable, 
 use Rattle.cm_source.specs.Refusals.{BlockFace, JudgedBlock, judged_block, refusal_of, IsSpellable}
 use Rattle.cm_source.specs.Spelling.{spelling_of}
 use Rattle.cm_source.specs.steps.BlockFaces.{seen}
-use Rattle.cm_source.specs.steps.Laid.{IsBetween}
+use Rattle.cm_source.specs.steps.WrittenLines.{IsBetween}
 
 -- what a block behind these sees of the last of them
 abbrev pub face_behind : (before : Option BlockFace) → List JudgedBlock → Option BlockFace

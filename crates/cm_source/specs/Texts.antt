@@ -5,7 +5,7 @@ use Rattle.std.specs.Fmt.{decimal}
 use Rattle.std.specs.Char.{is_ascii_control}
 use Rattle.cm_text.specs.Characters.{is_ascii_punct}
 use Rattle.cm_scan.specs.Words.{is_empty, begins_with}
-use Rattle.cm_scan.specs.Autolinks.{ends_with}
+use Rattle.cm_scan.specs.spans.Autolinks.{ends_with}
 
 -- a character by its number (2.5 Entity and numeric character references)
 abbrev pub numbered : ℕ → List ℕ

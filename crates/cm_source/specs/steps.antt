@@ -4,8 +4,8 @@ pub mod ContentBack
 pub mod Fitting
 pub mod HtmlLines
 pub mod InlineFaces
-pub mod Laid
 pub mod Outlines
 pub mod Sources
 pub mod Utf8Blocks
 pub mod Utf8Inlines
+pub mod WrittenLines

@@ -4,7 +4,7 @@ ghost use Rattle.cm_source.specs.Texts.{spelled_text};
 ghost use Rattle.cm_source.specs.Inlines.{spelled_content};
 ghost use Rattle.cm_source.specs.Spelling.{parted_lines, after_space, heading_lines, code_lines, gap};
 ghost use Rattle.cm_source.specs.Spelling.{quote_lines, item_lines, marker, lines_of_block, lines_of_blocks};
-ghost use Rattle.cm_source.specs.steps.Laid.{Lays, Writes};
+ghost use Rattle.cm_source.specs.steps.WrittenLines.{Lays, Writes};
 
 use crate::inlines::{spell_inlines, spell_text};
 use crate::source::Source;

@@ -1,7 +1,7 @@
 //! Whether a text, read alone, is one HTML block (CommonMark 0.31.2, 4.6 HTML blocks).
 ghost use Rattle.std.specs.Prelude.{◌≡◌};
-ghost use Rattle.cm_scan.specs.HtmlBlocks.{ends_at_blank_line};
-ghost use Rattle.cm_scan.specs.HtmlKinds.{kind_of};
+ghost use Rattle.cm_scan.specs.blocks.HtmlBlocks.{ends_at_blank_line};
+ghost use Rattle.cm_scan.specs.blocks.HtmlKinds.{kind_of};
 ghost use Rattle.cm_source.specs.Spelling.{ended_lines};
 ghost use Rattle.cm_source.specs.Refusals.{first_line, is_html_block};
 ghost use Rattle.cm_source.specs.steps.HtmlLines.{fits, all_fit};

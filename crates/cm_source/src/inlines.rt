@@ -3,7 +3,7 @@ ghost use Rattle.std.specs.Prelude.{◌≡◌, ◌++◌, false, ◌==◌, map, O
 ghost use Rattle.std.specs.List.{list_any};
 ghost use Rattle.cm_source.specs.Texts.{padding, spelled_text, spelled_code, spelled_target};
 ghost use Rattle.cm_source.specs.Inlines.{spelled, spelled_inlines, is_line_end};
-ghost use Rattle.cm_source.specs.steps.Laid.{Lays};
+ghost use Rattle.cm_source.specs.steps.WrittenLines.{Lays};
 
 use crate::source::Source;
 use crate::texts::{is_padded, longest_run, push_target, push_text};

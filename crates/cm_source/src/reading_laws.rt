@@ -3,14 +3,14 @@ ghost use Rattle.cm_source.specs.ReadingBack.{ParagraphsReadBack, HeadingsReadBa
 ghost use Rattle.cm_source.specs.ReadingBack.{BlocksReadBack, SpellingIsText, TreesReadBack};
 
 /// A content that isn't refused is what its spelling is read as, whatever is defined.
-#[tactic(auto, using(crate::proofs::ContentsBack::contents_read_back))]
+#[tactic(auto, using(crate::proofs::lemmas::ContentsBack::contents_read_back))]
 pub fn contents_read_back()
     ensures paragraphs { ParagraphsReadBack }
     ensures headings { HeadingsReadBack }
 {}
 
 /// The blocks of a spelling are those that were spelled, with the spellings of their contents as sources.
-#[tactic(auto, using(crate::proofs::ReadingBack::blocks_read_back))]
+#[tactic(auto, using(crate::proofs::lemmas::BlocksBack::blocks_read_back))]
 pub fn blocks_read_back()
     ensures { BlocksReadBack }
 {}
@@ -21,7 +21,7 @@ pub fn spelling_is_text()
 {}
 
 /// The tree of a spelling is the tree that was spelled.
-#[tactic(auto, using(crate::proofs::DocumentsBack::trees_read_back))]
+#[tactic(auto, using(crate::proofs::lemmas::DocumentsBack::trees_read_back))]
 pub fn trees_read_back()
     ensures { TreesReadBack }
 {}

@@ -62,7 +62,8 @@ pub(crate) struct Source {
 }
 
 impl Source {
-    ghost use Rattle.cm_source.specs.steps.Laid.{IsBetween, BeginsLine, Ends, Lays, Writes, Enters, Leaves};
+    ghost use Rattle.cm_source.specs.steps.WrittenLines.{IsBetween, BeginsLine, Ends};
+    ghost use Rattle.cm_source.specs.steps.WrittenLines.{Lays, Writes, Enters, Leaves};
 
     /// No line.
     pub(crate) fn new(alloc: Global) -> Source

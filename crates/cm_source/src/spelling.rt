@@ -11,7 +11,7 @@ ghost use Rattle.cm_source.specs.Refusals.{judged_block, IsSpellable};
 ghost use Rattle.cm_source.specs.Speller.{StandsFor, Refuses};
 ghost use Rattle.cm_source.specs.Spelling.{gap, lines_of_block, spelling_of};
 ghost use Rattle.cm_source.specs.steps.BlockFaces.{seen};
-ghost use Rattle.cm_source.specs.steps.Laid.{Writes};
+ghost use Rattle.cm_source.specs.steps.WrittenLines.{Writes};
 
 use crate::blocks::{spell_block, spell_blocks, spell_gap};
 use crate::fault::SourceFault;

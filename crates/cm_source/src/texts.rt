@@ -5,7 +5,7 @@ ghost use Rattle.cm_source.specs.Texts.{numbered, spelled_byte, spelled_bytes, s
 ghost use Rattle.cm_source.specs.Texts.{longest_run, is_padded, spelled_title, spelled_target};
 ghost use Rattle.std.specs.List.{list_all, list_any};
 ghost use Rattle.cm_scan.specs.Words.{begins_with, is_empty};
-ghost use Rattle.cm_scan.specs.Autolinks.{ends_with};
+ghost use Rattle.cm_scan.specs.spans.Autolinks.{ends_with};
 ghost use Rattle.cm_source.specs.Refusals.{is_code_text};
 ghost use Rattle.cm_source.specs.steps.Bytes.{is_spelled};
 

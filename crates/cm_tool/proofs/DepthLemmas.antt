@@ -12,14 +12,14 @@ use Rattle.cm_tree.specs.declared.tree.Block.{Block}
 use Rattle.cm_tree.specs.declared.tree.Block.TheFolds.{fold_out-Block}
 use Rattle.cm_tree.specs.declared.tree.Block.TheVariants.{Quote, List as ListBlock, outs-Paragraph, outs-Heading, outs-Code, outs-Html, outs-Break, outs-Definition, outs-Quote, outs-List}
 use Rattle.cm_tree.specs.declared.tree.ListKind.{ListKind}
-use Rattle.cm_scan.specs.Brackets.{Defined}
-use Rattle.cm_scan.specs.Parts.{LeafPart, paragraph, heading, code, html, thematic_break, definition, Parts, none, blank, leaf, quote, list, ItemParts, last_item, item, leaf_block, is_loose, blocks_of_parts, blocks_of_items, depths_of, item_depths_of}
-use Rattle.cm_scan.specs.Blocks.{parts_of, blocks_of, first_too_deep}
+use Rattle.cm_scan.specs.inlines.Brackets.{Defined}
+use Rattle.cm_scan.specs.blocks.Parts.{LeafPart, paragraph, heading, code, html, thematic_break, definition, Parts, none, blank, leaf, quote, list, ItemParts, last_item, item, leaf_block, is_loose, blocks_of_parts, blocks_of_items, depths_of, item_depths_of}
+use Rattle.cm_scan.specs.blocks.Blocks.{parts_of, blocks_of, first_too_deep}
 use Rattle.cm_scan.specs.Documents.{read_step, block_read, with_inlines, defined_by, tree_of_lines}
-use Rattle.cm_scan.specs.Laws.{AreLines}
-use Rattle.cm_scan.specs.Looseness.{line_total, items_total, HaveLines, ItemsHaveLines}
-use Rattle.cm_scan.proofs.Counted.{parts_have_lines}
-use Rattle.cm_scan.proofs.Owners.{length-replicate}
+use Rattle.cm_scan.specs.laws.Laws.{AreLines}
+use Rattle.cm_scan.specs.laws.Looseness.{line_total, items_total, HaveLines, ItemsHaveLines}
+use Rattle.cm_scan.proofs.lemmas.blocks.CountedLines.{parts_have_lines}
+use Rattle.cm_scan.proofs.lemmas.blocks.OwnersOfLines.{length-replicate}
 use Rattle.cm_block.proofs.Depths.{position-cons}
 use Rattle.cm_tool.proofs.RawWalkLemmas.{list_read}
 use Rattle.cm_tool.proofs.OwnerLemmas.{quote-read}

@@ -13,7 +13,7 @@ use Rattle.cm_text.specs.Feed.{cut_valid, cut_bytes}
 use Rattle.cm_text.proofs.Utf8Lemmas.{valid_front-IsUtf8}
 use Rattle.cm_text.proofs.LinesLemmas.{lines_are_computed, lines_are_cut}
 use Rattle.cm_text.proofs.FeedLemmas.{cut_shift, valid_stays}
-use Rattle.cm_scan.specs.Laws.{AreLines}
+use Rattle.cm_scan.specs.laws.Laws.{AreLines}
 
 -- the bytes within the limit, as more bytes come
 pub wider : (limit : ℕ) (bytes more : List ℕ) → take limit (bytes ++ more) ≡ take limit bytes ++ take (limit - length bytes) more

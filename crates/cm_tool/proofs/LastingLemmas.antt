@@ -12,9 +12,9 @@ use Rattle.cm_scan.specs.Documents.{tree_of}
 use Rattle.cm_source.specs.Definitions.{is_definition, cleared, cleared_step, kept, without_definitions}
 use Rattle.cm_source.specs.Refusals.{IsSpellable}
 use Rattle.cm_source.specs.Spelling.{spelling_of}
-use Rattle.cm_source.proofs.BlockInduction.{AllHold, ItemsHold, Cases, all-by-cases}
-use Rattle.cm_source.proofs.DefinitionLemmas.{list_cleared}
-use Rattle.cm_source.proofs.DocumentsBack.{trees_read_back}
+use Rattle.cm_source.proofs.lemmas.shared.BlockInduction.{AllHold, ItemsHold, Cases, all-by-cases}
+use Rattle.cm_source.proofs.lemmas.spelling.WithoutDefinitions.{list_cleared}
+use Rattle.cm_source.proofs.lemmas.DocumentsBack.{trees_read_back}
 use Rattle.cm_tool.specs.Faults.{fault_of}
 use Rattle.cm_tool.specs.Leaves.{depths_in, depths_step, concat_items, leaf_depths}
 use Rattle.cm_tool.specs.Rewriting.{IsLasting, kept_tree, rewritten}

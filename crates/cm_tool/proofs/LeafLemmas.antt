@@ -5,8 +5,8 @@ use Rattle.cm_text.specs.Rules.{Rules}
 use Rattle.cm_tree.specs.Depth.{inlines_depth}
 use Rattle.cm_tree.specs.declared.tree.Inline.{Inline}
 use Rattle.cm_tree.specs.Definitions.{Targets}
-use Rattle.cm_scan.specs.Brackets.{Defined, defined_in}
-use Rattle.cm_scan.specs.Inlines.{inlines_of, depth_of_leaf, nests_past}
+use Rattle.cm_scan.specs.inlines.Brackets.{Defined, defined_in}
+use Rattle.cm_scan.specs.inlines.Inlines.{inlines_of, depth_of_leaf, nests_past}
 use Rattle.cm_inline.specs.declared.fault.InlineFault.{InlineFault}
 use Rattle.cm_inline.specs.declared.fault.InlineFault.TheVariants as inline
 use Rattle.cm_inline.specs.Reading.{Refused}

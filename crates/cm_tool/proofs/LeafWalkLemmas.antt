@@ -12,7 +12,7 @@ use Rattle.cm_tree.specs.RawTrees.{all_blocks}
 use Rattle.cm_tree.specs.declared.tree.ListKind.{ListKind}
 use Rattle.cm_tree.proofs.RawWalks.{there-first, block_depth, item_depth}
 use Rattle.cm_text.specs.Limits.{LimitsView}
-use Rattle.cm_scan.specs.Brackets.{defined_in}
+use Rattle.cm_scan.specs.inlines.Brackets.{defined_in}
 use Rattle.std.specs.Prelude.{option_map, None}
 use Rattle.cm_tool.specs.declared.fault.Fault.{Fault}
 use Rattle.cm_tool.specs.declared.fault.Fault.TheVariants.{InlinesTooDeep}

@@ -8,10 +8,10 @@ use Rattle.cm_tree.specs.declared.tree.Block.TheViews.{roll-Block}
 use Rattle.cm_tree.specs.declared.tree.Block.TheFolds.{fold-roll-Block, fold_out-Block, ind-Block}
 use Rattle.cm_tree.specs.declared.tree.Block.TheVariants.{outs-Paragraph, outs-Heading, outs-Code, outs-Html, outs-Break, outs-Definition, outs-Quote, outs-List}
 use Rattle.cm_tree.specs.HeadingLevels.{all_of, all_of_items, level_step, has_levels, have_levels}
-use Rattle.cm_scan.specs.Brackets.{Defined}
-use Rattle.cm_scan.specs.Blocks.{blocks_of}
-use Rattle.cm_scan.proofs.LevelLemmas.{heading_levels}
-use Rattle.cm_scan.proofs.TreesRead.{no_html, trees_followed}
+use Rattle.cm_scan.specs.inlines.Brackets.{Defined}
+use Rattle.cm_scan.specs.blocks.Blocks.{blocks_of}
+use Rattle.cm_scan.proofs.lemmas.blocks.HeadingLevels.{heading_levels}
+use Rattle.cm_scan.proofs.lemmas.trees.TreesRead.{no_html, trees_followed}
 use Rattle.cm_html.proofs.MarkupBlocks.{addresses_stay}
 use Rattle.cm_scan.specs.Documents.{read_step, block_read, with_inlines}
 use Rattle.cm_scan.specs.Documents.{tree_of, defined_by}

@@ -8,8 +8,8 @@ use Rattle.cm_text.specs.Faults.{settled_fault, text_fault}
 use Rattle.cm_text.specs.Feed.{cut_bytes}
 use Rattle.cm_text.proofs.FeedLemmas.{whole_lines}
 use Rattle.cm_text.proofs.EndedLines.{ended_lines_are_cut}
-use Rattle.cm_scan.specs.Blocks.{first_too_deep}
-use Rattle.cm_scan.specs.Laws.{AreLines}
+use Rattle.cm_scan.specs.blocks.Blocks.{first_too_deep}
+use Rattle.cm_scan.specs.laws.Laws.{AreLines}
 use Rattle.cm_block.proofs.Depths.{too_deep_stays}
 use Rattle.cm_tool.specs.declared.fault.Fault.TheVariants.{BlocksTooDeep}
 use Rattle.cm_tool.specs.ToldFaults.{told}

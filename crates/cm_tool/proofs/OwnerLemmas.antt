@@ -7,12 +7,12 @@ use Rattle.cm_text.specs.Lines.{plain_line, plain_lines_of, text_of, lines_of}
 use Rattle.cm_tree.specs.declared.tree.Block.{Block}
 use Rattle.cm_tree.specs.declared.tree.Block.TheFolds.{fold-Block, fold_out-Block}
 use Rattle.cm_tree.specs.declared.tree.Block.TheVariants.{Quote, List as ListBlock, outs-Paragraph, outs-Heading, outs-Code, outs-Html, outs-Break, outs-Definition, outs-Quote}
-use Rattle.cm_scan.specs.Brackets.{Defined}
-use Rattle.cm_scan.specs.Parts.{LeafPart, paragraph, heading, code, html, thematic_break, definition, Parts, none, blank, leaf, quote, list, ItemParts, last_item, item, leaf_block, is_loose, blocks_of_parts, blocks_of_items, leaf_count, item_leaf_count}
-use Rattle.cm_scan.specs.Blocks.{parts_of, blocks_of}
-use Rattle.cm_scan.specs.Laws.{total_of_all, leaves_step, leaves_in}
-use Rattle.cm_scan.proofs.Owners.{quote-leaves, list-leaves, tree-leaves}
-use Rattle.cm_scan.proofs.Counted.{one_owner, in_order}
+use Rattle.cm_scan.specs.inlines.Brackets.{Defined}
+use Rattle.cm_scan.specs.blocks.Parts.{LeafPart, paragraph, heading, code, html, thematic_break, definition, Parts, none, blank, leaf, quote, list, ItemParts, last_item, item, leaf_block, is_loose, blocks_of_parts, blocks_of_items, leaf_count, item_leaf_count}
+use Rattle.cm_scan.specs.blocks.Blocks.{parts_of, blocks_of}
+use Rattle.cm_scan.specs.laws.Laws.{total_of_all, leaves_step, leaves_in}
+use Rattle.cm_scan.proofs.lemmas.blocks.OwnersOfLines.{quote-leaves, list-leaves, tree-leaves}
+use Rattle.cm_scan.proofs.lemmas.blocks.CountedLines.{one_owner, in_order}
 use Rattle.cm_scan.specs.Documents.{read_step, block_read, with_inlines}
 use Rattle.cm_scan.specs.Documents.{defined_by}
 use Rattle.cm_tool.specs.Owners.{OneOwnerALine, RunsInOrder}

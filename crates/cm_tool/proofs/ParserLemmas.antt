@@ -11,9 +11,9 @@ use Rattle.cm_text.specs.Cut.{Cut, IsFront}
 use Rattle.cm_text.specs.Faults.{settled_fault, text_fault}
 use Rattle.cm_text.specs.Feed.{Feed, StandsFor as FeedStandsFor, StandsAs, HasEnded, Answers as FeedAnswers, cut_bytes, with_ready}
 use Rattle.cm_text.proofs.FeedLemmas.{goes, goes_on, whole_lines}
-use Rattle.cm_scan.specs.Blocks.{first_too_deep}
-use Rattle.cm_scan.specs.Brackets.{defined_in}
-use Rattle.cm_scan.specs.Laws.{AreLines}
+use Rattle.cm_scan.specs.blocks.Blocks.{first_too_deep}
+use Rattle.cm_scan.specs.inlines.Brackets.{defined_in}
+use Rattle.cm_scan.specs.laws.Laws.{AreLines}
 use Rattle.cm_tree.specs.declared.tree.Block.{Block}
 use Rattle.cm_tree.specs.declared.tree.Owner.{Owner}
 use Rattle.cm_tree.specs.declared.tree.Doc.{Doc}

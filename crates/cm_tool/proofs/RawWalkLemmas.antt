@@ -12,9 +12,9 @@ use Rattle.cm_tree.specs.declared.tree.ListKind.{ListKind}
 use Rattle.cm_html.specs.Html.{Written, block_step, written, alone, html_of, inlines_html, heading_html, code_html, quote_html, list_start, list_end, items_html}
 use Rattle.cm_html.specs.Html.Written.{Nothing, Inlines, Whole}
 use Rattle.cm_html.specs.steps.ItemPass.{line_feed, inside_from}
-use Rattle.cm_scan.specs.Brackets.{Defined}
-use Rattle.cm_scan.specs.Inlines.{inlines_of, items_of, items_after}
-use Rattle.cm_scan.specs.Pairing.{settled_after, pair_all, pairs_within}
+use Rattle.cm_scan.specs.inlines.Brackets.{Defined}
+use Rattle.cm_scan.specs.inlines.Inlines.{inlines_of, items_of, items_after}
+use Rattle.cm_scan.specs.inlines.Pairing.{settled_after, pair_all, pairs_within}
 use Rattle.cm_tree.specs.RawBlocks.{raw_inlines}
 use Rattle.cm_scan.specs.Documents.{block_read, content_read, read_step, with_inlines}
 use Rattle.cm_tool.specs.declared.fault.Fault.{Fault}

@@ -20,8 +20,8 @@ use Rattle.cm_text.specs.Settled.{AreBytes}
 use Rattle.cm_text.proofs.Utf8Lemmas.{valid_front-IsUtf8}
 use Rattle.cm_text.proofs.FeedLemmas.{settled_text, within_limit, valid_shift}
 use Rattle.cm_text.proofs.SettledLemmas.{settled_is_told as text_is_told}
-use Rattle.cm_scan.specs.Blocks.{first_too_deep}
-use Rattle.cm_scan.specs.Laws.{AreLines}
+use Rattle.cm_scan.specs.blocks.Blocks.{first_too_deep}
+use Rattle.cm_scan.specs.laws.Laws.{AreLines}
 use Rattle.cm_block.proofs.Depths.{too_deep_stays}
 use Rattle.cm_tool.specs.declared.fault.Fault.{Fault}
 use Rattle.cm_tool.specs.declared.fault.Fault.TheVariants.{BlocksTooDeep, InlinesTooDeep}

@@ -12,10 +12,10 @@ use Rattle.cm_text.proofs.FeedLemmas.{within_limit}
 use Rattle.cm_text.proofs.SettledLemmas as settled
 use Rattle.cm_text.proofs.Utf8Lemmas.{valid_front-IsUtf8}
 use Rattle.cm_tree.specs.Depth.{greatest, blocks_depth}
-use Rattle.cm_scan.specs.Blocks.{first_too_deep}
+use Rattle.cm_scan.specs.blocks.Blocks.{first_too_deep}
 use Rattle.cm_scan.specs.Documents.{tree_of}
 use Rattle.cm_source.specs.Spelling.{spelling_of}
-use Rattle.cm_source.proofs.DocumentsBack.{trees_read_back}
+use Rattle.cm_source.proofs.lemmas.DocumentsBack.{trees_read_back}
 use Rattle.cm_tool.specs.declared.fault.Fault.{Fault}
 use Rattle.cm_tool.specs.declared.fault.Fault.TheVariants.{BlocksTooDeep, InlinesTooDeep}
 use Rattle.cm_tool.specs.ToldFaults.{told}

@@ -4,7 +4,7 @@ use Rattle.cm_text.specs.Rules.{Rules}
 use Rattle.cm_text.specs.Lines.{text_of, plain_lines_of}
 use Rattle.cm_tree.specs.declared.tree.Owner.{Owner}
 use Rattle.cm_tree.specs.declared.tree.Doc.{Doc}
-use Rattle.cm_scan.specs.Blocks.{owners_of}
+use Rattle.cm_scan.specs.blocks.Blocks.{owners_of}
 use Rattle.cm_scan.specs.Documents.{tree_of}
 
 -- the owner of each line of a text's bytes

@@ -6,7 +6,7 @@ use Rattle.cm_text.specs.Limits.{LimitsView}
 use Rattle.cm_text.specs.Lines.{LineView, text_of, plain_lines_of, ended_lines_of}
 use Rattle.cm_text.specs.Faults.{valid_len, settled_fault, text_fault}
 use Rattle.cm_text.specs.Settled.{AreBytes}
-use Rattle.cm_scan.specs.Blocks.{first_too_deep}
+use Rattle.cm_scan.specs.blocks.Blocks.{first_too_deep}
 use Rattle.cm_tool.specs.declared.fault.Fault.{Fault}
 use Rattle.cm_tool.specs.declared.fault.Fault.TheVariants.{BlocksTooDeep, InlinesTooDeep}
 use Rattle.cm_tool.specs.ToldFaults.{told}

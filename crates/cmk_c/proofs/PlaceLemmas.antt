@@ -13,8 +13,8 @@ use Rattle.cm_text.specs.Limits.{LimitsView, in_range}
 use Rattle.cm_text.specs.Lines.{LineView, but_last, ended_lines_of, ends_a_line, last_line, lines_after, lines_of, plain_line, plain_lines_of, text_of}
 use Rattle.cm_text.specs.Faults.{text_fault, valid_len}
 use Rattle.cm_text.proofs.FeedLemmas.{within_limit}
-use Rattle.cm_scan.specs.Blocks.{first_too_deep}
-use Rattle.cm_scan.specs.Laws.{AreLines}
+use Rattle.cm_scan.specs.blocks.Blocks.{first_too_deep}
+use Rattle.cm_scan.specs.laws.Laws.{AreLines}
 use Rattle.cm_block.specs.Depths.{line_depths}
 use Rattle.cm_block.specs.Stack.{Stack, empty_stack, push_line}
 use Rattle.cm_block.proofs.Depths.{too_deep_at_once}

@@ -2,8 +2,8 @@
 use Rattle.std.specs.Prelude.{◌≡◌, Bool, true, false}
 use Rattle.cm_text.specs.Rules.{Rules}
 use Rattle.cm_text.specs.Lines.{LineView}
-use Rattle.cm_scan.specs.Lines.{is_blank}
-use Rattle.cm_scan.specs.Starts.{Start, QuoteMarker, ItemStart}
+use Rattle.cm_scan.specs.blocks.Lines.{is_blank}
+use Rattle.cm_scan.specs.blocks.Starts.{Start, QuoteMarker, ItemStart}
 use Rattle.cm_block.specs.declared.counted_line.Begins.{Begins}
 use Rattle.cm_block.specs.declared.counted_line.Begins.TheVariants.{Nothing, Quote, Item, Leaf}
 use Rattle.cm_block.specs.declared.counted_line.first_line.FirstLine.{FirstLine}

@@ -6,10 +6,10 @@ use Rattle.cm_tree.specs.Definitions.{Target, add_first}
 use Rattle.cm_tree.specs.declared.tree.Owner.TheVariants as owner
 use Rattle.cm_block.specs.Stack.{Owned}
 use Rattle.cm_scan.specs.Words.{is_empty}
-use Rattle.cm_scan.specs.Starts.{underline_of}
-use Rattle.cm_scan.specs.Parts.{LeafPart, heading, code, html, thematic_break}
-use Rattle.cm_scan.specs.Blocks as blocks
-use Rattle.cm_scan.specs.Blocks.{line_feeds, rest_of}
+use Rattle.cm_scan.specs.blocks.Starts.{underline_of}
+use Rattle.cm_scan.specs.blocks.Parts.{LeafPart, heading, code, html, thematic_break}
+use Rattle.cm_scan.specs.blocks.Blocks as blocks
+use Rattle.cm_scan.specs.blocks.Blocks.{line_feeds, rest_of}
 use Rattle.cm_block.specs.declared.runs.NextLine.{NextLine}
 use Rattle.cm_block.specs.declared.runs.NextLine.TheVariants.{GoesOn, Ends, Underlines}
 use Rattle.cm_block.specs.declared.closed_leaf.ClosedLeaf.{ClosedLeaf}

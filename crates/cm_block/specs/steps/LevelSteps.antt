@@ -3,7 +3,7 @@ use Rattle.std.specs.Prelude.{Bool, true, false, ◌||◌, List, Option, Some, N
 use Rattle.std.specs.Option.{option_map}
 use Rattle.cm_tree.specs.declared.tree.Block.{Block}
 use Rattle.cm_tree.specs.declared.tree.ListKind.{ListKind}
-use Rattle.cm_scan.specs.LineForms.{is_same_kind}
+use Rattle.cm_scan.specs.blocks.LineForms.{is_same_kind}
 use Rattle.cm_block.specs.Level.{OpenList, Level, closed_blocks, Item}
 
 -- the list at the end of the blocks

@@ -2,8 +2,8 @@
 use Rattle.std.specs.Prelude.{◌≡◌, ℕ, List, true, false}
 use Rattle.cm_text.specs.Lines.{LineView}
 use Rattle.cm_text.specs.Rules.{Rules}
-use Rattle.cm_scan.specs.Lines.{is_blank}
-use Rattle.cm_scan.specs.Blocks as blocks
+use Rattle.cm_scan.specs.blocks.Lines.{is_blank}
+use Rattle.cm_scan.specs.blocks.Blocks as blocks
 use Rattle.cm_block.specs.declared.counted_line.Look.{Look}
 use Rattle.cm_block.specs.declared.counted_line.Look.TheVariants.{Blank, Letter, Other}
 

@@ -5,8 +5,8 @@ use Rattle.cm_block.specs.declared.stack.Stays as code_stays
 use Rattle.cm_block.specs.declared.stack.Stays.TheVariants as stay
 use Rattle.cm_scan.specs.declared.markers.ItemMarker as code
 use Rattle.cm_scan.specs.Words.{is_space_or_tab}
-use Rattle.cm_scan.specs.LineForms.{ItemMarker}
-use Rattle.cm_scan.specs.Starts.{Start, QuoteMarker, Place, Stays}
+use Rattle.cm_scan.specs.blocks.LineForms.{ItemMarker}
+use Rattle.cm_scan.specs.blocks.Starts.{Start, QuoteMarker, Place, Stays}
 
 -- it is a quote that begins
 abbrev pub begins_quote : Start → Bool

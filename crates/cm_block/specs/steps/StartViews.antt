@@ -1,7 +1,7 @@
 -- What a line begins, as the code has it.
 use Rattle.std.specs.Prelude.{ℕ, ◌==◌, ◌||◌, Bool}
-use Rattle.cm_scan.specs.HtmlKinds.{kind_of}
-use Rattle.cm_scan.specs.Starts as starts
+use Rattle.cm_scan.specs.blocks.HtmlKinds.{kind_of}
+use Rattle.cm_scan.specs.blocks.Starts as starts
 use Rattle.cm_block.specs.declared.counted_line.starts.Start.{Start}
 use Rattle.cm_block.specs.declared.counted_line.starts.Start.TheVariants.{IndentedCode, QuoteMarker, Atx, Fence as FenceStart, Html, Break, Item, TextLine}
 

@@ -2,7 +2,7 @@
 use Rattle.std.specs.Prelude.{ℕ, List, [], ◌∷◌, ◌++◌}
 use Rattle.std.specs.List.{fold}
 use Rattle.cm_text.specs.Lines.{LineView}
-use Rattle.cm_scan.specs.Blocks.{add_text}
+use Rattle.cm_scan.specs.blocks.Blocks.{add_text}
 
 -- the source of a run behind further lines
 abbrev pub add_lines : List ℕ → List LineView → List ℕ

@@ -3,7 +3,7 @@ ghost use Rattle.std.specs.Prelude.{◌≡◌, [], string_bytes, IfOk, IfSome, I
 ghost use Rattle.cm_block.specs.Below.{LineView, seen_view, kind_of, is_html_end, content_of};
 ghost use Rattle.cm_text.specs.Rules as all;
 ghost use Rattle.cm_block.specs.declared.counted_line.starts.Start.TheVariants.{Atx, Fence};
-ghost use Rattle.cm_scan.specs.Starts as starts;
+ghost use Rattle.cm_scan.specs.blocks.Starts as starts;
 ghost use Rattle.cm_block.specs.OpenLeaf.{begin_of_start, begins_leaf};
 ghost use Rattle.cm_block.specs.steps.StartViews.{seen};
 ghost use Rattle.cm_block.specs.steps.FirstLines.{first_of, begins_container};

@@ -1,7 +1,7 @@
 //! The open items in which a line stays, one after another from the outside in.
 ghost use Rattle.std.specs.Prelude.{◌≡◌, ◌<◌, ◌≤◌, Bool, true, false, drop, length, IfSome, MatchOption};
 ghost use Rattle.cm_text.specs.Rules as all;
-ghost use Rattle.cm_scan.specs.Starts.{Stays};
+ghost use Rattle.cm_scan.specs.blocks.Starts.{Stays};
 ghost use Rattle.cm_block.specs.Below.{Raw, seen_view, strip_columns, place_if_lazy, place_in_item};
 ghost use Rattle.cm_block.specs.steps.FrameSteps.{matching, behind, LeavesNext};
 ghost use Rattle.cm_block.specs.steps.FrameViews.{frames_in};

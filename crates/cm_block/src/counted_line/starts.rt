@@ -4,7 +4,7 @@ ghost use Rattle.cm_block.specs.Below.{is_line, seen_view, is_at_letter, content
 ghost use Rattle.cm_block.specs.Below.{◌<|>◌, is_thematic_break, atx_heading, opening_fence};
 ghost use Rattle.cm_block.specs.Below.{item_marker, html_start, HtmlStart, BreakLine};
 ghost use Rattle.cm_block.specs.Below.{ItemStart, seen_as, or_text, start_of_content, start_of};
-ghost use Rattle.cm_scan.specs.Starts as forms;
+ghost use Rattle.cm_scan.specs.blocks.Starts as forms;
 ghost use Rattle.cm_block.specs.steps.StartViews.{seen, begins_break, begins_fence};
 
 use cm_scan::{

@@ -5,8 +5,8 @@ use Rattle.std.specs.Str.{IsCharBoundary}
 use Rattle.cm_text.specs.Rules.{Rules}
 use Rattle.cm_tree.specs.declared.tree.Inline.{Inline}
 use Rattle.cm_tree.specs.declared.tree.Inline.TheVariants.{Link, Image}
-use Rattle.cm_scan.specs.Pairing as items
-use Rattle.cm_scan.specs.Brackets.{Defined, LinkEnd, Bracketed, holds_link, made, close_bracket, end_at}
+use Rattle.cm_scan.specs.inlines.Pairing as items
+use Rattle.cm_scan.specs.inlines.Brackets.{Defined, LinkEnd, Bracketed, holds_link, made, close_bracket, end_at}
 use Rattle.cm_inline.specs.declared.brackets.Bracket.{Bracket}
 use Rattle.cm_inline.specs.declared.brackets.Reader.{Reader}
 use Rattle.cm_inline.specs.declared.missing_ends.MissingEnds.{MissingEnds}

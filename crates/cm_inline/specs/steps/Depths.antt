@@ -1,7 +1,7 @@
 -- How deep the finished items of a leaf nest.
 use Rattle.std.specs.Prelude.{ℕ, List, map}
 use Rattle.cm_tree.specs.Depth.{depth_of, greatest}
-use Rattle.cm_scan.specs.Pairing.{Item, Finished, Linked}
+use Rattle.cm_scan.specs.inlines.Pairing.{Item, Finished, Linked}
 
 abbrev pub item_depth : Item → ℕ
 item_depth (Finished inline) = depth_of inline

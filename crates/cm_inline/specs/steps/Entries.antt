@@ -1,6 +1,6 @@
 -- The delimiter list as contracts see it: the runs in it, the last first, each with its number in the list.
 use Rattle.std.specs.Prelude.{ℕ, ◌+◌, ◌<◌, Bool, false, ◌&&◌, ◌||◌, ◌==◌, if◌then◌else◌, nat_le, List, [], ◌∷◌, length, sum_by, count_by, Option, Some, None}
-use Rattle.cm_scan.specs.Delimiters.{Run, delimiters_match}
+use Rattle.cm_scan.specs.inlines.Delimiters.{Run, delimiters_match}
 
 -- an entry: its number in the list, the place of its run among the items, and the run
 pub record Entry : Type 0 where

@@ -6,7 +6,7 @@ use Rattle.cm_tree.specs.declared.tree.Inline.TheVariants as inlines
 use Rattle.cm_tree.specs.Definitions.{Target}
 use Rattle.cm_tree.specs.LinkTargets.{led_to, kept_in, IsKept}
 use Rattle.cm_html.specs.Html.{link_start}
-use Rattle.cm_scan.specs.Pairing.{Item, settled}
+use Rattle.cm_scan.specs.inlines.Pairing.{Item, settled}
 use Rattle.cm_inline.specs.declared.groups.Kind.{Kind}
 use Rattle.cm_inline.specs.declared.groups.Kind.TheVariants as kinds
 use Rattle.cm_inline.specs.declared.groups.Group.{Group}

@@ -4,8 +4,8 @@ use Rattle.std.specs.Borrow.{Bor}
 use Rattle.std.specs.Cow.{cow_str_bytes}
 use Rattle.cm_tree.specs.Definitions.{Target}
 use Rattle.cm_scan.specs.Words.{after_word}
-use Rattle.cm_scan.specs.Brackets as brackets
-use Rattle.cm_scan.specs.Brackets.{Defined, target_of}
+use Rattle.cm_scan.specs.inlines.Brackets as brackets
+use Rattle.cm_scan.specs.inlines.Brackets.{Defined, target_of}
 use Rattle.cm_tree.specs.LinkTargets.{led_to}
 use Rattle.cm_inline.specs.declared.links.LinkEnd.{LinkEnd}
 use Rattle.cm_inline.specs.declared.links.FoundTarget.{FoundTarget}

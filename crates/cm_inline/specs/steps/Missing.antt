@@ -3,8 +3,8 @@ use Rattle.std.specs.Prelude.{◌≡◌, ℕ, ◌≤◌, false, List, drop, code
 use Rattle.std.specs.Option.{option_map_or}
 use Rattle.std.specs.Ordering.{nat_cmp}
 use Rattle.std.specs.BTreeMap.{BTreeMap, get}
-use Rattle.cm_scan.specs.RawHtml.{behind_word}
-use Rattle.cm_scan.specs.CodeSpans.{up_to_run}
+use Rattle.cm_scan.specs.spans.RawHtml.{behind_word}
+use Rattle.cm_scan.specs.spans.CodeSpans.{up_to_run}
 use Rattle.cm_inline.specs.declared.missing_ends.Form.{Form}
 use Rattle.cm_inline.specs.declared.missing_ends.Form.TheVariants.{Comment, Instruction, CharacterData, Declaration}
 use Rattle.cm_inline.specs.declared.missing_ends.MissingEnds.{MissingEnds}

@@ -8,7 +8,7 @@ use Rattle.cm_tree.specs.declared.tree.Inline.{Inline}
 use Rattle.cm_tree.specs.Depth.{depth_of, greatest}
 use Rattle.cm_html.specs.Escape.{escape}
 use Rattle.cm_html.specs.Html.{rendered}
-use Rattle.cm_scan.specs.Pairing as items
+use Rattle.cm_scan.specs.inlines.Pairing as items
 use Rattle.cm_inline.specs.declared.runs.DelimiterRun.{DelimiterRun}
 use Rattle.cm_inline.specs.declared.standalone.Standalone.{Standalone}
 use Rattle.cm_inline.specs.steps.Runs.{byte_of, run_of}

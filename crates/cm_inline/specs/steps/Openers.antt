@@ -1,7 +1,7 @@
 -- How the list of runs fits the items before a place. These items are given with the last first.
 use Rattle.std.specs.Prelude.{◌≡◌, ℕ, ◌+◌, ◌<◌, ◌≤◌, true, List, [], ◌∷◌, ◌++◌, length, take, get_or, reverse, Some, None}
-use Rattle.cm_scan.specs.Delimiters.{Run}
-use Rattle.cm_scan.specs.Pairing.{Item, Finished, Delimiters, nearest_opener}
+use Rattle.cm_scan.specs.inlines.Delimiters.{Run}
+use Rattle.cm_scan.specs.inlines.Pairing.{Item, Finished, Delimiters, nearest_opener}
 use Rattle.cm_tree.specs.declared.tree.Inline.{Inline}
 use Rattle.cm_inline.specs.declared.openers.Openers.{Openers}
 use Rattle.cm_inline.specs.declared.runs.DelimiterRun.{DelimiterRun}

@@ -1,8 +1,8 @@
 -- Pairs of delimiter runs among the nodes of a source, made in one pass, and the looks that they take.
 use Rattle.std.specs.Prelude.{◌≡◌, ℕ, ◌+◌, ◌^◌, ◌<◌, ◌≤◌, suc, List, [], ◌∷◌, length, take, drop, map, reverse, sum_by, ⊤}
-use Rattle.cm_scan.specs.Delimiters.{Run}
-use Rattle.cm_scan.specs.Pairing.{Item, Finished, Linked, Delimiters, Opened, pair_all}
-use Rattle.cm_scan.specs.OnePass.{passed}
+use Rattle.cm_scan.specs.inlines.Delimiters.{Run}
+use Rattle.cm_scan.specs.inlines.Pairing.{Item, Finished, Linked, Delimiters, Opened, pair_all}
+use Rattle.cm_scan.specs.inlines.OnePass.{passed}
 use Rattle.cm_inline.specs.Emphases.{sum, emphases_of}
 use Rattle.cm_inline.specs.steps.Depths.{items_depth}
 use Rattle.cm_inline.specs.steps.Nodes.{Node, items_of, AreParts}

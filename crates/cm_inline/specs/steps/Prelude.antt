@@ -9,12 +9,12 @@ pub use Rattle.cm_tree.specs.declared.tree.Inline.{Inline}
 pub use Rattle.cm_tree.specs.declared.tree.Inline.TheVariants.{Text}
 pub use Rattle.cm_html.specs.Escape.{escape}
 pub use Rattle.cm_html.specs.Html.{inlines_html, code_span_html, image_html, rendered}
-pub use Rattle.cm_scan.specs.Brackets.{Defined, defined_in}
-pub use Rattle.cm_scan.specs.CodeSpans.{one_line}
-pub use Rattle.cm_scan.specs.OnePass.{up_to_pair, passed}
-pub use Rattle.cm_scan.specs.Pairing.{emphasis_of, settled, bracket_text, Delimiters, without, used, emphasised}
-pub use Rattle.cm_scan.specs.Pieces.{in_pieces}
-pub use Rattle.cm_scan.specs.RawHtml.{raw_html}
+pub use Rattle.cm_scan.specs.inlines.Brackets.{Defined, defined_in}
+pub use Rattle.cm_scan.specs.spans.CodeSpans.{one_line}
+pub use Rattle.cm_scan.specs.inlines.OnePass.{up_to_pair, passed}
+pub use Rattle.cm_scan.specs.inlines.Pairing.{emphasis_of, settled, bracket_text, Delimiters, without, used, emphasised}
+pub use Rattle.cm_scan.specs.inlines.Pieces.{in_pieces}
+pub use Rattle.cm_scan.specs.spans.RawHtml.{raw_html}
 pub use Rattle.cm_scan.specs.Scanned.{reading_of, whole_of}
 pub use Rattle.cm_scan.specs.Words.{is_empty}
 pub use Rattle.cm_inline.specs.Reading.{Read, Reads, Refused}

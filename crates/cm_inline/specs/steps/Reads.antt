@@ -3,15 +3,15 @@ use Rattle.std.specs.Prelude.{◌≡◌, ℕ, zero, ◌+◌, ◌*◌, ◌^◌, �
 use Rattle.std.specs.List.{list_all, slice_range}
 use Rattle.std.specs.Str.{IsCharBoundary}
 use Rattle.cm_text.specs.Rules.{Rules}
-use Rattle.cm_scan.specs.Pairing as items
-use Rattle.cm_scan.specs.Atoms.{Atom, Plain, Whole, Delimiter, OpenBracket, CloseBracket, AtomRead, atom_at}
-use Rattle.cm_scan.specs.Pieces.{in_pieces}
-use Rattle.cm_scan.specs.Brackets.{Defined}
+use Rattle.cm_scan.specs.inlines.Pairing as items
+use Rattle.cm_scan.specs.inlines.Atoms.{Atom, Plain, Whole, Delimiter, OpenBracket, CloseBracket, AtomRead, atom_at}
+use Rattle.cm_scan.specs.inlines.Pieces.{in_pieces}
+use Rattle.cm_scan.specs.inlines.Brackets.{Defined}
 use Rattle.cm_html.specs.Escape.{escape}
 use Rattle.cm_html.specs.Html.{inlines_html}
-use Rattle.cm_scan.specs.Inlines.{items_after, inlines_of, nests_past}
-use Rattle.cm_scan.specs.InlineLaws.{is_plain_byte, keeps_spaces}
-use Rattle.cm_scan.specs.Runs.{runs_after, runs_of, characters_of}
+use Rattle.cm_scan.specs.inlines.Inlines.{items_after, inlines_of, nests_past}
+use Rattle.cm_scan.specs.laws.InlineLaws.{is_plain_byte, keeps_spaces}
+use Rattle.cm_scan.specs.inlines.Runs.{runs_after, runs_of, characters_of}
 use Rattle.cm_inline.specs.steps.Bytes.{line_feed, space}
 use Rattle.cm_inline.specs.steps.Nodes.{Node, item_of, items_of, IsPart}
 use Rattle.cm_inline.specs.Emphases.{emphases_of}

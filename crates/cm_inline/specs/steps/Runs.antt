@@ -1,8 +1,8 @@
 -- What the program's delimiter runs and entries stand for in the definitions.
 use Rattle.std.specs.Prelude.{◌≡◌, ℕ, Option, Some, None, List, [], ◌∷◌}
-use Rattle.cm_scan.specs.Delimiters.{Run}
-use Rattle.cm_scan.specs.Delimiters as delimiters
-use Rattle.cm_scan.specs.Pairing.{Item}
+use Rattle.cm_scan.specs.inlines.Delimiters.{Run}
+use Rattle.cm_scan.specs.inlines.Delimiters as delimiters
+use Rattle.cm_scan.specs.inlines.Pairing.{Item}
 use Rattle.cm_inline.specs.declared.flanking.Neighbour.{Neighbour}
 use Rattle.cm_inline.specs.declared.runs.DelimiterRun.{DelimiterRun}
 use Rattle.cm_inline.specs.steps.Entries.{Entry}

@@ -1,7 +1,7 @@
 -- The search for an opener down the list, with bottoms.
 use Rattle.std.specs.Prelude.{◌≡◌, ◌⊎◌, ℕ, suc, ◌+◌, ◌%◌, ◌<◌, true, false, ◌==◌, cond, nat_lt, List, [], ◌∷◌, length, map, get_or, set, sum_by, Option, Some, None}
-use Rattle.cm_scan.specs.Delimiters.{Run}
-use Rattle.cm_scan.specs.Pairing.{Item, Delimiters}
+use Rattle.cm_scan.specs.inlines.Delimiters.{Run}
+use Rattle.cm_scan.specs.inlines.Pairing.{Item, Delimiters}
 use Rattle.cm_inline.specs.steps.Entries.{Entry, answers, from_place}
 
 -- The kind of a closer: its character, whether it can also open, its whole length by 3; closers of tildes are of one kind.

@@ -6,7 +6,7 @@ use Rattle.cm_tree.specs.declared.tree.Inline.{Inline}
 use Rattle.cm_tree.specs.declared.tree.Inline.TheVariants as inlines
 use Rattle.cm_html.specs.Escape.{escape}
 use Rattle.cm_html.specs.Html.{code_span_html, link_html}
-use Rattle.cm_scan.specs.CodeSpans.{one_line}
+use Rattle.cm_scan.specs.spans.CodeSpans.{one_line}
 use Rattle.cm_inline.specs.declared.standalone.Standalone.{Standalone}
 use Rattle.cm_inline.specs.declared.standalone.Standalone.TheVariants.{Code, Html, Autolink, Soft, Hard}
 

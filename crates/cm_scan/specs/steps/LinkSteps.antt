@@ -3,7 +3,7 @@ use Rattle.std.specs.Prelude.{ℕ, suc, Bool, true, false, not, ◌&&◌, ◌||�
 use Rattle.std.specs.List.{slice_range, list_any}
 use Rattle.cm_text.specs.Characters.{within}
 use Rattle.cm_scan.specs.Words.{is_control, begins_with, trim_start}
-use Rattle.cm_scan.specs.Links.{Reading, characters, has_no_blank_line}
+use Rattle.cm_scan.specs.inlines.Links.{Reading, characters, has_no_blank_line}
 
 -- the part between two places, of which a closing byte stands at the second
 abbrev pub closed_at : List ℕ → ℕ → Option ℕ → Option Reading

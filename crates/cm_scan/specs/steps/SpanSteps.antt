@@ -3,7 +3,7 @@ use Rattle.std.specs.Prelude.{ℕ, Bool, ◌||◌, ◌==◌, List, drop, Option,
 use Rattle.std.specs.Borrow.{Bor}
 use Rattle.std.specs.List.{slice_range}
 use Rattle.cm_scan.specs.Words.{is_letter_or_digit}
-use Rattle.cm_scan.specs.Links.{Reading}
+use Rattle.cm_scan.specs.inlines.Links.{Reading}
 
 -- what is left of a text, which a step answers as a slice
 abbrev pub left_of : Option (Bor (List ℕ)) → Option (List ℕ)

@@ -7,10 +7,10 @@ use Rattle.cm_text.specs.Unescaping.{unescape}
 use Rattle.cm_tree.specs.declared.tree.Inline.{Inline}
 use Rattle.cm_tree.specs.declared.tree.Inline.TheVariants.{Text, Code, Html, Soft, Hard, Link, Image}
 use Rattle.cm_scan.specs.Words.{is_empty, begins_with, after_run}
-use Rattle.cm_scan.specs.Pairing.{emphasised}
-use Rattle.cm_scan.specs.Atoms.{run_between}
-use Rattle.cm_scan.specs.Brackets.{Defined}
-use Rattle.cm_scan.specs.Inlines.{inlines_of}
+use Rattle.cm_scan.specs.inlines.Pairing.{emphasised}
+use Rattle.cm_scan.specs.inlines.Atoms.{run_between}
+use Rattle.cm_scan.specs.inlines.Brackets.{Defined}
+use Rattle.cm_scan.specs.inlines.Inlines.{inlines_of}
 use Rattle.cm_source.specs.Texts.{spelled_text, spelled_bytes, spelled_target}
 use Rattle.cm_source.specs.Inlines.{is_line_end, join, spelled, spelled_inlines, spelled_content}
 use Rattle.cm_source.specs.InlineRefusals.{has_nul, has_line_ending, is_text, first_face, hold_link, is_one_tag, Judged, judged}

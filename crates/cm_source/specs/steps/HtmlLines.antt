@@ -1,7 +1,7 @@
 -- The lines of an HTML block that ends with its last line.
 use Rattle.std.specs.Prelude.{ℕ, Bool, true, false, not, ◌&&◌, if◌then◌else◌, List, [], ◌∷◌, Option, Some, None}
 use Rattle.cm_scan.specs.Words.{is_blank_text}
-use Rattle.cm_scan.specs.HtmlBlocks.{HtmlKind, is_html_end, ends_at_blank_line}
+use Rattle.cm_scan.specs.blocks.HtmlBlocks.{HtmlKind, is_html_end, ends_at_blank_line}
 
 -- a line in a block of a kind: it isn't blank, or it meets the end condition just where it is the last
 abbrev pub ends_as_last : Bool → (last : Bool) → Bool

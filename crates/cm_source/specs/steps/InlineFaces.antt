@@ -1,6 +1,6 @@
 -- The faces of inlines, as the code has them: what an inline shows to those beside it, and where it stands.
 use Rattle.std.specs.Prelude.{Option, option_map, reverse}
-use Rattle.cm_scan.specs.Atoms.{first_character, last_character}
+use Rattle.cm_scan.specs.inlines.Atoms.{first_character, last_character}
 use Rattle.cm_source.specs.InlineRefusals as refusals
 use Rattle.cm_source.specs.declared.inline_refusals.Face.{Face}
 use Rattle.cm_source.specs.declared.inline_refusals.Face.TheVariants.{Text, Code, Break, Emphasis, Other}

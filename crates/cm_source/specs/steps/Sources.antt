@@ -4,12 +4,12 @@ use Rattle.std.specs.List.{list_all, list_any}
 use Rattle.cm_text.specs.Rules.{Rules}
 use Rattle.cm_tree.specs.declared.tree.Inline.{Inline}
 use Rattle.cm_tree.specs.Followed.{is_read_info}
-use Rattle.cm_scan.specs.Parts.{info_of}
+use Rattle.cm_scan.specs.blocks.Parts.{info_of}
 use Rattle.cm_scan.specs.Words.{is_space_or_tab, trim, trim_end}
-use Rattle.cm_scan.specs.LineForms.{without_closing, underline}
-use Rattle.cm_scan.specs.Links.{definitions_of}
-use Rattle.cm_scan.specs.Starts.{TextLine, start_of_content}
-use Rattle.cm_scan.specs.BlockLaws.{is_unindented}
+use Rattle.cm_scan.specs.blocks.LineForms.{without_closing, underline}
+use Rattle.cm_scan.specs.inlines.Links.{definitions_of}
+use Rattle.cm_scan.specs.blocks.Starts.{TextLine, start_of_content}
+use Rattle.cm_scan.specs.laws.BlockLaws.{is_unindented}
 use Rattle.cm_source.specs.InlineRefusals.{paragraph_refusal, heading_refusal, has_nul}
 use Rattle.cm_source.specs.Inlines.{spelled_content}
 use Rattle.cm_source.specs.Spelling.{parted_lines}

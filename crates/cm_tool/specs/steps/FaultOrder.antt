@@ -8,7 +8,7 @@ use Rattle.cm_text.specs.Limits.{LimitsView}
 use Rattle.cm_text.specs.Lines.{text_of, plain_lines_of}
 use Rattle.cm_text.specs.Faults.{settled_fault, text_fault}
 use Rattle.cm_text.specs.Feed.{cut_bytes}
-use Rattle.cm_scan.specs.Blocks.{first_too_deep}
+use Rattle.cm_scan.specs.blocks.Blocks.{first_too_deep}
 use Rattle.cm_tool.specs.declared.fault.Fault.{Fault}
 use Rattle.cm_tool.specs.declared.fault.Fault.TheVariants.{BlocksTooDeep, InlinesTooDeep}
 use Rattle.cm_tool.specs.ToldFaults.{told}

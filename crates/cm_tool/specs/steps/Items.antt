@@ -2,7 +2,7 @@
 use Rattle.std.specs.Prelude.{ℕ, List, map}
 use Rattle.cm_text.specs.Rules.{Rules}
 use Rattle.cm_tree.specs.declared.tree.Block.{Block}
-use Rattle.cm_scan.specs.Brackets.{Defined}
+use Rattle.cm_scan.specs.inlines.Brackets.{Defined}
 use Rattle.cm_scan.specs.Documents.{with_inlines}
 use Rattle.cm_tool.specs.Leaves.{concat_items, depths_in}
 

@@ -8,7 +8,7 @@ use Rattle.cm_tree.specs.declared.tree.Inline.{Inline}
 use Rattle.cm_tree.specs.declared.raw_blocks.RawBlock.{RawBlock}
 use Rattle.cm_tree.specs.RawBlocks.{raw_inlines, block_in, blocks_in, ArePlaced}
 use Rattle.cm_tree.specs.RawTrees.{all_blocks}
-pub use Rattle.cm_scan.specs.Brackets.{defined_in}
+pub use Rattle.cm_scan.specs.inlines.Brackets.{defined_in}
 use Rattle.cm_scan.specs.Documents.{block_read, content_read}
 pub use Rattle.cm_scan.specs.Documents.{with_inlines}
 use Rattle.cm_tool.specs.declared.fault.Fault.{Fault}

@@ -1,5 +1,5 @@
 use Rattle.std.proofs.Common.{◌∙◌, sym, ap, arith}
-use Rattle.cm_scan.specs.Blocks.{line_feeds}
+use Rattle.cm_scan.specs.blocks.Blocks.{line_feeds}
 use Rattle.std.proofs.lemmas.Str.{IsCharBoundary-start}
 use Rattle.cm_block.proofs.RunLemmas.{next_fewer, next_left, none_left}
 use Rattle.cm_block.proofs.PutLemmas.{feeds_parted, definition_closes, definition_owns, nothing_closes, nothing_owns, some_definition}

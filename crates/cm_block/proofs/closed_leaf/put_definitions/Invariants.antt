@@ -1,8 +1,8 @@
 use Rattle.std.proofs.Common.{◌≡◌}
 use denote.Text.{Utf8}
 use denote.Shadow.{shadow}
-use Rattle.cm_scan.specs.Links.{definitions_of}
-use Rattle.cm_scan.specs.Blocks.{line_feeds, line_count, definition_leaves}
+use Rattle.cm_scan.specs.inlines.Links.{definitions_of}
+use Rattle.cm_scan.specs.blocks.Blocks.{line_feeds, line_count, definition_leaves}
 use Rattle.cm_block.specs.Stack.{close_leaves, own_leaves}
 use Rattle.cm_block.proofs.closed_leaf.put_definitions.Given as goal
 

@@ -6,7 +6,7 @@ use Rattle.std.proofs.Common.{◌≡◌, ℕ, List, [], ◌∷◌, Some, cond, i
 use Rattle.cm_tree.specs.Definitions.{Target, Targets, add_first}
 use Rattle.cm_tree.specs.declared.tree.Owner.TheVariants.{Leaf, Blank}
 use Rattle.cm_text.proofs.Computing.{label_folding}
-use Rattle.cm_scan.proofs.Computing.{block_structure}
+use Rattle.cm_scan.proofs.lemmas.Computing.{block_structure}
 use Rattle.cm_block.specs.OpenLeaf.{open_text, closed_leaves, line_of_leaf, begin_of}
 use Rattle.cm_block.specs.Machine.{in_leaf, has_open_text}
 use Rattle.cm_block.specs.Stack.{stack, close_leaves, push_blanks, close_open, own_leaves, own_blanks, own_open, close_stack, push_within, push_begin, push_in, push_line, push_lines}

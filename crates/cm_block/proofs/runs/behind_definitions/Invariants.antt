@@ -1,8 +1,8 @@
 use Rattle.std.proofs.Common.{◌≡◌}
 use denote.Text.{Utf8}
 use denote.Shadow.{shadow}
-use Rattle.cm_scan.specs.Links.{definitions_of}
-use Rattle.cm_scan.specs.Blocks.{line_count}
+use Rattle.cm_scan.specs.inlines.Links.{definitions_of}
+use Rattle.cm_scan.specs.blocks.Blocks.{line_count}
 use Rattle.cm_block.proofs.runs.behind_definitions.Given as goal
 
 abbrev pub invariant-loop-end : goal.invariant-loop-end

@@ -1,5 +1,5 @@
 use Rattle.std.proofs.Common.{◌≡◌, ◌+◌, ◌<◌, ◌^◌, length}
-use Rattle.cm_scan.specs.Blocks.{line_feeds}
+use Rattle.cm_scan.specs.blocks.Blocks.{line_feeds}
 use Rattle.cm_block.proofs.runs.line_feeds.Given as goal
 
 -- the line feeds so far, and those to come

@@ -1,9 +1,9 @@
 use Rattle.std.proofs.Common.{◌≡◌, false, ◌∙◌, sym, ap}
 use Rattle.cm_text.specs.Views.{seen_view}
 use Rattle.cm_text.specs.declared.view.View.{View}
-use Rattle.cm_scan.specs.Lines.{is_blank}
-use Rattle.cm_scan.specs.Starts.{interrupts_paragraph}
-use Rattle.cm_scan.specs.Blocks.{by_interruption, next_line}
+use Rattle.cm_scan.specs.blocks.Lines.{is_blank}
+use Rattle.cm_scan.specs.blocks.Starts.{interrupts_paragraph}
+use Rattle.cm_scan.specs.blocks.Blocks.{by_interruption, next_line}
 use Rattle.cm_block.specs.steps.LeafSteps.{heading_level}
 use Rattle.cm_block.proofs.NextLineLemmas.{ends_blank, underlines, interrupted, lazy_interrupts}
 use Rattle.cm_block.proofs.runs.next_line.Goals.{In-Other, In_default}

@@ -1,5 +1,5 @@
 use Rattle.std.proofs.Common.{◌+◌, ◌-◌, ◌≤◌, [], refl, sym, subst, drop, ◌∙◌, arith}
-use Rattle.cm_scan.specs.Atoms.{link_of}
+use Rattle.cm_scan.specs.inlines.Atoms.{link_of}
 use Rattle.cm_scan.specs.Scanned.{autolink_with}
 use Rattle.cm_inline.specs.declared.tokens.Token.TheVariants.{Piece}
 use Rattle.cm_inline.specs.declared.standalone.Standalone.TheVariants.{Html, Autolink}

@@ -1,10 +1,10 @@
 use Rattle.std.proofs.Common.{◌≡◌, ◌+◌, ◌-◌, None, sym, subst, drop, arith, ap, ◌∙◌}
 use Rattle.cm_tree.specs.declared.tree.Inline.TheVariants as inlines
-use Rattle.cm_scan.specs.CodeSpans.{one_line, stripped}
+use Rattle.cm_scan.specs.spans.CodeSpans.{one_line, stripped}
 use Rattle.cm_inline.specs.declared.standalone.Standalone.TheVariants.{Code}
 use Rattle.cm_inline.proofs.StandaloneLemmas.{finished, whole-is, span-placed}
 use Rattle.cm_scan.specs.Words.{run_length}
-use Rattle.cm_scan.proofs.RunLemmas.{span-content}
+use Rattle.cm_scan.proofs.lemmas.spans.BacktickStrings.{span-content}
 use Rattle.cm_inline.specs.declared.tokens.Token.TheVariants.{Piece}
 use Rattle.cm_inline.specs.steps.Reads.{IsAtom}
 use Rattle.cm_inline.proofs.AtomLemmas.{told, code-span-is, backticks-are}

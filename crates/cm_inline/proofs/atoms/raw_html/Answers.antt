@@ -1,6 +1,6 @@
 use Rattle.std.proofs.Common.{◌≡◌, ◌∙◌, false, sym, ap, drop}
 use Rattle.cm_scan.specs.Scanned.{whole_of}
-use Rattle.cm_scan.proofs.RawHtmlLemmas.{raw-off}
+use Rattle.cm_scan.proofs.lemmas.spans.RawHtmlGoesOn.{raw-off}
 use Rattle.cm_inline.proofs.MissingEndsLemmas.{no-raw-html}
 use Rattle.cm_inline.proofs.atoms.raw_html.Goals as goal
 

@@ -1,5 +1,5 @@
 use Rattle.std.proofs.Common.{arith}
-use Rattle.cm_scan.proofs.AngledLemmas.{next-ascii}
+use Rattle.cm_scan.proofs.lemmas.spans.AutolinkParts.{next-ascii}
 use Rattle.cm_inline.proofs.LinkLemmas.{next-of}
 use Rattle.cm_inline.proofs.html.text_ahead.Goals as goal
 

@@ -2,7 +2,7 @@ use Rattle.std.proofs.Common.{◌≡◌, ◌++◌, length}
 use denote.Text.{Utf8}
 use denote.Shadow.{shadow}
 use Rattle.cm_html.specs.Escape.{escape}
-use Rattle.cm_scan.specs.CodeSpans.{one_line}
+use Rattle.cm_scan.specs.spans.CodeSpans.{one_line}
 use Rattle.cm_inline.proofs.html_texts.push_one_line.Given as goal
 
 -- what was added, and what the rest adds, come to the whole

@@ -1,5 +1,5 @@
 use Rattle.std.proofs.Common.{◌≡◌, ◌+◌, ◌-◌, ◌*◌, ◌++◌, length, drop}
-use Rattle.cm_scan.specs.Pairing.{settled}
+use Rattle.cm_scan.specs.inlines.Pairing.{settled}
 use Rattle.cm_inline.specs.steps.Groups.{groups_made, nodes_of}
 use Rattle.cm_inline.specs.steps.Nodes.{items_of}
 use Rattle.cm_inline.proofs.inlines_of_nodes.+inlines.Given as goal

@@ -2,9 +2,9 @@ use Rattle.std.proofs.Common.{◌≡◌, ◌+◌, Some, drop, sym, ap, ◌∙◌
 use Rattle.std.specs.Cow.{cow_str_bytes}
 use Rattle.cm_text.specs.Addresses.{is_followed}
 use Rattle.cm_text.specs.Unescaping.{unescape}
-use Rattle.cm_scan.specs.Brackets.{LinkEnd, end_if_followed}
-use Rattle.cm_scan.proofs.DefinitionLemmas.{gap-of}
-use Rattle.cm_scan.proofs.AngledLemmas.{next-ascii}
+use Rattle.cm_scan.specs.inlines.Brackets.{LinkEnd, end_if_followed}
+use Rattle.cm_scan.proofs.lemmas.links.DefinitionParts.{gap-of}
+use Rattle.cm_scan.proofs.lemmas.spans.AutolinkParts.{next-ascii}
 use Rattle.cm_inline.proofs.LinkLemmas.{next-of, not-closed, is-closed, end-followed, end-not-followed}
 use Rattle.cm_inline.proofs.links.closed.Goals as goal
 

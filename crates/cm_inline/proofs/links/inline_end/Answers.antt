@@ -1,8 +1,8 @@
 use Rattle.std.proofs.Common.{◌+◌, drop, Some, None, sym, ap, subst, ◌∙◌, arith}
 use Rattle.std.specs.Str.{IsCharBoundary}
-use Rattle.cm_scan.specs.Brackets.{end_if_followed}
-use Rattle.cm_scan.proofs.DefinitionLemmas.{gap-of}
-use Rattle.cm_scan.proofs.AngledLemmas.{next-ascii}
+use Rattle.cm_scan.specs.inlines.Brackets.{end_if_followed}
+use Rattle.cm_scan.proofs.lemmas.links.DefinitionParts.{gap-of}
+use Rattle.cm_scan.proofs.lemmas.spans.AutolinkParts.{next-ascii}
 use Rattle.cm_inline.proofs.LinkLemmas.{next-of, turned, no-inline_end, by-destination}
 use Rattle.cm_inline.proofs.links.inline_end.Goals as goal
 

@@ -1,8 +1,8 @@
 use Rattle.std.proofs.Common.{false, true, ◌≡◌, ◌⊎◌, inl, inr, ℕ, List, ◌+◌, ◌-◌, ◌<◌, ◌≤◌, [], ◌∷◌, ◌++◌, reverse, None, refl, sym, ap, subst, ◌∙◌, arith}
 use Rattle.std.specs.Prelude.{Err, suc, drop}
 use Rattle.std.proofs.lemmas.List.{length-drop}
-use Rattle.cm_scan.specs.Pairing.{Delimiters, nearest_opener}
-use Rattle.cm_scan.specs.OnePass.{passed}
+use Rattle.cm_scan.specs.inlines.Pairing.{Delimiters, nearest_opener}
+use Rattle.cm_scan.specs.inlines.OnePass.{passed}
 use Rattle.cm_inline.specs.declared.fault.InlineFault.TheVariants.{InlinesTooDeep}
 use Rattle.cm_inline.specs.declared.openers.Openers.{Openers}
 use Rattle.cm_inline.specs.steps.Depths.{items_depth}

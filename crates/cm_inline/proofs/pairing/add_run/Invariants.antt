@@ -1,6 +1,6 @@
 use Rattle.std.proofs.Common.{◌≡◌, ℕ, List, ◌+◌, ◌<◌, ◌≤◌, drop, reverse}
-use Rattle.cm_scan.specs.Pairing.{Delimiters}
-use Rattle.cm_scan.specs.OnePass.{passed}
+use Rattle.cm_scan.specs.inlines.Pairing.{Delimiters}
+use Rattle.cm_scan.specs.inlines.OnePass.{passed}
 use Rattle.cm_inline.specs.steps.Openers.{Closing, spent}
 use Rattle.cm_inline.specs.steps.Runs.{run_of}
 use Rattle.cm_inline.specs.steps.Groups.{nodes_in, waiting_in}

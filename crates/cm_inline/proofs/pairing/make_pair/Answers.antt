@@ -1,5 +1,5 @@
 use Rattle.std.proofs.Common.{◌≡◌, suc, ◌+◌, drop, ap, subst, ◌∙◌, arith}
-use Rattle.cm_scan.specs.Pairing.{without, used}
+use Rattle.cm_scan.specs.inlines.Pairing.{without, used}
 use Rattle.cm_inline.specs.steps.Groups.{target_of, nodes_in}
 use Rattle.cm_inline.specs.steps.Nodes.{nodes_depth}
 use Rattle.cm_inline.specs.steps.Openers.{Spends}

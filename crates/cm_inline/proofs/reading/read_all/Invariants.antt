@@ -1,7 +1,7 @@
 use Rattle.std.proofs.Common.{◌≡◌, ◌-◌, length}
-use Rattle.cm_scan.specs.Brackets.{defined_in}
-use Rattle.cm_scan.specs.Pieces.{in_pieces}
-use Rattle.cm_scan.specs.Inlines as inlines
+use Rattle.cm_scan.specs.inlines.Brackets.{defined_in}
+use Rattle.cm_scan.specs.inlines.Pieces.{in_pieces}
+use Rattle.cm_scan.specs.inlines.Inlines as inlines
 use Rattle.cm_inline.specs.steps.Brackets.{IsReadTo}
 use Rattle.cm_inline.specs.steps.Groups.{nodes_in}
 use Rattle.cm_inline.specs.steps.Reads.{IsTextTo, Pays, ahead}

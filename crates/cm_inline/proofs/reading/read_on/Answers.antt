@@ -1,6 +1,6 @@
 use Rattle.std.proofs.Common.{◌≡◌, ◌<◌, ◌++◌, [], ◌∷◌, length, get_or, refl, sym, ap, subst, ◌∙◌, arith}
-use Rattle.cm_scan.specs.Brackets.{defined_in}
-use Rattle.cm_scan.specs.Pairing.{emphasis_of}
+use Rattle.cm_scan.specs.inlines.Brackets.{defined_in}
+use Rattle.cm_scan.specs.inlines.Pairing.{emphasis_of}
 use Rattle.cm_tree.specs.Depth.{inlines_depth}
 use Rattle.cm_inline.specs.declared.openers.Openers.{Openers}
 use Rattle.cm_inline.specs.steps.Brackets.{IsRead, bracket_in}

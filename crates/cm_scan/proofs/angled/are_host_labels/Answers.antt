@@ -1,8 +1,8 @@
 use Rattle.std.proofs.Common.{◌+◌, ◌∙◌, length, length-drop, sym, ap, arith}
 use Rattle.std.specs.List.{list_all}
-use Rattle.cm_scan.specs.Autolinks.{labels, is_host_label}
-use Rattle.cm_scan.proofs.HtmlLemmas.{slice_from}
-use Rattle.cm_scan.proofs.AngledLemmas.{last-label, label-bad, label-good}
+use Rattle.cm_scan.specs.spans.Autolinks.{labels, is_host_label}
+use Rattle.cm_scan.proofs.lemmas.blocks.WordsInAnyCase.{slice_from}
+use Rattle.cm_scan.proofs.lemmas.spans.AutolinkParts.{last-label, label-bad, label-good}
 use Rattle.cm_scan.proofs.angled.are_host_labels.Goals as goal
 
 pub returns-then-not-is_host_label : goal.returns-then-not-is_host_label

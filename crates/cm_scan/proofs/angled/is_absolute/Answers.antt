@@ -1,7 +1,7 @@
 use Rattle.std.proofs.Common.{◌≡◌, ◌-◌, ◌∙◌, true, false, length, sym, arith}
 use Rattle.std.proofs.lemmas.Bool.Decides.{nat_tests}
 use Rattle.cm_text.specs.Characters.{within}
-use Rattle.cm_scan.proofs.AngledLemmas.{absolute-size, absolute-other, absolute-letter, absolute-no_letter}
+use Rattle.cm_scan.proofs.lemmas.spans.AutolinkParts.{absolute-size, absolute-other, absolute-letter, absolute-no_letter}
 use Rattle.cm_scan.proofs.angled.is_absolute.Goals.{then-scheme-lt2-via-then-scheme-lt2, then-scheme-lt2-via-else-scheme-lt2+then-scheme-gt32}
 use Rattle.cm_scan.proofs.angled.is_absolute.Goals as goal
 

@@ -1,6 +1,6 @@
 use Rattle.std.proofs.Common.{◌∙◌}
-use Rattle.cm_scan.proofs.AngledLemmas.{address-none, address-end, address-other, address-host}
-use Rattle.cm_scan.proofs.RunLemmas.{not-same}
+use Rattle.cm_scan.proofs.lemmas.spans.AutolinkParts.{address-none, address-end, address-other, address-host}
+use Rattle.cm_scan.proofs.lemmas.spans.BacktickStrings.{not-same}
 use Rattle.cm_scan.proofs.angled.is_address.Goals as goal
 
 pub returns-then-rest-inside : goal.returns-then-rest-inside

@@ -1,7 +1,7 @@
 use Rattle.std.proofs.Common.{◌≡◌, ◌-◌, ◌<◌, ◌==◌, ◌||◌, ◌∙◌, true, false, length, get_or, arith}
 use Rattle.std.proofs.lemmas.Bool.Decides.{nat_tests}
 use Rattle.cm_text.specs.Characters.{within}
-use Rattle.cm_scan.proofs.AngledLemmas.{label-size, label-hyphen, label-bytes}
+use Rattle.cm_scan.proofs.lemmas.spans.AutolinkParts.{label-size, label-hyphen, label-bytes}
 use Rattle.cm_scan.proofs.angled.is_host_label.Goals.{then-is_empty-via-then-is_empty, then-is_empty-via-else-is_empty+then-label-gt63}
 use Rattle.cm_scan.proofs.angled.is_host_label.Goals.{then-label-eq45-via-then-label-eq45, then-label-eq45-via-else-label-eq45+then-label-eq45-2}
 use Rattle.cm_scan.proofs.angled.is_host_label.Goals as goal

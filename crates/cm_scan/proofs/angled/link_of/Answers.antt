@@ -1,6 +1,6 @@
 use Rattle.std.proofs.Common.{◌∙◌, sym, ap}
-use Rattle.cm_scan.specs.Autolinks.{is_absolute, is_address}
-use Rattle.cm_scan.proofs.AngledLemmas.{link-uri, link-none, link-address}
+use Rattle.cm_scan.specs.spans.Autolinks.{is_absolute, is_address}
+use Rattle.cm_scan.proofs.lemmas.spans.AutolinkParts.{link-uri, link-none, link-address}
 use Rattle.cm_scan.proofs.angled.link_of.Goals as goal
 
 pub returns-then-is_absolute-clause-read : goal.returns-then-is_absolute-clause-read

@@ -1,8 +1,8 @@
 use Rattle.std.proofs.Common.{◌≡◌, ◌∙◌, get_or, true, sym, arith}
 use Rattle.std.proofs.lemmas.List.{drop_all}
-use Rattle.cm_scan.specs.Autolinks.{is_inside}
-use Rattle.cm_scan.proofs.SkipLemmas.{skip_on, skip_to, skip_all}
-use Rattle.cm_scan.proofs.AngledLemmas.{front-step, front-stop, front-end}
+use Rattle.cm_scan.specs.spans.Autolinks.{is_inside}
+use Rattle.cm_scan.proofs.lemmas.texts.SkipLemmas.{skip_on, skip_to, skip_all}
+use Rattle.cm_scan.proofs.lemmas.spans.AutolinkParts.{front-step, front-stop, front-end}
 use Rattle.cm_scan.proofs.autolinks.after_inside.Goals as goal
 
 pub loop-end-preserved : goal.loop-end-preserved

@@ -1,7 +1,7 @@
 use Rattle.std.proofs.Common.{◌≡◌, ◌-◌, ◌≤◌, ◌++◌, length, drop}
 use Rattle.std.specs.List.{slice_range}
 use Rattle.cm_scan.specs.Words.{skip, front_of}
-use Rattle.cm_scan.specs.Autolinks.{is_inside}
+use Rattle.cm_scan.specs.spans.Autolinks.{is_inside}
 use Rattle.cm_scan.proofs.autolinks.after_inside.Given as goal
 
 -- what was passed over, and what may still stand inside, come to the whole

@@ -1,7 +1,7 @@
 use Rattle.std.proofs.Common.{◌∙◌, ℕ, drop, Option, option_map, sym, ap}
 use Rattle.cm_scan.specs.declared.angled.Autolink.{Autolink}
 use Rattle.cm_scan.specs.Scanned.{autolink_with}
-use Rattle.cm_scan.proofs.FollowedLemmas.{none-followed, link-followed, link-not-followed}
+use Rattle.cm_scan.proofs.lemmas.spans.FollowedAutolinks.{none-followed, link-followed, link-not-followed}
 use Rattle.cm_scan.proofs.autolinks.autolink_by.Goals as goal
 
 pub returns-in_err-link-clause-read : goal.returns-in_err-link-clause-read

@@ -1,8 +1,8 @@
 use Rattle.std.proofs.Common.{◌≡◌, ◌+◌, ◌∙◌, drop, ap, subst, arith}
 use Rattle.std.specs.List.{slice_range}
 use Rattle.cm_scan.specs.Words.{begins_with, skip, front_of}
-use Rattle.cm_scan.specs.Autolinks.{is_inside}
-use Rattle.cm_scan.proofs.AngledLemmas.{angles-not_next, angles-open, angles-some, next-ascii}
+use Rattle.cm_scan.specs.spans.Autolinks.{is_inside}
+use Rattle.cm_scan.proofs.lemmas.spans.AutolinkParts.{angles-not_next, angles-open, angles-some, next-ascii}
 use Rattle.cm_scan.proofs.autolinks.in_angles.Goals as goal
 
 pub returns-then-not-is_next-clause-read : goal.returns-then-not-is_next-clause-read

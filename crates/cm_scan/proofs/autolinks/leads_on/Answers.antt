@@ -1,7 +1,7 @@
 use Rattle.std.proofs.Common.{Bool, ◌++◌, codes, sym, ap, ◌∙◌}
 use Rattle.std.specs.Prelude.{if◌then◌else◌}
 use Rattle.cm_text.specs.Addresses.{is_followed}
-use Rattle.cm_scan.proofs.FollowedLemmas.{mail-followed}
+use Rattle.cm_scan.proofs.lemmas.spans.FollowedAutolinks.{mail-followed}
 use Rattle.cm_scan.proofs.autolinks.leads_on.Goals as goal
 
 pub returns-then-is_address : goal.returns-then-is_address

@@ -1,4 +1,4 @@
-use Rattle.cm_scan.proofs.BlockLemmas.{quote_and_space, quote_alone, item_and_space, item_alone}
+use Rattle.cm_scan.proofs.lemmas.blocks.SingleBlocks.{quote_and_space, quote_alone, item_and_space, item_alone}
 use Rattle.cm_scan.proofs.block_laws.content_behind_markers.Goals as goal
 
 pub returns-clause-quote : goal.returns-clause-quote

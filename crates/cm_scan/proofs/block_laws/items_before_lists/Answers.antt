@@ -1,4 +1,4 @@
-use Rattle.cm_scan.proofs.BlockLemmas.{kind_of_itself, item_before_its_list, item_by_itself}
+use Rattle.cm_scan.proofs.lemmas.blocks.SingleBlocks.{kind_of_itself, item_before_its_list, item_by_itself}
 use Rattle.cm_scan.proofs.block_laws.items_before_lists.Goals as goal
 
 pub returns-clause-kind : goal.returns-clause-kind

@@ -1,4 +1,4 @@
-use Rattle.cm_scan.proofs.BlockLemmas.{html_up_to_its_end, html_up_to_a_blank_line}
+use Rattle.cm_scan.proofs.lemmas.blocks.SingleBlocks.{html_up_to_its_end, html_up_to_a_blank_line}
 use Rattle.cm_scan.proofs.block_laws.lines_of_html.Goals as goal
 
 pub returns-clause-end : goal.returns-clause-end

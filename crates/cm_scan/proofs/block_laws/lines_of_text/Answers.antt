@@ -1,4 +1,4 @@
-use Rattle.cm_scan.proofs.BlockLemmas.{run_up_to_its_end, run_up_to_its_underline}
+use Rattle.cm_scan.proofs.lemmas.blocks.SingleBlocks.{run_up_to_its_end, run_up_to_its_underline}
 use Rattle.cm_scan.proofs.block_laws.lines_of_text.Goals as goal
 
 pub returns-clause-end : goal.returns-clause-end

@@ -1,6 +1,6 @@
 use Rattle.std.proofs.Common.{◌∙◌, Some, drop, sym, ap}
 use Rattle.cm_scan.specs.Scanned.{reading_of}
-use Rattle.cm_scan.proofs.RunLemmas.{span-none, span-is, span-content, no-span-later}
+use Rattle.cm_scan.proofs.lemmas.spans.BacktickStrings.{span-none, span-is, span-content, no-span-later}
 use Rattle.cm_scan.proofs.code_spans.code_span.Goals as goal
 
 pub returns-then-start-at-clause-read : goal.returns-then-start-at-clause-read

@@ -1,5 +1,5 @@
 use Rattle.std.proofs.Common.{◌∙◌, sym, arith}
-use Rattle.cm_scan.proofs.RunLemmas.{found-at, nowhere, further, past-run, at-run, no-run-left}
+use Rattle.cm_scan.proofs.lemmas.spans.BacktickStrings.{found-at, nowhere, further, past-run, at-run, no-run-left}
 use Rattle.cm_scan.proofs.code_spans.next_run.Goals as goal
 
 pub returns-then-at-start-clause-read : goal.returns-then-at-start-clause-read

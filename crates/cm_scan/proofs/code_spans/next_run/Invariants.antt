@@ -1,6 +1,6 @@
 use Rattle.std.proofs.Common.{◌≡◌, ◌-◌, ◌≤◌, false, length, drop}
-use Rattle.cm_scan.specs.CodeSpans.{up_to_run}
-use Rattle.cm_scan.proofs.ClosedLemmas.{ahead_from}
+use Rattle.cm_scan.specs.spans.CodeSpans.{up_to_run}
+use Rattle.cm_scan.proofs.lemmas.links.BracketedParts.{ahead_from}
 use Rattle.cm_scan.proofs.code_spans.next_run.Given as goal
 
 -- what was passed over, and the part that is read from here on, come to the whole

@@ -1,6 +1,6 @@
 use Rattle.std.proofs.Common.{◌∙◌, sym, arith}
 use Rattle.std.proofs.lemmas.Str.{IsCharBoundary-after_ascii}
-use Rattle.cm_scan.proofs.GapLemmas.{blank-ascii, trim-step, trim-stop, trim-none}
+use Rattle.cm_scan.proofs.lemmas.texts.GapLemmas.{blank-ascii, trim-step, trim-stop, trim-none}
 use Rattle.cm_scan.proofs.gaps.after_blanks.Goals as goal
 
 pub loop-end-preserved : goal.loop-end-preserved

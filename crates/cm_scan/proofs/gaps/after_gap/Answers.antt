@@ -1,6 +1,6 @@
 use Rattle.std.proofs.Common.{◌∙◌, sym, arith}
 use Rattle.std.proofs.lemmas.Str.{IsCharBoundary-after_ascii}
-use Rattle.cm_scan.proofs.GapLemmas.{gap-feed, gap-other, gap-end}
+use Rattle.cm_scan.proofs.lemmas.texts.GapLemmas.{gap-feed, gap-other, gap-end}
 use Rattle.cm_scan.proofs.gaps.after_gap.Goals.{else-end-text-via-then-end-text+else-text-end-eq10, else-end-text-via-else-end-text}
 use Rattle.cm_scan.proofs.gaps.after_gap.Goals as goal
 

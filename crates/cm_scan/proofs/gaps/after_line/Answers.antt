@@ -1,6 +1,6 @@
 use Rattle.std.proofs.Common.{arith}
 use Rattle.std.proofs.lemmas.Str.{IsCharBoundary-after_ascii}
-use Rattle.cm_scan.proofs.GapLemmas.{line-feed, line-other, line-end}
+use Rattle.cm_scan.proofs.lemmas.texts.GapLemmas.{line-feed, line-other, line-end}
 use Rattle.cm_scan.proofs.gaps.after_line.Goals as goal
 
 pub returns-then-end-text-clause-ended : goal.returns-then-end-text-clause-ended

@@ -1,7 +1,7 @@
 use Rattle.std.proofs.Common.{◌≡◌, ◌+◌, ◌∙◌, true, false, length, drop, length-drop, eq-eqb, sym, ap, arith}
 use Rattle.cm_scan.specs.Words.{is_at_word, holds_word}
-use Rattle.cm_scan.specs.HtmlBlocks.{lower}
-use Rattle.cm_scan.proofs.HtmlLemmas.{holds_none, holds_first, slice_from}
+use Rattle.cm_scan.specs.blocks.HtmlBlocks.{lower}
+use Rattle.cm_scan.proofs.lemmas.blocks.WordsInAnyCase.{holds_none, holds_first, slice_from}
 use Rattle.cm_scan.proofs.html_blocks.holds_word.Goals as goal
 
 pub overflow_add-rest : goal.overflow_add-rest

@@ -1,6 +1,6 @@
 use Rattle.std.proofs.Common.{◌≡◌, ◌≤◌, length}
 use Rattle.cm_scan.specs.Words.{holds_word}
-use Rattle.cm_scan.specs.HtmlBlocks.{lower}
+use Rattle.cm_scan.specs.blocks.HtmlBlocks.{lower}
 use Rattle.cm_scan.proofs.html_blocks.holds_word.Given as goal
 
 abbrev pub invariant-loop-at : goal.invariant-loop-at

@@ -1,7 +1,7 @@
 use Rattle.std.proofs.Common.{◌≡◌, ◌∷◌, ◌∙◌, None, sym, ap, arith}
-use Rattle.cm_scan.specs.HtmlBlocks.{is_any_tag_start}
-use Rattle.cm_scan.specs.Tags.{open_tag}
-use Rattle.cm_scan.proofs.StartLemmas.{any_nothing, any_closing_none, any_closing, any_open_none, any_open}
+use Rattle.cm_scan.specs.blocks.HtmlBlocks.{is_any_tag_start}
+use Rattle.cm_scan.specs.spans.Tags.{open_tag}
+use Rattle.cm_scan.proofs.lemmas.blocks.HtmlStarts.{any_nothing, any_closing_none, any_closing, any_open_none, any_open}
 use Rattle.cm_scan.proofs.html_blocks.is_any_tag_start.Goals as goal
 
 pub returns-in_default : goal.returns-in_default

@@ -1,6 +1,6 @@
 use Rattle.std.proofs.Common.{◌≡◌, ◌∙◌, codes, false, sym, arith}
-use Rattle.cm_scan.specs.HtmlBlocks.{is_at_name_end}
-use Rattle.cm_scan.proofs.HtmlLemmas.{starts_at}
+use Rattle.cm_scan.specs.blocks.HtmlBlocks.{is_at_name_end}
+use Rattle.cm_scan.proofs.lemmas.blocks.WordsInAnyCase.{starts_at}
 use Rattle.cm_scan.proofs.html_blocks.is_at_tag_end.Goals as goal
 
 pub returns-else-is_at_name_end : goal.returns-else-is_at_name_end

@@ -1,6 +1,6 @@
 use Rattle.std.proofs.Common.{◌≡◌, ◌∙◌, get_or, sym, arith}
 use Rattle.cm_scan.specs.Words.{to_lower}
-use Rattle.cm_scan.proofs.HtmlLemmas.{at_step, at_stop, at_past, at_end, lower_is}
+use Rattle.cm_scan.proofs.lemmas.blocks.WordsInAnyCase.{at_step, at_stop, at_past, at_end, lower_is}
 use Rattle.cm_scan.proofs.html_blocks.is_at_word.Goals as goal
 use Rattle.cm_scan.proofs.html_blocks.is_at_word.Goals.{then-i-bytes-via-then-i-bytes, then-i-bytes-via-else-i-bytes+then-to_ascii_lowercase-w}
 

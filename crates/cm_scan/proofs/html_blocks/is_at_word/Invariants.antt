@@ -1,6 +1,6 @@
 use Rattle.std.proofs.Common.{◌≡◌, drop}
 use Rattle.cm_scan.specs.Words.{is_at_word}
-use Rattle.cm_scan.specs.HtmlBlocks.{lower}
+use Rattle.cm_scan.specs.blocks.HtmlBlocks.{lower}
 use Rattle.cm_scan.proofs.html_blocks.is_at_word.Given as goal
 
 abbrev pub invariant-loop-i : goal.invariant-loop-i

@@ -1,5 +1,5 @@
 use Rattle.std.proofs.Common.{◌∙◌, sym, arith}
-use Rattle.cm_scan.proofs.StartLemmas.{block_none, block_named}
+use Rattle.cm_scan.proofs.lemmas.blocks.HtmlStarts.{block_none, block_named}
 use Rattle.cm_scan.proofs.html_blocks.is_block_tag_start.Goals as goal
 
 pub returns-in_default : goal.returns-in_default

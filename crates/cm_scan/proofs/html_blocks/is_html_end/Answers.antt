@@ -1,7 +1,7 @@
 use Rattle.std.proofs.Common.{⊎_elim, ◌∙◌, codes, refl, sym, ap}
-use Rattle.cm_scan.specs.HtmlBlocks.{is_html_end}
-use Rattle.cm_scan.specs.HtmlKinds.{kind_of}
-use Rattle.cm_scan.proofs.HtmlLemmas.{any_case}
+use Rattle.cm_scan.specs.blocks.HtmlBlocks.{is_html_end}
+use Rattle.cm_scan.specs.blocks.HtmlKinds.{kind_of}
+use Rattle.cm_scan.proofs.lemmas.blocks.WordsInAnyCase.{any_case}
 use Rattle.cm_scan.proofs.html_blocks.is_html_end.Goals as goal
 
 pub returns-in-RawText : goal.returns-in-RawText

@@ -1,6 +1,6 @@
 use Rattle.std.proofs.Common.{arith}
 use Rattle.std.proofs.lemmas.Grind.{common_steps}
-use Rattle.cm_scan.proofs.HtmlLemmas.{same_at, same_not}
+use Rattle.cm_scan.proofs.lemmas.blocks.WordsInAnyCase.{same_at, same_not}
 use Rattle.cm_scan.proofs.html_blocks.is_name.Goals as goal
 
 pub returns-then-word-name : goal.returns-then-word-name

@@ -1,7 +1,7 @@
 use Rattle.std.proofs.Common.{◌≡◌, ◌∙◌, true, length, sym, ap, arith}
 use Rattle.cm_scan.specs.Words.{is_at_word}
-use Rattle.cm_scan.specs.HtmlBlocks.{lower, is_at_name_end}
-use Rattle.cm_scan.proofs.HtmlLemmas.{slice_from, named_yes, named_no, named_longer}
+use Rattle.cm_scan.specs.blocks.HtmlBlocks.{lower, is_at_name_end}
+use Rattle.cm_scan.proofs.lemmas.blocks.WordsInAnyCase.{slice_from, named_yes, named_no, named_longer}
 use Rattle.cm_scan.proofs.html_blocks.is_named_start.Goals as goal
 use Rattle.cm_scan.proofs.html_blocks.is_named_start.Goals.{then-behind-name-via-then-behind-name, then-behind-name-via-else-behind-name+then-not-is_at_word}
 

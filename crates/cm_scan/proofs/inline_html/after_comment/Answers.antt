@@ -1,7 +1,7 @@
 use Rattle.std.proofs.Common.{◌∙◌, sym, ap}
-use Rattle.cm_scan.specs.RawHtml.{after_comment}
+use Rattle.cm_scan.specs.spans.RawHtml.{after_comment}
 use Rattle.cm_scan.specs.steps.SpanSteps.{left_of}
-use Rattle.cm_scan.proofs.HtmlSpanLemmas.{comment-refused, comment-short, comment-long, comment-open, comment-strict}
+use Rattle.cm_scan.proofs.lemmas.spans.RawHtmlByFirstBytes.{comment-refused, comment-short, comment-long, comment-open, comment-strict}
 use Rattle.cm_scan.proofs.inline_html.after_comment.Goals as goal
 
 pub returns-then-older : goal.returns-then-older

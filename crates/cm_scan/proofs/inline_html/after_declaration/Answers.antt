@@ -1,7 +1,7 @@
 use Rattle.std.proofs.Common.{◌∙◌, sym, ap}
-use Rattle.cm_scan.specs.RawHtml.{after_declaration}
+use Rattle.cm_scan.specs.spans.RawHtml.{after_declaration}
 use Rattle.cm_scan.specs.steps.SpanSteps.{left_of}
-use Rattle.cm_scan.proofs.HtmlSpanLemmas.{declaration-none, declaration-other, declaration-letter}
+use Rattle.cm_scan.proofs.lemmas.spans.RawHtmlByFirstBytes.{declaration-none, declaration-other, declaration-letter}
 use Rattle.cm_scan.proofs.inline_html.after_declaration.Goals as goal
 
 pub returns-in_err-b : goal.returns-in_err-b

@@ -1,7 +1,7 @@
 use Rattle.std.proofs.Common.{◌+◌, length, Some, ◌∙◌, ap}
 use Rattle.cm_scan.specs.steps.SpanSteps.{left_of}
-use Rattle.cm_scan.proofs.HtmlLemmas.{slice_from}
-use Rattle.cm_scan.proofs.FoundLemmas.{past-none, past-found}
+use Rattle.cm_scan.proofs.lemmas.blocks.WordsInAnyCase.{slice_from}
+use Rattle.cm_scan.proofs.lemmas.texts.FoundWords.{past-none, past-found}
 use Rattle.cm_scan.proofs.inline_html.after_end.Goals as goal
 
 pub returns-in_err-at : goal.returns-in_err-at

@@ -1,6 +1,6 @@
 use Rattle.std.proofs.Common.{◌∙◌, sym, ap, length, Some}
-use Rattle.cm_scan.proofs.HtmlLemmas.{slice_from, starts_at}
-use Rattle.cm_scan.proofs.FoundLemmas.{word-there, word-absent}
+use Rattle.cm_scan.proofs.lemmas.blocks.WordsInAnyCase.{slice_from, starts_at}
+use Rattle.cm_scan.proofs.lemmas.texts.FoundWords.{word-there, word-absent}
 use Rattle.cm_scan.proofs.inline_html.after_front.Goals as goal
 
 pub returns-then-not-starts_with : goal.returns-then-not-starts_with

@@ -1,8 +1,8 @@
 use Rattle.std.proofs.Common.{◌∷◌, ◌∙◌, sym, ap, arith}
-use Rattle.cm_scan.specs.Tags.{open_tag}
-use Rattle.cm_scan.specs.RawHtml.{behind_tag, html_tag}
+use Rattle.cm_scan.specs.spans.Tags.{open_tag}
+use Rattle.cm_scan.specs.spans.RawHtml.{behind_tag, html_tag}
 use Rattle.cm_scan.specs.steps.SpanSteps.{left_of}
-use Rattle.cm_scan.proofs.HtmlSpanLemmas.{html-none, html-other, html-end, html-instruction, html-closing, html-open}
+use Rattle.cm_scan.proofs.lemmas.spans.RawHtmlByFirstBytes.{html-none, html-other, html-end, html-instruction, html-closing, html-open}
 use Rattle.cm_scan.proofs.inline_html.after_html_tag.Goals as goal
 
 pub returns-in_err-b : goal.returns-in_err-b

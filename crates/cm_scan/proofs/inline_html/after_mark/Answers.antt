@@ -1,6 +1,6 @@
 use Rattle.std.proofs.Common.{◌∙◌, ap}
-use Rattle.cm_scan.specs.RawHtml.{after_comment}
-use Rattle.cm_scan.proofs.HtmlSpanLemmas.{mark-comment, mark-section, mark-declaration}
+use Rattle.cm_scan.specs.spans.RawHtml.{after_comment}
+use Rattle.cm_scan.proofs.lemmas.spans.RawHtmlByFirstBytes.{mark-comment, mark-section, mark-declaration}
 use Rattle.cm_scan.proofs.inline_html.after_mark.Goals as goal
 
 pub returns-in-Some : goal.returns-in-Some

@@ -1,6 +1,6 @@
 use Rattle.std.proofs.Common.{◌∙◌, sym, ap}
 use Rattle.cm_scan.specs.Words.{holds_word}
-use Rattle.cm_scan.proofs.FoundLemmas.{holds-found, past-later}
+use Rattle.cm_scan.proofs.lemmas.texts.FoundWords.{holds-found, past-later}
 use Rattle.cm_scan.proofs.inline_html.holds_from.Goals as goal
 
 pub returns-clause-held : goal.returns-clause-held

@@ -1,8 +1,8 @@
 use Rattle.std.proofs.Common.{◌≡◌, ◌∙◌, true, false, Some, None, drop, sym, ap, arith}
-use Rattle.cm_scan.specs.RawHtml.{html_tag, raw_html}
+use Rattle.cm_scan.specs.spans.RawHtml.{html_tag, raw_html}
 use Rattle.cm_scan.specs.Scanned.{reading_of, whole_of}
-use Rattle.cm_scan.proofs.RawHtmlLemmas.{raw-on, raw-off}
-use Rattle.cm_scan.proofs.HtmlSpanLemmas.{html-cut, cut-boundary, whole-some}
+use Rattle.cm_scan.proofs.lemmas.spans.RawHtmlGoesOn.{raw-on, raw-off}
+use Rattle.cm_scan.proofs.lemmas.spans.RawHtmlByFirstBytes.{html-cut, cut-boundary, whole-some}
 use Rattle.cm_scan.proofs.inline_html.raw_html_by.Goals as goal
 
 pub overflow_sub-end : goal.overflow_sub-end

@@ -1,5 +1,5 @@
 use Rattle.std.proofs.Common.{◌∙◌, sym}
-use Rattle.cm_scan.proofs.HtmlSpanLemmas.{short-here, short-next}
+use Rattle.cm_scan.proofs.lemmas.spans.RawHtmlByFirstBytes.{short-here, short-next}
 use Rattle.cm_scan.proofs.inline_html.short_end.Goals as goal
 
 pub returns-in-Some : goal.returns-in-Some

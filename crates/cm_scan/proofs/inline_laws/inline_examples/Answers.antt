@@ -6,9 +6,9 @@ use Rattle.cm_tree.specs.declared.tree.Inline.{Inline}
 use Rattle.cm_tree.specs.declared.tree.Inline.TheVariants.{Text, Code, Emph, Strong, Strike, Link, Image}
 use Rattle.cm_tree.specs.declared.tree.Inline.TheViews.{outs-Text, outs-Code, outs-Emph, outs-Strong, outs-Strike, outs-Link, outs-Image}
 use Rattle.cm_tree.specs.declared.tree.Inline.TheFolds.{fold_out-Inline}
-use Rattle.cm_scan.specs.Inlines.{inlines_of, depth_of_leaf}
-use Rattle.cm_scan.specs.InlineExamples.{struck, Nests}
-use Rattle.cm_scan.proofs.InlineComputing.{inline_structure}
+use Rattle.cm_scan.specs.inlines.Inlines.{inlines_of, depth_of_leaf}
+use Rattle.cm_scan.specs.laws.InlineExamples.{struck, Nests}
+use Rattle.cm_scan.proofs.lemmas.InlineComputing.{inline_structure}
 use Rattle.cm_scan.proofs.inline_laws.inline_examples.Goals as goal
 
 pub returns-clause-code_span : goal.returns-clause-code_span

@@ -1,7 +1,7 @@
 use Rattle.std.proofs.Common.{refl}
-use Rattle.cm_scan.specs.Delimiters.{delimiters_match}
-use Rattle.cm_scan.specs.Pairing.{settled_after, nearest_opener}
-use Rattle.cm_scan.specs.OnePass.{closed_within, pass_from}
+use Rattle.cm_scan.specs.inlines.Delimiters.{delimiters_match}
+use Rattle.cm_scan.specs.inlines.Pairing.{settled_after, nearest_opener}
+use Rattle.cm_scan.specs.inlines.OnePass.{closed_within, pass_from}
 use Rattle.cm_scan.proofs.inline_laws.one_pass_examples.Goals as goal
 
 pub returns : goal.returns

@@ -1,4 +1,4 @@
-use Rattle.cm_scan.proofs.InlineLemmas.{unmarked_is_plain, plain_is_itself, plain_front_is_text, spaces_and_line_feed}
+use Rattle.cm_scan.proofs.lemmas.inlines.ReadingSteps.{unmarked_is_plain, plain_is_itself, plain_front_is_text, spaces_and_line_feed}
 use Rattle.cm_scan.proofs.inline_laws.plain_is_itself.Goals as goal
 
 pub returns-clause-unmarked : goal.returns-clause-unmarked

@@ -1,5 +1,5 @@
-use Rattle.cm_scan.proofs.InlineLemmas.{reading_goes_on, bracket_step}
-use Rattle.cm_scan.proofs.LeftLemmas.{step_leaves_an_end}
+use Rattle.cm_scan.proofs.lemmas.inlines.ReadingSteps.{reading_goes_on, bracket_step}
+use Rattle.cm_scan.proofs.lemmas.inlines.LeftByEachStep.{step_leaves_an_end}
 use Rattle.cm_scan.proofs.inline_laws.reading_goes_on.Goals as goal
 
 pub returns-clause-on : goal.returns-clause-on

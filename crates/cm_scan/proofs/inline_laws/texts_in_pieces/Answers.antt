@@ -1,5 +1,5 @@
-use Rattle.cm_scan.proofs.PiecesLemmas.{texts_in_pieces}
-use Rattle.cm_scan.proofs.PiecesReading.{reading_in_pieces}
+use Rattle.cm_scan.proofs.lemmas.inlines.PairingInPieces.{texts_in_pieces}
+use Rattle.cm_scan.proofs.lemmas.inlines.ReadingInPieces.{reading_in_pieces}
 use Rattle.cm_scan.proofs.inline_laws.texts_in_pieces.Goals as goal
 
 pub returns-clause-emphasis : goal.returns-clause-emphasis

@@ -1,5 +1,5 @@
-use Rattle.cm_scan.proofs.Counted.{parts_have_lines}
-use Rattle.cm_scan.proofs.LooseLemmas.{loose_by_owners}
+use Rattle.cm_scan.proofs.lemmas.blocks.CountedLines.{parts_have_lines}
+use Rattle.cm_scan.proofs.lemmas.blocks.LooseByOwners.{loose_by_owners}
 use Rattle.cm_scan.proofs.laws.loose_lists.Goals as goal
 
 pub returns-clause-lines : goal.returns-clause-lines

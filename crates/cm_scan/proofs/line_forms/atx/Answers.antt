@@ -1,7 +1,7 @@
 use Rattle.std.proofs.Common.{◌≡◌, false, true, drop, arith}
 use Rattle.std.proofs.lemmas.Grind.{common_steps}
 use Rattle.cm_scan.specs.Words.{after_run, is_at_gap}
-use Rattle.cm_scan.proofs.LineFormLemmas.{atx_none, atx_many, atx_no_gap, atx_found}
+use Rattle.cm_scan.proofs.lemmas.blocks.LineFormLemmas.{atx_none, atx_many, atx_no_gap, atx_found}
 use Rattle.cm_scan.proofs.line_forms.atx.Goals as goal
 use Rattle.cm_scan.proofs.line_forms.atx.Goals.{then-level-eq0-via-then-level-eq0, then-level-eq0-via-else-level-eq0+then-level-gt6, then-level-eq0-via-else-level-eq0+else-level-gt6+then-not-is_at_gap}
 

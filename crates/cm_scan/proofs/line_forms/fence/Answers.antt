@@ -2,7 +2,7 @@ use Rattle.std.proofs.Common.{◌≡◌, ◌∙◌, true, false, drop, sym, arit
 use Rattle.std.specs.Prelude.{◌==◌}
 use Rattle.std.specs.List.{list_any}
 use Rattle.std.proofs.lemmas.Grind.{common_steps}
-use Rattle.cm_scan.proofs.LineFormLemmas.{opening_tildes, opening_backticks}
+use Rattle.cm_scan.proofs.lemmas.blocks.LineFormLemmas.{opening_tildes, opening_backticks}
 use Rattle.cm_scan.proofs.line_forms.fence.Goals as goal
 
 pub returns-in_err-tildes-clause-fence : goal.returns-in_err-tildes-clause-fence

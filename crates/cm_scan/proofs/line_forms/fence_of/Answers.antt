@@ -1,6 +1,6 @@
 use Rattle.std.proofs.Common.{drop, arith}
 use Rattle.std.proofs.lemmas.Grind.{common_steps}
-use Rattle.cm_scan.proofs.LineFormLemmas.{fence_few, fence_found}
+use Rattle.cm_scan.proofs.lemmas.blocks.LineFormLemmas.{fence_few, fence_found}
 use Rattle.cm_scan.proofs.line_forms.fence_of.Goals as goal
 
 pub returns-then-count-lt3 : goal.returns-then-count-lt3

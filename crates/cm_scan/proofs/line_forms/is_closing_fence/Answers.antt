@@ -1,6 +1,6 @@
 use Rattle.std.proofs.Common.{drop, arith}
 use Rattle.std.proofs.lemmas.Grind.{common_steps}
-use Rattle.cm_scan.proofs.LineFormLemmas.{closes, closes_not}
+use Rattle.cm_scan.proofs.lemmas.blocks.LineFormLemmas.{closes, closes_not}
 use Rattle.cm_scan.proofs.line_forms.is_closing_fence.Goals as goal
 
 pub returns-then-behind-at : goal.returns-then-behind-at

@@ -2,7 +2,7 @@ use Rattle.std.proofs.Common.{◌≡◌, ◌∙◌, Some, None, drop, sym, ap, a
 use Rattle.std.specs.List.{find}
 use Rattle.std.proofs.lemmas.Grind.{common_steps}
 use Rattle.cm_scan.specs.steps.LineSteps.{is_plain}
-use Rattle.cm_scan.proofs.LineFormLemmas.{no_thematic, thematic_unmarked, thematic_marked}
+use Rattle.cm_scan.proofs.lemmas.blocks.LineFormLemmas.{no_thematic, thematic_unmarked, thematic_marked}
 use Rattle.cm_scan.proofs.line_forms.thematic.Goals as goal
 
 pub returns-in_err-marker : goal.returns-in_err-marker

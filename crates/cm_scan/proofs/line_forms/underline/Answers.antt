@@ -1,6 +1,6 @@
 use Rattle.std.proofs.Common.{◌∙◌, drop, sym, arith}
 use Rattle.std.proofs.lemmas.Grind.{common_steps}
-use Rattle.cm_scan.proofs.LineFormLemmas.{underline_one, underline_two, underline_none}
+use Rattle.cm_scan.proofs.lemmas.blocks.LineFormLemmas.{underline_one, underline_two, underline_none}
 use Rattle.cm_scan.proofs.line_forms.underline.Goals as goal
 
 pub returns-then-is_underline_of : goal.returns-then-is_underline_of

@@ -1,7 +1,7 @@
 use Rattle.std.proofs.Common.{◌≡◌, ◌-◌, ◌∙◌, get_or, true, false, sym, arith}
 use Rattle.std.proofs.lemmas.Grind.{common_steps}
 use Rattle.cm_scan.specs.Words.{is_space_or_tab}
-use Rattle.cm_scan.proofs.LineFormLemmas.{closing_whole, closing_behind_gap, closing_behind_other}
+use Rattle.cm_scan.proofs.lemmas.blocks.LineFormLemmas.{closing_whole, closing_behind_gap, closing_behind_other}
 use Rattle.cm_scan.proofs.line_forms.without_closing.Goals as goal
 use Rattle.cm_scan.proofs.line_forms.without_closing.Goals.{then-loop-end-test+else-bytes-end-eq35, else-loop-end-test, then-end-eq0-via-then-end-eq0, then-end-eq0-via-else-end-eq0+then-is_space_or_tab}
 

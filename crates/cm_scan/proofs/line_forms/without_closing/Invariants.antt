@@ -1,7 +1,7 @@
 use Rattle.std.proofs.Common.{◌≡◌, drop, true}
 use Rattle.std.specs.List.{list_all}
 use Rattle.std.specs.Str.{IsCharBoundary}
-use Rattle.cm_scan.proofs.LineFormLemmas.{is_hash}
+use Rattle.cm_scan.proofs.lemmas.blocks.LineFormLemmas.{is_hash}
 use Rattle.cm_scan.proofs.line_forms.without_closing.Given as goal
 
 abbrev pub invariant-loop-end : goal.invariant-loop-end

@@ -1,5 +1,5 @@
 use Rattle.std.proofs.Common.{◌∙◌, sym, arith, get_or}
-use Rattle.cm_scan.proofs.BareLemmas.{bare-step, bare-plain, bare-stop, bare-none, bare-some, ends-inside, ends-past, few-more, Ends}
+use Rattle.cm_scan.proofs.lemmas.links.BareDestinations.{bare-step, bare-plain, bare-stop, bare-none, bare-some, ends-inside, ends-past, few-more, Ends}
 use Rattle.cm_scan.proofs.links.bare_end.Goals.{Then-opened-gt0, Else-opened-gt0, then-loop-at-test+else-is_plain_in_run+then-is_bare_end, else-loop-at-test}
 use Rattle.cm_scan.proofs.links.bare_end.Goals as goal
 

@@ -1,6 +1,6 @@
 use Rattle.std.proofs.Common.{◌≡◌, ◌-◌, ◌≤◌, false, length, drop}
-use Rattle.cm_scan.specs.Links.{bare_run}
-use Rattle.cm_scan.proofs.ClosedLemmas.{ahead_from}
+use Rattle.cm_scan.specs.inlines.Links.{bare_run}
+use Rattle.cm_scan.proofs.lemmas.links.BracketedParts.{ahead_from}
 use Rattle.cm_scan.proofs.links.bare_end.Given as goal
 
 -- what was passed over, and the run that is read from here on, come to the whole

@@ -1,7 +1,7 @@
 use Rattle.std.proofs.Common.{◌∙◌, ◌==◌, ◌≡◌, ◌≤◌, ◌<◌, ◌+◌, ◌-◌, ℕ, true, sym, ap, subst, arith, get_or, cond, ⊎_elim}
 use Rattle.std.proofs.lemmas.Bool.{cases_lt}
 use Rattle.cm_scan.specs.steps.LinkSteps.{is_barred, is_plain}
-use Rattle.cm_scan.proofs.ClosedLemmas.{part-none, part-end, part-stop, part-kept, closes-no_blanks, barred-no_spaces, bool_byte-is, part-plain, ended}
+use Rattle.cm_scan.proofs.lemmas.links.BracketedParts.{part-none, part-end, part-stop, part-kept, closes-no_blanks, barred-no_spaces, bool_byte-is, part-plain, ended}
 use Rattle.cm_scan.proofs.links.closed.Goals as goal
 
 pub returns-then-is_end-clause-read : goal.returns-then-is_end-clause-read

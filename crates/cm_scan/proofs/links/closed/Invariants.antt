@@ -1,6 +1,6 @@
 use Rattle.std.proofs.Common.{◌≡◌, ◌-◌, ◌≤◌, ◌==◌, false, length, drop}
 use Rattle.cm_scan.specs.steps.LinkSteps.{is_barred}
-use Rattle.cm_scan.proofs.ClosedLemmas.{part, ahead_from}
+use Rattle.cm_scan.proofs.lemmas.links.BracketedParts.{part, ahead_from}
 use Rattle.cm_scan.proofs.links.closed.Given as goal
 
 -- what was passed over, and the part that is read from here on, come to the whole

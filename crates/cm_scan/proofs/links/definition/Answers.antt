@@ -3,8 +3,8 @@ use Rattle.std.specs.Str.{IsCharBoundary}
 use Rattle.std.proofs.lemmas.Str.{IsCharBoundary-after_ascii}
 use Rattle.cm_scan.specs.Words.{begins_with}
 use Rattle.cm_scan.specs.Scanned.{definition_with}
-use Rattle.cm_scan.proofs.ReadingLemmas.{begins-at}
-use Rattle.cm_scan.proofs.DefinitionLemmas.{gap-of, no-label, label-alone, no-destination, whole-definition}
+use Rattle.cm_scan.proofs.lemmas.texts.ScannerAnswers.{begins-at}
+use Rattle.cm_scan.proofs.lemmas.links.DefinitionParts.{gap-of, no-label, label-alone, no-destination, whole-definition}
 use Rattle.cm_scan.proofs.links.definition.Goals as goal
 
 pub returns-in_err-label-clause-read : goal.returns-in_err-label-clause-read

@@ -1,9 +1,9 @@
 use Rattle.std.proofs.Common.{◌∙◌, ◌==◌, false, ap, subst, get_or, ◌<◌, arith}
 use Rattle.std.proofs.lemmas.Str.{IsCharBoundary-after_ascii}
-use Rattle.cm_scan.specs.Links.{keep_if, up_to_closing}
+use Rattle.cm_scan.specs.inlines.Links.{keep_if, up_to_closing}
 use Rattle.cm_scan.specs.Scanned.{reading_of}
 use Rattle.cm_scan.specs.steps.LinkSteps.{fits, is_barred}
-use Rattle.cm_scan.proofs.ReadingLemmas.{enclosed-none, enclosed-some}
+use Rattle.cm_scan.proofs.lemmas.texts.ScannerAnswers.{enclosed-none, enclosed-some}
 use Rattle.cm_scan.proofs.links.enclosed.Goals as goal
 
 pub returns-in_err-end-clause-read : goal.returns-in_err-end-clause-read

@@ -1,7 +1,7 @@
 use Rattle.std.proofs.Common.{◌≡◌, ◌∙◌, ap, drop, option_map, subst, Some, None}
-use Rattle.cm_scan.specs.Links.{after_line}
+use Rattle.cm_scan.specs.inlines.Links.{after_line}
 use Rattle.cm_scan.specs.Scanned.{definition_with}
-use Rattle.cm_scan.proofs.DefinitionLemmas.{end-none, end-some}
+use Rattle.cm_scan.proofs.lemmas.links.DefinitionParts.{end-none, end-some}
 use Rattle.cm_scan.proofs.links.end_of_definition.Goals as goal
 
 pub returns-in_err-end-clause-read : goal.returns-in_err-end-clause-read

@@ -1,5 +1,5 @@
 use Rattle.std.proofs.Common.{◌∙◌, sym, arith}
-use Rattle.cm_scan.proofs.ClosedLemmas.{escapes-here}
+use Rattle.cm_scan.proofs.lemmas.links.BracketedParts.{escapes-here}
 use Rattle.cm_scan.proofs.links.escapes_next.Goals as goal
 
 pub returns : goal.returns

@@ -1,7 +1,7 @@
 use Rattle.std.proofs.Common.{◌∙◌, ap, drop}
 use Rattle.cm_scan.specs.Words.{begins_with}
 use Rattle.cm_scan.specs.Scanned.{reading_of}
-use Rattle.cm_scan.proofs.ReadingLemmas.{label-not_next, label-absent, label-blank, label-some}
+use Rattle.cm_scan.proofs.lemmas.texts.ScannerAnswers.{label-not_next, label-absent, label-blank, label-some}
 use Rattle.cm_scan.proofs.links.label.Goals as goal
 
 pub returns-then-not-is_next-clause-read : goal.returns-then-not-is_next-clause-read

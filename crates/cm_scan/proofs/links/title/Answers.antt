@@ -1,7 +1,7 @@
 use Rattle.std.proofs.Common.{◌≡◌, ◌∙◌, ◌≤◌, ap, length, get_or, arith, le_refl}
 use Rattle.std.proofs.lemmas.Bool.Decides.{nat_tests}
 use Rattle.cm_scan.specs.Scanned.{reading_of}
-use Rattle.cm_scan.proofs.EnclosedLemmas.{title-some, title-none, title-past}
+use Rattle.cm_scan.proofs.lemmas.links.TitlesAndDestinations.{title-some, title-none, title-past}
 use Rattle.cm_scan.proofs.links.title.Goals.{In_ok-open}
 use Rattle.cm_scan.proofs.links.title.Goals as goal
 

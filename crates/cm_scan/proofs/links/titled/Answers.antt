@@ -1,8 +1,8 @@
 use Rattle.std.proofs.Common.{◌≡◌, ◌∙◌, ap, drop, option_map, subst, Some, None}
-use Rattle.cm_scan.specs.Tags.{is_blank_next}
-use Rattle.cm_scan.specs.Links.{after_line}
+use Rattle.cm_scan.specs.spans.Tags.{is_blank_next}
+use Rattle.cm_scan.specs.inlines.Links.{after_line}
 use Rattle.cm_scan.specs.Scanned.{definition_with}
-use Rattle.cm_scan.proofs.DefinitionLemmas.{gap-of, titled-no, titled-absent, titled-open, titled-some}
+use Rattle.cm_scan.proofs.lemmas.links.DefinitionParts.{gap-of, titled-no, titled-absent, titled-open, titled-some}
 use Rattle.cm_scan.proofs.links.titled.Goals as goal
 
 pub returns-then-not-is_blank_next-clause-read : goal.returns-then-not-is_blank_next-clause-read

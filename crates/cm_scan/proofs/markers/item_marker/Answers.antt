@@ -1,6 +1,6 @@
 use Rattle.std.proofs.Common.{arith}
 use Rattle.std.proofs.lemmas.Grind.{common_steps}
-use Rattle.cm_scan.proofs.MarkerLemmas.{marker-end, marker-at}
+use Rattle.cm_scan.proofs.lemmas.blocks.MarkerLemmas.{marker-end, marker-at}
 use Rattle.cm_scan.proofs.markers.item_marker.Goals as goal
 
 pub returns-then-end-bytes-clause-marker : goal.returns-then-end-bytes-clause-marker

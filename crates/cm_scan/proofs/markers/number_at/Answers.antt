@@ -3,7 +3,7 @@ use Rattle.std.specs.List.{fold}
 use Rattle.std.proofs.lemmas.Grind.{common_steps}
 use Rattle.cm_scan.specs.Words.{is_digit}
 use Rattle.cm_scan.specs.steps.LineSteps.{with_digit}
-use Rattle.cm_scan.proofs.MarkerLemmas.{bound, bound_step, bound_most, front_step, skip_step, front_stop, front_end}
+use Rattle.cm_scan.proofs.lemmas.blocks.MarkerLemmas.{bound, bound_step, bound_most, front_step, skip_step, front_stop, front_end}
 use Rattle.cm_scan.proofs.markers.number_at.Goals as goal
 
 pub overflow_mul-number : goal.overflow_mul-number

@@ -1,9 +1,9 @@
 use Rattle.std.proofs.Common.{◌≡◌, ◌+◌, ◌-◌, ◌<◌, ◌≤◌, drop, length}
 use Rattle.std.specs.List.{fold}
 use Rattle.cm_scan.specs.Words.{is_digit, front_of, skip}
-use Rattle.cm_scan.specs.LineForms.{decimal_value}
+use Rattle.cm_scan.specs.blocks.LineForms.{decimal_value}
 use Rattle.cm_scan.specs.steps.LineSteps.{with_digit}
-use Rattle.cm_scan.proofs.MarkerLemmas.{bound}
+use Rattle.cm_scan.proofs.lemmas.blocks.MarkerLemmas.{bound}
 use Rattle.cm_scan.proofs.markers.number_at.Given as goal
 
 abbrev pub invariant-loop-end : goal.invariant-loop-end

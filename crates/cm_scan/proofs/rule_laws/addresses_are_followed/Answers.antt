@@ -1,5 +1,5 @@
-use Rattle.cm_scan.proofs.InlinesRead.{inlines_followed}
-use Rattle.cm_scan.proofs.TreesRead.{trees_followed}
+use Rattle.cm_scan.proofs.lemmas.trees.InlinesRead.{inlines_followed}
+use Rattle.cm_scan.proofs.lemmas.trees.TreesRead.{trees_followed}
 use Rattle.cm_scan.proofs.rule_laws.addresses_are_followed.Goals as goal
 
 pub returns-clause-inlines : goal.returns-clause-inlines

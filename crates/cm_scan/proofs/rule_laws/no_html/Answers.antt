@@ -1,5 +1,5 @@
-use Rattle.cm_scan.proofs.InlinesRead.{no_raw_html}
-use Rattle.cm_scan.proofs.TreesRead.{no_html_block, no_html}
+use Rattle.cm_scan.proofs.lemmas.trees.InlinesRead.{no_raw_html}
+use Rattle.cm_scan.proofs.lemmas.trees.TreesRead.{no_html_block, no_html}
 use Rattle.cm_scan.proofs.rule_laws.no_html.Goals as goal
 
 pub returns-clause-blocks : goal.returns-clause-blocks

@@ -1,7 +1,7 @@
 use Rattle.std.proofs.Common.{refl}
-use Rattle.cm_scan.specs.HtmlBlocks.{html_start}
-use Rattle.cm_scan.specs.Parts.{info_of}
-use Rattle.cm_scan.proofs.InlineComputing.{inline_structure}
+use Rattle.cm_scan.specs.blocks.HtmlBlocks.{html_start}
+use Rattle.cm_scan.specs.blocks.Parts.{info_of}
+use Rattle.cm_scan.proofs.lemmas.InlineComputing.{inline_structure}
 use Rattle.cm_scan.proofs.rule_laws.rule_examples.Goals as goal
 
 pub returns : goal.returns

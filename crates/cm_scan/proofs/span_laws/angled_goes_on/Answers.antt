@@ -1,4 +1,4 @@
-use Rattle.cm_scan.proofs.AngleLemmas.{angled_goes_on, whole_tag_goes_on}
+use Rattle.cm_scan.proofs.lemmas.spans.AngledGoesOn.{angled_goes_on, whole_tag_goes_on}
 use Rattle.cm_scan.proofs.span_laws.angled_goes_on.Goals as goal
 
 pub returns-clause-any : goal.returns-clause-any

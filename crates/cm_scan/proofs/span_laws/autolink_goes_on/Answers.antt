@@ -1,4 +1,4 @@
-use Rattle.cm_scan.proofs.AutolinkLemmas.{autolink_goes_on, no_autolink_goes_on}
+use Rattle.cm_scan.proofs.lemmas.spans.AutolinkGoesOn.{autolink_goes_on, no_autolink_goes_on}
 use Rattle.cm_scan.proofs.span_laws.autolink_goes_on.Goals as goal
 
 pub returns-clause-link : goal.returns-clause-link

@@ -1,4 +1,4 @@
-use Rattle.cm_scan.proofs.CodeSpanLemmas.{code_span_goes_on}
+use Rattle.cm_scan.proofs.lemmas.spans.CodeSpanGoesOn.{code_span_goes_on}
 use Rattle.cm_scan.proofs.span_laws.code_span_goes_on.Goals as goal
 
 pub returns : goal.returns

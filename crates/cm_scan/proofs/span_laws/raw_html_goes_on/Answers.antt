@@ -1,4 +1,4 @@
-use Rattle.cm_scan.proofs.RawHtmlLemmas.{raw_html_goes_on, whole_raw_html_goes_on}
+use Rattle.cm_scan.proofs.lemmas.spans.RawHtmlGoesOn.{raw_html_goes_on, whole_raw_html_goes_on}
 use Rattle.cm_scan.proofs.span_laws.raw_html_goes_on.Goals as goal
 
 pub returns-clause-front : goal.returns-clause-front

@@ -1,4 +1,4 @@
-use Rattle.cm_scan.proofs.NeededLemmas.{comment-needs, instruction-needs, section-needs, any-needs}
+use Rattle.cm_scan.proofs.lemmas.spans.RawHtmlNeedsItsEnd.{comment-needs, instruction-needs, section-needs, any-needs}
 use Rattle.cm_scan.proofs.span_laws.raw_html_needs_its_end.Goals as goal
 
 pub returns-clause-comment : goal.returns-clause-comment

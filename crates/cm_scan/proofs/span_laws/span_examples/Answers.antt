@@ -1,10 +1,10 @@
 use Rattle.std.proofs.Common.{refl}
-use Rattle.cm_scan.specs.Autolinks.{in_angles, is_scheme, is_absolute, labels, ends_with, is_host_label, is_address, as_autolink, autolink}
-use Rattle.cm_scan.specs.CodeSpans.{up_to_run, but_last, stripped, code_span}
+use Rattle.cm_scan.specs.spans.Autolinks.{in_angles, is_scheme, is_absolute, labels, ends_with, is_host_label, is_address, as_autolink, autolink}
+use Rattle.cm_scan.specs.spans.CodeSpans.{up_to_run, but_last, stripped, code_span}
 use Rattle.cm_scan.specs.Words.{run_length, after_run, skip, front_of, after_word}
-use Rattle.cm_scan.specs.Tags.{after_gap, tag_name, after_quoted, after_unquoted, after_value, after_specification, after_attribute, after_tag_end, after_attributes, open_tag, closing_tag}
-use Rattle.cm_scan.specs.RawHtml.{behind_word, from_to, short_end, after_comment, comment, after_declaration, declaration, html_tag, raw_html}
-use Rattle.cm_scan.specs.SpanExamples.{RawHtmlExamples, OlderExamples, AutolinkExamples, CodeSpanExamples}
+use Rattle.cm_scan.specs.spans.Tags.{after_gap, tag_name, after_quoted, after_unquoted, after_value, after_specification, after_attribute, after_tag_end, after_attributes, open_tag, closing_tag}
+use Rattle.cm_scan.specs.spans.RawHtml.{behind_word, from_to, short_end, after_comment, comment, after_declaration, declaration, html_tag, raw_html}
+use Rattle.cm_scan.specs.laws.SpanExamples.{RawHtmlExamples, OlderExamples, AutolinkExamples, CodeSpanExamples}
 use Rattle.cm_scan.proofs.span_laws.span_examples.Goals as goal
 
 read : RawHtmlExamples

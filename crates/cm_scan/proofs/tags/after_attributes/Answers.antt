@@ -1,7 +1,7 @@
 use Rattle.std.proofs.Common.{◌≡◌, ◌+◌, ◌-◌, ◌∙◌, suc, true, false, Some, None, length, sym, ap, arith}
 use Rattle.std.proofs.lemmas.Grind.{common_steps}
-use Rattle.cm_scan.specs.Tags.{is_blank_next, after_gap, after_attribute, after_tag_end, after_attributes}
-use Rattle.cm_scan.proofs.TagLemmas.{attributes_end, attributes_stop, attributes_bad, attributes_more, attributes_many}
+use Rattle.cm_scan.specs.spans.Tags.{is_blank_next, after_gap, after_attribute, after_tag_end, after_attributes}
+use Rattle.cm_scan.proofs.lemmas.spans.TagParts.{attributes_end, attributes_stop, attributes_bad, attributes_more, attributes_many}
 use Rattle.cm_scan.proofs.tags.after_attributes.Goals as goal
 use Rattle.cm_scan.proofs.tags.after_attributes.Goals.{else-loop-test, then-loop-test+in_default+else-not-is_blank_next+in_ok-text+else-counter-end}
 

@@ -1,5 +1,5 @@
 use Rattle.std.proofs.Common.{◌≡◌, ◌-◌, suc, length}
-use Rattle.cm_scan.specs.Tags.{after_attributes}
+use Rattle.cm_scan.specs.spans.Tags.{after_attributes}
 use Rattle.cm_scan.proofs.tags.after_attributes.Given as goal
 
 abbrev pub invariant-loop : goal.invariant-loop

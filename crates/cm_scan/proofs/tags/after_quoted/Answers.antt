@@ -1,8 +1,8 @@
 use Rattle.std.proofs.Common.{◌+◌, Some, ◌∙◌, sym, ap, eq-eqb, arith}
 use Rattle.std.proofs.lemmas.Grind.{common_steps}
 use Rattle.std.proofs.lemmas.Bool.{eqb-true}
-use Rattle.cm_scan.proofs.HtmlLemmas.{slice_from}
-use Rattle.cm_scan.proofs.TagLemmas.{quoted_none, quoted_first}
+use Rattle.cm_scan.proofs.lemmas.blocks.WordsInAnyCase.{slice_from}
+use Rattle.cm_scan.proofs.lemmas.spans.TagParts.{quoted_none, quoted_first}
 use Rattle.cm_scan.proofs.tags.after_quoted.Goals as goal
 
 pub returns-in_err-at : goal.returns-in_err-at

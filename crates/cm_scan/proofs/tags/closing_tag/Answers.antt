@@ -1,6 +1,6 @@
 use Rattle.std.proofs.Common.{arith}
 use Rattle.std.proofs.lemmas.Grind.{common_steps}
-use Rattle.cm_scan.proofs.TagLemmas.{closing_none, closing_named}
+use Rattle.cm_scan.proofs.lemmas.spans.TagParts.{closing_none, closing_named}
 use Rattle.cm_scan.proofs.tags.closing_tag.Goals as goal
 
 pub returns-in_err-tag : goal.returns-in_err-tag

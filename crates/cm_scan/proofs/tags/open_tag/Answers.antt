@@ -1,6 +1,6 @@
 use Rattle.std.proofs.Common.{arith}
 use Rattle.std.proofs.lemmas.Grind.{common_steps}
-use Rattle.cm_scan.proofs.TagLemmas.{open_none, open_named}
+use Rattle.cm_scan.proofs.lemmas.spans.TagParts.{open_none, open_named}
 use Rattle.cm_scan.proofs.tags.open_tag.Goals as goal
 
 pub returns-in_err-tag : goal.returns-in_err-tag

@@ -1,8 +1,8 @@
 use Rattle.std.proofs.Common.{◌∙◌, length, sym, ap, arith}
 use Rattle.std.proofs.lemmas.Grind.{common_steps}
 use Rattle.cm_scan.specs.steps.TagNames.{continues_name}
-use Rattle.cm_scan.specs.Tags.{tag_name}
-use Rattle.cm_scan.proofs.TagLemmas.{skip_shorter, name_found, name_other, name_nothing}
+use Rattle.cm_scan.specs.spans.Tags.{tag_name}
+use Rattle.cm_scan.proofs.lemmas.spans.TagParts.{skip_shorter, name_found, name_other, name_nothing}
 use Rattle.cm_scan.proofs.tags.tag_name.Goals as goal
 
 pub returns-in_err-b : goal.returns-in_err-b

@@ -1,6 +1,6 @@
 use Rattle.std.proofs.Common.{◌≡◌, ◌∙◌, get_or, sym, arith}
 use Rattle.std.proofs.lemmas.Str.{IsCharBoundary-after_ascii}
-use Rattle.cm_scan.proofs.WordLemmas.{run_step, after_step, run_stop, after_stop, run_end, after_end}
+use Rattle.cm_scan.proofs.lemmas.texts.WordLemmas.{run_step, after_step, run_stop, after_stop, run_end, after_end}
 use Rattle.cm_scan.proofs.words.after_run.Goals as goal
 
 pub loop-end-preserved : goal.loop-end-preserved

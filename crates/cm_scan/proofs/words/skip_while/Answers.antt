@@ -1,6 +1,6 @@
 use Rattle.std.proofs.Common.{◌≡◌, ◌∙◌, ◌<◌, get_or, true, false, refl, sym, arith}
 use Rattle.std.proofs.lemmas.Grind.{common_steps}
-use Rattle.cm_scan.proofs.SkipLemmas.{skip_on, skip_to, skip_all}
+use Rattle.cm_scan.proofs.lemmas.texts.SkipLemmas.{skip_on, skip_to, skip_all}
 use Rattle.cm_scan.proofs.words.skip_while.Goals as goal
 
 pub loop-i-init : goal.loop-i-init

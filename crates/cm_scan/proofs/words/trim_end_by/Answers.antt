@@ -2,7 +2,7 @@ use Rattle.std.proofs.Common.{◌≡◌, ◌-◌, ◌∙◌, get_or, true, false
 use Rattle.std.proofs.lemmas.Grind.{common_steps}
 use Rattle.std.proofs.lemmas.Str.{IsCharBoundary-before_ascii}
 use Rattle.cm_scan.specs.Words.{is_trimmed}
-use Rattle.cm_scan.proofs.WordLemmas.{trimmed_ascii, trim_end-step, trim_end-stop, trim_end-none}
+use Rattle.cm_scan.proofs.lemmas.texts.WordLemmas.{trimmed_ascii, trim_end-step, trim_end-stop, trim_end-none}
 use Rattle.cm_scan.proofs.words.trim_end_by.Goals as goal
 use Rattle.cm_scan.proofs.words.trim_end_by.Goals.{then-loop-end-test+else-is_trimmed, else-loop-end-test}
 

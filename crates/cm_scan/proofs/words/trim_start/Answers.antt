@@ -2,7 +2,7 @@ use Rattle.std.proofs.Common.{◌≡◌, ◌∙◌, get_or, false, refl, sym, ar
 use Rattle.std.proofs.lemmas.Grind.{common_steps}
 use Rattle.std.proofs.lemmas.Str.{IsCharBoundary-start, IsCharBoundary-after_ascii}
 use Rattle.cm_scan.specs.Words.{is_space_or_tab}
-use Rattle.cm_scan.proofs.WordLemmas.{blank_ascii, trim_start-step, trim_start-stop, trim_start-end}
+use Rattle.cm_scan.proofs.lemmas.texts.WordLemmas.{blank_ascii, trim_start-step, trim_start-stop, trim_start-end}
 use Rattle.cm_scan.proofs.words.trim_start.Goals as goal
 use Rattle.cm_scan.proofs.words.trim_start.Goals.{then-loop-start-test+else-is_space_or_tab, else-loop-start-test}
 

@@ -1,10 +1,10 @@
 use Rattle.std.proofs.Common.{◌+◌, true, not, ◌∷◌, ◌++◌, map, drop, sym, ap, subst, ◌∙◌, append_assoc, append-nil}
 use Rattle.std.proofs.lemmas.List.{drop_more, drop_all}
 use Rattle.cm_source.specs.Spelling.{gap, marker, item_lines, lines_of_block, lines_of_blocks}
-use Rattle.cm_source.specs.steps.Laid.{Writes}
-use Rattle.cm_source.proofs.LaidLemmas.{then-ok, writes-then}
-use Rattle.cm_source.proofs.BlockKinds.{list-lines}
-use Rattle.cm_source.proofs.BlockLemmas.{gapped, gapped-on, item_lines_of, lines_of_items, quote-writes, item-writes}
+use Rattle.cm_source.specs.steps.WrittenLines.{Writes}
+use Rattle.cm_source.proofs.lemmas.spelling.WrittenLineLemmas.{then-ok, writes-then}
+use Rattle.cm_source.proofs.lemmas.shared.BlockKinds.{list-lines}
+use Rattle.cm_source.proofs.lemmas.spelling.SpelledBlocks.{gapped, gapped-on, item_lines_of, lines_of_items, quote-writes, item-writes}
 use Rattle.cm_source.proofs.blocks.+blocks.Goals as goal
 
 pub spell_quote-returns : goal.spell_quote-returns

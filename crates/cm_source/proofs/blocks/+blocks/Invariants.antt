@@ -1,7 +1,7 @@
 use Rattle.std.proofs.Common.{◌≡◌, ℕ, List, ◌++◌, not, map, drop}
 use Rattle.cm_source.specs.Spelling.{lines_of_block, lines_of_blocks}
-use Rattle.cm_source.specs.steps.Laid.{Writes}
-use Rattle.cm_source.proofs.BlockLemmas.{gapped, item_lines_of, lines_of_items}
+use Rattle.cm_source.specs.steps.WrittenLines.{Writes}
+use Rattle.cm_source.proofs.lemmas.spelling.SpelledBlocks.{gapped, item_lines_of, lines_of_items}
 use Rattle.cm_source.proofs.blocks.+blocks.Given as goal
 
 -- What was taken is written, and what is left goes on as all would.

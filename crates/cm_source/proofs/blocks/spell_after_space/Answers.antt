@@ -1,9 +1,9 @@
 use Rattle.std.proofs.Common.{sym, subst, ◌∙◌}
 use Rattle.std.specs.Prelude.{codes}
 use Rattle.cm_source.specs.Inlines.{spelled_content}
-use Rattle.cm_source.specs.steps.Laid.{Lays}
-use Rattle.cm_source.proofs.BlockLemmas.{spaced-content, no-content}
-use Rattle.cm_source.proofs.LaidLemmas.{then-ok, lays-then, lays-nothing}
+use Rattle.cm_source.specs.steps.WrittenLines.{Lays}
+use Rattle.cm_source.proofs.lemmas.spelling.SpelledBlocks.{spaced-content, no-content}
+use Rattle.cm_source.proofs.lemmas.spelling.WrittenLineLemmas.{then-ok, lays-then, lays-nothing}
 use Rattle.cm_source.proofs.blocks.spell_after_space.Goals as goal
 
 pub returns-then-is_empty : goal.returns-then-is_empty

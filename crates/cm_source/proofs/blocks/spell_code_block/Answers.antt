@@ -1,8 +1,8 @@
 use Rattle.std.proofs.Common.{◌≡◌, suc, max, true, [], ◌∷◌, ◌++◌, replicate, ap, subst, ◌∙◌, append-nil, arith}
 use Rattle.cm_source.specs.Texts.{longest_run, spelled_text}
 use Rattle.cm_source.specs.Spelling.{fence_around, ended_lines}
-use Rattle.cm_source.specs.steps.Laid.{Writes}
-use Rattle.cm_source.proofs.LaidLemmas.{then-ok, writes-then}
+use Rattle.cm_source.specs.steps.WrittenLines.{Writes}
+use Rattle.cm_source.proofs.lemmas.spelling.WrittenLineLemmas.{then-ok, writes-then}
 use Rattle.cm_source.proofs.blocks.spell_code_block.Goals as goal
 
 pub returns : goal.returns

@@ -1,9 +1,9 @@
 use Rattle.std.proofs.Common.{ℕ, List, true, ◌++◌, replicate, refl, subst}
 use Rattle.cm_source.specs.Texts.{spelled_text}
-use Rattle.cm_source.specs.steps.Laid.{Writes}
-use Rattle.cm_source.proofs.FeedLemmas.{both-without, marks-without}
-use Rattle.cm_source.proofs.LaidLemmas.{then-ok, lays-then, parted-one, writes-content}
-use Rattle.cm_source.proofs.SpelledBytes.{text-without}
+use Rattle.cm_source.specs.steps.WrittenLines.{Writes}
+use Rattle.cm_source.proofs.lemmas.spelling.NoLineFeeds.{both-without, marks-without}
+use Rattle.cm_source.proofs.lemmas.spelling.WrittenLineLemmas.{then-ok, lays-then, parted-one, writes-content}
+use Rattle.cm_source.proofs.lemmas.shared.BytesOfSpellings.{text-without}
 use Rattle.cm_source.proofs.blocks.spell_fence.Goals as goal
 
 pub returns : goal.returns

@@ -1,7 +1,7 @@
 use Rattle.std.proofs.Common.{◌++◌, replicate, subst}
 use Rattle.cm_source.specs.Spelling.{after_space}
-use Rattle.cm_source.specs.steps.Laid.{Lays}
-use Rattle.cm_source.proofs.LaidLemmas.{then-ok, lays-then, writes-content}
+use Rattle.cm_source.specs.steps.WrittenLines.{Lays}
+use Rattle.cm_source.proofs.lemmas.spelling.WrittenLineLemmas.{then-ok, lays-then, writes-content}
 use Rattle.cm_source.proofs.blocks.spell_heading.Goals as goal
 
 pub returns : goal.returns

@@ -1,5 +1,5 @@
 use Rattle.cm_source.specs.Inlines.{spelled_content}
-use Rattle.cm_source.proofs.LaidLemmas.{then-ok, writes-content}
+use Rattle.cm_source.proofs.lemmas.spelling.WrittenLineLemmas.{then-ok, writes-content}
 use Rattle.cm_source.proofs.blocks.spell_paragraph.Goals as goal
 
 pub returns : goal.returns

@@ -1,11 +1,11 @@
 use Rattle.std.proofs.Common.{◌≡◌, ◌==◌, ◌&&◌, Some, None, ap, sym, ◌∙◌}
 use Rattle.std.specs.List.{position}
 use Rattle.std.proofs.Math.Bool.{and-true}
-use Rattle.cm_scan.specs.HtmlKinds.{kind_of}
+use Rattle.cm_scan.specs.blocks.HtmlKinds.{kind_of}
 use Rattle.cm_source.specs.Spelling.{ended_lines}
 use Rattle.cm_source.specs.steps.HtmlLines.{all_fit}
-use Rattle.cm_source.proofs.FeedLemmas.{no-feed, ended-nothing, ended-rest, cut-ascii, cut-first}
-use Rattle.cm_source.proofs.HtmlLemmas.{fit-first}
+use Rattle.cm_source.proofs.lemmas.spelling.NoLineFeeds.{no-feed, ended-nothing, ended-rest, cut-ascii, cut-first}
+use Rattle.cm_source.proofs.lemmas.refusals.HtmlAlone.{fit-first}
 use Rattle.cm_source.proofs.html_alone.all_fit.Goals as goal
 
 pub cut_at-requires-clause-ascii : goal.cut_at-requires-clause-ascii

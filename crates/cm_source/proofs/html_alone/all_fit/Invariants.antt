@@ -1,7 +1,7 @@
 use Rattle.std.proofs.Common.{◌≡◌, length}
 use denote.Text.{Utf8}
 use denote.Shadow.{shadow}
-use Rattle.cm_scan.specs.HtmlKinds.{kind_of}
+use Rattle.cm_scan.specs.blocks.HtmlKinds.{kind_of}
 use Rattle.cm_source.specs.Spelling.{ended_lines}
 use Rattle.cm_source.specs.steps.HtmlLines.{all_fit}
 use Rattle.cm_source.proofs.html_alone.all_fit.Given as goal

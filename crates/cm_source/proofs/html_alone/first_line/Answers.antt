@@ -2,8 +2,8 @@ use Rattle.std.proofs.Common.{◌≡◌, ◌==◌, Some, None, take, drop, ◌+�
 use Rattle.std.specs.List.{position}
 use Rattle.cm_source.specs.Spelling.{ended_lines}
 use Rattle.cm_source.specs.Refusals.{first_line}
-use Rattle.cm_source.proofs.FeedLemmas.{feed-at, no-feed, ended-first, cut-ascii}
-use Rattle.cm_source.proofs.HtmlLemmas.{line-alone}
+use Rattle.cm_source.proofs.lemmas.spelling.NoLineFeeds.{feed-at, no-feed, ended-first, cut-ascii}
+use Rattle.cm_source.proofs.lemmas.refusals.HtmlAlone.{line-alone}
 use Rattle.cm_source.proofs.html_alone.first_line.Goals as goal
 
 pub cut_at-requires-clause-ascii : goal.cut_at-requires-clause-ascii

@@ -1,7 +1,7 @@
 use Rattle.std.proofs.Common.{not, ap, sym, ◌∙◌}
 use Rattle.cm_scan.specs.Words.{is_blank_text}
-use Rattle.cm_scan.specs.HtmlKinds.{kind_of}
-use Rattle.cm_source.proofs.HtmlLemmas.{fits-blank, fits-end, ends-as}
+use Rattle.cm_scan.specs.blocks.HtmlKinds.{kind_of}
+use Rattle.cm_source.proofs.lemmas.refusals.HtmlAlone.{fits-blank, fits-end, ends-as}
 use Rattle.cm_source.proofs.html_alone.fits.Goals as goal
 
 pub returns-then-ends_at_blank_line : goal.returns-then-ends_at_blank_line

@@ -1,8 +1,8 @@
 use Rattle.std.proofs.Common.{ap, sym, ◌∙◌}
-use Rattle.cm_scan.specs.HtmlBlocks.{html_start}
+use Rattle.cm_scan.specs.blocks.HtmlBlocks.{html_start}
 use Rattle.cm_source.specs.Spelling.{ended_lines}
 use Rattle.cm_source.specs.steps.HtmlLines.{fit_from}
-use Rattle.cm_source.proofs.HtmlLemmas.{is-html, no-html}
+use Rattle.cm_source.proofs.lemmas.refusals.HtmlAlone.{is-html, no-html}
 use Rattle.cm_source.proofs.html_alone.is_html_block.Goals as goal
 
 pub returns-then-not-is_code_text : goal.returns-then-not-is_code_text

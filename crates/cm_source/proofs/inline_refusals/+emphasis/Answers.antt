@@ -1,8 +1,8 @@
 use Rattle.std.proofs.Common.{Bool, ◌||◌, ◌+◌, List, map, drop, sym, ap, ◌∙◌}
 use Rattle.cm_tree.specs.declared.tree.Inline.{Inline}
 use Rattle.cm_source.specs.InlineRefusals.{Judged, judged, hold_emphasis}
-use Rattle.cm_source.proofs.InlineKinds.{link-judged, image-judged}
-use Rattle.cm_source.proofs.RefusalLemmas.{from-next, from-end}
+use Rattle.cm_source.proofs.lemmas.shared.InlineKinds.{link-judged, image-judged}
+use Rattle.cm_source.proofs.lemmas.refusals.RefusalLemmas.{from-next, from-end}
 use Rattle.cm_source.proofs.inline_refusals.+emphasis.Goals as goal
 
 pub has_emphasis-returns-in-Link : goal.has_emphasis-returns-in-Link

@@ -6,8 +6,8 @@ use Rattle.cm_source.specs.declared.reason.Reason.{Reason}
 use Rattle.cm_source.specs.Answers.{ok_unless}
 use Rattle.cm_source.specs.InlineRefusals.{first_face, further_in, Judged, judged, refused, emphasis_reasons, refusal_of_all}
 use Rattle.cm_source.specs.steps.InlineFaces.{seen, place_of}
-use Rattle.cm_source.proofs.InlineKinds.{soft-judged, hard-judged}
-use Rattle.cm_source.proofs.RefusalLemmas.{stops, goes-on, no-reason, told-error, from-next, from-end}
+use Rattle.cm_source.proofs.lemmas.shared.InlineKinds.{soft-judged, hard-judged}
+use Rattle.cm_source.proofs.lemmas.refusals.RefusalLemmas.{stops, goes-on, no-reason, told-error, from-next, from-end}
 use Rattle.cm_source.proofs.inline_refusals.+inlines.Goals as goal
 
 pub check_inlines-loop-at-init : goal.check_inlines-loop-at-init

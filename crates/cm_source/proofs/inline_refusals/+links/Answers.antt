@@ -1,8 +1,8 @@
 use Rattle.std.proofs.Common.{Bool, ◌||◌, ◌+◌, List, map, drop, sym, ap, ◌∙◌}
 use Rattle.cm_tree.specs.declared.tree.Inline.{Inline}
 use Rattle.cm_source.specs.InlineRefusals.{Judged, judged, hold_link}
-use Rattle.cm_source.proofs.InlineKinds.{emph-judged, strong-judged, strike-judged, image-judged}
-use Rattle.cm_source.proofs.RefusalLemmas.{from-next, from-end}
+use Rattle.cm_source.proofs.lemmas.shared.InlineKinds.{emph-judged, strong-judged, strike-judged, image-judged}
+use Rattle.cm_source.proofs.lemmas.refusals.RefusalLemmas.{from-next, from-end}
 use Rattle.cm_source.proofs.inline_refusals.+links.Goals as goal
 
 pub has_link-returns-in-Emph : goal.has_link-returns-in-Emph

@@ -2,7 +2,7 @@ use Rattle.std.proofs.Common.{[], ◌∷◌, map, ◌∙◌}
 use Rattle.cm_source.specs.declared.reason.Reason.TheVariants.{EmphasisNested, EmphasisTouching, EmphasisEdge}
 use Rattle.cm_source.specs.InlineRefusals.{is_emphasis, hold_emphasis, has_wrong_edge, judged}
 use Rattle.cm_source.specs.steps.InlineFaces.{seen}
-use Rattle.cm_source.proofs.RefusalLemmas.{told-error, this-reason, next-reason, last-reason}
+use Rattle.cm_source.proofs.lemmas.refusals.RefusalLemmas.{told-error, this-reason, next-reason, last-reason}
 use Rattle.cm_source.proofs.inline_refusals.check_emphasis.Goals as goal
 
 pub returns-in_err-refuse_if : goal.returns-in_err-refuse_if

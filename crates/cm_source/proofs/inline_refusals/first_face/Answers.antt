@@ -1,6 +1,6 @@
 use Rattle.std.proofs.Common.{Some, map, ap, sym, ◌∙◌}
 use Rattle.cm_source.specs.InlineRefusals.{judged, first_face}
-use Rattle.cm_source.proofs.RefusalLemmas.{first-item}
+use Rattle.cm_source.proofs.lemmas.refusals.RefusalLemmas.{first-item}
 use Rattle.cm_source.proofs.inline_refusals.first_face.Goals as goal
 
 pub returns-in-Some : goal.returns-in-Some

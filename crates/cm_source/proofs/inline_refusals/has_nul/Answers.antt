@@ -1,6 +1,6 @@
 use Rattle.std.proofs.Common.{◌==◌, arith}
 use Rattle.std.proofs.lemmas.Grind.{common_steps}
-use Rattle.cm_source.proofs.SearchLemmas.{found-any}
+use Rattle.cm_source.proofs.lemmas.spelling.SearchLemmas.{found-any}
 use Rattle.cm_source.proofs.inline_refusals.has_nul.Goals as goal
 
 pub returns : goal.returns

@@ -1,7 +1,7 @@
 use Rattle.std.proofs.Common.{◌||◌, map, refl, ap, sym, ◌∙◌}
 use Rattle.cm_source.specs.InlineRefusals.{first_of, last_of, last_face, judged}
 use Rattle.cm_source.specs.steps.InlineFaces.{seen}
-use Rattle.cm_source.proofs.RefusalLemmas.{is_wrong, some-face, edges}
+use Rattle.cm_source.proofs.lemmas.refusals.RefusalLemmas.{is_wrong, some-face, edges}
 use Rattle.cm_source.proofs.inline_refusals.has_wrong_edge.Goals as goal
 
 pub returns-then-is_wrong_edge : goal.returns-then-is_wrong_edge

@@ -1,6 +1,6 @@
 use Rattle.std.proofs.Common.{sym, ◌∙◌}
 use Rattle.std.proofs.lemmas.Str.{IsCharBoundary-start}
-use Rattle.cm_source.proofs.RefusalLemmas.{some-read, none-read, link-no_tag, no-tag, one-tag, at-end}
+use Rattle.cm_source.proofs.lemmas.refusals.RefusalLemmas.{some-read, none-read, link-no_tag, no-tag, one-tag, at-end}
 use Rattle.cm_source.proofs.inline_refusals.is_one_tag.Goals as goal
 
 pub autolink_by-requires : goal.autolink_by-requires

@@ -1,5 +1,5 @@
 use Rattle.std.proofs.Common.{Some, ap, sym, ◌∙◌}
-use Rattle.cm_source.proofs.RefusalLemmas.{last-is}
+use Rattle.cm_source.proofs.lemmas.refusals.RefusalLemmas.{last-is}
 use Rattle.cm_source.proofs.inline_refusals.last_face.Goals as goal
 
 pub returns-in-Some : goal.returns-in-Some

@@ -3,9 +3,9 @@ use Rattle.std.specs.Prelude.{codes}
 use Rattle.std.proofs.lemmas.List.{drop_more, drop_all, take_rest}
 use Rattle.cm_source.specs.Texts.{spelled_target}
 use Rattle.cm_source.specs.Inlines.{spelled, spelled_inlines, is_line_end}
-use Rattle.cm_source.specs.steps.Laid.{Lays}
-use Rattle.cm_source.proofs.LaidLemmas.{then-ok, lays-then, lays-nothing}
-use Rattle.cm_source.proofs.InlineKinds.{emph-spelled, strong-spelled, strike-spelled, link-spelled, image-spelled, its-spelling}
+use Rattle.cm_source.specs.steps.WrittenLines.{Lays}
+use Rattle.cm_source.proofs.lemmas.spelling.WrittenLineLemmas.{then-ok, lays-then, lays-nothing}
+use Rattle.cm_source.proofs.lemmas.shared.InlineKinds.{emph-spelled, strong-spelled, strike-spelled, link-spelled, image-spelled, its-spelling}
 use Rattle.cm_source.proofs.inlines.+inlines.Goals as goal
 
 pub spell_between-returns : goal.spell_between-returns

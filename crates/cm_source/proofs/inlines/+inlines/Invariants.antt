@@ -1,6 +1,6 @@
 use Rattle.std.proofs.Common.{◌≡◌, ℕ, List, ◌++◌, drop}
 use Rattle.cm_source.specs.Inlines.{spelled_inlines}
-use Rattle.cm_source.specs.steps.Laid.{Lays}
+use Rattle.cm_source.specs.steps.WrittenLines.{Lays}
 use Rattle.cm_source.proofs.inlines.+inlines.Given as goal
 
 -- What was taken is written, and what is left goes on as all would.

@@ -1,7 +1,7 @@
 use Rattle.std.proofs.Common.{◌≡◌, ℕ, suc, List, ◌+◌, ◌++◌, replicate, ap, subst, sym, ◌∙◌, arith}
 use Rattle.cm_source.specs.Texts.{longest_run, padding, spelled_code}
-use Rattle.cm_source.specs.steps.Laid.{Lays}
-use Rattle.cm_source.proofs.LaidLemmas.{then-ok, lays-then}
+use Rattle.cm_source.specs.steps.WrittenLines.{Lays}
+use Rattle.cm_source.proofs.lemmas.spelling.WrittenLineLemmas.{then-ok, lays-then}
 use Rattle.cm_source.proofs.inlines.spell_code.Goals as goal
 
 code-is : (text : List ℕ) → let marks : List ℕ = replicate (longest_run 0 text + 1) 96 in spelled_code text ≡ marks ++ padding text ++ text ++ padding text ++ marks

@@ -1,7 +1,7 @@
 use Rattle.std.proofs.Common.{refl}
 use Rattle.cm_source.specs.Texts.{spelled_target}
-use Rattle.cm_source.proofs.LaidLemmas.{then-ok, lays-text}
-use Rattle.cm_source.proofs.SpelledBytes.{target-without}
+use Rattle.cm_source.proofs.lemmas.spelling.WrittenLineLemmas.{then-ok, lays-text}
+use Rattle.cm_source.proofs.lemmas.shared.BytesOfSpellings.{target-without}
 use Rattle.cm_source.proofs.inlines.spell_target.Goals as goal
 
 pub returns : goal.returns

@@ -1,7 +1,7 @@
 use Rattle.std.proofs.Common.{refl}
 use Rattle.cm_source.specs.Texts.{spelled_text}
-use Rattle.cm_source.proofs.LaidLemmas.{then-ok, lays-text}
-use Rattle.cm_source.proofs.SpelledBytes.{text-without}
+use Rattle.cm_source.proofs.lemmas.spelling.WrittenLineLemmas.{then-ok, lays-text}
+use Rattle.cm_source.proofs.lemmas.shared.BytesOfSpellings.{text-without}
 use Rattle.cm_source.proofs.inlines.spell_text.Goals as goal
 
 pub returns : goal.returns

@@ -1,8 +1,8 @@
 use Rattle.std.proofs.Common.{refl}
-use Rattle.cm_scan.proofs.Computing.{block_structure}
-use Rattle.cm_scan.proofs.InlineComputing.{inline_structure}
+use Rattle.cm_scan.proofs.lemmas.Computing.{block_structure}
+use Rattle.cm_scan.proofs.lemmas.InlineComputing.{inline_structure}
 use Rattle.cm_source.specs.ReadingBackExamples.{LeafBlockExamples, ContainerExamples, ContentExamples, RuleExamples, MisreadExamples, SourceExamples, NotUtf8Examples}
-use Rattle.cm_source.proofs.Computing.{string_spellings, spelling, judging, reading, sourcing}
+use Rattle.cm_source.proofs.lemmas.shared.Computing.{string_spellings, spelling, judging, reading, sourcing}
 use Rattle.cm_source.proofs.laws.reading_back_examples.Goals as goal
 
 leaves : LeafBlockExamples

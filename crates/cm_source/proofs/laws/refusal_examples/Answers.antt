@@ -1,9 +1,9 @@
 use Rattle.std.proofs.Common.{refl}
 use Rattle.cm_text.proofs.Computing.{character_kinds}
-use Rattle.cm_scan.proofs.Computing.{block_structure}
-use Rattle.cm_scan.proofs.InlineComputing.{inline_structure}
+use Rattle.cm_scan.proofs.lemmas.Computing.{block_structure}
+use Rattle.cm_scan.proofs.lemmas.InlineComputing.{inline_structure}
 use Rattle.cm_source.specs.RefusalExamples.{InlineRefusalExamples, RefusalExamples}
-use Rattle.cm_source.proofs.Computing.{judging}
+use Rattle.cm_source.proofs.lemmas.shared.Computing.{judging}
 use Rattle.cm_source.proofs.laws.refusal_examples.Goals as goal
 
 of_inlines : InlineRefusalExamples

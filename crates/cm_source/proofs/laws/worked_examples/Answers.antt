@@ -1,6 +1,6 @@
 use Rattle.std.proofs.Common.{refl}
 use Rattle.cm_source.specs.WorkedExamples.{TextExamples, InlineExamples, BlockExamples}
-use Rattle.cm_source.proofs.Computing.{string_spellings, spelling}
+use Rattle.cm_source.proofs.lemmas.shared.Computing.{string_spellings, spelling}
 use Rattle.cm_source.proofs.laws.worked_examples.Goals as goal
 
 texts : TextExamples

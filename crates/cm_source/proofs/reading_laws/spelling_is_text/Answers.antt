@@ -1,4 +1,4 @@
-use Rattle.cm_source.proofs.ReadingBack as reading_back
+use Rattle.cm_source.proofs.lemmas.BlocksBack as reading_back
 use Rattle.cm_source.proofs.reading_laws.spelling_is_text.Goals as goal
 
 pub returns : goal.returns

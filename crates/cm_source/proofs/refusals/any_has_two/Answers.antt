@@ -2,8 +2,8 @@ use Rattle.std.proofs.Common.{Bool, ◌||◌, ◌+◌, List, drop, sym, ap, ◌�
 use Rattle.std.specs.List.{list_any}
 use Rattle.cm_tree.specs.declared.tree.Block.{Block}
 use Rattle.cm_source.specs.Refusals.{has_two}
-use Rattle.cm_source.proofs.RefusalLemmas.{from-next, from-end}
-use Rattle.cm_source.proofs.BlockRefusals.{seen_items, two-of, not-two}
+use Rattle.cm_source.proofs.lemmas.refusals.RefusalLemmas.{from-next, from-end}
+use Rattle.cm_source.proofs.lemmas.refusals.BlockRefusals.{seen_items, two-of, not-two}
 use Rattle.cm_source.proofs.refusals.any_has_two.Goals as goal
 
 pub returns-then-len-gt1 : goal.returns-then-len-gt1

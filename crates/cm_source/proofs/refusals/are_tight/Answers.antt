@@ -2,8 +2,8 @@ use Rattle.std.proofs.Common.{Bool, ◌&&◌, ◌+◌, List, map, drop, sym, ap,
 use Rattle.std.specs.List.{list_all}
 use Rattle.cm_tree.specs.declared.tree.Block.{Block}
 use Rattle.cm_source.specs.Refusals.{is_tight_item, faces, judged_block}
-use Rattle.cm_source.proofs.RefusalLemmas.{from-next, from-end}
-use Rattle.cm_source.proofs.BlockRefusals.{seen_items}
+use Rattle.cm_source.proofs.lemmas.refusals.RefusalLemmas.{from-next, from-end}
+use Rattle.cm_source.proofs.lemmas.refusals.BlockRefusals.{seen_items}
 use Rattle.cm_source.proofs.refusals.are_tight.Goals as goal
 
 pub returns-then-not-is_tight_item : goal.returns-then-not-is_tight_item

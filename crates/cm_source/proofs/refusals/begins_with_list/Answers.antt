@@ -1,7 +1,7 @@
 use Rattle.std.proofs.Common.{◌∷◌, map, ap, sym, ◌∙◌}
 use Rattle.cm_source.specs.Refusals.{is_list, faces, judged_block}
-use Rattle.cm_source.proofs.RefusalLemmas.{first-item}
-use Rattle.cm_source.proofs.BlockRefusals.{no-list}
+use Rattle.cm_source.proofs.lemmas.refusals.RefusalLemmas.{first-item}
+use Rattle.cm_source.proofs.lemmas.refusals.BlockRefusals.{no-list}
 use Rattle.cm_source.proofs.refusals.begins_with_list.Goals as goal
 
 pub returns-in-List : goal.returns-in-List

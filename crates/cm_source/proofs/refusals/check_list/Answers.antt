@@ -3,8 +3,8 @@ use Rattle.std.specs.List.{list_any}
 use Rattle.cm_source.specs.declared.reason.Reason.TheVariants.{Shape, AdjacentLists, ItemBeginsWithList, Looseness}
 use Rattle.cm_source.specs.Refusals.{begins_too_high, is_behind_same, is_list, is_as_said}
 use Rattle.cm_source.specs.steps.BlockFaces.{seen}
-use Rattle.cm_source.proofs.RefusalLemmas.{told-error, this-reason, next-reason, last-reason}
-use Rattle.cm_source.proofs.BlockRefusals.{seen_items}
+use Rattle.cm_source.proofs.lemmas.refusals.RefusalLemmas.{told-error, this-reason, next-reason, last-reason}
+use Rattle.cm_source.proofs.lemmas.refusals.BlockRefusals.{seen_items}
 use Rattle.cm_source.proofs.refusals.check_list.Goals as goal
 
 pub returns-in_err-refuse_if : goal.returns-in_err-refuse_if

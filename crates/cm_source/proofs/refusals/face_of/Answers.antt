@@ -1,6 +1,6 @@
 use Rattle.std.proofs.Common.{map, ap, sym, ◌∙◌}
 use Rattle.cm_source.specs.Refusals.{ListFace, JudgedBlock, judged_block, is_filled}
-use Rattle.cm_source.proofs.BlockKinds.{list-judged}
+use Rattle.cm_source.proofs.lemmas.shared.BlockKinds.{list-judged}
 use Rattle.cm_source.proofs.refusals.face_of.Goals as goal
 
 pub returns-in-List : goal.returns-in-List

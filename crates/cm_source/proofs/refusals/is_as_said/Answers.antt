@@ -1,7 +1,7 @@
 use Rattle.std.proofs.Common.{◌||◌, ap, sym, ◌∙◌}
 use Rattle.std.specs.List.{list_any}
 use Rattle.cm_source.specs.Refusals.{has_two, is_as_said}
-use Rattle.cm_source.proofs.BlockRefusals.{seen_items, few-items}
+use Rattle.cm_source.proofs.lemmas.refusals.BlockRefusals.{seen_items, few-items}
 use Rattle.cm_source.proofs.refusals.is_as_said.Goals as goal
 
 pub returns-then-tight : goal.returns-then-tight

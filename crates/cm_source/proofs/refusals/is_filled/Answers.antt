@@ -1,7 +1,7 @@
 use Rattle.std.proofs.Common.{map, not, length, ◌==◌, ap, sym, ◌∙◌}
 use Rattle.cm_source.specs.Refusals.{judged_block, is_filled}
-use Rattle.cm_source.proofs.RefusalLemmas.{first-item}
-use Rattle.cm_source.proofs.BlockRefusals.{filled-first}
+use Rattle.cm_source.proofs.lemmas.refusals.RefusalLemmas.{first-item}
+use Rattle.cm_source.proofs.lemmas.refusals.BlockRefusals.{filled-first}
 use Rattle.cm_source.proofs.refusals.is_filled.Goals as goal
 
 pub returns-in-Some : goal.returns-in-Some

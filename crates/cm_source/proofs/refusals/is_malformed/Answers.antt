@@ -1,6 +1,6 @@
 use Rattle.std.proofs.Common.{◌||◌, ap, sym, ◌∙◌}
 use Rattle.cm_source.specs.Refusals.{begins_too_high}
-use Rattle.cm_source.proofs.BlockRefusals.{no-items}
+use Rattle.cm_source.proofs.lemmas.refusals.BlockRefusals.{no-items}
 use Rattle.cm_source.proofs.refusals.is_malformed.Goals as goal
 
 pub returns-else-is_empty : goal.returns-else-is_empty

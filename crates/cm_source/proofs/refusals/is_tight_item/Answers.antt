@@ -1,7 +1,7 @@
 use Rattle.std.proofs.Common.{map, ◌&&◌, sym, ap, ◌∙◌}
 use Rattle.cm_source.specs.Refusals.{can_follow, is_tight_item, faces, judged_block}
 use Rattle.cm_source.specs.steps.BlockFaces.{is_paragraph}
-use Rattle.cm_source.proofs.BlockRefusals.{pair-of, tight-pair}
+use Rattle.cm_source.proofs.lemmas.refusals.BlockRefusals.{pair-of, tight-pair}
 use Rattle.cm_source.proofs.refusals.is_tight_item.Goals as goal
 
 pub returns-then-is_paragraph : goal.returns-then-is_paragraph

@@ -1,5 +1,5 @@
 use Rattle.std.proofs.Common.{◌==◌}
-use Rattle.cm_source.proofs.SearchLemmas.{first-position}
+use Rattle.cm_source.proofs.lemmas.spelling.SearchLemmas.{first-position}
 use Rattle.cm_source.proofs.search.find_byte.Goals as goal
 
 pub returns : goal.returns

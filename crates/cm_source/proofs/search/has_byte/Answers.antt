@@ -1,7 +1,7 @@
 use Rattle.std.proofs.Common.{◌==◌, ap, ◌∙◌}
 use Rattle.std.specs.List.{list_any}
 use Rattle.std.specs.Option.{is_some}
-use Rattle.cm_source.proofs.SearchLemmas.{found-any}
+use Rattle.cm_source.proofs.lemmas.spelling.SearchLemmas.{found-any}
 use Rattle.cm_source.proofs.search.has_byte.Goals as goal
 
 pub returns : goal.returns

@@ -1,7 +1,7 @@
 use Rattle.std.proofs.Common.{length, take, get_or, ap, ◌∙◌, arith}
 use Rattle.std.specs.Prelude.{string_bytes}
 use Rattle.cm_scan.specs.Words.{trim_end_spaces}
-use Rattle.cm_source.proofs.LaidLemmas.{stripped-end}
+use Rattle.cm_source.proofs.lemmas.spelling.WrittenLineLemmas.{stripped-end}
 use Rattle.cm_source.proofs.source.strip_end.Goals as goal
 
 pub truncate-requires : goal.truncate-requires

@@ -1,6 +1,6 @@
 use Rattle.cm_source.specs.Refusals.{refusal_of}
-use Rattle.cm_source.proofs.RefusalLemmas.{no-reason}
-use Rattle.cm_source.proofs.DocumentsBack.{written_reads_back}
+use Rattle.cm_source.proofs.lemmas.refusals.RefusalLemmas.{no-reason}
+use Rattle.cm_source.proofs.lemmas.DocumentsBack.{written_reads_back}
 use Rattle.cm_source.proofs.spelling.spell_by.Goals as goal
 
 pub returns-clause-reads_back : goal.returns-clause-reads_back

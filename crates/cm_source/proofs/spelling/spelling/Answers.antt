@@ -1,6 +1,6 @@
 use Rattle.std.proofs.Common.{true}
 use Rattle.cm_source.specs.Spelling.{lines_of_blocks}
-use Rattle.cm_source.proofs.BlockLemmas.{text-is}
+use Rattle.cm_source.proofs.lemmas.spelling.SpelledBlocks.{text-is}
 use Rattle.cm_source.proofs.spelling.spelling.Goals as goal
 
 pub returns : goal.returns

@@ -1,7 +1,7 @@
 use Rattle.std.proofs.Common.{length, ap, sym, ◌∙◌}
 use Rattle.std.specs.Prelude.{not}
 use Rattle.std.proofs.lemmas.Bool.{eqb-true}
-use Rattle.cm_source.proofs.TextLemmas.{ends-last, ends-empty}
+use Rattle.cm_source.proofs.lemmas.spelling.SpelledTexts.{ends-last, ends-empty}
 use Rattle.cm_source.proofs.texts.ends_with.Goals as goal
 
 pub returns-then-not-is_empty : goal.returns-then-not-is_empty

@@ -2,7 +2,7 @@ use Rattle.std.proofs.Common.{◌≡◌, ◌+◌, ◌==◌, ◌≤◌, max, get_
 use Rattle.std.specs.Prelude.{if◌then◌else◌}
 use Rattle.std.proofs.lemmas.Bool.{eq-eqb, ne_eqb}
 use Rattle.cm_source.specs.Texts.{longest_run}
-use Rattle.cm_source.proofs.TextLemmas.{run-step, run-end, longest-within}
+use Rattle.cm_source.proofs.lemmas.spelling.SpelledTexts.{run-step, run-end, longest-within}
 use Rattle.cm_source.proofs.texts.longest_of_runs.Goals.{then-b-eq96, else-b-eq96}
 use Rattle.cm_source.proofs.texts.longest_of_runs.Goals as goal
 

@@ -1,5 +1,5 @@
 use Rattle.std.proofs.Common.{sym, ◌∙◌}
-use Rattle.cm_source.proofs.TextLemmas.{no-runs}
+use Rattle.cm_source.proofs.lemmas.spelling.SpelledTexts.{no-runs}
 use Rattle.cm_source.proofs.texts.longest_run.Goals as goal
 
 pub returns-else-has_byte-clause-longest : goal.returns-else-has_byte-clause-longest

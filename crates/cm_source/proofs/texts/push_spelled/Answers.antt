@@ -1,4 +1,4 @@
-use Rattle.cm_source.proofs.TextLemmas.{kept, spelled-ascii}
+use Rattle.cm_source.proofs.lemmas.spelling.SpelledTexts.{kept, spelled-ascii}
 use Rattle.cm_source.proofs.texts.push_spelled.Goals as goal
 
 pub push_replaced-requires-clause-ascii : goal.push_replaced-requires-clause-ascii

@@ -3,8 +3,8 @@ use Rattle.std.specs.Prelude.{string_bytes, MatchOption}
 use Rattle.std.specs.Borrow.{Bor}
 use Rattle.std.proofs.lemmas.Str.Pattern.{strip_prefix_char}
 use Rattle.cm_source.specs.Texts.{numbered, spelled_text}
-use Rattle.cm_source.proofs.LaidLemmas.{then-ok}
-use Rattle.cm_source.proofs.TextLemmas.{space-first, no-space-first}
+use Rattle.cm_source.proofs.lemmas.spelling.WrittenLineLemmas.{then-ok}
+use Rattle.cm_source.proofs.lemmas.spelling.SpelledTexts.{space-first, no-space-first}
 use Rattle.cm_source.proofs.texts.push_text.Goals as goal
 
 pub returns-then-not-first : goal.returns-then-not-first

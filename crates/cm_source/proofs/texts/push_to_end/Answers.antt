@@ -3,8 +3,8 @@ use Rattle.std.specs.Prelude.{string_bytes, MatchOption}
 use Rattle.std.specs.Borrow.{Bor}
 use Rattle.std.proofs.lemmas.Str.Pattern.{strip_suffix_char}
 use Rattle.cm_source.specs.Texts.{numbered, spelled_bytes, spelled_text}
-use Rattle.cm_source.proofs.LaidLemmas.{then-ok}
-use Rattle.cm_source.proofs.TextLemmas.{inner-text, space-last, no-space-last}
+use Rattle.cm_source.proofs.lemmas.spelling.WrittenLineLemmas.{then-ok}
+use Rattle.cm_source.proofs.lemmas.spelling.SpelledTexts.{inner-text, space-last, no-space-last}
 use Rattle.cm_source.proofs.texts.push_to_end.Goals as goal
 
 pub returns-then-not-last : goal.returns-then-not-last

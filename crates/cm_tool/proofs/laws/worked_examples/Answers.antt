@@ -6,8 +6,8 @@ use Rattle.cm_text.proofs.Computing.{label_folding}
 use Rattle.cm_tree.specs.Definitions.{Target}
 use Rattle.cm_tree.specs.declared.tree.Inline.TheVariants.{Link, Text}
 use Rattle.cm_tree.proofs.Targets.{first_counts}
-use Rattle.cm_scan.specs.Brackets.{Defined}
-use Rattle.cm_scan.specs.Inlines.{inlines_of}
+use Rattle.cm_scan.specs.inlines.Brackets.{Defined}
+use Rattle.cm_scan.specs.inlines.Inlines.{inlines_of}
 use Rattle.cm_scan.specs.Documents.{defined_by}
 use Rattle.cm_tool.specs.Writing.{converted}
 use Rattle.std.specs.Fmt.{digits}
@@ -18,8 +18,8 @@ use Rattle.cm_tree.specs.declared.tree.Inline.TheFolds.{fold_out-Inline}
 use Rattle.cm_tree.specs.declared.tree.Block.{Block}
 use Rattle.cm_tree.specs.declared.tree.Block.TheVariants.{outs-Paragraph as paragraph, outs-Heading as heading, outs-Code as code, outs-Html as raw, outs-Break as thematic, outs-Definition as definition, outs-Quote as quote, outs-List as items}
 use Rattle.cm_tree.specs.declared.tree.Block.TheFolds.{fold_out-Block}
-use Rattle.cm_scan.proofs.Computing.{block_structure}
-use Rattle.cm_scan.proofs.InlineComputing.{inline_structure}
+use Rattle.cm_scan.proofs.lemmas.Computing.{block_structure}
+use Rattle.cm_scan.proofs.lemmas.InlineComputing.{inline_structure}
 use Rattle.cm_html.specs.Escape.{is_kept, destination_byte, class_word}
 use Rattle.cm_html.specs.Html.{Rendered, inline_step, Written, block_step}
 use Rattle.cm_tree.specs.Depth.{depth_step}

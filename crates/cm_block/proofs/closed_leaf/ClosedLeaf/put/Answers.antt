@@ -1,8 +1,8 @@
 use Rattle.std.proofs.Common.{◌≡◌, [], suc, string_bytes, sym, ap, ◌∙◌, arith, refl}
 use Rattle.cm_tree.specs.declared.tree.Block.TheVariants.{Heading, Html}
-use Rattle.cm_scan.specs.Parts.{leaf_block, heading, thematic_break, code, html}
+use Rattle.cm_scan.specs.blocks.Parts.{leaf_block, heading, thematic_break, code, html}
 use Rattle.cm_tree.specs.RawBlocks.{raw_inlines}
-use Rattle.cm_scan.specs.Blocks.{line_feeds}
+use Rattle.cm_scan.specs.blocks.Blocks.{line_feeds}
 use Rattle.cm_block.specs.Level.{block_closes}
 use Rattle.cm_block.specs.Stack.{close_leaves, own_leaves}
 use Rattle.cm_block.specs.LeafViews.{ended}

@@ -2,8 +2,8 @@ use Rattle.std.proofs.Common.{◌≡◌, false, refl, ◌∙◌, sym, ap, ap₂}
 use Rattle.cm_text.specs.Lines.{LineView}
 use Rattle.cm_text.specs.Views.{seen_view}
 use Rattle.cm_text.specs.declared.view.View.{View}
-use Rattle.cm_scan.specs.Lines.{is_blank}
-use Rattle.cm_scan.specs.Starts.{QuoteMarker, ItemStart, TextLine}
+use Rattle.cm_scan.specs.blocks.Lines.{is_blank}
+use Rattle.cm_scan.specs.blocks.Starts.{QuoteMarker, ItemStart, TextLine}
 use Rattle.cm_block.specs.OpenLeaf.{begins_quote, begins_item, begin_of_start, begin_of}
 use Rattle.cm_block.specs.steps.PlaceViews.{begins_quote as is_quote, seen_marker}
 use Rattle.cm_block.specs.steps.StartViews.{seen}

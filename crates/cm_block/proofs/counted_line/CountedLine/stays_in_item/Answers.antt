@@ -3,8 +3,8 @@ use Rattle.std.specs.Prelude.{◌&&◌, ◌||◌, nat_le}
 use Rattle.cm_text.specs.Indentation.{indent_of, strip_columns}
 use Rattle.cm_text.specs.Lines.{LineView}
 use Rattle.cm_text.specs.Views.{seen_view}
-use Rattle.cm_scan.specs.Lines.{is_blank}
-use Rattle.cm_scan.specs.Starts.{Stays}
+use Rattle.cm_scan.specs.blocks.Lines.{is_blank}
+use Rattle.cm_scan.specs.blocks.Starts.{Stays}
 use Rattle.cm_block.proofs.PlaceLemmas.{in_item_lazy, in_item_ends, in_item_stays, in_item_lazily}
 use Rattle.cm_block.proofs.counted_line.CountedLine.stays_in_item.Goals as goal
 

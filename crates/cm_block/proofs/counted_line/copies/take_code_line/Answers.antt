@@ -1,8 +1,8 @@
 use Rattle.std.proofs.Common.{◌≡◌, [], ◌∷◌, ◌++◌, sym, ap, ap₂, ◌∙◌, arith}
 use Rattle.cm_text.specs.Lines.{LineView}
 use Rattle.cm_text.specs.Views.{seen_view}
-use Rattle.cm_scan.specs.Lines.{with_ending}
-use Rattle.cm_scan.specs.Blocks.{line_feeds}
+use Rattle.cm_scan.specs.blocks.Lines.{with_ending}
+use Rattle.cm_scan.specs.blocks.Blocks.{line_feeds}
 use Rattle.cm_block.proofs.FeedLemmas.{feeds_behind}
 use Rattle.cm_block.proofs.LeafLemmas.{waits, no_code, goes_on}
 use Rattle.cm_block.proofs.counted_line.copies.take_code_line.Goals as goal

@@ -1,6 +1,6 @@
 use Rattle.std.proofs.Common.{◌++◌, ap, ◌∙◌}
 use Rattle.cm_text.specs.Views.{seen_view}
-use Rattle.cm_scan.specs.HtmlKinds.{kind_of}
+use Rattle.cm_scan.specs.blocks.HtmlKinds.{kind_of}
 use Rattle.cm_block.proofs.FeedLemmas.{feeds_of_first}
 use Rattle.cm_block.proofs.LeafLemmas.{html_begins, html_whole}
 use Rattle.cm_block.proofs.counted_line.first_line.begin_html.Goals as goal

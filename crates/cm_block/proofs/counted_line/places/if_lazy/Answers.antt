@@ -1,8 +1,8 @@
 use Rattle.std.proofs.Common.{◌∙◌, sym, ap}
 use Rattle.cm_text.specs.Views.{seen_view}
-use Rattle.cm_scan.specs.Lines.{as_lazy}
-use Rattle.cm_scan.specs.Starts.{StaysIfOpen, place_if_lazy}
-use Rattle.cm_scan.specs.Laws.{goes_inward}
+use Rattle.cm_scan.specs.blocks.Lines.{as_lazy}
+use Rattle.cm_scan.specs.blocks.Starts.{StaysIfOpen, place_if_lazy}
+use Rattle.cm_scan.specs.laws.Laws.{goes_inward}
 use Rattle.cm_block.specs.steps.StartViews.{seen}
 use Rattle.cm_block.proofs.PlaceLemmas.{lazy_closed, lazy_blank, lazy_other, lazy_stays}
 use Rattle.cm_block.proofs.counted_line.places.if_lazy.Goals as goal

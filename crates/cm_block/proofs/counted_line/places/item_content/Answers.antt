@@ -1,6 +1,6 @@
 use Rattle.std.proofs.Common.{◌∙◌, arith}
 use Rattle.cm_text.specs.Views.{seen_view}
-use Rattle.cm_scan.specs.Lines.{content_of}
+use Rattle.cm_scan.specs.blocks.Lines.{content_of}
 use Rattle.cm_block.specs.steps.PlaceViews.{seen_marker}
 use Rattle.cm_block.proofs.MarkerPlaces.{marked, item-begins}
 use Rattle.cm_block.proofs.PlaceLemmas.{column_is, first_is_content}

@@ -2,12 +2,12 @@ use Rattle.std.proofs.Common.{[], ◌∷◌, ◌++◌, Some, suc, true, false, s
 use Rattle.cm_text.specs.Indentation.{strip_columns}
 use Rattle.cm_text.specs.Views.{seen_view}
 use Rattle.cm_text.specs.declared.view.View.{View}
-use Rattle.cm_scan.specs.Lines.{with_ending}
-use Rattle.cm_scan.specs.LineForms.{Fence}
-use Rattle.cm_scan.specs.HtmlBlocks.{is_html_end}
-use Rattle.cm_scan.specs.HtmlKinds.{kind_of}
-use Rattle.cm_scan.specs.Parts.{html}
-use Rattle.cm_scan.specs.Blocks.{line_feeds, add_text, next_line}
+use Rattle.cm_scan.specs.blocks.Lines.{with_ending}
+use Rattle.cm_scan.specs.blocks.LineForms.{Fence}
+use Rattle.cm_scan.specs.blocks.HtmlBlocks.{is_html_end}
+use Rattle.cm_scan.specs.blocks.HtmlKinds.{kind_of}
+use Rattle.cm_scan.specs.blocks.Parts.{html}
+use Rattle.cm_scan.specs.blocks.Blocks.{line_feeds, add_text, next_line}
 use Rattle.cm_block.specs.OpenLeaf.{open_text, open_fence, open_html, stays_open, is_last, line_of_leaf}
 use Rattle.cm_block.specs.LeafViews.{ended, leaf_of}
 use Rattle.cm_block.specs.steps.LeafSteps.{taken_of}

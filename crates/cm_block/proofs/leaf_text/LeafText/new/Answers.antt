@@ -1,5 +1,5 @@
 use Rattle.std.proofs.Common.{sym, ap, ◌∙◌}
-use Rattle.cm_scan.specs.Blocks.{line_feeds}
+use Rattle.cm_scan.specs.blocks.Blocks.{line_feeds}
 use Rattle.cm_block.proofs.FeedLemmas.{no_feeds}
 use Rattle.cm_block.proofs.leaf_text.LeafText.new.Goals as goal
 

@@ -1,6 +1,6 @@
 use Rattle.std.proofs.Common.{sym, subst}
 use Rattle.cm_text.specs.Views.{seen_view}
-use Rattle.cm_scan.specs.Starts.{place_if_lazy}
+use Rattle.cm_scan.specs.blocks.Starts.{place_if_lazy}
 use Rattle.cm_block.specs.steps.FrameSteps.{place_in}
 use Rattle.cm_block.specs.steps.FrameViews.{container_of}
 use Rattle.cm_block.specs.steps.PlaceViews.{IsInside}

@@ -1,6 +1,6 @@
 use Rattle.std.proofs.Common.{◌≡◌, false, length, ◌∙◌, sym, ap, arith}
 use Rattle.cm_text.specs.Views.{seen_view}
-use Rattle.cm_scan.specs.Lines.{is_blank}
+use Rattle.cm_scan.specs.blocks.Lines.{is_blank}
 use Rattle.cm_block.specs.steps.StartViews.{seen}
 use Rattle.cm_block.specs.OpenLeaf.{begin_of_start}
 use Rattle.cm_block.proofs.OpenedInTurn.{left_blank, left_some, leaf_next, quote_next, not_bare, stays_left, item_left, left_deep}

@@ -1,6 +1,6 @@
 use Rattle.std.proofs.Common.{◌≡◌, ◌≤◌, ◌+◌, ◌-◌, true, length}
 use Rattle.cm_text.specs.Views.{seen_view}
-use Rattle.cm_scan.specs.Lines.{is_blank}
+use Rattle.cm_scan.specs.blocks.Lines.{is_blank}
 use Rattle.cm_block.specs.steps.LineTests.{Tested}
 use Rattle.cm_block.specs.Stack.{Owned}
 use Rattle.cm_block.specs.steps.FrameStarts.{begun, left_of}

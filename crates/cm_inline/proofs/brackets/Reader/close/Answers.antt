@@ -5,8 +5,8 @@ use Rattle.std.specs.Str.{IsCharBoundary}
 use Rattle.std.specs.List.{slice_range}
 use Rattle.std.specs.Vec.{vec_len}
 use Rattle.std.proofs.lemmas.List.{map-append}
-use Rattle.cm_scan.specs.Brackets.{Bracketed, defined_in}
-use Rattle.cm_scan.specs.Pairing.{Characters}
+use Rattle.cm_scan.specs.inlines.Brackets.{Bracketed, defined_in}
+use Rattle.cm_scan.specs.inlines.Pairing.{Characters}
 use Rattle.cm_inline.specs.declared.fault.InlineFault.TheVariants.{InlinesTooDeep}
 use Rattle.cm_inline.specs.declared.openers.Openers.{Openers}
 use Rattle.cm_inline.specs.steps.Nodes.{Piece, item_of, items_of}

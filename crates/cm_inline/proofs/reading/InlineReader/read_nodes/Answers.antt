@@ -3,8 +3,8 @@ use Rattle.std.specs.Prelude.{Err, nat_lt}
 use Rattle.std.proofs.lemmas.Bool.Decides.{nat_tests}
 use Rattle.std.proofs.lemmas.Result.{err_from_is_err_and}
 use Rattle.cm_tree.specs.Depth.{inlines_depth}
-use Rattle.cm_scan.specs.Brackets.{defined_in}
-use Rattle.cm_scan.specs.Pairing.{pair_all, settled, emphasis_of}
+use Rattle.cm_scan.specs.inlines.Brackets.{defined_in}
+use Rattle.cm_scan.specs.inlines.Pairing.{pair_all, settled, emphasis_of}
 use Rattle.cm_inline.specs.Emphases.{emphases}
 use Rattle.cm_inline.specs.steps.Depths.{items_depth}
 use Rattle.cm_inline.specs.steps.Groups.{nodes_in}

@@ -1,4 +1,4 @@
-use Rattle.cm_source.proofs.LaidLemmas.{then-ok, lays-break}
+use Rattle.cm_source.proofs.lemmas.spelling.WrittenLineLemmas.{then-ok, lays-break}
 use Rattle.cm_source.proofs.source.Source.break_line.Goals as goal
 
 pub returns : goal.returns

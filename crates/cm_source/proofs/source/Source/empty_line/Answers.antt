@@ -1,6 +1,6 @@
 use Rattle.std.proofs.Common.{[]}
 use Rattle.cm_source.specs.Spelling.{parted_lines}
-use Rattle.cm_source.proofs.LaidLemmas.{then-ok, lays-nothing, writes-content}
+use Rattle.cm_source.proofs.lemmas.spelling.WrittenLineLemmas.{then-ok, lays-nothing, writes-content}
 use Rattle.cm_source.proofs.source.Source.empty_line.Goals as goal
 
 pub returns : goal.returns

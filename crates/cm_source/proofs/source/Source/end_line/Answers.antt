@@ -1,5 +1,5 @@
 use Rattle.std.proofs.Common.{◌∷◌, [], ◌++◌, inl, inr, refl, ap, ◌∙◌, arith}
-use Rattle.cm_source.proofs.LaidLemmas.{ends-line}
+use Rattle.cm_source.proofs.lemmas.spelling.WrittenLineLemmas.{ends-line}
 use Rattle.cm_source.proofs.source.Source.end_line.Goals.{then-self-len, else-self-len}
 use Rattle.cm_source.proofs.source.Source.end_line.Goals as goal
 

@@ -1,7 +1,7 @@
 use Rattle.std.proofs.Common.{take, ap, ◌∙◌}
 use Rattle.std.specs.Prelude.{string_bytes}
 use Rattle.cm_source.specs.declared.source.Source.{Source}
-use Rattle.cm_source.proofs.LaidLemmas.{leaves-begun, leaves-ended}
+use Rattle.cm_source.proofs.lemmas.spelling.WrittenLineLemmas.{leaves-begun, leaves-ended}
 use Rattle.cm_source.proofs.source.Source.leave.Goals.{then-self+in_ok-end_line, else-self}
 use Rattle.cm_source.proofs.source.Source.leave.Goals as goal
 

@@ -1,6 +1,6 @@
 use Rattle.std.proofs.Common.{◌++◌, refl}
 use Rattle.std.specs.Prelude.{string_bytes}
-use Rattle.cm_source.proofs.LaidLemmas.{when-ok, then-ok, lays-text}
+use Rattle.cm_source.proofs.lemmas.spelling.WrittenLineLemmas.{when-ok, then-ok, lays-text}
 use Rattle.cm_source.proofs.source.Source.push.Goals as goal
 
 pub returns : goal.returns

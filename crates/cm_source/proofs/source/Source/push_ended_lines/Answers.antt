@@ -1,9 +1,9 @@
 use Rattle.std.proofs.Common.{◌≡◌, [], ◌∷◌, ◌++◌, Some, None, take, drop, ◌+◌, ◌==◌, refl, sym, ap, subst, ◌∙◌, append_assoc, append-nil}
 use Rattle.std.specs.List.{position}
 use Rattle.cm_source.specs.Spelling.{ended_lines}
-use Rattle.cm_source.specs.steps.Laid.{Writes}
-use Rattle.cm_source.proofs.FeedLemmas.{has_feed, feed-at, no-feed, ended-first, ended-nothing, ended-rest, cut-ascii}
-use Rattle.cm_source.proofs.LaidLemmas.{then-ok, writes-then, writes-nothing}
+use Rattle.cm_source.specs.steps.WrittenLines.{Writes}
+use Rattle.cm_source.proofs.lemmas.spelling.NoLineFeeds.{has_feed, feed-at, no-feed, ended-first, ended-nothing, ended-rest, cut-ascii}
+use Rattle.cm_source.proofs.lemmas.spelling.WrittenLineLemmas.{then-ok, writes-then, writes-nothing}
 use Rattle.cm_source.proofs.source.Source.push_ended_lines.Goals as goal
 
 pub loop-at-init : goal.loop-at-init

@@ -2,7 +2,7 @@ use Rattle.std.proofs.Common.{◌≡◌, ℕ, List, ◌++◌, length}
 use denote.Text.{Utf8}
 use denote.Shadow.{shadow}
 use Rattle.cm_source.specs.Spelling.{ended_lines}
-use Rattle.cm_source.specs.steps.Laid.{Writes}
+use Rattle.cm_source.specs.steps.WrittenLines.{Writes}
 use Rattle.cm_source.proofs.source.Source.push_ended_lines.Given as goal
 
 -- The lines that were taken off the front are written.

@@ -1,6 +1,6 @@
 use Rattle.std.proofs.Common.{subst}
-use Rattle.cm_source.specs.steps.Laid.{Writes}
-use Rattle.cm_source.proofs.LaidLemmas.{then-ok, parted-one, writes-content}
+use Rattle.cm_source.specs.steps.WrittenLines.{Writes}
+use Rattle.cm_source.proofs.lemmas.spelling.WrittenLineLemmas.{then-ok, parted-one, writes-content}
 use Rattle.cm_source.proofs.source.Source.push_line.Goals as goal
 
 pub returns : goal.returns

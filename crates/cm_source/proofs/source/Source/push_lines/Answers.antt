@@ -1,8 +1,8 @@
 use Rattle.std.proofs.Common.{◌≡◌, [], ◌∷◌, ◌++◌, Some, None, take, drop, ◌+◌, ◌==◌, refl, sym, ap, subst, ◌∙◌, append_assoc}
 use Rattle.std.specs.List.{position}
-use Rattle.cm_source.specs.steps.Laid.{Lays}
-use Rattle.cm_source.proofs.FeedLemmas.{has_feed, feed-at, no-feed, cut-ascii}
-use Rattle.cm_source.proofs.LaidLemmas.{then-ok, lays-then, lays-nothing}
+use Rattle.cm_source.specs.steps.WrittenLines.{Lays}
+use Rattle.cm_source.proofs.lemmas.spelling.NoLineFeeds.{has_feed, feed-at, no-feed, cut-ascii}
+use Rattle.cm_source.proofs.lemmas.spelling.WrittenLineLemmas.{then-ok, lays-then, lays-nothing}
 use Rattle.cm_source.proofs.source.Source.push_lines.Goals as goal
 
 pub loop-at-init : goal.loop-at-init

@@ -1,7 +1,7 @@
 use Rattle.std.proofs.Common.{◌≡◌, ℕ, List, ◌++◌, length}
 use denote.Text.{Utf8}
 use denote.Shadow.{shadow}
-use Rattle.cm_source.specs.steps.Laid.{Lays}
+use Rattle.cm_source.specs.steps.WrittenLines.{Lays}
 use Rattle.cm_source.proofs.source.Source.push_lines.Given as goal
 
 -- What was taken off the front is written.

@@ -1,7 +1,7 @@
 use Rattle.std.proofs.Common.{replicate, refl}
 use Rattle.std.proofs.lemmas.Bool.{ne_eqb}
-use Rattle.cm_source.proofs.FeedLemmas.{marks-without}
-use Rattle.cm_source.proofs.LaidLemmas.{then-ok, lays-text}
+use Rattle.cm_source.proofs.lemmas.spelling.NoLineFeeds.{marks-without}
+use Rattle.cm_source.proofs.lemmas.spelling.WrittenLineLemmas.{then-ok, lays-text}
 use Rattle.cm_source.proofs.source.Source.push_marks.Goals as goal
 
 pub returns : goal.returns

@@ -1,8 +1,8 @@
 use Rattle.std.proofs.Common.{Some, ap, subst}
 use Rattle.std.specs.Option.{is_some}
 use Rattle.cm_source.specs.Spelling.{gap, lines_of_block}
-use Rattle.cm_source.specs.steps.Laid.{Writes}
-use Rattle.cm_source.proofs.LaidLemmas.{writes-then}
+use Rattle.cm_source.specs.steps.WrittenLines.{Writes}
+use Rattle.cm_source.proofs.lemmas.spelling.WrittenLineLemmas.{writes-then}
 use Rattle.cm_source.proofs.spelling.Speller.add.Goals as goal
 
 pub returns-clause-writes : goal.returns-clause-writes

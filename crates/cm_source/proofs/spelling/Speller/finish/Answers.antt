@@ -1,4 +1,4 @@
-use Rattle.cm_source.proofs.DocumentsBack.{written_reads_back}
+use Rattle.cm_source.proofs.lemmas.DocumentsBack.{written_reads_back}
 use Rattle.cm_source.proofs.spelling.Speller.finish.Goals as goal
 
 pub returns-clause-spelled : goal.returns-clause-spelled

@@ -1,5 +1,5 @@
 use Rattle.std.proofs.lemmas.Result.{err_from_is_err_and}
-use Rattle.cm_source.proofs.SpellerLemmas.{fits-behind, refused-behind, goes-on-behind}
+use Rattle.cm_source.proofs.lemmas.spelling.SpellerLemmas.{fits-behind, refused-behind, goes-on-behind}
 use Rattle.cm_source.proofs.spelling.Speller.push.Goals as goal
 
 pub returns-in_err-check_block-clause-told : goal.returns-in_err-check_block-clause-told

@@ -1,6 +1,6 @@
 use Rattle.std.proofs.Common.{arith}
 use Rattle.std.proofs.lemmas.Grind.{common_steps}
-use Rattle.cm_source.proofs.TextLemmas.{by-number, behind-backslash}
+use Rattle.cm_source.proofs.lemmas.spelling.SpelledTexts.{by-number, behind-backslash}
 use Rattle.cm_source.proofs.texts.SpelledReplaced.push.Goals.{then-b-eq96-via-then-b-eq96, then-b-eq96-via-else-b-eq96+then-is_ascii_control}
 use Rattle.cm_source.proofs.texts.SpelledReplaced.push.Goals as goal
 

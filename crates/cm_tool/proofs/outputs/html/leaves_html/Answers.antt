@@ -1,5 +1,5 @@
 use Rattle.std.proofs.lemmas.Result.{err_from_is_err_and}
-use Rattle.cm_scan.specs.Brackets.{defined_in}
+use Rattle.cm_scan.specs.inlines.Brackets.{defined_in}
 use Rattle.cm_scan.specs.Documents.{with_inlines}
 use Rattle.cm_tool.proofs.LeafWalkLemmas.{begun_told, begun_within}
 use Rattle.cm_tool.proofs.outputs.html.leaves_html.Goals as goal

@@ -1,6 +1,6 @@
 use Rattle.std.proofs.Common.{◌∙◌, ◌++◌, ap}
 use Rattle.std.proofs.lemmas.Result.{err_from_is_err_and}
-use Rattle.cm_scan.specs.Brackets.{defined_in}
+use Rattle.cm_scan.specs.inlines.Brackets.{defined_in}
 use Rattle.cm_scan.specs.Documents.{with_inlines}
 use Rattle.cm_tool.specs.Leaves.{first_leaf_past}
 use Rattle.cm_tool.specs.steps.LeafWalks.{all_left}

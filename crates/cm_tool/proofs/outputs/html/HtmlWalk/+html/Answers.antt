@@ -9,7 +9,7 @@ use Rattle.cm_tree.proofs.RawWalks.{joined, quote_depth, list_depth}
 use Rattle.cm_html.specs.Html.{alone, item_html, heading_end, heading_start, html_of, inlines_html, inside, items_html, list_end, list_start, written}
 use Rattle.cm_html.specs.steps.ItemPass.{inside_from, line_feed}
 use Rattle.cm_html.proofs.ItemLemmas.{inside_added}
-use Rattle.cm_scan.specs.Brackets.{defined_in}
+use Rattle.cm_scan.specs.inlines.Brackets.{defined_in}
 use Rattle.cm_tool.specs.declared.outputs.leaf_walk.Unread.{Unread}
 use Rattle.cm_tool.specs.Leaves.{depths_in, leaf_depths}
 use Rattle.cm_tool.specs.steps.LeafWalks.{all_read, content_at, block_read_of, blocks_read_at, items_read_at, HasRead, TellsOf}

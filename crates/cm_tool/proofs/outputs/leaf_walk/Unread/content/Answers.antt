@@ -1,5 +1,5 @@
 use Rattle.std.proofs.lemmas.Result.{err_from_is_err_and}
-use Rattle.cm_scan.specs.Brackets.{defined_in}
+use Rattle.cm_scan.specs.inlines.Brackets.{defined_in}
 use Rattle.cm_scan.specs.Documents.{content_read}
 use Rattle.cm_tree.specs.RawBlocks.{raw_inlines}
 use Rattle.cm_tool.proofs.LeafLemmas.{leaf_within, leaf_refused}

@@ -1,7 +1,7 @@
 use Rattle.std.proofs.Common.{◌≡◌, ◌<◌}
 use Rattle.std.proofs.lemmas.Result.{on_ok_weaker, IfErr-weaker}
 use Rattle.cm_tree.specs.Depth.{inlines_depth}
-use Rattle.cm_scan.specs.Brackets.{defined_in}
+use Rattle.cm_scan.specs.inlines.Brackets.{defined_in}
 use Rattle.cm_scan.specs.Documents.{content_read}
 use Rattle.cm_tree.specs.RawBlocks.{raw_inlines}
 use Rattle.cm_inline.specs.declared.fault.InlineFault.TheVariants as inline_faults

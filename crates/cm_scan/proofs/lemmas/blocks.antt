@@ -1,0 +1,12 @@
+pub mod PartsByCases
+pub mod CountedLines
+pub mod LineSizes
+pub mod OwnersOfLines
+pub mod LooseByOwners
+pub mod HeadingLevels
+pub mod SingleBlocks
+pub mod LineFormLemmas
+pub mod MarkerLemmas
+pub mod WordsInAnyCase
+pub mod HtmlStarts
+pub mod QuietStarts

@@ -1,0 +1,5 @@
+pub mod BareDestinations
+pub mod BracketedParts
+pub mod TitlesAndDestinations
+pub mod DefinitionParts
+pub mod LineFeedsLeft

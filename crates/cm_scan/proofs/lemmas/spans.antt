@@ -1,0 +1,13 @@
+pub mod TagParts
+pub mod TagsGoOn
+pub mod RawHtmlGoesOn
+pub mod RawHtmlByFirstBytes
+pub mod RawHtmlEnds
+pub mod RawHtmlNeedsItsEnd
+pub mod OlderRawHtml
+pub mod AutolinkGoesOn
+pub mod AutolinkParts
+pub mod FollowedAutolinks
+pub mod CodeSpanGoesOn
+pub mod BacktickStrings
+pub mod AngledGoesOn

@@ -1,0 +1,288 @@
+-- Autolinks in a text, part by part.
+use Rattle.std.proofs.Common.{◌≡◌, ℕ, zero, suc, ◌+◌, ◌-◌, ◌<◌, ◌≤◌, ◌==◌, ◌&&◌, ◌||◌, not, Bool, true, false, List, [], ◌∷◌, ◌++◌, length, take, drop, get_or, Option, Some, None, codes, IsUtf8, refl, sym, ap, ◌∙◌, arith, add-one, append_assoc, drop-cons, length-take-le}
+use Rattle.std.specs.List.{slice_range, list_all}
+use Rattle.std.specs.Str.{IsCharBoundary}
+use Rattle.std.proofs.lemmas.List.{append-nil, drop_all}
+use Rattle.std.proofs.lemmas.Bool.Decides.{nat_tests}
+use Rattle.std.proofs.lemmas.Str.{IsCharBoundary-after_ascii}
+use Rattle.memchr.specs.Find.{IsFirstByte, is_byte}
+use Rattle.cm_text.specs.Characters.{within}
+use Rattle.cm_scan.specs.Words.{is_letter, is_empty, begins_with, skip, front_of, after_word}
+use Rattle.cm_scan.specs.inlines.Links.{Reading}
+use Rattle.cm_scan.specs.spans.Autolinks.{Autolink, is_inside, ended, in_angles, continues_scheme, is_scheme, is_absolute, stands_in_address, onto_first, labels, ends_with, is_host_label, is_address, as_autolink, autolink}
+use Rattle.cm_scan.specs.Scanned.{autolink_with}
+use Rattle.cm_scan.specs.steps.SpanSteps.{is_host_byte}
+use Rattle.cm_scan.proofs.lemmas.texts.ScannerAnswers.{begins-at}
+use Rattle.cm_scan.proofs.lemmas.links.BracketedParts.{slice-none, slice-more}
+use Rattle.cm_scan.proofs.lemmas.spans.TagParts.{skip_shorter, front-is}
+
+is-false : (b : Bool) → (b ≡ true → ⊥) → b ≡ false
+is-false true h = absurd (h refl)
+is-false false h = refl
+
+-- bytes at the front that pass a test, one after another
+
+module _ (test : ℕ → Bool) where
+  front-pass : (b : ℕ) (bs : List ℕ) → test b ≡ true → front_of test (b ∷ bs) ≡ b ∷ front_of test bs
+  unfolding front_of
+  front-pass b bs h = ap (λ c. elim c as (λ _. List ℕ) [ true ↦ b ∷ front_of test bs | false ↦ [] ]) h
+
+  front-fail : (b : ℕ) (bs : List ℕ) → test b ≡ false → front_of test (b ∷ bs) ≡ []
+  unfolding front_of
+  front-fail b bs h = ap (λ c. elim c as (λ _. List ℕ) [ true ↦ b ∷ front_of test bs | false ↦ [] ]) h
+
+  front-nothing : front_of test [] ≡ []
+  unfolding front_of
+  front-nothing = refl
+
+  pub front-step : (text : List ℕ) (from at : ℕ) → from ≤ at → at < length text → test (get_or text at 0) ≡ true
+      → slice_range text from (at + 1) ++ front_of test (drop (at + 1) text) ≡ slice_range text from at ++ front_of test (drop at text)
+  front-step text from at low high h =
+      let b = get_or text at 0 in
+      rw (add-one)
+      (ap (λ t. t ++ front_of test (drop (suc at) text)) (slice-more text from at low high)
+      ∙ append_assoc (slice_range text from at) (b ∷ []) (front_of test (drop (suc at) text))
+      ∙ ap (λ t. slice_range text from at ++ t) (sym (front-pass b (drop (suc at) text) h))
+      ∙ ap (λ t. slice_range text from at ++ front_of test t) (sym (drop-cons text at 0 high)))
+
+  pub front-stop : (text : List ℕ) (from at : ℕ) → at < length text → test (get_or text at 0) ≡ false
+      → slice_range text from at ≡ slice_range text from at ++ front_of test (drop at text)
+  front-stop text from at high h =
+      sym (ap (λ t. slice_range text from at ++ front_of test t) (drop-cons text at 0 high)
+      ∙ ap (λ t. slice_range text from at ++ t) (front-fail (get_or text at 0) (drop (suc at) text) h) ∙ append-nil (slice_range text from at))
+
+  pub front-end : (text : List ℕ) (from at : ℕ) → length text ≤ at → slice_range text from at ≡ slice_range text from at ++ front_of test (drop at text)
+  front-end text from at past =
+      sym (ap (λ t. slice_range text from at ++ front_of test t) (drop_all at text past)
+      ∙ ap (λ t. slice_range text from at ++ t) front-nothing ∙ append-nil (slice_range text from at))
+
+  pub front-here : (text : List ℕ) (from : ℕ) → slice_range text from from ++ front_of test (drop from text) ≡ front_of test (drop from text)
+  front-here text from = ap (λ t. t ++ front_of test (drop from text)) (slice-none text from)
+
+  -- there are some where something is left off
+  pub front-some : (bs : List ℕ) → (length (skip test bs) ≡ length bs → ⊥) → is_empty (front_of test bs) ≡ false
+  unfolding skip front_of
+  front-some [] h = absurd (h refl)
+  front-some (b ∷ bs) h = go (test b) h
+    where
+      go : (c : Bool) → (length (elim c as (λ _. List ℕ) [ true ↦ skip test bs | false ↦ b ∷ bs ]) ≡ suc (length bs) → ⊥)
+          → is_empty (elim c as (λ _. List ℕ) [ true ↦ b ∷ front_of test bs | false ↦ [] ]) ≡ false
+      go true h = refl
+      go false h = absurd (h refl)
+
+  pub front-empty : (bs : List ℕ) → length (skip test bs) ≡ length bs → is_empty (front_of test bs) ≡ true
+  unfolding skip front_of
+  front-empty [] h = refl
+  front-empty (b ∷ bs) h = go (test b) h (skip_shorter test bs)
+    where
+      go : (c : Bool) → length (elim c as (λ _. List ℕ) [ true ↦ skip test bs | false ↦ b ∷ bs ]) ≡ suc (length bs) → length (skip test bs) ≤ length bs
+          → is_empty (elim c as (λ _. List ℕ) [ true ↦ b ∷ front_of test bs | false ↦ [] ]) ≡ true
+      go true h k = absurd (omega (arith, h, k))
+      go false h k = refl
+
+-- between `<` and `>`
+
+no-angle : (bs : List ℕ) → begins_with 60 bs ≡ false → in_angles bs ≡ None
+unfolding in_angles after_word
+no-angle [] h = refl
+no-angle (b ∷ bs) h = grind (arith, h)
+
+angle : (bs : List ℕ) → in_angles (60 ∷ bs) ≡ ended (front_of is_inside bs) (after_word (codes ">") (skip is_inside bs))
+unfolding in_angles after_word
+angle bs = refl
+
+no-end : (bs : List ℕ) → begins_with 62 bs ≡ false → after_word (codes ">") bs ≡ None
+unfolding after_word
+no-end [] h = refl
+no-end (b ∷ bs) h = grind (arith, h)
+
+end-here : (bs : List ℕ) → after_word (codes ">") (62 ∷ bs) ≡ Some bs
+unfolding after_word
+end-here bs = refl
+
+pub angles-not_next : (text : List ℕ) (at : ℕ) (next : Bool) → next ≡ begins_with 60 (drop at text) → next ≡ false → None ≡ in_angles (drop at text)
+angles-not_next text at next e h = sym (no-angle (drop at text) (sym e ∙ h))
+
+angles-at : (text : List ℕ) (at : ℕ) (next : Bool) → next ≡ begins_with 60 (drop at text) → next ≡ true
+    → in_angles (drop at text) ≡ ended (front_of is_inside (drop (at + 1) text)) (after_word (codes ">") (skip is_inside (drop (at + 1) text)))
+angles-at text at next e h = rw (add-one) (ap in_angles (begins-at 60 text at (sym e ∙ h)).1 ∙ angle (drop (suc at) text))
+
+pub angles-open : (text : List ℕ) (at end : ℕ) (next last : Bool) → next ≡ begins_with 60 (drop at text) → next ≡ true
+    → drop end text ≡ skip is_inside (drop (at + 1) text) → last ≡ begins_with 62 (drop end text) → last ≡ false → None ≡ in_angles (drop at text)
+angles-open text at end next last e h skipped f k =
+    sym (angles-at text at next e h ∙ ap (λ t. ended (front_of is_inside (drop (at + 1) text)) (after_word (codes ">") t)) (sym skipped)
+    ∙ ap (ended (front_of is_inside (drop (at + 1) text))) (no-end (drop end text) (sym f ∙ k)))
+
+pub angles-some : (text part : List ℕ) (at end : ℕ) (next last : Bool) → next ≡ begins_with 60 (drop at text) → next ≡ true
+    → drop end text ≡ skip is_inside (drop (at + 1) text) → slice_range text (at + 1) end ≡ front_of is_inside (drop (at + 1) text)
+    → last ≡ begins_with 62 (drop end text) → last ≡ true → part ≡ slice_range text (at + 1) end
+    → Some (record { text = part; rest = drop (end + 1) text }) ≡ in_angles (drop at text)
+angles-some text part at end next last e h skipped front f k same =
+    rw (add-one)
+    (ap (λ t. Some (record { text = t; rest = drop (suc end) text })) (same ∙ front)
+    ∙ sym (angles-at text at next e h ∙ ap (λ t. ended (front_of is_inside (drop (at + 1) text)) (after_word (codes ">") t)) (sym skipped ∙ (begins-at 62 text end (sym f ∙ k)).1)
+    ∙ ap (ended (front_of is_inside (drop (at + 1) text))) (end-here (drop (suc end) text))))
+
+-- a byte that comes next is ASCII
+pub next-ascii : (b : ℕ) (text : List ℕ) (at : ℕ) (next : Bool) → IsUtf8 text → b < 128 → next ≡ begins_with b (drop at text) → next ≡ true → IsCharBoundary text (at + 1)
+next-ascii b text at next utf8 ascii e h =
+    let here = begins-at b text at (sym e ∙ h) in
+    IsCharBoundary-after_ascii text at utf8 here.0 (omega (arith, ascii, here.2))
+
+-- an absolute URI
+
+scheme-of : (inside : List ℕ) (n : ℕ) → n ≤ length inside → is_scheme (take n inside) ≡ (is_letter (get_or inside 0 0) && within 2 32 n)
+unfolding is_scheme
+scheme-of inside zero h = last (is_letter (get_or inside 0 0))
+  where
+    last : (c : Bool) → false ≡ (c && false)
+    last true = refl
+    last false = refl
+scheme-of [] (suc n) h = absurd (omega (arith, h))
+scheme-of (b ∷ bs) (suc n) h =
+    let size : length (take n bs) ≡ n = length-take-le n bs (omega (arith, h)) in
+    let same : within 1 31 n ≡ within 2 32 (suc n) = grind (arith, nat_tests) in
+    ap (λ m. is_letter b && within 1 31 m) size ∙ ap (λ v. is_letter b && v) same
+
+module _ (inside : List ℕ) where
+  absolute-is : is_absolute inside ≡ (is_letter (get_or inside 0 0) && within 2 32 (length inside - length (skip continues_scheme inside)) && begins_with 58 (skip continues_scheme inside))
+  unfolding is_absolute
+  absolute-is =
+      ap (λ t. is_scheme t && begins_with 58 (skip continues_scheme inside)) (front-is continues_scheme inside)
+      ∙ ap (λ v. v && begins_with 58 (skip continues_scheme inside)) (scheme-of inside (length inside - length (skip continues_scheme inside)) (omega arith))
+
+  module _ (rest : List ℕ) (left : rest ≡ skip continues_scheme inside) where
+    absolute-at : is_absolute inside ≡ (is_letter (get_or inside 0 0) && within 2 32 (length inside - length rest) && begins_with 58 rest)
+    absolute-at = absolute-is ∙ ap (λ t. is_letter (get_or inside 0 0) && within 2 32 (length inside - length t) && begins_with 58 t) (sym left)
+
+    pub absolute-size : length rest ≤ length inside
+    absolute-size = omega (arith, ap length left, skip_shorter continues_scheme inside)
+
+    pub absolute-other : within 2 32 (length inside - length rest) ≡ false → false ≡ is_absolute inside
+    absolute-other h = sym (absolute-at ∙ grind (arith, h))
+
+    pub absolute-letter : within 2 32 (length inside - length rest) ≡ true → is_letter (get_or inside 0 0) ≡ true → begins_with 58 rest ≡ is_absolute inside
+    absolute-letter h k = sym (absolute-at ∙ grind (arith, h, k))
+
+    pub absolute-no_letter : is_letter (get_or inside 0 0) ≡ false → false ≡ is_absolute inside
+    absolute-no_letter k = sym (absolute-at ∙ grind (arith, k))
+
+-- an e-mail address
+
+all-labels : Option (List ℕ) → Bool
+all-labels o = elim o as (λ _. Bool) [ Some host ↦ list_all is_host_label (labels host) | None ↦ false ]
+
+module _ (inside rest : List ℕ) (left : rest ≡ skip stands_in_address inside) where
+  pub address-none : length rest ≡ length inside → false ≡ is_address inside
+  unfolding is_address
+  address-none h = grind (arith, front-empty stands_in_address inside (ap length (sym left) ∙ h))
+
+  module _ (some : length rest ≡ length inside → ⊥) where
+    address-at : is_address inside ≡ all-labels (after_word (codes "@") rest)
+    unfolding is_address all-labels
+    address-at =
+        let first = front-some stands_in_address inside (λ e. some (ap length left ∙ e)) in
+        ap (λ v. not v && all-labels (after_word (codes "@") (skip stands_in_address inside))) first ∙ ap (λ t. all-labels (after_word (codes "@") t)) (sym left)
+
+    pub address-end : rest ≡ [] → false ≡ is_address inside
+    unfolding all-labels after_word
+    address-end h = sym (address-at ∙ ap (λ t. all-labels (after_word (codes "@") t)) h)
+
+    pub address-other : (b : ℕ) (host : List ℕ) → rest ≡ b ∷ host → (b ≡ 64 → ⊥) → false ≡ is_address inside
+    unfolding all-labels after_word
+    address-other b host h other = sym (address-at ∙ ap (λ t. all-labels (after_word (codes "@") t)) h ∙ grind (arith, other))
+
+    pub address-host : (b : ℕ) (host : List ℕ) → rest ≡ b ∷ host → b ≡ 64 → list_all is_host_label (labels host) ≡ is_address inside
+    unfolding all-labels after_word
+    address-host b host h same = sym (address-at ∙ ap (λ t. all-labels (after_word (codes "@") t)) (h ∙ ap (λ c. c ∷ host) same))
+
+-- the labels of a host, one after another
+
+label-more : (b : ℕ) (bs : List ℕ) → (b == 46) ≡ false → labels (b ∷ bs) ≡ onto_first b (labels bs)
+unfolding labels
+label-more b bs h = ap (λ c. elim c as (λ _. List (List ℕ)) [ true ↦ [] ∷ labels bs | false ↦ onto_first b (labels bs) ]) h
+
+label-dot : (b : ℕ) (bs : List ℕ) → (b == 46) ≡ true → labels (b ∷ bs) ≡ [] ∷ labels bs
+unfolding labels
+label-dot b bs h = ap (λ c. elim c as (λ _. List (List ℕ)) [ true ↦ [] ∷ labels bs | false ↦ onto_first b (labels bs) ]) h
+
+labels-nothing : labels [] ≡ [] ∷ []
+unfolding labels
+labels-nothing = refl
+
+no-dot : (bs : List ℕ) → IsFirstByte (is_byte 46) bs None → labels bs ≡ bs ∷ []
+no-dot [] none = labels-nothing
+no-dot (b ∷ bs) none =
+    label-more b bs (is-false (b == 46) (none 0 (omega arith) (omega arith)))
+    ∙ ap (onto_first b) (no-dot bs (λ k low high. none (suc k) (omega arith) (omega (arith, high))))
+
+first-dot : (bs : List ℕ) (i : ℕ) → i < length bs → ((k : ℕ) → k < i → (get_or bs k 0 == 46) ≡ true → ⊥) → (get_or bs i 0 == 46) ≡ true → labels bs ≡ take i bs ∷ labels (drop (suc i) bs)
+first-dot [] i high none dot = absurd (omega (arith, high))
+first-dot (b ∷ bs) zero high none dot = label-dot b bs dot
+first-dot (b ∷ bs) (suc i) high none dot =
+    label-more b bs (is-false (b == 46) (none 0 (omega arith)))
+    ∙ ap (onto_first b) (first-dot bs i (omega (arith, high)) (λ k below. none (suc k) (omega (arith, below))) dot)
+
+pub last-label : (bs : List ℕ) → IsFirstByte (is_byte 46) bs None → is_host_label bs ≡ list_all is_host_label (labels bs)
+last-label bs none = grind (arith, no-dot bs none)
+
+module _ (bs : List ℕ) (i : ℕ) (first : IsFirstByte (is_byte 46) bs (Some i)) where
+  split : labels bs ≡ take i bs ∷ labels (drop (i + 1) bs)
+  split = rw (add-one) (first-dot bs i first.0.high (λ k below dot. first.0.before k (omega arith) below dot) first.1)
+
+  pub label-bad : is_host_label (take i bs) ≡ false → false ≡ list_all is_host_label (labels bs)
+  label-bad h = grind (arith, split, h)
+
+  pub label-good : is_host_label (take i bs) ≡ true → list_all is_host_label (labels (drop (i + 1) bs)) ≡ list_all is_host_label (labels bs)
+  label-good h = grind (arith, split, h)
+
+-- one label of a host
+
+last-byte : (c b : ℕ) (bs : List ℕ) → ends_with c (b ∷ bs) ≡ (get_or (b ∷ bs) (length bs) 0 == c)
+unfolding ends_with
+last-byte c b [] = refl
+last-byte c b (d ∷ ds) = last-byte c d ds
+
+ends-at : (c : ℕ) (bs : List ℕ) → 0 < length bs → ends_with c bs ≡ (get_or bs (length bs - 1) 0 == c)
+ends-at c [] some = absurd (omega (arith, some))
+ends-at c (b ∷ bs) some = let place : length (b ∷ bs) - 1 ≡ length bs = omega arith in last-byte c b bs ∙ ap (λ n. get_or (b ∷ bs) n 0 == c) (sym place)
+
+begins-first : (c : ℕ) (bs : List ℕ) → 0 < length bs → begins_with c bs ≡ (get_or bs 0 0 == c)
+begins-first c [] some = absurd (omega (arith, some))
+begins-first c (b ∷ bs) some = refl
+
+pub label-size : (label : List ℕ) → within 1 63 (length label) ≡ false → false ≡ is_host_label label
+unfolding is_host_label
+label-size label h = grind (arith, h)
+
+pub label-hyphen : (label : List ℕ) → 0 < length label → (get_or label 0 0 == 45 || get_or label (length label - 1) 0 == 45) ≡ true → false ≡ is_host_label label
+unfolding is_host_label
+label-hyphen label some h = grind (arith, h, begins-first 45 label some, ends-at 45 label some)
+
+pub label-bytes : (label : List ℕ) → 0 < length label → within 1 63 (length label) ≡ true → (get_or label 0 0 == 45) ≡ false → (get_or label (length label - 1) 0 == 45) ≡ false
+    → list_all is_host_byte label ≡ is_host_label label
+unfolding is_host_label
+label-bytes label some few first last = grind (arith, few, first, last, begins-first 45 label some, ends-at 45 label some)
+
+-- the autolink of what stands inside
+
+module _ (inside rest : List ℕ) where
+  pub link-uri : is_absolute inside ≡ true → Some (autolink_with false inside rest) ≡ as_autolink (record { text = inside; rest = rest })
+  unfolding as_autolink
+  link-uri h = grind (arith, h)
+
+  pub link-none : is_absolute inside ≡ false → is_address inside ≡ false → None ≡ as_autolink (record { text = inside; rest = rest })
+  unfolding as_autolink
+  link-none h k = grind (arith, h, k)
+
+  pub link-address : is_absolute inside ≡ false → is_address inside ≡ true → Some (autolink_with true inside rest) ≡ as_autolink (record { text = inside; rest = rest })
+  unfolding as_autolink
+  link-address h k = grind (arith, h, k)
+
+pub link-outside : (bs : List ℕ) → None ≡ in_angles bs → None ≡ autolink bs
+unfolding autolink
+link-outside bs h = ap (λ o. elim o as (λ _. Option Autolink) [ Some r ↦ as_autolink r | None ↦ None ]) h
+
+pub link-inside : (bs : List ℕ) (r : Reading) → Some r ≡ in_angles bs → as_autolink r ≡ autolink bs
+unfolding autolink
+link-inside bs r h = ap (λ o. elim o as (λ _. Option Autolink) [ Some r ↦ as_autolink r | None ↦ None ]) h

@@ -1,0 +1,10 @@
+pub mod ByteSums
+pub mod WordLemmas
+pub mod SkipLemmas
+pub mod TrimLemmas
+pub mod GapLemmas
+pub mod ToldApart
+pub mod EndsOfTexts
+pub mod FoundWords
+pub mod WordsGoOn
+pub mod ScannerAnswers

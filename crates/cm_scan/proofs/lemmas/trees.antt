@@ -1,0 +1,3 @@
+pub mod PartsRead
+pub mod InlinesRead
+pub mod TreesRead

@@ -1,0 +1,9 @@
+pub mod Links
+pub mod Delimiters
+pub mod Pairing
+pub mod OnePass
+pub mod Pieces
+pub mod Atoms
+pub mod Brackets
+pub mod Inlines
+pub mod Runs

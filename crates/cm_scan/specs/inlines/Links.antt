@@ -1,0 +1,164 @@
+-- Link labels, destinations, titles, and reference definitions (CommonMark 0.31.2, 6.3 Links, 4.7 Link reference definitions).
+-- A text is a leaf's source: its lines are parted by line feeds.
+use Rattle.std.specs.Prelude.{ℕ, zero, suc, ◌-◌, Bool, true, false, not, ◌&&◌, ◌||◌, List, [], ◌∷◌, length, Option, Some, None, ◌==◌, nat_le, if◌then◌else◌, count_by, codes}
+use Rattle.std.specs.List.{list_all}
+use Rattle.cm_text.specs.Characters.{within, is_ascii_punct}
+use Rattle.cm_scan.specs.Words.{is_control, is_empty, begins_with, trim_start, after_word, given, ◌<|>◌}
+use Rattle.cm_scan.specs.spans.Tags.{is_blank_byte, is_blank_next, after_gap}
+
+-- A part of a text, as it is written, and what is left behind it.
+pub record Reading : Type 0 where
+  pub text : List ℕ
+  pub rest : List ℕ
+
+-- a byte in front of what was read
+abbrev pub behind : ℕ → Option Reading → Option Reading
+behind b None = None
+behind b (Some r) = Some (record { text = b ∷ r.text; rest = r.rest })
+
+-- a reading that passes a test
+abbrev pub keep_if : (Reading → Bool) → Option Reading → Option Reading
+keep_if test None = None
+keep_if test (Some r) = given (test r) r
+
+-- the byte escapes what follows it (2.4 Backslash escapes)
+abbrev pub escapes_next : ℕ → List ℕ → Bool
+escapes_next b [] = false
+escapes_next b (c ∷ cs) = b == 92 && is_ascii_punct c
+
+-- Up to the first byte that closes, which is taken off; there is none where a forbidden byte stands before it. The mark says
+-- that the first byte is escaped: it neither closes nor is forbidden.
+unfoldable pub up_to_closing : (ℕ → Bool) → (ℕ → Bool) → (escaped : Bool) → List ℕ → Option Reading
+up_to_closing closes forbidden escaped [] = None
+up_to_closing closes forbidden true (b ∷ bs) = behind b (up_to_closing closes forbidden false bs)
+up_to_closing closes forbidden false (b ∷ bs) = elim (closes b) [
+  | true ↦ Some (record { text = []; rest = bs })
+  | false ↦ elim (forbidden b) [ true ↦ None | false ↦ behind b (up_to_closing closes forbidden (escapes_next b bs) bs) ]
+]
+
+-- how many characters a text has: each has one byte that continues none
+abbrev pub characters : List ℕ → ℕ
+characters text = count_by (λ b. not (within 128 191 b)) text
+
+-- at most 999 characters, of which one is no space, tab or line ending
+abbrev pub is_label : Reading → Bool
+is_label r = nat_le (characters r.text) 999 && not (list_all is_blank_byte r.text)
+
+-- A link label begins with a left bracket and ends with the first right bracket that is not backslash-escaped. Between these
+-- brackets there must be at least one character that is not a space, tab, or line ending. Unescaped square bracket characters are
+-- not allowed inside. A link label can have at most 999 characters.
+unfoldable pub label : List ℕ → Option Reading
+label [] = None
+label (b ∷ bs) = elim (b == 91) [
+  | true ↦ keep_if is_label (up_to_closing (λ c. c == 93) (λ c. c == 91) false bs)
+  | false ↦ None
+]
+
+-- how many parentheses are open behind a byte
+abbrev pub opened_by : ℕ → ℕ → ℕ
+opened_by opened b = if b == 40 then suc opened else (if b == 41 then opened - 1 else opened)
+
+-- Up to the first space, ASCII control character, or right parenthesis that no left one opened. There is none where one is still
+-- open then, or more than 32 are open at once. The mark says that the first byte is escaped.
+unfoldable pub bare_run : ℕ → (escaped : Bool) → List ℕ → Option Reading
+bare_run opened escaped [] = given (opened == 0) (record { text = []; rest = [] })
+bare_run opened true (b ∷ bs) = behind b (bare_run opened false bs)
+bare_run opened false (b ∷ bs) = elim (b == 32 || is_control b || (b == 41 && opened == 0)) [
+  | true ↦ given (opened == 0) (record { text = []; rest = b ∷ bs })
+  | false ↦ elim (b == 40 && opened == 32) [ true ↦ None | false ↦ behind b (bare_run (opened_by opened b) (escapes_next b bs) bs) ]
+]
+
+abbrev pub is_filled : Reading → Bool
+is_filled r = not (is_empty r.text)
+
+-- A link destination is zero or more characters between `<` and `>` without line endings or unescaped `<` or `>`; or a nonempty
+-- sequence of characters that does not start with `<`, does not include ASCII control characters or space character, and includes
+-- parentheses only if they are escaped or balanced.
+unfoldable pub destination : List ℕ → Option Reading
+destination [] = None
+destination (b ∷ bs) = elim (b == 60) [
+  | true ↦ up_to_closing (λ c. c == 62) (λ c. c == 60 || c == 10) false bs
+  | false ↦ keep_if is_filled (bare_run 0 false (b ∷ bs))
+]
+
+-- two line endings with nothing but spaces and tabs between
+unfoldable pub has_blank_line : List ℕ → Bool
+has_blank_line [] = false
+has_blank_line (b ∷ bs) = (b == 10 && begins_with 10 (trim_start bs)) || has_blank_line bs
+
+abbrev pub has_no_blank_line : Reading → Bool
+has_no_blank_line r = not (has_blank_line r.text)
+
+-- the title that a byte begins: between `"`, between `'`, or between `(` and `)`
+unfoldable pub title_in : ℕ → List ℕ → Option Reading
+title_in b text =
+    if b == 34 then up_to_closing (λ c. c == 34) (λ c. false) false text
+    else (if b == 39 then up_to_closing (λ c. c == 39) (λ c. false) false text
+    else (if b == 40 then up_to_closing (λ c. c == 41) (λ c. c == 40) false text
+    else None))
+
+-- Although link titles may span multiple lines, they may not contain a blank line.
+unfoldable pub title : List ℕ → Option Reading
+title [] = None
+title (b ∷ bs) = keep_if has_no_blank_line (title_in b bs)
+
+-- A link reference definition, each part as it is written, and what is left behind its last line.
+pub record LinkDefinition : Type 0 where
+  pub label : List ℕ
+  pub dest : List ℕ
+  pub title : List ℕ
+  pub rest : List ℕ
+
+abbrev pub at_line_end : List ℕ → Option (List ℕ)
+at_line_end [] = Some []
+at_line_end (b ∷ bs) = given (b == 10) bs
+
+-- behind the end of the line, where nothing but spaces and tabs stand before it
+unfoldable pub after_line : List ℕ → Option (List ℕ)
+after_line text = at_line_end (trim_start text)
+
+abbrev pub defined : List ℕ → List ℕ → List ℕ → Option (List ℕ) → Option LinkDefinition
+defined label dest title None = None
+defined label dest title (Some rest) = Some (record { label = label; dest = dest; title = title; rest = rest })
+
+-- behind a destination: a title, which spaces, tabs or a line ending part from it, and the end of its line
+unfoldable pub titled : List ℕ → List ℕ → List ℕ → Option LinkDefinition
+titled label dest text = elim (is_blank_next text) [
+  | true ↦ elim (title (after_gap text)) [ Some r ↦ defined label dest r.text (after_line r.rest) | None ↦ None ]
+  | false ↦ None
+]
+
+-- behind a destination: no title, and the end of its line
+unfoldable pub untitled : List ℕ → List ℕ → List ℕ → Option LinkDefinition
+untitled label dest text = defined label dest [] (after_line text)
+
+-- A link reference definition consists of a link label, followed by a colon, optional spaces or tabs (including up to one line
+-- ending), a link destination, optional spaces or tabs (including up to one line ending), and an optional link title, which if it
+-- is present must be separated from the link destination by spaces or tabs. No further character may occur.
+unfoldable pub link_definition : List ℕ → Option LinkDefinition
+link_definition text = elim (label text) [
+  | Some l ↦ elim (after_word (codes ":") l.rest) [
+    | Some behind_colon ↦ elim (destination (after_gap behind_colon)) [
+      | Some d ↦ titled l.text d.text d.rest <|> untitled l.text d.text d.rest
+      | None ↦ None
+    ]
+    | None ↦ None
+  ]
+  | None ↦ None
+]
+
+-- The definitions at the front of a text, one after another, and what is left of it.
+pub record Definitions : Type 0 where
+  pub taken : List LinkDefinition
+  pub left : List ℕ
+
+-- at most so many definitions: there are no more than bytes
+unfoldable pub definitions_within : ℕ → List ℕ → Definitions
+definitions_within zero text = record { taken = []; left = text }
+definitions_within (suc n) text = elim (link_definition text) [
+  | Some d ↦ let more = definitions_within n d.rest in record { taken = d ∷ more.taken; left = more.left }
+  | None ↦ record { taken = []; left = text }
+]
+
+unfoldable pub definitions_of : List ℕ → Definitions
+definitions_of text = definitions_within (length text) text

@@ -1,0 +1,66 @@
+-- Emphasis in one pass from the left, in which each run that may close looks for its nearest opener.
+use Rattle.std.specs.Prelude.{◌≡◌, ℕ, zero, suc, ◌-◌, true, false, List, [], ◌∷◌, ◌++◌, reverse, Some, None, codes, nat_le}
+use Rattle.cm_tree.specs.declared.tree.Inline.TheVariants.{Text, Emph, Strong}
+use Rattle.cm_scan.specs.inlines.Delimiters.{Run}
+use Rattle.cm_scan.specs.inlines.Pairing.{Item, Characters, Finished, Delimiters, Opened, nearest_opener, settled, used, emphasised, without, pair_all}
+
+-- The items up to the emphasis of a new pair: what stands before the opener, what is left of the opener, and the emphasis.
+abbrev pub up_to_pair : Opened → Run → List Item
+up_to_pair found closer =
+    let count = used found.opener closer in
+    found.before ++ without count found.opener ++ Finished (emphasised closer.character count (settled found.inside)) ∷ []
+
+-- what is left of the closer of a pair
+abbrev pub closer_left : Opened → Run → Run
+closer_left found closer = record closer { left = closer.left - used found.opener closer }
+
+-- What comes of the items before a run that may close, the last first, and of the run: it makes a pair with its nearest opener, and
+-- what is left of it, if anything is, goes on in the same way, for so many pairs at most. Where it has no opener it stays.
+unfoldable pub closed_within : ℕ → List Item → Run → List Item
+closed_within zero before closer = Delimiters closer ∷ before
+closed_within (suc n) before closer = elim (nearest_opener closer before []) [
+  | Some found ↦ elim (nat_le closer.left (used found.opener closer)) [
+    | true ↦ reverse (up_to_pair found closer)
+    | false ↦ closed_within n (reverse (up_to_pair found closer)) (closer_left found closer)
+  ]
+  | None ↦ Delimiters closer ∷ before
+]
+
+-- Each pair takes one or more of the run's characters, so this many are enough (a run with none left can make one pair).
+abbrev pub closed_by : List Item → Run → List Item
+closed_by before closer = closed_within (suc closer.left) before closer
+
+-- What comes of the items before an item, the last first, and of the item: only a run that may close makes pairs.
+abbrev pub passed : List Item → Item → List Item
+passed before (Delimiters run) = elim run.closes [ true ↦ closed_by before run | false ↦ Delimiters run ∷ before ]
+passed before item = item ∷ before
+
+-- The items that follow, one after another; those before them have the last first.
+unfoldable pub pass_from : List Item → List Item → List Item
+pass_from before [] = reverse before
+pass_from before (item ∷ after) = pass_from (passed before item) after
+
+-- One pass over the items from the left.
+abbrev pub one_pass : List Item → List Item
+one_pass items = pass_from [] items
+
+-- Repeated pairing comes to what one pass makes.
+abbrev pub PairsInOnePass : Type 0
+PairsInOnePass = (items : List Item) → pair_all items ≡ one_pass items
+
+-- stars, so many of them in a run, that may open or may close alone
+abbrev pub opening_stars : ℕ → Item
+opening_stars n = Delimiters (record { character = 42; whole = n; left = n; opens = true; closes = false })
+
+abbrev pub closing_stars : ℕ → Item
+closing_stars n = Delimiters (record { character = 42; whole = n; left = n; opens = false; closes = true })
+
+-- Worked examples of one pass: a closer that makes two pairs, and one that makes a pair and stays with what is left of it.
+pub record OnePassExamples : Type 0 where
+  pub two_pairs :
+      one_pass (opening_stars 1 ∷ Characters (codes "a") ∷ opening_stars 2 ∷ Characters (codes "b") ∷ closing_stars 3 ∷ Characters (codes "c") ∷ [])
+      ≡ Finished (Emph (Text (codes "a") ∷ Strong (Text (codes "b") ∷ []) ∷ [])) ∷ Characters (codes "c") ∷ []
+  pub one_star_left :
+      one_pass (opening_stars 2 ∷ Characters (codes "a") ∷ closing_stars 3 ∷ Characters (codes "b") ∷ [])
+      ≡ Finished (Strong (Text (codes "a") ∷ []))
+      ∷ Delimiters (record { character = 42; whole = 3; left = 1; opens = false; closes = true }) ∷ Characters (codes "b") ∷ []

@@ -1,0 +1,10 @@
+pub mod Laws
+pub mod BlockLaws
+pub mod InlineLaws
+pub mod SpanLaws
+pub mod RuleLaws
+pub mod Looseness
+pub mod WorkedExamples
+pub mod InlineExamples
+pub mod SpanExamples
+pub mod RuleExamples

@@ -1,0 +1,30 @@
+-- What trees hold by rules without raw HTML, and by rules that follow the web's addresses alone.
+use Rattle.std.specs.Prelude.{◌≡◌, ℕ, true, false, List}
+use Rattle.cm_text.specs.Rules.{Rules}
+use Rattle.cm_text.specs.Lines.{LineView}
+use Rattle.cm_tree.specs.RawHtml.{blocks_have_raw, inlines_have_raw}
+use Rattle.cm_tree.specs.Followed.{inlines_are_followed, blocks_are_followed}
+use Rattle.cm_scan.specs.blocks.Blocks.{blocks_of}
+use Rattle.cm_scan.specs.inlines.Brackets.{Defined}
+use Rattle.cm_scan.specs.inlines.Inlines.{inlines_of}
+use Rattle.cm_scan.specs.Documents.{tree_of}
+
+-- no line starts an HTML block
+abbrev pub NoHtmlBlock : Type 0
+NoHtmlBlock = (rules : Rules) → rules.raw_html ≡ false → (lines : List LineView) → blocks_have_raw (blocks_of rules lines) ≡ false
+
+-- no source has raw HTML
+abbrev pub NoRawHtml : Type 0
+NoRawHtml = (rules : Rules) → rules.raw_html ≡ false → (defined : Defined) (source : List ℕ) → inlines_have_raw (inlines_of rules defined source) ≡ false
+
+-- the tree of no text has either
+abbrev pub NoHtml : Type 0
+NoHtml = (rules : Rules) → rules.raw_html ≡ false → (bytes : List ℕ) → blocks_have_raw (tree_of rules bytes) ≡ false
+
+-- each link and image of a source leads to an address that the rules follow, whatever is defined
+abbrev pub InlinesFollowed : Type 0
+InlinesFollowed = (rules : Rules) (defined : Defined) (source : List ℕ) → inlines_are_followed rules (inlines_of rules defined source) ≡ true
+
+-- so does each in the tree of any text, and each info there is one that the rules leave as it is
+abbrev pub TreesFollowed : Type 0
+TreesFollowed = (rules : Rules) (bytes : List ℕ) → blocks_are_followed rules (tree_of rules bytes) ≡ true

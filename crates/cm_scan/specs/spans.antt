@@ -1,0 +1,5 @@
+pub mod Tags
+pub mod RawHtml
+pub mod Autolinks
+pub mod CodeSpans
+pub mod Angles

@@ -1,0 +1,10 @@
+pub mod BlocksBack
+pub mod ContentsBack
+pub mod DocumentsBack
+pub mod shared
+pub mod blocks
+pub mod sources
+pub mod inlines
+pub mod fitting
+pub mod refusals
+pub mod spelling

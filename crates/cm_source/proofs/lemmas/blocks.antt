@@ -1,0 +1,13 @@
+pub mod OutlineParts
+pub mod OutlineBack
+pub mod OutlineFits
+pub mod OutlineLines
+pub mod OutlineFaces
+pub mod CleanLines
+pub mod PlacesBack
+pub mod MarkersBack
+pub mod NumbersBack
+pub mod LeavesBack
+pub mod FencesBack
+pub mod HtmlBack
+pub mod SpellableBlocks

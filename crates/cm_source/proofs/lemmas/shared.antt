@@ -1,0 +1,10 @@
+pub mod InlineKinds
+pub mod BlockKinds
+pub mod InlineInduction
+pub mod BlockInduction
+pub mod ByteSpellings
+pub mod BytesOfSpellings
+pub mod AcceptedLemmas
+pub mod AllPass
+pub mod OneTag
+pub mod Computing
