@@ -12,5 +12,5 @@ pub mod OwnedCode
 pub mod OwnerRuns
 pub mod LeafViews
 pub mod Parser
-pub mod Below
+pub mod Prelude
 pub mod steps

@@ -1,7 +1,7 @@
 //! Leaf blocks that are closed, and how they are put into the level in which they stand.
 ghost use Rattle.std.specs.Prelude.{◌≡◌, ◌+◌, ◌<◌, ◌≤◌, ◌^◌, length, drop, IfOk, OnOk};
-ghost use Rattle.cm_block.specs.Below.{trim_end, definitions_of, leaf_block, definition, code};
-ghost use Rattle.cm_block.specs.Below.{line_feeds, line_count, definition_leaves, content_leaf};
+ghost use Rattle.cm_block.specs.Prelude.{trim_end, definitions_of, leaf_block, definition, code};
+ghost use Rattle.cm_block.specs.Prelude.{line_feeds, line_count, definition_leaves, content_leaf};
 ghost use Rattle.cm_block.specs.Level.{block_closes};
 ghost use Rattle.cm_block.specs.OpenLeaf.{run_leaves};
 ghost use Rattle.cm_block.specs.Stack.{close_leaves, own_leaf, own_leaves};

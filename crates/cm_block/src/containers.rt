@@ -1,6 +1,6 @@
 //! The quotes and items that a line begins.
 ghost use Rattle.std.specs.Prelude.{◌≡◌, ◌-◌, ◌≤◌, false, suc, length, IfOk, OnOk};
-ghost use Rattle.cm_block.specs.Below.{seen_view};
+ghost use Rattle.cm_block.specs.Prelude.{seen_view};
 ghost use Rattle.cm_block.specs.steps.LineTests.{Tested};
 ghost use Rattle.cm_block.specs.steps.FrameStarts.{Inside};
 

@@ -1,10 +1,10 @@
 //! A line that can only be read by calls that count. So a contract can say how often a line is read.
 ghost use Rattle.std.specs.Prelude.{◌≡◌, ◌+◌, ◌++◌, ◌∷◌, ◌&&◌, ℕ};
 ghost use Rattle.std.specs.Prelude.{List, suc, true, false, string_bytes, IfOk, IfSome, IfNone, OnOk};
-ghost use Rattle.cm_block.specs.Below.{strip_columns, seen_view, given, is_blank, with_ending};
-ghost use Rattle.cm_block.specs.Below.{is_html_end, kind_of, place_if_lazy, place_in_quote};
-ghost use Rattle.cm_block.specs.Below.{place_in_item, interrupts_paragraph, underline_of, goes_inward};
-ghost use Rattle.cm_block.specs.Below.{line_feeds, add_text, closes_fence, plain_lines_of};
+ghost use Rattle.cm_block.specs.Prelude.{strip_columns, seen_view, given, is_blank, with_ending};
+ghost use Rattle.cm_block.specs.Prelude.{is_html_end, kind_of, place_if_lazy, place_in_quote};
+ghost use Rattle.cm_block.specs.Prelude.{place_in_item, interrupts_paragraph, underline_of, goes_inward};
+ghost use Rattle.cm_block.specs.Prelude.{line_feeds, add_text, closes_fence, plain_lines_of};
 ghost use Rattle.cm_text.specs.Rules as all;
 ghost use Rattle.cm_block.specs.OpenLeaf.{stays_open, line_of_leaf, begins_leaf, begin_of_start};
 ghost use Rattle.cm_block.specs.LeafViews.{code_of};
@@ -83,7 +83,8 @@ pub(crate) enum Begins<'a> {
     Leaf(LeafStart<'a>),
 }
 
-/// How many items a line has gone into by itself, and whether the next container is an item in which it doesn't stay so.
+/// How many items a line has gone into by itself, and whether the next container is an item in which it doesn't
+/// stay so.
 #[derive(Clone, Copy, Debug)]
 pub(crate) struct EnteredItems {
     pub(crate) count: usize,
@@ -103,7 +104,7 @@ pub(crate) enum Look {
 
 impl<'a> CountedLine<'a> {
     ghost use Rattle.std.specs.Prelude.{◌<◌, ◌≤◌, Bool, drop, length};
-    ghost use Rattle.cm_block.specs.Below.{Raw};
+    ghost use Rattle.cm_block.specs.Prelude.{Raw};
     ghost use Rattle.cm_block.specs.steps.FrameSteps.{matching, behind, LeavesNext};
     ghost use Rattle.cm_block.specs.steps.FrameViews.{frames_in};
     ghost use Rattle.cm_block.specs.steps.LineTests.{ReadOnce};
@@ -198,13 +199,14 @@ impl<'a> CountedLine<'a> {
         true
     }
 
-    /// Goes into the items in front of these containers as far as the line stays there by itself. `bare` says that of
-    /// the last one there is only the marker, and then it goes into none. Each item is one reading, and so is the next
-    /// one if the line doesn't stay there (5.2 List items).
+    /// Goes into the items in front of these containers as far as the line stays there by itself. `bare` says
+    /// that of the last one there is only the marker, and then it goes into none. Each item is one reading, and so
+    /// is the next one if the line doesn't stay there (5.2 List items).
     #[inline(always)]
     pub(crate) fn enter_items(&mut self, frames: &[Frame], bare: bool) -> EnteredItems
         ensures through { (rules : all.Rules) (open_text : Bool) (raw : Raw) → behind result.count
-            (matching rules bare open_text (drop result.count (frames_in raw frames.now)) (seen_view self.new.rest))
+            (matching rules bare open_text (drop result.count (frames_in raw frames.now))
+            (seen_view self.new.rest))
             ≡ matching rules bare open_text (frames_in raw frames.now) (seen_view self.old.rest) }
         ensures within { result.count ≤ length frames.now }
         ensures more { result.leaves ≡ true → result.count < length frames.now }

@@ -1,6 +1,6 @@
 //! Infos of code blocks.
 ghost use Rattle.std.specs.Prelude.{◌≡◌, ◌∷◌, [], string_bytes, IfOk};
-ghost use Rattle.cm_block.specs.Below.{is_line_space, as_space, info_of};
+ghost use Rattle.cm_block.specs.Prelude.{is_line_space, as_space, info_of};
 
 use cm_text::{ByteKind, NoMemory, Replaced, Rules, push_replaced, unescape};
 use std::alloc::{AllocError, Global};

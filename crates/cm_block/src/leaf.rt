@@ -1,6 +1,6 @@
 //! The leaf block that is open, and what one more line does to it (chapter 4).
 ghost use Rattle.std.specs.Prelude.{◌≡◌, ℕ, ◌+◌, ◌≤◌, ◌&&◌, List, Some, true, IfOk, OnOk};
-ghost use Rattle.cm_block.specs.Below.{plain_lines_of, seen_view, is_blank, ends_at_blank_line, kind_of};
+ghost use Rattle.cm_block.specs.Prelude.{plain_lines_of, seen_view, is_blank, ends_at_blank_line, kind_of};
 ghost use Rattle.cm_block.specs.OpenLeaf.{open_text, closed_leaves, blank_lines_behind};
 ghost use Rattle.cm_block.specs.OpenLeaf.{is_open_text, line_of_leaf};
 ghost use Rattle.cm_block.specs.steps.TextRuns.{add_lines};

@@ -1,6 +1,6 @@
 //! A leaf block that is put into a level, with its texts lent.
 ghost use Rattle.std.specs.Prelude.{◌≡◌, IfOk};
-ghost use Rattle.cm_block.specs.Below.{Grows, block_in, IsPlaced};
+ghost use Rattle.cm_block.specs.Prelude.{Grows, block_in, IsPlaced};
 ghost use Rattle.cm_block.specs.steps.LeafBlocks.{block_of};
 
 use cm_tree::{RawBlock, RawBlocks};

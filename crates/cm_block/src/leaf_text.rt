@@ -1,6 +1,6 @@
 //! The text of a leaf block, of which the line feeds are counted while it grows.
 ghost use Rattle.std.specs.Prelude.{◌≡◌, ◌++◌, [], ◌∷◌, true, OnOk};
-ghost use Rattle.cm_block.specs.Below.{is_line, plain_lines_of, line_feeds};
+ghost use Rattle.cm_block.specs.Prelude.{is_line, plain_lines_of, line_feeds};
 ghost use Rattle.cm_block.specs.steps.TextRuns.{add_lines, with_line};
 
 use cm_text::TextLines;
@@ -16,7 +16,7 @@ pub(crate) struct LeafText {
 
 impl Model for LeafText {
     ghost use Rattle.std.specs.Prelude.{◌≡◌, ℕ, List, string_bytes};
-    ghost use Rattle.cm_block.specs.Below.{line_feeds};
+    ghost use Rattle.cm_block.specs.Prelude.{line_feeds};
 
     ghost Value = { List ℕ };
 

@@ -1,7 +1,7 @@
 //! An outline as values of the tree: its blocks, and the owners of its lines.
 ghost use Rattle.std.specs.Prelude.{◌≡◌, ◌++◌, length, IfOk, OnOk};
 ghost use Rattle.std.specs.List.{slice_range};
-ghost use Rattle.cm_block.specs.Below.{raw_inlines, block_in, IsPlaced, IsRange};
+ghost use Rattle.cm_block.specs.Prelude.{raw_inlines, block_in, IsPlaced, IsRange};
 
 use crate::parser::Outline;
 use cm_text::NoMemory;

@@ -1,7 +1,7 @@
 //! The block structure of a document, line by line.
 ghost use Rattle.std.specs.Prelude.{◌≡◌, ◌≢◌, ◌+◌, ◌-◌, ◌<◌, ◌≤◌, ◌∷◌, ◌++◌, []};
 ghost use Rattle.std.specs.Prelude.{List, None, true, false, length, suc, Some, Err, IfOk, IfErr, OnOk};
-ghost use Rattle.cm_block.specs.Below.{answer_after, LineView, plain_lines_of, seen_line, seen_view};
+ghost use Rattle.cm_block.specs.Prelude.{answer_after, LineView, plain_lines_of, seen_line, seen_view};
 ghost use Rattle.cm_block.specs.declared.fault.BlockFault as faults;
 ghost use Rattle.cm_block.specs.declared.fault.BlockFault.TheVariants as block_faults;
 ghost use Rattle.cm_block.specs.OpenLeaf.{no_leaf};

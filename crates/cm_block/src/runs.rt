@@ -1,7 +1,7 @@
 //! Runs of text: lines that may become definitions, a paragraph or a heading. The definitions stand at the
 //! front of a run's source.
 ghost use Rattle.std.specs.Prelude.{◌≡◌, ◌+◌, ◌<◌, ◌≤◌, ◌^◌, not, true, IfSome, IfNone};
-ghost use Rattle.cm_block.specs.Below.{seen_view, is_empty, definitions_of, line_feeds, rest_of, next_line};
+ghost use Rattle.cm_block.specs.Prelude.{seen_view, is_empty, definitions_of, line_feeds, rest_of, next_line};
 ghost use Rattle.cm_block.specs.declared.runs.NextLine.TheVariants.{Ends};
 ghost use Rattle.cm_block.specs.steps.LineTests.{Tested, ReadOnce};
 ghost use Rattle.cm_block.specs.steps.LeafSteps.{next_of, heading_level};

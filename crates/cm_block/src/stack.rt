@@ -2,7 +2,7 @@
 ghost use Rattle.std.specs.Prelude.{◌≡◌, ◌<◌, ◌≤◌, ◌∷◌, ◌++◌, ◌+◌, ◌&&◌, []};
 ghost use Rattle.std.specs.Prelude.{true, false, suc, List, length, take, drop, None, OnOk, IfOk};
 ghost use Rattle.cm_text.specs.Rules as all;
-ghost use Rattle.cm_block.specs.Below.{seen_view, given, place_if_lazy, Raw};
+ghost use Rattle.cm_block.specs.Prelude.{seen_view, given, place_if_lazy, Raw};
 ghost use Rattle.cm_block.specs.steps.LineTests.{Tested};
 ghost use Rattle.cm_block.specs.Level.{empty_level, block_opens, block_closes};
 ghost use Rattle.cm_block.specs.Level.{closed_blocks, item_opens, push_blank};

@@ -1,7 +1,7 @@
 //! Calls that copy what is left of a line to the end of a text.
 ghost use Rattle.std.specs.Prelude.{◌≡◌, ◌++◌, ◌∷◌, suc, false, string_bytes, IfOk, OnOk};
 ghost use Rattle.cm_text.specs.Rules as all;
-ghost use Rattle.cm_block.specs.Below.{seen_view, given, with_ending, line_feeds, add_text};
+ghost use Rattle.cm_block.specs.Prelude.{seen_view, given, with_ending, line_feeds, add_text};
 ghost use Rattle.cm_block.specs.OpenLeaf.{stays_open, line_of_leaf};
 ghost use Rattle.cm_block.specs.LeafViews.{code_of};
 

@@ -1,6 +1,6 @@
 //! Whether a line ends the open leaf.
 ghost use Rattle.std.specs.Prelude.{◌≡◌, ℕ, List};
-ghost use Rattle.cm_block.specs.Below.{seen_view, closes_fence, is_html_end, kind_of};
+ghost use Rattle.cm_block.specs.Prelude.{seen_view, closes_fence, is_html_end, kind_of};
 
 use crate::counted_line::starts::content;
 use cm_scan::{FenceKind, HtmlKind, fence_end, html_end};

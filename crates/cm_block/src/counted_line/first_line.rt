@@ -1,6 +1,6 @@
 //! What the first line of a leaf block makes: a leaf that further lines may go on with, or a whole one.
 ghost use Rattle.std.specs.Prelude.{◌≡◌, [], string_bytes, IfOk, IfSome, IfNone, true};
-ghost use Rattle.cm_block.specs.Below.{LineView, seen_view, kind_of, is_html_end, content_of};
+ghost use Rattle.cm_block.specs.Prelude.{LineView, seen_view, kind_of, is_html_end, content_of};
 ghost use Rattle.cm_text.specs.Rules as all;
 ghost use Rattle.cm_block.specs.declared.counted_line.starts.Start.TheVariants.{Atx, Fence};
 ghost use Rattle.cm_scan.specs.blocks.Starts as starts;

@@ -1,7 +1,7 @@
 //! What can interrupt a paragraph, and what underlines it.
 ghost use Rattle.std.specs.Prelude.{◌≡◌, suc, drop};
-ghost use Rattle.cm_block.specs.Below.{LineView, seen_view, is_blank_text, starts_at_one};
-ghost use Rattle.cm_block.specs.Below.{can_interrupt, interrupts_paragraph, underline_of};
+ghost use Rattle.cm_block.specs.Prelude.{LineView, seen_view, is_blank_text, starts_at_one};
+ghost use Rattle.cm_block.specs.Prelude.{can_interrupt, interrupts_paragraph, underline_of};
 ghost use Rattle.cm_block.specs.steps.StartViews.{seen};
 ghost use Rattle.cm_block.specs.declared.counted_line.starts.Start.TheVariants.{Html, Item};
 

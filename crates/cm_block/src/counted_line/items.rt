@@ -2,7 +2,7 @@
 ghost use Rattle.std.specs.Prelude.{◌≡◌, ◌<◌, ◌≤◌, Bool, true, false, drop, length, IfSome, MatchOption};
 ghost use Rattle.cm_text.specs.Rules as all;
 ghost use Rattle.cm_scan.specs.blocks.Starts.{Stays};
-ghost use Rattle.cm_block.specs.Below.{Raw, seen_view, strip_columns, place_if_lazy, place_in_item};
+ghost use Rattle.cm_block.specs.Prelude.{Raw, seen_view, strip_columns, place_if_lazy, place_in_item};
 ghost use Rattle.cm_block.specs.steps.FrameSteps.{matching, behind, LeavesNext};
 ghost use Rattle.cm_block.specs.steps.FrameViews.{frames_in};
 ghost use Rattle.cm_block.specs.steps.PlaceViews.{begins_plain};
@@ -63,8 +63,8 @@ fn begins_plain(text: &str) -> bool
     }
 }
 
-/// The line as it goes into an open item whose content begins at a column, if it stays there by itself. There is
-/// more of the item than its marker (5.2 List items).
+/// The line as it goes into an open item whose content begins at a column, if it stays there by itself. There
+/// is more of the item than its marker (5.2 List items).
 #[inline(always)]
 fn inside_item<'a>(line: &View<'a>, column: usize) -> Option<View<'a>>
     requires { line.now.lazy ≡ false }
@@ -89,13 +89,14 @@ fn inside_item<'a>(line: &View<'a>, column: usize) -> Option<View<'a>>
     Some(inner)
 }
 
-/// How far a line goes into the items in front of these containers by itself. There is more of each item than its
-/// marker.
+/// How far a line goes into the items in front of these containers by itself. There is more of each item than
+/// its marker.
 #[inline(always)]
 pub(crate) fn inside_items<'a>(line: View<'a>, frames: &[Frame]) -> InItems<'a>
     requires { line.lazy ≡ false }
     ensures through { (rules : all.Rules) (open_text : Bool) (raw : Raw) → behind result.count
-        (matching rules false open_text (drop result.count (frames_in raw frames.now)) (seen_view result.inner))
+        (matching rules false open_text (drop result.count (frames_in raw frames.now))
+        (seen_view result.inner))
         ≡ matching rules false open_text (frames_in raw frames.now) (seen_view line.entry) }
     ensures within { result.count ≤ length frames.now }
     ensures more { result.leaves ≡ true → result.count < length frames.now }

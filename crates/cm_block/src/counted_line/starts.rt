@@ -1,9 +1,9 @@
 //! What a line begins: a quote, an item, or a leaf block (CommonMark 0.31.2, chapters 4 and 5).
 ghost use Rattle.std.specs.Prelude.{◌≡◌, ◌==◌, ◌&&◌, false, true};
-ghost use Rattle.cm_block.specs.Below.{is_line, seen_view, is_at_letter, content_of, given};
-ghost use Rattle.cm_block.specs.Below.{◌<|>◌, is_thematic_break, atx_heading, opening_fence};
-ghost use Rattle.cm_block.specs.Below.{item_marker, html_start, HtmlStart, BreakLine};
-ghost use Rattle.cm_block.specs.Below.{ItemStart, seen_as, or_text, start_of_content, start_of};
+ghost use Rattle.cm_block.specs.Prelude.{is_line, seen_view, is_at_letter, content_of, given};
+ghost use Rattle.cm_block.specs.Prelude.{◌<|>◌, is_thematic_break, atx_heading, opening_fence};
+ghost use Rattle.cm_block.specs.Prelude.{item_marker, html_start, HtmlStart, BreakLine};
+ghost use Rattle.cm_block.specs.Prelude.{ItemStart, seen_as, or_text, start_of_content, start_of};
 ghost use Rattle.cm_scan.specs.blocks.Starts as forms;
 ghost use Rattle.cm_block.specs.steps.StartViews.{seen, begins_break, begins_fence};
 

@@ -1,6 +1,6 @@
 use Rattle.std.proofs.Common.{◌≡◌, Bool, false, drop}
 use Rattle.cm_text.specs.Rules as all
-use Rattle.cm_block.specs.Below.{Raw, seen_view}
+use Rattle.cm_block.specs.Prelude.{Raw, seen_view}
 use Rattle.cm_block.specs.steps.FrameSteps.{matching, behind}
 use Rattle.cm_block.specs.steps.FrameViews.{frames_in}
 use Rattle.cm_block.proofs.counted_line.items.inside_items.Given as goal
