@@ -1,6 +1,7 @@
 //! One level of the stack: what stands closed in the document, in a quote or in an item.
 ghost use Rattle.std.specs.Prelude.{◌≡◌, [], OnOk, IfOk};
-ghost use Rattle.cm_block.specs.Prelude.{Raw, Grows, block_in, blocks_in, item_in, IsPlaced, ArePlaced, IsItem};
+ghost use Rattle.cm_block.specs.Prelude.{Raw, Grows, block_in, blocks_in, item_in};
+ghost use Rattle.cm_block.specs.Prelude.{IsPlaced, ArePlaced, IsItem};
 ghost use Rattle.cm_block.specs.Level.{empty_level, closed_blocks, push_blank, block_opens};
 ghost use Rattle.cm_block.specs.Level.{list_opens, item_opens, block_closes, item_closes};
 ghost use Rattle.cm_block.specs.steps.LevelViews.{level_in, IsLevelPlaced};

@@ -2,7 +2,8 @@
 ghost use Rattle.std.specs.Prelude.{◌≡◌, ◌≤◌, ◌&&◌, ◌||◌};
 ghost use Rattle.std.specs.Prelude.{drop, length, nat_le, true, false, option_map, IfSome, MatchOption};
 ghost use Rattle.cm_block.specs.Prelude.{indent_of, strip_columns, seen_view, is_blank, QuoteMarker};
-ghost use Rattle.cm_block.specs.Prelude.{ItemStart, start_of, may_be_lazy, place_if_lazy, behind_quote_marker};
+ghost use Rattle.cm_block.specs.Prelude.{ItemStart, start_of, may_be_lazy};
+ghost use Rattle.cm_block.specs.Prelude.{place_if_lazy, behind_quote_marker};
 ghost use Rattle.cm_block.specs.Prelude.{place_in_quote, content_offset, content_column, first_content};
 ghost use Rattle.cm_block.specs.Prelude.{behind_marker, place_in_item, goes_inward, given, run_length};
 ghost use Rattle.cm_text.specs.Rules as all;
