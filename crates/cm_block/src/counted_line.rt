@@ -200,8 +200,8 @@ impl<'a> CountedLine<'a> {
     }
 
     /// Goes into the items in front of these containers as far as the line stays there by itself. `bare` says
-    /// that of the last one there is only the marker, and then it goes into none. Each item is one reading, and
-    /// so is the next one if the line doesn't stay there (5.2 List items).
+    /// that of the last one there is only the marker, and then it goes into none. Each item is one reading,
+    /// and so is the next one if the line doesn't stay there (5.2 List items).
     #[inline(always)]
     pub(crate) fn enter_items(&mut self, frames: &[Frame], bare: bool) -> EnteredItems
         ensures through { (rules : all.Rules) (open_text : Bool) (raw : Raw) → behind result.count
