@@ -105,6 +105,16 @@ module _ (rules : Rules) (column : ℕ) (bare : Bool) (line : LineView) where
   pub in_item_ends : line.lazy ≡ false → (bare && is_blank line) ≡ true → place_in_item rules column bare line ≡ place_if_lazy rules line
   in_item_ends e both = in_item_leaves e both ∙ lazy_blank rules line (and_parts bare (is_blank line) both).1
 
+  -- there is more of it than its marker, or the line isn't blank
+  pub in_item_with_more : line.lazy ≡ false → (bare && is_blank line) ≡ false → place_in_item rules column bare line ≡ place_in_item rules column false line
+  unfolding place_in_item
+  in_item_with_more e more = go bare (is_blank line) refl refl more
+    where
+      go : (b k : Bool) → bare ≡ b → is_blank line ≡ k → (b && k) ≡ false → place_in_item rules column bare line ≡ place_in_item rules column false line
+      go true true is blank more = absurd (cc more)
+      go true false is blank more = grind (arith, e, is, blank)
+      go false k is blank more = grind (arith, is)
+
   pub in_item_stays : line.lazy ≡ false → (bare && is_blank line) ≡ false → (nat_le column (indent_of line) || is_blank line) ≡ true
       → place_in_item rules column bare line ≡ Stays (strip_columns column line)
   in_item_stays e more either = go bare (is_blank line) (nat_le column (indent_of line)) refl refl refl more either

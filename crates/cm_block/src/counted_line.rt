@@ -33,11 +33,8 @@ use ends::{closes_fence, ends_html};
 pub(crate) use first_line::FirstLine;
 use first_line::begin_leaf;
 use interruptions::{interrupts_paragraph, underline_of};
-use items::{InItems, begin_with_item, inside_items};
-use places::{
-    ends_bare_item, if_lazy, is_blank, item_content, quote_content, reaches_or_is_blank,
-    with_columns,
-};
+use items::{InItems, begin_with_item, inside_item, inside_items};
+use places::{ends_bare_item, if_lazy, is_blank, item_content, quote_content, with_columns};
 use starts::{Start, begins_with_letter, start_of};
 use std::alloc::{AllocError, Global};
 
@@ -191,10 +188,9 @@ impl<'a> CountedLine<'a> {
         if ends_bare_item(bare, &view) {
             return false;
         }
-        let inner = view.strip(column);
-        if !reaches_or_is_blank(&view, &inner, column) {
+        let Some(inner) = inside_item(&view, column) else {
             return false;
-        }
+        };
         self.enter(inner);
         true
     }

@@ -66,7 +66,7 @@ fn begins_plain(text: &str) -> bool
 /// The line as it goes into an open item whose content begins at a column, if it stays there by itself. There
 /// is more of the item than its marker (5.2 List items).
 #[inline(always)]
-fn inside_item<'a>(line: &View<'a>, column: usize) -> Option<View<'a>>
+pub(crate) fn inside_item<'a>(line: &View<'a>, column: usize) -> Option<View<'a>>
     requires { line.now.lazy ≡ false }
     ensures place { (by : all.Rules) → MatchOption result
         (place_in_item by column false (seen_view line.now) ≡ place_if_lazy by (seen_view line.now))
