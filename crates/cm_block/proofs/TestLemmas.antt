@@ -17,9 +17,9 @@ pub tested_within : (a b c d x y : ℕ) → c ≤ a → b ≤ d → Tested a b x
 tested_within a b c d x y fewer more h = (λ below. let g = h.0 below in omega (arith, fewer, g), omega (arith, more, h.1))
 
 -- one for each of some containers and the next, and one where the line may be lazy
-pub next_and_lazily : (count len x y z : ℕ) → count < len → Tested 0 (suc count) x y → Tested 1 1 y z → Tested 0 (suc len) x z
+pub next_and_lazily : (count len x y z : ℕ) → count < len → Tested (suc count) (suc count) x y → Tested 1 1 y z → Tested 0 (suc len) x z
 next_and_lazily count len x y z more before one =
-    tested_within (0 + 1) (suc count + 1) 0 (suc len) x z (omega arith) (omega (arith, more)) (tested_then 0 (suc count) 1 1 x y z before one)
+    tested_within (suc count + 1) (suc count + 1) 0 (suc len) x z (omega arith) (omega (arith, more)) (tested_then (suc count) (suc count) 1 1 x y z before one)
 
 -- containers that are opened one by one, each by one reading
 

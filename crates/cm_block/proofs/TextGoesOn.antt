@@ -1,5 +1,5 @@
 -- A line of text goes on with the open run of text, through every level.
-use Rattle.std.proofs.Common.{◌≡◌, ℕ, ◌==◌, Bool, true, false, ◌&&◌, not, List, [], ◌∷◌, ◌++◌, refl, ◌∙◌, sym, ap, ap₂, subst, arith, Option, Some, None}
+use Rattle.std.proofs.Common.{◌≡◌, ℕ, Bool, true, false, ◌&&◌, not, List, [], ◌∷◌, ◌++◌, refl, ◌∙◌, sym, ap, ap₂, subst, arith, Option, Some, None}
 use Rattle.std.specs.Prelude.{nat_le}
 use Rattle.std.proofs.lemmas.Bool.Decides.{nat_tests}
 use Rattle.cm_text.specs.Rules.{Rules}
@@ -10,16 +10,16 @@ use Rattle.cm_text.proofs.StripLemmas.{strip_takes_columns}
 use Rattle.cm_scan.specs.Words.{is_digit, is_space_or_tab, is_blank_text, trim_start, skip}
 use Rattle.cm_scan.specs.blocks.Lines.{is_blank, content_of, as_lazy}
 use Rattle.cm_scan.specs.blocks.LineForms.{underline}
-use Rattle.cm_scan.specs.blocks.Starts.{Start, IndentedCode, QuoteMarker, TextLine, start_of_content, start_of, start_by, may_be_lazy, can_interrupt, interrupts_paragraph, underline_of, underline_if, Place, Stays, StaysIfOpen, Leaves, place_if_lazy, quote_place, place_in_quote, item_place, place_in_item}
-use Rattle.cm_scan.specs.blocks.Blocks.{add_text, NextLine, GoesOn, Ends, by_underline, next_line}
+use Rattle.cm_scan.specs.blocks.Starts.{Start, TextLine, start_of_content, start_of, start_by, may_be_lazy, can_interrupt, interrupts_paragraph, underline_of, underline_if, Place, StaysIfOpen, place_if_lazy, quote_place, place_in_quote, item_place, place_in_item}
+use Rattle.cm_scan.specs.blocks.Blocks.{add_text, GoesOn, next_line}
 use Rattle.cm_scan.specs.laws.Laws.{goes_inward}
 use Rattle.cm_scan.proofs.lemmas.texts.ToldApart.{differs, none-passes}
 use Rattle.cm_scan.proofs.lemmas.blocks.QuietStarts.{starters, is_quiet, unmarked-start, no-number, no-level}
-use Rattle.cm_block.specs.OpenLeaf.{OpenLeaf, no_leaf, open_text, open_code, open_fence, open_html, line_of_text, line_of_leaf}
+use Rattle.cm_block.specs.OpenLeaf.{no_leaf, open_text, open_code, open_fence, open_html, line_of_text, line_of_leaf}
 use Rattle.cm_block.specs.Machine.{Open, in_leaf, in_quote, in_item, has_open_text}
 use Rattle.cm_block.specs.Level.{Level}
 use Rattle.cm_block.specs.Stack.{Owned, Stack, stack, push_after, push_to_leaf, push_in}
-use Rattle.cm_block.specs.Lazy.{more_text, with_text, TextGoesOn}
+use Rattle.cm_block.specs.Lazy.{with_text, TextGoesOn}
 use Rattle.cm_block.proofs.StartLemmas.{content-after}
 use Rattle.cm_block.proofs.Lazy.{lazy_line}
 

@@ -1,5 +1,5 @@
 -- A parser in which a run of text is open, behind lines of text.
-use Rattle.std.proofs.Common.{◌≡◌, ℕ, zero, suc, ◌+◌, ◌-◌, ◌*◌, ◌^◌, min, ◌<◌, ◌≤◌, Bool, true, false, ◌&&◌, List, [], ◌∷◌, ◌++◌, length, map, refl, ◌∙◌, sym, ap, ap₂, subst, arith, append_assoc}
+use Rattle.std.proofs.Common.{◌≡◌, ℕ, ◌+◌, ◌-◌, ◌*◌, ◌^◌, min, ◌<◌, ◌≤◌, Bool, true, false, ◌&&◌, List, [], ◌∷◌, ◌++◌, length, map, refl, ◌∙◌, sym, ap, ap₂, subst, arith, append_assoc}
 use Rattle.std.specs.List.{list_all}
 use Rattle.std.proofs.lemmas.Bool.{and_parts}
 use Rattle.cm_text.specs.Rules.{Rules}
@@ -13,9 +13,8 @@ use Rattle.cm_block.specs.OpenLeaf.{OpenLeaf, no_leaf, open_text, open_code, ope
 use Rattle.cm_block.specs.Machine.{Open}
 use Rattle.cm_block.specs.Level.{Level}
 use Rattle.cm_block.specs.Lazy.{with_text}
-use Rattle.cm_block.specs.Stack.{Owned, Stack, stack, push_line, push_leaf_line}
+use Rattle.cm_block.specs.Stack.{Owned, stack, push_line}
 use Rattle.cm_block.specs.Frames.{Container, a_quote, an_item, Frame, opened, is_last, nest, stack_with}
-use Rattle.cm_block.specs.steps.FrameSteps.{within}
 use Rattle.cm_block.specs.steps.LineTests.{Tested}
 use Rattle.cm_block.specs.steps.TextRuns.{add_lines}
 use Rattle.cm_block.specs.declared.leaf.OpenLeaf.TheVariants.{Run}

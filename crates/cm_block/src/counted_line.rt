@@ -209,8 +209,10 @@ impl<'a> CountedLine<'a> {
         ensures leaves { result.leaves ≡ true → (raw : Raw) →
             LeavesNext (frames_in raw frames.now) result.count (seen_view self.new.rest) }
         ensures all { result.leaves ≡ true → bare ≡ false }
-        ensures tests { result.leaves ≡ false → Tested 0 result.count self.old.tests self.new.tests }
-        ensures next { result.leaves ≡ true → Tested 0 (suc result.count) self.old.tests self.new.tests }
+        ensures tests { result.leaves ≡ false →
+            Tested result.count result.count self.old.tests self.new.tests }
+        ensures next { result.leaves ≡ true →
+            Tested (suc result.count) (suc result.count) self.old.tests self.new.tests }
     {
         if bare || self.rest.lazy || !begin_with_item(frames) {
             return EnteredItems {

@@ -1,4 +1,4 @@
-use Rattle.std.proofs.Common.{◌≡◌, ◌∙◌, ◌*◌, ◌<◌, length, refl, sym, ap, arith}
+use Rattle.std.proofs.Common.{◌∙◌, refl, ap, arith}
 use Rattle.std.proofs.lemmas.Bool.{and_parts}
 use Rattle.cm_text.specs.Lines.{lines_of, plain_lines_of}
 use Rattle.cm_text.specs.declared.text_lines.TextLines.{TextLines}
