@@ -232,8 +232,8 @@ impl<'a> CountedLine<'a> {
     }
 
     /// Whether the line goes on a paragraph without the markers of its containers, as which it is then
-    /// marked:
-    /// `open_text` says that the lines so far leave a paragraph open (5.1 Block quotes, 5.2 List items).
+    /// marked: `open_text` says that the lines so far leave a paragraph open (5.1 Block quotes, 5.2 List
+    /// items).
     pub(crate) fn goes_on_lazily(&mut self, rules: Rules, open_text: bool) -> bool
         ensures line { given result (seen_view self.new.rest)
             ≡ goes_inward (place_if_lazy rules (seen_view self.old.rest)) open_text }

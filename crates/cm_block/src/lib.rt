@@ -2,8 +2,7 @@
 //! each line and the definitions, and reads no inlines.
 //!
 //! Begin with [`BlockParser`]: give it each line, and `finish` it. What an [`Outline`] has as values of the
-//! tree it gives by
-//! `to_blocks` and `to_owners`. The crates above use its fields.
+//! tree it gives by `to_blocks` and `to_owners`. The crates above use its fields.
 //!
 //! ```
 //! use cm_block::{BlockFault, BlockParser};

@@ -113,11 +113,9 @@ impl PlainSourceWalk {
     }
 }
 
-/// The source of the blocks with the inlines of their leaves and without their definitions, or why they
-/// can't be spelled. The inlines of
-/// one block are let go of before those of the next one are read. All leaves are read, also behind a block
-/// that can't be spelled, since
-/// one that is too deep goes before it.
+/// The source of the blocks with the inlines of their leaves and without their definitions, or why they can't
+/// be spelled. The inlines of one block are let go of before those of the next one are read. All leaves are
+/// read, also behind a block that can't be spelled, since one that is too deep goes before it.
 ///
 /// # Errors
 ///
