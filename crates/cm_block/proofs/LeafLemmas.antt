@@ -15,8 +15,8 @@ use Rattle.cm_scan.specs.blocks.Starts.{IndentedCode, OpeningFence, HtmlStart}
 use Rattle.cm_scan.specs.blocks.Parts.{html, info_of}
 use Rattle.cm_scan.specs.blocks.Blocks.{line_feeds, NextLine, next_line, closes_fence, code_line}
 use Rattle.cm_block.proofs.FeedLemmas.{feeds_append, feeds_ended}
-use Rattle.cm_block.specs.declared.leaf.OpenLeaf.{OpenLeaf}
-use Rattle.cm_block.specs.declared.leaf.OpenLeaf.TheVariants as leaf
+use Rattle.cm_block.specs.declared.open_leaf.OpenLeaf.{OpenLeaf}
+use Rattle.cm_block.specs.declared.open_leaf.OpenLeaf.TheVariants as leaf
 use Rattle.cm_block.specs.OpenLeaf.{no_leaf, open_text, open_code, open_fence, open_html, closed_leaves, LeafLine, stays_open, is_last, begins_leaf, begin_of_start, line_of_text, line_of_code, line_of_fence, line_of_html, line_of_leaf}
 use Rattle.cm_block.specs.LeafViews.{ended, code_of, leaf_of}
 use Rattle.cm_block.specs.steps.LeafSteps.{leaves_of_closed, closed_as}

@@ -22,7 +22,7 @@ use Rattle.cm_block.specs.steps.FrameStarts.{begun_in, DeepIn}
 use Rattle.cm_block.specs.declared.parser.BlockParser as parser
 use Rattle.cm_text.specs.Limits.{LimitsView}
 use Rattle.cm_block.specs.LeafViews.{leaf_of}
-use Rattle.cm_block.specs.Parser.{stack_of, StandsFor, TellsDepth}
+use Rattle.cm_block.specs.Parser.{stack_of, HasTaken, TellsDepth}
 use Rattle.cm_block.specs.steps.ParserSteps.{Deep, TakenToLeaf}
 use Rattle.cm_block.specs.Tests.{AllTested, count_in, count_of}
 use Rattle.cm_block.specs.steps.LineTests.{Tested}
@@ -212,11 +212,11 @@ deep_after (BlocksTooDeep n) limits before now line o is owners h =
 
 -- the parser stands for one line more
 
-pub stands_next : (old new : parser.BlockParser) (lines : List LineView) (line l : LineView) (tests : ℕ) → l ≡ line → is_line line.text ≡ true → StandsFor old lines
+pub stands_next : (old new : parser.BlockParser) (lines : List LineView) (line l : LineView) (tests : ℕ) → l ≡ line → is_line line.text ≡ true → HasTaken old lines
     → stack_of new ≡ push_line old.limits.rules (stack_of old) l → length new.stack.frames ≤ old.limits.blocks
     → old.limits.blocks ≤ 500 → Tested (count_of (stack_of new) - count_of (stack_of old)) (old.limits.blocks + 5) 0 tests
     → new.tests ≡ min (old.tests + tests) (2 ^ 128 - 1) → new.limits ≡ old.limits → new.fault ≡ old.fault
-    → StandsFor new (lines ++ line ∷ [])
+    → HasTaken new (lines ++ line ∷ [])
 stands_next old new lines line l tests same one_line h is few within tested sum limits fault = record {
   going = fault ∙ h.going;
   are_lines = are-push lines line h.are_lines one_line;

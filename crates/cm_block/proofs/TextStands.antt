@@ -17,10 +17,10 @@ use Rattle.cm_block.specs.Stack.{Owned, stack, push_line}
 use Rattle.cm_block.specs.Frames.{Container, a_quote, an_item, Frame, opened, is_last, nest, stack_with}
 use Rattle.cm_block.specs.steps.LineTests.{Tested}
 use Rattle.cm_block.specs.steps.TextRuns.{add_lines}
-use Rattle.cm_block.specs.declared.leaf.OpenLeaf.TheVariants.{Run}
+use Rattle.cm_block.specs.declared.open_leaf.OpenLeaf.TheVariants.{Run}
 use Rattle.cm_block.specs.declared.parser.BlockParser as parser
 use Rattle.cm_block.specs.LeafViews.{leaf_of}
-use Rattle.cm_block.specs.Parser.{stack_of, StandsFor}
+use Rattle.cm_block.specs.Parser.{stack_of, HasTaken}
 use Rattle.cm_block.specs.Tests.{count_of}
 use Rattle.cm_block.proofs.ContainerLemmas.{count_taken}
 use Rattle.cm_block.proofs.Frames.{open_text_of}
@@ -73,7 +73,7 @@ record Goes (old new : parser.BlockParser) (times : ℕ) : Type 0 where
 
 text-next : (old new : parser.BlockParser) (lines : List LineView) (source : List ℕ) (line : LineView) → leaf_of old.leaf ≡ open_text source
     → leaf_of new.leaf ≡ open_text (add_text source line) → Goes old new 2 → old.limits.blocks ≤ 500 → is_text_behind 0 (content_of line) ≡ true → is_line line.text ≡ true
-    → StandsFor old lines → StandsFor new (lines ++ line ∷ [])
+    → HasTaken old lines → HasTaken new (lines ++ line ∷ [])
 text-next old new lines source line before now g few text one h =
     stands_next old new lines line line 2 refl one h pushed (omega (arith, h.few, ap length g.frames)) few tested g.tests g.limits g.fault
   where
@@ -110,7 +110,7 @@ begins-behind spaces (line ∷ lines) h =
 
 texts-stand : (texts : List (List ℕ)) (old new : parser.BlockParser) (lines : List LineView) (source : List ℕ) → 0 < length texts
     → leaf_of old.leaf ≡ open_text source → leaf_of new.leaf ≡ open_text (add_lines source (map plain_line texts)) → Goes old new (2 * length texts) → old.limits.blocks ≤ 500
-    → list_all begins texts ≡ true → list_all is_line texts ≡ true → StandsFor old lines → StandsFor new (lines ++ map plain_line texts)
+    → list_all begins texts ≡ true → list_all is_line texts ≡ true → HasTaken old lines → HasTaken new (lines ++ map plain_line texts)
 texts-stand [] old new lines source some before now g few text one h = absurd (omega (arith, some))
 texts-stand (l ∷ []) old new lines source some before now g few text one h =
     text-next old new lines source (plain_line l) before now g few (and_parts (begins l) true text).0 (and_parts (is_line l) true one).0 h
@@ -130,14 +130,14 @@ texts-stand (l ∷ m ∷ ms) old new lines source some before now g few text one
       fault = refl;
       tests = omega (arith, g.tests);
     } in
-    subst (StandsFor new) (append_assoc lines (line ∷ []) (map plain_line (m ∷ ms)))
+    subst (HasTaken new) (append_assoc lines (line ∷ []) (map plain_line (m ∷ ms)))
     (texts-stand (m ∷ ms) mid new (lines ++ line ∷ []) (add_text source line) (omega arith) refl now rest (omega (arith, few, ap (λ k. k.blocks) g.limits)) begun.1 are.1 first)
 
 pub text_stands : (texts : List (List ℕ)) (spaces : ℕ) (old new : parser.BlockParser) (lines : List LineView) (source : List ℕ) → 0 < length texts
     → leaf_of old.leaf ≡ open_text source → leaf_of new.leaf ≡ open_text (add_lines source (map plain_line texts))
     → new.stack.frames ≡ old.stack.frames → new.stack.level ≡ old.stack.level → new.stack.bare ≡ false → new.owners ≡ old.owners → new.limits ≡ old.limits
     → new.fault ≡ old.fault → new.tests ≡ min (old.tests + 2 * length texts) (2 ^ 128 - 1) → old.limits.blocks ≤ 500
-    → are_text spaces texts ≡ true → list_all is_line texts ≡ true → StandsFor old lines → StandsFor new (lines ++ map plain_line texts)
+    → are_text spaces texts ≡ true → list_all is_line texts ≡ true → HasTaken old lines → HasTaken new (lines ++ map plain_line texts)
 text_stands texts spaces old new lines source some before now frames level bare owners limits fault tests few text one h =
     texts-stand texts old new lines source some before now
     (record { frames = frames; level = level; bare = bare; owners = owners; limits = limits; fault = fault; tests = tests }) few (begins-behind spaces texts text) one h

@@ -3,8 +3,8 @@
 use Rattle.std.specs.Prelude.{ℕ, suc, List, [], ◌∷◌, ◌++◌, string_bytes}
 use Rattle.cm_scan.specs.blocks.HtmlKinds.{kind_of}
 use Rattle.cm_scan.specs.blocks.Blocks.{line_feeds}
-use Rattle.cm_block.specs.declared.leaf.OpenLeaf.{OpenLeaf}
-use Rattle.cm_block.specs.declared.leaf.OpenLeaf.TheVariants.{Nothing, Run, Code, Fence, Html}
+use Rattle.cm_block.specs.declared.open_leaf.OpenLeaf.{OpenLeaf}
+use Rattle.cm_block.specs.declared.open_leaf.OpenLeaf.TheVariants.{Nothing, Run, Code, Fence, Html}
 use Rattle.cm_block.specs.OpenLeaf as spec
 use Rattle.cm_block.specs.OpenLeaf.{no_leaf, open_text, open_code, open_fence, open_html, run_leaves, stays_open, is_last}
 

@@ -24,7 +24,7 @@ abbrev pub is_in_text : code.BlockParser → Bool
 is_in_text parser = not (is_some parser.fault) && is_open_text (leaf_of parser.leaf)
 
 -- The parser has been given these lines, none of which is too deep by its limits and their rules, and can be given more.
-pub record StandsFor (parser : code.BlockParser) (lines : List LineView) : Type 0 where
+pub record HasTaken (parser : code.BlockParser) (lines : List LineView) : Type 0 where
   pub going : parser.fault ≡ None
   pub are_lines : AreLines lines
   pub holds : stack_of parser ≡ push_lines parser.limits.rules empty_stack lines

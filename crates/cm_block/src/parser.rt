@@ -11,8 +11,8 @@ ghost use Rattle.cm_block.specs.steps.FrameSteps.{quoted_by};
 ghost use Rattle.cm_block.specs.LeafViews.{leaf_of};
 ghost use Rattle.cm_block.specs.steps.StartViews.{seen};
 ghost use Rattle.cm_block.specs.steps.FirstLines.{begins_container};
-ghost use Rattle.cm_block.specs.steps.FrameStarts.{begun, with_blank, LeafBegins, DeepIn};
-ghost use Rattle.cm_block.specs.Parser.{stack_of, is_in_text, StandsFor, TellsDepth, OutlineOf, TestsOf};
+ghost use Rattle.cm_block.specs.steps.FrameStarts.{begun_by, with_blank, LeafBegins, DeepIn};
+ghost use Rattle.cm_block.specs.Parser.{stack_of, is_in_text, HasTaken, TellsDepth, OutlineOf, TestsOf};
 ghost use Rattle.cm_block.specs.Tests.{count_of};
 ghost use Rattle.cm_block.specs.steps.LineTests.{Tested};
 ghost use Rattle.cm_block.specs.steps.ParserSteps.{Deep, TakenToLeaf};
@@ -21,9 +21,9 @@ use crate::closed_leaf::put_run;
 use crate::containers::Innermost;
 use crate::counted_line::{CountedLine, CountedLines, FirstLine, LeafStart};
 use crate::fault::BlockFault;
-use crate::leaf::{LeafLine, OpenLeaf};
 use crate::leaf_text::LeafText;
 use crate::line_owners::Owners;
+use crate::open_leaf::{LeafLine, OpenLeaf};
 use crate::owner_runs::LineOwners;
 use crate::rooms::TextRoom;
 use crate::stack::Stack;
@@ -76,7 +76,7 @@ impl BlockParser {
     /// A parser of no lines so far. It takes no memory.
     pub fn new(alloc: Global, limits: Limits) -> BlockParser
         ensures limits { result.limits ≡ limits }
-        ensures stands { StandsFor result [] }
+        ensures stands { HasTaken result [] }
     {
         BlockParser {
             alloc,
@@ -185,13 +185,13 @@ impl BlockParser {
         requires plain { self.old.stack.bare ≡ false }
         requires leaf { leaf_of self.old.leaf ≡ no_leaf }
         ensures pushed { OnOk result (stack_of self.new
-            ≡ begun self.old.limits.rules self.old.stack (seen_view line.old.rest) self.old.owners) }
+            ≡ begun_by self.old.limits.rules self.old.stack (seen_view line.old.rest) self.old.owners) }
         ensures few { OnOk result (length self.new.stack.frames ≤ self.old.limits.blocks) }
         ensures deeper { OnOk result (length self.old.stack.frames ≤ length self.new.stack.frames) }
         ensures tests { OnOk result (Tested (length self.new.stack.frames - length self.old.stack.frames)
             (length self.new.stack.frames - length self.old.stack.frames + 2) line.old.tests line.new.tests) }
         ensures deep { IfErr result (λ fault. DeepIn fault self.old.limits.blocks
-            (begun self.old.limits.rules self.old.stack
+            (begun_by self.old.limits.rules self.old.stack
             (seen_view line.old.rest) self.old.owners) self.old.owners) }
         ensures limits { self.new.limits ≡ self.old.limits }
         ensures fault { self.new.fault ≡ self.old.fault }
@@ -278,9 +278,9 @@ impl BlockParser {
     /// `BlocksTooDeep` in the call that brings the first line with more quotes and items round it than the
     /// limit, `NoMemory` where a request for memory was refused; the same fault from then on.
     pub fn line(&mut self, line: &Line) -> Result<(), BlockFault>
-        ensures stands { OnOk result ((lines : List LineView) → StandsFor self.old lines
-            → StandsFor self.new (lines ++ seen_line line.now ∷ [])) }
-        ensures told { IfErr result (λ fault. (lines : List LineView) → StandsFor self.old lines
+        ensures stands { OnOk result ((lines : List LineView) → HasTaken self.old lines
+            → HasTaken self.new (lines ++ seen_line line.now ∷ [])) }
+        ensures told { IfErr result (λ fault. (lines : List LineView) → HasTaken self.old lines
             → TellsDepth fault self.old.limits (lines ++ seen_line line.now ∷ [])) }
         ensures answer { result ≡ answer_after self.new.fault }
         ensures failed { self.old.fault ≢ None → self.new ≡ self.old }
@@ -296,9 +296,9 @@ impl BlockParser {
     /// `BlocksTooDeep` in the call that brings the first line with more quotes and items round it than the
     /// limit, `NoMemory` where a request for memory was refused; the same fault from then on.
     pub fn line_view(&mut self, line: &View<'_>) -> Result<(), BlockFault>
-        ensures stands { OnOk result ((lines : List LineView) → StandsFor self.old lines
-            → StandsFor self.new (lines ++ seen_view line.now ∷ [])) }
-        ensures told { IfErr result (λ fault. (lines : List LineView) → StandsFor self.old lines
+        ensures stands { OnOk result ((lines : List LineView) → HasTaken self.old lines
+            → HasTaken self.new (lines ++ seen_view line.now ∷ [])) }
+        ensures told { IfErr result (λ fault. (lines : List LineView) → HasTaken self.old lines
             → TellsDepth fault self.old.limits (lines ++ seen_view line.now ∷ [])) }
         ensures answer { result ≡ answer_after self.new.fault }
         ensures failed { self.old.fault ≢ None → self.new ≡ self.old }
@@ -336,8 +336,8 @@ impl BlockParser {
     #[inline(always)]
     pub fn text_lines(&mut self, more: &TextLines<'_>) -> Result<(), BlockFault>
         requires { is_in_text self.old ≡ true }
-        ensures stands { OnOk result ((lines : List LineView) → StandsFor self.old lines →
-            StandsFor self.new (lines ++ plain_lines_of more.now.text.now)) }
+        ensures stands { OnOk result ((lines : List LineView) → HasTaken self.old lines →
+            HasTaken self.new (lines ++ plain_lines_of more.now.text.now)) }
         ensures memory { IfErr result (λ fault. fault ≡ block_faults.NoMemory) }
         ensures answer { result ≡ answer_after self.new.fault }
         ensures limits { self.new.limits ≡ self.old.limits }
@@ -361,9 +361,9 @@ impl BlockParser {
     ///
     /// The fault that was met, or `NoMemory` where a request for memory was refused.
     pub fn finish(mut self) -> Result<Outline, BlockFault>
-        ensures outline { IfOk result (λ outline. (lines : List LineView) → StandsFor self lines
+        ensures outline { IfOk result (λ outline. (lines : List LineView) → HasTaken self lines
             → OutlineOf outline self.limits.rules lines) }
-        ensures tests { IfOk result (λ outline. (lines : List LineView) → StandsFor self lines →
+        ensures tests { IfOk result (λ outline. (lines : List LineView) → HasTaken self lines →
             TestsOf outline self.limits.blocks lines) }
         ensures failed { (fault : faults.BlockFault) → self.fault ≡ Some fault → result ≡ Err fault }
         ensures memory { self.fault ≡ None → IfErr result (λ fault. fault ≡ block_faults.NoMemory) }

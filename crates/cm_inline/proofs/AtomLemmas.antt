@@ -34,9 +34,9 @@ use Rattle.cm_inline.specs.declared.tokens.Token.{Token}
 use Rattle.cm_inline.specs.declared.tokens.Token.TheVariants as tokens
 use Rattle.cm_inline.specs.steps.Groups.{node_of, IsNoGroup}
 use Rattle.cm_inline.proofs.StandaloneLemmas.{finished}
-use Rattle.cm_inline.specs.declared.runs.Marker.{Marker}
-use Rattle.cm_inline.specs.declared.runs.Marker.TheVariants.{Star, Underscore, Tilde}
-use Rattle.cm_inline.specs.declared.runs.DelimiterRun.{DelimiterRun}
+use Rattle.cm_inline.specs.declared.delimiter_runs.Marker.{Marker}
+use Rattle.cm_inline.specs.declared.delimiter_runs.Marker.TheVariants.{Star, Underscore, Tilde}
+use Rattle.cm_inline.specs.declared.delimiter_runs.DelimiterRun.{DelimiterRun}
 use Rattle.cm_inline.specs.steps.Runs.{byte_of, run_of}
 use Rattle.cm_inline.specs.Emphases.{emphases_of}
 use Rattle.cm_inline.specs.steps.Searching.{kind}

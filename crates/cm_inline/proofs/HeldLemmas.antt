@@ -7,7 +7,7 @@ use Rattle.std.proofs.lemmas.List.Folds.{list_any-append}
 use Rattle.cm_tree.specs.Definitions.{Target}
 use Rattle.cm_tree.proofs.RawLemmas.{slice-same, slice-last}
 use Rattle.cm_inline.specs.declared.groups.Kind.{Kind}
-use Rattle.cm_inline.specs.declared.runs.DelimiterRun.{DelimiterRun}
+use Rattle.cm_inline.specs.declared.delimiter_runs.DelimiterRun.{DelimiterRun}
 use Rattle.cm_inline.specs.declared.tokens.Token.{Token}
 use Rattle.cm_inline.specs.declared.tokens.Token.TheVariants as tokens
 use Rattle.cm_inline.specs.steps.Nodes.{Node, Piece, Characters, Whole, Finished, Run, Opener, node_depth, nodes_depth, rest_in}

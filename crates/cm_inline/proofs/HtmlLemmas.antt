@@ -21,8 +21,8 @@ use Rattle.cm_inline.specs.declared.groups.Kind.{Kind}
 use Rattle.cm_inline.specs.declared.groups.Kind.TheVariants as kinds
 use Rattle.cm_inline.specs.declared.tokens.Token.{Token}
 use Rattle.cm_inline.specs.steps.Groups.{Made, made_of, made_by, start_html, end_html, node_of, nodes_of}
-use Rattle.cm_inline.specs.declared.runs.Marker.{Marker}
-use Rattle.cm_inline.specs.declared.runs.Marker.TheVariants.{Star, Underscore, Tilde}
+use Rattle.cm_inline.specs.declared.delimiter_runs.Marker.{Marker}
+use Rattle.cm_inline.specs.declared.delimiter_runs.Marker.TheVariants.{Star, Underscore, Tilde}
 use Rattle.cm_inline.specs.declared.standalone.Standalone.{Standalone}
 use Rattle.cm_inline.specs.declared.standalone.Standalone.TheVariants.{Code, Html, Autolink, Soft, Hard}
 use Rattle.cm_inline.specs.steps.Standalone.{inline_in, standalone_html, standalone_plain, IsBetween}

@@ -5,7 +5,7 @@ use Rattle.std.proofs.lemmas.Option.{none-some, same_Some}
 use Rattle.std.proofs.lemmas.List.{get_or_past}
 use Rattle.cm_inline.specs.steps.Entries.{first_place, without_place}
 use Rattle.cm_inline.specs.steps.Slots.{no_slot, slot_at, entry_at, listed_below, AreLinked}
-use Rattle.cm_inline.specs.declared.delimiters.Slot.{Slot}
+use Rattle.cm_inline.specs.declared.delimiter_list.Slot.{Slot}
 use Rattle.cm_inline.proofs.ListedLemmas.{is_at, true-false, first-below, first-above, after-in, below-without, first-without, first-without_first}
 
 -- an entry of the list is one of the slots

@@ -4,7 +4,7 @@ use Rattle.std.proofs.lemmas.Bool.{cond-true, cond-false, eqb-true, eqb-false, e
 use Rattle.std.proofs.lemmas.Option.{none-some, same_Some}
 use Rattle.cm_inline.specs.steps.Entries.{Entry, first_place, from_place, after_place, without_place, is_listed, Below}
 use Rattle.cm_inline.specs.steps.Slots.{slot_at, entry_at, listed_below}
-use Rattle.cm_inline.specs.declared.delimiters.Slot.{Slot}
+use Rattle.cm_inline.specs.declared.delimiter_list.Slot.{Slot}
 
 abbrev pub is_at : List Slot → ℕ → Bool
 is_at slots n = (slot_at slots n).listed

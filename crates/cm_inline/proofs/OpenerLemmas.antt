@@ -11,9 +11,9 @@ use Rattle.cm_inline.specs.steps.Searching.{kind, IsMarked, find_opener, looks_f
 use Rattle.cm_inline.specs.steps.Openers.{spent, Ready, Closing, Open, IsClosing, openers, FindsNone, Opens, Spends, cut}
 use Rattle.std.specs.Prelude.{IfSome}
 use Rattle.cm_inline.specs.steps.Runs.{byte_of, run_of, rest_of, entry_of, MayBeEntry}
-use Rattle.cm_inline.specs.declared.runs.DelimiterRun.{DelimiterRun}
-use Rattle.cm_inline.specs.declared.delimiters.Delimiter.{Delimiter}
-use Rattle.cm_inline.specs.declared.runs.Marker.{Marker}
+use Rattle.cm_inline.specs.declared.delimiter_runs.DelimiterRun.{DelimiterRun}
+use Rattle.cm_inline.specs.declared.delimiter_list.Delimiter.{Delimiter}
+use Rattle.cm_inline.specs.declared.delimiter_runs.Marker.{Marker}
 use Rattle.cm_inline.proofs.BottomLemmas.{kind-small}
 use Rattle.cm_inline.proofs.ReserveLemmas.{reserve-push, reserve-remove, above-cons, above-all}
 use Rattle.cm_inline.proofs.LinkedLemmas.{nat-split as nat_split}

@@ -16,8 +16,8 @@ use Rattle.cm_scan.proofs.lemmas.inlines.OnePassLemmas.{closed_by-none, closed_b
 use Rattle.cm_inline.specs.steps.Nodes as node
 use Rattle.cm_inline.specs.steps.Nodes.{Node, item_of, items_of, is_closer, nodes_depth, rest_in, IsPart, AreParts}
 use Rattle.cm_tree.specs.Definitions.{Target}
-use Rattle.cm_inline.specs.declared.runs.DelimiterRun.{DelimiterRun}
-use Rattle.cm_inline.specs.declared.delimiters.Delimiter.{Delimiter}
+use Rattle.cm_inline.specs.declared.delimiter_runs.DelimiterRun.{DelimiterRun}
+use Rattle.cm_inline.specs.declared.delimiter_list.Delimiter.{Delimiter}
 use Rattle.cm_inline.specs.steps.Entries.{Entry, Listed, above, is_listed, reserve, Below, Falling}
 use Rattle.cm_inline.specs.steps.Searching.{NoneBeneath, kind, openers_of, places_of, characters}
 use Rattle.cm_inline.specs.steps.Openers.{zeros, spent, cut, IsRestOf, Ready, Closing, Open, openers, Opens, Spends, Finishes}

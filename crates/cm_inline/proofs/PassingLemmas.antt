@@ -5,7 +5,7 @@ use Rattle.std.proofs.lemmas.List.Sums.{sum_by-cons}
 use Rattle.cm_scan.specs.inlines.Pairing.{Delimiters, pair_all}
 use Rattle.cm_scan.specs.inlines.OnePass.{passed, pass_from}
 use Rattle.cm_scan.proofs.lemmas.inlines.OnePassLemmas.{pairs_in_one_pass}
-use Rattle.cm_inline.specs.declared.runs.DelimiterRun.{DelimiterRun}
+use Rattle.cm_inline.specs.declared.delimiter_runs.DelimiterRun.{DelimiterRun}
 use Rattle.cm_inline.specs.steps.Depths.{items_depth}
 use Rattle.cm_inline.specs.steps.Entries.{Listed}
 use Rattle.cm_inline.specs.steps.Groups.{Held, Takes, nodes_in, waiting_in, ArePlaced}

@@ -9,7 +9,7 @@ use Rattle.std.proofs.lemmas.List.{get_or_past, get_or-set_same, get_or-set_othe
 use Rattle.cm_inline.specs.steps.Entries.{Entry, first_place, from_place, after_place, without_place, is_listed, updated, leave}
 use Rattle.cm_inline.specs.steps.Slots.{no_slot, slot_at, entry_at, listed_below, AreLinked, with_after, with_before, unlisted, with_left}
 use Rattle.cm_inline.specs.steps.Runs.{run_of}
-use Rattle.cm_inline.specs.declared.delimiters.Slot.{Slot}
+use Rattle.cm_inline.specs.declared.delimiter_list.Slot.{Slot}
 use Rattle.cm_inline.proofs.ListedLemmas.{is_at, true-false, below-in, below-out, below-zero, first-below, first-in, below-same, is_listed-in, place-in, after-in}
 use Rattle.cm_inline.proofs.LinkedLemmas.{in-range, Taken, nat-split, option-split, taken-linked, taken-listed}
 

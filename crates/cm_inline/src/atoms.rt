@@ -10,9 +10,9 @@ ghost use Rattle.cm_inline.specs.declared.tokens.Token.TheVariants.{Piece, Opene
 
 use crate::brackets::Reader;
 use crate::code::content_between;
+use crate::delimiter_runs::Marker;
 use crate::flanking::run_between;
 use crate::missing_ends::{MissingEnds, form_at};
-use crate::runs::Marker;
 use crate::standalone::Standalone;
 use crate::tokens::Token;
 use cm_scan::{after_run, autolink_by, code_span, is_next, raw_html_by, trim_end_spaces};

@@ -6,7 +6,7 @@ ghost use Rattle.cm_scan.specs.inlines.Delimiters.{neighbour, is_left_flanking, 
 ghost use Rattle.cm_scan.specs.inlines.Atoms.{run_between};
 ghost use Rattle.cm_inline.specs.steps.Runs.{byte_of, run_of, neighbour_of};
 
-use crate::runs::{DelimiterRun, Marker};
+use crate::delimiter_runs::{DelimiterRun, Marker};
 use cm_scan::{first_character, last_character};
 use cm_text::{Rules, is_punct_by, is_space};
 

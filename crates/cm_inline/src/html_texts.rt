@@ -7,7 +7,7 @@ ghost use Rattle.cm_inline.specs.steps.Groups.{node_of, IsPlaced};
 ghost use Rattle.cm_inline.specs.steps.Nodes.{text_in};
 ghost use Rattle.cm_inline.specs.steps.Runs.{byte_of};
 
-use crate::runs::DelimiterRun;
+use crate::delimiter_runs::DelimiterRun;
 use crate::standalone::part;
 use crate::tokens::{Token, opener_text};
 use cm_html::Pages;

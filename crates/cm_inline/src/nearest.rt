@@ -5,8 +5,8 @@ ghost use Rattle.cm_scan.specs.inlines.Delimiters.{delimiters_match};
 ghost use Rattle.cm_inline.specs.steps.Searching.{find_opener, looks_for};
 ghost use Rattle.cm_inline.specs.steps.Runs.{run_of, MayBeEntry};
 
-use crate::delimiters::{Delimiter, DelimiterList, Place};
-use crate::runs::{DelimiterRun, delimiters_match};
+use crate::delimiter_list::{Delimiter, DelimiterList, Place};
+use crate::delimiter_runs::{DelimiterRun, delimiters_match};
 
 /// Whether an entry opens for a closer.
 fn opens_for(closer: DelimiterRun, opener: DelimiterRun) -> bool

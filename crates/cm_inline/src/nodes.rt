@@ -6,8 +6,8 @@ ghost use Rattle.cm_inline.specs.steps.Groups.{nodes_in, waiting_in, node_of, ma
 ghost use Rattle.cm_inline.specs.steps.Groups.{AreBelow, AreGroups, IsNoGroup, Takes};
 ghost use Rattle.cm_inline.specs.steps.Nodes.{Piece, Finished, is_closer, nodes_depth, rest_in};
 
+use crate::delimiter_runs::DelimiterRun;
 use crate::groups::{FirstGroups, Groups, Making};
-use crate::runs::DelimiterRun;
 use crate::tokens::{Token, depth_of_all, has_closer};
 use std::alloc::{AllocError, Global};
 use std::marker::Model;

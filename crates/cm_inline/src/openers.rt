@@ -8,9 +8,9 @@ ghost use Rattle.cm_inline.specs.steps.Runs.{run_of, entry_of, rest_of, MayBeEnt
 ghost use Rattle.cm_inline.specs.steps.Openers.{spent, IsClosing, BringsCloser, FindsNone, Opens};
 ghost use Rattle.cm_inline.specs.steps.Openers.{Spends, Finishes, Drops, zeros, IsRestOf};
 
-use crate::delimiters::{Delimiter, DelimiterList, Place};
+use crate::delimiter_list::{Delimiter, DelimiterList, Place};
+use crate::delimiter_runs::{DelimiterRun, kind};
 use crate::nearest::nearest;
-use crate::runs::{DelimiterRun, kind};
 use std::alloc::{AllocError, Global};
 
 /// The list of runs, and for each kind of closer a number below which no entry opens for it.

@@ -9,12 +9,12 @@ ghost use Rattle.cm_inline.specs.steps.Prelude.{made_of, target_of, nodes_in, wa
 ghost use Rattle.cm_inline.specs.steps.Prelude.{nodes_depth, AreParts, Adds, Stays, opened_at, AreFew};
 ghost use Rattle.cm_inline.specs.steps.Prelude.{MakesPairs, PairsNestPast};
 
-use crate::delimiters::Delimiter;
+use crate::delimiter_list::Delimiter;
+use crate::delimiter_runs::{DelimiterRun, Marker, used, without};
 use crate::fault::InlineFault;
 use crate::groups::{Kind, Making};
 use crate::nodes::Nodes;
 use crate::openers::{Openers, begin, drop_closer, finish, spend, take_opener};
-use crate::runs::{DelimiterRun, Marker, used, without};
 use crate::tokens::Token;
 use cm_tree::LinkTarget;
 

@@ -10,7 +10,7 @@ ghost use Rattle.cm_inline.specs.steps.Runs.{byte_of};
 ghost use Rattle.cm_inline.specs.steps.Nodes.{is_closer, is_text, node_depth, nodes_depth};
 ghost use Rattle.cm_inline.specs.steps.Nodes.{text_in, text_in_front, behind_texts};
 
-use crate::runs::DelimiterRun;
+use crate::delimiter_runs::DelimiterRun;
 use crate::spare::Spare;
 use crate::standalone::{Standalone, part};
 use cm_text::Chars;

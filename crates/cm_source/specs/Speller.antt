@@ -2,7 +2,7 @@
 use Rattle.std.specs.Prelude.{◌≡◌, List, [], ◌∷◌, ◌++◌, map, Option, Some, None, false}
 use Rattle.cm_text.specs.Rules.{Rules}
 use Rattle.cm_tree.specs.declared.tree.Block.{Block}
-use Rattle.cm_source.specs.declared.spelling.Speller as code
+use Rattle.cm_source.specs.declared.speller.Speller as code
 use Rattle.cm_source.specs.declared.fault.SourceFault.{SourceFault}
 use Rattle.cm_source.specs.declared.fault.SourceFault.TheVariants.{Unspellable, NoMemory}
 use Rattle.cm_source.specs.Refusals.{BlockFace, JudgedBlock, judged_block, refusal_of, IsSpellable}
@@ -16,7 +16,7 @@ face_behind before [] = before
 face_behind before (next ∷ others) = face_behind (Some next.face) others
 
 -- The speller goes by these rules. These blocks can be spelled, its text is their spelling, and it knows what is seen of the last of them.
-pub record StandsFor (rules : Rules) (speller : code.Speller) (blocks : List Block) : Type 0 where
+pub record HasSpelled (rules : Rules) (speller : code.Speller) (blocks : List Block) : Type 0 where
   pub same_rules : speller.rules ≡ rules
   pub spellable : IsSpellable rules blocks
   pub spelled : IsBetween speller.source false (spelling_of blocks) [] []

@@ -7,13 +7,13 @@ ghost use Rattle.cm_source.specs.Spelling.{quote_lines, item_lines, marker, line
 ghost use Rattle.cm_source.specs.steps.WrittenLines.{Lays, Writes};
 
 use crate::inlines::{spell_inlines, spell_text};
-use crate::source::Source;
+use crate::source_lines::SourceLines;
 use crate::texts::longest_run;
 use cm_tree::{Block, Inline, ListKind};
 use std::alloc::AllocError;
 
 /// Spells a paragraph.
-fn spell_paragraph(source: &mut Source, content: &[Inline]) -> Result<(), AllocError>
+fn spell_paragraph(source: &mut SourceLines, content: &[Inline]) -> Result<(), AllocError>
     ensures { OnOk result (Writes source.old source.new (parted_lines (spelled_content content.now))) }
 {
     source.begin_line()?;
@@ -22,7 +22,7 @@ fn spell_paragraph(source: &mut Source, content: &[Inline]) -> Result<(), AllocE
 }
 
 /// Spells a space and a content, if there is any.
-fn spell_after_space(source: &mut Source, content: &[Inline]) -> Result<(), AllocError>
+fn spell_after_space(source: &mut SourceLines, content: &[Inline]) -> Result<(), AllocError>
     ensures { OnOk result (Lays source.old source.new (after_space content.now)) }
 {
     if content.is_empty() {
@@ -33,7 +33,7 @@ fn spell_after_space(source: &mut Source, content: &[Inline]) -> Result<(), Allo
 }
 
 /// Spells a heading.
-fn spell_heading(source: &mut Source, level: u8, content: &[Inline]) -> Result<(), AllocError>
+fn spell_heading(source: &mut SourceLines, level: u8, content: &[Inline]) -> Result<(), AllocError>
     ensures { OnOk result (Writes source.old source.new (heading_lines level content.now)) }
 {
     source.begin_line()?;
@@ -43,7 +43,7 @@ fn spell_heading(source: &mut Source, level: u8, content: &[Inline]) -> Result<(
 }
 
 /// Spells a fence of so many backticks, with an info string.
-fn spell_fence(source: &mut Source, marks: usize, info: &str) -> Result<(), AllocError>
+fn spell_fence(source: &mut SourceLines, marks: usize, info: &str) -> Result<(), AllocError>
     ensures { OnOk result (Writes source.old source.new
         ((replicate marks 96 ++ spelled_text true true info.now) ∷ [])) }
 {
@@ -54,7 +54,7 @@ fn spell_fence(source: &mut Source, marks: usize, info: &str) -> Result<(), Allo
 }
 
 /// Spells a code block, with a fence.
-fn spell_code_block(source: &mut Source, info: &str, text: &str) -> Result<(), AllocError>
+fn spell_code_block(source: &mut SourceLines, info: &str, text: &str) -> Result<(), AllocError>
     ensures { OnOk result (Writes source.old source.new (code_lines info.now text.now)) }
 {
     let marks = (longest_run(text) + 1).max(3);
@@ -64,7 +64,7 @@ fn spell_code_block(source: &mut Source, info: &str, text: &str) -> Result<(), A
 }
 
 /// Spells an empty line, or none.
-pub(crate) fn spell_gap(source: &mut Source, apart: bool) -> Result<(), AllocError>
+pub(crate) fn spell_gap(source: &mut SourceLines, apart: bool) -> Result<(), AllocError>
     ensures { OnOk result (Writes source.old source.new (gap apart)) }
 {
     if apart {
@@ -76,7 +76,7 @@ pub(crate) fn spell_gap(source: &mut Source, apart: bool) -> Result<(), AllocErr
 /// Spells blocks, with an empty line between two or none.
 #[cycle(blocks)]
 pub(crate) fn spell_blocks(
-    source: &mut Source,
+    source: &mut SourceLines,
     blocks: &[Block],
     apart: bool,
 ) -> Result<(), AllocError>
@@ -93,7 +93,7 @@ pub(crate) fn spell_blocks(
 
 /// Spells a block.
 #[cycle(blocks)]
-pub(crate) fn spell_block(source: &mut Source, block: &Block) -> Result<(), AllocError>
+pub(crate) fn spell_block(source: &mut SourceLines, block: &Block) -> Result<(), AllocError>
     ensures { OnOk result (Writes source.old source.new (lines_of_block block.now)) }
 {
     match block {
@@ -118,7 +118,7 @@ pub(crate) fn spell_block(source: &mut Source, block: &Block) -> Result<(), Allo
 
 /// Spells a quote.
 #[cycle(blocks)]
-fn spell_quote(source: &mut Source, blocks: &[Block]) -> Result<(), AllocError>
+fn spell_quote(source: &mut SourceLines, blocks: &[Block]) -> Result<(), AllocError>
     ensures { OnOk result (Writes source.old source.new (quote_lines (lines_of_blocks true blocks.now))) }
 {
     let front = source.enter_quote()?;
@@ -129,7 +129,7 @@ fn spell_quote(source: &mut Source, blocks: &[Block]) -> Result<(), AllocError>
 /// Spells an item.
 #[cycle(blocks)]
 fn spell_item(
-    source: &mut Source,
+    source: &mut SourceLines,
     kind: ListKind,
     tight: bool,
     blocks: &[Block],

@@ -5,7 +5,7 @@ ghost use Rattle.cm_source.specs.Texts.{padding, spelled_text, spelled_code, spe
 ghost use Rattle.cm_source.specs.Inlines.{spelled, spelled_inlines, is_line_end};
 ghost use Rattle.cm_source.specs.steps.WrittenLines.{Lays};
 
-use crate::source::Source;
+use crate::source_lines::SourceLines;
 use crate::texts::{is_padded, longest_run, push_target, push_text};
 use cm_tree::Inline;
 use std::alloc::AllocError;
@@ -13,7 +13,7 @@ use std::alloc::AllocError;
 /// Spells a text.
 #[inline(always)]
 pub(crate) fn spell_text(
-    source: &mut Source,
+    source: &mut SourceLines,
     text: &str,
     first: bool,
     last: bool,
@@ -32,7 +32,7 @@ fn padding(text: &str) -> &'static str
 }
 
 /// Spells a code span.
-fn spell_code(source: &mut Source, text: &str) -> Result<(), AllocError>
+fn spell_code(source: &mut SourceLines, text: &str) -> Result<(), AllocError>
     ensures { OnOk result (Lays source.old source.new (spelled_code text.now)) }
 {
     let marks = longest_run(text) + 1;
@@ -45,7 +45,7 @@ fn spell_code(source: &mut Source, text: &str) -> Result<(), AllocError>
 }
 
 /// Spells what follows the content of a link or an image.
-fn spell_target(source: &mut Source, dest: &str, title: &str) -> Result<(), AllocError>
+fn spell_target(source: &mut SourceLines, dest: &str, title: &str) -> Result<(), AllocError>
     ensures { OnOk result (Lays source.old source.new (spelled_target dest.now title.now)) }
 {
     push_target(&mut source.text, dest, title)
@@ -71,7 +71,7 @@ fn begins_line(inline: &Inline) -> bool
 /// Spells inlines that begin and end with a line or not.
 #[cycle(inlines)]
 pub(crate) fn spell_inlines(
-    source: &mut Source,
+    source: &mut SourceLines,
     inlines: &[Inline],
     first: bool,
     last: bool,
@@ -89,7 +89,7 @@ pub(crate) fn spell_inlines(
 /// Spells an inline.
 #[cycle(inlines)]
 fn spell_inline(
-    source: &mut Source,
+    source: &mut SourceLines,
     inline: &Inline,
     first: bool,
     last: bool,
@@ -132,7 +132,7 @@ fn spell_inline(
 
 /// Spells inlines between two marks.
 #[cycle(inlines)]
-fn spell_between(source: &mut Source, mark: &str, content: &[Inline]) -> Result<(), AllocError>
+fn spell_between(source: &mut SourceLines, mark: &str, content: &[Inline]) -> Result<(), AllocError>
     requires { list_any (λ b. b == 10) mark.now ≡ false }
     ensures { OnOk result (Lays source.old source.new
         (mark.now ++ spelled_inlines false false content.now ++ mark.now)) }
@@ -145,7 +145,7 @@ fn spell_between(source: &mut Source, mark: &str, content: &[Inline]) -> Result<
 /// Spells a link or an image, which begins with this mark.
 #[cycle(inlines)]
 fn spell_link(
-    source: &mut Source,
+    source: &mut SourceLines,
     mark: &str,
     content: &[Inline],
     dest: &str,

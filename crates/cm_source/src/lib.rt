@@ -18,7 +18,6 @@
 #![tactic(auto)]
 
 mod blocks;
-mod definitions;
 mod fault;
 mod html_alone;
 mod inline_refusals;
@@ -28,12 +27,13 @@ pub mod reading_laws;
 mod reason;
 mod refusals;
 mod search;
-mod source;
-mod spelling;
+mod source_lines;
+mod speller;
 mod texts;
+mod without_definitions;
 
-pub use definitions::{block_without_definitions, without_definitions};
 pub use fault::SourceFault;
 pub use reason::Reason;
 pub use refusals::{spellable, spellable_by};
-pub use spelling::{Speller, spell, spell_by};
+pub use speller::{Speller, spell, spell_by};
+pub use without_definitions::{block_without_definitions, without_definitions};

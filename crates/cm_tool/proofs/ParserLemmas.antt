@@ -21,7 +21,7 @@ use Rattle.cm_block.specs.declared.fault.BlockFault.{BlockFault}
 use Rattle.cm_block.specs.declared.fault.BlockFault.TheVariants as blocks
 use Rattle.cm_block.specs.declared.parser.BlockParser.{BlockParser}
 use Rattle.cm_block.specs.declared.parser.Outline.{Outline}
-use Rattle.cm_block.specs.Parser.{StandsFor as HasTaken, TellsDepth}
+use Rattle.cm_block.specs.Parser.{HasTaken, TellsDepth}
 use Rattle.cm_block.proofs.Depths.{too_deep_stays}
 use Rattle.cm_tool.specs.declared.fault.Fault.{Fault}
 use Rattle.cm_tool.specs.declared.fault.Fault.TheVariants.{BlocksTooDeep, InlinesTooDeep}

@@ -6,7 +6,7 @@ use Rattle.cm_text.specs.Lines.{plain_lines_of, lines_of, plain_line}
 use Rattle.cm_text.specs.TextLines.{AreTextLines}
 use Rattle.std.proofs.lemmas.List.{length-map}
 use Rattle.cm_block.specs.declared.parser.BlockParser.{BlockParser}
-use Rattle.cm_block.specs.Parser.{StandsFor as HasTaken}
+use Rattle.cm_block.specs.Parser.{HasTaken}
 use Rattle.cm_tool.specs.steps.Handing.{Passed, Hands}
 
 pub none_passed : (old : Feed) → Passed old old []

@@ -3,7 +3,7 @@ use Rattle.std.specs.Prelude.{◌≡◌, ℕ, false, List, length, Option, Some,
 use Rattle.cm_text.specs.Limits.{LimitsView}
 use Rattle.cm_text.specs.Feed.{Feed, Goes as FeedGoes, cut_bytes}
 use Rattle.cm_block.specs.declared.parser.BlockParser.{BlockParser}
-use Rattle.cm_block.specs.Parser.{StandsFor as HasTaken}
+use Rattle.cm_block.specs.Parser.{HasTaken}
 use Rattle.cm_tree.specs.declared.tree.Doc.{Doc}
 use Rattle.cm_tool.specs.declared.fault.Fault.{Fault}
 use Rattle.cm_tool.specs.declared.fault.Fault.TheVariants.{NotUtf8, TooLong, BlocksTooDeep, InlinesTooDeep, NoMemory}

@@ -21,8 +21,8 @@ use Rattle.cm_block.specs.steps.FirstLines.{begins_container}
 abbrev pub begun_in : Rules → List Frame → Level → LineView → Owned → Stack
 begun_in rules frames level line owned = within frames (push_begin rules (quoted_by false frames) owned level line)
 
-abbrev pub begun : Rules → Row → LineView → Owned → Stack
-begun rules before line owned = begun_in rules before.frames before.level line owned
+abbrev pub begun_by : Rules → Row → LineView → Owned → Stack
+begun_by rules before line owned = begun_in rules before.frames before.level line owned
 
 -- a blank line in the innermost container: right behind an item's marker it belongs to that
 abbrev pub blank_in : (bare : Bool) → List Frame → Level → Owned → Stack
@@ -42,12 +42,12 @@ left_of rules now line owned = left_in rules now.bare now.frames now.level line 
 
 -- The containers that the line begins have been opened, and this is left of it.
 abbrev pub Inside : Rules → ℕ → Row → LineView → Row → LineView → Innermost → Type 0
-Inside rules limit before line now inner TooDeep = (owned : Owned) → limit < nesting (begun rules before line owned).now
-Inside rules limit before line now inner Blank = (length now.frames ≤ limit) × ((owned : Owned) → begun rules before line owned ≡ with_blank now owned)
+Inside rules limit before line now inner TooDeep = (owned : Owned) → limit < nesting (begun_by rules before line owned).now
+Inside rules limit before line now inner Blank = (length now.frames ≤ limit) × ((owned : Owned) → begun_by rules before line owned ≡ with_blank now owned)
 Inside rules limit before line now inner (Leaf start) =
     (length now.frames ≤ limit) × ((now.bare ≡ false) × ((begins_container (seen start.found) ≡ false)
     × ((owned : Owned) (l : LeafLine) → begins_leaf l ≡ begin_of_start rules (seen start.found) inner
-    → begun rules before line owned ≡ within now.frames (push_leaf_line owned (block_opens now.level) l))))
+    → begun_by rules before line owned ≡ within now.frames (push_leaf_line owned (block_opens now.level) l))))
 
 -- the first line of a leaf block, in the innermost container
 abbrev pub LeafBegins : Rules → Start → LineView → Row → Owned → Stack → Type 0

@@ -10,14 +10,14 @@ use Rattle.cm_scan.specs.blocks.Starts.{underline_of}
 use Rattle.cm_scan.specs.blocks.Parts.{LeafPart, heading, code, html, thematic_break}
 use Rattle.cm_scan.specs.blocks.Blocks as blocks
 use Rattle.cm_scan.specs.blocks.Blocks.{line_feeds, rest_of}
-use Rattle.cm_block.specs.declared.runs.NextLine.{NextLine}
-use Rattle.cm_block.specs.declared.runs.NextLine.TheVariants.{GoesOn, Ends, Underlines}
+use Rattle.cm_block.specs.declared.text_runs.NextLine.{NextLine}
+use Rattle.cm_block.specs.declared.text_runs.NextLine.TheVariants.{GoesOn, Ends, Underlines}
 use Rattle.cm_block.specs.declared.closed_leaf.ClosedLeaf.{ClosedLeaf}
 use Rattle.cm_block.specs.declared.closed_leaf.ClosedLeaf.TheVariants as closed
-use Rattle.cm_block.specs.declared.leaf.OpenLeaf.{OpenLeaf}
-use Rattle.cm_block.specs.declared.leaf.OpenLeaf.TheVariants.{Nothing, Run, Code, Fence, Html}
-use Rattle.cm_block.specs.declared.leaf.LeafLine.{LeafLine}
-use Rattle.cm_block.specs.declared.leaf.LeafLine.TheVariants.{Stays, Last, Leaves}
+use Rattle.cm_block.specs.declared.open_leaf.OpenLeaf.{OpenLeaf}
+use Rattle.cm_block.specs.declared.open_leaf.OpenLeaf.TheVariants.{Nothing, Run, Code, Fence, Html}
+use Rattle.cm_block.specs.declared.open_leaf.LeafLine.{LeafLine}
+use Rattle.cm_block.specs.declared.open_leaf.LeafLine.TheVariants.{Stays, Last, Leaves}
 use Rattle.cm_block.specs.OpenLeaf as spec
 use Rattle.cm_block.specs.OpenLeaf.{no_leaf, open_text, open_code, open_fence, open_html, run_leaves, stays_open, is_last}
 use Rattle.cm_block.specs.LeafViews.{ended}

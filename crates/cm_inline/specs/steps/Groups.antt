@@ -12,7 +12,7 @@ use Rattle.cm_inline.specs.declared.groups.Kind.TheVariants as kinds
 use Rattle.cm_inline.specs.declared.groups.Group.{Group}
 use Rattle.cm_inline.specs.declared.groups.Making.{Making}
 use Rattle.cm_inline.specs.declared.groups.PlacedGroup.{PlacedGroup}
-use Rattle.cm_inline.specs.declared.runs.DelimiterRun.{DelimiterRun}
+use Rattle.cm_inline.specs.declared.delimiter_runs.DelimiterRun.{DelimiterRun}
 use Rattle.cm_inline.specs.declared.tokens.Token.{Token}
 use Rattle.cm_inline.specs.declared.tokens.Token.TheVariants as tokens
 use Rattle.cm_inline.specs.steps.Standalone.{IsBetween, IsWithin}

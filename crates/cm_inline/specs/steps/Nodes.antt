@@ -9,7 +9,7 @@ use Rattle.cm_tree.specs.Depth.{depth_of, greatest}
 use Rattle.cm_html.specs.Escape.{escape}
 use Rattle.cm_html.specs.Html.{rendered}
 use Rattle.cm_scan.specs.inlines.Pairing as items
-use Rattle.cm_inline.specs.declared.runs.DelimiterRun.{DelimiterRun}
+use Rattle.cm_inline.specs.declared.delimiter_runs.DelimiterRun.{DelimiterRun}
 use Rattle.cm_inline.specs.declared.standalone.Standalone.{Standalone}
 use Rattle.cm_inline.specs.steps.Runs.{byte_of, run_of}
 use Rattle.cm_inline.specs.steps.Standalone.{inline_in, standalone_depth, standalone_html, standalone_plain, IsWithin}

@@ -4,7 +4,7 @@ use Rattle.cm_scan.specs.inlines.Delimiters.{Run}
 use Rattle.cm_scan.specs.inlines.Pairing.{Item, Finished, Delimiters, nearest_opener}
 use Rattle.cm_tree.specs.declared.tree.Inline.{Inline}
 use Rattle.cm_inline.specs.declared.openers.Openers.{Openers}
-use Rattle.cm_inline.specs.declared.runs.DelimiterRun.{DelimiterRun}
+use Rattle.cm_inline.specs.declared.delimiter_runs.DelimiterRun.{DelimiterRun}
 use Rattle.cm_inline.specs.steps.Runs.{run_of}
 use Rattle.cm_inline.specs.steps.Entries.{Entry, Listed, Below, Falling, answers, reserve}
 use Rattle.cm_inline.specs.steps.Searching.{AreSound, kind, openers_of, places_of, characters}

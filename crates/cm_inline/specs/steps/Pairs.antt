@@ -6,7 +6,7 @@ use Rattle.cm_scan.specs.inlines.OnePass.{passed}
 use Rattle.cm_inline.specs.Emphases.{sum, emphases_of}
 use Rattle.cm_inline.specs.steps.Depths.{items_depth}
 use Rattle.cm_inline.specs.steps.Nodes.{Node, items_of, AreParts}
-use Rattle.cm_inline.specs.declared.delimiters.Delimiter.{Delimiter}
+use Rattle.cm_inline.specs.declared.delimiter_list.Delimiter.{Delimiter}
 use Rattle.cm_inline.specs.declared.openers.Openers.{Openers}
 use Rattle.cm_inline.specs.steps.Groups.{Held, nodes_in, items_from, ArePlaced}
 use Rattle.cm_inline.specs.steps.Runs.{run_of}

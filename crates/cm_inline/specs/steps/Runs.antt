@@ -4,10 +4,10 @@ use Rattle.cm_scan.specs.inlines.Delimiters.{Run}
 use Rattle.cm_scan.specs.inlines.Delimiters as delimiters
 use Rattle.cm_scan.specs.inlines.Pairing.{Item}
 use Rattle.cm_inline.specs.declared.flanking.Neighbour.{Neighbour}
-use Rattle.cm_inline.specs.declared.runs.DelimiterRun.{DelimiterRun}
+use Rattle.cm_inline.specs.declared.delimiter_runs.DelimiterRun.{DelimiterRun}
 use Rattle.cm_inline.specs.steps.Entries.{Entry}
-use Rattle.cm_inline.specs.declared.runs.Marker.{Marker}
-use Rattle.cm_inline.specs.declared.delimiters.Delimiter.{Delimiter}
+use Rattle.cm_inline.specs.declared.delimiter_runs.Marker.{Marker}
+use Rattle.cm_inline.specs.declared.delimiter_list.Delimiter.{Delimiter}
 
 abbrev pub byte_of : Marker → ℕ
 byte_of Marker.Star = 42

@@ -2,8 +2,8 @@
 use Rattle.std.specs.Prelude.{◌≡◌, ℕ, zero, suc, true, false, List, [], ◌∷◌, length, get_or, set, cond, Option, Some, None}
 use Rattle.cm_inline.specs.steps.Entries.{Entry, first_place}
 use Rattle.cm_inline.specs.steps.Runs.{run_of}
-use Rattle.cm_inline.specs.declared.delimiters.Slot.{Slot}
-use Rattle.cm_inline.specs.declared.runs.Marker.{Marker}
+use Rattle.cm_inline.specs.declared.delimiter_list.Slot.{Slot}
+use Rattle.cm_inline.specs.declared.delimiter_runs.Marker.{Marker}
 
 abbrev pub no_slot : Slot
 no_slot = record { run = record { marker = Marker.Star; whole = 0; left = 0; opens = false; closes = false }; item = 0; before = None; after = None; listed = false }

@@ -2,7 +2,7 @@
 -- with it.
 use Rattle.std.specs.Prelude.{◌≡◌, ℕ, ◌==◌, if◌then◌else◌, List, [], ◌∷◌, ◌++◌, length, flat_map, string_bytes, Bool, true, false}
 use Rattle.cm_scan.specs.Words.{trim_end_spaces}
-use Rattle.cm_source.specs.declared.source.Source.{Source}
+use Rattle.cm_source.specs.declared.source_lines.SourceLines.{SourceLines}
 
 -- a line behind what stands in front of it; in front of an empty one no spaces stand at the end
 abbrev pub behind : (front line : List ℕ) → List ℕ
@@ -33,7 +33,7 @@ StandsAt false line text done first front = (text ≡ done) × (first ≡ front)
 StandsAt true line text done first front = (text ≡ done ++ first) × (line ≡ length text)
 
 -- Between two lines, of which the next one has begun or not: these are done, this stands in front of the next one, and this in front of those that follow it.
-pub record IsBetween (source : Source) (begun : Bool) (done first front : List ℕ) : Type 0 where
+pub record IsBetween (source : SourceLines) (begun : Bool) (done first front : List ℕ) : Type 0 where
   pub begun_is : source.begun ≡ begun
   pub stands : StandsAt begun source.line (string_bytes source.text) done first front
   pub front_is : string_bytes source.front ≡ front
@@ -49,7 +49,7 @@ pub record Place : Type 0 where
   pub first : List ℕ
   pub last : List ℕ
 
-pub record IsInside (source : Source) (place : Place) (front : List ℕ) : Type 0 where
+pub record IsInside (source : SourceLines) (place : Place) (front : List ℕ) : Type 0 where
   pub text : string_bytes source.text ≡ place.done ++ place.first ++ place.last
   pub begun : source.begun ≡ true
   pub line : source.line ≡ length (place.done ++ place.first)
@@ -67,21 +67,21 @@ lay front place (b ∷ bs) =
     lay front (if b == 10 then record { done = up_to place; first = front; last = [] } else record place { last = place.last ++ b ∷ [] }) bs
 
 -- what calls do: write lines, begin and end one, and write in one
-abbrev pub Writes : Source → Source → List (List ℕ) → Type 0
+abbrev pub Writes : SourceLines → SourceLines → List (List ℕ) → Type 0
 Writes old new lines = (begun : Bool) (done first front : List ℕ) → IsBetween old begun done first front
     → IsBetween new (next_begun begun lines) (done ++ all_lines first front lines) (next_front first front lines) front
 
-abbrev pub BeginsLine : Source → Source → Type 0
+abbrev pub BeginsLine : SourceLines → SourceLines → Type 0
 BeginsLine old new = (begun : Bool) (done first front : List ℕ) → IsBetween old begun done first front → IsInside new (record { done = done; first = first; last = [] }) front
 
-abbrev pub Ends : Source → Source → Type 0
+abbrev pub Ends : SourceLines → SourceLines → Type 0
 Ends old new = (place : Place) (front : List ℕ) → IsInside old place front → IsBetween new false (up_to place) front front
 
-abbrev pub Lays : Source → Source → List ℕ → Type 0
+abbrev pub Lays : SourceLines → SourceLines → List ℕ → Type 0
 Lays old new content = (place : Place) (front : List ℕ) → IsInside old place front → IsInside new (lay front place content) front
 
 -- a container is entered behind a mark, and something stands in front of its further lines
-abbrev pub Enters : Source → Source → (mark further : List ℕ) → Type 0
+abbrev pub Enters : SourceLines → SourceLines → (mark further : List ℕ) → Type 0
 Enters old new mark further = (begun : Bool) (done first front : List ℕ) → IsBetween old begun done first front → IsBetween new true done (first ++ mark) (front ++ further)
 
 -- one empty line, where there is no line
@@ -91,6 +91,6 @@ or_empty_line (line ∷ lines) = line ∷ lines
 
 -- A container whose first line had begun is left: if no line of it was ended, an empty one is. In front of further lines stands again
 -- what did before, which was so many bytes.
-abbrev pub Leaves : Source → Source → (front : ℕ) → Type 0
+abbrev pub Leaves : SourceLines → SourceLines → (front : ℕ) → Type 0
 Leaves old new front = (done first outer further : List ℕ) (lines : List (List ℕ)) → front ≡ length outer → IsBetween old (next_begun true lines) (done ++ all_lines first (outer ++ further) lines) (next_front first (outer ++ further) lines) (outer ++ further)
     → IsBetween new false (done ++ all_lines first (outer ++ further) (or_empty_line lines)) outer outer

@@ -3,7 +3,7 @@ use Rattle.std.specs.Prelude.{◌≡◌, ℕ, ◌+◌, List, ◌++◌, length}
 use Rattle.cm_text.specs.Lines.{LineView}
 use Rattle.cm_text.specs.Feed.{Feed, StandsFor, with_ready}
 use Rattle.cm_block.specs.declared.parser.BlockParser.{BlockParser}
-use Rattle.cm_block.specs.Parser.{StandsFor as HasTaken}
+use Rattle.cm_block.specs.Parser.{HasTaken}
 
 -- from one buffer to the other these lines have been passed
 pub record Passed (old new : Feed) (front : List LineView) : Type 0 where

@@ -3,16 +3,16 @@ use Rattle.std.specs.Prelude.{◌≡◌, List, ◌++◌, Option, Some, None, Res
 use Rattle.std.specs.declared.alloc.Global.{Global}
 use Rattle.cm_text.specs.Rules.{Rules}
 use Rattle.cm_tree.specs.declared.tree.Block.{Block}
-use Rattle.cm_source.specs.declared.spelling.Speller.{Speller}
+use Rattle.cm_source.specs.declared.speller.Speller.{Speller}
 use Rattle.cm_source.specs.declared.reason.Reason.{Reason}
 use Rattle.cm_source.specs.Refusals.{refusal_of, IsSpellable}
-use Rattle.cm_source.specs.Speller.{StandsFor}
+use Rattle.cm_source.specs.Speller.{HasSpelled}
 use Rattle.cm_source.specs.Spelling.{spelling_of}
 use Rattle.cm_tool.specs.declared.outputs.plain_source.PlainSource as code
 
 -- a speller that stands for these blocks, or why they can't be spelled, whatever stands behind them
 abbrev pub Spells : Option Reason → Speller → Rules → List Block → Type 0
-Spells None speller rules blocks = StandsFor rules speller blocks
+Spells None speller rules blocks = HasSpelled rules speller blocks
 Spells (Some why) speller rules blocks = (others : List Block) → refusal_of rules (blocks ++ others) ≡ Some why
 
 abbrev pub HasTaken : Rules → code.PlainSource → List Block → Type 0

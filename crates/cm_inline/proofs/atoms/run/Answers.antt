@@ -1,8 +1,8 @@
 use Rattle.std.proofs.Common.{◌<◌, ◌+◌, drop, arith, sym, ap, ◌∙◌}
 use Rattle.cm_scan.specs.Words.{run_length, after_run}
 use Rattle.cm_inline.specs.declared.tokens.Token.TheVariants.{Piece}
-use Rattle.cm_inline.specs.declared.runs.Marker.{Marker}
-use Rattle.cm_inline.specs.declared.runs.Marker.TheVariants.{Star, Underscore, Tilde}
+use Rattle.cm_inline.specs.declared.delimiter_runs.Marker.{Marker}
+use Rattle.cm_inline.specs.declared.delimiter_runs.Marker.TheVariants.{Star, Underscore, Tilde}
 use Rattle.cm_inline.specs.steps.Runs.{byte_of}
 use Rattle.cm_inline.proofs.AtomLemmas.{told, marker-text-is, marker-run-is}
 use Rattle.cm_inline.proofs.atoms.run.Goals as goal

@@ -9,7 +9,7 @@ use Rattle.cm_source.specs.Inlines.{spelled_content}
 use Rattle.cm_tree.specs.declared.tree.Block.{Block}
 use Rattle.cm_tree.specs.declared.tree.ListKind.{ListKind}
 use Rattle.cm_tree.specs.declared.tree.ListKind.TheVariants.{Dash, Plus, Star, Dot, Paren}
-use Rattle.cm_source.specs.declared.source.Source.{Source}
+use Rattle.cm_source.specs.declared.source_lines.SourceLines.{SourceLines}
 use Rattle.cm_source.specs.Spelling.{after_space, gap, joined, spaced, quoted, quote_lines, marker, indented, item_lines, lines_of_block}
 use Rattle.cm_source.specs.steps.WrittenLines.{behind, further_lines, all_lines, next_begun, next_front, or_empty_line, IsBetween, Writes, Enters, Leaves}
 use Rattle.cm_source.proofs.lemmas.spelling.WrittenLineLemmas.{kept-front, all-alike}
@@ -32,7 +32,7 @@ module _ (mark further : List ℕ) (outer : List (List ℕ) → List (List ℕ))
   abbrev pub IsSome : Type 0
   IsSome = (lines : List (List ℕ)) → (line : List ℕ) × (rest : List (List ℕ)) × (outer lines ≡ line ∷ rest)
 
-  pub container-writes : (one two three four : Source) (kept : ℕ) (lines : List (List ℕ)) → Marks → IsSome → Enters one two mark further → Writes two three lines → Leaves three four kept → kept ≡ length (string_bytes one.front) → Writes one four (outer lines)
+  pub container-writes : (one two three four : SourceLines) (kept : ℕ) (lines : List (List ℕ)) → Marks → IsSome → Enters one two mark further → Writes two three lines → Leaves three four kept → kept ≡ length (string_bytes one.front) → Writes one four (outer lines)
   container-writes one two three four kept lines marks some enters writes leaves same begun done first front is =
       let (line, rest, e) = some lines in
       let inside = writes true done (first ++ mark) (front ++ further) (enters begun done first front is) in
@@ -128,10 +128,10 @@ is-mark Star = byte-mark 42 (codes "*") refl refl
 is-mark (Dot start) = number-mark start 46 refl
 is-mark (Paren start) = number-mark start 41 refl
 
-pub quote-writes : (one two three four : Source) (kept : ℕ) (lines : List (List ℕ)) → Enters one two (codes "> ") (codes "> ") → Writes two three lines → Leaves three four kept → kept ≡ length (string_bytes one.front) → Writes one four (quote_lines lines)
+pub quote-writes : (one two three four : SourceLines) (kept : ℕ) (lines : List (List ℕ)) → Enters one two (codes "> ") (codes "> ") → Writes two three lines → Leaves three four kept → kept ≡ length (string_bytes one.front) → Writes one four (quote_lines lines)
 quote-writes one two three four kept lines = container-writes (codes "> ") (codes "> ") quote_lines one two three four kept lines quote-marks quote-some
 
-pub item-writes : (one two three four : Source) (kept : ℕ) (kind : ListKind) (lines : List (List ℕ)) → Enters one two (marker kind ++ codes " ") (replicate (length (marker kind) + 1) 32) → Writes two three lines → Leaves three four kept → kept ≡ length (string_bytes one.front)
+pub item-writes : (one two three four : SourceLines) (kept : ℕ) (kind : ListKind) (lines : List (List ℕ)) → Enters one two (marker kind ++ codes " ") (replicate (length (marker kind) + 1) 32) → Writes two three lines → Leaves three four kept → kept ≡ length (string_bytes one.front)
     → Writes one four (item_lines (marker kind) lines)
 item-writes one two three four kept kind lines =
     container-writes (marker kind ++ codes " ") (replicate (length (marker kind) + 1) 32) (item_lines (marker kind)) one two three four kept lines (item-marks (marker kind) (is-mark kind)) (item-some (marker kind))
@@ -166,12 +166,12 @@ further-nothing [] = refl
 further-nothing (line ∷ lines) = ap (λ t. (t ++ 10 ∷ []) ++ further_lines [] lines) (behind-nothing line) ∙ ap (λ t. (line ++ 10 ∷ []) ++ t) (further-nothing lines)
 
 -- lines that are written behind others
-pub written-behind : (lines : List (List ℕ)) (old new : Source) (done : List ℕ) → IsBetween old false done [] [] → Writes old new lines
+pub written-behind : (lines : List (List ℕ)) (old new : SourceLines) (done : List ℕ) → IsBetween old false done [] [] → Writes old new lines
     → IsBetween new false (done ++ flat_map (λ line. line ++ 10 ∷ []) lines) [] []
 written-behind [] old new done is writes = writes false done [] [] is
 written-behind (line ∷ lines) old new done is writes =
     subst (λ t. IsBetween new false (done ++ t) [] []) (all-alike [] (line ∷ lines) ∙ further-nothing (line ∷ lines)) (writes false done [] [] is)
 
 -- a document's lines
-pub text-is : (lines : List (List ℕ)) (empty new : Source) → IsBetween empty false [] [] [] → Writes empty new lines → string_bytes new.text ≡ flat_map (λ line. line ++ 10 ∷ []) lines
+pub text-is : (lines : List (List ℕ)) (empty new : SourceLines) → IsBetween empty false [] [] [] → Writes empty new lines → string_bytes new.text ≡ flat_map (λ line. line ++ 10 ∷ []) lines
 text-is lines empty new nothing writes = (written-behind lines empty new [] nothing writes).stands.0

@@ -10,10 +10,10 @@ use Rattle.cm_scan.specs.Words.{◌<|>◌}
 use Rattle.cm_source.specs.declared.reason.Reason.{Reason}
 use Rattle.cm_source.specs.declared.fault.SourceFault.TheVariants.{Unspellable}
 use Rattle.cm_source.specs.declared.refusals.Face.{Face as SeenFace}
-use Rattle.cm_source.specs.declared.spelling.Speller as code
+use Rattle.cm_source.specs.declared.speller.Speller as code
 use Rattle.cm_source.specs.Answers.{ok_unless}
 use Rattle.cm_source.specs.Refusals.{BlockFace, JudgedBlock, judged_block, refusal_of_all, refusal_of, IsSpellable}
-use Rattle.cm_source.specs.Speller.{face_behind, StandsFor, Refuses}
+use Rattle.cm_source.specs.Speller.{face_behind, HasSpelled, Refuses}
 use Rattle.cm_source.specs.Spelling.{gap, joined, lines_of_block, lines_of_blocks, spelling_of}
 use Rattle.cm_source.specs.steps.BlockFaces.{seen}
 use Rattle.cm_source.specs.steps.WrittenLines.{IsBetween, Writes}
@@ -82,17 +82,17 @@ lines-behind rules (first ∷ blocks) block =
 
 -- a speller with one more block
 
-pub fits-behind : (rules : Rules) (old : code.Speller) (blocks : List Block) (block : Block) → StandsFor rules old blocks → Ok tt ≡ ok_unless ((judged_block old.rules block).refusal (seen old.before)) → IsSpellable rules (blocks ++ block ∷ [])
+pub fits-behind : (rules : Rules) (old : code.Speller) (blocks : List Block) (block : Block) → HasSpelled rules old blocks → Ok tt ≡ ok_unless ((judged_block old.rules block).refusal (seen old.before)) → IsSpellable rules (blocks ++ block ∷ [])
 fits-behind rules old blocks block stands fine =
     one-more rules blocks block stands.spellable
     (ap (judged_block rules block).refusal (sym stands.last) ∙ ap (λ r. (judged_block r block).refusal (seen old.before)) (sym stands.same_rules) ∙ no-reason ((judged_block old.rules block).refusal (seen old.before)) fine)
 
-pub refused-behind : (rules : Rules) (old : code.Speller) (blocks : List Block) (block : Block) (why : Reason) → StandsFor rules old blocks → Err why ≡ ok_unless ((judged_block old.rules block).refusal (seen old.before)) → Refuses (Unspellable why) rules blocks block
+pub refused-behind : (rules : Rules) (old : code.Speller) (blocks : List Block) (block : Block) (why : Reason) → HasSpelled rules old blocks → Err why ≡ ok_unless ((judged_block old.rules block).refusal (seen old.before)) → Refuses (Unspellable why) rules blocks block
 refused-behind rules old blocks block why stands told =
     refuses rules blocks block why stands.spellable (told ∙ ap (λ r. ok_unless ((judged_block r block).refusal (seen old.before))) stands.same_rules ∙ ap (λ f. ok_unless ((judged_block rules block).refusal f)) stands.last)
 
-pub goes-on-behind : (rules : Rules) (old new : code.Speller) (blocks : List Block) (block : Block) → StandsFor rules old blocks → new.rules ≡ old.rules → Ok tt ≡ ok_unless ((judged_block old.rules block).refusal (seen old.before))
-    → Writes old.source new.source (gap (is_some old.before) ++ lines_of_block block) → seen new.before ≡ Some (judged_block rules block).face → StandsFor rules new (blocks ++ block ∷ [])
+pub goes-on-behind : (rules : Rules) (old new : code.Speller) (blocks : List Block) (block : Block) → HasSpelled rules old blocks → new.rules ≡ old.rules → Ok tt ≡ ok_unless ((judged_block old.rules block).refusal (seen old.before))
+    → Writes old.source new.source (gap (is_some old.before) ++ lines_of_block block) → seen new.before ≡ Some (judged_block rules block).face → HasSpelled rules new (blocks ++ block ∷ [])
 goes-on-behind rules old new blocks block stands same fine writes last =
     let lines = gap (is_some old.before) ++ lines_of_block block in
     let ended : List ℕ → List ℕ = λ line. line ++ 10 ∷ [] in

@@ -6,7 +6,7 @@ use Rattle.std.proofs.lemmas.List.Concat.{flat_map-append}
 use Rattle.std.proofs.Math.Seq.{take-append_seam, get_or-append_seam}
 use Rattle.cm_scan.proofs.lemmas.texts.TrimLemmas.{trimmed}
 use Rattle.cm_scan.specs.Words.{keep_byte, trim_end_by, trim_end_spaces}
-use Rattle.cm_source.specs.declared.source.Source.{Source}
+use Rattle.cm_source.specs.declared.source_lines.SourceLines.{SourceLines}
 use Rattle.cm_source.specs.Spelling.{in_front, parted_lines}
 use Rattle.cm_source.specs.steps.WrittenLines.{behind, further_lines, all_lines, next_front, next_begun, StandsAt, IsEnded, IsBetween, Place, IsInside, up_to, lay, Writes, BeginsLine, Ends, Lays, Enters, Leaves}
 use Rattle.cm_source.proofs.lemmas.sources.LineFronts.{seen_view, parted-lines}
@@ -125,7 +125,7 @@ pub then-ok : {T E P Q : Type 0} (r : Result T E) → (P → Q) → OnOk r P →
 then-ok (Ok x) f p = f p
 then-ok (Err e) f p = tt
 
-pub lays-text : (old new : Source) (text : List ℕ) → string_bytes new.text ≡ string_bytes old.text ++ text → new.front ≡ old.front → new.begun ≡ old.begun → new.line ≡ old.line → list_any (λ b. b == 10) text ≡ false → Lays old new text
+pub lays-text : (old new : SourceLines) (text : List ℕ) → string_bytes new.text ≡ string_bytes old.text ++ text → new.front ≡ old.front → new.begun ≡ old.begun → new.line ≡ old.line → list_any (λ b. b == 10) text ≡ false → Lays old new text
 lays-text old new text pushed same begun line none place front is = subst (λ p. IsInside new p front) (sym (lay-inside front place text none)) (record {
   text = pushed ∙ ap (λ t. t ++ text) is.text ∙ append_assoc (place.done ++ place.first) place.last text;
   begun = begun ∙ is.begun;
@@ -134,20 +134,20 @@ lays-text old new text pushed same begun line none place front is = subst (λ p.
   ended = is.ended;
 })
 
-pub lays-then : (one two three : Source) (xs ys : List ℕ) → Lays one two xs → Lays two three ys → Lays one three (xs ++ ys)
+pub lays-then : (one two three : SourceLines) (xs ys : List ℕ) → Lays one two xs → Lays two three ys → Lays one three (xs ++ ys)
 lays-then one two three xs ys first second place front is = subst (λ p. IsInside three p front) (sym (lay-more front place xs ys)) (second (lay front place xs) front (first place front is))
 
-pub lays-nothing : (source : Source) → Lays source source []
+pub lays-nothing : (source : SourceLines) → Lays source source []
 unfolding lay
 lays-nothing source place front is = is
 
 -- a line broken
-pub lays-break : (one two three : Source) → Ends one two → BeginsLine two three → Lays one three (10 ∷ [])
+pub lays-break : (one two three : SourceLines) → Ends one two → BeginsLine two three → Lays one three (10 ∷ [])
 unfolding lay
 lays-break one two three ends begins place front is = begins false (up_to place) front front (ends place front is)
 
 -- a content that stands between the beginning and the end of a line
-pub writes-content : (one two three four : Source) (content : List ℕ) → BeginsLine one two → Lays two three content → Ends three four → Writes one four (parted_lines content)
+pub writes-content : (one two three four : SourceLines) (content : List ℕ) → BeginsLine one two → Lays two three content → Ends three four → Writes one four (parted_lines content)
 writes-content one two three four content begins lays ends begun done first front is =
     let start : Place = record { done = done; first = first; last = [] } in
     let e = parted-lines content in
@@ -156,10 +156,10 @@ writes-content one two three four content begins lays ends begun done first fron
     (ends (lay front start content) front (lays start front (begins begun done first front is))))
 
 -- no line, and some lines and others behind them
-pub writes-nothing : (source : Source) → Writes source source []
+pub writes-nothing : (source : SourceLines) → Writes source source []
 writes-nothing source begun done first front is = subst (λ t. IsBetween source begun t first front) (sym (append-nil done)) is
 
-pub writes-then : (one two three : Source) (lines more : List (List ℕ)) → Writes one two lines → Writes two three more → Writes one three (lines ++ more)
+pub writes-then : (one two three : SourceLines) (lines more : List (List ℕ)) → Writes one two lines → Writes two three more → Writes one three (lines ++ more)
 writes-then one two three [] more writes then_writes begun done first front is =
     then_writes begun done first front (subst (λ t. IsBetween two begun t first front) (append-nil done) (writes begun done first front is))
 writes-then one two three (line ∷ lines) more writes then_writes begun done first front is = go more (then_writes false (done ++ all_lines first front (line ∷ lines)) front front (writes begun done first front is))
@@ -186,13 +186,13 @@ parted-one (b ∷ bs) none = go (b == 10) none (λ h. parted-one bs h)
     go false none again = ap (in_front b) (again none)
 
 -- a line that has begun
-pub begun-already : (old : Source) → old.begun ≡ true → BeginsLine old old
+pub begun-already : (old : SourceLines) → old.begun ≡ true → BeginsLine old old
 begun-already old some begun done first front is =
     let stands = subst (λ b. StandsAt b old.line (string_bytes old.text) done first front) (sym is.begun_is ∙ some) is.stands in
     record { text = stands.0 ∙ sym (append-nil (done ++ first)); begun = some; line = stands.1 ∙ ap length stands.0; front_is = is.front_is; ended = is.ended }
 
 -- a line ended: where its content is empty the spaces in front of it go
-pub ends-line : (old new : Source)
+pub ends-line : (old new : SourceLines)
     → ((old.line ≡ length (string_bytes old.text)) × (string_bytes new.text ≡ trim_end_spaces (string_bytes old.text) ++ 10 ∷ []) ⊎ (old.line ≡ length (string_bytes old.text) → ⊥) × (string_bytes new.text ≡ string_bytes old.text ++ 10 ∷ []))
     → new.front ≡ old.front → new.begun ≡ false → Ends old new
 ends-line old new text same none place front is = record {
@@ -214,7 +214,7 @@ ends-line old new text same none place front is = record {
     pushed (b ∷ bs) whole (inr (e, f)) = f ∙ ap (λ t. t ++ 10 ∷ []) (whole ∙ append_assoc place.done place.first (b ∷ bs))
 
 -- a container entered
-pub enters : (one two new : Source) (mark further : List ℕ) → BeginsLine one two → string_bytes new.text ≡ string_bytes two.text ++ mark → new.line ≡ length (string_bytes new.text) → new.begun ≡ two.begun → string_bytes new.front ≡ string_bytes two.front ++ further
+pub enters : (one two new : SourceLines) (mark further : List ℕ) → BeginsLine one two → string_bytes new.text ≡ string_bytes two.text ++ mark → new.line ≡ length (string_bytes new.text) → new.begun ≡ two.begun → string_bytes new.front ≡ string_bytes two.front ++ further
     → Enters one new mark further
 enters one two new mark further begins text line same front_is begun done first front is =
     let inside = begins begun done first front is in
@@ -227,7 +227,7 @@ enters one two new mark further begins text line same front_is begun done first 
     }
 
 -- and left: what stands in front of further lines is cut back to what did before
-cut-back : (mid new : Source) (front : ℕ) (done outer further : List ℕ) → front ≡ length outer → string_bytes new.text ≡ string_bytes mid.text → new.begun ≡ mid.begun → string_bytes new.front ≡ take front (string_bytes mid.front)
+cut-back : (mid new : SourceLines) (front : ℕ) (done outer further : List ℕ) → front ≡ length outer → string_bytes new.text ≡ string_bytes mid.text → new.begun ≡ mid.begun → string_bytes new.front ≡ take front (string_bytes mid.front)
     → IsBetween mid false done (outer ++ further) (outer ++ further) → IsBetween new false done outer outer
 cut-back mid new front done outer further long text same cut is = record {
   begun_is = same ∙ is.begun_is;
@@ -236,7 +236,7 @@ cut-back mid new front done outer further long text same cut is = record {
   ended = is.ended;
 }
 
-pub leaves-begun : (old mid new : Source) (front : ℕ) → old.begun ≡ true → Ends old mid → string_bytes new.text ≡ string_bytes mid.text → new.begun ≡ mid.begun → string_bytes new.front ≡ take front (string_bytes mid.front) → Leaves old new front
+pub leaves-begun : (old mid new : SourceLines) (front : ℕ) → old.begun ≡ true → Ends old mid → string_bytes new.text ≡ string_bytes mid.text → new.begun ≡ mid.begun → string_bytes new.front ≡ take front (string_bytes mid.front) → Leaves old new front
 leaves-begun old mid new front some ends text same cut done first outer further [] long is =
     let inside = begun-already old some true (done ++ []) first (outer ++ further) is in
     let place = ap (λ t. (t ++ behind first []) ++ 10 ∷ []) (append-nil done) ∙ append_assoc done (behind first []) (10 ∷ []) in
@@ -244,6 +244,6 @@ leaves-begun old mid new front some ends text same cut done first outer further 
     cut-back mid new front (done ++ (behind first [] ++ 10 ∷ [])) outer further long text same cut (subst (λ t. IsBetween mid false t (outer ++ further) (outer ++ further)) place after)
 leaves-begun old mid new front some ends text same cut done first outer further (line ∷ lines) long is = absurd (cc (sym some ∙ is.begun_is))
 
-pub leaves-ended : (old new : Source) (front : ℕ) → old.begun ≡ false → string_bytes new.text ≡ string_bytes old.text → new.begun ≡ old.begun → string_bytes new.front ≡ take front (string_bytes old.front) → Leaves old new front
+pub leaves-ended : (old new : SourceLines) (front : ℕ) → old.begun ≡ false → string_bytes new.text ≡ string_bytes old.text → new.begun ≡ old.begun → string_bytes new.front ≡ take front (string_bytes old.front) → Leaves old new front
 leaves-ended old new front none text same cut done first outer further [] long is = absurd (cc (sym none ∙ is.begun_is))
 leaves-ended old new front none text same cut done first outer further (line ∷ lines) long is = cut-back old new front (done ++ all_lines first (outer ++ further) (line ∷ lines)) outer further long text same cut is

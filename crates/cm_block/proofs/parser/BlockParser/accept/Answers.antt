@@ -6,7 +6,7 @@ use Rattle.cm_text.specs.Views.{seen_view}
 use Rattle.cm_text.specs.declared.view.View.{View}
 use Rattle.cm_text.specs.Limits.{LimitsView}
 use Rattle.cm_block.specs.steps.FrameSteps.{matching}
-use Rattle.cm_block.specs.steps.FrameStarts.{begun, DeepIn}
+use Rattle.cm_block.specs.steps.FrameStarts.{begun_by, DeepIn}
 use Rattle.cm_block.specs.declared.fault.BlockFault.{BlockFault}
 use Rattle.cm_block.specs.Stack.{Stack}
 use Rattle.cm_block.specs.Parser.{stack_of}
@@ -41,7 +41,7 @@ returns-clause-pushed c =
     let rules : c.close_leaf.new.self.limits.rules ≡ s.limits.rules = ap (λ (k : LimitsView). k.rules) (closed.limits ∙ c.in_ok-take_to_leaf.ensures.limits) in
     on_ok_weaker c.begin.result (λ e.
     e
-    ∙ ap₂ (λ r (v : View). begun r c.close_to.new.self (seen_view v) c.close_leaf.new.self.owners) rules c.in_ok-take_to_leaf.ensures.same
+    ∙ ap₂ (λ r (v : View). begun_by r c.close_to.new.self (seen_view v) c.close_leaf.new.self.owners) rules c.in_ok-take_to_leaf.ensures.same
     ∙ begun_after s c.take_to_leaf.new.self c.close_leaf.new.self c.close_to.new.self m left.1 closed.level closed.owners closed.frames c.in_ok-close_to.ensures.frames c.in_ok-close_to.ensures.level
     ∙ sym left.0) c.begin.ensures.pushed
 
@@ -54,7 +54,7 @@ returns-clause-deep c =
     let closed = c.in_ok-close_leaf.ensures in
     let same = begun_after s c.take_to_leaf.new.self c.close_leaf.new.self c.close_to.new.self m left.1 closed.level closed.owners closed.frames c.in_ok-close_to.ensures.frames c.in_ok-close_to.ensures.level in
     let limits : c.close_leaf.new.self.limits ≡ s.limits = closed.limits ∙ c.in_ok-take_to_leaf.ensures.limits in
-    let now : LimitsView → LineView → Stack = λ k l. begun k.rules c.close_to.new.self l c.close_leaf.new.self.owners in
+    let now : LimitsView → LineView → Stack = λ k l. begun_by k.rules c.close_to.new.self l c.close_leaf.new.self.owners in
     let after : BlockFault → LimitsView → LineView → Type 0 = λ f k l. DeepIn f k.blocks (now k l) c.close_leaf.new.self.owners in
     IfErr-weaker c.begin.result (λ f. after f c.close_leaf.new.self.limits (seen_view c.take_to_leaf.new.line.rest)) (λ f. Deep f s.limits (stack_of s) (seen_view c.args.line.now.rest))
     (λ f h. deep_after f s.limits (stack_of s) (now s.limits m.1) (seen_view c.args.line.now.rest) c.close_leaf.new.self.owners (left.0 ∙ sym same)

@@ -3,7 +3,7 @@ use Rattle.std.specs.Result.{OnOk}
 use Rattle.cm_text.specs.Lines.{LineView}
 use Rattle.cm_text.specs.Views.{seen_view}
 use Rattle.cm_text.proofs.IndentationLemmas.{line-spaces}
-use Rattle.cm_block.specs.Parser.{stack_of, StandsFor}
+use Rattle.cm_block.specs.Parser.{stack_of, HasTaken}
 use Rattle.cm_block.specs.Tests.{count_of}
 use Rattle.cm_block.specs.steps.LineTests.{Tested}
 use Rattle.cm_block.proofs.ParserLemmas.{tells_deep, stands_next}
@@ -20,7 +20,7 @@ returns-in_default-result-clause-stands c =
     let new = record c.accept-result.new.self { tests = c.saturating_add-self.result } in
     let done = c.in_default-result.ensures in
     let count = count_of (stack_of c.accept-result.new.self) - count_of (stack_of s) in
-    subst (λ r. OnOk r ((lines : List LineView) → StandsFor s lines → StandsFor new (lines ++ seen_view c.args.line.now ∷ []))) (sym c.in_default-result.is)
+    subst (λ r. OnOk r ((lines : List LineView) → HasTaken s lines → HasTaken new (lines ++ seen_view c.args.line.now ∷ []))) (sym c.in_default-result.is)
     (λ lines h. stands_next s new lines (seen_view c.args.line.now) (seen_view c.new-line.result.rest) c.accept-result.new.line.tests (ap seen_view c.new-line.ensures.line) (line-spaces c.args.line.now.spaces c.args.line.now.rest.now c.args.line.now.one_line) h
     done.pushed (done.few h.few)
     (omega (arith, c.blocks-limit.ensures.value, c.blocks-limit.ensures.bound))

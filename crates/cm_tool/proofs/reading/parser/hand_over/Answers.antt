@@ -1,7 +1,7 @@
 use Rattle.std.proofs.Common.{◌∙◌, [], ◌∷◌, ◌++◌, ap, sym, arith, drop, length, subst, append_assoc}
 use Rattle.std.proofs.lemmas.Result.{err_from_is_err_and}
 use Rattle.cm_text.specs.Views.{seen_view}
-use Rattle.cm_block.specs.Parser.{StandsFor as HasTaken}
+use Rattle.cm_block.specs.Parser.{HasTaken}
 use Rattle.cm_tool.proofs.ParserLemmas.{taken_told}
 use Rattle.cm_tool.proofs.PassedLemmas.{one_passed, hands_then}
 use Rattle.cm_tool.proofs.reading.parser.hand_over.Goals as goal

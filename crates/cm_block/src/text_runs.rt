@@ -1,0 +1,85 @@
+//! Runs of text: lines that may become definitions, a paragraph or a heading. The definitions stand at the
+//! front of a run's source.
+ghost use Rattle.std.specs.Prelude.{◌≡◌, ◌+◌, ◌<◌, ◌≤◌, ◌^◌, not, true, IfSome, IfNone};
+ghost use Rattle.cm_block.specs.Prelude.{seen_view, is_empty, definitions_of, line_feeds, rest_of, next_line};
+ghost use Rattle.cm_block.specs.declared.text_runs.NextLine.TheVariants.{Ends};
+ghost use Rattle.cm_block.specs.steps.LineTests.{Tested, ReadOnce};
+ghost use Rattle.cm_block.specs.steps.LeafSteps.{next_of, heading_level};
+
+use crate::counted_line::{CountedLine, Look};
+use cm_scan::{definition, trim_end};
+use cm_text::Rules;
+use memchr::memchr_iter;
+
+/// How many line feeds a text has.
+pub(crate) fn line_feeds(text: &str) -> usize
+    ensures count { result ≡ line_feeds text.now }
+    ensures few { result < 2 ^ 63 }
+{
+    // The iterator's own count would look at each byte.
+    let mut count = 0;
+    for _ in memchr_iter(b'\n', text.as_bytes()) {
+        count += 1;
+    }
+    count
+}
+
+/// The text behind the definitions at its front (4.7 Link reference definitions).
+fn behind_definitions(text: &str) -> &str
+    ensures { result.now ≡ (definitions_of text.now).left }
+{
+    let mut rest = text;
+    while let Some((_, end)) = definition(rest, 0) {
+        rest = &rest[end..];
+    }
+    rest
+}
+
+/// Whether something is left of a run with this source behind the definitions at its front.
+fn has_rest(source: &str) -> bool
+    ensures { result ≡ not (is_empty (rest_of source.now)) }
+{
+    !behind_definitions(trim_end(source)).is_empty()
+}
+
+/// What the next line is to a run of text.
+#[derive(Clone, Copy, Debug)]
+pub(crate) enum NextLine {
+    GoesOn,
+    Ends,
+    Underlines(u8),
+}
+
+/// The level of a heading that the line makes of a run with this source. It needs something above the line
+/// that is no definition (4.3 Setext headings).
+fn heading_level(source: &str, line: &mut CountedLine<'_>) -> Option<u8>
+    ensures level { result ≡ heading_level source.now (seen_view line.old.rest) }
+    ensures read { ReadOnce line.old line.new }
+{
+    let level = line.underline()?;
+    if !has_rest(source) {
+        return None;
+    }
+    Some(level)
+}
+
+/// What the next line is to a run with this source. An underline wins over a thematic break and an item.
+pub(crate) fn next_line(rules: Rules, source: &str, line: &mut CountedLine<'_>) -> NextLine
+    ensures next { next_of result ≡ next_line rules source.now (seen_view line.old.rest) }
+    ensures same { line.new.rest ≡ line.old.rest }
+    ensures tests { Tested 1 3 line.old.tests line.new.tests }
+    ensures lazy { result ≡ Ends → line.old.rest.lazy ≡ true → line.new.tests ≤ line.old.tests + 1 }
+{
+    match line.look() {
+        Look::Blank => return NextLine::Ends,
+        Look::Letter => return NextLine::GoesOn,
+        Look::Other => {}
+    }
+    if let Some(level) = heading_level(source, line) {
+        return NextLine::Underlines(level);
+    }
+    if line.interrupts_paragraph(rules) {
+        return NextLine::Ends;
+    }
+    NextLine::GoesOn
+}
