@@ -18,6 +18,7 @@
 #![tactic(auto)]
 
 mod blocks;
+mod definitions;
 mod fault;
 mod html_alone;
 mod inline_refusals;
@@ -30,10 +31,9 @@ mod search;
 mod source_lines;
 mod speller;
 mod texts;
-mod without_definitions;
 
+pub use definitions::{block_without_definitions, without_definitions};
 pub use fault::SourceFault;
 pub use reason::Reason;
 pub use refusals::{spellable, spellable_by};
 pub use speller::{Speller, spell, spell_by};
-pub use without_definitions::{block_without_definitions, without_definitions};

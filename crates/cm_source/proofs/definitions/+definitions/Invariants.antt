@@ -1,6 +1,6 @@
 use Rattle.std.proofs.Common.{◌≡◌, take, map}
 use Rattle.cm_source.specs.Definitions.{cleared, without_definitions}
-use Rattle.cm_source.proofs.without_definitions.+definitions.Given as goal
+use Rattle.cm_source.proofs.definitions.+definitions.Given as goal
 
 abbrev pub invariant-clear-loop-item : goal.invariant-clear-loop-item
 invariant-clear-loop-item l = goal.unvisited-clear-loop-item l

@@ -2,7 +2,7 @@ use Rattle.std.proofs.Common.{rules, ◌≡◌, ◌∙◌, refl, sym, ap, length
 use Rattle.cm_tree.specs.declared.tree.Block.TheVariants.{List as ListBlock}
 use Rattle.cm_source.specs.Definitions.{cleared, kept, without_definitions}
 use Rattle.cm_source.proofs.lemmas.spelling.WithoutDefinitions.{changed_back, list_cleared}
-use Rattle.cm_source.proofs.without_definitions.+definitions.Goals as goal
+use Rattle.cm_source.proofs.definitions.+definitions.Goals as goal
 
 pub clear-returns-after-loop-item : goal.clear-returns-after-loop-item
 clear-returns-after-loop-item t c =
