@@ -7,6 +7,9 @@ tab = 9
 abbrev pub line_feed : ℕ
 line_feed = 10
 
+abbrev pub form_feed : ℕ
+form_feed = 12
+
 abbrev pub carriage_return : ℕ
 carriage_return = 13
 
@@ -46,8 +49,14 @@ hyphen = 45
 abbrev pub full_stop : ℕ
 full_stop = 46
 
+abbrev pub slash : ℕ
+slash = 47
+
 abbrev pub colon : ℕ
 colon = 58
+
+abbrev pub semicolon : ℕ
+semicolon = 59
 
 abbrev pub less_than : ℕ
 less_than = 60
@@ -57,6 +66,9 @@ equals_sign = 61
 
 abbrev pub greater_than : ℕ
 greater_than = 62
+
+abbrev pub question_mark : ℕ
+question_mark = 63
 
 abbrev pub left_bracket : ℕ
 left_bracket = 91
