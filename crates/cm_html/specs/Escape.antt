@@ -5,12 +5,13 @@ use Rattle.std.specs.Char.{is_ascii_alphanumeric}
 use Rattle.std.specs.List.{list_any, before_first}
 use Rattle.percent_encoding.specs.Percent.{percent_encode_byte}
 pub use Rattle.cm_text.specs.Characters.{is_space_or_tab}
+use Rattle.cm_text.specs.Bytes.{quotation_mark, ampersand, less_than, greater_than}
 
 -- `&`, `<`, `>` and `"` are written as references
 abbrev pub escape_byte : ℕ → List ℕ
 escape_byte b =
-    if b == 38 then codes "&amp;"
-    else (if b == 60 then codes "&lt;" else (if b == 62 then codes "&gt;" else (if b == 34 then codes "&quot;" else b ∷ [])))
+    if b == ampersand then codes "&amp;"
+    else (if b == less_than then codes "&lt;" else (if b == greater_than then codes "&gt;" else (if b == quotation_mark then codes "&quot;" else b ∷ [])))
 
 abbrev pub escape : List ℕ → List ℕ
 escape text = flat_map escape_byte text

@@ -12,12 +12,13 @@ use Rattle.cm_tree.specs.declared.tree.ListKind.{ListKind}
 use Rattle.cm_tree.specs.declared.tree.ListKind.TheVariants.{Dash, Plus, Star, Dot, Paren}
 use Rattle.cm_tree.specs.declared.tree.Owner.{Owner}
 use Rattle.cm_tree.specs.declared.tree.Owner.TheVariants.{Leaf, Marker, Blank}
+use Rattle.cm_text.specs.Bytes.{line_feed, quotation_mark, backslash}
 
 -- a byte between quotes: `\`, `"`, line feeds and other ASCII control characters are written by escapes
 abbrev pub quote_byte : ℕ → List ℕ
 quote_byte b =
-    if b == 92 then codes "\\\\"
-    else (if b == 34 then codes "\\\"" else (if b == 10 then codes "\\n"
+    if b == backslash then codes "\\\\"
+    else (if b == quotation_mark then codes "\\\"" else (if b == line_feed then codes "\\n"
     else (if is_ascii_control b then codes "\\x" ++ digit_glyph false (b / 16) ∷ digit_glyph false (b % 16) ∷ [] else b ∷ [])))
 
 abbrev pub quoted : List ℕ → List ℕ

@@ -6,6 +6,7 @@ use Rattle.std.specs.Option.{is_some}
 use Rattle.std.specs.Char.{is_ascii_digit}
 use Rattle.std.specs.List.{list_any, list_all, before_first}
 use Rattle.std.specs.Str.{bytes_eq}
+use Rattle.cm_text.specs.Bytes.{space, quotation_mark, ampersand, less_than, greater_than}
 use Rattle.cm_text.specs.Rules.{Rules}
 use Rattle.cm_text.specs.Characters.{is_space_or_tab}
 use Rattle.cm_text.specs.Addresses.{is_followed}
@@ -23,7 +24,7 @@ references = codes "amp;" ∷ codes "lt;" ∷ codes "gt;" ∷ codes "quot;" ∷ 
 
 -- a byte of a text, by what follows it: no `<`, `>` or `"`, and a `&` only at the front of a reference
 abbrev pub may_stand : ℕ → List ℕ → Bool
-may_stand b next = if b == 38 then list_any (λ reference. begins reference next) references else not (b == 60 || b == 62 || b == 34)
+may_stand b next = if b == ampersand then list_any (λ reference. begins reference next) references else not (b == less_than || b == greater_than || b == quotation_mark)
 
 abbrev pub is_text : List ℕ → Bool
 is_text [] = true
@@ -78,22 +79,22 @@ abbrev pub behind_tag : List ℕ → List (List ℕ) → Place
 behind_tag tag names =
     if begins (codes "/") tag then closed (drop 1 tag) names
     else (if is_among lone_tags tag then InText names
-    else (if is_among opening_tags tag then InText (before_first (λ b. b == 32) tag ∷ names) else Refused))
+    else (if is_among opening_tags tag then InText (before_first (λ b. b == space) tag ∷ names) else Refused))
 
 -- behind one more byte, by what follows it
 abbrev pub behind : Rules → Place → ℕ → List ℕ → Place
-behind rules (InText names) b next = if b == 60 then InTag [] names else (if may_stand b next then InText names else Refused)
+behind rules (InText names) b next = if b == less_than then InTag [] names else (if may_stand b next then InText names else Refused)
 behind rules (InTag tag names) b next =
-    if b == 62 then behind_tag tag names else (if b == 34 then InValue tag [] names else InTag (tag ++ b ∷ []) names)
+    if b == greater_than then behind_tag tag names else (if b == quotation_mark then InValue tag [] names else InTag (tag ++ b ∷ []) names)
 behind rules (InValue tag value names) b next =
-    if b == 34
+    if b == quotation_mark
     then (if may_be_value rules tag value then InTag (tag ++ codes "\"\"") names else Refused)
     else InValue tag (value ++ b ∷ []) names
 behind rules Refused b next = Refused
 
 -- the tag that this byte ends
 abbrev pub ended : Place → ℕ → List (List ℕ)
-ended (InTag tag names) b = if b == 62 then tag ∷ [] else []
+ended (InTag tag names) b = if b == greater_than then tag ∷ [] else []
 ended place b = []
 
 -- tags in front of those that follow, if there is nothing but markup

@@ -1,5 +1,4 @@
 pub mod Brackets
-pub mod Bytes
 pub mod Depths
 pub mod Entries
 pub mod Groups

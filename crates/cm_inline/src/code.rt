@@ -2,7 +2,7 @@
 ghost use Rattle.std.specs.Prelude.{◌≡◌, ◌==◌, ◌||◌, IfOk};
 ghost use Rattle.std.specs.List.{list_all, slice_range};
 ghost use Rattle.cm_scan.specs.spans.CodeSpans.{one_line, stripped};
-ghost use Rattle.cm_inline.specs.steps.Bytes.{line_feed, space};
+ghost use Rattle.cm_text.specs.Bytes.{line_feed, space};
 ghost use Rattle.cm_inline.specs.steps.Standalone.{IsBetween};
 
 use crate::spare::Spare;

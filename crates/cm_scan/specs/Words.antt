@@ -1,6 +1,7 @@
 -- Small definitions on texts, which several grammars share. A text is its UTF-8 bytes.
 use Rattle.std.specs.Prelude.{ℕ, suc, ◌+◌, Bool, true, false, ◌&&◌, ◌||◌, List, [], ◌∷◌, Option, Some, None, ◌==◌, nat_lt, if◌then◌else◌}
 use Rattle.std.specs.List.{list_all, list_any}
+use Rattle.cm_text.specs.Bytes.{space}
 use Rattle.cm_text.specs.Characters.{within}
 pub use Rattle.cm_text.specs.Characters.{is_space_or_tab}
 unfoldable pub use Rattle.cm_text.specs.References.{after_word}
@@ -46,7 +47,7 @@ trim_start text = skip is_space_or_tab text
 -- a byte that goes from the end of a text: a space, and a tab where tabs go too
 abbrev pub is_trimmed : (tabs : Bool) → ℕ → Bool
 is_trimmed true b = is_space_or_tab b
-is_trimmed false b = b == 32
+is_trimmed false b = b == space
 
 -- a byte before what is left of the text after it
 abbrev pub keep_byte : (tabs : Bool) → ℕ → List ℕ → List ℕ

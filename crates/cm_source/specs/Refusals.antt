@@ -2,6 +2,7 @@
 -- order, parents first.
 use Rattle.std.specs.Prelude.{◌≡◌, ℕ, ◌^◌, Bool, true, false, not, ◌==◌, ◌&&◌, ◌||◌, nat_le, List, [], ◌∷◌, map, Option, Some, None}
 use Rattle.std.specs.List.{list_any, list_all}
+use Rattle.cm_text.specs.Bytes.{line_feed, carriage_return, less_than}
 use Rattle.cm_text.specs.Rules.{Rules}
 use Rattle.cm_text.specs.Lines.{lines_of, plain_lines_of}
 use Rattle.cm_tree.specs.declared.tree.Block.{Block, Block-F}
@@ -70,7 +71,7 @@ begins_too_high kind = false
 
 -- the text is nothing, or lines that line feeds end
 abbrev pub is_code_text : List ℕ → Bool
-is_code_text text = (is_empty text || ends_with 10 text) && not (list_any (λ b. b == 13) text)
+is_code_text text = (is_empty text || ends_with line_feed text) && not (list_any (λ b. b == carriage_return) text)
 
 -- the last and the first of some lines, or no text where there are none
 abbrev pub last_line : List (List ℕ) → List ℕ
@@ -96,7 +97,7 @@ is_html_part text parts = false
 
 -- The text begins with `<`. Read alone it is this one block, and its last line holds the end of its kind, if its kind has one.
 abbrev pub is_html_block : Rules → List ℕ → Bool
-is_html_block rules text = begins_with 60 text && is_html_part text (parts_of rules (plain_lines_of text)) && is_html_ended rules text
+is_html_block rules text = begins_with less_than text && is_html_part text (parts_of rules (plain_lines_of text)) && is_html_ended rules text
 
 -- A block as it is judged: what others see of it, and why it is refused behind another.
 pub record JudgedBlock : Type 0 where

@@ -9,6 +9,7 @@ use Rattle.cm_tree.specs.declared.tree.ListKind.{ListKind}
 use Rattle.cm_tree.specs.declared.tree.ListKind.TheVariants.{Dash, Plus, Star, Dot, Paren}
 use Rattle.cm_source.specs.Texts.{longest_run, spelled_text}
 use Rattle.cm_source.specs.Inlines.{spelled_content}
+use Rattle.cm_text.specs.Bytes.{line_feed, space, number_sign, greater_than, backtick}
 
 -- a byte in front of the first of some lines
 abbrev pub in_front : ℕ → List (List ℕ) → List (List ℕ)
@@ -18,30 +19,30 @@ in_front b (line ∷ lines) = (b ∷ line) ∷ lines
 -- the lines of a text that line feeds part
 unfoldable pub parted_lines : List ℕ → List (List ℕ)
 parted_lines [] = [] ∷ []
-parted_lines (b ∷ bs) = if b == 10 then [] ∷ parted_lines bs else in_front b (parted_lines bs)
+parted_lines (b ∷ bs) = if b == line_feed then [] ∷ parted_lines bs else in_front b (parted_lines bs)
 
 -- the lines of a text that line feeds end
 unfoldable pub ended_lines : List ℕ → List (List ℕ)
 ended_lines [] = []
-ended_lines (b ∷ bs) = if b == 10 then [] ∷ ended_lines bs else in_front b (ended_lines bs)
+ended_lines (b ∷ bs) = if b == line_feed then [] ∷ ended_lines bs else in_front b (ended_lines bs)
 
 -- a space in front of a text, unless it is empty
 abbrev pub spaced : List ℕ → List ℕ
 spaced [] = []
-spaced (b ∷ bs) = 32 ∷ b ∷ bs
+spaced (b ∷ bs) = space ∷ b ∷ bs
 
 -- a space and the content, if there is any
 abbrev pub after_space : List Inline → List ℕ
 after_space [] = []
-after_space (inline ∷ content) = 32 ∷ spelled_content (inline ∷ content)
+after_space (inline ∷ content) = space ∷ spelled_content (inline ∷ content)
 
 -- `##` and the content (4.2 ATX headings)
 abbrev pub heading_lines : ℕ → List Inline → List (List ℕ)
-heading_lines level content = parted_lines (replicate level 35 ++ after_space content)
+heading_lines level content = parted_lines (replicate level number_sign ++ after_space content)
 
 -- a fence of three backticks, or one more than the longest run in the text (4.5 Fenced code blocks)
 abbrev pub fence_around : List ℕ → List ℕ
-fence_around text = replicate (max 3 (suc (longest_run 0 text))) 96
+fence_around text = replicate (max 3 (suc (longest_run 0 text))) backtick
 
 abbrev pub code_lines : (info text : List ℕ) → List (List ℕ)
 code_lines info text = (fence_around text ++ spelled_text true true info) ∷ ended_lines text ++ (fence_around text ∷ [])
@@ -58,7 +59,7 @@ joined apart (first ∷ others) = first ++ flat_map (λ lines. gap apart ++ line
 
 -- a line behind `> `, and an empty one behind `>`; a quote without blocks has one empty line (5.1 Block quotes)
 abbrev pub quoted : List ℕ → List ℕ
-quoted line = 62 ∷ spaced line
+quoted line = greater_than ∷ spaced line
 
 abbrev pub quote_lines : List (List ℕ) → List (List ℕ)
 quote_lines [] = quoted [] ∷ []
@@ -75,7 +76,7 @@ marker (Paren start) = decimal start ++ codes ")"
 -- so many spaces in front of a line, unless it is empty
 abbrev pub indented : ℕ → List ℕ → List ℕ
 indented columns [] = []
-indented columns (b ∷ bs) = replicate columns 32 ++ b ∷ bs
+indented columns (b ∷ bs) = replicate columns space ++ b ∷ bs
 
 -- the first line behind the marker and a space, and the others as far indented; an item without blocks is its marker
 abbrev pub item_lines : List ℕ → List (List ℕ) → List (List ℕ)
@@ -106,4 +107,4 @@ lines_of_blocks apart blocks = joined apart (map lines_of_block blocks)
 
 -- a document: its blocks stand apart, and each line is ended by a line feed
 abbrev pub spelling_of : List Block → List ℕ
-spelling_of blocks = flat_map (λ line. line ++ 10 ∷ []) (lines_of_blocks true blocks)
+spelling_of blocks = flat_map (λ line. line ++ line_feed ∷ []) (lines_of_blocks true blocks)

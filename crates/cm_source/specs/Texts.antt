@@ -3,6 +3,7 @@ use Rattle.std.specs.Prelude.{ℕ, suc, max, Bool, false, not, ◌==◌, ◌&&�
 use Rattle.std.specs.List.{list_all}
 use Rattle.std.specs.Fmt.{decimal}
 use Rattle.std.specs.Char.{is_ascii_control}
+use Rattle.cm_text.specs.Bytes.{space, backslash, backtick}
 use Rattle.cm_text.specs.Characters.{is_ascii_punct}
 use Rattle.cm_scan.specs.Words.{is_empty, begins_with}
 use Rattle.cm_scan.specs.spans.Autolinks.{ends_with}
@@ -14,14 +15,14 @@ numbered c = codes "&#" ++ decimal c ++ codes ";"
 -- A backtick and each ASCII control character is written by its number, each other ASCII punctuation character behind a backslash
 -- (2.4 Backslash escapes), and every other character as it is.
 unfoldable pub spelled_byte : ℕ → List ℕ
-spelled_byte b = if b == 96 || is_ascii_control b then numbered b else (if is_ascii_punct b then 92 ∷ b ∷ [] else b ∷ [])
+spelled_byte b = if b == backtick || is_ascii_control b then numbered b else (if is_ascii_punct b then backslash ∷ b ∷ [] else b ∷ [])
 
 abbrev pub spelled_bytes : List ℕ → List ℕ
 spelled_bytes text = flat_map spelled_byte text
 
 -- at the beginning or the end of a line a space is written by its number, since it would be stripped there
 abbrev pub edge_byte : (at_edge : Bool) → ℕ → List ℕ
-edge_byte at_edge b = if at_edge && b == 32 then numbered 32 else spelled_byte b
+edge_byte at_edge b = if at_edge && b == space then numbered space else spelled_byte b
 
 -- a text that stands at the beginning of a line or not, and at the end of one or not
 unfoldable pub spelled_text : (first last : Bool) → List ℕ → List ℕ
@@ -31,19 +32,19 @@ spelled_text first last (b ∷ bs) = edge_byte (first || last && is_empty bs) b 
 -- the longest run of backticks, where so many stand before the text
 unfoldable pub longest_run : (before : ℕ) → List ℕ → ℕ
 longest_run before [] = before
-longest_run before (b ∷ bs) = if b == 96 then longest_run (suc before) bs else max before (longest_run 0 bs)
+longest_run before (b ∷ bs) = if b == backtick then longest_run (suc before) bs else max before (longest_run 0 bs)
 
 -- The spaces that reading a code span strips: where the text begins or ends with a backtick, or begins and ends with a space and has
 -- another character (6.1 Code spans).
 abbrev pub is_padded : List ℕ → Bool
-is_padded text = begins_with 96 text || ends_with 96 text || begins_with 32 text && ends_with 32 text && not (list_all (λ b. b == 32) text)
+is_padded text = begins_with backtick text || ends_with backtick text || begins_with space text && ends_with space text && not (list_all (λ b. b == space) text)
 
 abbrev pub padding : List ℕ → List ℕ
-padding text = if is_padded text then 32 ∷ [] else []
+padding text = if is_padded text then space ∷ [] else []
 
 -- a code span: one more backtick than the longest run in its text
 unfoldable pub spelled_code : List ℕ → List ℕ
-spelled_code text = let marks = replicate (suc (longest_run 0 text)) 96 in marks ++ padding text ++ text ++ padding text ++ marks
+spelled_code text = let marks = replicate (suc (longest_run 0 text)) backtick in marks ++ padding text ++ text ++ padding text ++ marks
 
 -- the title of a link, unless it is empty
 abbrev pub spelled_title : List ℕ → List ℕ

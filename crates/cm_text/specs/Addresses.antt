@@ -2,11 +2,12 @@
 use Rattle.std.specs.Prelude.{ℕ, Bool, true, false, ◌||◌, ◌==◌, Option, Some, None, List, [], ◌∷◌, codes}
 use Rattle.std.specs.List.{list_any}
 use Rattle.std.specs.Str.{str_eq_ignore_ascii_case}
+use Rattle.cm_text.specs.Bytes.{number_sign, slash, colon, question_mark}
 use Rattle.cm_text.specs.Rules.{Rules}
 
 -- a path, a query or a fragment begins
 abbrev pub begins_a_part : ℕ → Bool
-begins_a_part b = b == 47 || b == 63 || b == 35
+begins_a_part b = b == slash || b == question_mark || b == number_sign
 
 abbrev pub onto_scheme : ℕ → Option (List ℕ) → Option (List ℕ)
 onto_scheme b None = None
@@ -15,7 +16,7 @@ onto_scheme b (Some scheme) = Some (b ∷ scheme)
 -- What stands before the first `:`, if no `/`, `?` or `#` stands before that.
 unfoldable pub address_scheme : List ℕ → Option (List ℕ)
 address_scheme [] = None
-address_scheme (b ∷ bs) = elim (b == 58) [
+address_scheme (b ∷ bs) = elim (b == colon) [
   | true ↦ Some []
   | false ↦ elim (begins_a_part b) [ true ↦ None | false ↦ onto_scheme b (address_scheme bs) ]
 ]

@@ -4,6 +4,7 @@ use Rattle.unicode.specs.GeneralCategory.{general_category, general_category_eq}
 use Rattle.unicode.specs.GeneralCategoryGroup.{in_group}
 use Rattle.ucd_category.specs.declared.GeneralCategory.TheVariants.{SpaceSeparator}
 use Rattle.ucd_category.specs.declared.GeneralCategoryGroup.TheVariants.{Punctuation, Symbol}
+use Rattle.cm_text.specs.Bytes.{tab, line_feed, form_feed, carriage_return, space}
 use Rattle.cm_text.specs.Rules.{Rules}
 
 -- a number between two others, both included
@@ -12,7 +13,7 @@ within low high c = nat_le low c && nat_le c high
 
 -- a space or a tab
 abbrev pub is_space_or_tab : ℕ → Bool
-is_space_or_tab c = c == 32 || c == 9
+is_space_or_tab c = c == space || c == tab
 
 -- An ASCII punctuation character is !, ", #, $, %, &, ', (, ), *, +, ,, -, ., / (U+0021-2F), :, ;, <, =, >, ?, @
 -- (U+003A-0040), [, \, ], ^, _, ` (U+005B-0060), {, |, }, or ~ (U+007B-007E).
@@ -27,4 +28,4 @@ is_punct_by rules c = in_group Punctuation (general_category c) || (if rules.old
 -- A Unicode whitespace character is a character in the Unicode Zs general category, or a tab (U+0009), line feed
 -- (U+000A), form feed (U+000C), or carriage return (U+000D).
 unfoldable pub is_space : ℕ → Bool
-is_space c = general_category_eq (general_category c) SpaceSeparator || c == 9 || c == 10 || c == 12 || c == 13
+is_space c = general_category_eq (general_category c) SpaceSeparator || c == tab || c == line_feed || c == form_feed || c == carriage_return

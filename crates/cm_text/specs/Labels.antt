@@ -3,11 +3,12 @@
 -- single space".
 use Rattle.std.specs.Prelude.{ℕ, Bool, true, false, ◌==◌, ◌||◌, List, [], ◌∷◌, chars, encode_utf8_all}
 use Rattle.caseless.specs.Caseless.{default_case_fold}
+use Rattle.cm_text.specs.Bytes.{tab, space}
 use Rattle.cm_text.specs.LineText.{is_line_ending}
 
 -- a space, a tab or a line ending
 abbrev pub is_gap : ℕ → Bool
-is_gap b = b == 32 || b == 9 || is_line_ending b
+is_gap b = b == space || b == tab || is_line_ending b
 
 -- the Unicode case fold: full case folding, character by character
 unfoldable pub case_fold : List ℕ → List ℕ
@@ -32,7 +33,7 @@ strip_trailing (b ∷ bs) = keep_before b (strip_trailing bs)
 abbrev pub collapse_after : (after_gap : Bool) → List ℕ → List ℕ
 collapse_after after_gap [] = []
 collapse_after after_gap (b ∷ bs) = elim (is_gap b) [
-  | true ↦ elim after_gap [ true ↦ collapse_after true bs | false ↦ 32 ∷ collapse_after true bs ]
+  | true ↦ elim after_gap [ true ↦ collapse_after true bs | false ↦ space ∷ collapse_after true bs ]
   | false ↦ b ∷ collapse_after false bs
 ]
 

@@ -1,3 +1,4 @@
+pub mod Bytes
 pub mod LineText
 pub mod Lines
 pub mod Devices

@@ -5,6 +5,7 @@ use Rattle.std.specs.Char.{is_ascii_digit, is_ascii_hexdigit, is_ascii_alphanume
 use Rattle.std.specs.List.{prefix_len}
 use Rattle.std.specs.Str.{bytes_eq}
 use Rattle.std.specs.Str.Parse.{digits_value}
+use Rattle.cm_text.specs.Bytes.{semicolon}
 use Rattle.cm_text.specs.declared.references.Chars.{Chars}
 use Rattle.cm_text.specs.Characters.{within}
 use Rattle.cm_text.specs.NamedReferences.{names}
@@ -22,7 +23,7 @@ begins_with c (b ∷ bs) = b == c
 -- what stands before a semicolon: as many bytes as pass the test
 abbrev pub before_semicolon : (ℕ → Bool) → List ℕ → Option (List ℕ)
 before_semicolon passes text =
-    if begins_with 59 (drop (prefix_len passes text) text) then Some (take (prefix_len passes text) text) else None
+    if begins_with semicolon (drop (prefix_len passes text) text) then Some (take (prefix_len passes text) text) else None
 
 -- what stands between this front and a semicolon
 abbrev pub between : List ℕ → (ℕ → Bool) → List ℕ → Option (List ℕ)

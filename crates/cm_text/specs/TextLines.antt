@@ -1,6 +1,7 @@
 -- Lines of text: by their first bytes they can only be text, so they go on with a paragraph that is open, whatever is open round it.
 use Rattle.std.specs.Prelude.{◌≡◌, ℕ, zero, suc, ◌<◌, Bool, true, false, ◌==◌, ◌&&◌, ◌||◌, nat_le, List, [], ◌∷◌, length}
 use Rattle.std.specs.List.{flat_map}
+use Rattle.cm_text.specs.Bytes.{space}
 use Rattle.cm_text.specs.Characters.{within}
 use Rattle.cm_text.specs.Lines.{lines_of, with_line_feed}
 
@@ -12,7 +13,7 @@ begins_text b = within 65 90 b || within 97 122 b || nat_le 128 b
 abbrev pub is_text_behind : ℕ → List ℕ → Bool
 is_text_behind spaces [] = false
 is_text_behind zero (b ∷ bs) = begins_text b
-is_text_behind (suc n) (b ∷ bs) = b == 32 && is_text_behind n bs
+is_text_behind (suc n) (b ∷ bs) = b == space && is_text_behind n bs
 
 -- lines of which the first begins so behind so many spaces, and each other behind none
 abbrev pub are_text : ℕ → List (List ℕ) → Bool

@@ -10,7 +10,7 @@ use Rattle.cm_tree.specs.LinkTargets.{led_to}
 use Rattle.cm_inline.specs.declared.links.LinkEnd.{LinkEnd}
 use Rattle.cm_inline.specs.declared.links.FoundTarget.{FoundTarget}
 use Rattle.cm_inline.specs.declared.links.FoundTarget.TheVariants as found
-use Rattle.cm_inline.specs.steps.Bytes.{left_bracket, right_bracket}
+use Rattle.cm_text.specs.Bytes.{left_bracket, right_bracket}
 use Rattle.cm_inline.specs.steps.Reads.{Stands}
 
 -- `[` ends at the one place, and `]` stands at the other, no further in front.

@@ -20,7 +20,7 @@ pub use Rattle.cm_scan.specs.Words.{is_empty}
 pub use Rattle.cm_inline.specs.Reading.{Read, Reads, Refused}
 pub use Rattle.cm_inline.specs.declared.fault.InlineFault.TheVariants.{InlinesTooDeep}
 pub use Rattle.cm_inline.specs.steps.Brackets.{IsReadTo, IsReadWith, bracket_in, link_of, link_made, left_as_text, closed_at, end_for, Puts}
-pub use Rattle.cm_inline.specs.steps.Bytes.{line_feed, space, exclamation_mark, ampersand, less_than, backslash, right_bracket, backtick, tilde}
+pub use Rattle.cm_text.specs.Bytes.{line_feed, space, exclamation_mark, ampersand, less_than, backslash, right_bracket, backtick, tilde}
 pub use Rattle.cm_inline.specs.steps.Depths.{items_depth}
 pub use Rattle.cm_inline.specs.steps.Entries.{is_listed}
 pub use Rattle.cm_inline.specs.steps.Groups.{nodes_in, ArePlaced, items_in, made_of, target_of, node_of, IsNoGroup, Made, grouped, end_html, start_html, IsPlaced, node_among, nodes_among, made_among, IsAmong, AreAmong, IsGroupAmong, waiting_in, items_from}

@@ -3,6 +3,7 @@
 use Rattle.std.specs.Prelude.{ℕ, zero, suc, ◌+◌, ◌-◌, Bool, true, false, not, ◌&&◌, List, [], ◌∷◌, ◌++◌, length, Option, Some, None, ◌==◌, nat_lt, nat_le, if◌then◌else◌}
 use Rattle.std.specs.List.{flat_map, position}
 use Rattle.std.specs.Option.{option_map}
+use Rattle.cm_text.specs.Bytes.{line_feed}
 use Rattle.cm_text.specs.Rules.{Rules}
 use Rattle.cm_text.specs.Lines.{LineView}
 use Rattle.cm_text.specs.Indentation.{indent_of, strip_columns}
@@ -20,7 +21,7 @@ use Rattle.cm_scan.specs.blocks.Parts.{info_of, LeafPart, paragraph, heading, co
 -- one more line of a run of text, whose source so far is given: its leading spaces and tabs go (4.8 Paragraphs)
 abbrev pub add_text : List ℕ → LineView → List ℕ
 add_text [] line = content_of line
-add_text (b ∷ bs) line = (b ∷ bs) ++ 10 ∷ content_of line
+add_text (b ∷ bs) line = (b ∷ bs) ++ line_feed ∷ content_of line
 
 -- what is left of a run without the definitions at its front; its last line's trailing spaces and tabs go
 unfoldable pub rest_of : List ℕ → List ℕ
@@ -66,7 +67,7 @@ text_run rules source (line ∷ lines) = elim (next_line rules source line) [
 -- how many line feeds a text has
 unfoldable pub line_feeds : List ℕ → ℕ
 line_feeds [] = 0
-line_feeds (b ∷ bs) = if b == 10 then suc (line_feeds bs) else line_feeds bs
+line_feeds (b ∷ bs) = if b == line_feed then suc (line_feeds bs) else line_feeds bs
 
 -- how many lines a text has, which line feeds part
 abbrev pub line_count : List ℕ → ℕ

@@ -2,6 +2,7 @@
 -- line's indentation.
 use Rattle.std.specs.Prelude.{ℕ, Bool, true, false, not, ◌&&◌, ◌||◌, List, [], ◌∷◌, ◌++◌, Option, Some, None, ◌==◌, map, codes, if◌then◌else◌}
 use Rattle.std.specs.List.{list_any}
+use Rattle.cm_text.specs.Bytes.{less_than, greater_than}
 use Rattle.cm_text.specs.Rules.{Rules}
 use Rattle.cm_scan.specs.Words.{is_space_or_tab, is_letter, is_blank_text, after_word, is_at_word, holds_word, is_among, to_lower, given, ◌<|>◌}
 use Rattle.cm_scan.specs.spans.Tags.{tag_name, open_tag, closing_tag}
@@ -48,7 +49,7 @@ block_names rules = block_name_by rules ∷ common_block_names
 -- a space, a tab, the end of the line or `>` comes next
 abbrev pub is_at_name_end : List ℕ → Bool
 is_at_name_end [] = true
-is_at_name_end (b ∷ bs) = is_space_or_tab b || b == 62
+is_at_name_end (b ∷ bs) = is_space_or_tab b || b == greater_than
 
 -- the same, or `/>`
 abbrev pub is_at_tag_end : List ℕ → Bool
@@ -56,7 +57,7 @@ is_at_tag_end text = is_at_name_end text || is_at_word (codes "/>") text
 
 -- a word, and then the end of a name
 abbrev pub is_named_start : List ℕ → List ℕ → Bool
-is_named_start text name = elim (after_word (60 ∷ name) text) [ Some rest ↦ is_at_name_end rest | None ↦ false ]
+is_named_start text name = elim (after_word (less_than ∷ name) text) [ Some rest ↦ is_at_name_end rest | None ↦ false ]
 
 -- condition 1: `<pre`, `<script`, `<style` or `<textarea`
 unfoldable pub is_raw_text_start : List ℕ → Bool
@@ -94,7 +95,7 @@ is_any_tag_start text = elim (closing_tag text) [
 -- the first condition that is met; each wants a `<`, and rules with raw HTML
 unfoldable pub html_start : Rules → List ℕ → Option HtmlKind
 html_start rules [] = None
-html_start rules (b ∷ bs) = elim (b == 60 && rules.raw_html) [
+html_start rules (b ∷ bs) = elim (b == less_than && rules.raw_html) [
   | true ↦ given (is_raw_text_start (b ∷ bs)) RawText
       <|> given (is_at_word (codes "<!--") (b ∷ bs)) Comment
       <|> given (is_at_word (codes "<?") (b ∷ bs)) Instruction

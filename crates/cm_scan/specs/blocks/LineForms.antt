@@ -4,6 +4,7 @@ use Rattle.std.specs.List.{list_any, list_all, fold}
 use Rattle.cm_tree.specs.declared.tree.ListKind.{ListKind}
 use Rattle.cm_tree.specs.declared.tree.ListKind.TheVariants.{Dash, Plus, Star, Dot, Paren}
 use Rattle.cm_scan.specs.Words.{is_space_or_tab, is_digit, is_blank_text, is_at_gap, skip, front_of, run_length, after_run, trim, given, ◌<|>◌}
+use Rattle.cm_text.specs.Bytes.{number_sign, right_parenthesis, asterisk, plus_sign, hyphen, full_stop, equals_sign, underscore, backtick, tilde}
 
 -- three or more of one character, with spaces and tabs between and after (4.1 Thematic breaks)
 abbrev pub is_break_of : ℕ → List ℕ → Bool
@@ -11,7 +12,7 @@ is_break_of marker text = list_all (λ b. b == marker || is_space_or_tab b) text
 
 -- a thematic break, of `-`, of `_` or of `*`
 unfoldable pub is_thematic_break : List ℕ → Bool
-is_thematic_break text = is_break_of 45 text || is_break_of 95 text || is_break_of 42 text
+is_thematic_break text = is_break_of hyphen text || is_break_of underscore text || is_break_of asterisk text
 
 -- a level and a content (4.2 ATX headings)
 pub record Heading : Type 0 where
@@ -23,13 +24,13 @@ pub record Heading : Type 0 where
 unfoldable pub without_closing : (after_gap : Bool) → List ℕ → List ℕ
 without_closing after_gap [] = []
 without_closing after_gap (b ∷ bs) =
-    if after_gap && list_all (λ c. c == 35) (b ∷ bs) then [] else b ∷ without_closing (is_space_or_tab b) bs
+    if after_gap && list_all (λ c. c == number_sign) (b ∷ bs) then [] else b ∷ without_closing (is_space_or_tab b) bs
 
 -- an ATX heading: one to six `#`, and then a space, a tab or the line's end
 unfoldable pub atx_heading : List ℕ → Option Heading
 atx_heading text =
-    let level = run_length 35 text in
-    let behind = after_run 35 text in
+    let level = run_length number_sign text in
+    let behind = after_run number_sign text in
     given (nat_le 1 level && nat_le level 6 && is_at_gap behind) (record { level = level; content = trim (without_closing true (trim behind)) })
 
 -- one character alone, and spaces and tabs after it
@@ -38,7 +39,7 @@ is_underline_of marker text = nat_le 1 (run_length marker text) && is_blank_text
 
 -- the level that an underline gives: 1 for `=`, 2 for `-` (4.3 Setext headings)
 unfoldable pub underline : List ℕ → Option ℕ
-underline text = given (is_underline_of 61 text) 1 <|> given (is_underline_of 45 text) 2
+underline text = given (is_underline_of equals_sign text) 1 <|> given (is_underline_of hyphen text) 2
 
 -- the character of a fence, how many there are, and the info string (4.5 Fenced code blocks)
 pub record Fence : Type 0 where
@@ -53,12 +54,12 @@ fence_of marker text =
 
 -- behind backticks the info string has no backtick
 abbrev pub backticks_or : Option Fence → Option Fence → Option Fence
-backticks_or (Some fence) other = given (not (list_any (λ b. b == 96) fence.info)) fence
+backticks_or (Some fence) other = given (not (list_any (λ b. b == backtick) fence.info)) fence
 backticks_or None other = other
 
 -- an opening fence: three or more backticks or tildes
 unfoldable pub opening_fence : List ℕ → Option Fence
-opening_fence text = backticks_or (fence_of 96 text) (fence_of 126 text)
+opening_fence text = backticks_or (fence_of backtick text) (fence_of tilde text)
 
 -- a closing fence: as many of the fence's character or more, and spaces and tabs after them
 unfoldable pub is_closing_fence : Fence → List ℕ → Bool
@@ -75,11 +76,11 @@ marker_width marker = suc marker.digits
 
 -- `-`, `+` or `*`
 abbrev pub bullet_kind : ℕ → Option ListKind
-bullet_kind b = given (b == 45) Dash <|> given (b == 43) Plus <|> given (b == 42) Star
+bullet_kind b = given (b == hyphen) Dash <|> given (b == plus_sign) Plus <|> given (b == asterisk) Star
 
 -- `.` or `)` behind a number
 abbrev pub ordered_kind : ℕ → ℕ → Option ListKind
-ordered_kind number b = given (b == 46) (Dot number) <|> given (b == 41) (Paren number)
+ordered_kind number b = given (b == full_stop) (Dot number) <|> given (b == right_parenthesis) (Paren number)
 
 abbrev pub marker_at_gap : Option ListKind → ℕ → List ℕ → Option ItemMarker
 marker_at_gap None digits behind = None

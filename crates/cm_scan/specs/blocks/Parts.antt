@@ -2,6 +2,7 @@
 -- the tree of blocks, the owner of each line, whether a paragraph is left open, and how deep each line
 -- stands.
 use Rattle.std.specs.Prelude.{ℕ, suc, ◌+◌, Bool, true, false, not, ◌&&◌, ◌||◌, List, [], ◌∷◌, ◌++◌, nat_lt, Option, Some, None, map, replicate, if◌then◌else◌}
+use Rattle.cm_text.specs.Bytes.{space}
 use Rattle.cm_text.specs.Rules.{Rules}
 use Rattle.cm_text.specs.Unescaping.{unescape}
 use Rattle.cm_tree.specs.declared.tree.Block.{Block}
@@ -18,7 +19,7 @@ use Rattle.cm_scan.specs.blocks.LineForms.{is_same_kind}
 
 -- a line feed, a form feed or a carriage return as a space
 abbrev pub as_space : ℕ → ℕ
-as_space b = if is_line_space b then 32 else b
+as_space b = if is_line_space b then space else b
 
 -- The info of a code block, from its source: backslash escapes and references stand for their characters (2.4, 2.5). By rules
 -- without raw HTML it is one line, of which a reader of HTML sees the same words.

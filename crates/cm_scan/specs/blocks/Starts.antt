@@ -1,5 +1,6 @@
 -- What a line begins, and what can interrupt a paragraph (CommonMark 0.31.2, chapters 4 and 5).
 use Rattle.std.specs.Prelude.{ℕ, ◌+◌, Bool, true, false, not, ◌&&◌, ◌||◌, List, Option, Some, None, ◌==◌, nat_lt, nat_le, if◌then◌else◌}
+use Rattle.cm_text.specs.Bytes.{greater_than}
 use Rattle.cm_text.specs.Rules.{Rules}
 use Rattle.cm_text.specs.Lines.{LineView}
 use Rattle.cm_text.specs.Indentation.{indent_of, strip_columns}
@@ -32,7 +33,7 @@ or_text (Some start) = start
 -- the first that fits, with up to 3 columns of indentation
 unfoldable pub start_of_content : Rules → List ℕ → Start
 start_of_content rules text = or_text (
-    given (begins_with 62 text) QuoteMarker
+    given (begins_with greater_than text) QuoteMarker
     <|> seen_as AtxHeading (atx_heading text)
     <|> seen_as OpeningFence (opening_fence text)
     <|> seen_as HtmlStart (html_start rules text)

@@ -1,6 +1,7 @@
 -- The atoms of a leaf's source (CommonMark 0.31.2, chapter 6). Its lines are parted by line feeds. The byte
 -- at a place tells what is tried there. Where nothing fits, that byte is text.
 use Rattle.std.specs.Prelude.{ℕ, Bool, true, false, ◌&&◌, ◌||◌, ◌==◌, nat_le, if◌then◌else◌, List, [], ◌∷◌, drop, reverse, replicate, slice_get, Option, Some, None, codes, chars, encode_utf8_all}
+use Rattle.cm_text.specs.Bytes.{line_feed, space, exclamation_mark, ampersand, asterisk, less_than, left_bracket, backslash, right_bracket, underscore, backtick, tilde}
 use Rattle.cm_text.specs.Rules.{Rules}
 use Rattle.cm_text.specs.References.{reference}
 use Rattle.cm_text.specs.Unescaping.{escape}
@@ -32,7 +33,7 @@ read atom rest = Some (record { atom = atom; rest = rest })
 unfoldable pub backtick_atom : List ℕ → Option AtomRead
 backtick_atom text = elim (code_span text) [
   | Some span ↦ read (Whole (Code span.text)) span.rest
-  | None ↦ read (Plain (replicate (run_length 96 text) 96)) (after_run 96 text)
+  | None ↦ read (Plain (replicate (run_length backtick text) backtick)) (after_run backtick text)
 ]
 
 abbrev pub link_of : Autolink → Inline
@@ -60,8 +61,8 @@ reference_atom text = elim (reference text) [ Some found ↦ read (Plain (encode
 -- A line ending with the spaces before it: behind two or more spaces a hard line break, else a soft one (6.7 Hard line breaks, 6.8
 -- Soft line breaks).
 unfoldable pub break_atom : List ℕ → Option AtomRead
-break_atom text = elim (after_word (codes "\n") (after_run 32 text)) [
-  | Some rest ↦ read (Whole (if nat_le 2 (run_length 32 text) then Hard else Soft)) rest
+break_atom text = elim (after_word (codes "\n") (after_run space text)) [
+  | Some rest ↦ read (Whole (if nat_le 2 (run_length space text) then Hard else Soft)) rest
   | None ↦ None
 ]
 
@@ -89,9 +90,9 @@ run_atom rules before character text =
 
 -- With strikethrough a run of exactly two tildes is a delimiter run; each other run of tildes is text.
 unfoldable pub tilde_atom : Rules → (before : List ℕ) → List ℕ → Option AtomRead
-tilde_atom rules before text = elim (rules.strike && run_length 126 text == 2) [
-  | true ↦ run_atom rules before 126 text
-  | false ↦ read (Plain (replicate (run_length 126 text) 126)) (after_run 126 text)
+tilde_atom rules before text = elim (rules.strike && run_length tilde text == 2) [
+  | true ↦ run_atom rules before tilde text
+  | false ↦ read (Plain (replicate (run_length tilde text) tilde)) (after_run tilde text)
 ]
 
 -- `[`, `![` or `]` (6.3 Links, 6.4 Images)
@@ -100,35 +101,37 @@ bang_atom text = elim (after_word (codes "![") text) [ Some rest ↦ read (OpenB
 
 -- the bytes that are looked at more closely: a space, for the line ending that may follow, and the bytes of markup
 abbrev pub is_markup : ℕ → Bool
-is_markup b = b == 10 || b == 32 || b == 33 || b == 38 || b == 42 || b == 60 || b == 91 || b == 92 || b == 93 || b == 95 || b == 96 || b == 126
+is_markup b =
+    b == line_feed || b == space || b == exclamation_mark || b == ampersand || b == asterisk || b == less_than || b == left_bracket
+    || b == backslash || b == right_bracket || b == underscore || b == backtick || b == tilde
 
 -- the atom that such a byte begins, if it begins one
 unfoldable pub markup_atom : Rules → (before : List ℕ) → ℕ → List ℕ → Option AtomRead
-markup_atom rules before b bs = elim (b == 96) [
+markup_atom rules before b bs = elim (b == backtick) [
   | true ↦ backtick_atom (b ∷ bs)
   | false ↦
-      elim (b == 60) [
+      elim (b == less_than) [
         | true ↦ angle_atom rules (b ∷ bs)
         | false ↦
-            elim (b == 92) [
+            elim (b == backslash) [
               | true ↦ backslash_atom (b ∷ bs)
               | false ↦
-                  elim (b == 38) [
+                  elim (b == ampersand) [
                     | true ↦ reference_atom (b ∷ bs)
                     | false ↦
-                        elim (b == 10 || b == 32) [
+                        elim (b == line_feed || b == space) [
                           | true ↦ break_atom (b ∷ bs)
                           | false ↦
-                              elim (b == 126) [
+                              elim (b == tilde) [
                                 | true ↦ tilde_atom rules before (b ∷ bs)
                                 | false ↦
-                                    elim (b == 33) [
+                                    elim (b == exclamation_mark) [
                                       | true ↦ bang_atom (b ∷ bs)
                                       | false ↦
-                                          elim (b == 91) [
+                                          elim (b == left_bracket) [
                                             | true ↦ read (OpenBracket false) bs
                                             | false ↦
-                                                elim (b == 93) [
+                                                elim (b == right_bracket) [
                                                   | true ↦ read CloseBracket bs
                                                   | false ↦
                                                       run_atom rules before b (b ∷ bs)

@@ -2,6 +2,7 @@
 -- with the last first.
 use Rattle.std.specs.Prelude.{ℕ, ◌-◌, Bool, true, false, not, ◌&&◌, ◌||◌, List, [], ◌∷◌, ◌++◌, length, take, reverse, Option, Some, None, codes, if◌then◌else◌}
 use Rattle.std.specs.FinMap.{get}
+use Rattle.cm_text.specs.Bytes.{right_bracket}
 use Rattle.cm_text.specs.Rules.{Rules}
 use Rattle.cm_text.specs.Addresses.{is_followed}
 use Rattle.cm_text.specs.Labels.{fold_label}
@@ -140,7 +141,7 @@ source_up_to source left = take (length source - length left) source
 unfoldable pub closed_by_bracket : Rules → Defined → OpenerFound → List ℕ → Bracketed
 closed_by_bracket rules defined found rest = elim (not found.image && holds_link found.inside) [
   | true ↦ record { items = brackets_are_text found; rest = rest }
-  | false ↦ elim (end_at rules defined (source_up_to found.source (93 ∷ rest)) rest) [
+  | false ↦ elim (end_at rules defined (source_up_to found.source (right_bracket ∷ rest)) rest) [
     | Some end ↦ record { items = made found.image end.dest end.title found.inside ∷ found.before; rest = end.rest }
     | None ↦ record { items = brackets_are_text found; rest = rest }
   ]

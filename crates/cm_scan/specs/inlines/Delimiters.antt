@@ -1,5 +1,6 @@
 -- Delimiter runs (CommonMark 0.31.2, 6.2 Emphasis and strong emphasis). Runs of two tildes are this project's own extension.
 use Rattle.std.specs.Prelude.{ℕ, ◌+◌, ◌%◌, Bool, true, false, not, ◌&&◌, ◌||◌, ◌==◌, Option, Some, None, if◌then◌else◌}
+use Rattle.cm_text.specs.Bytes.{underscore, tilde}
 use Rattle.cm_text.specs.Rules.{Rules}
 use Rattle.cm_text.specs.Characters.{is_space, is_punct_by}
 
@@ -36,7 +37,7 @@ is_right_flanking before after = is_left_flanking after before
 -- Rules 1 and 5: a run of `*` may open just where it is left-flanking, and so a run of `~`. Rules 2 and 6: a run of `_` where it
 -- is left-flanking, and either not right-flanking or preceded by a Unicode punctuation character.
 abbrev pub may_open : ℕ → Neighbour → Neighbour → Bool
-may_open c before after = is_left_flanking before after && (not (c == 95) || not (is_right_flanking before after) || is_punctuation before)
+may_open c before after = is_left_flanking before after && (not (c == underscore) || not (is_right_flanking before after) || is_punctuation before)
 
 -- Rules 3, 4, 7 and 8: a run may close just where its mirror image may open.
 abbrev pub may_close : ℕ → Neighbour → Neighbour → Bool
@@ -62,7 +63,7 @@ is_both run = run.opens && run.closes
 unfoldable pub delimiters_match : Run → Run → Bool
 delimiters_match closer opener =
     closer.character == opener.character
-    && (closer.character == 126
+    && (closer.character == tilde
     || not (is_both closer || is_both opener)
     || not (is_multiple_of_3 (closer.whole + opener.whole))
     || (is_multiple_of_3 closer.whole && is_multiple_of_3 opener.whole))

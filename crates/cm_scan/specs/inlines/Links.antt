@@ -2,6 +2,7 @@
 -- A text is a leaf's source: its lines are parted by line feeds.
 use Rattle.std.specs.Prelude.{ℕ, zero, suc, ◌-◌, Bool, true, false, not, ◌&&◌, ◌||◌, List, [], ◌∷◌, length, Option, Some, None, ◌==◌, nat_le, if◌then◌else◌, count_by, codes}
 use Rattle.std.specs.List.{list_all}
+use Rattle.cm_text.specs.Bytes.{line_feed, space, quotation_mark, apostrophe, left_parenthesis, right_parenthesis, less_than, greater_than, left_bracket, backslash, right_bracket}
 use Rattle.cm_text.specs.Characters.{within, is_ascii_punct}
 use Rattle.cm_scan.specs.Words.{is_control, is_empty, begins_with, trim_start, after_word, given, ◌<|>◌}
 use Rattle.cm_scan.specs.spans.Tags.{is_blank_byte, is_blank_next, after_gap}
@@ -24,7 +25,7 @@ keep_if test (Some r) = given (test r) r
 -- the byte escapes what follows it (2.4 Backslash escapes)
 abbrev pub escapes_next : ℕ → List ℕ → Bool
 escapes_next b [] = false
-escapes_next b (c ∷ cs) = b == 92 && is_ascii_punct c
+escapes_next b (c ∷ cs) = b == backslash && is_ascii_punct c
 
 -- Up to the first byte that closes, which is taken off; there is none where a forbidden byte stands before it. The mark says
 -- that the first byte is escaped: it neither closes nor is forbidden.
@@ -49,23 +50,23 @@ is_label r = nat_le (characters r.text) 999 && not (list_all is_blank_byte r.tex
 -- not allowed inside. A link label can have at most 999 characters.
 unfoldable pub label : List ℕ → Option Reading
 label [] = None
-label (b ∷ bs) = elim (b == 91) [
-  | true ↦ keep_if is_label (up_to_closing (λ c. c == 93) (λ c. c == 91) false bs)
+label (b ∷ bs) = elim (b == left_bracket) [
+  | true ↦ keep_if is_label (up_to_closing (λ c. c == right_bracket) (λ c. c == left_bracket) false bs)
   | false ↦ None
 ]
 
 -- how many parentheses are open behind a byte
 abbrev pub opened_by : ℕ → ℕ → ℕ
-opened_by opened b = if b == 40 then suc opened else (if b == 41 then opened - 1 else opened)
+opened_by opened b = if b == left_parenthesis then suc opened else (if b == right_parenthesis then opened - 1 else opened)
 
 -- Up to the first space, ASCII control character, or right parenthesis that no left one opened. There is none where one is still
 -- open then, or more than 32 are open at once. The mark says that the first byte is escaped.
 unfoldable pub bare_run : ℕ → (escaped : Bool) → List ℕ → Option Reading
 bare_run opened escaped [] = given (opened == 0) (record { text = []; rest = [] })
 bare_run opened true (b ∷ bs) = behind b (bare_run opened false bs)
-bare_run opened false (b ∷ bs) = elim (b == 32 || is_control b || (b == 41 && opened == 0)) [
+bare_run opened false (b ∷ bs) = elim (b == space || is_control b || (b == right_parenthesis && opened == 0)) [
   | true ↦ given (opened == 0) (record { text = []; rest = b ∷ bs })
-  | false ↦ elim (b == 40 && opened == 32) [ true ↦ None | false ↦ behind b (bare_run (opened_by opened b) (escapes_next b bs) bs) ]
+  | false ↦ elim (b == left_parenthesis && opened == 32) [ true ↦ None | false ↦ behind b (bare_run (opened_by opened b) (escapes_next b bs) bs) ]
 ]
 
 abbrev pub is_filled : Reading → Bool
@@ -76,15 +77,15 @@ is_filled r = not (is_empty r.text)
 -- parentheses only if they are escaped or balanced.
 unfoldable pub destination : List ℕ → Option Reading
 destination [] = None
-destination (b ∷ bs) = elim (b == 60) [
-  | true ↦ up_to_closing (λ c. c == 62) (λ c. c == 60 || c == 10) false bs
+destination (b ∷ bs) = elim (b == less_than) [
+  | true ↦ up_to_closing (λ c. c == greater_than) (λ c. c == less_than || c == line_feed) false bs
   | false ↦ keep_if is_filled (bare_run 0 false (b ∷ bs))
 ]
 
 -- two line endings with nothing but spaces and tabs between
 unfoldable pub has_blank_line : List ℕ → Bool
 has_blank_line [] = false
-has_blank_line (b ∷ bs) = (b == 10 && begins_with 10 (trim_start bs)) || has_blank_line bs
+has_blank_line (b ∷ bs) = (b == line_feed && begins_with line_feed (trim_start bs)) || has_blank_line bs
 
 abbrev pub has_no_blank_line : Reading → Bool
 has_no_blank_line r = not (has_blank_line r.text)
@@ -92,9 +93,9 @@ has_no_blank_line r = not (has_blank_line r.text)
 -- the title that a byte begins: between `"`, between `'`, or between `(` and `)`
 unfoldable pub title_in : ℕ → List ℕ → Option Reading
 title_in b text =
-    if b == 34 then up_to_closing (λ c. c == 34) (λ c. false) false text
-    else (if b == 39 then up_to_closing (λ c. c == 39) (λ c. false) false text
-    else (if b == 40 then up_to_closing (λ c. c == 41) (λ c. c == 40) false text
+    if b == quotation_mark then up_to_closing (λ c. c == quotation_mark) (λ c. false) false text
+    else (if b == apostrophe then up_to_closing (λ c. c == apostrophe) (λ c. false) false text
+    else (if b == left_parenthesis then up_to_closing (λ c. c == right_parenthesis) (λ c. c == left_parenthesis) false text
     else None))
 
 -- Although link titles may span multiple lines, they may not contain a blank line.
@@ -111,7 +112,7 @@ pub record LinkDefinition : Type 0 where
 
 abbrev pub at_line_end : List ℕ → Option (List ℕ)
 at_line_end [] = Some []
-at_line_end (b ∷ bs) = given (b == 10) bs
+at_line_end (b ∷ bs) = given (b == line_feed) bs
 
 -- behind the end of the line, where nothing but spaces and tabs stand before it
 unfoldable pub after_line : List ℕ → Option (List ℕ)

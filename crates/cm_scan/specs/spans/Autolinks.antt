@@ -2,6 +2,7 @@
 -- are an autolink.
 use Rattle.std.specs.Prelude.{ℕ, Bool, true, false, not, ◌&&◌, ◌||◌, List, [], ◌∷◌, ◌++◌, length, Option, Some, None, ◌==◌, if◌then◌else◌, codes}
 use Rattle.std.specs.List.{list_all, list_any}
+use Rattle.cm_text.specs.Bytes.{space, plus_sign, hyphen, full_stop, colon, less_than, greater_than}
 use Rattle.cm_text.specs.Rules.{Rules}
 use Rattle.cm_text.specs.Characters.{within}
 use Rattle.cm_text.specs.Addresses.{is_followed}
@@ -10,7 +11,7 @@ use Rattle.cm_scan.specs.inlines.Links.{Reading}
 
 -- ASCII control characters, space, `<`, and `>` stand in no autolink.
 abbrev pub is_inside : ℕ → Bool
-is_inside b = not (is_control b || b == 32 || b == 60 || b == 62)
+is_inside b = not (is_control b || b == space || b == less_than || b == greater_than)
 
 abbrev pub ended : List ℕ → Option (List ℕ) → Option Reading
 ended inside None = None
@@ -26,7 +27,7 @@ in_angles text = elim (after_word (codes "<") text) [
 -- A scheme is any sequence of 2-32 characters beginning with an ASCII letter and followed by any combination of ASCII letters,
 -- digits, or the symbols plus ("+"), period ("."), or hyphen ("-").
 abbrev pub continues_scheme : ℕ → Bool
-continues_scheme b = is_letter_or_digit b || b == 43 || b == 46 || b == 45
+continues_scheme b = is_letter_or_digit b || b == plus_sign || b == full_stop || b == hyphen
 
 unfoldable pub is_scheme : List ℕ → Bool
 is_scheme [] = false
@@ -34,7 +35,7 @@ is_scheme (b ∷ bs) = is_letter b && within 1 31 (length bs)
 
 -- An absolute URI consists of a scheme followed by a colon (:) followed by zero or more characters.
 unfoldable pub is_absolute : List ℕ → Bool
-is_absolute text = is_scheme (front_of continues_scheme text) && begins_with 58 (skip continues_scheme text)
+is_absolute text = is_scheme (front_of continues_scheme text) && begins_with colon (skip continues_scheme text)
 
 abbrev pub stands_in_address : ℕ → Bool
 stands_in_address b = is_letter_or_digit b || list_any (λ c. b == c) (codes ".!#$%&'*+/=?^_`{|}~-")
@@ -47,7 +48,7 @@ onto_first b (part ∷ parts) = (b ∷ part) ∷ parts
 -- what stands between the dots
 unfoldable pub labels : List ℕ → List (List ℕ)
 labels [] = [] ∷ []
-labels (b ∷ bs) = elim (b == 46) [ true ↦ [] ∷ labels bs | false ↦ onto_first b (labels bs) ]
+labels (b ∷ bs) = elim (b == full_stop) [ true ↦ [] ∷ labels bs | false ↦ onto_first b (labels bs) ]
 
 unfoldable pub ends_with : ℕ → List ℕ → Bool
 ends_with c [] = false
@@ -55,7 +56,7 @@ ends_with c (b ∷ bs) = elim (is_empty bs) [ true ↦ b == c | false ↦ ends_w
 
 -- a label of a host: 1 to 63 letters, digits or hyphens, with no hyphen at an end
 unfoldable pub is_host_label : List ℕ → Bool
-is_host_label label = within 1 63 (length label) && list_all (λ b. is_letter_or_digit b || b == 45) label && not (begins_with 45 label) && not (ends_with 45 label)
+is_host_label label = within 1 63 (length label) && list_all (λ b. is_letter_or_digit b || b == hyphen) label && not (begins_with hyphen label) && not (ends_with hyphen label)
 
 -- An email address is anything that matches the non-normative regex from the HTML5 spec: characters, `@`, and labels with dots
 -- between them.

@@ -4,19 +4,20 @@ use Rattle.std.specs.List.{list_all}
 use Rattle.cm_scan.specs.Words.{is_empty, begins_with, run_length, after_run}
 use Rattle.cm_scan.specs.inlines.Links.{Reading, behind}
 use Rattle.cm_scan.specs.spans.Autolinks.{ends_with}
+use Rattle.cm_text.specs.Bytes.{line_feed, space, backtick}
 
 -- What stands before the next run of exactly so many backticks, and what is left behind that run. The mark says that a backtick
 -- stands before the text, so that no run begins here.
 unfoldable pub up_to_run : ℕ → (in_run : Bool) → List ℕ → Option Reading
 up_to_run n in_run [] = None
-up_to_run n in_run (b ∷ bs) = elim (b == 96 && not in_run && run_length 96 (b ∷ bs) == n) [
-  | true ↦ Some (record { text = []; rest = after_run 96 (b ∷ bs) })
-  | false ↦ behind b (up_to_run n (b == 96) bs)
+up_to_run n in_run (b ∷ bs) = elim (b == backtick && not in_run && run_length backtick (b ∷ bs) == n) [
+  | true ↦ Some (record { text = []; rest = after_run backtick (b ∷ bs) })
+  | false ↦ behind b (up_to_run n (b == backtick) bs)
 ]
 
 -- First, line endings are converted to spaces.
 abbrev pub one_line : List ℕ → List ℕ
-one_line text = map (λ b. if b == 10 then 32 else b) text
+one_line text = map (λ b. if b == line_feed then space else b) text
 
 unfoldable pub but_last : List ℕ → List ℕ
 but_last [] = []
@@ -29,7 +30,7 @@ but_ends (b ∷ bs) = but_last bs
 -- If the resulting string both begins and ends with a space character, but does not consist entirely of space characters, a
 -- single space character is removed from the front and back.
 unfoldable pub stripped : List ℕ → List ℕ
-stripped text = if begins_with 32 text && ends_with 32 text && not (list_all (λ b. b == 32) text) then but_ends text else text
+stripped text = if begins_with space text && ends_with space text && not (list_all (λ b. b == space) text) then but_ends text else text
 
 abbrev pub span_content : Option Reading → Option Reading
 span_content None = None
@@ -46,8 +47,8 @@ spanned n text = span_content (as_written n text)
 -- A code span begins with a backtick string and ends with a backtick string of equal length: its content, and what is left
 -- behind it.
 unfoldable pub code_span : List ℕ → Option Reading
-code_span text = spanned (run_length 96 text) (after_run 96 text)
+code_span text = spanned (run_length backtick text) (after_run backtick text)
 
 -- A code span as it is written: what stands between the two strings, and what is left behind it.
 unfoldable pub spanned_as_written : List ℕ → Option Reading
-spanned_as_written text = as_written (run_length 96 text) (after_run 96 text)
+spanned_as_written text = as_written (run_length backtick text) (after_run backtick text)

@@ -2,14 +2,15 @@
 -- always decides how it goes on.
 use Rattle.std.specs.Prelude.{ℕ, zero, suc, Bool, true, false, not, ◌||◌, List, [], ◌∷◌, length, Option, Some, None, ◌==◌, if◌then◌else◌, codes}
 use Rattle.cm_scan.specs.Words.{is_space_or_tab, is_letter, is_digit, is_letter_or_digit, skip, front_of, trim_start, after_word}
+use Rattle.cm_text.specs.Bytes.{line_feed, quotation_mark, apostrophe, hyphen, full_stop, colon, less_than, equals_sign, greater_than, underscore, backtick}
 
 -- a space, a tab or a line ending, which in a leaf's source is a line feed
 abbrev pub is_blank_byte : ℕ → Bool
-is_blank_byte b = is_space_or_tab b || b == 10
+is_blank_byte b = is_space_or_tab b || b == line_feed
 
 abbrev pub after_line_ending : List ℕ → List ℕ
 after_line_ending [] = []
-after_line_ending (b ∷ bs) = if b == 10 then trim_start bs else b ∷ bs
+after_line_ending (b ∷ bs) = if b == line_feed then trim_start bs else b ∷ bs
 
 -- behind spaces, tabs, and up to one line ending
 unfoldable pub after_gap : List ℕ → List ℕ
@@ -29,20 +30,20 @@ pub record Named : Type 0 where
 unfoldable pub tag_name : List ℕ → Option Named
 tag_name [] = None
 tag_name (b ∷ bs) = elim (is_letter b) [
-  | true ↦ Some (record { name = b ∷ front_of (λ c. is_letter_or_digit c || c == 45) bs; rest = skip (λ c. is_letter_or_digit c || c == 45) bs })
+  | true ↦ Some (record { name = b ∷ front_of (λ c. is_letter_or_digit c || c == hyphen) bs; rest = skip (λ c. is_letter_or_digit c || c == hyphen) bs })
   | false ↦ None
 ]
 
 -- An attribute name consists of an ASCII letter, `_`, or `:`, followed by zero or more ASCII letters, digits, `_`, `.`, `:`, or `-`.
 abbrev pub begins_attribute : ℕ → Bool
-begins_attribute b = is_letter b || b == 95 || b == 58
+begins_attribute b = is_letter b || b == underscore || b == colon
 
 abbrev pub continues_attribute : ℕ → Bool
-continues_attribute b = begins_attribute b || is_digit b || b == 46 || b == 45
+continues_attribute b = begins_attribute b || is_digit b || b == full_stop || b == hyphen
 
 -- An unquoted attribute value doesn't include spaces, tabs, line endings, `"`, `'`, `=`, `<`, `>`, or a backtick.
 abbrev pub is_unquoted : ℕ → Bool
-is_unquoted b = not (is_blank_byte b || b == 34 || b == 39 || b == 61 || b == 60 || b == 62 || b == 96)
+is_unquoted b = not (is_blank_byte b || b == quotation_mark || b == apostrophe || b == equals_sign || b == less_than || b == greater_than || b == backtick)
 
 -- a value that this quotation mark ends
 unfoldable pub after_quoted : ℕ → List ℕ → Option (List ℕ)
@@ -55,10 +56,10 @@ after_unquoted text = skip is_unquoted text
 -- an attribute value: in double quotes, in single quotes, or unquoted, which has at least one character
 unfoldable pub after_value : List ℕ → Option (List ℕ)
 after_value [] = None
-after_value (b ∷ bs) = elim (b == 34) [
-  | true ↦ after_quoted 34 bs
-  | false ↦ elim (b == 39) [
-    | true ↦ after_quoted 39 bs
+after_value (b ∷ bs) = elim (b == quotation_mark) [
+  | true ↦ after_quoted quotation_mark bs
+  | false ↦ elim (b == apostrophe) [
+    | true ↦ after_quoted apostrophe bs
     | false ↦ elim (is_unquoted b) [ true ↦ Some (after_unquoted bs) | false ↦ None ]
   ]
 ]
