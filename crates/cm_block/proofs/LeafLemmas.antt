@@ -15,11 +15,11 @@ use Rattle.cm_scan.specs.blocks.Starts.{IndentedCode, OpeningFence, HtmlStart}
 use Rattle.cm_scan.specs.blocks.Parts.{html, info_of}
 use Rattle.cm_scan.specs.blocks.Blocks.{line_feeds, NextLine, next_line, closes_fence, code_line}
 use Rattle.cm_block.proofs.FeedLemmas.{feeds_append, feeds_ended}
-use Rattle.cm_block.specs.declared.open_leaf.OpenLeaf.{OpenLeaf}
-use Rattle.cm_block.specs.declared.open_leaf.OpenLeaf.TheVariants as leaf
+use Rattle.cm_block.specs.declared.leaf_kind.LeafKind.{LeafKind}
+use Rattle.cm_block.specs.declared.leaf_kind.LeafKind.TheVariants as leaf
 use Rattle.cm_block.specs.OpenLeaf.{no_leaf, open_text, open_code, open_fence, open_html, closed_leaves, LeafLine, stays_open, is_last, begins_leaf, begin_of_start, line_of_text, line_of_code, line_of_fence, line_of_html, line_of_leaf}
-use Rattle.cm_block.specs.LeafViews.{ended, code_of, leaf_of}
-use Rattle.cm_block.specs.steps.LeafSteps.{leaves_of_closed, closed_as}
+use Rattle.cm_block.specs.LeafViews.{ended, code_of, leaf_with}
+use Rattle.cm_block.specs.steps.LeafSteps.{leaves_with}
 
 -- spaces in front of a line don't matter to the end of an HTML block
 
@@ -45,15 +45,24 @@ pub html_ends : (kind : HtmlKind) (n : ℕ) (text : List ℕ) (read : Option ℕ
     → is_some read ≡ is_html_end kind (replicate n 32 ++ text)
 html_ends kind n text read end e = ap is_some e ∙ some-given (is_html_end kind text) end ∙ sym (end-spaces kind n text)
 
+-- by which kind it is open
+
+pub is_nothing : (kind : LeafKind) (text : List ℕ) → leaf_with kind text ≡ no_leaf → kind ≡ leaf.Nothing
+is_nothing leaf.Nothing text h = refl
+is_nothing leaf.Run text h = absurd (cc (h))
+is_nothing (leaf.Code blank_lines) text h = absurd (cc (h))
+is_nothing (leaf.Fence kind info columns) text h = absurd (cc (h))
+is_nothing (leaf.Html kind) text h = absurd (cc (h))
+
 -- closing
 
-pub closes : (x : OpenLeaf) → leaves_of_closed (closed_as None false x) ≡ closed_leaves (leaf_of x)
+pub closes : (kind : LeafKind) (text : List ℕ) → leaves_with None false kind text ≡ closed_leaves (leaf_with kind text)
 unfolding closed_leaves
-closes leaf.Nothing = refl
-closes (leaf.Run source) = refl
-closes (leaf.Code text blank_lines) = refl
-closes (leaf.Fence kind info columns text) = refl
-closes (leaf.Html kind text) = refl
+closes leaf.Nothing text = refl
+closes leaf.Run text = refl
+closes (leaf.Code blank_lines) text = refl
+closes (leaf.Fence kind info columns) text = refl
+closes (leaf.Html kind) text = refl
 
 -- a line behind indented code
 

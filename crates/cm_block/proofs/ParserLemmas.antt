@@ -66,17 +66,6 @@ module _ (x : OpenLeaf) (xs : List (LeafPart × ℕ)) (n : ℕ) (leaves : xs ≡
       let z : 0 ≡ n = omega (arith, none) in
       is ∙ ap (own_leaves s) leaves ∙ ap (λ m. own_blanks q m (own_leaves s (closed_leaves x))) (z ∙ blanks)
 
--- a run of text is closed as it stands
-
-module _ (x : OpenLeaf) (source : List ℕ) (is : x ≡ a_run source) where
-  pub run_closed : (v w : Level) → w ≡ close_leaves v (run_leaves None source) → w ≡ close_open v (in_leaf x)
-  unfolding closed_leaves
-  run_closed v w = level_without x (run_leaves None source) 0 (ap closed_leaves (sym is)) (ap blank_lines_behind (sym is)) v w (omega arith)
-
-  pub run_owned : (q : Bool) (s t : Owned) → t ≡ own_leaves s (run_leaves None source) → t ≡ own_open q s (in_leaf x)
-  unfolding closed_leaves
-  run_owned q s t = owners_without x (run_leaves None source) 0 (ap closed_leaves (sym is)) (ap blank_lines_behind (sym is)) q s t (omega arith)
-
 -- where no leaf is open, nothing is closed
 
 pub nothing_closed : (v : Level) (x : OpenLeaf) → x ≡ no_leaf → v ≡ close_open v (in_leaf x)

@@ -4,7 +4,8 @@ use Rattle.std.specs.Prelude.{ℕ, suc, List, [], ◌∷◌, ◌++◌, string_by
 use Rattle.cm_scan.specs.blocks.HtmlKinds.{kind_of}
 use Rattle.cm_scan.specs.blocks.Blocks.{line_feeds}
 use Rattle.cm_block.specs.declared.open_leaf.OpenLeaf.{OpenLeaf}
-use Rattle.cm_block.specs.declared.open_leaf.OpenLeaf.TheVariants.{Nothing, Run, Code, Fence, Html}
+use Rattle.cm_block.specs.declared.leaf_kind.LeafKind.{LeafKind}
+use Rattle.cm_block.specs.declared.leaf_kind.LeafKind.TheVariants.{Nothing, Run, Code, Fence, Html}
 use Rattle.cm_block.specs.OpenLeaf as spec
 use Rattle.cm_block.specs.OpenLeaf.{no_leaf, open_text, open_code, open_fence, open_html, run_leaves, stays_open, is_last}
 
@@ -16,10 +17,14 @@ ended text = text ++ 10 ∷ []
 abbrev pub code_of : List ℕ → List ℕ → spec.OpenLeaf
 code_of text blank_lines = open_code (ended text) (suc (line_feeds text)) blank_lines (line_feeds blank_lines)
 
-abbrev pub leaf_of : OpenLeaf → spec.OpenLeaf
-leaf_of Nothing = no_leaf
-leaf_of (Run source) = open_text source
-leaf_of (Code text blank_lines) = code_of text blank_lines
-leaf_of (Fence kind info columns text) =
+-- the leaf of this kind with this text
+abbrev pub leaf_with : LeafKind → List ℕ → spec.OpenLeaf
+leaf_with Nothing text = no_leaf
+leaf_with Run text = open_text text
+leaf_with (Code blank_lines) text = code_of text blank_lines
+leaf_with (Fence kind info columns) text =
     open_fence (record { marker = kind.marker; count = kind.count; info = string_bytes info }) columns text (suc (line_feeds text))
-leaf_of (Html kind text) = open_html (kind_of kind) (ended text) (suc (line_feeds text))
+leaf_with (Html kind) text = open_html (kind_of kind) (ended text) (suc (line_feeds text))
+
+abbrev pub leaf_of : OpenLeaf → spec.OpenLeaf
+leaf_of leaf = leaf_with leaf.kind leaf.text

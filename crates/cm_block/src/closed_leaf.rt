@@ -1,53 +1,31 @@
 //! Leaf blocks that are closed, and how they are put into the level in which they stand.
-ghost use Rattle.std.specs.Prelude.{◌≡◌, ◌+◌, ◌<◌, ◌≤◌, ◌^◌, length, drop, IfOk, OnOk};
-ghost use Rattle.cm_block.specs.Prelude.{trim_end, definitions_of, leaf_block, definition, code};
+ghost use Rattle.std.specs.Prelude.{◌≡◌, ◌+◌, ◌<◌, ◌≤◌, ◌^◌, [], suc, length, drop, IfOk, OnOk};
+ghost use Rattle.cm_block.specs.Prelude.{trim_end, definitions_of, leaf_block, definition, code, html};
 ghost use Rattle.cm_block.specs.Prelude.{line_feeds, line_count, definition_leaves, content_leaf};
 ghost use Rattle.cm_block.specs.Level.{block_closes};
 ghost use Rattle.cm_block.specs.OpenLeaf.{run_leaves};
 ghost use Rattle.cm_block.specs.Stack.{close_leaves, own_leaf, own_leaves};
-ghost use Rattle.cm_block.specs.steps.LeafSteps.{fence_lines, leaves_of_closed, own_plain_leaf};
+ghost use Rattle.cm_block.specs.LeafViews.{ended};
+ghost use Rattle.cm_block.specs.steps.LeafSteps.{fence_lines, whole_leaves, own_plain_leaf};
 
 use crate::leaf_block::LeafBlock;
+use crate::leaf_kind::LeafKind;
 use crate::leaf_text::LeafText;
 use crate::line_owners::Owners;
-use crate::rooms::TextRoom;
+use crate::open_leaf::OpenLeaf;
 use crate::stack::Stack;
 use crate::text_runs::line_feeds;
 use cm_scan::{LinkDefinition, definition, trim_end};
 use cm_text::{NoMemory, unescape_or_lend};
 use std::alloc::{AllocError, Global};
 
-/// A leaf block that is closed, or a run of text. Its lines are counted by the line feeds of its text.
+/// A leaf block of one line, which further lines never go on with.
 #[derive(Debug, Drop)]
-pub(crate) enum ClosedLeaf {
-    /// No leaf.
-    Nothing,
-    /// A run of text, which an underline may have ended: definitions, and then a paragraph or a heading.
-    Run {
-        source: LeafText,
-        heading: Option<u8>,
-    },
-    /// An ATX heading.
-    Heading {
-        level: u8,
-        content: String,
-    },
-    /// A thematic break.
+pub(crate) enum WholeLeaf {
+    /// An ATX heading (4.2 ATX headings).
+    Heading { level: u8, content: String },
+    /// A thematic break (4.1 Thematic breaks).
     Break,
-    /// Indented code: its lines, parted by line feeds.
-    Code {
-        text: LeafText,
-    },
-    /// Fenced code: its info, its lines, each with a line feed, and whether it has a closing fence.
-    Fenced {
-        info: String,
-        text: LeafText,
-        ended: bool,
-    },
-    /// HTML: its lines, parted by line feeds.
-    Html {
-        text: LeafText,
-    },
 }
 
 /// How many lines a leaf has with so many line feeds in its text, and so many more.
@@ -165,7 +143,8 @@ fn put_content(
 }
 
 /// Puts the leaves of a run: the definitions at its front, and what is left.
-pub(crate) fn put_run(
+#[inline(always)]
+fn put_run(
     alloc: Global,
     source: &LeafText,
     heading: Option<u8>,
@@ -214,62 +193,114 @@ fn fence_lines(ended: bool, text: &LeafText) -> Result<usize, AllocError>
     count_lines(text.feeds(), if ended { 2 } else { 1 })
 }
 
-impl ClosedLeaf {
-    /// Puts the leaf at the end of the innermost level, and its lines at the end of the owners. The memory of
-    /// its text is kept.
-    pub(crate) fn put(
-        self,
+/// Puts indented code, whose lines line feeds part (4.4 Indented code blocks).
+fn put_indented(
+    text: &mut LeafText,
+    stack: &mut Stack,
+    owners: &mut Owners,
+) -> Result<(), AllocError>
+    ensures level { OnOk result (stack.new.level
+        ≡ block_closes stack.old.level (leaf_block (code [] (ended text.old)))) }
+    ensures frames { stack.new.frames ≡ stack.old.frames }
+    ensures bare { stack.new.bare ≡ stack.old.bare }
+    ensures owners { OnOk result (owners.new ≡ own_plain_leaf owners.old (suc (line_feeds text.old))) }
+{
+    let lines = count_lines(text.feeds(), 1)?;
+    text.end_line()?;
+    put_code("", text.as_str(), lines, stack, owners)
+}
+
+/// Puts HTML, whose lines line feeds part (4.6 HTML blocks).
+fn put_html(text: &mut LeafText, stack: &mut Stack, owners: &mut Owners) -> Result<(), AllocError>
+    ensures level { OnOk result (stack.new.level
+        ≡ block_closes stack.old.level (leaf_block (html (ended text.old)))) }
+    ensures frames { stack.new.frames ≡ stack.old.frames }
+    ensures bare { stack.new.bare ≡ stack.old.bare }
+    ensures owners { OnOk result (owners.new ≡ own_plain_leaf owners.old (suc (line_feeds text.old))) }
+{
+    let lines = count_lines(text.feeds(), 1)?;
+    text.end_line()?;
+    owners.leaf(lines)?;
+    stack.put(&LeafBlock::Html {
+        text: text.as_str(),
+    })
+}
+
+impl OpenLeaf {
+    ghost use Rattle.cm_block.specs.OpenLeaf.{no_leaf};
+    ghost use Rattle.cm_block.specs.LeafViews.{leaf_of};
+    ghost use Rattle.cm_block.specs.steps.LeafSteps.{leaves_with};
+
+    /// Puts the leaf at the end of the innermost level, closed by an underline of this level or by none, and
+    /// by a closing fence or by none, and its lines at the end of the owners. It is left open.
+    #[inline(always)]
+    fn put_open(
+        &mut self,
         alloc: Global,
-        leaves: &mut TextRoom,
+        heading: Option<u8>,
+        ended: bool,
         stack: &mut Stack,
         owners: &mut Owners,
     ) -> Result<(), NoMemory>
-        ensures level { OnOk result (stack.new.level ≡ close_leaves stack.old.level (leaves_of_closed self)) }
+        ensures level { OnOk result (stack.new.level
+            ≡ close_leaves stack.old.level (leaves_with heading ended self.old.kind self.old.text)) }
         ensures frames { stack.new.frames ≡ stack.old.frames }
         ensures bare { stack.new.bare ≡ stack.old.bare }
-        ensures owners { OnOk result (owners.new ≡ own_leaves owners.old (leaves_of_closed self)) }
+        ensures owners { OnOk result (owners.new
+            ≡ own_leaves owners.old (leaves_with heading ended self.old.kind self.old.text)) }
     {
+        match &self.kind {
+            LeafKind::Nothing => Ok(()),
+            LeafKind::Run => put_run(alloc, &self.text, heading, stack, owners),
+            LeafKind::Code { .. } => Ok(put_indented(&mut self.text, stack, owners)?),
+            LeafKind::Fence { info, .. } => {
+                let lines = fence_lines(ended, &self.text)?;
+                Ok(put_code(info, self.text.as_str(), lines, stack, owners)?)
+            }
+            LeafKind::Html { .. } => Ok(put_html(&mut self.text, stack, owners)?),
+        }
+    }
+
+    /// Puts the leaf, closed by an underline of this level or by none, and by a closing fence or by none. No
+    /// leaf is open then.
+    #[inline(always)]
+    pub(crate) fn put(
+        &mut self,
+        alloc: Global,
+        heading: Option<u8>,
+        ended: bool,
+        stack: &mut Stack,
+        owners: &mut Owners,
+    ) -> Result<(), NoMemory>
+        ensures level { OnOk result (stack.new.level
+            ≡ close_leaves stack.old.level (leaves_with heading ended self.old.kind self.old.text)) }
+        ensures frames { stack.new.frames ≡ stack.old.frames }
+        ensures bare { stack.new.bare ≡ stack.old.bare }
+        ensures owners { OnOk result (owners.new
+            ≡ own_leaves owners.old (leaves_with heading ended self.old.kind self.old.text)) }
+        ensures closed { OnOk result (leaf_of self.new ≡ no_leaf) }
+    {
+        self.put_open(alloc, heading, ended, stack, owners)?;
+        self.clear();
+        Ok(())
+    }
+}
+
+impl WholeLeaf {
+    /// Puts the leaf at the end of the innermost level, and its line at the end of the owners.
+    pub(crate) fn put(self, stack: &mut Stack, owners: &mut Owners) -> Result<(), AllocError>
+        ensures level { OnOk result (stack.new.level ≡ close_leaves stack.old.level (whole_leaves self)) }
+        ensures frames { stack.new.frames ≡ stack.old.frames }
+        ensures bare { stack.new.bare ≡ stack.old.bare }
+        ensures owners { OnOk result (owners.new ≡ own_leaves owners.old (whole_leaves self)) }
+    {
+        owners.leaf(1)?;
         match self {
-            ClosedLeaf::Nothing => Ok(()),
-            ClosedLeaf::Run { source, heading } => {
-                put_run(alloc, &source, heading, stack, owners)?;
-                leaves.keep(source);
-                Ok(())
-            }
-            ClosedLeaf::Heading { level, content } => {
-                owners.leaf(1)?;
-                Ok(stack.put(&LeafBlock::Heading {
-                    level,
-                    source: &content,
-                })?)
-            }
-            ClosedLeaf::Break => {
-                owners.leaf(1)?;
-                Ok(stack.put(&LeafBlock::Break)?)
-            }
-            ClosedLeaf::Code { mut text } => {
-                let lines = count_lines(text.feeds(), 1)?;
-                text.end_line()?;
-                put_code("", text.as_str(), lines, stack, owners)?;
-                leaves.keep(text);
-                Ok(())
-            }
-            ClosedLeaf::Fenced { info, text, ended } => {
-                let lines = fence_lines(ended, &text)?;
-                put_code(&info, text.as_str(), lines, stack, owners)?;
-                leaves.keep(text);
-                Ok(())
-            }
-            ClosedLeaf::Html { mut text } => {
-                let lines = count_lines(text.feeds(), 1)?;
-                text.end_line()?;
-                owners.leaf(lines)?;
-                stack.put(&LeafBlock::Html {
-                    text: text.as_str(),
-                })?;
-                leaves.keep(text);
-                Ok(())
-            }
+            WholeLeaf::Heading { level, content } => stack.put(&LeafBlock::Heading {
+                level,
+                source: &content,
+            }),
+            WholeLeaf::Break => stack.put(&LeafBlock::Break),
         }
     }
 }

@@ -6,13 +6,13 @@ ghost use Rattle.cm_block.specs.Prelude.{is_html_end, kind_of, place_if_lazy, pl
 ghost use Rattle.cm_block.specs.Prelude.{place_in_item, interrupts_paragraph, underline_of, goes_inward};
 ghost use Rattle.cm_block.specs.Prelude.{line_feeds, add_text, closes_fence, plain_lines_of};
 ghost use Rattle.cm_text.specs.Rules as all;
-ghost use Rattle.cm_block.specs.OpenLeaf.{stays_open, line_of_leaf, begins_leaf, begin_of_start};
-ghost use Rattle.cm_block.specs.LeafViews.{code_of};
+ghost use Rattle.cm_block.specs.OpenLeaf.{no_leaf, stays_open, line_of_leaf, begins_leaf, begin_of_start};
+ghost use Rattle.cm_block.specs.LeafViews.{code_of, leaf_of};
 ghost use Rattle.cm_block.specs.steps.LineTests.{Tested};
 ghost use Rattle.cm_block.specs.steps.TextRuns.{add_lines};
 ghost use Rattle.cm_block.specs.steps.StartViews.{seen};
 ghost use Rattle.cm_block.specs.steps.PlaceViews.{IsInside};
-ghost use Rattle.cm_block.specs.steps.FirstLines.{first_of, begins_container};
+ghost use Rattle.cm_block.specs.steps.FirstLines.{first_of, StaysClosed, begins_container};
 
 mod copies;
 mod ends;
@@ -23,7 +23,7 @@ mod places;
 mod starts;
 
 use crate::leaf_text::LeafText;
-use crate::rooms::TextRoom;
+use crate::open_leaf::OpenLeaf;
 use crate::stack::Frame;
 use cm_scan::{FenceKind, HtmlKind};
 use cm_text::{NoMemory, Rules, TextLines, View};
@@ -387,21 +387,24 @@ impl<'a> CountedLine<'a> {
     }
 
     /// Begins the leaf block that was found to begin with the line. A quote's or an item's marker begins
-    /// none. What is open takes the room of texts.
+    /// none. No leaf is open so far.
+    #[inline(always)]
     pub(crate) fn begin_leaf(
         &mut self,
         alloc: Global,
         rules: Rules,
-        leaves: &mut TextRoom,
+        leaf: &mut OpenLeaf,
         start: &LeafStart<'_>,
     ) -> Result<Option<FirstLine>, NoMemory>
-        ensures leaf { IfOk result (λ first. IfSome first (λ f. begins_leaf (first_of f)
+        requires { leaf_of leaf.old ≡ no_leaf }
+        ensures leaf { IfOk result (λ first. IfSome first (λ f. begins_leaf (first_of f leaf.new)
             ≡ begin_of_start rules (seen start.now.found) (seen_view self.old.rest))) }
+        ensures closed { IfOk result (λ first. IfSome first (λ f. StaysClosed f leaf.new)) }
         ensures container { IfOk result (λ first.
             IfNone first (begins_container (seen start.now.found) ≡ true)) }
         ensures read { ReadOnce self.old self.new }
     {
-        begin_leaf(alloc, rules, leaves, start, &self.read())
+        begin_leaf(alloc, rules, leaf, start, &self.read())
     }
 }
 

@@ -28,6 +28,7 @@ mod fault;
 mod infos;
 pub mod laws;
 mod leaf_block;
+mod leaf_kind;
 mod leaf_text;
 mod level;
 mod line_owners;

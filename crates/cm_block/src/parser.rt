@@ -6,9 +6,10 @@ ghost use Rattle.cm_block.specs.declared.fault.BlockFault as faults;
 ghost use Rattle.cm_block.specs.declared.fault.BlockFault.TheVariants as block_faults;
 ghost use Rattle.cm_block.specs.OpenLeaf.{no_leaf};
 ghost use Rattle.cm_block.specs.Machine.{in_leaf};
-ghost use Rattle.cm_block.specs.Stack.{close_open, own_open, push_line};
+ghost use Rattle.cm_block.specs.Stack.{close_leaves, close_open, own_leaves, own_open, push_line};
 ghost use Rattle.cm_block.specs.steps.FrameSteps.{quoted_by};
 ghost use Rattle.cm_block.specs.LeafViews.{leaf_of};
+ghost use Rattle.cm_block.specs.steps.LeafSteps.{leaves_with};
 ghost use Rattle.cm_block.specs.steps.StartViews.{seen};
 ghost use Rattle.cm_block.specs.steps.FirstLines.{begins_container};
 ghost use Rattle.cm_block.specs.steps.FrameStarts.{begun_by, with_blank, LeafBegins, DeepIn};
@@ -17,20 +18,17 @@ ghost use Rattle.cm_block.specs.Tests.{count_of};
 ghost use Rattle.cm_block.specs.steps.LineTests.{Tested};
 ghost use Rattle.cm_block.specs.steps.ParserSteps.{Deep, TakenToLeaf};
 
-use crate::closed_leaf::put_run;
 use crate::containers::Innermost;
 use crate::counted_line::{CountedLine, CountedLines, FirstLine, LeafStart};
 use crate::fault::BlockFault;
-use crate::leaf_text::LeafText;
+use crate::leaf_kind::LeafKind;
 use crate::line_owners::Owners;
 use crate::open_leaf::{LeafLine, OpenLeaf};
 use crate::owner_runs::LineOwners;
-use crate::rooms::TextRoom;
 use crate::stack::Stack;
 use cm_text::{Limits, Line, NoMemory, TextLines, View};
 use cm_tree::{Definitions, RawTree};
 use std::alloc::Global;
-use std::mem;
 
 /// The block structure of a document: its tree, in which the source of a paragraph or heading stands as one
 /// text, the owner of each line, and its link reference definitions; and how often its lines were read.
@@ -58,8 +56,6 @@ pub struct BlockParser {
     stack: Stack,
     leaf: OpenLeaf,
     owners: Owners,
-    /// Memory for the texts of leaves to come.
-    leaves: TextRoom,
     tests: u128,
     fault: Option<BlockFault>,
 }
@@ -82,12 +78,34 @@ impl BlockParser {
             alloc,
             limits,
             stack: Stack::new(alloc),
-            leaf: OpenLeaf::Nothing,
+            leaf: OpenLeaf::new(alloc),
             owners: Owners::new(alloc),
-            leaves: TextRoom::new(alloc),
             tests: 0,
             fault: None,
         }
+    }
+
+    /// Puts the open leaf, closed by an underline of this level or by none, and by a closing fence or by none.
+    #[inline(always)]
+    fn put_leaf(&mut self, heading: Option<u8>, ended: bool) -> Result<(), NoMemory>
+        ensures level { OnOk result (self.new.stack.level ≡ close_leaves self.old.stack.level
+            (leaves_with heading ended self.old.leaf.kind self.old.leaf.text)) }
+        ensures owners { OnOk result (self.new.owners ≡ own_leaves self.old.owners
+            (leaves_with heading ended self.old.leaf.kind self.old.leaf.text)) }
+        ensures leaf { OnOk result (leaf_of self.new.leaf ≡ no_leaf) }
+        ensures frames { self.new.stack.frames ≡ self.old.stack.frames }
+        ensures bare { self.new.stack.bare ≡ self.old.stack.bare }
+        ensures tests { self.new.tests ≡ self.old.tests }
+        ensures limits { self.new.limits ≡ self.old.limits }
+        ensures fault { self.new.fault ≡ self.old.fault }
+    {
+        self.leaf.put(
+            self.alloc,
+            heading,
+            ended,
+            &mut self.stack,
+            &mut self.owners,
+        )
     }
 
     /// Closes the open leaf.
@@ -98,31 +116,18 @@ impl BlockParser {
         ensures owners { OnOk result (self.new.owners
             ≡ own_open (quoted_by false self.old.stack.frames) self.old.owners
             (in_leaf (leaf_of self.old.leaf))) }
-        ensures leaf { leaf_of self.new.leaf ≡ no_leaf }
+        ensures leaf { OnOk result (leaf_of self.new.leaf ≡ no_leaf) }
         ensures frames { self.new.stack.frames ≡ self.old.stack.frames }
         ensures bare { self.new.stack.bare ≡ self.old.stack.bare }
         ensures tests { self.new.tests ≡ self.old.tests }
         ensures limits { self.new.limits ≡ self.old.limits }
         ensures fault { self.new.fault ≡ self.old.fault }
     {
-        if let OpenLeaf::Nothing = self.leaf {
+        if let LeafKind::Nothing = self.leaf.kind {
             return Ok(());
         }
-        // Most leaves are runs of text, which are put from where they stand.
-        if let OpenLeaf::Run { source } = &mut self.leaf {
-            let source = mem::replace(source, LeafText::new(self.alloc));
-            self.leaf = OpenLeaf::Nothing;
-            put_run(self.alloc, &source, None, &mut self.stack, &mut self.owners)?;
-            self.leaves.keep(source);
-            return Ok(());
-        }
-        let (leaf, blank_lines) = mem::replace(&mut self.leaf, OpenLeaf::Nothing).close();
-        leaf.put(
-            self.alloc,
-            &mut self.leaves,
-            &mut self.stack,
-            &mut self.owners,
-        )?;
+        let blank_lines = self.leaf.blank_lines();
+        self.put_leaf(None, false)?;
         if blank_lines > 0 {
             self.stack.push_blank();
             self.owners
@@ -165,19 +170,12 @@ impl BlockParser {
     {
         self.stack.open_block()?;
         let rules = self.limits.rules();
-        match line.begin_leaf(self.alloc, rules, &mut self.leaves, start)? {
-            Some(FirstLine::Opens(leaf)) => self.leaf = leaf,
-            Some(FirstLine::Whole(leaf)) => {
-                leaf.put(
-                    self.alloc,
-                    &mut self.leaves,
-                    &mut self.stack,
-                    &mut self.owners,
-                )?;
-            }
-            None => {}
+        match line.begin_leaf(self.alloc, rules, &mut self.leaf, start)? {
+            Some(FirstLine::Opens) => Ok(()),
+            Some(FirstLine::Ends) => self.put_leaf(None, false),
+            Some(FirstLine::Whole(leaf)) => Ok(leaf.put(&mut self.stack, &mut self.owners)?),
+            None => Ok(()),
         }
-        Ok(())
     }
 
     /// What a line begins in the innermost container, where no leaf is open.
@@ -231,14 +229,7 @@ impl BlockParser {
         }
         match self.leaf.take_line(self.limits.rules(), line)? {
             LeafLine::Stays => {}
-            LeafLine::Last(leaf) => {
-                leaf.put(
-                    self.alloc,
-                    &mut self.leaves,
-                    &mut self.stack,
-                    &mut self.owners,
-                )?;
-            }
+            LeafLine::Last { heading, ended } => self.put_leaf(heading, ended)?,
             LeafLine::Leaves => return Ok(false),
         }
         Ok(true)
@@ -382,7 +373,6 @@ impl BlockParser {
             stack,
             leaf: _,
             owners,
-            leaves: _,
             tests,
             fault: _,
         } = self;

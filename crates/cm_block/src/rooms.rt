@@ -1,40 +1,9 @@
-//! Memory that is kept for the next leaf or container. It holds nothing until then.
+//! Memory that is kept for the next container. It holds nothing until then.
 ghost use Rattle.std.specs.Prelude.{◌≡◌, []};
 
-use crate::leaf_text::LeafText;
 use cm_tree::RawBlock;
 use std::alloc::Global;
 use std::mem;
-
-/// Memory for the text of a leaf to come. It holds no bytes.
-#[derive(Debug, Drop)]
-pub(crate) struct TextRoom {
-    text: LeafText,
-    ghost empty: { text ≡ [] },
-}
-
-impl TextRoom {
-    /// No memory.
-    pub(crate) fn new(alloc: Global) -> TextRoom {
-        TextRoom {
-            text: LeafText::new(alloc),
-        }
-    }
-
-    /// A text with nothing in it yet, in this memory, of which none is left.
-    pub(crate) fn take(&mut self, alloc: Global) -> LeafText
-        ensures { result ≡ [] }
-    {
-        let TextRoom { text } = mem::replace(self, TextRoom::new(alloc));
-        text
-    }
-
-    /// Keeps the memory of a text that is done with, and none of its bytes.
-    pub(crate) fn keep(&mut self, mut text: LeafText) {
-        text.clear();
-        *self = TextRoom { text };
-    }
-}
 
 /// Memory for the blocks of a container to come. It holds no blocks.
 #[derive(Debug, Drop)]

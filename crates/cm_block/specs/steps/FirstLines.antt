@@ -1,5 +1,5 @@
 -- The first line of a leaf block, as the code has it.
-use Rattle.std.specs.Prelude.{◌≡◌, Bool, true, false}
+use Rattle.std.specs.Prelude.{◌≡◌, ⊤, Bool, true, false, None}
 use Rattle.cm_text.specs.Rules.{Rules}
 use Rattle.cm_text.specs.Lines.{LineView}
 use Rattle.cm_scan.specs.blocks.Lines.{is_blank}
@@ -7,15 +7,23 @@ use Rattle.cm_scan.specs.blocks.Starts.{Start, QuoteMarker, ItemStart}
 use Rattle.cm_block.specs.declared.counted_line.Begins.{Begins}
 use Rattle.cm_block.specs.declared.counted_line.Begins.TheVariants.{Nothing, Quote, Item, Leaf}
 use Rattle.cm_block.specs.declared.counted_line.first_line.FirstLine.{FirstLine}
-use Rattle.cm_block.specs.declared.counted_line.first_line.FirstLine.TheVariants.{Opens, Whole}
-use Rattle.cm_block.specs.OpenLeaf.{LeafLine, stays_open, is_last, begins_quote, begins_item, begin_of_start, begin_of}
+use Rattle.cm_block.specs.declared.counted_line.first_line.FirstLine.TheVariants.{Opens, Ends, Whole}
+use Rattle.cm_block.specs.declared.open_leaf.OpenLeaf.{OpenLeaf}
+use Rattle.cm_block.specs.OpenLeaf.{no_leaf, LeafLine, stays_open, is_last, begins_quote, begins_item, begin_of_start, begin_of}
 use Rattle.cm_block.specs.LeafViews.{leaf_of}
 use Rattle.cm_block.specs.steps.StartViews.{seen}
-use Rattle.cm_block.specs.steps.LeafSteps.{leaves_of_closed}
+use Rattle.cm_block.specs.steps.LeafSteps.{leaves_with, whole_leaves}
 
-abbrev pub first_of : FirstLine → LeafLine
-first_of (Opens leaf) = stays_open (leaf_of leaf)
-first_of (Whole leaf) = is_last (leaves_of_closed leaf)
+-- what it makes, where this is open then
+abbrev pub first_of : FirstLine → OpenLeaf → LeafLine
+first_of Opens now = stays_open (leaf_of now)
+first_of Ends now = is_last (leaves_with None false now.kind now.text)
+first_of (Whole leaf) now = is_last (whole_leaves leaf)
+
+-- behind a leaf of one line none is open
+abbrev pub StaysClosed : FirstLine → OpenLeaf → Type 0
+StaysClosed (Whole leaf) now = leaf_of now ≡ no_leaf
+StaysClosed _ now = ⊤
 
 -- the line begins with the marker of a quote or an item
 abbrev pub begins_container : Start → Bool

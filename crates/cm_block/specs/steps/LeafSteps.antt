@@ -1,5 +1,5 @@
 -- Steps of the code over the open leaf and the closed ones.
-use Rattle.std.specs.Prelude.{ℕ, suc, replicate, Bool, true, false, List, [], ◌∷◌, ◌++◌, not, Option, Some, None, string_bytes}
+use Rattle.std.specs.Prelude.{◌≡◌, ⊤, ℕ, suc, replicate, Bool, true, false, List, [], ◌∷◌, ◌++◌, not, Option, Some, None, string_bytes}
 use Rattle.cm_text.specs.Lines.{LineView}
 use Rattle.cm_text.specs.Labels.{fold_label}
 use Rattle.cm_tree.specs.Definitions.{Target, add_first}
@@ -12,15 +12,16 @@ use Rattle.cm_scan.specs.blocks.Blocks as blocks
 use Rattle.cm_scan.specs.blocks.Blocks.{line_feeds, rest_of}
 use Rattle.cm_block.specs.declared.text_runs.NextLine.{NextLine}
 use Rattle.cm_block.specs.declared.text_runs.NextLine.TheVariants.{GoesOn, Ends, Underlines}
-use Rattle.cm_block.specs.declared.closed_leaf.ClosedLeaf.{ClosedLeaf}
-use Rattle.cm_block.specs.declared.closed_leaf.ClosedLeaf.TheVariants as closed
+use Rattle.cm_block.specs.declared.closed_leaf.WholeLeaf.{WholeLeaf}
+use Rattle.cm_block.specs.declared.closed_leaf.WholeLeaf.TheVariants as whole
+use Rattle.cm_block.specs.declared.leaf_kind.LeafKind.{LeafKind}
+use Rattle.cm_block.specs.declared.leaf_kind.LeafKind.TheVariants.{Nothing, Run, Code, Fence, Html}
 use Rattle.cm_block.specs.declared.open_leaf.OpenLeaf.{OpenLeaf}
-use Rattle.cm_block.specs.declared.open_leaf.OpenLeaf.TheVariants.{Nothing, Run, Code, Fence, Html}
 use Rattle.cm_block.specs.declared.open_leaf.LeafLine.{LeafLine}
 use Rattle.cm_block.specs.declared.open_leaf.LeafLine.TheVariants.{Stays, Last, Leaves}
 use Rattle.cm_block.specs.OpenLeaf as spec
-use Rattle.cm_block.specs.OpenLeaf.{no_leaf, open_text, open_code, open_fence, open_html, run_leaves, stays_open, is_last}
-use Rattle.cm_block.specs.LeafViews.{ended}
+use Rattle.cm_block.specs.OpenLeaf.{run_leaves, stays_open, is_last}
+use Rattle.cm_block.specs.LeafViews.{ended, leaf_of}
 
 abbrev pub next_of : NextLine → blocks.NextLine
 next_of GoesOn = blocks.GoesOn
@@ -40,35 +41,29 @@ abbrev pub fence_lines : (ended : Bool) → List ℕ → ℕ
 fence_lines true text = suc (suc (line_feeds text))
 fence_lines false text = suc (line_feeds text)
 
--- the leaves that a closed one stands for, each with how many lines it has
-abbrev pub leaves_of_closed : ClosedLeaf → List (LeafPart × ℕ)
-leaves_of_closed closed.Nothing = []
-leaves_of_closed (closed.Run source level) = run_leaves level source
-leaves_of_closed (closed.Heading level content) = (heading level (string_bytes content), 1) ∷ []
-leaves_of_closed closed.Break = (thematic_break, 1) ∷ []
-leaves_of_closed (closed.Code text) = (code [] (ended text), suc (line_feeds text)) ∷ []
-leaves_of_closed (closed.Fenced info text has_end) = (code (string_bytes info) text, fence_lines has_end text) ∷ []
-leaves_of_closed (closed.Html text) = (html (ended text), suc (line_feeds text)) ∷ []
+-- the leaves that an open one of this kind makes with this text: a run with an underline or none, a fence with a closing one or none
+abbrev pub leaves_with : Option ℕ → (has_end : Bool) → LeafKind → List ℕ → List (LeafPart × ℕ)
+leaves_with level has_end Nothing text = []
+leaves_with level has_end Run text = run_leaves level text
+leaves_with level has_end (Code blank_lines) text = (code [] (ended text), suc (line_feeds text)) ∷ []
+leaves_with level has_end (Fence kind info columns) text = (code (string_bytes info) text, fence_lines has_end text) ∷ []
+leaves_with level has_end (Html kind) text = (html (ended text), suc (line_feeds text)) ∷ []
 
--- an open leaf, closed: a run by an underline or not, and a fence by a closing fence or not
-abbrev pub closed_as : Option ℕ → Bool → OpenLeaf → ClosedLeaf
-closed_as level has_end Nothing = closed.Nothing
-closed_as level has_end (Run source) = closed.Run source level
-closed_as level has_end (Code text blank_lines) = closed.Code text
-closed_as level has_end (Fence kind info columns text) = closed.Fenced info text has_end
-closed_as level has_end (Html kind text) = closed.Html text
+-- a leaf of one line
+abbrev pub whole_leaves : WholeLeaf → List (LeafPart × ℕ)
+whole_leaves (whole.Heading level content) = (heading level (string_bytes content), 1) ∷ []
+whole_leaves whole.Break = (thematic_break, 1) ∷ []
 
--- what a line is to the open leaf, which is then this
-abbrev pub taken_of : LeafLine → spec.OpenLeaf → Option spec.LeafLine
-taken_of Stays now = Some (stays_open now)
-taken_of (Last leaf) now = Some (is_last (leaves_of_closed leaf))
+-- what a line is to the open leaf, which this is then
+abbrev pub taken_of : LeafLine → OpenLeaf → Option spec.LeafLine
+taken_of Stays now = Some (stays_open (leaf_of now))
+taken_of (Last level has_end) now = Some (is_last (leaves_with level has_end now.kind now.text))
 taken_of Leaves now = None
 
--- what is open then, if before it was the first, and the second if the line belongs to it
-abbrev pub left_open : LeafLine → spec.OpenLeaf → spec.OpenLeaf → spec.OpenLeaf
-left_open Stays before now = now
-left_open (Last leaf) before now = no_leaf
-left_open Leaves before now = before
+-- a line that is none of the leaf leaves it as it is
+abbrev pub Left : LeafLine → (before now : OpenLeaf) → Type 0
+Left Leaves before now = leaf_of now ≡ leaf_of before
+Left _ before now = ⊤
 
 -- lines of one more leaf that is no definition
 abbrev pub own_plain_leaf : Owned → ℕ → Owned

@@ -1,22 +1,24 @@
 //! What the first line of a leaf block makes: a leaf that further lines may go on with, or a whole one.
-ghost use Rattle.std.specs.Prelude.{◌≡◌, [], string_bytes, IfOk, IfSome, IfNone, true};
-ghost use Rattle.cm_block.specs.Prelude.{LineView, seen_view, kind_of, is_html_end, content_of};
+ghost use Rattle.std.specs.Prelude.{◌≡◌, IfOk, IfSome, IfNone, true};
+ghost use Rattle.cm_block.specs.Prelude.{LineView, seen_view, kind_of};
 ghost use Rattle.cm_text.specs.Rules as all;
 ghost use Rattle.cm_block.specs.declared.counted_line.starts.Start.TheVariants.{Atx, Fence};
 ghost use Rattle.cm_scan.specs.blocks.Starts as starts;
-ghost use Rattle.cm_block.specs.OpenLeaf.{begin_of_start, begins_leaf};
+ghost use Rattle.cm_block.specs.OpenLeaf.{no_leaf, begin_of_start, begins_leaf, is_last};
+ghost use Rattle.cm_block.specs.LeafViews.{leaf_of};
+ghost use Rattle.cm_block.specs.steps.LeafSteps.{whole_leaves};
 ghost use Rattle.cm_block.specs.steps.StartViews.{seen};
-ghost use Rattle.cm_block.specs.steps.FirstLines.{first_of, begins_container};
+ghost use Rattle.cm_block.specs.steps.FirstLines.{first_of, StaysClosed, begins_container};
 
-use crate::closed_leaf::ClosedLeaf;
+use crate::closed_leaf::WholeLeaf;
 use crate::counted_line::LeafStart;
 use crate::counted_line::copies::push_line;
 use crate::counted_line::ends::ends_html;
 use crate::counted_line::starts::{Start, content};
 use crate::infos::info_of;
+use crate::leaf_kind::LeafKind;
 use crate::leaf_text::LeafText;
 use crate::open_leaf::OpenLeaf;
-use crate::rooms::TextRoom;
 use cm_scan::{AtxHeading, HtmlKind, OpeningFence};
 use cm_text::{NoMemory, Rules, View};
 use std::alloc::{AllocError, Global};
@@ -24,38 +26,37 @@ use std::alloc::{AllocError, Global};
 /// What the first line of a leaf block makes.
 #[derive(Debug, Drop)]
 pub(crate) enum FirstLine {
-    /// A leaf that further lines may go on with.
-    Opens(OpenLeaf),
-    /// A whole leaf.
-    Whole(ClosedLeaf),
+    /// A leaf that further lines may go on with. It is open.
+    Opens,
+    /// A leaf that is open, and ends with this line.
+    Ends,
+    /// A leaf of one line. No leaf is open.
+    Whole(WholeLeaf),
 }
 
 /// Indented code: the line loses 4 columns (4.4 Indented code blocks).
-fn begin_code(
-    alloc: Global,
-    leaves: &mut TextRoom,
-    line: &View<'_>,
-) -> Result<FirstLine, AllocError>
-    ensures { IfOk result (λ first. (by : all.Rules) → begins_leaf (first_of first)
+fn begin_code(alloc: Global, leaf: &mut OpenLeaf, line: &View<'_>) -> Result<FirstLine, AllocError>
+    requires { leaf_of leaf.old ≡ no_leaf }
+    ensures leaf { IfOk result (λ first. (by : all.Rules) → begins_leaf (first_of first leaf.new)
         ≡ begin_of_start by starts.IndentedCode (seen_view line.now)) }
+    ensures closed { IfOk result (λ first. StaysClosed first leaf.new) }
 {
-    let mut text = leaves.take(alloc);
-    push_line(&mut text, &line.strip(4))?;
-    Ok(FirstLine::Opens(OpenLeaf::Code {
-        text,
+    leaf.kind = LeafKind::Code {
         blank_lines: LeafText::new(alloc),
-    }))
+    };
+    push_line(&mut leaf.text, &line.strip(4))?;
+    Ok(FirstLine::Opens)
 }
 
 /// An ATX heading (4.2 ATX headings).
-fn begin_heading(alloc: Global, heading: AtxHeading<'_>) -> Result<FirstLine, AllocError>
-    ensures { IfOk result (λ first. (by : all.Rules) (line : LineView) → begins_leaf (first_of first)
-        ≡ begin_of_start by (seen (Atx heading.entry)) line) }
+fn heading_of(alloc: Global, heading: AtxHeading<'_>) -> Result<WholeLeaf, AllocError>
+    ensures { IfOk result (λ whole. (by : all.Rules) (line : LineView) →
+        begins_leaf (is_last (whole_leaves whole)) ≡ begin_of_start by (seen (Atx heading.entry)) line) }
 {
-    Ok(FirstLine::Whole(ClosedLeaf::Heading {
+    Ok(WholeLeaf::Heading {
         level: heading.level,
         content: String::from_str(alloc, heading.content)?,
-    }))
+    })
 }
 
 /// A fence, with its info resolved: each further line loses as many columns as this one has (4.5 Fenced code
@@ -63,71 +64,74 @@ fn begin_heading(alloc: Global, heading: AtxHeading<'_>) -> Result<FirstLine, Al
 fn begin_fence(
     alloc: Global,
     rules: Rules,
-    leaves: &mut TextRoom,
+    leaf: &mut OpenLeaf,
     fence: OpeningFence<'_>,
     line: &View<'_>,
 ) -> Result<FirstLine, NoMemory>
-    ensures { IfOk result (λ first. begins_leaf (first_of first)
+    requires { leaf_of leaf.old ≡ no_leaf }
+    ensures leaf { IfOk result (λ first. begins_leaf (first_of first leaf.new)
         ≡ begin_of_start rules (seen (Fence fence.entry)) (seen_view line.now)) }
+    ensures closed { IfOk result (λ first. StaysClosed first leaf.new) }
 {
-    Ok(FirstLine::Opens(OpenLeaf::Fence {
+    leaf.kind = LeafKind::Fence {
         kind: fence.kind,
         info: info_of(alloc, rules, fence.info)?,
         columns: line.indent(),
-        text: leaves.take(alloc),
-    }))
+    };
+    Ok(FirstLine::Opens)
 }
 
 /// HTML, which its first line may end (4.6 HTML blocks).
-fn begin_html(
-    alloc: Global,
-    leaves: &mut TextRoom,
-    kind: HtmlKind,
-    line: &View<'_>,
-) -> Result<FirstLine, AllocError>
-    ensures { IfOk result (λ first. (by : all.Rules) → begins_leaf (first_of first)
+fn begin_html(leaf: &mut OpenLeaf, kind: HtmlKind, line: &View<'_>) -> Result<FirstLine, AllocError>
+    requires { leaf_of leaf.old ≡ no_leaf }
+    ensures leaf { IfOk result (λ first. (by : all.Rules) → begins_leaf (first_of first leaf.new)
         ≡ begin_of_start by (starts.HtmlStart (kind_of kind)) (seen_view line.now)) }
+    ensures closed { IfOk result (λ first. StaysClosed first leaf.new) }
 {
-    let mut text = leaves.take(alloc);
-    push_line(&mut text, line)?;
+    leaf.kind = LeafKind::Html { kind };
+    push_line(&mut leaf.text, line)?;
     if ends_html(kind, line) {
-        return Ok(FirstLine::Whole(ClosedLeaf::Html { text }));
+        return Ok(FirstLine::Ends);
     }
-    Ok(FirstLine::Opens(OpenLeaf::Html { kind, text }))
+    Ok(FirstLine::Opens)
 }
 
-/// A run of text, which begins with the line behind its indentation.
-fn begin_run(alloc: Global, leaves: &mut TextRoom, line: &View<'_>) -> Result<LeafText, AllocError>
-    ensures { IfOk result (λ source. source ≡ content_of (seen_view line.now)) }
+/// A run of text, which begins with the line behind its indentation (4.8 Paragraphs).
+#[inline(always)]
+fn begin_run(leaf: &mut OpenLeaf, line: &View<'_>) -> Result<FirstLine, AllocError>
+    requires { leaf_of leaf.old ≡ no_leaf }
+    ensures leaf { IfOk result (λ first. (by : all.Rules) → begins_leaf (first_of first leaf.new)
+        ≡ begin_of_start by starts.TextLine (seen_view line.now)) }
+    ensures closed { IfOk result (λ first. StaysClosed first leaf.new) }
 {
-    let mut source = leaves.take(alloc);
-    source.push(content(line))?;
-    Ok(source)
+    leaf.kind = LeafKind::Run;
+    leaf.text.push(content(line))?;
+    Ok(FirstLine::Opens)
 }
 
-/// The first line of a leaf block, by what it begins. A quote's or an item's marker begins none. What is open
-/// takes the room of texts.
+/// The first line of a leaf block, by what it begins. A quote's or an item's marker begins none. No leaf is
+/// open so far.
+#[inline(always)]
 pub(crate) fn begin_leaf(
     alloc: Global,
     rules: Rules,
-    leaves: &mut TextRoom,
+    leaf: &mut OpenLeaf,
     start: &LeafStart<'_>,
     line: &View<'_>,
 ) -> Result<Option<FirstLine>, NoMemory>
-    ensures leaf { IfOk result (λ first. IfSome first (λ f. begins_leaf (first_of f)
+    requires { leaf_of leaf.old ≡ no_leaf }
+    ensures leaf { IfOk result (λ first. IfSome first (λ f. begins_leaf (first_of f leaf.new)
         ≡ begin_of_start rules (seen start.now.found) (seen_view line.now))) }
+    ensures closed { IfOk result (λ first. IfSome first (λ f. StaysClosed f leaf.new)) }
     ensures container { IfOk result (λ first. IfNone first (begins_container (seen start.now.found) ≡ true)) }
 {
     match &start.found {
-        Start::IndentedCode => Ok(Some(begin_code(alloc, leaves, line)?)),
-        Start::Atx(heading) => Ok(Some(begin_heading(alloc, *heading)?)),
-        Start::Fence(fence) => Ok(Some(begin_fence(alloc, rules, leaves, *fence, line)?)),
-        Start::Html(kind) => Ok(Some(begin_html(alloc, leaves, *kind, line)?)),
-        Start::Break => Ok(Some(FirstLine::Whole(ClosedLeaf::Break))),
-        Start::TextLine => {
-            let source = begin_run(alloc, leaves, line)?;
-            Ok(Some(FirstLine::Opens(OpenLeaf::Run { source })))
-        }
+        Start::TextLine => Ok(Some(begin_run(leaf, line)?)),
+        Start::IndentedCode => Ok(Some(begin_code(alloc, leaf, line)?)),
+        Start::Atx(heading) => Ok(Some(FirstLine::Whole(heading_of(alloc, *heading)?))),
+        Start::Fence(fence) => Ok(Some(begin_fence(alloc, rules, leaf, *fence, line)?)),
+        Start::Html(kind) => Ok(Some(begin_html(leaf, *kind, line)?)),
+        Start::Break => Ok(Some(FirstLine::Whole(WholeLeaf::Break))),
         Start::QuoteMarker | Start::Item(_) => Ok(None),
     }
 }

@@ -2,36 +2,37 @@ use Rattle.std.proofs.Common.{◌∙◌, sym, ap, refl, arith}
 use Rattle.cm_text.specs.Views.{seen_view}
 use Rattle.cm_block.specs.OpenLeaf.{stays_open, is_last, line_of_leaf}
 use Rattle.cm_block.specs.LeafViews.{leaf_of}
-use Rattle.cm_block.specs.steps.LeafSteps.{leaves_of_closed, taken_of, left_open}
+use Rattle.cm_block.specs.steps.LeafSteps.{leaves_with, taken_of}
 use Rattle.cm_block.proofs.ParserLemmas.{stack_stays, stack_ends}
 use Rattle.cm_block.proofs.parser.BlockParser.take_to_leaf.Goals as goal
 
 pub returns-in-Stays-clause-taken : goal.returns-in-Stays-clause-taken
 returns-in-Stays-clause-taken c =
     let s = c.args.self.now in
-    let y = leaf_of c.take_line.new.self in (
+    let y = c.take_line.new.self in (
       omega (arith, c.depth.ensures, c.if-depth.false),
       (
-        stays_open y,
+        stays_open (leaf_of y),
         (
           ap (λ r. line_of_leaf r (leaf_of s.leaf) (seen_view c.args.line.now.rest)) (sym c.rules.ensures) ∙ sym c.in_ok-take_line.ensures.line ∙ ap (λ t. taken_of t y) c.in-Stays.is,
-          stack_stays s.stack.bare s.stack.frames s.stack.frames s.stack.level s.stack.level y s.owners c.requires.plain refl refl,
+          stack_stays s.stack.bare s.stack.frames s.stack.frames s.stack.level s.stack.level (leaf_of y) s.owners c.requires.plain refl refl,
         ),
       ),
     )
 
-pub returns-in_ok-put-in-Last-clause-taken : goal.returns-in_ok-put-in-Last-clause-taken
-returns-in_ok-put-in-Last-clause-taken c =
+pub returns-in_ok-put_leaf-in-Last-clause-taken : goal.returns-in_ok-put_leaf-in-Last-clause-taken
+returns-in_ok-put_leaf-in-Last-clause-taken c =
     let s = c.args.self.now in
-    let y = leaf_of c.take_line.new.self in
-    let leaf = c.in-Last.leaf in (
+    let y = c.take_line.new.self in
+    let leaves = leaves_with c.in-Last.heading c.in-Last.ended y.kind y.text in
+    let put = c.in_ok-put_leaf-in-Last.ensures in (
       omega (arith, c.depth.ensures, c.if-depth.false),
       (
-        is_last (leaves_of_closed leaf),
+        is_last leaves,
         (
           ap (λ r. line_of_leaf r (leaf_of s.leaf) (seen_view c.args.line.now.rest)) (sym c.rules.ensures) ∙ sym c.in_ok-take_line.ensures.line ∙ ap (λ t. taken_of t y) c.in-Last.is,
-          stack_ends c.put.new.stack.bare s.stack.frames c.put.new.stack.frames s.stack.level c.put.new.stack.level y s.owners c.put.new.owners (leaves_of_closed leaf)
-              (c.in_ok-put-in-Last.ensures.bare ∙ c.requires.plain) c.in_ok-put-in-Last.ensures.frames (c.in_ok-take_line.ensures.left ∙ ap (λ t. left_open t (leaf_of s.leaf) y) c.in-Last.is) c.in_ok-put-in-Last.ensures.level c.in_ok-put-in-Last.ensures.owners,
+          stack_ends c.put_leaf.new.self.stack.bare s.stack.frames c.put_leaf.new.self.stack.frames s.stack.level c.put_leaf.new.self.stack.level (leaf_of c.put_leaf.new.self.leaf) s.owners c.put_leaf.new.self.owners leaves
+              (put.bare ∙ c.requires.plain) put.frames put.leaf put.level put.owners,
         ),
       ),
     )
