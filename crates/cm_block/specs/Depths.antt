@@ -7,7 +7,7 @@ use Rattle.cm_text.specs.Rules.{Rules}
 use Rattle.cm_text.specs.Lines.{LineView}
 use Rattle.cm_scan.specs.blocks.Parts.{depths_of}
 use Rattle.cm_scan.specs.blocks.Blocks.{parts_of, first_too_deep}
-use Rattle.cm_scan.specs.laws.Laws.{AreLines}
+use Rattle.cm_scan.specs.laws.PartLaws.{AreLines}
 use Rattle.cm_block.specs.Machine.{Open, in_leaf, in_quote, in_item}
 use Rattle.cm_block.specs.Stack.{Stack, empty_stack, push_line, push_lines}
 

@@ -3,7 +3,7 @@ use Rattle.std.specs.Prelude.{◌≡◌, List, length}
 use Rattle.cm_text.specs.Rules.{Rules}
 use Rattle.cm_text.specs.Lines.{LineView}
 use Rattle.cm_scan.specs.blocks.Blocks.{parts_of, blocks_of, owners_of, reference_table}
-use Rattle.cm_scan.specs.laws.Laws.{AreLines}
+use Rattle.cm_scan.specs.laws.PartLaws.{AreLines}
 use Rattle.cm_block.specs.Machine.{Piece, parts_in_one_pass}
 use Rattle.cm_block.specs.Level.{LevelOfParts}
 use Rattle.cm_block.specs.Stack.{empty_stack, push_lines, close_stack}

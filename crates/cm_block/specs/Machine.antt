@@ -6,7 +6,7 @@ use Rattle.cm_tree.specs.declared.tree.ListKind.{ListKind}
 use Rattle.cm_scan.specs.blocks.Lines.{is_blank, marks}
 use Rattle.cm_scan.specs.blocks.Parts.{LeafPart, Parts, none, blank, leaf, quote, put_item}
 use Rattle.cm_scan.specs.blocks.Starts.{place_in_quote, place_in_item}
-use Rattle.cm_scan.specs.laws.Laws.{goes_inward}
+use Rattle.cm_scan.specs.laws.PartLaws.{goes_inward}
 use Rattle.cm_block.specs.OpenLeaf.{OpenLeaf, no_leaf, closed_leaves, blank_lines_behind, is_open_text, LeafLine, stays_open, is_last, line_of_leaf, LineOpens, begins_nothing, begins_leaf, begins_quote, begins_item, begin_of}
 
 -- What stands closed at one level: a blank line, a leaf with how many lines it has, a quote, an item.

@@ -4,7 +4,7 @@ use Rattle.cm_text.specs.Rules.{Rules}
 use Rattle.cm_text.specs.Limits.{LimitsView}
 use Rattle.cm_text.specs.Lines.{LineView}
 use Rattle.cm_scan.specs.blocks.Blocks.{blocks_of, owners_of, reference_table, first_too_deep}
-use Rattle.cm_scan.specs.laws.Laws.{AreLines}
+use Rattle.cm_scan.specs.laws.PartLaws.{AreLines}
 use Rattle.cm_block.specs.declared.parser.BlockParser as code
 use Rattle.cm_block.specs.declared.parser.Outline.{Outline}
 use Rattle.cm_block.specs.declared.fault.BlockFault.{BlockFault}

@@ -10,7 +10,7 @@ use Rattle.cm_tree.specs.declared.tree.ListKind.TheVariants.{Dash, Dot}
 use Rattle.cm_tree.specs.declared.tree.Owner.{Owner}
 use Rattle.cm_tree.specs.declared.tree.Owner.TheVariants.{Leaf, Marker, Blank}
 use Rattle.cm_tree.specs.Definitions.{Targets}
-use Rattle.cm_scan.specs.laws.WorkedExamples.{text_paragraph}
+use Rattle.cm_scan.specs.laws.BlockExamples.{text_paragraph}
 use Rattle.cm_block.specs.OpenLeaf.{no_leaf, open_text, open_code}
 use Rattle.cm_block.specs.Machine.{Open, in_leaf, in_quote, in_item}
 use Rattle.cm_block.specs.Level.{Level, empty_level, push_blank, block_opens, list_opens, block_closes}

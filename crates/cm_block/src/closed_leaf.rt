@@ -11,8 +11,8 @@ ghost use Rattle.cm_block.specs.steps.LeafSteps.{fence_lines, whole_leaves, own_
 use crate::leaf_block::LeafBlock;
 use crate::leaf_kind::LeafKind;
 use crate::leaf_text::LeafText;
-use crate::line_owners::Owners;
 use crate::open_leaf::OpenLeaf;
+use crate::owners::Owners;
 use crate::stack::Stack;
 use crate::text_runs::line_feeds;
 use cm_scan::{LinkDefinition, definition, trim_end};

@@ -6,7 +6,7 @@ ghost use Rattle.cm_block.specs.Lazy.{LazyLine, TextGoesOn};
 ghost use Rattle.cm_block.specs.WorkedExamples.{StackExamples};
 
 /// One pass over the lines, with what is open and no line kept, gives the parts of the lines.
-#[tactic(auto, using(crate::proofs::OnePass::one_pass))]
+#[tactic(auto, using(crate::proofs::lemmas::OnePass::one_pass))]
 pub fn parts_in_one_pass()
     ensures { OnePass }
 {}
@@ -19,7 +19,7 @@ pub fn levels()
 
 /// The stack that a parser holds, closed behind the lines, gives their blocks, the owner of each line and the
 /// table of the link reference definitions.
-#[tactic(auto, using(crate::proofs::Stacks::of_stacks))]
+#[tactic(auto, using(crate::proofs::lemmas::Stacks::of_stacks))]
 pub fn stack()
     ensures blocks { StackBlocks }
     ensures owners { StackOwners }
@@ -27,26 +27,26 @@ pub fn stack()
 {}
 
 /// The stack, closed behind the lines, gives as many owners as there are lines.
-#[tactic(auto, using(crate::proofs::Stacks::one_owner_each))]
+#[tactic(auto, using(crate::proofs::lemmas::Stacks::one_owner_each))]
 pub fn one_owner_each()
     ensures { OneOwnerEach }
 {}
 
 /// A lazy continuation line goes to the end of the open run of text, through every level, unread.
-#[tactic(auto, using(crate::proofs::Lazy::lazy_line))]
+#[tactic(auto, using(crate::proofs::lemmas::Lazy::lazy_line))]
 pub fn lazy_lines()
     ensures { LazyLine }
 {}
 
 /// A line of text goes on with the open run of text, through every level, whatever its indentation.
-#[tactic(auto, using(crate::proofs::TextGoesOn::text_goes_on))]
+#[tactic(auto, using(crate::proofs::lemmas::TextGoesOn::text_goes_on))]
 pub fn text_lines()
     ensures { TextGoesOn }
 {}
 
 /// So many quotes and items as are open behind a line stand round it: so the first line that is too deep
 /// is told as soon as it is taken in, and stays the first whatever follows.
-#[tactic(auto, using(crate::proofs::Depths::of_depths))]
+#[tactic(auto, using(crate::proofs::lemmas::Depths::of_depths))]
 pub fn depths()
     ensures of_lines { DepthsOfLines }
     ensures too_deep { TooDeepAtOnce }

@@ -21,6 +21,7 @@
 //! ```
 #![tactic(auto)]
 
+mod block_room;
 mod closed_leaf;
 mod containers;
 mod counted_line;
@@ -31,12 +32,11 @@ mod leaf_block;
 mod leaf_kind;
 mod leaf_text;
 mod level;
-mod line_owners;
 mod open_leaf;
 mod outline;
 mod owner_runs;
+mod owners;
 mod parser;
-mod rooms;
 mod stack;
 mod text_runs;
 

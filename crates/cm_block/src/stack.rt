@@ -15,10 +15,10 @@ ghost use Rattle.cm_block.specs.steps.PlaceViews.{IsInside, stays};
 ghost use Rattle.cm_block.specs.declared.stack.Stays.TheVariants.{Inside, Lazily, Leaves};
 ghost use Rattle.cm_block.specs.steps.FrameViews.{container_of, frames_in, AreFramesPlaced};
 
+use crate::block_room::BlockRoom;
 use crate::counted_line::CountedLine;
 use crate::leaf_block::LeafBlock;
 use crate::level::Level;
-use crate::rooms::BlockRoom;
 use cm_text::Rules;
 use cm_tree::{Items, ListKind, RawBlock, RawBlocks, RawPart, RawTree};
 use std::alloc::{AllocError, Global};

@@ -5,7 +5,7 @@ use Rattle.cm_tree.specs.Definitions.{Targets}
 use Rattle.cm_tree.specs.declared.tree.Inline.{Inline}
 use Rattle.cm_scan.specs.inlines.Brackets.{Defined, defined_in}
 use Rattle.cm_scan.specs.inlines.Inlines.{inlines_of, nests_past}
-use Rattle.cm_scan.specs.inlines.Runs.{runs_of, characters_of}
+use Rattle.cm_scan.specs.inlines.DelimiterRuns.{runs_of, characters_of}
 use Rattle.cm_inline.specs.Emphases.{emphases}
 use Rattle.cm_inline.specs.declared.fault.InlineFault.{InlineFault}
 use Rattle.cm_inline.specs.declared.fault.InlineFault.TheVariants.{InlinesTooDeep, NoMemory}

@@ -6,4 +6,4 @@ pub mod Pieces
 pub mod Atoms
 pub mod Brackets
 pub mod Inlines
-pub mod Runs
+pub mod DelimiterRuns

@@ -1,10 +1,10 @@
-pub mod Laws
+pub mod PartLaws
 pub mod BlockLaws
 pub mod InlineLaws
 pub mod SpanLaws
 pub mod RuleLaws
 pub mod Looseness
-pub mod WorkedExamples
+pub mod BlockExamples
 pub mod InlineExamples
 pub mod SpanExamples
 pub mod RuleExamples

@@ -7,7 +7,7 @@ ghost use Rattle.cm_scan.specs.Words.{skip, front_of};
 ghost use Rattle.cm_scan.specs.spans.Autolinks.{is_inside, in_angles, autolink, followed_autolink};
 ghost use Rattle.cm_scan.specs.Scanned.{reading_of, autolink_with};
 
-use crate::angled::{Autolink, link_of};
+use crate::autolink_contents::{Autolink, link_of};
 use crate::links::is_next;
 use cm_text::{Rules, is_followed};
 

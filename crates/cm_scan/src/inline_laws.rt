@@ -2,7 +2,7 @@
 ghost use Rattle.cm_scan.specs.laws.InlineLaws.{ReadingGoesOn, StepLeavesAnEnd, BracketStep, UnmarkedIsPlain};
 ghost use Rattle.cm_scan.specs.laws.InlineLaws.{PlainIsItself, PlainFrontIsText, SpacesAndLineFeed};
 ghost use Rattle.cm_scan.specs.inlines.Pieces.{TextsInPieces, ReadingInPieces};
-ghost use Rattle.cm_scan.specs.inlines.Runs.{RunsAreFew};
+ghost use Rattle.cm_scan.specs.inlines.DelimiterRuns.{RunsAreFew};
 ghost use Rattle.cm_scan.specs.inlines.OnePass.{OnePassExamples, PairsInOnePass};
 ghost use Rattle.cm_scan.specs.laws.InlineExamples.{CodeSpanExamples, OpensEmphasisExamples};
 ghost use Rattle.cm_scan.specs.laws.InlineExamples.{ClosesEmphasisExamples, OpensStrongExamples};

@@ -1,10 +1,10 @@
 //! Laws: facts about the definitions alone. Each is the contract of a public function with an empty body.
-ghost use Rattle.cm_scan.specs.laws.Laws.{NoLines, FixedPoint, BlankCase, BreakCase, HeadingCase};
-ghost use Rattle.cm_scan.specs.laws.Laws.{FenceCase, HtmlCase, CodeCase, TextCase, OneMoreStays, QuoteCase};
-ghost use Rattle.cm_scan.specs.laws.Laws.{ItemCase, OneOwnerALine, RunsInOrder, HeadingLevels};
+ghost use Rattle.cm_scan.specs.laws.PartLaws.{NoLines, FixedPoint, BlankCase, BreakCase, HeadingCase};
+ghost use Rattle.cm_scan.specs.laws.PartLaws.{FenceCase, HtmlCase, CodeCase, TextCase, OneMoreStays, QuoteCase};
+ghost use Rattle.cm_scan.specs.laws.PartLaws.{ItemCase, OneOwnerALine, RunsInOrder, HeadingLevels};
 ghost use Rattle.cm_scan.specs.laws.Looseness.{PartsHaveLines, LooseByOwners};
-ghost use Rattle.cm_scan.specs.laws.WorkedExamples.{LeafExamples, ContainerExamples};
-ghost use Rattle.cm_scan.specs.laws.WorkedExamples.{DefinitionExamples, DepthExamples, BoundExamples};
+ghost use Rattle.cm_scan.specs.laws.BlockExamples.{LeafExamples, ContainerExamples};
+ghost use Rattle.cm_scan.specs.laws.BlockExamples.{DefinitionExamples, DepthExamples, BoundExamples};
 
 /// The parts of a list of lines are given by the cases on its first line, in which the parts of fewer
 /// lines stand: nothing rests on the bound by which the definition computes.

@@ -30,7 +30,7 @@
 //! ```
 #![tactic(auto)]
 
-mod angled;
+mod autolink_contents;
 mod autolinks;
 pub mod block_laws;
 mod characters;
@@ -48,7 +48,7 @@ pub mod span_laws;
 mod tags;
 mod words;
 
-pub use angled::Autolink;
+pub use autolink_contents::Autolink;
 pub use autolinks::{autolink, autolink_by};
 pub use characters::{first_character, last_character};
 pub use code_spans::code_span;

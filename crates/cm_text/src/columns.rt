@@ -88,7 +88,7 @@ fn blank_width(column: usize, b: u8) -> usize
 
 impl<'a> View<'a> {
     /// The columns before the line's first character that is neither space nor tab (2.2 Tabs).
-    #[tactic(auto, using(crate::proofs::ViewLemmas::indent_spaces))]
+    #[tactic(auto, using(crate::proofs::lemmas::ViewLemmas::indent_spaces))]
     pub fn indent(&self) -> usize
         ensures { result ≡ indent_of (seen_view self.now) }
     {

@@ -9,8 +9,8 @@ use Rattle.cm_text.specs.Lines.{lines_of}
 use Rattle.cm_text.specs.Rules.{Rules}
 use Rattle.cm_tool.specs.declared.fault.Fault.{Fault}
 use Rattle.cm_tool.specs.declared.fault.Fault.TheVariants.{BadExampleFile, ExampleDiffers, NoMemory, ReadFailed, Unspellable, WriteFailed}
-use Rattle.cm_tool.specs.declared.example_files.examining.Difference.{Difference}
-use Rattle.cm_tool.specs.declared.example_files.examining.Report.{Report}
+use Rattle.cm_tool.specs.declared.example_files.comparing.Difference.{Difference}
+use Rattle.cm_tool.specs.declared.example_files.comparing.Report.{Report}
 use Rattle.cm_tool.specs.Faults.{fault_of}
 use Rattle.cm_tool.specs.Writing.{converted}
 

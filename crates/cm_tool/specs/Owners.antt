@@ -2,7 +2,7 @@
 use Rattle.std.specs.Prelude.{◌≡◌, ℕ, List, length, Some}
 use Rattle.cm_text.specs.Rules.{Rules}
 use Rattle.cm_text.specs.Lines.{text_of, lines_of}
-use Rattle.cm_scan.specs.laws.Laws.{leaves_named, leaves_in}
+use Rattle.cm_scan.specs.laws.PartLaws.{leaves_named, leaves_in}
 use Rattle.cm_tool.specs.Document.{doc_of}
 
 -- each line of the text has one owner

@@ -7,12 +7,12 @@ ghost use Rattle.cm_tool.specs.ExampleFiles.{example_line, examples_of, put_exam
 ghost use Rattle.cm_tool.specs.steps.ExampleSteps.{example_of, part_of, part_from, TellsUnclosed};
 ghost use Rattle.cm_tool.specs.steps.ExampleSteps.{examples_left, examples_opened};
 
-mod examining;
+mod comparing;
 mod reporting;
 
 use crate::fault::Fault;
 use cm_text::cut_at;
-pub use examining::{Difference, Report, examples, examples_by};
+pub use comparing::{Difference, Report, examples, examples_by};
 use memchr::memchr2;
 pub(crate) use reporting::report;
 use std::alloc::{AllocError, Global};

@@ -8,12 +8,12 @@ ghost use Rattle.cm_tool.specs.steps.ReadingSteps.{IsOutline};
 ghost use Rattle.cm_tool.specs.steps.PlainSources.{Spelled};
 
 mod conversion;
+mod document;
 mod html;
 mod leaf_walk;
 mod listing;
 mod plain_source;
 mod rewriting;
-mod tree;
 
 use crate::fault::Fault;
 use cm_block::Outline;
@@ -22,12 +22,12 @@ use cm_source::Reason;
 use cm_text::Limits;
 use cm_tree::Doc;
 pub use conversion::convert;
+use document::read_leaves;
 use html::leaves_html;
 pub(crate) use listing::list;
 use plain_source::leaves_plain_source;
 pub use rewriting::rewrite;
 use std::alloc::Global;
-use tree::read_leaves;
 
 /// The document of an outline.
 pub(crate) fn doc_of_outline(alloc: Global, limits: Limits, outline: Outline) -> Result<Doc, Fault>

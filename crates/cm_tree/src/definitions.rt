@@ -73,7 +73,7 @@ impl Definitions {
         Ok(self.add_folded(folded.as_str(), dest, title)?)
     }
 
-    #[tactic(auto, using(crate::proofs::TargetLemmas::any_target))]
+    #[tactic(auto, using(crate::proofs::lemmas::TargetLemmas::any_target))]
     fn add_folded(&mut self, label: &str, dest: &str, title: &str) -> Result<(), AllocError>
         ensures ok { OnOk result (self.new ≡ add_first self.old label.now (dest.now, title.now)) }
         ensures err { OnErr result (self.new ≡ self.old) }
@@ -141,7 +141,7 @@ impl Definitions {
     /// # Errors
     ///
     /// As `find`.
-    #[tactic(auto, using(crate::proofs::TargetLemmas::any_target))]
+    #[tactic(auto, using(crate::proofs::lemmas::TargetLemmas::any_target))]
     pub fn target(&self, label: &str) -> Result<Option<LinkTarget<'_>>, NoMemory>
         ensures { IfOk result (λ found. option_map led_to found ≡ map.get self.now (fold_label label.now)) }
     {

@@ -4,7 +4,7 @@ use Rattle.cm_text.specs.Rules.{Rules}
 use Rattle.cm_text.specs.Lines.{LineView}
 use Rattle.cm_tree.specs.declared.tree.Block.TheVariants.{Quote}
 use Rattle.cm_scan.specs.blocks.Starts.{Place, place_if_lazy, place_in_quote, place_in_item}
-use Rattle.cm_scan.specs.laws.Laws.{goes_inward}
+use Rattle.cm_scan.specs.laws.PartLaws.{goes_inward}
 use Rattle.cm_block.specs.Level.{Level, closed_blocks, block_closes, item_closes}
 use Rattle.cm_block.specs.Stack.{Stack, item_of, stack}
 use Rattle.cm_block.specs.Frames.{a_quote, an_item, Container, Frame, is_last, opened}

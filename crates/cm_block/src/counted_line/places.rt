@@ -41,7 +41,7 @@ pub(crate) fn with_columns<'a>(line: &View<'a>) -> View<'a>
 }
 
 /// Whether a line is blank (2.1 Characters and lines).
-#[tactic(auto, using(crate::proofs::PlaceLemmas::blank_spaces))]
+#[tactic(auto, using(crate::proofs::lemmas::PlaceLemmas::blank_spaces))]
 pub(crate) fn is_blank(line: &View) -> bool
     ensures { result ≡ is_blank (seen_view line.now) }
 {

@@ -11,7 +11,7 @@ use Rattle.cm_html.specs.Escape.{escape}
 use Rattle.cm_html.specs.Html.{inlines_html}
 use Rattle.cm_scan.specs.inlines.Inlines.{items_after, inlines_of, nests_past}
 use Rattle.cm_scan.specs.laws.InlineLaws.{is_plain_byte, keeps_spaces}
-use Rattle.cm_scan.specs.inlines.Runs.{runs_after, runs_of, characters_of}
+use Rattle.cm_scan.specs.inlines.DelimiterRuns.{runs_after, runs_of, characters_of}
 use Rattle.cm_text.specs.Bytes.{line_feed, space}
 use Rattle.cm_inline.specs.steps.Nodes.{Node, item_of, items_of, IsPart}
 use Rattle.cm_inline.specs.Emphases.{emphases_of}

@@ -8,7 +8,7 @@ use Rattle.cm_scan.specs.inlines.Links.{up_to_closing, label, bare_run, destinat
 use Rattle.cm_scan.specs.blocks.Starts.{start_of_content, start_of, interrupts_paragraph, underline_of, place_if_lazy, behind_quote_marker, place_in_quote, content_offset, content_column, first_content, place_in_item}
 use Rattle.cm_scan.specs.blocks.Parts.{info_of, leaves_paragraph_open, next_items, put_item, put_leaves, is_separated, is_loose, line_owners, table_of, leaves_open_after, items_leave_open, ends_blank_after, items_end_blank, blocks_of_parts, blocks_of_items, leaf_count, item_leaf_count, owners_after, item_owners_after, depths_of, item_depths_of, definitions_in, item_definitions_in}
 use Rattle.cm_scan.specs.blocks.Blocks.{rest_of, next_line, text_run, line_feeds, definition_leaves, leaves_of_run, fenced, html_to_end, html_to_blank, html_lines, indented, inside, quote_parts, item_parts, fence_parts, html_parts, code_parts, text_parts, parts_by_start, parts_by_cases, parts_within, parts_of, blocks_of, owners_of, reference_table, first_too_deep}
-use Rattle.cm_text.proofs.Computing.{reading_references}
+use Rattle.cm_text.proofs.lemmas.Computing.{reading_references}
 
 -- `unfolding block_structure` lets `refl` compute the block structure of a text
 unfoldable pub block_structure : Unit {0}

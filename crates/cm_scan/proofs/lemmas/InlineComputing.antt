@@ -12,7 +12,7 @@ use Rattle.cm_scan.specs.inlines.Atoms.{backtick_atom, angle_atom, backslash_ato
 use Rattle.cm_scan.specs.inlines.Brackets.{after_destination, inline_end, reference_end, end_at, last_opener, holds_link, source_up_to, closed_by_bracket, close_bracket}
 use Rattle.cm_scan.specs.inlines.Inlines.{add_atom, item_step, items_after, items_of, inlines_of}
 use Rattle.cm_text.specs.Addresses.{address_scheme}
-use Rattle.cm_text.proofs.Computing.{label_folding, character_kinds, reading_references}
+use Rattle.cm_text.proofs.lemmas.Computing.{label_folding, character_kinds, reading_references}
 
 -- `unfolding inline_structure` lets `refl` compute the inlines of a source
 unfoldable pub inline_structure : Unit {0}

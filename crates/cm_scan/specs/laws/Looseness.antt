@@ -8,7 +8,7 @@ use Rattle.cm_tree.specs.declared.tree.Owner.{Owner}
 use Rattle.cm_tree.specs.declared.tree.Owner.TheVariants.{Leaf, Marker, Blank}
 use Rattle.cm_scan.specs.blocks.Parts.{Parts, none, blank, leaf, quote, list, ItemParts, last_item, item, is_loose, line_owners, item_owners_after}
 use Rattle.cm_scan.specs.blocks.Blocks.{parts_of}
-use Rattle.cm_scan.specs.laws.Laws.{AreLines}
+use Rattle.cm_scan.specs.laws.PartLaws.{AreLines}
 
 -- how many lines the parts have
 unfoldable mutual

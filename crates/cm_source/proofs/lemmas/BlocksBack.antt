@@ -7,8 +7,8 @@ use Rattle.std.specs.Str.Lossy.{replacement_bytes}
 use Rattle.cm_text.specs.LineText.{is_line, is_line_ending}
 use Rattle.cm_text.specs.Lines.{text_of, plain_line, with_line_feed}
 use Rattle.cm_text.specs.Rules.{Rules}
-use Rattle.cm_text.proofs.CutLemmas.{text_of-append}
-use Rattle.cm_text.proofs.LinesLemmas.{lines_with_line_feeds}
+use Rattle.cm_text.proofs.lemmas.CutLemmas.{text_of-append}
+use Rattle.cm_text.proofs.lemmas.LinesLemmas.{lines_with_line_feeds}
 use Rattle.cm_tree.specs.declared.tree.Block.{Block}
 use Rattle.cm_scan.specs.blocks.Blocks.{blocks_of}
 use Rattle.cm_source.specs.ReadingBack.{BlocksReadBack, SpellingIsText}

@@ -4,7 +4,7 @@ ghost use Rattle.std.specs.Io.KnownBytes.{Consumes};
 ghost use Rattle.cm_tool.specs.ExampleFiles.{difference_of, report_view};
 ghost use Rattle.cm_tool.specs.Reporting.{difference_text, report_text, WritesReport};
 
-use crate::example_files::examining::{Difference, Report, examples_by};
+use crate::example_files::comparing::{Difference, Report, examples_by};
 use crate::fault::Fault;
 use crate::reading::read_text;
 use cm_text::{Limits, Sink, Source, write_all};

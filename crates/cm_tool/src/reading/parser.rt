@@ -5,7 +5,7 @@ ghost use Rattle.cm_text.specs.Answers.{answer_after};
 ghost use Rattle.cm_text.specs.Limits.{LimitsView};
 ghost use Rattle.cm_text.specs.Lines.{LineView};
 ghost use Rattle.cm_text.specs.Feed.{StandsFor as FeedStandsFor, with_ready, count};
-ghost use Rattle.cm_scan.specs.laws.Laws.{AreLines};
+ghost use Rattle.cm_scan.specs.laws.PartLaws.{AreLines};
 ghost use Rattle.cm_block.specs.Parser.{HasTaken, TellsDepth};
 ghost use Rattle.cm_block.specs.declared.fault.BlockFault.TheVariants as block_faults;
 ghost use Rattle.cm_tool.specs.declared.fault.Fault as faults;

@@ -1,5 +1,5 @@
 use Rattle.std.proofs.Common.{arith}
-use Rattle.cm_block.proofs.PutLemmas.{all_lines, some_lines}
+use Rattle.cm_block.proofs.lemmas.PutLemmas.{all_lines, some_lines}
 use Rattle.cm_block.proofs.closed_leaf.lines_taken.Goals as goal
 
 pub returns-then-end-text : goal.returns-then-end-text

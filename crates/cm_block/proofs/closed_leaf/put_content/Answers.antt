@@ -3,7 +3,7 @@ use Rattle.std.proofs.lemmas.Grind.{common_steps}
 use Rattle.std.proofs.lemmas.Result.{on_ok_weaker}
 use Rattle.cm_scan.specs.blocks.Blocks.{content_leaf}
 use Rattle.cm_block.specs.Stack.{close_leaves, own_leaves}
-use Rattle.cm_block.proofs.PutLemmas.{none_closes, none_owns, content_closes, heading_closes, content_owns, heading_owns}
+use Rattle.cm_block.proofs.lemmas.PutLemmas.{none_closes, none_owns, content_closes, heading_closes, content_owns, heading_owns}
 use Rattle.cm_block.proofs.closed_leaf.put_content.Goals as goal
 
 pub returns-then-is_empty-clause-level : goal.returns-then-is_empty-clause-level

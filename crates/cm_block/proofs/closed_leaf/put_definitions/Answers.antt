@@ -1,8 +1,8 @@
 use Rattle.std.proofs.Common.{◌∙◌, sym, ap, arith}
 use Rattle.cm_scan.specs.blocks.Blocks.{line_feeds}
 use Rattle.std.proofs.lemmas.Str.{IsCharBoundary-start}
-use Rattle.cm_block.proofs.RunLemmas.{next_fewer, next_left, none_left}
-use Rattle.cm_block.proofs.PutLemmas.{feeds_parted, definition_closes, definition_owns, nothing_closes, nothing_owns, some_definition}
+use Rattle.cm_block.proofs.lemmas.RunLemmas.{next_fewer, next_left, none_left}
+use Rattle.cm_block.proofs.lemmas.PutLemmas.{feeds_parted, definition_closes, definition_owns, nothing_closes, nothing_owns, some_definition}
 use Rattle.cm_block.proofs.closed_leaf.put_definitions.Goals as goal
 
 pub definition-requires : goal.definition-requires

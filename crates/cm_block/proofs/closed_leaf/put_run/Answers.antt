@@ -2,7 +2,7 @@ use Rattle.std.proofs.Common.{sym, ap, ◌∙◌}
 use Rattle.cm_scan.specs.Words.{trim_end}
 use Rattle.cm_scan.specs.blocks.Blocks.{line_feeds}
 use Rattle.cm_scan.proofs.lemmas.blocks.CountedLines.{feeds_trimmed}
-use Rattle.cm_block.proofs.PutLemmas.{run_closes, run_owns}
+use Rattle.cm_block.proofs.lemmas.PutLemmas.{run_closes, run_owns}
 use Rattle.cm_block.proofs.closed_leaf.put_run.Goals as goal
 
 pub returns-clause-level : goal.returns-clause-level

@@ -1,7 +1,7 @@
 use Rattle.std.proofs.Common.{◌∙◌, ◌++◌, ◌∷◌, [], map, sym, ap}
 use Rattle.std.specs.Prelude.{flat_map}
 use Rattle.cm_scan.specs.blocks.Parts.{as_space}
-use Rattle.cm_block.proofs.InfoLemmas.{line_space_ascii, others_stay, one_by_one, info_as_read, info_on_one_line}
+use Rattle.cm_block.proofs.lemmas.InfoLemmas.{line_space_ascii, others_stay, one_by_one, info_as_read, info_on_one_line}
 use Rattle.cm_block.proofs.infos.info_of.Goals as goal
 
 pub push_replaced-requires-clause-ascii : goal.push_replaced-requires-clause-ascii

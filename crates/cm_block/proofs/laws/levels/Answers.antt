@@ -1,4 +1,4 @@
-use Rattle.cm_block.proofs.LevelLaws.{level_of_parts}
+use Rattle.cm_block.proofs.lemmas.LevelLaws.{level_of_parts}
 use Rattle.cm_block.proofs.laws.levels.Goals as goal
 
 pub returns : goal.returns

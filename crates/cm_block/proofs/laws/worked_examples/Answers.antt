@@ -5,7 +5,7 @@ use Rattle.std.specs.Ordering.{nat_cmp}
 use Rattle.std.proofs.Common.{◌≡◌, ℕ, List, [], ◌∷◌, Some, cond, is_some, codes, refl, ◌∙◌, ap}
 use Rattle.cm_tree.specs.Definitions.{Target, Targets, add_first}
 use Rattle.cm_tree.specs.declared.tree.Owner.TheVariants.{Leaf, Blank}
-use Rattle.cm_text.proofs.Computing.{label_folding}
+use Rattle.cm_text.proofs.lemmas.Computing.{label_folding}
 use Rattle.cm_scan.proofs.lemmas.Computing.{block_structure}
 use Rattle.cm_block.specs.OpenLeaf.{open_text, closed_leaves, line_of_leaf, begin_of}
 use Rattle.cm_block.specs.Machine.{in_leaf, has_open_text}

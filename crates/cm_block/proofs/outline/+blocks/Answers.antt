@@ -2,7 +2,7 @@ use Rattle.std.proofs.Common.{◌≡◌, ◌∙◌, ◌++◌, ◌+◌, ap, subst
 use Rattle.std.specs.List.{slice_range}
 use Rattle.cm_tree.specs.declared.tree.Block.{Block}
 use Rattle.cm_tree.specs.RawBlocks.{block_in, item_in}
-use Rattle.cm_tree.proofs.RawWalks.{joined, there-first, block_depth, item_depth}
+use Rattle.cm_tree.proofs.lemmas.RawWalks.{joined, there-first, block_depth, item_depth}
 use Rattle.cm_block.proofs.outline.+blocks.Goals as goal
 
 pub made_blocks-made_block-requires : goal.made_blocks-made_block-requires

@@ -3,7 +3,7 @@ use Rattle.std.proofs.lemmas.List.{drop_more}
 use Rattle.cm_tree.specs.declared.tree.Block.{Block}
 use Rattle.cm_tree.specs.declared.raw_blocks.RawBlock.TheVariants as raw_block
 use Rattle.cm_tree.specs.RawBlocks.{blocks_in, ArePlaced}
-use Rattle.cm_tree.proofs.RawWalks.{joined}
+use Rattle.cm_tree.proofs.lemmas.RawWalks.{joined}
 use Rattle.cm_block.proofs.outline.push_part.Goals as goal
 
 pub loop-block-init : goal.loop-block-init

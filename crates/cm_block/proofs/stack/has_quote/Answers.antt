@@ -1,7 +1,7 @@
 use Rattle.std.proofs.Common.{◌∙◌, suc, false, sym, ap, drop, add-one}
 use Rattle.cm_block.specs.steps.FrameSteps.{quoted_in, quoted_by}
 use Rattle.cm_block.specs.steps.FrameViews.{container_of, frame_in, frames_in}
-use Rattle.cm_block.proofs.Matching.{frames_at, frames_end, quoted_true, quoted_at, quoted_end}
+use Rattle.cm_block.proofs.lemmas.Matching.{frames_at, frames_end, quoted_true, quoted_at, quoted_end}
 use Rattle.cm_block.proofs.stack.has_quote.Goals as goal
 
 pub returns-in-Quote : goal.returns-in-Quote

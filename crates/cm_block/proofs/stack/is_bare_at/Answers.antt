@@ -1,7 +1,7 @@
 use Rattle.std.proofs.Common.{◌∙◌, sym, ap, suc, drop, ◌&&◌}
 use Rattle.cm_block.specs.Frames.{is_last}
 use Rattle.cm_block.specs.steps.FrameViews.{frames_in}
-use Rattle.cm_block.proofs.Matching.{last_at}
+use Rattle.cm_block.proofs.lemmas.Matching.{last_at}
 use Rattle.cm_block.proofs.stack.is_bare_at.Goals as goal
 
 pub returns-then-bare : goal.returns-then-bare

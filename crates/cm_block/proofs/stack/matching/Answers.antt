@@ -3,8 +3,8 @@ use Rattle.cm_text.specs.Views.{seen_view}
 use Rattle.cm_text.specs.declared.view.View.{View}
 use Rattle.cm_block.specs.steps.FrameViews.{container_of, frame_in, frames_in}
 use Rattle.cm_block.specs.steps.FrameSteps.{matching, behind}
-use Rattle.cm_block.proofs.Matching.{frames_from, frames_end, match_next, match_stop, match_end, match_lazy, behind_all, all_lazily, none_lazily}
-use Rattle.cm_block.proofs.TestLemmas.{tested_then, tested_within, next_and_lazily}
+use Rattle.cm_block.proofs.lemmas.Matching.{frames_from, frames_end, match_next, match_stop, match_end, match_lazy, behind_all, all_lazily, none_lazily}
+use Rattle.cm_block.proofs.lemmas.TestLemmas.{tested_then, tested_within, next_and_lazily}
 use Rattle.cm_block.proofs.stack.matching.Goals as goal
 
 pub returns-in-Leaves-clause-line : goal.returns-in-Leaves-clause-line

@@ -1,6 +1,6 @@
 use Rattle.std.proofs.Common.{◌∙◌}
 use Rattle.std.proofs.lemmas.Str.{IsCharBoundary-start}
-use Rattle.cm_block.proofs.RunLemmas.{next_fewer, next_left, none_left}
+use Rattle.cm_block.proofs.lemmas.RunLemmas.{next_fewer, next_left, none_left}
 use Rattle.cm_block.proofs.text_runs.behind_definitions.Goals as goal
 
 pub definition-requires : goal.definition-requires

@@ -1,6 +1,6 @@
 use Rattle.std.proofs.Common.{◌∙◌, ap}
 use Rattle.std.specs.Prelude.{not}
-use Rattle.cm_block.proofs.NextLineLemmas.{rest_is}
+use Rattle.cm_block.proofs.lemmas.NextLineLemmas.{rest_is}
 use Rattle.cm_block.proofs.text_runs.has_rest.Goals as goal
 
 pub returns : goal.returns

@@ -1,6 +1,6 @@
 use Rattle.std.proofs.Common.{rules, length, ap, ◌∙◌, arith}
 use Rattle.memchr.specs.Find.{is_byte, places}
-use Rattle.cm_block.proofs.RunLemmas.{feeds_counted, one_counted}
+use Rattle.cm_block.proofs.lemmas.RunLemmas.{feeds_counted, one_counted}
 use Rattle.cm_block.proofs.text_runs.line_feeds.Goals as goal
 
 pub loop-init : goal.loop-init

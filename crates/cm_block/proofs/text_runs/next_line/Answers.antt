@@ -5,7 +5,7 @@ use Rattle.cm_scan.specs.blocks.Lines.{is_blank}
 use Rattle.cm_scan.specs.blocks.Starts.{interrupts_paragraph}
 use Rattle.cm_scan.specs.blocks.Blocks.{by_interruption, next_line}
 use Rattle.cm_block.specs.steps.LeafSteps.{heading_level}
-use Rattle.cm_block.proofs.NextLineLemmas.{ends_blank, underlines, interrupted, lazy_interrupts}
+use Rattle.cm_block.proofs.lemmas.NextLineLemmas.{ends_blank, underlines, interrupted, lazy_interrupts}
 use Rattle.cm_block.proofs.text_runs.next_line.Goals.{In-Other, In_default}
 use Rattle.cm_block.proofs.text_runs.next_line.Goals as goal
 

@@ -5,7 +5,7 @@ use Rattle.clap.proofs.WalkLemmas.{one_text-rows}
 use Rattle.cm_text.specs.Limits.{LimitsView, limits_for}
 use Rattle.cm_text.specs.Rules.{profile}
 use Rattle.cm_command.specs.CommandLine.{as_number, limits_of, rules_in}
-use Rattle.cm_command.proofs.CommandLineLemmas.{read_in_range, number_read, limits_made, standard_bytes}
+use Rattle.cm_command.proofs.lemmas.CommandLineLemmas.{read_in_range, number_read, limits_made, standard_bytes}
 use Rattle.cm_command.proofs.command_line.limits_of.Goals as goal
 
 pub unwrap-blocks-requires : goal.unwrap-blocks-requires

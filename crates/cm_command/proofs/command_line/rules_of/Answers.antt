@@ -3,7 +3,7 @@ use Rattle.clap.specs.Words.{found_of, rows_of}
 use Rattle.clap.proofs.WalkLemmas.{one_text-rows}
 use Rattle.cm_text.specs.Rules.{Rules}
 use Rattle.cm_command.specs.CommandLine.{is_set, Older, Strike, NoHtml, WebLinks, Safe}
-use Rattle.cm_command.proofs.CommandLineLemmas.{flag_read}
+use Rattle.cm_command.proofs.lemmas.CommandLineLemmas.{flag_read}
 use Rattle.cm_command.proofs.command_line.rules_of.Goals.{then-get_flag, else-get_flag, then-no_html, else-no_html, then-web_links, else-web_links}
 use Rattle.cm_command.proofs.command_line.rules_of.Goals as goal
 

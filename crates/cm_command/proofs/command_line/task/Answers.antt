@@ -2,9 +2,9 @@ use Rattle.std.proofs.Common.{◌≡◌, ◌∙◌, [], ap, sym, subst, Option, 
 use Rattle.clap.specs.Words.{App, fault_of, is_simple, is_simple_and_free, subcommand_of, kind_of, IsAmong}
 use Rattle.cm_command.specs.CommandLine.{found_for, stops_of, Found, IsTaskOf}
 use Rattle.cm_command.specs.steps.Arguments.{IsJob}
-use Rattle.cm_command.proofs.CommandLineLemmas.{cmk_is_simple, cmk_reads_simply, is_mistake, no_kinds, only_memory}
-use Rattle.cm_command.proofs.AskedLemmas.{asked_right, asked_task, asked_wrong}
-use Rattle.cm_command.proofs.WalkedLemmas.{is_job}
+use Rattle.cm_command.proofs.lemmas.CommandLineLemmas.{cmk_is_simple, cmk_reads_simply, is_mistake, no_kinds, only_memory}
+use Rattle.cm_command.proofs.lemmas.AskedLemmas.{asked_right, asked_task, asked_wrong}
+use Rattle.cm_command.proofs.lemmas.WalkedLemmas.{is_job}
 use Rattle.cm_command.proofs.command_line.task.Goals as goal
 
 pub task_of-requires : goal.task_of-requires

@@ -3,7 +3,7 @@ use Rattle.clap.specs.Words.{found_of, rows_of}
 use Rattle.cm_command.specs.CommandLine.{job_of, Found, IsTaskOf}
 use Rattle.cm_command.specs.steps.Arguments.{IsJob, OptionsAreRead}
 use Rattle.cm_command.specs.declared.job.Task.{Task}
-use Rattle.cm_command.proofs.CommandLineLemmas.{found_is, same_job, limits_of_job}
+use Rattle.cm_command.proofs.lemmas.CommandLineLemmas.{found_is, same_job, limits_of_job}
 use Rattle.cm_command.proofs.command_line.task_of.Goals as goal
 
 pub limits_for_job-requires : goal.limits_for_job-requires

@@ -1,7 +1,7 @@
 use Rattle.std.proofs.Common.{ap, codes, false, map, true}
 use Rattle.std.proofs.lemmas.List.{drop_all}
-use Rattle.cm_html.proofs.ItemLemmas.{inside_added}
-use Rattle.cm_html.proofs.Pushed.{enclosed}
+use Rattle.cm_html.proofs.lemmas.ItemLemmas.{inside_added}
+use Rattle.cm_html.proofs.lemmas.Pushed.{enclosed}
 use Rattle.cm_html.specs.Html.{html_of, written}
 use Rattle.cm_html.proofs.blocks.+blocks.Goals as goal
 

@@ -1,5 +1,5 @@
 use Rattle.std.proofs.Common.{codes}
-use Rattle.cm_html.proofs.Pushed.{enclosed}
+use Rattle.cm_html.proofs.lemmas.Pushed.{enclosed}
 use Rattle.cm_html.specs.Escape.{escape}
 use Rattle.cm_html.proofs.blocks.push_class_start.Goals as goal
 

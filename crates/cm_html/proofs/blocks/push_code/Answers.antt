@@ -1,5 +1,5 @@
 use Rattle.std.proofs.Common.{codes, ap, ◌∙◌, ◌++◌}
-use Rattle.cm_html.proofs.Pushed.{enclosed}
+use Rattle.cm_html.proofs.lemmas.Pushed.{enclosed}
 use Rattle.cm_html.specs.Escape.{escape, class_word}
 use Rattle.cm_html.specs.Html.{code_start}
 use Rattle.cm_html.proofs.blocks.push_code.Goals as goal

@@ -2,7 +2,7 @@ use Rattle.std.proofs.Common.{◌≡◌, ◌∙◌, Some, None, get_or}
 use Rattle.std.specs.List.{position}
 use Rattle.std.proofs.lemmas.List.Quantifiers.{position-Some}
 use Rattle.cm_html.specs.Escape.{is_space_or_tab}
-use Rattle.cm_html.proofs.Words.{word-found, word-none, gap_ascii}
+use Rattle.cm_html.proofs.lemmas.Words.{word-found, word-none, gap_ascii}
 use Rattle.cm_html.proofs.escape.class_word.Goals as goal
 
 pub cut_at-requires-clause-ascii : goal.cut_at-requires-clause-ascii

@@ -5,7 +5,7 @@ use Rattle.percent_encoding.specs.Iter.{encoded_text}
 use Rattle.std.specs.List.{list_all}
 use Rattle.cm_html.specs.Escape.{escape}
 use Rattle.cm_html.specs.steps.Bytes.{is_changed}
-use Rattle.cm_html.proofs.Destinations.{encoded, unchanged}
+use Rattle.cm_html.proofs.lemmas.Destinations.{encoded, unchanged}
 use Rattle.cm_html.proofs.escape.push_destination.Goals as goal
 
 pub loop-piece-init : goal.loop-piece-init

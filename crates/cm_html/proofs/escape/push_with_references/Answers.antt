@@ -1,4 +1,4 @@
-use Rattle.cm_html.proofs.EscapeLemmas.{escaped_ascii, escape_byte-plain}
+use Rattle.cm_html.proofs.lemmas.EscapeLemmas.{escaped_ascii, escape_byte-plain}
 use Rattle.cm_html.proofs.escape.push_with_references.Goals as goal
 
 pub push_replaced-requires-clause-ascii : goal.push_replaced-requires-clause-ascii

@@ -1,4 +1,4 @@
-use Rattle.cm_html.proofs.MarkupBlocks.{addresses_stay}
+use Rattle.cm_html.proofs.lemmas.MarkupBlocks.{addresses_stay}
 use Rattle.cm_html.proofs.laws.addresses_stay.Goals as goal
 
 pub returns : goal.returns

@@ -1,6 +1,6 @@
 use Rattle.std.proofs.Common.{arith}
 use Rattle.std.proofs.lemmas.Grind.{common_steps}
-use Rattle.cm_html.proofs.ListingLemmas.{margin-next, length-margin}
+use Rattle.cm_html.proofs.lemmas.ListingLemmas.{margin-next, length-margin}
 use Rattle.cm_html.proofs.quoting.push_margin.Goals as goal
 
 pub loop-preserved : goal.loop-preserved

@@ -1,4 +1,4 @@
-use Rattle.cm_html.proofs.EscapeLemmas.{has_escape_ascii, quote_byte-plain}
+use Rattle.cm_html.proofs.lemmas.EscapeLemmas.{has_escape_ascii, quote_byte-plain}
 use Rattle.cm_html.proofs.quoting.push_quoted.Goals as goal
 
 pub push_replaced-requires-clause-ascii : goal.push_replaced-requires-clause-ascii

@@ -1,4 +1,4 @@
-use Rattle.cm_html.proofs.WritingLemmas.{behind}
+use Rattle.cm_html.proofs.lemmas.WritingLemmas.{behind}
 use Rattle.cm_html.proofs.writing.write_both.Goals as goal
 
 pub returns : goal.returns

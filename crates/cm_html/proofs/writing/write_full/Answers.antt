@@ -1,7 +1,7 @@
 use Rattle.std.proofs.Common.{rules, ◌≡◌, ◌+◌, ◌∷◌, ap, drop, get_or}
 use Rattle.std.specs.List.{concat}
 use Rattle.cm_text.specs.Writing.{SinkView}
-use Rattle.cm_html.proofs.WritingLemmas.{next_item, next_lost, next_out}
+use Rattle.cm_html.proofs.lemmas.WritingLemmas.{next_item, next_lost, next_out}
 use Rattle.cm_html.proofs.writing.write_full.Goals as goal
 
 pub returns-in-Err : goal.returns-in-Err

@@ -1,6 +1,6 @@
 use Rattle.std.proofs.Common.{drop}
 use Rattle.std.specs.List.{concat}
-use Rattle.cm_html.proofs.WritingLemmas.{Left}
+use Rattle.cm_html.proofs.lemmas.WritingLemmas.{Left}
 use Rattle.cm_html.proofs.writing.write_full.Given as goal
 
 -- what is left of the pages

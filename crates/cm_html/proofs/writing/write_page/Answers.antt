@@ -4,8 +4,8 @@ use Rattle.std.specs.Prelude.{Ok, Err}
 use Rattle.std.specs.List.{slice_range}
 use Rattle.cm_text.specs.Writing.{SinkView}
 use Rattle.cm_html.specs.steps.Pages.{AreInOrder, WritesMore, with_insertions}
-use Rattle.cm_html.proofs.PageLemmas.{first_place}
-use Rattle.cm_html.proofs.WritingLemmas.{last_out, next_item, next_lost, next_out}
+use Rattle.cm_html.proofs.lemmas.PageLemmas.{first_place}
+use Rattle.cm_html.proofs.lemmas.WritingLemmas.{last_out, next_item, next_lost, next_out}
 use Rattle.cm_html.proofs.writing.write_page.Goals as goal
 
 pub slice_bounds-write_both-end : goal.slice_bounds-write_both-end

@@ -1,6 +1,6 @@
 use Rattle.std.proofs.Common.{drop}
 use Rattle.cm_html.specs.steps.Pages.{with_insertions, AreInOrder}
-use Rattle.cm_html.proofs.WritingLemmas.{Left}
+use Rattle.cm_html.proofs.lemmas.WritingLemmas.{Left}
 use Rattle.cm_html.proofs.writing.write_page.Given as goal
 
 -- what is left of the page, with its places in order

@@ -1,5 +1,5 @@
 use Rattle.std.specs.List.{concat}
-use Rattle.cm_html.proofs.WritingLemmas.{behind}
+use Rattle.cm_html.proofs.lemmas.WritingLemmas.{behind}
 use Rattle.cm_html.proofs.writing.write_pages.Goals as goal
 
 pub returns : goal.returns

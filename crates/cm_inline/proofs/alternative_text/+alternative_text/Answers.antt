@@ -6,8 +6,8 @@ use Rattle.cm_html.specs.Escape.{escape}
 use Rattle.cm_html.specs.Html.{rendered}
 use Rattle.cm_inline.specs.steps.Nodes.{node_plain, nodes_plain}
 use Rattle.cm_inline.specs.steps.Groups.{grouped, target_of, group_made, groups_made, node_of, nodes_of, IsBelow}
-use Rattle.cm_inline.proofs.GroupLemmas.{made-at, behind-front, placed-range}
-use Rattle.cm_inline.proofs.HtmlLemmas.{made-plain}
+use Rattle.cm_inline.proofs.lemmas.GroupLemmas.{made-at, behind-front, placed-range}
+use Rattle.cm_inline.proofs.lemmas.HtmlLemmas.{made-plain}
 use Rattle.cm_inline.proofs.alternative_text.+alternative_text.Goals as goal
 
 pub push_alternative_text-loop-token-init : goal.push_alternative_text-loop-token-init

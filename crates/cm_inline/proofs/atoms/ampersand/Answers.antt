@@ -1,6 +1,6 @@
 use Rattle.std.proofs.Common.{◌+◌}
 use Rattle.cm_inline.specs.declared.tokens.Token.TheVariants.{Piece}
-use Rattle.cm_inline.proofs.AtomLemmas.{told, reference-is, ampersand-is-text}
+use Rattle.cm_inline.proofs.lemmas.AtomLemmas.{told, reference-is, ampersand-is-text}
 use Rattle.cm_inline.proofs.atoms.ampersand.Goals as goal
 
 pub returns-in-Some : goal.returns-in-Some

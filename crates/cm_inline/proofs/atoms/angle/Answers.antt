@@ -5,8 +5,8 @@ use Rattle.cm_inline.specs.declared.tokens.Token.TheVariants.{Piece}
 use Rattle.cm_inline.specs.declared.standalone.Standalone.TheVariants.{Html, Autolink}
 use Rattle.cm_tree.specs.declared.tree.Inline.TheVariants as inlines
 use Rattle.cm_inline.specs.steps.Reads.{IsAtom}
-use Rattle.cm_inline.proofs.AtomLemmas.{told, link-is, html-is, angle-is-text}
-use Rattle.cm_inline.proofs.StandaloneLemmas.{finished, whole-is, link-placed, link-further, whole-placed, whole-text}
+use Rattle.cm_inline.proofs.lemmas.AtomLemmas.{told, link-is, html-is, angle-is-text}
+use Rattle.cm_inline.proofs.lemmas.StandaloneLemmas.{finished, whole-is, link-placed, link-further, whole-placed, whole-text}
 use Rattle.cm_inline.proofs.atoms.angle.Goals as goal
 
 pub returns-in-Some-clause-atom : goal.returns-in-Some-clause-atom

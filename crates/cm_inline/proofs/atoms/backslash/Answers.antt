@@ -1,10 +1,10 @@
 use Rattle.std.proofs.Common.{◌≡◌, ℕ, ◌+◌, ◌<◌, true, get_or, refl, sym, ap, ◌∙◌, arith}
 use Rattle.cm_text.specs.Characters.{is_ascii_punct}
 use Rattle.cm_inline.specs.declared.tokens.Token.TheVariants.{Piece}
-use Rattle.cm_inline.proofs.AtomLemmas.{told, hard-is, escape-is, backslash-is-text}
+use Rattle.cm_inline.proofs.lemmas.AtomLemmas.{told, hard-is, escape-is, backslash-is-text}
 use Rattle.cm_inline.specs.declared.standalone.Standalone.TheVariants.{Hard}
-use Rattle.cm_inline.proofs.StandaloneLemmas.{whole-is}
-use Rattle.cm_inline.proofs.LinkLemmas.{next-of}
+use Rattle.cm_inline.proofs.lemmas.StandaloneLemmas.{whole-is}
+use Rattle.cm_inline.proofs.lemmas.LinkLemmas.{next-of}
 use Rattle.cm_inline.proofs.atoms.backslash.Goals as goal
 use Rattle.cm_inline.proofs.atoms.backslash.Goals.{else-at-source-via-then-at-source+else-is_ascii_punct, else-at-source-via-else-at-source}
 

@@ -2,13 +2,13 @@ use Rattle.std.proofs.Common.{◌≡◌, ◌+◌, ◌-◌, None, sym, subst, dro
 use Rattle.cm_tree.specs.declared.tree.Inline.TheVariants as inlines
 use Rattle.cm_scan.specs.spans.CodeSpans.{one_line, stripped}
 use Rattle.cm_inline.specs.declared.standalone.Standalone.TheVariants.{Code}
-use Rattle.cm_inline.proofs.StandaloneLemmas.{finished, whole-is, span-placed}
+use Rattle.cm_inline.proofs.lemmas.StandaloneLemmas.{finished, whole-is, span-placed}
 use Rattle.cm_scan.specs.Words.{run_length}
 use Rattle.cm_scan.proofs.lemmas.spans.BacktickStrings.{span-content}
 use Rattle.cm_inline.specs.declared.tokens.Token.TheVariants.{Piece}
 use Rattle.cm_inline.specs.steps.Reads.{IsAtom}
-use Rattle.cm_inline.proofs.AtomLemmas.{told, code-span-is, backticks-are}
-use Rattle.cm_inline.proofs.MissingEndsLemmas.{no-code-span}
+use Rattle.cm_inline.proofs.lemmas.AtomLemmas.{told, code-span-is, backticks-are}
+use Rattle.cm_inline.proofs.lemmas.MissingEndsLemmas.{no-code-span}
 use Rattle.cm_inline.proofs.atoms.backticks.Goals as goal
 
 pub returns-then-is_last_backticks-clause-atom : goal.returns-then-is_last_backticks-clause-atom

@@ -1,7 +1,7 @@
 use Rattle.std.proofs.Common.{◌+◌, true, sym, ◌∙◌}
 use Rattle.cm_inline.specs.declared.tokens.Token.TheVariants.{Piece, Opener}
-use Rattle.cm_inline.proofs.AtomLemmas.{told, image-is, bang-is-text}
-use Rattle.cm_inline.proofs.LinkLemmas.{next-of}
+use Rattle.cm_inline.proofs.lemmas.AtomLemmas.{told, image-is, bang-is-text}
+use Rattle.cm_inline.proofs.lemmas.LinkLemmas.{next-of}
 use Rattle.cm_inline.proofs.atoms.exclamation_mark.Goals as goal
 
 pub returns-then-is_next : goal.returns-then-is_next

@@ -6,9 +6,9 @@ use Rattle.cm_tree.specs.declared.tree.Inline.TheVariants as inlines
 use Rattle.cm_inline.specs.declared.standalone.Standalone.{Standalone}
 use Rattle.cm_inline.specs.declared.standalone.Standalone.TheVariants.{Soft, Hard}
 use Rattle.cm_inline.specs.steps.Standalone.{inline_in, IsWithin}
-use Rattle.cm_inline.proofs.StandaloneLemmas.{finished, whole-is}
-use Rattle.cm_inline.proofs.AtomLemmas.{told, break-is, space-is-text}
-use Rattle.cm_inline.proofs.LinkLemmas.{next-of}
+use Rattle.cm_inline.proofs.lemmas.StandaloneLemmas.{finished, whole-is}
+use Rattle.cm_inline.proofs.lemmas.AtomLemmas.{told, break-is, space-is-text}
+use Rattle.cm_inline.proofs.lemmas.LinkLemmas.{next-of}
 use Rattle.cm_inline.proofs.atoms.line_break.Goals as goal
 
 pub returns-then-not-is_next : goal.returns-then-not-is_next

@@ -1,7 +1,7 @@
 use Rattle.std.proofs.Common.{◌+◌}
 use Rattle.cm_inline.specs.declared.standalone.Standalone.TheVariants.{Soft}
-use Rattle.cm_inline.proofs.StandaloneLemmas.{whole-is}
-use Rattle.cm_inline.proofs.AtomLemmas.{feed-is}
+use Rattle.cm_inline.proofs.lemmas.StandaloneLemmas.{whole-is}
+use Rattle.cm_inline.proofs.lemmas.AtomLemmas.{feed-is}
 use Rattle.cm_inline.proofs.atoms.line_feed.Goals as goal
 
 pub returns : goal.returns

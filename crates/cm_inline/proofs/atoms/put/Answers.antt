@@ -1,4 +1,4 @@
-use Rattle.cm_inline.proofs.AtomLemmas.{token-read}
+use Rattle.cm_inline.proofs.lemmas.AtomLemmas.{token-read}
 use Rattle.cm_inline.proofs.atoms.put.Goals as goal
 
 pub add-requires : goal.add-requires

@@ -1,7 +1,7 @@
 use Rattle.std.proofs.Common.{false, ◌≡◌, ◌+◌, ◌<◌, get_or, sym, ap, ◌∙◌, arith}
 use Rattle.cm_inline.specs.declared.tokens.Token.TheVariants.{Piece, Opener}
 use Rattle.cm_inline.specs.steps.Reads.{Stands}
-use Rattle.cm_inline.proofs.AtomLemmas.{told, opener-is, lone-is, lone-byte}
+use Rattle.cm_inline.proofs.lemmas.AtomLemmas.{told, opener-is, lone-is, lone-byte}
 use Rattle.cm_inline.proofs.atoms.read_atom.Goals as goal
 
 pub put-requires-clause-atom : goal.put-requires-clause-atom

@@ -4,7 +4,7 @@ use Rattle.cm_inline.specs.declared.tokens.Token.TheVariants.{Piece}
 use Rattle.cm_inline.specs.declared.delimiter_runs.Marker.{Marker}
 use Rattle.cm_inline.specs.declared.delimiter_runs.Marker.TheVariants.{Star, Underscore, Tilde}
 use Rattle.cm_inline.specs.steps.Runs.{byte_of}
-use Rattle.cm_inline.proofs.AtomLemmas.{told, marker-text-is, marker-run-is}
+use Rattle.cm_inline.proofs.lemmas.AtomLemmas.{told, marker-text-is, marker-run-is}
 use Rattle.cm_inline.proofs.atoms.run.Goals as goal
 
 small : (m : Marker) → byte_of m < 128

@@ -4,7 +4,7 @@ use Rattle.cm_text.specs.Search.{next_place, is_marked}
 use Rattle.cm_scan.specs.Words.{trim_end_spaces}
 use Rattle.cm_scan.proofs.lemmas.spans.BacktickStrings.{not-same}
 use Rattle.cm_inline.specs.steps.Reads.{IsTextTo}
-use Rattle.cm_inline.proofs.TextLemmas.{text-to-markup, text-to-spaces}
+use Rattle.cm_inline.proofs.lemmas.TextLemmas.{text-to-markup, text-to-spaces}
 use Rattle.cm_inline.proofs.atoms.text_end.Goals as goal
 use Rattle.cm_inline.proofs.atoms.text_end.Goals.{else-end-source-via-then-end-source+else-as_bytes-end-eq10, else-end-source-via-else-end-source}
 

@@ -1,6 +1,6 @@
 use Rattle.std.proofs.Common.{arith}
 use Rattle.std.proofs.lemmas.Grind.{common_steps}
-use Rattle.cm_inline.proofs.CodeLemmas.{line-feed, line-whole}
+use Rattle.cm_inline.proofs.lemmas.CodeLemmas.{line-feed, line-whole}
 use Rattle.cm_inline.proofs.code.one_line.Goals as goal
 
 pub loop-at-preserved : goal.loop-at-preserved

@@ -3,8 +3,8 @@ use Rattle.std.specs.List.{slice_range}
 use Rattle.std.specs.Str.{IsCharBoundary}
 use Rattle.std.proofs.lemmas.Bool.{eqb-true}
 use Rattle.cm_tree.specs.LinkTargets.{led_to}
-use Rattle.cm_inline.proofs.HtmlLemmas.{slice-none}
-use Rattle.cm_inline.proofs.ReaderLemmas.{none-there}
+use Rattle.cm_inline.proofs.lemmas.HtmlLemmas.{slice-none}
+use Rattle.cm_inline.proofs.lemmas.ReaderLemmas.{none-there}
 use Rattle.cm_inline.proofs.groups.keep.Goals as goal
 
 pub returns-then-is_empty-2-clause-kept : goal.returns-then-is_empty-2-clause-kept

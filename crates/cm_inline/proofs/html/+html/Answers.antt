@@ -6,8 +6,8 @@ use Rattle.cm_html.specs.Escape.{escape}
 use Rattle.cm_html.specs.Html.{rendered}
 use Rattle.cm_inline.specs.steps.Nodes.{node_html, nodes_html}
 use Rattle.cm_inline.specs.steps.Groups.{end_html, grouped, target_of, group_made, groups_made, node_of, nodes_of, AreBelow, ArePlaced, IsBelow}
-use Rattle.cm_inline.proofs.GroupLemmas.{made-at, behind-front, placed-range}
-use Rattle.cm_inline.proofs.HtmlLemmas.{group-html, image-made, text-further, text-written, text-last, on-ok}
+use Rattle.cm_inline.proofs.lemmas.GroupLemmas.{made-at, behind-front, placed-range}
+use Rattle.cm_inline.proofs.lemmas.HtmlLemmas.{group-html, image-made, text-further, text-written, text-last, on-ok}
 use Rattle.cm_inline.proofs.html.+html.Goals as goal
 
 pub push_group-push_content-requires : goal.push_group-push_content-requires

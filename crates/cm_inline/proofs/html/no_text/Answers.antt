@@ -1,4 +1,4 @@
-use Rattle.cm_inline.proofs.HtmlLemmas.{nowhere}
+use Rattle.cm_inline.proofs.lemmas.HtmlLemmas.{nowhere}
 use Rattle.cm_inline.proofs.html.no_text.Goals as goal
 
 pub returns-clause-between : goal.returns-clause-between

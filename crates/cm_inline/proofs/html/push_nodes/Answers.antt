@@ -2,8 +2,8 @@ use Rattle.std.proofs.Common.{◌≡◌, ◌++◌, sym, ap, subst, ◌∙◌}
 use Rattle.std.specs.Prelude.{OnOk}
 use Rattle.cm_inline.specs.steps.Nodes.{nodes_html}
 use Rattle.cm_inline.specs.steps.Groups.{nodes_in}
-use Rattle.cm_inline.proofs.GroupLemmas.{are-among, nodes-among}
-use Rattle.cm_inline.proofs.HtmlLemmas.{settled-html}
+use Rattle.cm_inline.proofs.lemmas.GroupLemmas.{are-among, nodes-among}
+use Rattle.cm_inline.proofs.lemmas.HtmlLemmas.{settled-html}
 use Rattle.cm_inline.proofs.html.push_nodes.Goals as goal
 
 pub push_tokens-requires : goal.push_tokens-requires

@@ -1,7 +1,7 @@
 use Rattle.std.proofs.Common.{◌++◌, sym, ap, ◌∙◌}
 use Rattle.std.proofs.lemmas.List.{append-nil}
 use Rattle.cm_html.specs.Escape.{escape}
-use Rattle.cm_inline.proofs.HtmlLemmas.{slice-none}
+use Rattle.cm_inline.proofs.lemmas.HtmlLemmas.{slice-none}
 use Rattle.cm_inline.proofs.html.push_text.Goals as goal
 
 pub returns-then-from-to : goal.returns-then-from-to

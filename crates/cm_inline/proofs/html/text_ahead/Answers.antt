@@ -1,6 +1,6 @@
 use Rattle.std.proofs.Common.{arith}
 use Rattle.cm_scan.proofs.lemmas.spans.AutolinkParts.{next-ascii}
-use Rattle.cm_inline.proofs.LinkLemmas.{next-of}
+use Rattle.cm_inline.proofs.lemmas.LinkLemmas.{next-of}
 use Rattle.cm_inline.proofs.html.text_ahead.Goals as goal
 
 pub returns-then-is_next-clause-between : goal.returns-then-is_next-clause-between

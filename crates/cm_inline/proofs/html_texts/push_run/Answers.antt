@@ -1,6 +1,6 @@
 use Rattle.std.proofs.Common.{◌++◌, ◌-◌, ◌+◌, replicate, ap, ◌∙◌}
 use Rattle.cm_inline.specs.steps.Runs.{byte_of}
-use Rattle.cm_inline.proofs.NodeLemmas.{run-next}
+use Rattle.cm_inline.proofs.lemmas.NodeLemmas.{run-next}
 use Rattle.cm_inline.proofs.html_texts.push_run.Goals as goal
 
 pub loop-preserved : goal.loop-preserved

@@ -3,7 +3,7 @@ use Rattle.std.specs.Prelude.{OnOk}
 use Rattle.cm_html.specs.Escape.{escape}
 use Rattle.cm_inline.specs.steps.Groups.{node_of}
 use Rattle.cm_inline.specs.steps.Nodes.{text_in}
-use Rattle.cm_inline.proofs.HtmlLemmas.{run-html}
+use Rattle.cm_inline.proofs.lemmas.HtmlLemmas.{run-html}
 use Rattle.cm_inline.proofs.html_texts.push_text_of.Goals as goal
 
 pub returns-in-Run : goal.returns-in-Run

@@ -5,8 +5,8 @@ use Rattle.cm_scan.specs.inlines.Pairing.{settled_after, settled}
 use Rattle.cm_inline.specs.declared.tokens.Token.TheVariants as tokens
 use Rattle.cm_inline.specs.steps.Nodes.{items_of, inline_of}
 use Rattle.cm_inline.specs.steps.Groups.{Made, grouped, group_made, groups_made, node_of, nodes_of, IsBelow, ArePlaced}
-use Rattle.cm_inline.proofs.GroupLemmas.{made-at, behind-front, placed-range, placed-drop, placed-at}
-use Rattle.cm_inline.proofs.SettlingLemmas.{below-one, settled-behind, settled-further}
+use Rattle.cm_inline.proofs.lemmas.GroupLemmas.{made-at, behind-front, placed-range, placed-drop, placed-at}
+use Rattle.cm_inline.proofs.lemmas.SettlingLemmas.{below-one, settled-behind, settled-further}
 use Rattle.cm_inline.proofs.inlines_of_nodes.+inlines.Goals as goal
 
 -- in a recursion over a text what is asked follows two other facts: it is `c.requires.1.1`

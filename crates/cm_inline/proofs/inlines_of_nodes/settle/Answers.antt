@@ -1,7 +1,7 @@
 use Rattle.std.proofs.Common.{◌≡◌, IfOk, subst}
 use Rattle.cm_scan.specs.inlines.Pairing.{settled}
 use Rattle.cm_inline.specs.steps.Nodes.{items_of}
-use Rattle.cm_inline.proofs.GroupLemmas.{are-among, nodes-among}
+use Rattle.cm_inline.proofs.lemmas.GroupLemmas.{are-among, nodes-among}
 use Rattle.cm_inline.proofs.inlines_of_nodes.settle.Goals as goal
 
 pub settle_tokens-requires : goal.settle_tokens-requires

@@ -2,7 +2,7 @@ use Rattle.std.proofs.Common.{drop, Some, None, sym, ap, ◌∙◌}
 use Rattle.cm_scan.specs.spans.Tags.{is_blank_next}
 use Rattle.cm_scan.specs.inlines.Brackets.{end_if_followed}
 use Rattle.cm_scan.proofs.lemmas.links.DefinitionParts.{gap-of}
-use Rattle.cm_inline.proofs.LinkLemmas.{turned, not-parted, by-title}
+use Rattle.cm_inline.proofs.lemmas.LinkLemmas.{turned, not-parted, by-title}
 use Rattle.cm_inline.proofs.links.after_destination.Goals as goal
 
 pub returns-then-not-is_blank_next-clause-ends : goal.returns-then-not-is_blank_next-clause-ends

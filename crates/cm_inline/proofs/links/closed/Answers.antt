@@ -5,7 +5,7 @@ use Rattle.cm_text.specs.Unescaping.{unescape}
 use Rattle.cm_scan.specs.inlines.Brackets.{LinkEnd, end_if_followed}
 use Rattle.cm_scan.proofs.lemmas.links.DefinitionParts.{gap-of}
 use Rattle.cm_scan.proofs.lemmas.spans.AutolinkParts.{next-ascii}
-use Rattle.cm_inline.proofs.LinkLemmas.{next-of, not-closed, is-closed, end-followed, end-not-followed}
+use Rattle.cm_inline.proofs.lemmas.LinkLemmas.{next-of, not-closed, is-closed, end-followed, end-not-followed}
 use Rattle.cm_inline.proofs.links.closed.Goals as goal
 
 pub returns-then-not-is_next-clause-ends : goal.returns-then-not-is_next-clause-ends

@@ -3,7 +3,7 @@ use Rattle.std.specs.Str.{IsCharBoundary}
 use Rattle.cm_scan.specs.inlines.Brackets.{end_if_followed}
 use Rattle.cm_scan.proofs.lemmas.links.DefinitionParts.{gap-of}
 use Rattle.cm_scan.proofs.lemmas.spans.AutolinkParts.{next-ascii}
-use Rattle.cm_inline.proofs.LinkLemmas.{next-of, turned, no-inline_end, by-destination}
+use Rattle.cm_inline.proofs.lemmas.LinkLemmas.{next-of, turned, no-inline_end, by-destination}
 use Rattle.cm_inline.proofs.links.inline_end.Goals as goal
 
 pub returns-then-not-is_next-clause-ends : goal.returns-then-not-is_next-clause-ends

@@ -3,7 +3,7 @@ use Rattle.std.specs.List.{slice_range}
 use Rattle.std.specs.Str.{IsCharBoundary}
 use Rattle.std.proofs.lemmas.Str.{IsCharBoundary-after_ascii}
 use Rattle.cm_scan.specs.inlines.Brackets.{defined_in}
-use Rattle.cm_inline.proofs.LinkLemmas.{turned, place, place-in, inline-first, no-inline}
+use Rattle.cm_inline.proofs.lemmas.LinkLemmas.{turned, place, place-in, inline-first, no-inline}
 use Rattle.cm_inline.proofs.links.link_end.Goals as goal
 
 pub inline_end-requires : goal.inline_end-requires

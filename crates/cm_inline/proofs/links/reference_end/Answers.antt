@@ -3,7 +3,7 @@ use Rattle.std.specs.List.{slice_range}
 use Rattle.std.proofs.lemmas.Str.{IsCharBoundary-after_ascii}
 use Rattle.cm_scan.specs.inlines.Brackets.{defined_in, target_of, end_if_followed}
 use Rattle.cm_inline.specs.steps.Links.{leads_to}
-use Rattle.cm_inline.proofs.LinkLemmas.{led, by-full, by-between}
+use Rattle.cm_inline.proofs.lemmas.LinkLemmas.{led, by-full, by-between}
 use Rattle.cm_inline.proofs.links.reference_end.Goals as goal
 
 pub label-requires : goal.label-requires

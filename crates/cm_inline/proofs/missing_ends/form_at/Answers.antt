@@ -1,6 +1,6 @@
 use Rattle.std.proofs.Common.{◌≡◌, true, codes, drop}
 use Rattle.cm_inline.specs.declared.missing_ends.Form.TheVariants.{Comment, Declaration}
-use Rattle.cm_inline.proofs.MissingEndsLemmas.{word-begins, form-begins}
+use Rattle.cm_inline.proofs.lemmas.MissingEndsLemmas.{word-begins, form-begins}
 use Rattle.cm_inline.proofs.missing_ends.form_at.Goals as goal
 
 pub returns-then-starts_with : goal.returns-then-starts_with

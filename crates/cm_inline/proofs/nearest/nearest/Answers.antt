@@ -3,7 +3,7 @@ use Rattle.std.proofs.Common.{◌≡◌, ℕ, ◌+◌, length, List, ◌∷◌, 
 use Rattle.cm_inline.specs.steps.Entries.{Entry, first_place, from_place, after_place, is_listed}
 use Rattle.cm_inline.specs.steps.Searching.{find_opener, looks_for, from_at}
 use Rattle.cm_inline.specs.steps.Runs.{run_of, entry_of}
-use Rattle.cm_inline.proofs.StepLemmas.{at-listed, at-low, at-finds, at-passes, at-end, from-before, after-shorter}
+use Rattle.cm_inline.proofs.lemmas.StepLemmas.{at-listed, at-low, at-finds, at-passes, at-end, from-before, after-shorter}
 use Rattle.cm_inline.proofs.nearest.nearest.Goals as goal
 
 pub loop-at-init : goal.loop-at-init

@@ -1,6 +1,6 @@
 -- The run comes in as a closer.
 use Rattle.cm_inline.specs.steps.Runs.{run_of}
-use Rattle.cm_inline.proofs.OpenerLemmas.{begin-closing}
+use Rattle.cm_inline.proofs.lemmas.OpenerLemmas.{begin-closing}
 use Rattle.cm_inline.proofs.openers.begin.Goals as goal
 
 pub returns : goal.returns

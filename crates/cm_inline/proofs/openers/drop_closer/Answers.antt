@@ -1,6 +1,6 @@
 -- The closer goes.
 use Rattle.std.proofs.Common.{refl}
-use Rattle.cm_inline.proofs.OpenerLemmas.{closer-goes}
+use Rattle.cm_inline.proofs.lemmas.OpenerLemmas.{closer-goes}
 use Rattle.cm_inline.proofs.openers.drop_closer.Goals as goal
 
 pub returns : goal.returns

@@ -2,7 +2,7 @@
 use Rattle.std.proofs.Common.{ap, sym, ◌∙◌}
 use Rattle.cm_inline.specs.steps.Entries.{leave}
 use Rattle.cm_inline.specs.steps.Runs.{run_of}
-use Rattle.cm_inline.proofs.OpenerLemmas.{closer-stays, closer-finishes}
+use Rattle.cm_inline.proofs.lemmas.OpenerLemmas.{closer-stays, closer-finishes}
 use Rattle.cm_inline.proofs.openers.finish.Goals as goal
 
 pub returns-then-run : goal.returns-then-run

@@ -1,6 +1,6 @@
 -- The opener is shortened or taken out.
 use Rattle.cm_inline.specs.steps.Runs.{entry_of}
-use Rattle.cm_inline.proofs.OpenerLemmas.{spends-some, spends-none}
+use Rattle.cm_inline.proofs.lemmas.OpenerLemmas.{spends-some, spends-none}
 use Rattle.cm_inline.proofs.openers.spend.Goals as goal
 
 pub returns-in-Some : goal.returns-in-Some

@@ -1,7 +1,7 @@
 -- Each turn takes out an entry or finds the one.
 use Rattle.std.proofs.Common.{◌≡◌, ℕ, length, refl, sym, ap, subst, ◌∙◌, arith}
 use Rattle.cm_inline.specs.steps.Entries.{without_place, is_listed}
-use Rattle.cm_inline.proofs.BetweenLemmas.{Between, Shrinks, between-closer, between-done, between-none, between-takes}
+use Rattle.cm_inline.proofs.lemmas.BetweenLemmas.{Between, Shrinks, between-closer, between-done, between-none, between-takes}
 use Rattle.cm_inline.proofs.openers.take_between.Goals as goal
 
 pub before-at-requires : goal.before-at-requires

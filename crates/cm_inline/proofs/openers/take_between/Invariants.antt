@@ -1,7 +1,7 @@
 -- What is left once all between is gone stays the same.
 use Rattle.std.proofs.Common.{◌≡◌, length}
 use Rattle.cm_inline.specs.steps.Entries.{first_place, after_place}
-use Rattle.cm_inline.proofs.BetweenLemmas.{Between}
+use Rattle.cm_inline.proofs.lemmas.BetweenLemmas.{Between}
 use Rattle.cm_inline.proofs.openers.take_between.Given as goal
 
 abbrev pub invariant-loop-at : goal.invariant-loop-at

@@ -2,8 +2,8 @@
 use Rattle.std.proofs.Common.{ap, ◌∙◌, ◌^◌}
 use Rattle.cm_inline.specs.steps.Entries.{is_listed, after_place}
 use Rattle.cm_inline.specs.steps.Runs.{run_of}
-use Rattle.cm_inline.proofs.BetweenLemmas.{between-closer}
-use Rattle.cm_inline.proofs.OpenerLemmas.{closing-there, spent-few, marked, finds-listed, fails, finds}
+use Rattle.cm_inline.proofs.lemmas.BetweenLemmas.{between-closer}
+use Rattle.cm_inline.proofs.lemmas.OpenerLemmas.{closing-there, spent-few, marked, finds-listed, fails, finds}
 use Rattle.cm_inline.proofs.openers.take_opener.Goals as goal
 
 pub find-requires-clause-there : goal.find-requires-clause-there

@@ -13,10 +13,10 @@ use Rattle.cm_inline.specs.steps.Openers.{Closing, spent, cut, IsRestOf}
 use Rattle.cm_inline.specs.steps.Pairs.{items_emphases}
 use Rattle.cm_inline.specs.steps.Runs.{run_of, rest_of, entry_of}
 use Rattle.cm_inline.specs.steps.Searching.{kind}
-use Rattle.cm_inline.proofs.BottomLemmas.{kind-small}
-use Rattle.cm_inline.proofs.DeeperLemmas.{same-fault, closer-deeper, nodes-items}
-use Rattle.cm_inline.proofs.NodeLemmas.{parts-drop}
-use Rattle.cm_inline.proofs.PairLemmas.{Paired, nodes-at, pair-law, opener-there, closer-there, goes-on, cut-kind, add-end, pass-further, pass-ends, stays-same, stays-on, stays-more, drop-more}
+use Rattle.cm_inline.proofs.lemmas.BottomLemmas.{kind-small}
+use Rattle.cm_inline.proofs.lemmas.DeeperLemmas.{same-fault, closer-deeper, nodes-items}
+use Rattle.cm_inline.proofs.lemmas.NodeLemmas.{parts-drop}
+use Rattle.cm_inline.proofs.lemmas.PairLemmas.{Paired, nodes-at, pair-law, opener-there, closer-there, goes-on, cut-kind, add-end, pass-further, pass-ends, stays-same, stays-on, stays-more, drop-more}
 use Rattle.cm_inline.proofs.pairing.add_run.Goals.{else-loop-closer-test, then-loop-closer-test+in_default}
 use Rattle.cm_inline.proofs.pairing.add_run.Goals as goal
 

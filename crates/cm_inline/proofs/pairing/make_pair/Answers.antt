@@ -4,7 +4,7 @@ use Rattle.cm_inline.specs.steps.Groups.{target_of, nodes_in}
 use Rattle.cm_inline.specs.steps.Nodes.{nodes_depth}
 use Rattle.cm_inline.specs.steps.Openers.{Spends}
 use Rattle.cm_inline.specs.steps.Runs.{run_of, entry_of, rest_of, byte_of}
-use Rattle.cm_inline.proofs.PairLemmas.{pair_nodes, pair-from, pair-front, pair-long, pair-parts, placed-inside, behind-both}
+use Rattle.cm_inline.proofs.lemmas.PairLemmas.{pair_nodes, pair-from, pair-front, pair-long, pair-parts, placed-inside, behind-both}
 use Rattle.cm_inline.proofs.pairing.make_pair.Goals as goal
 
 pub returns-then-depth-limit-clause-deep : goal.returns-then-depth-limit-clause-deep

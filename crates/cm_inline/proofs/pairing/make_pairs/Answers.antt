@@ -2,8 +2,8 @@ use Rattle.std.proofs.Common.{[], length, sym, ap, subst, arith}
 use Rattle.std.specs.Prelude.{Err}
 use Rattle.cm_inline.specs.declared.fault.InlineFault.TheVariants.{InlinesTooDeep}
 use Rattle.cm_inline.specs.steps.Groups.{waiting_in}
-use Rattle.cm_inline.proofs.DeeperLemmas.{same-fault}
-use Rattle.cm_inline.proofs.PassingLemmas.{Passing, passing-none, passing-run, passing-end, passing-adds, fewer-wait, run-pays, passing-deep, passed-makes}
+use Rattle.cm_inline.proofs.lemmas.DeeperLemmas.{same-fault}
+use Rattle.cm_inline.proofs.lemmas.PassingLemmas.{Passing, passing-none, passing-run, passing-end, passing-adds, fewer-wait, run-pays, passing-deep, passed-makes}
 use Rattle.cm_inline.proofs.pairing.make_pairs.Goals as goal
 
 pub loop-run-init : goal.loop-run-init

@@ -1,6 +1,6 @@
 use Rattle.std.proofs.Common.{length}
 use Rattle.cm_inline.specs.steps.Groups.{waiting_in}
-use Rattle.cm_inline.proofs.PassingLemmas.{Passing}
+use Rattle.cm_inline.proofs.lemmas.PassingLemmas.{Passing}
 use Rattle.cm_inline.proofs.pairing.make_pairs.Given as goal
 
 -- What was taken has been passed over.

@@ -3,7 +3,7 @@ use Rattle.std.specs.List.{list_any}
 use Rattle.cm_inline.specs.steps.Groups.{nodes_in}
 use Rattle.cm_inline.specs.steps.Nodes.{is_closer}
 use Rattle.cm_inline.specs.steps.Pairs.{items_emphases}
-use Rattle.cm_inline.proofs.PairLemmas.{no-pairs, stays-same}
+use Rattle.cm_inline.proofs.lemmas.PairLemmas.{no-pairs, stays-same}
 use Rattle.cm_inline.proofs.pairing.pair_from.Goals as goal
 
 -- nothing closes, so nothing pairs

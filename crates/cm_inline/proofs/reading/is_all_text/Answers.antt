@@ -1,6 +1,6 @@
 use Rattle.std.proofs.Common.{◌≡◌, ◌+◌, get_or, sym, ap, ◌∙◌, arith}
 use Rattle.std.proofs.lemmas.Str.{IsCharBoundary-after_ascii}
-use Rattle.cm_inline.proofs.PlainLemmas.{text-start, text-further, feed-further, all-text}
+use Rattle.cm_inline.proofs.lemmas.PlainLemmas.{text-start, text-further, feed-further, all-text}
 use Rattle.cm_inline.proofs.reading.is_all_text.Goals as goal
 
 pub loop-end-init : goal.loop-end-init

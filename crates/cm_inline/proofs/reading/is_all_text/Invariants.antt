@@ -1,6 +1,6 @@
 use Rattle.std.proofs.Common.{◌-◌, length}
 use Rattle.std.specs.Str.{IsCharBoundary}
-use Rattle.cm_inline.proofs.PlainLemmas.{ReadsAsText}
+use Rattle.cm_inline.proofs.lemmas.PlainLemmas.{ReadsAsText}
 use Rattle.cm_inline.proofs.reading.is_all_text.Given as goal
 
 abbrev pub invariant-loop-end : goal.invariant-loop-end

@@ -3,7 +3,7 @@ use Rattle.std.specs.List.{list_any}
 use Rattle.std.proofs.lemmas.Bool.{eqb-true}
 use Rattle.cm_text.specs.Search.{next_place, is_marked}
 use Rattle.cm_scan.specs.Words.{is_empty}
-use Rattle.cm_inline.proofs.TextLemmas.{is-empty, is-unmarked, one-text}
+use Rattle.cm_inline.proofs.lemmas.TextLemmas.{is-empty, is-unmarked, one-text}
 use Rattle.cm_inline.proofs.reading.is_one_text.Goals as goal
 
 pub returns-then-not-is_empty-clause-unmarked : goal.returns-then-not-is_empty-clause-unmarked

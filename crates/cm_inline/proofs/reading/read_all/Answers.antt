@@ -5,9 +5,9 @@ use Rattle.cm_inline.specs.declared.fault.InlineFault.TheVariants.{InlinesTooDee
 use Rattle.cm_inline.specs.steps.Brackets.{IsReadTo}
 use Rattle.cm_inline.specs.steps.Groups.{nodes_in}
 use Rattle.cm_inline.specs.steps.Reads.{Pays, ahead}
-use Rattle.cm_inline.proofs.DeeperLemmas.{same-fault}
-use Rattle.cm_inline.proofs.PaysLemmas.{nothing-pays}
-use Rattle.cm_inline.proofs.WholeLemmas.{ahead-start, ahead-end, nests-ahead}
+use Rattle.cm_inline.proofs.lemmas.DeeperLemmas.{same-fault}
+use Rattle.cm_inline.proofs.lemmas.PaysLemmas.{nothing-pays}
+use Rattle.cm_inline.proofs.lemmas.WholeLemmas.{ahead-start, ahead-end, nests-ahead}
 use Rattle.cm_inline.proofs.reading.read_all.Goals as goal
 
 pub loop-text-init : goal.loop-text-init

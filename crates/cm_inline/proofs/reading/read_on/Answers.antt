@@ -8,9 +8,9 @@ use Rattle.cm_inline.specs.steps.Groups.{nodes_in, ArePlaced}
 use Rattle.cm_inline.specs.steps.Reads.{Pays, ahead}
 use Rattle.cm_inline.specs.steps.Nodes.{items_of, text_between}
 use Rattle.cm_inline.specs.steps.Pairs.{allowance}
-use Rattle.cm_inline.proofs.PaysLemmas.{text-pays, atom-more-pays, closed-pays, pays-few}
-use Rattle.cm_inline.proofs.ReaderLemmas.{text-more, atom-read, same-read}
-use Rattle.cm_inline.proofs.WholeLemmas.{ahead-text, ahead-atom, ahead-closed, closed-deeper}
+use Rattle.cm_inline.proofs.lemmas.PaysLemmas.{text-pays, atom-more-pays, closed-pays, pays-few}
+use Rattle.cm_inline.proofs.lemmas.ReaderLemmas.{text-more, atom-read, same-read}
+use Rattle.cm_inline.proofs.lemmas.WholeLemmas.{ahead-text, ahead-atom, ahead-closed, closed-deeper}
 use Rattle.cm_inline.proofs.reading.read_on.Goals as goal
 
 pub returns-then-end-source-clause-read : goal.returns-then-end-source-clause-read

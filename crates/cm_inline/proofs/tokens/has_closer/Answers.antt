@@ -3,7 +3,7 @@ use Rattle.std.proofs.lemmas.Iterator.{YieldsList-from_slice}
 use Rattle.std.proofs.lemmas.Iterator.Search.{any_from_yields_List}
 use Rattle.cm_inline.specs.steps.Groups.{node_of}
 use Rattle.cm_inline.specs.steps.Nodes.{is_closer}
-use Rattle.cm_inline.proofs.GroupLemmas.{closers-held}
+use Rattle.cm_inline.proofs.lemmas.GroupLemmas.{closers-held}
 use Rattle.cm_inline.proofs.tokens.has_closer.Goals as goal
 
 pub returns : goal.returns

@@ -4,7 +4,7 @@ use Rattle.std.proofs.lemmas.List.{append-nil, drop_more, drop_all}
 use Rattle.cm_inline.specs.declared.tokens.Token.TheVariants as tokens
 use Rattle.cm_inline.specs.steps.Nodes.{is_text, text_in, text_in_front, behind_texts}
 use Rattle.cm_inline.specs.steps.Groups.{node_of, nodes_of, ArePlaced}
-use Rattle.cm_inline.proofs.NodeLemmas.{text-more, text-over, no-text}
+use Rattle.cm_inline.proofs.lemmas.NodeLemmas.{text-more, text-over, no-text}
 use Rattle.cm_inline.proofs.tokens.join.Goals as goal
 
 pub loop-at-init : goal.loop-at-init

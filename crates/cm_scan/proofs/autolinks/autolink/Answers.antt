@@ -1,5 +1,5 @@
 use Rattle.std.proofs.Common.{◌∙◌, ℕ, drop, Option, option_map, ap}
-use Rattle.cm_scan.specs.declared.angled.Autolink.{Autolink}
+use Rattle.cm_scan.specs.declared.autolink_contents.Autolink.{Autolink}
 use Rattle.cm_scan.specs.Scanned.{autolink_with}
 use Rattle.cm_scan.proofs.lemmas.spans.AutolinkParts.{link-outside, link-inside}
 use Rattle.cm_scan.proofs.autolinks.autolink.Goals as goal

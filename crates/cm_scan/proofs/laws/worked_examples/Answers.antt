@@ -1,6 +1,6 @@
 use Rattle.std.proofs.Common.{refl}
 use Rattle.cm_scan.proofs.lemmas.Computing.{block_structure}
-use Rattle.cm_scan.specs.laws.WorkedExamples.{LeafExamples, ContainerExamples, DefinitionExamples, DepthExamples, BoundExamples}
+use Rattle.cm_scan.specs.laws.BlockExamples.{LeafExamples, ContainerExamples, DefinitionExamples, DepthExamples, BoundExamples}
 use Rattle.cm_scan.proofs.laws.worked_examples.Goals as goal
 
 leaves : LeafExamples

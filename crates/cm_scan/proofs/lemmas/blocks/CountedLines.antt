@@ -19,7 +19,7 @@ use Rattle.cm_scan.specs.blocks.Starts.{IndentedCode, AtxHeading, OpeningFence, 
 use Rattle.cm_scan.specs.blocks.Blocks.{code_line, quote_parts, item_parts, fence_parts, html_parts, code_parts, text_parts, parts_by_start, parts_of, blocks_of, owners_of}
 use Rattle.cm_scan.specs.blocks.Parts.{line_owners}
 use Rattle.cm_scan.specs.blocks.Lines.{size}
-use Rattle.cm_scan.specs.laws.Laws.{OneOwnerALine, RunsInOrder}
+use Rattle.cm_scan.specs.laws.PartLaws.{OneOwnerALine, RunsInOrder}
 use Rattle.cm_scan.proofs.lemmas.texts.ByteSums.{AddsUp, NoMore, sum-append, sum-behind_quote_marker, sum-first_content, no_more-quote, no_more-item}
 use Rattle.cm_scan.proofs.lemmas.blocks.LineSizes.{by_place, marks-behind_quote_marker, marks-first_content, keeps-quote, keeps-item, size-fenced, size-html_lines, size-indented, size-text_run, size-following, size-inner, some-inner}
 use Rattle.cm_scan.proofs.lemmas.blocks.PartsByCases.{no_lines, blank_case, starting}

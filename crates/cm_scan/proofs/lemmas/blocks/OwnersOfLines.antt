@@ -10,7 +10,7 @@ use Rattle.cm_tree.specs.declared.tree.Owner.{Owner}
 use Rattle.cm_tree.specs.declared.tree.Owner.TheVariants.{Leaf, Marker, Blank}
 use Rattle.cm_scan.specs.blocks.Parts.{LeafPart, paragraph, heading, code, html, thematic_break, definition, Parts, none, blank, leaf, quote, list, ItemParts, last_item, item, leaf_block, is_loose, blocks_of_parts, blocks_of_items, leaf_count, item_leaf_count, marked, owners_after, item_owners_after, marked_first}
 use Rattle.cm_scan.specs.laws.Looseness.{line_total, items_total, HaveLines, ItemsHaveLines}
-use Rattle.cm_scan.specs.laws.Laws.{LeavesNamed, name_next, name_lines, leaves_named, total_of_all, leaves_step, leaves_in}
+use Rattle.cm_scan.specs.laws.PartLaws.{LeavesNamed, name_next, name_lines, leaves_named, total_of_all, leaves_step, leaves_in}
 
 pub length-replicate : {A : Type 0} (n : ℕ) (x : A) → length (replicate n x) ≡ n
 length-replicate zero x = refl

@@ -9,7 +9,7 @@ use Rattle.cm_scan.specs.blocks.HtmlBlocks.{HtmlKind}
 use Rattle.cm_scan.specs.blocks.Parts.{info_of, Parts, code, html, heading, thematic_break, blank, leaf, quote, put_item, put_leaves}
 use Rattle.cm_scan.specs.blocks.Starts.{Start, IndentedCode, QuoteMarker, AtxHeading, OpeningFence, HtmlStart, BreakLine, ItemStart, TextLine, start_of, Place, behind_quote_marker, place_in_quote, content_column, first_content, place_in_item}
 use Rattle.cm_scan.specs.blocks.Blocks.{text_run, leaves_of_run, fenced, html_lines, indented, code_line, Inside, inside, quote_parts, item_parts, fence_parts, html_parts, code_parts, text_parts, parts_by_start, parts_by_cases, parts_within, parts_of}
-use Rattle.cm_scan.specs.laws.Laws.{NoLines, FixedPoint, BlankCase, Begins, BreakCase, HeadingCase, FenceCase, HtmlCase, CodeCase, TextCase, next_inward, AllStay, no_more, one_stays, FirstLeaves, OneMoreStays, QuoteCase, ItemCase}
+use Rattle.cm_scan.specs.laws.PartLaws.{NoLines, FixedPoint, BlankCase, Begins, BreakCase, HeadingCase, FenceCase, HtmlCase, CodeCase, TextCase, next_inward, AllStay, no_more, one_stays, FirstLeaves, OneMoreStays, QuoteCase, ItemCase}
 use Rattle.cm_scan.proofs.lemmas.blocks.LineSizes.{marks-behind_quote_marker, marks-first_content, keeps-quote, keeps-item, size-text_run, size-fenced, size-html_lines, size-indented, size-following, size-inner, inside-agree}
 
 -- two functions that agree on all that is smaller agree by the cases

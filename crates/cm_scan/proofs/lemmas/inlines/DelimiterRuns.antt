@@ -12,7 +12,7 @@ use Rattle.cm_scan.specs.inlines.Atoms.{AtomRead, atom_at}
 use Rattle.cm_scan.specs.inlines.Brackets.{Defined, Bracketed}
 use Rattle.cm_scan.specs.laws.InlineLaws.{is_plain_byte, keeps_spaces}
 use Rattle.cm_scan.specs.inlines.Inlines.{add_atom, item_step}
-use Rattle.cm_scan.specs.inlines.Runs.{run_in, runs_after, runs_of, characters_of, RunsAreFew}
+use Rattle.cm_scan.specs.inlines.DelimiterRuns.{run_in, runs_after, runs_of, characters_of, RunsAreFew}
 use Rattle.cm_scan.proofs.lemmas.inlines.ReadingSteps.{plain-atom, further-keeps}
 use Rattle.cm_scan.proofs.lemmas.inlines.ReadingInPieces.{back-is, step-same}
 use Rattle.cm_scan.proofs.lemmas.inlines.PairingInPieces.{back}

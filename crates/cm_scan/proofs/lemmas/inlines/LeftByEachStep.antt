@@ -25,7 +25,7 @@ use Rattle.cm_scan.specs.inlines.Pairing.{Item}
 use Rattle.cm_scan.specs.inlines.Brackets.{LinkEnd, Defined, closed, after_destination, inline_end, target_of, target_between, link_end, collapsed_or_shortcut, reference_end, end_if_followed, end_at, OpenerFound, last_opener, holds_link, made, Bracketed, bracket_is_text, brackets_are_text, source_up_to, closed_by_bracket, close_bracket}
 use Rattle.cm_scan.specs.inlines.Inlines.{add_atom, item_step}
 use Rattle.cm_scan.specs.laws.InlineLaws.{StepLeavesAnEnd}
-use Rattle.cm_scan.specs.inlines.Runs.{run_in, characters_of}
+use Rattle.cm_scan.specs.inlines.DelimiterRuns.{run_in, characters_of}
 use Rattle.cm_scan.proofs.lemmas.texts.WordsGoOn.{none-some}
 use Rattle.cm_scan.proofs.lemmas.texts.EndsOfTexts.{IsEnd, whole-end, same-left, behind-byte, end-of-end, end-behind-one, drop-end, word-end, skip-end, run-end, gap-end}
 use Rattle.cm_scan.proofs.lemmas.spans.RawHtmlEnds.{raw_html-ends}

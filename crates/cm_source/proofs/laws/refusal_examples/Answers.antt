@@ -1,5 +1,5 @@
 use Rattle.std.proofs.Common.{refl}
-use Rattle.cm_text.proofs.Computing.{character_kinds}
+use Rattle.cm_text.proofs.lemmas.Computing.{character_kinds}
 use Rattle.cm_scan.proofs.lemmas.Computing.{block_structure}
 use Rattle.cm_scan.proofs.lemmas.InlineComputing.{inline_structure}
 use Rattle.cm_source.specs.RefusalExamples.{InlineRefusalExamples, RefusalExamples}

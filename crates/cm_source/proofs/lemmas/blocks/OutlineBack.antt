@@ -12,7 +12,7 @@ use Rattle.cm_scan.specs.blocks.LineForms.{ItemMarker, marker_width, underline}
 use Rattle.cm_scan.specs.blocks.Starts.{ItemStart, start_of_content, interrupts_paragraph, can_interrupt, place_in_item, starts_at_one}
 use Rattle.cm_scan.specs.blocks.Parts.{LeafPart, paragraph, heading, code, html, thematic_break, definition, Parts, none, blank, leaf, quote, list, ItemParts, item, leaves_paragraph_open, next_items, put_item, blocks_of_parts}
 use Rattle.cm_scan.specs.blocks.Blocks.{parts_of, blocks_of}
-use Rattle.cm_scan.specs.laws.Laws.{FirstLeaves}
+use Rattle.cm_scan.specs.laws.PartLaws.{FirstLeaves}
 use Rattle.cm_scan.specs.laws.BlockLaws.{is_unindented}
 use Rattle.cm_scan.proofs.lemmas.blocks.PartsByCases.{blank_case, no_lines as no_lines_case}
 use Rattle.cm_scan.proofs.lemmas.blocks.SingleBlocks.{kind_of_itself, item_before_its_list, item_by_itself}

@@ -3,7 +3,7 @@ use Rattle.std.proofs.Common.{◌≡◌, ℕ, ◌+◌, false, List, [], ◌∷�
 use Rattle.std.specs.Prelude.{replicate}
 use Rattle.cm_text.specs.Lines.{LineView}
 use Rattle.cm_text.specs.Indentation.{indent_of, strip_columns}
-use Rattle.cm_text.proofs.ViewLemmas.{spaces_are_columns, spaces_are_stripped}
+use Rattle.cm_text.proofs.lemmas.ViewLemmas.{spaces_are_columns, spaces_are_stripped}
 use Rattle.cm_scan.specs.blocks.Starts.{behind_quote_marker}
 use Rattle.cm_scan.proofs.lemmas.blocks.SingleBlocks.{quote_and_space, quote_alone}
 use Rattle.cm_source.specs.Spelling.{quoted, indented}

@@ -14,7 +14,7 @@ use Rattle.cm_scan.specs.blocks.HtmlBlocks.{html_start}
 use Rattle.cm_scan.specs.blocks.Starts.{Start, QuoteMarker, ItemStart, start_of, start_of_content, behind_quote_marker, behind_marker, starts_at_one, can_interrupt, interrupts_paragraph, Place, StaysIfOpen, Leaves, quote_place, place_in_quote, place_if_lazy, may_be_lazy, item_place, place_in_item, content_column, first_content}
 use Rattle.cm_scan.specs.blocks.Parts.{Parts, leaves_paragraph_open, quote, put_item, none, blank}
 use Rattle.cm_scan.specs.blocks.Blocks.{is_bare, parts_of}
-use Rattle.cm_scan.specs.laws.Laws.{goes_inward, next_inward, AllStay, no_more, one_stays, FirstLeaves}
+use Rattle.cm_scan.specs.laws.PartLaws.{goes_inward, next_inward, AllStay, no_more, one_stays, FirstLeaves}
 use Rattle.cm_scan.specs.laws.BlockLaws.{is_unindented}
 use Rattle.cm_scan.proofs.lemmas.blocks.PartsByCases.{quote_case, item_case, blank_case, no_lines as no_lines_case}
 use Rattle.cm_scan.proofs.lemmas.blocks.SingleBlocks.{unindented_line, item_and_space, item_alone}

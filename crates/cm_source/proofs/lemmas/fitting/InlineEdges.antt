@@ -4,10 +4,10 @@ use Rattle.std.proofs.lemmas.Bool.{lt-ltb}
 use Rattle.std.proofs.lemmas.List.{reverse-append, reverse-reverse}
 use Rattle.std.proofs.lemmas.Str.{IsUtf8-append, IsUtf8-take, IsUtf8-drop, IsCharBoundary-before_ascii}
 use lib.Seq.{take_at, drop_at, get_or-append-add}
-use Rattle.cm_text.proofs.Utf8Lemmas.{IsUtf8-cancel}
+use Rattle.cm_text.proofs.lemmas.Utf8Lemmas.{IsUtf8-cancel}
 use Rattle.cm_text.specs.Rules.{Rules}
 use Rattle.cm_text.specs.Characters.{is_ascii_punct, is_space}
-use Rattle.cm_text.proofs.CharacterLemmas.{is_space-ascii}
+use Rattle.cm_text.proofs.lemmas.CharacterLemmas.{is_space-ascii}
 use Rattle.cm_scan.specs.Words.{is_empty, begins_with}
 use Rattle.cm_scan.specs.inlines.Delimiters.{Neighbour, whitespace, neighbour, is_other}
 use Rattle.cm_scan.specs.inlines.Atoms.{first_character, last_character}

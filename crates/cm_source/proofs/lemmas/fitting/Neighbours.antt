@@ -11,7 +11,7 @@ use Rattle.std.proofs.lemmas.Str.{encode_ascii, encodes-append, chars-encodes, c
 use lib.Utf8.{scalar, scalars, encode, encodes, low_scalar}
 use Rattle.cm_text.specs.Rules.{Rules}
 use Rattle.cm_text.specs.Characters.{is_ascii_punct, is_space, is_punct_by}
-use Rattle.cm_text.proofs.CharacterLemmas.{is_punct-ascii, is_space-ascii}
+use Rattle.cm_text.proofs.lemmas.CharacterLemmas.{is_punct-ascii, is_space-ascii}
 use Rattle.cm_scan.specs.Words.{is_empty}
 use Rattle.cm_scan.specs.inlines.Delimiters.{Neighbour, whitespace, punctuation, other, neighbour, is_other}
 use Rattle.cm_scan.specs.inlines.Atoms.{first_character, last_character}

@@ -6,7 +6,7 @@ use Rattle.std.specs.Str.{is_utf8}
 use Rattle.std.proofs.lemmas.Bool.{and_parts, and_from, and_left, and_right, cases_lt, lt-ltb}
 use Rattle.std.proofs.lemmas.Str.{IsUtf8-append, IsUtf8-nil, IsUtf8-encode, is_utf8-from_IsUtf8, encode_ascii, length-encode, len_utf8_bounds}
 use lib.Utf8.{scalar, scalars, encode, encodes}
-use Rattle.cm_text.proofs.Utf8Lemmas.{IsUtf8-cancel}
+use Rattle.cm_text.proofs.lemmas.Utf8Lemmas.{IsUtf8-cancel}
 use Rattle.cm_text.specs.Rules.{Rules}
 use Rattle.cm_tree.specs.declared.tree.Inline.{Inline}
 use Rattle.cm_tree.specs.declared.tree.Inline.TheOpen as inline

@@ -4,7 +4,7 @@ use Rattle.std.specs.Prelude.{⊤}
 use Rattle.std.proofs.lemmas.Bool.{and_from}
 use Rattle.std.proofs.lemmas.Str.{IsUtf8-append, IsUtf8-nil}
 use Rattle.cm_text.specs.Rules.{Rules}
-use Rattle.cm_text.proofs.Utf8Lemmas.{IsUtf8-cancel}
+use Rattle.cm_text.proofs.lemmas.Utf8Lemmas.{IsUtf8-cancel}
 use Rattle.cm_tree.specs.declared.tree.Inline.{Inline}
 use Rattle.cm_tree.specs.declared.tree.ListKind.{ListKind}
 use Rattle.cm_tree.specs.declared.tree.Block.{Block}

@@ -6,7 +6,7 @@ use Rattle.std.proofs.lemmas.Str.{encode_ascii}
 use lib.Seq.{drop_at}
 use Rattle.cm_text.specs.Characters.{is_ascii_punct}
 use Rattle.cm_text.specs.Unescaping.{escape, unescape_after, unescape}
-use Rattle.cm_text.proofs.UnescapingLemmas.{special-escape, special-reference, special-none, unescape-special, unescape-other}
+use Rattle.cm_text.proofs.lemmas.UnescapingLemmas.{special-escape, special-reference, special-none, unescape-special, unescape-other}
 use Rattle.cm_source.specs.Texts.{numbered, spelled_bytes, spelled_text}
 use Rattle.cm_source.specs.InlineRefusals.{has_nul}
 use Rattle.cm_source.specs.steps.ContentBack.{TextUnescapes, BytesUnescape}

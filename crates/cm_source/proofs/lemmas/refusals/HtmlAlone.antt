@@ -10,7 +10,7 @@ use Rattle.std.specs.List.{flat_map, list_all, list_any}
 use Rattle.cm_text.specs.LineText.{is_line, is_line_ending}
 use Rattle.cm_text.specs.Rules.{Rules}
 use Rattle.cm_text.specs.Lines.{plain_line, plain_lines_of, lines_of, lines_after, with_line_feed}
-use Rattle.cm_text.proofs.LinesLemmas.{lines_are_computed, lines_are_lines, lines_with_line_feeds}
+use Rattle.cm_text.proofs.lemmas.LinesLemmas.{lines_are_computed, lines_are_lines, lines_with_line_feeds}
 use Rattle.cm_scan.specs.Words.{is_empty, begins_with, is_blank_text, same_bytes, given, run_length, after_run}
 use Rattle.cm_scan.specs.spans.Autolinks.{ends_with}
 use Rattle.cm_scan.specs.blocks.LineForms.{atx_heading, opening_fence, fence_of}

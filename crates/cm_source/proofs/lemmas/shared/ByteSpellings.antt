@@ -10,7 +10,7 @@ use Rattle.std.proofs.lemmas.Bool.Decides.{nat_tests}
 use lib.Seq.{take_at, drop_at}
 use Rattle.cm_text.specs.Characters.{within, is_ascii_punct}
 use Rattle.cm_text.specs.References.{begins_with, before_semicolon, numbered as read_number, numbered_character, reference}
-use Rattle.cm_text.proofs.ReferenceLemmas.{reference-decimal}
+use Rattle.cm_text.proofs.lemmas.ReferenceLemmas.{reference-decimal}
 use Rattle.cm_scan.specs.Words.{is_empty}
 use Rattle.cm_source.specs.Texts.{numbered, spelled_byte, spelled_bytes, edge_byte, spelled_text}
 

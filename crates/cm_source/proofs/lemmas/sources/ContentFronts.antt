@@ -7,7 +7,7 @@ use Rattle.std.specs.Char.{is_ascii_control}
 use Rattle.std.proofs.lemmas.Bool.{or_parts, or_right, and_parts, eqb-true, not-true}
 use Rattle.cm_text.specs.Rules.{Rules}
 use Rattle.cm_text.specs.Characters.{is_ascii_punct}
-use Rattle.cm_text.proofs.Computing.{character_kinds}
+use Rattle.cm_text.proofs.lemmas.Computing.{character_kinds}
 use Rattle.cm_tree.specs.declared.tree.Inline.{Inline}
 use Rattle.cm_tree.specs.declared.tree.Inline.TheVariants.{Text, Code, Html, Soft, Hard, Emph, Strong, Strike, Link, Image}
 use Rattle.cm_scan.specs.Words.{is_digit, is_empty, begins_with}

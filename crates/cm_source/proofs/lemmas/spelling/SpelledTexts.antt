@@ -6,7 +6,7 @@ use Rattle.std.specs.Prelude.{if◌then◌else◌}
 use Rattle.std.specs.Char.{is_ascii_control}
 use Rattle.std.specs.List.{list_any}
 use Rattle.cm_text.specs.Characters.{is_ascii_punct}
-use Rattle.cm_text.proofs.ReplacedLemmas.{Keeps}
+use Rattle.cm_text.proofs.lemmas.ReplacedLemmas.{Keeps}
 use Rattle.cm_scan.specs.Words.{is_empty, run_length}
 use Rattle.cm_scan.specs.inlines.Links.{escapes_next}
 use Rattle.cm_scan.specs.spans.Autolinks.{ends_with}

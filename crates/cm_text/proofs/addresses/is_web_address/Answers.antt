@@ -1,7 +1,7 @@
 use Rattle.std.proofs.Common.{◌≡◌, Some, None, ap, sym, arith}
 use Rattle.std.specs.List.{position}
 use Rattle.cm_text.specs.Addresses.{is_web}
-use Rattle.cm_text.proofs.AddressLemmas.{ends_scheme, scheme-found, scheme-none}
+use Rattle.cm_text.proofs.lemmas.AddressLemmas.{ends_scheme, scheme-found, scheme-none}
 use Rattle.cm_text.proofs.addresses.is_web_address.Goals as goal
 
 pub returns-then-address-at-ne58 : goal.returns-then-address-at-ne58

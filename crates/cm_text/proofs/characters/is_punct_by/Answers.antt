@@ -1,7 +1,7 @@
 use Rattle.std.proofs.Common.{refl, sym, ◌∙◌, arith}
 use Rattle.unicode.specs.GeneralCategoryGroup.{in_group}
 use Rattle.ucd_category.specs.declared.GeneralCategoryGroup.TheVariants.{Symbol}
-use Rattle.cm_text.proofs.CharacterLemmas.{is_punct-ascii, is_punct-groups, below_ascii}
+use Rattle.cm_text.proofs.lemmas.CharacterLemmas.{is_punct-ascii, is_punct-groups, below_ascii}
 use Rattle.cm_text.proofs.characters.is_punct_by.Goals as goal
 
 pub returns-then-is_ascii : goal.returns-then-is_ascii

@@ -1,7 +1,7 @@
 use Rattle.std.proofs.Common.{true, false, sym, ap, ◌∙◌}
 use Rattle.unicode.specs.GeneralCategory.{general_category_eq}
 use Rattle.ucd_category.specs.declared.GeneralCategory.TheVariants.{SpaceSeparator}
-use Rattle.cm_text.proofs.CharacterLemmas.{is_space-ascii, is_space-beyond, below_ascii, other_category}
+use Rattle.cm_text.proofs.lemmas.CharacterLemmas.{is_space-ascii, is_space-beyond, below_ascii, other_category}
 use Rattle.cm_text.proofs.characters.is_space.Goals as goal
 
 pub returns-then-is_ascii : goal.returns-then-is_ascii

@@ -1,7 +1,7 @@
 use Rattle.std.proofs.Common.{refl, sym, ap, ◌≡◌, ◌<◌, ◌+◌, ◌-◌, ◌∙◌, ◌≢◌, ℕ, drop, get_or, arith}
 use Rattle.cm_text.specs.Indentation.{blank_width, strip_from}
 use Rattle.std.proofs.lemmas.Str.{IsCharBoundary-start}
-use Rattle.cm_text.proofs.IndentationLemmas.{after_blank, strip-step, room-step}
+use Rattle.cm_text.proofs.lemmas.IndentationLemmas.{after_blank, strip-step, room-step}
 use Rattle.cm_text.proofs.columns.take_columns.Goals as goal
 
 positive : (width value : ℕ) → width ≡ value → width ≢ 0 → 0 < value

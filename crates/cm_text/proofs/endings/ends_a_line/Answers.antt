@@ -1,6 +1,6 @@
 use Rattle.std.proofs.Common.{◌∙◌, ◌-◌, length, get_or, ap, sym}
 use Rattle.cm_text.specs.LineText.{is_line_ending}
-use Rattle.cm_text.proofs.EndedLines.{ends_by_last}
+use Rattle.cm_text.proofs.lemmas.EndedLines.{ends_by_last}
 use Rattle.cm_text.proofs.endings.ends_a_line.Goals as goal
 
 pub returns : goal.returns

@@ -1,7 +1,7 @@
 use Rattle.std.proofs.Common.{◌≡◌, List, ℕ, subst}
 use Rattle.cm_text.specs.LineText.{is_line_ending}
 use Rattle.cm_text.specs.Search.{next_place}
-use Rattle.cm_text.proofs.UnreadLemmas.{first_line_is}
+use Rattle.cm_text.proofs.lemmas.UnreadLemmas.{first_line_is}
 use Rattle.cm_text.proofs.endings.line_len.Goals as goal
 
 pub returns : goal.returns

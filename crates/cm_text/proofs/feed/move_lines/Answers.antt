@@ -3,7 +3,7 @@ use Rattle.std.proofs.lemmas.List.{map-append}
 use Rattle.cm_text.specs.Lines.{LineView, seen_line}
 use Rattle.cm_text.specs.Views.{seen_view}
 use Rattle.cm_text.specs.steps.FeedSteps.{Moves}
-use Rattle.cm_text.proofs.ReadyLemmas.{moves_one}
+use Rattle.cm_text.proofs.lemmas.ReadyLemmas.{moves_one}
 use Rattle.cm_text.proofs.feed.move_lines.Goals as goal
 
 pub loop-line-preserved : goal.loop-line-preserved

@@ -1,7 +1,7 @@
 use Rattle.std.proofs.Common.{◌≡◌, ap, sym, ◌∙◌, string_bytes, arith}
 use Rattle.cm_text.specs.LineText.{is_line}
 use Rattle.cm_text.specs.Indentation.{strip_from}
-use Rattle.cm_text.proofs.IndentationLemmas.{strip-fits, strip-line, stripped-parts}
+use Rattle.cm_text.proofs.lemmas.IndentationLemmas.{strip-fits, strip-line, stripped-parts}
 use Rattle.cm_text.proofs.indentation.strip.Goals.{In_ok-push_str}
 use Rattle.cm_text.proofs.indentation.strip.Goals as goal
 

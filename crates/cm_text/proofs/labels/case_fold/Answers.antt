@@ -1,6 +1,6 @@
 use Rattle.std.proofs.Common.{sym, ◌∙◌}
 use Rattle.std.proofs.lemmas.Result.{IfOk-weaker}
-use Rattle.cm_text.proofs.FoldLemmas.{ascii_folds}
+use Rattle.cm_text.proofs.lemmas.FoldLemmas.{ascii_folds}
 use Rattle.cm_text.proofs.labels.case_fold.Goals as goal
 
 pub returns-then-is_ascii : goal.returns-then-is_ascii

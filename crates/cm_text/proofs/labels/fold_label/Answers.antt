@@ -1,7 +1,7 @@
 use Rattle.std.proofs.Common.{◌≡◌, ◌∙◌, true, ap, string_bytes, sym}
 use Rattle.cm_text.specs.Labels.{fold_label, settle_gaps}
 use Rattle.cm_text.specs.steps.LabelSteps.{is_settled}
-use Rattle.cm_text.proofs.LabelLemmas.{settled}
+use Rattle.cm_text.proofs.lemmas.LabelLemmas.{settled}
 use Rattle.cm_text.proofs.labels.fold_label.Goals as goal
 
 pub returns-then-is_settled : goal.returns-then-is_settled

@@ -1,6 +1,6 @@
 use Rattle.std.proofs.Common.{◌∙◌, ap, sym}
 use Rattle.cm_text.specs.steps.LabelSteps.{is_plain}
-use Rattle.cm_text.proofs.PlainLabels.{plain_folds}
+use Rattle.cm_text.proofs.lemmas.PlainLabels.{plain_folds}
 use Rattle.cm_text.proofs.labels.fold_label_or_lend.Goals as goal
 
 pub returns-then-is_plain : goal.returns-then-is_plain

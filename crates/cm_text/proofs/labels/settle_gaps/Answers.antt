@@ -1,5 +1,5 @@
 use Rattle.std.proofs.Common.{ap, sym, ◌∙◌, ◌++◌, string_bytes}
-use Rattle.cm_text.proofs.LabelLemmas.{none_read, gap_read, char_read}
+use Rattle.cm_text.proofs.lemmas.LabelLemmas.{none_read, gap_read, char_read}
 use Rattle.cm_text.proofs.labels.settle_gaps.Goals as goal
 
 pub loop-c-init : goal.loop-c-init

@@ -1,6 +1,6 @@
 use Rattle.std.proofs.Common.{◌≡◌, ◌++◌, string_bytes}
 use Rattle.cm_text.specs.Labels.{settle_gaps}
-use Rattle.cm_text.proofs.LabelLemmas.{rest_after}
+use Rattle.cm_text.proofs.lemmas.LabelLemmas.{rest_after}
 use Rattle.cm_text.proofs.labels.settle_gaps.Given as goal
 
 -- what was made and what is left come to the whole

@@ -1,4 +1,4 @@
-use Rattle.cm_text.proofs.EndedLines.{ended_lines_are_cut}
+use Rattle.cm_text.proofs.lemmas.EndedLines.{ended_lines_are_cut}
 use Rattle.cm_text.proofs.laws.ended_lines_are_cut.Goals as goal
 
 pub returns : goal.returns

@@ -1,4 +1,4 @@
-use Rattle.cm_text.proofs.LinesLemmas.{lines_are_computed}
+use Rattle.cm_text.proofs.lemmas.LinesLemmas.{lines_are_computed}
 use Rattle.cm_text.proofs.laws.lines_are_computed.Goals as goal
 
 pub returns : goal.returns

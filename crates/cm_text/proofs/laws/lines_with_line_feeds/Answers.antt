@@ -1,4 +1,4 @@
-use Rattle.cm_text.proofs.LinesLemmas.{lines_are_lines, lines_with_line_feeds}
+use Rattle.cm_text.proofs.lemmas.LinesLemmas.{lines_are_lines, lines_with_line_feeds}
 use Rattle.cm_text.proofs.laws.lines_with_line_feeds.Goals as goal
 
 pub returns-clause-line : goal.returns-clause-line

@@ -1,4 +1,4 @@
-use Rattle.cm_text.proofs.ViewLemmas.{spaces_are_columns, spaces_are_stripped}
+use Rattle.cm_text.proofs.lemmas.ViewLemmas.{spaces_are_columns, spaces_are_stripped}
 use Rattle.cm_text.proofs.laws.spaces_are_columns.Goals as goal
 
 pub returns-clause-indentation : goal.returns-clause-indentation

@@ -1,7 +1,7 @@
 use Rattle.std.proofs.Common.{refl}
 use Rattle.std.specs.Str.{is_utf8, chars}
 use Rattle.std.specs.Str.Lossy.{utf8_valid_len, utf8_error_len}
-use Rattle.cm_text.proofs.Computing.{label_folding, character_kinds, reading_references}
+use Rattle.cm_text.proofs.lemmas.Computing.{label_folding, character_kinds, reading_references}
 use lib.Utf8.{encode}
 use Rattle.cm_text.proofs.laws.worked_examples.Goals as goal
 

@@ -1,7 +1,7 @@
 use Rattle.std.proofs.Common.{ap, option_map, sym, ◌∙◌, Some}
 use Rattle.cm_text.specs.NamedReferences.{names}
 use Rattle.cm_text.specs.References.{entry, chars_of}
-use Rattle.cm_text.proofs.NameLemmas.{place-entry, no-entry}
+use Rattle.cm_text.proofs.lemmas.NameLemmas.{place-entry, no-entry}
 use Rattle.cm_text.proofs.names.look_up.Goals as goal
 
 pub returns-in_err-place_of : goal.returns-in_err-place_of

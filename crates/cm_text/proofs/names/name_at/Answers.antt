@@ -1,6 +1,6 @@
 use Rattle.std.proofs.Common.{ap, arith, length}
 use Rattle.cm_text.specs.steps.NameTable.{name_at}
-use Rattle.cm_text.proofs.NameLemmas.{starts_rise}
+use Rattle.cm_text.proofs.lemmas.NameLemmas.{starts_rise}
 use Rattle.cm_text.proofs.names.name_at.Goals as goal
 
 pub slice_bounds-result-count : goal.slice_bounds-result-count

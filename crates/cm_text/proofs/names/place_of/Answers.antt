@@ -1,7 +1,7 @@
 use Rattle.std.proofs.Common.{◌<◌, ◌+◌, ◌-◌, ◌/◌, ℕ, ap, sym, ◌∙◌, nat_cmp, arith}
 use Rattle.std.specs.Cmp.Lexicographic.{slice_cmp}
 use Rattle.std.proofs.lemmas.Map.Lookups.{exact_bytes}
-use Rattle.cm_text.proofs.NameLemmas.{after_middle, before_middle}
+use Rattle.cm_text.proofs.lemmas.NameLemmas.{after_middle, before_middle}
 use Rattle.cm_text.proofs.names.place_of.Goals as goal
 
 half_within : (low high : ℕ) → low < high → low + (high - low) / 2 < high

@@ -1,5 +1,5 @@
 use Rattle.std.proofs.Common.{sym, ◌∙◌}
-use Rattle.cm_text.proofs.ReferenceLemmas.{reference-named}
+use Rattle.cm_text.proofs.lemmas.ReferenceLemmas.{reference-named}
 use Rattle.cm_text.proofs.references.after_ampersand.Goals as goal
 
 pub returns-then-not-begins_with : goal.returns-then-not-begins_with

@@ -1,7 +1,7 @@
 use Rattle.std.proofs.Common.{ap, sym, ◌∙◌}
 use Rattle.std.specs.Char.{is_ascii_hexdigit}
 use Rattle.cm_text.specs.References.{before_semicolon, numbered}
-use Rattle.cm_text.proofs.ReferenceLemmas.{reference-small_x, reference-great_x, reference-decimal, slice_rest}
+use Rattle.cm_text.proofs.lemmas.ReferenceLemmas.{reference-small_x, reference-great_x, reference-decimal, slice_rest}
 use Rattle.cm_text.proofs.references.after_number_sign.Goals.{then-begins_with-via-then-begins_with, then-begins_with-via-else-begins_with+then-begins_with-2}
 use Rattle.cm_text.proofs.references.after_number_sign.Goals as goal
 

@@ -3,7 +3,7 @@ use Rattle.std.specs.Char.{is_ascii_hexdigit}
 use Rattle.std.specs.Str.Parse.{AllDigits}
 use Rattle.std.proofs.lemmas.List.Sums.{prefix_len-le-length}
 use Rattle.cm_text.specs.References.{begins_with}
-use Rattle.cm_text.proofs.ReferenceLemmas.{hexadecimal_digit, all_digits, taken_is}
+use Rattle.cm_text.proofs.lemmas.ReferenceLemmas.{hexadecimal_digit, all_digits, taken_is}
 use Rattle.cm_text.proofs.references.hexadecimal.Goals as goal
 
 pub before_semicolon-requires : goal.before_semicolon-requires

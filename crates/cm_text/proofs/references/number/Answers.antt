@@ -1,7 +1,7 @@
 use Rattle.std.proofs.Common.{◌≡◌, ◌≤◌, ◌+◌, ◌*◌, ◌∙◌, take, get_or, refl, arith}
 use Rattle.std.specs.Char.{digit_value}
 use Rattle.std.specs.Str.Parse.{digits_value}
-use Rattle.cm_text.proofs.ReferenceLemmas.{value-of_digit, number-more}
+use Rattle.cm_text.proofs.lemmas.ReferenceLemmas.{value-of_digit, number-more}
 use Rattle.cm_text.proofs.references.number.Goals.{After-unwrap_or}
 use Rattle.cm_text.proofs.references.number.Goals as goal
 

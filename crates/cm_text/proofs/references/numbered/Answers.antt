@@ -1,5 +1,5 @@
 use Rattle.std.proofs.Common.{arith}
-use Rattle.cm_text.proofs.ReferenceLemmas.{digits-fit}
+use Rattle.cm_text.proofs.lemmas.ReferenceLemmas.{digits-fit}
 use Rattle.cm_text.proofs.references.numbered.Goals as goal
 
 pub number-requires-clause-fits : goal.number-requires-clause-fits

@@ -1,5 +1,5 @@
 use Rattle.std.proofs.Common.{sym, ◌∙◌}
-use Rattle.cm_text.proofs.ReferenceLemmas.{reference-none}
+use Rattle.cm_text.proofs.lemmas.ReferenceLemmas.{reference-none}
 use Rattle.cm_text.proofs.references.reference.Goals as goal
 
 pub returns-then-not-begins_with : goal.returns-then-not-begins_with

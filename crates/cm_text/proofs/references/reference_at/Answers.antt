@@ -1,6 +1,6 @@
 use Rattle.std.proofs.Common.{◌≡◌, ◌≤◌, ◌+◌, ◌-◌, length, get_or, rules}
 use Rattle.cm_text.specs.References.{chars_of}
-use Rattle.cm_text.proofs.ReferenceLemmas.{read-within, boundary-after}
+use Rattle.cm_text.proofs.lemmas.ReferenceLemmas.{read-within, boundary-after}
 use Rattle.cm_text.proofs.references.reference_at.Goals.{In_ok-chars}
 use Rattle.cm_text.proofs.references.reference_at.Goals as goal
 

@@ -2,7 +2,7 @@ use Rattle.std.proofs.Common.{◌≡◌, Some, None, get_or, arith}
 use Rattle.std.proofs.lemmas.Grind.{common_steps}
 use Rattle.std.specs.List.{position}
 use Rattle.std.proofs.lemmas.List.Quantifiers.{position-Some}
-use Rattle.cm_text.proofs.ReplacedLemmas.{replaced-found, replaced-none}
+use Rattle.cm_text.proofs.lemmas.ReplacedLemmas.{replaced-found, replaced-none}
 use Rattle.cm_text.proofs.replaced.push_replaced.Goals as goal
 
 pub cut_at-requires-clause-ascii : goal.cut_at-requires-clause-ascii

@@ -1,5 +1,5 @@
 use Rattle.std.proofs.Common.{◌∙◌}
-use Rattle.cm_text.proofs.SearchLemmas.{next-from}
+use Rattle.cm_text.proofs.lemmas.SearchLemmas.{next-from}
 use Rattle.cm_text.proofs.search.next_far_of.Goals as goal
 
 pub returns : goal.returns

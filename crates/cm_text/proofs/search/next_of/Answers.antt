@@ -1,7 +1,7 @@
 use Rattle.std.proofs.Common.{◌+◌, ◌-◌, ◌<◌, ◌≤◌, length, inl, inr, sym, arith}
 use Rattle.std.proofs.lemmas.Bool.{cases_lt}
 use Rattle.std.proofs.lemmas.Simd.{run_in_chunk_fails, run_in_chunk_stops}
-use Rattle.cm_text.proofs.SearchLemmas.{place-is}
+use Rattle.cm_text.proofs.lemmas.SearchLemmas.{place-is}
 use Rattle.cm_text.proofs.search.next_of.Goals as goal
 
 pub returns-in-Some : goal.returns-in-Some

@@ -1,5 +1,5 @@
 use Rattle.std.proofs.Common.{◌<◌, length, sym, ◌∙◌, arith}
-use Rattle.cm_text.proofs.SearchLemmas.{place-is}
+use Rattle.cm_text.proofs.lemmas.SearchLemmas.{place-is}
 use Rattle.cm_text.proofs.search.next_slowly.Goals as goal
 
 pub returns-then-contains : goal.returns-then-contains

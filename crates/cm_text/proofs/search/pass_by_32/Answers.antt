@@ -1,7 +1,7 @@
 use Rattle.std.proofs.Common.{◌+◌, ◌≤◌, length, inl, inr, sym, ◌∙◌, arith}
 use Rattle.std.proofs.lemmas.Bool.{cases_lt}
 use Rattle.std.proofs.lemmas.Simd.{run_in_chunk_fails}
-use Rattle.cm_text.proofs.SearchLemmas.{not-some}
+use Rattle.cm_text.proofs.lemmas.SearchLemmas.{not-some}
 use Rattle.cm_text.proofs.search.pass_by_32.Goals as goal
 
 pub loop-at-preserved : goal.loop-at-preserved

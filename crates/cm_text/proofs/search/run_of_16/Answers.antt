@@ -2,7 +2,7 @@ use Rattle.std.proofs.Common.{sym, ap, ◌∙◌, arith}
 use Rattle.std.proofs.lemmas.Simd.{length-chunk, leading_from_mask_l, trailing_mask_l}
 use Rattle.std.specs.Simd.Lanes.{chunk}
 use lib.Count.{count_trailing_zeros}
-use Rattle.cm_text.proofs.SearchLemmas.{some-passes}
+use Rattle.cm_text.proofs.lemmas.SearchLemmas.{some-passes}
 use Rattle.cm_text.proofs.search.run_of_16.Goals as goal
 
 pub returns-then-marks-eq0-clause-none : goal.returns-then-marks-eq0-clause-none

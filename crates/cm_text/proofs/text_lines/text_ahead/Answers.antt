@@ -5,7 +5,7 @@ use Rattle.cm_text.specs.Lines.{lines_of}
 use Rattle.cm_text.specs.TextLines.{begins_text, is_text_behind, are_text}
 use Rattle.cm_text.specs.steps.FirstLine.{IsFirstLine}
 use Rattle.cm_text.specs.steps.TextAhead.{IsAhead}
-use Rattle.cm_text.proofs.TextLineLemmas.{next_spaces, no_spaces, boundary_next, text_next}
+use Rattle.cm_text.proofs.lemmas.TextLineLemmas.{next_spaces, no_spaces, boundary_next, text_next}
 use Rattle.cm_text.proofs.text_lines.text_ahead.Goals as goal
 
 pub loop-first-init : goal.loop-first-init

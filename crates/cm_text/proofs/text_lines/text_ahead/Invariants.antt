@@ -1,6 +1,6 @@
 use Rattle.std.proofs.Common.{◌≡◌, ℕ, ◌+◌, ◌-◌, ◌≤◌, length}
 use Rattle.cm_text.specs.steps.TextAhead.{IsAhead}
-use Rattle.cm_text.proofs.TextLineLemmas.{next_spaces}
+use Rattle.cm_text.proofs.lemmas.TextLineLemmas.{next_spaces}
 use Rattle.cm_text.proofs.text_lines.text_ahead.Given as goal
 
 abbrev pub invariant-loop-first : goal.invariant-loop-first

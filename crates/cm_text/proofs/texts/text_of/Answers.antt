@@ -1,6 +1,6 @@
 use Rattle.std.proofs.Common.{◌+◌, arith, drop, string_bytes, sym, take}
 use Rattle.std.proofs.lemmas.Grind.{common_steps}
-use Rattle.cm_text.proofs.TextLemmas.{more_text, nul-first, nul-nowhere}
+use Rattle.cm_text.proofs.lemmas.TextLemmas.{more_text, nul-first, nul-nowhere}
 use Rattle.cm_text.proofs.texts.text_of.Goals as goal
 
 pub loop-at-preserved : goal.loop-at-preserved

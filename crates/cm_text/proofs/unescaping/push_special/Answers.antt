@@ -1,7 +1,7 @@
 use Rattle.std.proofs.Common.{◌<◌, ◌≤◌, ◌-◌, string_bytes, get_or, length}
 use Rattle.std.proofs.lemmas.Str.{IsCharBoundary-after_ascii}
 use Rattle.cm_text.specs.References.{chars_of}
-use Rattle.cm_text.proofs.UnescapingLemmas.{special-within, boundary-at, put-other, put-special}
+use Rattle.cm_text.proofs.lemmas.UnescapingLemmas.{special-within, boundary-at, put-other, put-special}
 use Rattle.cm_text.proofs.unescaping.push_special.Goals.{In-Some}
 use Rattle.cm_text.proofs.unescaping.push_special.Goals as goal
 

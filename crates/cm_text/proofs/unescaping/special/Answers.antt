@@ -1,5 +1,5 @@
 use Rattle.std.proofs.Common.{sym, ◌∙◌, [], ◌∷◌}
-use Rattle.cm_text.proofs.UnescapingLemmas.{special-escape, special-reference}
+use Rattle.cm_text.proofs.lemmas.UnescapingLemmas.{special-escape, special-reference}
 use Rattle.cm_text.proofs.unescaping.special.Goals as goal
 
 pub returns-in-Some : goal.returns-in-Some

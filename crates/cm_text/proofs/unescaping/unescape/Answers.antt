@@ -1,6 +1,6 @@
 use Rattle.std.proofs.Common.{◌++◌, ap, sym, ◌∙◌, string_bytes}
 use Rattle.cm_text.specs.Unescaping.{unescape}
-use Rattle.cm_text.proofs.UnescapingLemmas.{run-before, run-whole, round}
+use Rattle.cm_text.proofs.lemmas.UnescapingLemmas.{run-before, run-whole, round}
 use Rattle.cm_text.proofs.unescaping.unescape.Goals as goal
 
 pub loop-at-preserved : goal.loop-at-preserved

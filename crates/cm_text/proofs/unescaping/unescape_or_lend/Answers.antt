@@ -1,5 +1,5 @@
 use Rattle.std.proofs.Common.{sym}
-use Rattle.cm_text.proofs.UnescapingLemmas.{run-whole}
+use Rattle.cm_text.proofs.lemmas.UnescapingLemmas.{run-whole}
 use Rattle.cm_text.proofs.unescaping.unescape_or_lend.Goals as goal
 
 pub returns-in-None : goal.returns-in-None

@@ -1,6 +1,6 @@
 use Rattle.std.proofs.Common.{◌≡◌, ◌∙◌, ◌+◌, ap, cond, sym}
 use Rattle.std.proofs.lemmas.List.{take_rest}
-use Rattle.cm_tool.proofs.LineLemmas.{is_pair, line_at, whole_line}
+use Rattle.cm_tool.proofs.lemmas.LineLemmas.{is_pair, line_at, whole_line}
 use Rattle.cm_tool.proofs.example_files.first_line.Goals.{then-starts_with, else-starts_with}
 use Rattle.cm_tool.proofs.example_files.first_line.Goals as goal
 

@@ -1,6 +1,6 @@
 use Rattle.std.proofs.Common.{◌≡◌, ◌∙◌, ◌++◌, [], ◌∷◌, refl, string_bytes}
 use Rattle.cm_tool.specs.ExampleFiles.{example_line, tab_for_arrow}
-use Rattle.cm_tool.proofs.ExampleLemmas.{char_put, if_put, is_arrow, line_put, no_arrow, rest_utf8}
+use Rattle.cm_tool.proofs.lemmas.ExampleLemmas.{char_put, if_put, is_arrow, line_put, no_arrow, rest_utf8}
 use Rattle.cm_tool.proofs.example_files.push_line.Goals.{then-c-eq8594, else-c-eq8594}
 use Rattle.cm_tool.proofs.example_files.push_line.Goals as goal
 

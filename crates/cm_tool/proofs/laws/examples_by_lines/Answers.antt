@@ -1,5 +1,5 @@
 use Rattle.std.proofs.Common.{refl}
-use Rattle.cm_tool.proofs.ExampleLawLemmas.{examples_are_determined, examples_are_told}
+use Rattle.cm_tool.proofs.lemmas.ExampleLawLemmas.{examples_are_determined, examples_are_told}
 use Rattle.cm_tool.proofs.laws.examples_by_lines.Goals as goal
 
 pub returns-clause-text : goal.returns-clause-text

@@ -1,4 +1,4 @@
-use Rattle.cm_tool.proofs.OrderLemmas.{faults_in_order}
+use Rattle.cm_tool.proofs.lemmas.OrderLemmas.{faults_in_order}
 use Rattle.cm_tool.proofs.laws.faults_in_order.Goals as goal
 
 pub returns : goal.returns

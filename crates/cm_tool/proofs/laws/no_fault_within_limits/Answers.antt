@@ -1,4 +1,4 @@
-use Rattle.cm_tool.proofs.WithinLemmas.{no_fault_just_within, spelled_without_fault}
+use Rattle.cm_tool.proofs.lemmas.WithinLemmas.{no_fault_just_within, spelled_without_fault}
 use Rattle.cm_tool.proofs.laws.no_fault_within_limits.Goals as goal
 
 pub returns-clause-text : goal.returns-clause-text

@@ -1,4 +1,4 @@
-use Rattle.cm_tool.proofs.OwnerLemmas.{one_owner_a_line, runs_in_order}
+use Rattle.cm_tool.proofs.lemmas.OwnerLemmas.{one_owner_a_line, runs_in_order}
 use Rattle.cm_tool.proofs.laws.owners_of_lines.Goals as goal
 
 pub returns-clause-one_a_line : goal.returns-clause-one_a_line

@@ -1,4 +1,4 @@
-use Rattle.cm_tool.proofs.SettledLemmas.{settled_is_told}
+use Rattle.cm_tool.proofs.lemmas.SettledLemmas.{settled_is_told}
 use Rattle.cm_tool.proofs.laws.settled_is_told.Goals as goal
 
 pub returns : goal.returns

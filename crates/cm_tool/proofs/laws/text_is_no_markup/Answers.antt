@@ -1,4 +1,4 @@
-use Rattle.cm_tool.proofs.MarkupLemmas.{document_levels, document_is_no_markup}
+use Rattle.cm_tool.proofs.lemmas.MarkupLemmas.{document_levels, document_is_no_markup}
 use Rattle.cm_tool.proofs.laws.text_is_no_markup.Goals as goal
 
 pub returns-clause-levels : goal.returns-clause-levels

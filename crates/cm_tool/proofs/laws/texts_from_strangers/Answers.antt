@@ -1,4 +1,4 @@
-use Rattle.cm_tool.proofs.MarkupLemmas.{stranger_is_no_markup}
+use Rattle.cm_tool.proofs.lemmas.MarkupLemmas.{stranger_is_no_markup}
 use Rattle.cm_tool.proofs.laws.texts_from_strangers.Goals as goal
 
 pub returns : goal.returns

@@ -2,10 +2,10 @@ use Rattle.std.proofs.Common.{◌≡◌, ℕ, List, [], ◌∷◌, Option, Some,
 use Rattle.cm_text.specs.Rules.{profile}
 use Rattle.cm_text.specs.Addresses.{address_scheme}
 use Rattle.cm_text.specs.Lines.{text_of, plain_lines_of}
-use Rattle.cm_text.proofs.Computing.{label_folding}
+use Rattle.cm_text.proofs.lemmas.Computing.{label_folding}
 use Rattle.cm_tree.specs.Definitions.{Target}
 use Rattle.cm_tree.specs.declared.tree.Inline.TheVariants.{Link, Text}
-use Rattle.cm_tree.proofs.Targets.{first_counts}
+use Rattle.cm_tree.proofs.lemmas.Targets.{first_counts}
 use Rattle.cm_scan.specs.inlines.Brackets.{Defined}
 use Rattle.cm_scan.specs.inlines.Inlines.{inlines_of}
 use Rattle.cm_scan.specs.Documents.{defined_by}

@@ -1,5 +1,5 @@
 use Rattle.std.proofs.lemmas.Result.{err_from_is_err_and}
-use Rattle.cm_tool.proofs.ParserLemmas.{leaf_told, all_read}
+use Rattle.cm_tool.proofs.lemmas.ParserLemmas.{leaf_told, all_read}
 use Rattle.cm_tool.proofs.outputs.doc_of_outline.Goals as goal
 
 pub returns-in_err-blocks : goal.returns-in_err-blocks

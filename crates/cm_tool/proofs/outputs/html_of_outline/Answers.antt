@@ -1,6 +1,6 @@
 use Rattle.std.proofs.Common.{◌≡◌}
 use Rattle.cm_html.specs.Html.{html_of}
-use Rattle.cm_tool.proofs.ParserLemmas.{tree_made}
+use Rattle.cm_tool.proofs.lemmas.ParserLemmas.{tree_made}
 use Rattle.cm_tool.proofs.outputs.html_of_outline.Goals as goal
 
 pub returns : goal.returns

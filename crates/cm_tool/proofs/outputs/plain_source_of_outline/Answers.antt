@@ -1,6 +1,6 @@
 use Rattle.cm_source.specs.Definitions.{without_definitions}
 use Rattle.cm_tool.specs.steps.PlainSources.{Spelled}
-use Rattle.cm_tool.proofs.ParserLemmas.{tree_made}
+use Rattle.cm_tool.proofs.lemmas.ParserLemmas.{tree_made}
 use Rattle.cm_tool.proofs.outputs.plain_source_of_outline.Goals as goal
 
 pub returns : goal.returns

@@ -1,4 +1,4 @@
-use Rattle.cm_tool.proofs.ReadLemmas.{doc_read}
+use Rattle.cm_tool.proofs.lemmas.ReadLemmas.{doc_read}
 use Rattle.cm_tool.proofs.reading.read.Goals as goal
 
 pub returns : goal.returns

@@ -1,7 +1,7 @@
 use Rattle.std.proofs.Common.{◌∙◌, sym, subst}
 use Rattle.cm_tree.specs.steps.LabelIndex.{home, IsPassed}
 use Rattle.cm_tree.specs.steps.Entries.{labels_in}
-use Rattle.cm_tree.proofs.IndexLemmas.{absent, tree-there}
+use Rattle.cm_tree.proofs.lemmas.IndexLemmas.{absent, tree-there}
 use Rattle.cm_tree.proofs.entries.entry_under.Goals as goal
 
 pub returns-in-None-clause-there : goal.returns-in-None-clause-there

@@ -2,7 +2,7 @@ use Rattle.std.proofs.Common.{◌≡◌, ◌<◌, ◌-◌, suc, [], true, false,
 use Rattle.std.proofs.lemmas.Bool.{cases_lt}
 use Rattle.std.proofs.lemmas.Slice.Eq.{bytes_eq-Decides}
 use Rattle.cm_tree.specs.steps.Entries.{labels_in, label_in}
-use Rattle.cm_tree.proofs.EntryLemmas.{read-entry, read-label, count}
+use Rattle.cm_tree.proofs.lemmas.EntryLemmas.{read-entry, read-label, count}
 use Rattle.cm_tree.proofs.entries.in_slots.Goals as goal
 
 pub is_under-requires-clause-entry : goal.is_under-requires-clause-entry

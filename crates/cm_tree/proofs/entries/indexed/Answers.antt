@@ -1,8 +1,8 @@
 use Rattle.std.proofs.Common.{◌∙◌, sym, ap, arith}
 use Rattle.cm_tree.specs.steps.LabelNumbers.{number_of}
 use Rattle.cm_tree.specs.steps.Entries.{labels_in}
-use Rattle.cm_tree.proofs.IndexLemmas.{index-more}
-use Rattle.cm_tree.proofs.EntryLemmas.{read-entry, read-label, count}
+use Rattle.cm_tree.proofs.lemmas.IndexLemmas.{index-more}
+use Rattle.cm_tree.proofs.lemmas.EntryLemmas.{read-entry, read-label, count}
 use Rattle.cm_tree.proofs.entries.indexed.Goals as goal
 
 pub label-requires : goal.label-requires

@@ -1,4 +1,4 @@
-use Rattle.cm_tree.proofs.Targets.{first_counts}
+use Rattle.cm_tree.proofs.lemmas.Targets.{first_counts}
 use Rattle.cm_tree.proofs.laws.first_counts.Goals as goal
 
 pub returns : goal.returns

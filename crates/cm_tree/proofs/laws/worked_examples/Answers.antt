@@ -1,5 +1,5 @@
 use Rattle.std.proofs.Common.{ℕ, refl}
-use Rattle.cm_text.proofs.Computing.{label_folding}
+use Rattle.cm_text.proofs.lemmas.Computing.{label_folding}
 use Rattle.cm_tree.specs.Depth.{depth_step, block_depth_step}
 use Rattle.cm_tree.specs.declared.tree.Inline.TheViews.{outs-Text, outs-Emph, outs-Strong, outs-Strike, outs-Link, outs-Image}
 use Rattle.cm_tree.specs.declared.tree.Inline.TheFolds.{fold_out-Inline}

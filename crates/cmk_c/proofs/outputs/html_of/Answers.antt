@@ -1,7 +1,7 @@
 use Rattle.cm_tool.specs.Faults.{fault_of}
 use Rattle.cm_tool.specs.Writing.{converted}
-use Rattle.cmk_c.proofs.CallLemmas.{given, made_text, refused}
-use Rattle.cmk_c.proofs.PlaceLemmas.{no_memory_has_place, told_has_place}
+use Rattle.cmk_c.proofs.lemmas.CallLemmas.{given, made_text, refused}
+use Rattle.cmk_c.proofs.lemmas.PlaceLemmas.{no_memory_has_place, told_has_place}
 use Rattle.cmk_c.proofs.outputs.html_of.Goals as goal
 
 pub returns-in-Ok-clause-value : goal.returns-in-Ok-clause-value

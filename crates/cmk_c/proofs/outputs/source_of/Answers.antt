@@ -1,6 +1,6 @@
 use Rattle.cm_tool.specs.Rewriting.{rewritten}
-use Rattle.cmk_c.proofs.CallLemmas.{given, no_fault, unrewritten}
-use Rattle.cmk_c.proofs.PlaceLemmas.{no_memory_has_place, unrewritten_has_place}
+use Rattle.cmk_c.proofs.lemmas.CallLemmas.{given, no_fault, unrewritten}
+use Rattle.cmk_c.proofs.lemmas.PlaceLemmas.{no_memory_has_place, unrewritten_has_place}
 use Rattle.cmk_c.proofs.outputs.source_of.Goals as goal
 
 pub returns-in-Ok-clause-value : goal.returns-in-Ok-clause-value

@@ -6,7 +6,7 @@ use Rattle.cm_scan.specs.blocks.Parts.{heading, thematic_break}
 use Rattle.cm_block.specs.Level.{block_closes}
 use Rattle.cm_block.specs.Stack.{close_leaves, own_leaves}
 use Rattle.cm_block.specs.steps.LeafSteps.{whole_leaves}
-use Rattle.cm_block.proofs.PutLemmas.{one_closes, one_owns}
+use Rattle.cm_block.proofs.lemmas.PutLemmas.{one_closes, one_owns}
 use Rattle.cm_block.proofs.closed_leaf.WholeLeaf.put.Goals as goal
 
 pub returns-in-Heading-clause-level : goal.returns-in-Heading-clause-level

@@ -7,8 +7,8 @@ use Rattle.cm_scan.specs.blocks.Starts.{QuoteMarker, ItemStart, TextLine}
 use Rattle.cm_block.specs.OpenLeaf.{begins_quote, begins_item, begin_of_start, begin_of}
 use Rattle.cm_block.specs.steps.PlaceViews.{begins_quote as is_quote, seen_marker}
 use Rattle.cm_block.specs.steps.StartViews.{seen}
-use Rattle.cm_block.proofs.NextLineLemmas.{letter_shows, letter_text}
-use Rattle.cm_block.proofs.OpenedInTurn.{begins-as, no_container}
+use Rattle.cm_block.proofs.lemmas.NextLineLemmas.{letter_shows, letter_text}
+use Rattle.cm_block.proofs.lemmas.OpenedInTurn.{begins-as, no_container}
 use Rattle.cm_block.proofs.counted_line.CountedLine.begins.Goals.{Else-is_blank}
 use Rattle.cm_block.proofs.counted_line.CountedLine.begins.Goals as goal
 

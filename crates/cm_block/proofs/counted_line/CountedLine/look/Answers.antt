@@ -2,7 +2,7 @@ use Rattle.std.proofs.Common.{◌∙◌, ap, sym}
 use Rattle.cm_text.specs.declared.view.View.{View}
 use Rattle.cm_text.specs.Views.{seen_view}
 use Rattle.cm_scan.specs.blocks.Blocks.{next_line}
-use Rattle.cm_block.proofs.NextLineLemmas.{letter_goes_on}
+use Rattle.cm_block.proofs.lemmas.NextLineLemmas.{letter_goes_on}
 use Rattle.cm_block.proofs.counted_line.CountedLine.look.Goals as goal
 
 pub returns-then-begins_with_letter-clause-look : goal.returns-then-begins_with_letter-clause-look

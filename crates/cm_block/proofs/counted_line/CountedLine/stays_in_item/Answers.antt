@@ -4,7 +4,7 @@ use Rattle.cm_text.specs.Lines.{LineView}
 use Rattle.cm_text.specs.Views.{seen_view}
 use Rattle.cm_scan.specs.blocks.Lines.{is_blank}
 use Rattle.cm_scan.specs.blocks.Starts.{Stays, place_if_lazy, place_in_item}
-use Rattle.cm_block.proofs.PlaceLemmas.{in_item_lazy, in_item_ends, in_item_with_more}
+use Rattle.cm_block.proofs.lemmas.PlaceLemmas.{in_item_lazy, in_item_ends, in_item_with_more}
 use Rattle.cm_block.proofs.counted_line.CountedLine.stays_in_item.Goals as goal
 
 pub returns-then-view-clause-place : goal.returns-then-view-clause-place

@@ -3,7 +3,7 @@ use Rattle.cm_text.specs.Views.{seen_view}
 use Rattle.cm_text.specs.declared.view.View.{View}
 use Rattle.cm_scan.specs.blocks.Starts.{Stays, start_of, behind_quote_marker}
 use Rattle.cm_block.specs.steps.PlaceViews.{begins_quote}
-use Rattle.cm_block.proofs.PlaceLemmas.{in_quote_as, in_quote_if_lazy}
+use Rattle.cm_block.proofs.lemmas.PlaceLemmas.{in_quote_as, in_quote_if_lazy}
 use Rattle.cm_block.proofs.counted_line.CountedLine.stays_in_quote.Goals as goal
 
 pub returns-in_default-clause-place : goal.returns-in_default-clause-place

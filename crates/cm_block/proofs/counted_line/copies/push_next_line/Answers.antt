@@ -1,7 +1,7 @@
 use Rattle.std.proofs.Common.{ap, ◌∙◌}
 use Rattle.std.proofs.lemmas.Result.{on_ok_weaker}
 use Rattle.cm_scan.specs.blocks.Blocks.{line_feeds}
-use Rattle.cm_block.proofs.FeedLemmas.{feeds_behind, feeds_ended}
+use Rattle.cm_block.proofs.lemmas.FeedLemmas.{feeds_behind, feeds_ended}
 use Rattle.cm_block.proofs.counted_line.copies.push_next_line.Goals as goal
 
 pub returns-clause-feeds : goal.returns-clause-feeds

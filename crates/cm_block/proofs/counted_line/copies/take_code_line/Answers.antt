@@ -3,8 +3,8 @@ use Rattle.cm_text.specs.Lines.{LineView}
 use Rattle.cm_text.specs.Views.{seen_view}
 use Rattle.cm_scan.specs.blocks.Lines.{with_ending}
 use Rattle.cm_scan.specs.blocks.Blocks.{line_feeds}
-use Rattle.cm_block.proofs.FeedLemmas.{feeds_behind}
-use Rattle.cm_block.proofs.LeafLemmas.{waits, no_code, goes_on}
+use Rattle.cm_block.proofs.lemmas.FeedLemmas.{feeds_behind}
+use Rattle.cm_block.proofs.lemmas.LeafLemmas.{waits, no_code, goes_on}
 use Rattle.cm_block.proofs.counted_line.copies.take_code_line.Goals as goal
 
 pub returns-then-is_blank-clause-taken : goal.returns-then-is_blank-clause-taken

@@ -1,6 +1,6 @@
 use Rattle.std.proofs.Common.{◌∙◌}
 use Rattle.cm_scan.specs.blocks.HtmlKinds.{kind_of}
-use Rattle.cm_block.proofs.LeafLemmas.{html_ends}
+use Rattle.cm_block.proofs.lemmas.LeafLemmas.{html_ends}
 use Rattle.cm_block.proofs.counted_line.ends.ends_html.Goals as goal
 
 pub returns : goal.returns

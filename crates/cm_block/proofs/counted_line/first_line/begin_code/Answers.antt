@@ -1,8 +1,8 @@
 use Rattle.std.proofs.Common.{◌≡◌, [], ◌++◌, ap₂, ◌∙◌}
 use Rattle.cm_text.specs.Lines.{LineView}
 use Rattle.cm_text.specs.Views.{seen_view}
-use Rattle.cm_block.proofs.FeedLemmas.{feeds_of_first}
-use Rattle.cm_block.proofs.LeafLemmas.{is_nothing, code_begins}
+use Rattle.cm_block.proofs.lemmas.FeedLemmas.{feeds_of_first}
+use Rattle.cm_block.proofs.lemmas.LeafLemmas.{is_nothing, code_begins}
 use Rattle.cm_block.proofs.counted_line.first_line.begin_code.Goals as goal
 
 pub returns-clause-leaf : goal.returns-clause-leaf

@@ -1,6 +1,6 @@
 use Rattle.std.proofs.Common.{string_bytes}
 use Rattle.cm_text.specs.Views.{seen_view}
-use Rattle.cm_block.proofs.LeafLemmas.{is_nothing, fence_begins}
+use Rattle.cm_block.proofs.lemmas.LeafLemmas.{is_nothing, fence_begins}
 use Rattle.cm_block.proofs.counted_line.first_line.begin_fence.Goals as goal
 
 pub returns-clause-leaf : goal.returns-clause-leaf

@@ -1,8 +1,8 @@
 use Rattle.std.proofs.Common.{◌≡◌, [], ◌++◌, ap, ◌∙◌}
 use Rattle.cm_text.specs.Views.{seen_view}
 use Rattle.cm_scan.specs.blocks.HtmlKinds.{kind_of}
-use Rattle.cm_block.proofs.FeedLemmas.{feeds_of_first}
-use Rattle.cm_block.proofs.LeafLemmas.{is_nothing, html_begins, html_whole}
+use Rattle.cm_block.proofs.lemmas.FeedLemmas.{feeds_of_first}
+use Rattle.cm_block.proofs.lemmas.LeafLemmas.{is_nothing, html_begins, html_whole}
 use Rattle.cm_block.proofs.counted_line.first_line.begin_html.Goals as goal
 
 pub returns-then-ends_html-clause-leaf : goal.returns-then-ends_html-clause-leaf

@@ -1,6 +1,6 @@
 use Rattle.std.proofs.Common.{◌≡◌, [], ◌++◌, ap, ◌∙◌}
 use Rattle.cm_block.specs.OpenLeaf.{open_text, stays_open, begins_leaf}
-use Rattle.cm_block.proofs.LeafLemmas.{is_nothing}
+use Rattle.cm_block.proofs.lemmas.LeafLemmas.{is_nothing}
 use Rattle.cm_block.proofs.counted_line.first_line.begin_run.Goals as goal
 
 pub returns-clause-leaf : goal.returns-clause-leaf

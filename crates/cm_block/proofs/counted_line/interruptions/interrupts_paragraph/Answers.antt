@@ -1,7 +1,7 @@
 use Rattle.std.proofs.Common.{◌∙◌, sym, ap, refl, true, false, inl, inr}
 use Rattle.cm_text.specs.Views.{seen_view}
 use Rattle.cm_block.specs.steps.StartViews.{seen}
-use Rattle.cm_block.proofs.NextLineLemmas.{interrupts}
+use Rattle.cm_block.proofs.lemmas.NextLineLemmas.{interrupts}
 use Rattle.cm_block.proofs.counted_line.interruptions.interrupts_paragraph.Goals as goal
 
 pub returns-in-QuoteMarker : goal.returns-in-QuoteMarker

@@ -1,6 +1,6 @@
 use Rattle.std.proofs.Common.{◌∙◌, ap}
 use Rattle.cm_scan.specs.Words.{is_blank_text}
-use Rattle.cm_block.proofs.NextLineLemmas.{behind_first}
+use Rattle.cm_block.proofs.lemmas.NextLineLemmas.{behind_first}
 use Rattle.cm_block.proofs.counted_line.interruptions.is_blank_behind.Goals as goal
 
 pub returns-in-Some-len1-up : goal.returns-in-Some-len1-up

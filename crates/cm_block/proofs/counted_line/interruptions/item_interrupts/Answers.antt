@@ -1,7 +1,7 @@
 use Rattle.std.proofs.Common.{◌∙◌, sym, ap}
 use Rattle.std.specs.Prelude.{not}
 use Rattle.cm_text.specs.Views.{seen_view}
-use Rattle.cm_block.proofs.NextLineLemmas.{item_interrupts}
+use Rattle.cm_block.proofs.lemmas.NextLineLemmas.{item_interrupts}
 use Rattle.cm_block.proofs.counted_line.interruptions.item_interrupts.Goals as goal
 
 pub returns-then-starts_at_one : goal.returns-then-starts_at_one

@@ -1,7 +1,7 @@
 use Rattle.std.proofs.Common.{◌∙◌, sym, arith}
 use Rattle.cm_text.specs.Views.{seen_view}
-use Rattle.cm_block.proofs.NextLineLemmas.{underline_lazy, underline_far, underline_none, underline_some}
-use Rattle.cm_block.proofs.StartLemmas.{letter_underlines}
+use Rattle.cm_block.proofs.lemmas.NextLineLemmas.{underline_lazy, underline_far, underline_none, underline_some}
+use Rattle.cm_block.proofs.lemmas.StartLemmas.{letter_underlines}
 use Rattle.cm_block.proofs.counted_line.interruptions.underline_of.Goals as goal
 
 pub returns-then-line : goal.returns-then-line

@@ -4,8 +4,8 @@ use Rattle.std.proofs.lemmas.List.{nil_from_length}
 use Rattle.std.proofs.Common.{◌≡◌, true, false, [], length, ◌∙◌, refl, sym, ap, arith}
 use Rattle.cm_text.specs.Views.{seen_view}
 use Rattle.cm_scan.specs.blocks.Starts.{Stays}
-use Rattle.cm_block.proofs.ItemPlaces.{spaces_reach, nothing_behind, all_taken, plain_behind}
-use Rattle.cm_block.proofs.PlaceLemmas.{in_item_stays, in_item_lazily}
+use Rattle.cm_block.proofs.lemmas.ItemPlaces.{spaces_reach, nothing_behind, all_taken, plain_behind}
+use Rattle.cm_block.proofs.lemmas.PlaceLemmas.{in_item_stays, in_item_lazily}
 use Rattle.cm_block.proofs.counted_line.items.inside_item.Goals as goal
 
 pub returns-then-column-line-clause-place : goal.returns-then-column-line-clause-place

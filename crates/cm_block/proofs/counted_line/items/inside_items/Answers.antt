@@ -1,7 +1,7 @@
 use Rattle.std.proofs.Common.{◌∙◌, sym}
 use Rattle.std.proofs.Common.{add-one}
 use Rattle.cm_text.specs.Views.{seen_view}
-use Rattle.cm_block.proofs.Matching.{leaves_item, goes_into_item}
+use Rattle.cm_block.proofs.lemmas.Matching.{leaves_item, goes_into_item}
 use Rattle.cm_block.proofs.counted_line.items.inside_items.Goals as goal
 
 pub returns-in_default-inside_item-clause-leaves : goal.returns-in_default-inside_item-clause-leaves

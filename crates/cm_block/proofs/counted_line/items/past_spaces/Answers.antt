@@ -1,4 +1,4 @@
-use Rattle.cm_text.proofs.ViewLemmas.{strip_line_some}
+use Rattle.cm_text.proofs.lemmas.ViewLemmas.{strip_line_some}
 use Rattle.cm_block.proofs.counted_line.items.past_spaces.Goals as goal
 
 pub returns-clause-line : goal.returns-clause-line

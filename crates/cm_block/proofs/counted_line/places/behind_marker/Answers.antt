@@ -2,9 +2,9 @@ use Rattle.std.proofs.Common.{◌∙◌, sym, subst, arith, add-one, ◌+◌, re
 use Rattle.cm_text.specs.Views.{seen_view}
 use Rattle.cm_scan.specs.blocks.Lines.{content_of}
 use Rattle.cm_block.specs.steps.PlaceViews.{seen_marker}
-use Rattle.cm_block.proofs.StartLemmas.{content_left}
-use Rattle.cm_block.proofs.MarkerPlaces.{Marked, marked, item-begins, gap_boundary}
-use Rattle.cm_block.proofs.PlaceLemmas.{past_content}
+use Rattle.cm_block.proofs.lemmas.StartLemmas.{content_left}
+use Rattle.cm_block.proofs.lemmas.MarkerPlaces.{Marked, marked, item-begins, gap_boundary}
+use Rattle.cm_block.proofs.lemmas.PlaceLemmas.{past_content}
 use Rattle.cm_block.proofs.counted_line.places.behind_marker.Goals as goal
 
 at_marker : (c : goal.After-past-arg-1) → Marked c.strip.result.rest.now (seen_marker c.args.marker.now)

@@ -1,6 +1,6 @@
 use Rattle.std.proofs.Common.{◌∙◌, sym, arith}
 use Rattle.cm_text.specs.Views.{seen_view}
-use Rattle.cm_block.proofs.PlaceLemmas.{offset_blank, offset_far, offset_near}
+use Rattle.cm_block.proofs.lemmas.PlaceLemmas.{offset_blank, offset_far, offset_near}
 use Rattle.cm_block.proofs.counted_line.places.content_offset.Goals as goal
 
 pub returns-then-is_blank-clause-value : goal.returns-then-is_blank-clause-value

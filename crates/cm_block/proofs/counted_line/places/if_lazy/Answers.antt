@@ -2,9 +2,9 @@ use Rattle.std.proofs.Common.{◌∙◌, sym, ap}
 use Rattle.cm_text.specs.Views.{seen_view}
 use Rattle.cm_scan.specs.blocks.Lines.{as_lazy}
 use Rattle.cm_scan.specs.blocks.Starts.{StaysIfOpen, place_if_lazy}
-use Rattle.cm_scan.specs.laws.Laws.{goes_inward}
+use Rattle.cm_scan.specs.laws.PartLaws.{goes_inward}
 use Rattle.cm_block.specs.steps.StartViews.{seen}
-use Rattle.cm_block.proofs.PlaceLemmas.{lazy_closed, lazy_blank, lazy_other, lazy_stays}
+use Rattle.cm_block.proofs.lemmas.PlaceLemmas.{lazy_closed, lazy_blank, lazy_other, lazy_stays}
 use Rattle.cm_block.proofs.counted_line.places.if_lazy.Goals as goal
 
 pub returns-then-not-open_text-clause-line : goal.returns-then-not-open_text-clause-line

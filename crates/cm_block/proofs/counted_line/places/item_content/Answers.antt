@@ -2,8 +2,8 @@ use Rattle.std.proofs.Common.{◌∙◌, arith}
 use Rattle.cm_text.specs.Views.{seen_view}
 use Rattle.cm_scan.specs.blocks.Lines.{content_of}
 use Rattle.cm_block.specs.steps.PlaceViews.{seen_marker}
-use Rattle.cm_block.proofs.MarkerPlaces.{marked, item-begins}
-use Rattle.cm_block.proofs.PlaceLemmas.{column_is, first_is_content}
+use Rattle.cm_block.proofs.lemmas.MarkerPlaces.{marked, item-begins}
+use Rattle.cm_block.proofs.lemmas.PlaceLemmas.{column_is, first_is_content}
 use Rattle.cm_block.proofs.counted_line.places.item_content.Goals as goal
 
 pub overflow_add-column : goal.overflow_add-column

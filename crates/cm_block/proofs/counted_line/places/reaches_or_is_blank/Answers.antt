@@ -1,7 +1,7 @@
 use Rattle.std.proofs.Common.{◌∙◌}
 use Rattle.cm_text.specs.Views.{seen_view}
 use Rattle.cm_scan.specs.blocks.Lines.{is_blank}
-use Rattle.cm_block.proofs.PlaceLemmas.{taken_goes_on, far_enough, not_far_enough}
+use Rattle.cm_block.proofs.lemmas.PlaceLemmas.{taken_goes_on, far_enough, not_far_enough}
 use Rattle.cm_block.proofs.counted_line.places.reaches_or_is_blank.Goals as goal
 
 pub overflow_sub-inner : goal.overflow_sub-inner

@@ -1,5 +1,5 @@
 use Rattle.std.proofs.Common.{◌+◌, ap, arith}
-use Rattle.cm_block.proofs.PlaceLemmas.{columns_line, columns_fit, columns_seen}
+use Rattle.cm_block.proofs.lemmas.PlaceLemmas.{columns_line, columns_fit, columns_seen}
 use Rattle.cm_block.proofs.counted_line.places.with_columns.Goals as goal
 
 pub overflow_add-result : goal.overflow_add-result

@@ -1,6 +1,6 @@
 use Rattle.std.proofs.Common.{◌∙◌, sym, arith}
 use Rattle.cm_text.specs.Views.{seen_view}
-use Rattle.cm_block.proofs.StartLemmas.{content_left, letter_content}
+use Rattle.cm_block.proofs.lemmas.StartLemmas.{content_left, letter_content}
 use Rattle.cm_block.proofs.counted_line.starts.content.Goals as goal
 
 pub returns-then-begins_with_letter-clause-content : goal.returns-then-begins_with_letter-clause-content

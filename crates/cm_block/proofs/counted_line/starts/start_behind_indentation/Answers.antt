@@ -1,6 +1,6 @@
 use Rattle.std.proofs.Common.{◌∙◌, arith}
 use Rattle.cm_text.specs.Views.{seen_view}
-use Rattle.cm_block.proofs.StartLemmas.{starts_code, starts_near}
+use Rattle.cm_block.proofs.lemmas.StartLemmas.{starts_code, starts_near}
 use Rattle.cm_block.proofs.counted_line.starts.start_behind_indentation.Goals as goal
 
 pub returns-then-indent-ge4 : goal.returns-then-indent-ge4

@@ -1,6 +1,6 @@
 use Rattle.std.proofs.Common.{◌∙◌, sym}
 use Rattle.cm_text.specs.Views.{seen_view}
-use Rattle.cm_block.proofs.StartLemmas.{letter_starts, starts_lazy}
+use Rattle.cm_block.proofs.lemmas.StartLemmas.{letter_starts, starts_lazy}
 use Rattle.cm_block.proofs.counted_line.starts.start_of.Goals as goal
 
 pub returns-then-line : goal.returns-then-line

@@ -3,7 +3,7 @@ use Rattle.cm_scan.specs.Words.{given, ◌<|>◌}
 use Rattle.cm_scan.specs.blocks.LineForms.{is_thematic_break, atx_heading, opening_fence, item_marker}
 use Rattle.cm_scan.specs.blocks.HtmlBlocks.{html_start}
 use Rattle.cm_scan.specs.blocks.Starts.{QuoteMarker, AtxHeading, OpeningFence, HtmlStart, BreakLine, ItemStart, TextLine, seen_as, or_text, start_of_content}
-use Rattle.cm_block.proofs.StartLemmas.{starts-none, starts-quote, starts-heading, starts-fence, starts-html, starts-break, starts-item, item-byte, in-front, in-none}
+use Rattle.cm_block.proofs.lemmas.StartLemmas.{starts-none, starts-quote, starts-heading, starts-fence, starts-html, starts-break, starts-item, item-byte, in-front, in-none}
 use Rattle.cm_block.proofs.counted_line.starts.start_of_content.Goals as goal
 
 pub returns-then-is_empty : goal.returns-then-is_empty

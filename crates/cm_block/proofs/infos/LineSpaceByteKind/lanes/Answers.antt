@@ -1,6 +1,6 @@
 use Rattle.std.proofs.Common.{ℕ, bit_or, refl, sym, arith}
 use Rattle.std.proofs.lemmas.List.{map-id}
-use Rattle.cm_text.proofs.SearchLemmas.{hits, joined, masked}
+use Rattle.cm_text.proofs.lemmas.SearchLemmas.{hits, joined, masked}
 use Rattle.cm_tree.specs.Followed.{is_line_space}
 use Rattle.cm_block.proofs.infos.LineSpaceByteKind.lanes.Goals as goal
 

@@ -1,4 +1,4 @@
-use Rattle.cm_tree.proofs.RawLemmas.{grows-same}
+use Rattle.cm_tree.proofs.lemmas.RawLemmas.{grows-same}
 use Rattle.cm_block.proofs.leaf_block.LeafBlock.place.Goals as goal
 
 pub returns-in-Break-clause-grows : goal.returns-in-Break-clause-grows

@@ -1,7 +1,7 @@
 use Rattle.std.proofs.Common.{string_bytes, length, ◌++◌, ap, ◌∙◌, arith}
 use Rattle.cm_scan.specs.blocks.Blocks.{line_feeds}
-use Rattle.cm_block.proofs.FeedLemmas.{feeds_append, feeds_within}
-use Rattle.cm_block.proofs.TextRunLemmas.{lines_added, content_feeds}
+use Rattle.cm_block.proofs.lemmas.FeedLemmas.{feeds_append, feeds_within}
+use Rattle.cm_block.proofs.lemmas.TextRunLemmas.{lines_added, content_feeds}
 use Rattle.cm_block.proofs.leaf_text.LeafText.add_lines.Goals as goal
 
 pub overflow_add-self : goal.overflow_add-self

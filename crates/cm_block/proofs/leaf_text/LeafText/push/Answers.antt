@@ -1,6 +1,6 @@
 use Rattle.std.proofs.Common.{sym, ◌∙◌}
 use Rattle.std.specs.Prelude.{is_ok, string_bytes}
-use Rattle.cm_block.proofs.FeedLemmas.{feeds_with_part}
+use Rattle.cm_block.proofs.lemmas.FeedLemmas.{feeds_with_part}
 use Rattle.cm_block.proofs.leaf_text.LeafText.push.Goals as goal
 
 pub invariant_of-self : goal.invariant_of-self

@@ -1,4 +1,4 @@
-use Rattle.cm_block.proofs.LevelViewLemmas.{one-more-placed}
+use Rattle.cm_block.proofs.lemmas.LevelViewLemmas.{one-more-placed}
 use Rattle.cm_block.proofs.level.Level.close_block.Goals as goal
 
 pub returns-clause-placed : goal.returns-clause-placed

@@ -2,7 +2,7 @@ use Rattle.std.proofs.Common.{sym, subst}
 use Rattle.cm_block.specs.declared.level.Level as level
 use Rattle.cm_tree.specs.RawBlocks.{ArePlaced}
 use Rattle.cm_block.specs.steps.LevelViews.{IsListPlaced}
-use Rattle.cm_block.proofs.LevelViewLemmas.{one-more-item}
+use Rattle.cm_block.proofs.lemmas.LevelViewLemmas.{one-more-item}
 use Rattle.cm_block.proofs.level.Level.close_item.Goals.{in-Some+in_ok-push, in_default}
 use Rattle.cm_block.proofs.level.Level.close_item.Goals as goal
 

@@ -1,4 +1,4 @@
-use Rattle.cm_tree.proofs.RawLemmas.{grows-same}
+use Rattle.cm_tree.proofs.lemmas.RawLemmas.{grows-same}
 use Rattle.cm_block.proofs.level.Level.open_item.Goals as goal
 
 pub returns-then-has_list_of-clause-placed : goal.returns-then-has_list_of-clause-placed

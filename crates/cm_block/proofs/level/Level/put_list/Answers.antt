@@ -3,8 +3,8 @@ use Rattle.std.proofs.Common.{sym, subst, ap, ◌∙◌}
 use Rattle.cm_tree.specs.declared.tree.Block.TheVariants as trees
 use Rattle.cm_tree.specs.RawBlocks.{ArePlaced, items_in}
 use Rattle.cm_block.specs.steps.LevelViews.{IsListPlaced}
-use Rattle.cm_tree.proofs.RawLemmas.{grows-same, all-placed-grow}
-use Rattle.cm_block.proofs.LevelViewLemmas.{one-more-placed, list-closes}
+use Rattle.cm_tree.proofs.lemmas.RawLemmas.{grows-same, all-placed-grow}
+use Rattle.cm_block.proofs.lemmas.LevelViewLemmas.{one-more-placed, list-closes}
 use Rattle.cm_block.proofs.level.Level.put_list.Goals as goal
 
 pub returns-in_err-block-clause-placed : goal.returns-in_err-block-clause-placed

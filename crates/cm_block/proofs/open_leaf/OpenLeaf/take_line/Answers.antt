@@ -11,7 +11,7 @@ use Rattle.cm_scan.specs.blocks.Blocks.{line_feeds, add_text, next_line}
 use Rattle.cm_block.specs.OpenLeaf.{open_text, open_fence, open_html, stays_open, is_last, line_of_leaf}
 use Rattle.cm_block.specs.LeafViews.{ended, leaf_with}
 use Rattle.cm_block.specs.steps.LeafSteps.{leaves_with}
-use Rattle.cm_block.proofs.LeafLemmas.{no_line, text_line, fence_line, html_out, html_line, one_more}
+use Rattle.cm_block.proofs.lemmas.LeafLemmas.{no_line, text_line, fence_line, html_out, html_line, one_more}
 use Rattle.cm_block.proofs.open_leaf.OpenLeaf.take_line.Goals as goal
 
 pub returns-in-Nothing-clause-line : goal.returns-in-Nothing-clause-line

@@ -2,7 +2,7 @@ use Rattle.std.proofs.Common.{◌≡◌, ◌≤◌, ◌+◌, ◌++◌, [], ◌�
 use Rattle.std.proofs.lemmas.List.{length-append, length-replicate}
 use Rattle.cm_block.specs.OwnerRuns.{OwnedLines, leaves_with, leaves_in, owner_of, owners_in, owners_of_run}
 use Rattle.cm_block.specs.declared.owner_runs.OwnerRun.{OwnerRun}
-use Rattle.cm_block.proofs.OwnerRunLemmas.{next_run, leaves_begun, at_most_one}
+use Rattle.cm_block.proofs.lemmas.OwnerRunLemmas.{next_run, leaves_begun, at_most_one}
 use Rattle.cm_block.proofs.owner_runs.OwnerRuns.begin.Goals as goal
 
 pub invariant_of-self-2 : goal.invariant_of-self-2

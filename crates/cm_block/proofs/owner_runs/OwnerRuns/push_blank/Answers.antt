@@ -1,7 +1,7 @@
 use Rattle.std.proofs.Common.{rules, ◌≡◌, ℕ, ◌++◌, replicate, sym, ap, ap₂, ◌∙◌}
 use Rattle.cm_block.specs.OwnerRuns.{OwnedLines, owner_of}
 use Rattle.cm_block.specs.Stack.{blank_owner}
-use Rattle.cm_block.proofs.OwnerRunLemmas.{longer_run}
+use Rattle.cm_block.proofs.lemmas.OwnerRunLemmas.{longer_run}
 use Rattle.cm_block.proofs.owner_runs.OwnerRuns.push_blank.Goals as goal
 
 pub returns-then-lines-self : goal.returns-then-lines-self

@@ -2,7 +2,7 @@ use Rattle.std.proofs.Common.{◌-◌, ◌++◌, suc, replicate, ap, ◌∙◌, 
 use Rattle.std.proofs.lemmas.Result.{on_ok_weaker}
 use Rattle.cm_tree.specs.declared.tree.Owner.TheVariants as owner
 use Rattle.cm_block.specs.OwnerRuns.{OwnedLines}
-use Rattle.cm_block.proofs.OwnerRunLemmas.{in_parts}
+use Rattle.cm_block.proofs.lemmas.OwnerRunLemmas.{in_parts}
 use Rattle.cm_block.proofs.owner_runs.OwnerRuns.push_leaf.Goals as goal
 
 pub returns : goal.returns

@@ -1,6 +1,6 @@
 use Rattle.std.proofs.Common.{◌≡◌, ◌-◌, ◌++◌, replicate, ap, ◌∙◌, arith}
 use Rattle.cm_block.specs.OwnerRuns.{OwnedLines, leaves_with, owner_of}
-use Rattle.cm_block.proofs.OwnerRunLemmas.{in_parts}
+use Rattle.cm_block.proofs.lemmas.OwnerRunLemmas.{in_parts}
 use Rattle.cm_block.proofs.owner_runs.OwnerRuns.push_times.Goals as goal
 
 pub loop-left-preserved : goal.loop-left-preserved

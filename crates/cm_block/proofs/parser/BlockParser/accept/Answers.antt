@@ -13,8 +13,8 @@ use Rattle.cm_block.specs.Parser.{stack_of}
 use Rattle.cm_block.specs.Tests.{count_of}
 use Rattle.cm_block.specs.steps.LineTests.{Tested}
 use Rattle.cm_block.specs.steps.ParserSteps.{Deep}
-use Rattle.cm_block.proofs.TestLemmas.{tested_leaf, tested_line, both_ok}
-use Rattle.cm_block.proofs.ParserLemmas.{accept_taken, accept_left, begun_after, owners_after, deep_after, matched_few, taken_count, begun_count}
+use Rattle.cm_block.proofs.lemmas.TestLemmas.{tested_leaf, tested_line, both_ok}
+use Rattle.cm_block.proofs.lemmas.ParserLemmas.{accept_taken, accept_left, begun_after, owners_after, deep_after, matched_few, taken_count, begun_count}
 use Rattle.cm_block.proofs.parser.BlockParser.accept.Goals as goal
 
 pub returns-then-branch-clause-pushed : goal.returns-then-branch-clause-pushed

@@ -2,8 +2,8 @@ use Rattle.std.proofs.Common.{◌∙◌, None, false, ap}
 use Rattle.cm_block.specs.steps.FrameSteps.{quoted_by}
 use Rattle.cm_block.specs.LeafViews.{leaf_with, leaf_of}
 use Rattle.cm_block.specs.steps.LeafSteps.{leaves_with}
-use Rattle.cm_block.proofs.LeafLemmas.{closes}
-use Rattle.cm_block.proofs.ParserLemmas.{nothing_closed, nothing_owned, level_with_blanks, level_without, owners_with_blanks, owners_without}
+use Rattle.cm_block.proofs.lemmas.LeafLemmas.{closes}
+use Rattle.cm_block.proofs.lemmas.ParserLemmas.{nothing_closed, nothing_owned, level_with_blanks, level_without, owners_with_blanks, owners_without}
 use Rattle.cm_block.proofs.parser.BlockParser.close_leaf.Goals as goal
 
 pub returns-in_ok-blank_lines-clause-level : goal.returns-in_ok-blank_lines-clause-level

@@ -4,8 +4,8 @@ use Rattle.cm_block.specs.steps.FrameSteps.{close_frames}
 use Rattle.cm_block.specs.LeafViews.{leaf_of}
 use Rattle.cm_block.specs.Parser.{stack_of}
 use Rattle.cm_block.specs.Tests.{container_count, count_of}
-use Rattle.cm_block.proofs.TestLemmas.{tested_all}
-use Rattle.cm_block.proofs.ParserLemmas.{all_blocks, all_owners, all_lines, all_containers, all_definitions}
+use Rattle.cm_block.proofs.lemmas.TestLemmas.{tested_all}
+use Rattle.cm_block.proofs.lemmas.ParserLemmas.{all_blocks, all_owners, all_lines, all_containers, all_definitions}
 use Rattle.cm_block.proofs.parser.BlockParser.finish.Goals as goal
 
 pub returns-clause-outline : goal.returns-clause-outline

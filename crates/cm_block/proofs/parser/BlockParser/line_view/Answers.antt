@@ -2,11 +2,11 @@ use Rattle.std.proofs.Common.{◌+◌, ◌-◌, ◌++◌, ◌∷◌, [], List, a
 use Rattle.std.specs.Result.{OnOk}
 use Rattle.cm_text.specs.Lines.{LineView}
 use Rattle.cm_text.specs.Views.{seen_view}
-use Rattle.cm_text.proofs.IndentationLemmas.{line-spaces}
+use Rattle.cm_text.proofs.lemmas.IndentationLemmas.{line-spaces}
 use Rattle.cm_block.specs.Parser.{stack_of, HasTaken}
 use Rattle.cm_block.specs.Tests.{count_of}
 use Rattle.cm_block.specs.steps.LineTests.{Tested}
-use Rattle.cm_block.proofs.ParserLemmas.{tells_deep, stands_next}
+use Rattle.cm_block.proofs.lemmas.ParserLemmas.{tells_deep, stands_next}
 use Rattle.cm_block.proofs.parser.BlockParser.line_view.Goals as goal
 
 pub returns-in-Err-clause-told : goal.returns-in-Err-clause-told

@@ -3,8 +3,8 @@ use Rattle.cm_block.specs.OpenLeaf.{OpenLeaf, no_leaf}
 use Rattle.cm_block.specs.Stack.{Stack}
 use Rattle.cm_block.specs.Frames.{stack_with}
 use Rattle.cm_block.specs.Tests.{count_of}
-use Rattle.cm_block.proofs.ContainerLemmas.{count_new}
-use Rattle.cm_block.proofs.ParserLemmas.{new_holds, new_within}
+use Rattle.cm_block.proofs.lemmas.ContainerLemmas.{count_new}
+use Rattle.cm_block.proofs.lemmas.ParserLemmas.{new_holds, new_within}
 use Rattle.cm_block.proofs.parser.BlockParser.new.Goals as goal
 
 pub returns-clause-stands : goal.returns-clause-stands

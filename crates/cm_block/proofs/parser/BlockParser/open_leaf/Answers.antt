@@ -9,8 +9,8 @@ use Rattle.cm_block.specs.LeafViews.{leaf_of}
 use Rattle.cm_block.specs.steps.LeafSteps.{leaves_with, whole_leaves}
 use Rattle.cm_block.specs.steps.StartViews.{seen}
 use Rattle.cm_block.specs.steps.FirstLines.{first_of, StaysClosed}
-use Rattle.cm_block.proofs.ParserLemmas.{stack_stays, stack_ends}
-use Rattle.cm_block.proofs.TestLemmas.{both_ok}
+use Rattle.cm_block.proofs.lemmas.ParserLemmas.{stack_stays, stack_ends}
+use Rattle.cm_block.proofs.lemmas.TestLemmas.{both_ok}
 use Rattle.cm_block.proofs.parser.BlockParser.open_leaf.Goals as goal
 
 pub returns-in-Some-Opens-clause-pushed : goal.returns-in-Some-Opens-clause-pushed

@@ -3,7 +3,7 @@ use Rattle.cm_text.specs.Views.{seen_view}
 use Rattle.cm_block.specs.OpenLeaf.{stays_open, is_last, line_of_leaf}
 use Rattle.cm_block.specs.LeafViews.{leaf_of}
 use Rattle.cm_block.specs.steps.LeafSteps.{leaves_with, taken_of}
-use Rattle.cm_block.proofs.ParserLemmas.{stack_stays, stack_ends}
+use Rattle.cm_block.proofs.lemmas.ParserLemmas.{stack_stays, stack_ends}
 use Rattle.cm_block.proofs.parser.BlockParser.take_to_leaf.Goals as goal
 
 pub returns-in-Stays-clause-taken : goal.returns-in-Stays-clause-taken

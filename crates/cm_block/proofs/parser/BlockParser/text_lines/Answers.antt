@@ -2,11 +2,11 @@ use Rattle.std.proofs.Common.{◌∙◌, refl, ap, arith}
 use Rattle.std.proofs.lemmas.Bool.{and_parts}
 use Rattle.cm_text.specs.Lines.{lines_of, plain_lines_of}
 use Rattle.cm_text.specs.declared.text_lines.TextLines.{TextLines}
-use Rattle.cm_text.proofs.TextLineLemmas.{all_lines}
+use Rattle.cm_text.proofs.lemmas.TextLineLemmas.{all_lines}
 use Rattle.cm_block.specs.OpenLeaf.{open_text}
 use Rattle.cm_block.specs.LeafViews.{leaf_of}
 use Rattle.cm_block.specs.steps.TextRuns.{add_lines}
-use Rattle.cm_block.proofs.TextStands.{open_source, text_stands}
+use Rattle.cm_block.proofs.lemmas.TextStands.{open_source, text_stands}
 use Rattle.cm_block.proofs.parser.BlockParser.text_lines.Goals as goal
 
 pub returns-clause-stands : goal.returns-clause-stands

@@ -3,7 +3,7 @@ use Rattle.cm_text.specs.Views.{seen_view}
 use Rattle.cm_text.specs.declared.view.View.{View}
 use Rattle.cm_scan.specs.Words.{given}
 use Rattle.cm_scan.specs.blocks.Starts.{place_if_lazy}
-use Rattle.cm_scan.specs.laws.Laws.{goes_inward}
+use Rattle.cm_scan.specs.laws.PartLaws.{goes_inward}
 use Rattle.cm_block.specs.steps.FrameSteps.{place_in, inward}
 use Rattle.cm_block.specs.steps.FrameViews.{container_of}
 use Rattle.cm_block.specs.steps.PlaceViews.{IsInside}

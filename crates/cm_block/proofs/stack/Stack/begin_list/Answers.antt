@@ -5,7 +5,7 @@ use Rattle.cm_block.specs.Level.{item_opens}
 use Rattle.cm_block.specs.steps.LevelSteps.{has_list_of, is_list_of}
 use Rattle.cm_block.specs.steps.LevelViews.{level_in}
 use Rattle.cm_block.specs.steps.FrameViews.{frames_in}
-use Rattle.cm_block.proofs.FrontLemmas.{items-open-again, inner-list}
+use Rattle.cm_block.proofs.lemmas.FrontLemmas.{items-open-again, inner-list}
 use Rattle.cm_block.proofs.stack.Stack.begin_list.Goals as goal
 
 pub returns-clause-level : goal.returns-clause-level

@@ -9,9 +9,9 @@ use Rattle.cm_block.specs.steps.FrameSteps.{close_container}
 use Rattle.cm_block.specs.steps.LevelSteps.{item_with}
 use Rattle.cm_block.specs.steps.FrameViews.{container_of, frames_in}
 use Rattle.cm_block.specs.steps.FrontViews.{innermost}
-use Rattle.cm_block.proofs.FrontLemmas.{inner-closes, inner-item-closes}
-use Rattle.cm_tree.proofs.RawLemmas.{grows-more}
-use Rattle.cm_block.proofs.RowLemmas.{taken-placed, taken-is, inside-is}
+use Rattle.cm_block.proofs.lemmas.FrontLemmas.{inner-closes, inner-item-closes}
+use Rattle.cm_tree.proofs.lemmas.RawLemmas.{grows-more}
+use Rattle.cm_block.proofs.lemmas.RowLemmas.{taken-placed, taken-is, inside-is}
 use Rattle.cm_block.proofs.stack.Stack.close_last.Goals as goal
 
 pub invariant_of-self-in_err-blocks-in-Quote : goal.invariant_of-self-in_err-blocks-in-Quote

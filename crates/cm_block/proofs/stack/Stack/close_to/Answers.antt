@@ -1,8 +1,8 @@
 use Rattle.std.proofs.Common.{◌<◌, length, ◌∙◌, ap, arith}
 use Rattle.cm_block.specs.Frames.{Row}
 use Rattle.cm_block.specs.steps.FrameViews.{frames_in}
-use Rattle.cm_block.proofs.FrontLemmas.{length-behind}
-use Rattle.cm_block.proofs.Matching.{length_frames, nothing_left, one_closed}
+use Rattle.cm_block.proofs.lemmas.FrontLemmas.{length-behind}
+use Rattle.cm_block.proofs.lemmas.Matching.{length_frames, nothing_left, one_closed}
 use Rattle.cm_block.proofs.stack.Stack.close_to.Goals as goal
 
 pub loop-self-smaller : goal.loop-self-smaller

@@ -7,7 +7,7 @@ use Rattle.cm_tree.specs.RawBlocks.{blocks_in}
 use Rattle.cm_block.specs.Frames.{Row}
 use Rattle.cm_block.specs.steps.FrameViews.{frames_in}
 use Rattle.cm_block.specs.steps.FrontViews.{frames_behind}
-use Rattle.cm_block.proofs.RowLemmas.{no-frames, no-list, none-placed, finished}
+use Rattle.cm_block.proofs.lemmas.RowLemmas.{no-frames, no-list, none-placed, finished}
 use Rattle.cm_block.proofs.stack.Stack.finish_part.Goals as goal
 
 no-frame : (c : goal.After-push) → c.self.inside.frames ≡ []

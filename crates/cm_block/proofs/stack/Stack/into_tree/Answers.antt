@@ -3,7 +3,7 @@ use Rattle.cm_block.specs.Level.{closed_blocks}
 use Rattle.cm_block.specs.Frames.{Row}
 use Rattle.cm_block.specs.steps.LevelViews.{level_in}
 use Rattle.cm_block.specs.steps.FrameViews.{frames_in}
-use Rattle.cm_block.proofs.FrontLemmas.{closed-behind, none-inside}
+use Rattle.cm_block.proofs.lemmas.FrontLemmas.{closed-behind, none-inside}
 use Rattle.cm_block.proofs.stack.Stack.into_tree.Goals as goal
 
 pub returns : goal.returns

@@ -2,7 +2,7 @@ use Rattle.std.proofs.Common.{◌∙◌, false, sym, ap}
 use Rattle.cm_block.specs.Frames.{Row}
 use Rattle.cm_block.specs.steps.FrameSteps.{quoted_by}
 use Rattle.cm_block.specs.steps.FrameViews.{frames_in}
-use Rattle.cm_block.proofs.FrontLemmas.{quoted-behind}
+use Rattle.cm_block.proofs.lemmas.FrontLemmas.{quoted-behind}
 use Rattle.cm_block.proofs.stack.Stack.is_quoted.Goals as goal
 
 pub returns : goal.returns

@@ -3,7 +3,7 @@ use Rattle.cm_text.specs.Views.{seen_view}
 use Rattle.cm_block.specs.Frames.{Row}
 use Rattle.cm_block.specs.steps.FrameSteps.{matching}
 use Rattle.cm_block.specs.steps.FrameViews.{frames_in}
-use Rattle.cm_block.proofs.FrontLemmas.{matching-behind}
+use Rattle.cm_block.proofs.lemmas.FrontLemmas.{matching-behind}
 use Rattle.cm_block.proofs.stack.Stack.matching.Goals as goal
 
 pub returns-clause-line : goal.returns-clause-line

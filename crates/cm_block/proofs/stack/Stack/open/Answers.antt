@@ -1,6 +1,6 @@
 use Rattle.std.proofs.Common.{subst, sym}
 use Rattle.cm_block.specs.steps.LevelViews.{IsLevelPlaced}
-use Rattle.cm_block.proofs.RowLemmas.{one-more-frame}
+use Rattle.cm_block.proofs.lemmas.RowLemmas.{one-more-frame}
 use Rattle.cm_block.proofs.stack.Stack.open.Goals as goal
 
 pub invariant_of-self : goal.invariant_of-self

@@ -2,9 +2,9 @@ use Rattle.std.proofs.Common.{ap, ◌∙◌}
 use Rattle.std.proofs.lemmas.Result.{on_ok_weaker}
 use Rattle.cm_block.specs.Frames.{Row}
 use Rattle.cm_block.specs.Level.{block_opens}
-use Rattle.cm_block.proofs.LevelViewLemmas.{frames-placed-grow}
-use Rattle.cm_block.proofs.RowLemmas.{same-frames, inner-done}
-use Rattle.cm_block.proofs.FrontLemmas.{opens-behind}
+use Rattle.cm_block.proofs.lemmas.LevelViewLemmas.{frames-placed-grow}
+use Rattle.cm_block.proofs.lemmas.RowLemmas.{same-frames, inner-done}
+use Rattle.cm_block.proofs.lemmas.FrontLemmas.{opens-behind}
 use Rattle.cm_block.proofs.stack.Stack.open_block.Goals as goal
 
 pub invariant_of-self : goal.invariant_of-self

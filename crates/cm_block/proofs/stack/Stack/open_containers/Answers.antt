@@ -3,8 +3,8 @@ use Rattle.cm_text.specs.Views.{seen_view}
 use Rattle.cm_scan.specs.blocks.Lines.{is_blank}
 use Rattle.cm_block.specs.steps.StartViews.{seen}
 use Rattle.cm_block.specs.OpenLeaf.{begin_of_start}
-use Rattle.cm_block.proofs.OpenedInTurn.{left_blank, left_some, leaf_next, quote_next, not_bare, stays_left, item_left, left_deep}
-use Rattle.cm_block.proofs.TestLemmas.{one_more_frame, tested_one_deeper}
+use Rattle.cm_block.proofs.lemmas.OpenedInTurn.{left_blank, left_some, leaf_next, quote_next, not_bare, stays_left, item_left, left_deep}
+use Rattle.cm_block.proofs.lemmas.TestLemmas.{one_more_frame, tested_one_deeper}
 use Rattle.cm_block.specs.Stack.{Stack}
 use Rattle.cm_block.specs.Depths.{nesting}
 use Rattle.cm_block.proofs.stack.Stack.open_containers.Goals as goal

@@ -2,10 +2,10 @@ use Rattle.std.proofs.Common.{ap, ap₂, ◌∙◌, ◌∷◌, ◌++◌, []}
 use Rattle.std.proofs.lemmas.Result.{on_ok_weaker}
 use Rattle.cm_block.specs.Level.{item_opens}
 use Rattle.cm_block.specs.Frames.{an_item, Row}
-use Rattle.cm_block.proofs.LevelViewLemmas.{frames-placed-grow}
-use Rattle.cm_block.proofs.RowLemmas.{frames-open, inner-done}
-use Rattle.cm_block.proofs.FrameStartLemmas.{frame}
-use Rattle.cm_block.proofs.FrontLemmas.{item-opens-behind}
+use Rattle.cm_block.proofs.lemmas.LevelViewLemmas.{frames-placed-grow}
+use Rattle.cm_block.proofs.lemmas.RowLemmas.{frames-open, inner-done}
+use Rattle.cm_block.proofs.lemmas.FrameStartLemmas.{frame}
+use Rattle.cm_block.proofs.lemmas.FrontLemmas.{item-opens-behind}
 use Rattle.cm_block.proofs.stack.Stack.open_item.Goals as goal
 
 pub invariant_of-self : goal.invariant_of-self

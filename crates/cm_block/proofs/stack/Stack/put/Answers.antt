@@ -1,7 +1,7 @@
 use Rattle.std.proofs.Common.{ap}
 use Rattle.std.proofs.lemmas.Result.{on_ok_weaker}
 use Rattle.cm_block.specs.Frames.{Row}
-use Rattle.cm_block.proofs.RowLemmas.{still-placed, same-frames, block-put}
+use Rattle.cm_block.proofs.lemmas.RowLemmas.{still-placed, same-frames, block-put}
 use Rattle.cm_block.proofs.stack.Stack.put.Goals as goal
 
 pub invariant_of-self : goal.invariant_of-self

@@ -1,7 +1,7 @@
 use Rattle.std.proofs.Common.{ap, sym, subst, ◌∙◌}
 use Rattle.cm_html.specs.Forms.{formed}
 use Rattle.cm_html.specs.steps.FormedTexts.{AreFormed, IsFormed}
-use Rattle.cm_html.proofs.FormedLemmas.{copied, found_is_formed, is_formed, stay_formed}
+use Rattle.cm_html.proofs.lemmas.FormedLemmas.{copied, found_is_formed, is_formed, stay_formed}
 use Rattle.cm_html.proofs.forms.FormedTexts.form.Goals as goal
 
 pub returns-in-Some : goal.returns-in-Some

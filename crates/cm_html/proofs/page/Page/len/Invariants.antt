@@ -1,5 +1,5 @@
 use Rattle.std.proofs.Common.{◌≡◌, ◌+◌, drop}
-use Rattle.cm_html.proofs.PageLemmas.{lengths}
+use Rattle.cm_html.proofs.lemmas.PageLemmas.{lengths}
 use Rattle.cm_html.proofs.page.Page.len.Given as goal
 
 -- what was counted and what is left are all

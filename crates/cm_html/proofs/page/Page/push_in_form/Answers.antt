@@ -1,5 +1,5 @@
 use Rattle.cm_html.specs.Forms.{formed}
-use Rattle.cm_html.proofs.PageLemmas.{settled_in_order, settled_behind}
+use Rattle.cm_html.proofs.lemmas.PageLemmas.{settled_in_order, settled_behind}
 use Rattle.cm_html.proofs.page.Page.push_in_form.Goals as goal
 
 pub invariant_of-self : goal.invariant_of-self

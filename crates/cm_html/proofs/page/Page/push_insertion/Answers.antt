@@ -1,6 +1,6 @@
 use Rattle.std.proofs.Common.{rules, ◌≡◌, ◌∙◌, ◌++◌, ap, length, string_bytes, subst, sym}
 use Rattle.cm_html.specs.steps.Pages.{with_insertions, AreInOrder}
-use Rattle.cm_html.proofs.PageLemmas.{insertion_behind, order_behind}
+use Rattle.cm_html.proofs.lemmas.PageLemmas.{insertion_behind, order_behind}
 use Rattle.cm_html.proofs.page.Page.push_insertion.Goals as goal
 
 pub invariant_of-self-2 : goal.invariant_of-self-2

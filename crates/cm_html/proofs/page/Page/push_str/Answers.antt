@@ -1,4 +1,4 @@
-use Rattle.cm_html.proofs.PageLemmas.{pushed_in_order, pushed_behind}
+use Rattle.cm_html.proofs.lemmas.PageLemmas.{pushed_in_order, pushed_behind}
 use Rattle.cm_html.proofs.page.Page.push_str.Goals as goal
 
 pub invariant_of-self : goal.invariant_of-self

@@ -1,7 +1,7 @@
 use Rattle.std.proofs.Common.{rules, ◌≡◌, ◌+◌, ◌∷◌, drop, get_or, subst}
 use Rattle.cm_html.specs.steps.Pages.{AreInOrder}
-use Rattle.cm_html.proofs.PageLemmas.{first_place}
-use Rattle.cm_html.proofs.WritingLemmas.{next_item}
+use Rattle.cm_html.proofs.lemmas.PageLemmas.{first_place}
+use Rattle.cm_html.proofs.lemmas.WritingLemmas.{next_item}
 use Rattle.cm_html.proofs.page.Page.push_to.Goals as goal
 
 pub range-requires-clause-end_boundary : goal.range-requires-clause-end_boundary

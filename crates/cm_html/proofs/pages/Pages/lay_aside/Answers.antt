@@ -1,4 +1,4 @@
-use Rattle.cm_html.proofs.PageLemmas.{laid_aside}
+use Rattle.cm_html.proofs.lemmas.PageLemmas.{laid_aside}
 use Rattle.cm_html.proofs.pages.Pages.lay_aside.Goals as goal
 
 pub returns : goal.returns

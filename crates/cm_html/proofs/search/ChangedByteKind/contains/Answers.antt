@@ -1,6 +1,6 @@
 use Rattle.std.proofs.Common.{ap₂, ◌∙◌, ◌==◌, bit_and, get_or, arith}
 use Rattle.cm_html.specs.declared.search.TheConstants.{PLAIN_LOW, PLAIN_HIGH}
-use Rattle.cm_html.proofs.Destinations.{changed-byte}
+use Rattle.cm_html.proofs.lemmas.Destinations.{changed-byte}
 use Rattle.cm_html.proofs.search.ChangedByteKind.contains.Goals as goal
 
 pub returns : goal.returns

@@ -1,9 +1,9 @@
 use Rattle.std.proofs.Common.{ℕ, ◌<◌, ◌/◌, ◌^◌, bit_and, arith}
 use Rattle.std.proofs.lemmas.Simd.{zip2_splat}
-use Rattle.cm_text.proofs.SearchLemmas.{last-bits, last-few, looks-up, looked-up, places-ok, joined, hits, masked}
+use Rattle.cm_text.proofs.lemmas.SearchLemmas.{last-bits, last-few, looks-up, looked-up, places-ok, joined, hits, masked}
 use Rattle.cm_html.specs.steps.Bytes.{is_changed}
 use Rattle.cm_html.specs.declared.search.TheConstants.{PLAIN_LOW, PLAIN_HIGH}
-use Rattle.cm_html.proofs.Destinations.{changed-looked-up}
+use Rattle.cm_html.proofs.lemmas.Destinations.{changed-looked-up}
 use Rattle.cm_html.proofs.search.ChangedByteKind.lanes.Goals as goal
 
 abbrev front : ℕ → ℕ

@@ -1,5 +1,5 @@
 use Rattle.std.proofs.Common.{refl, arith}
-use Rattle.cm_text.proofs.SearchLemmas.{in-table, masked, places-ok}
+use Rattle.cm_text.proofs.lemmas.SearchLemmas.{in-table, masked, places-ok}
 use Rattle.cm_html.specs.steps.Bytes.{is_escaped}
 use Rattle.cm_html.specs.declared.search.TheConstants.{ESCAPED}
 use Rattle.cm_html.proofs.search.EscapedByteKind.lanes.Goals as goal

@@ -1,6 +1,6 @@
 use Rattle.std.proofs.Common.{ℕ, ◌≤◌, length, bit_or, refl, arith}
 use Rattle.std.proofs.lemmas.Simd.{zip2_splat}
-use Rattle.cm_text.proofs.SearchLemmas.{joined, masked}
+use Rattle.cm_text.proofs.lemmas.SearchLemmas.{joined, masked}
 use Rattle.cm_html.specs.steps.Bytes.{has_escape}
 use Rattle.cm_html.proofs.search.QuotedByteKind.lanes.Goals as goal
 

@@ -15,12 +15,12 @@ use Rattle.cm_inline.specs.steps.Links.{ends_of}
 use Rattle.cm_inline.specs.steps.Depths.{items_depth}
 use Rattle.cm_inline.specs.steps.Pairs.{Keeps}
 use Rattle.cm_inline.specs.steps.Brackets.{IsRead, link_made}
-use Rattle.cm_inline.proofs.BracketLemmas.{split-last, closes-nothing, closed_or}
-use Rattle.cm_inline.proofs.DeeperLemmas.{same-fault, reverse-depth}
-use Rattle.cm_inline.proofs.ReaderLemmas.{opener-is, before-split, closer-read, none-left, read-further, closes, text-keeps}
-use Rattle.cm_inline.proofs.KeepsLemmas.{keeps-closer}
-use Rattle.cm_inline.proofs.PairLemmas.{last-item}
-use Rattle.cm_inline.proofs.SliceLemmas.{one-slice}
+use Rattle.cm_inline.proofs.lemmas.BracketLemmas.{split-last, closes-nothing, closed_or}
+use Rattle.cm_inline.proofs.lemmas.DeeperLemmas.{same-fault, reverse-depth}
+use Rattle.cm_inline.proofs.lemmas.ReaderLemmas.{opener-is, before-split, closer-read, none-left, read-further, closes, text-keeps}
+use Rattle.cm_inline.proofs.lemmas.KeepsLemmas.{keeps-closer}
+use Rattle.cm_inline.proofs.lemmas.PairLemmas.{last-item}
+use Rattle.cm_inline.proofs.lemmas.SliceLemmas.{one-slice}
 use Rattle.cm_inline.proofs.brackets.Reader.close.Goals as goal
 
 -- where no bracket is left there was none

@@ -3,8 +3,8 @@ use Rattle.std.specs.Prelude.{OnOk}
 use Rattle.cm_inline.specs.steps.Nodes.{Piece, items_of}
 use Rattle.cm_inline.specs.steps.Groups.{nodes_in, ArePlaced}
 use Rattle.cm_inline.specs.steps.Brackets.{IsRead}
-use Rattle.cm_inline.proofs.BracketLemmas.{split-last, split-within}
-use Rattle.cm_inline.proofs.ReaderLemmas.{before-split, then-ok, with_text, text-read, text-items, opener-is}
+use Rattle.cm_inline.proofs.lemmas.BracketLemmas.{split-last, split-within}
+use Rattle.cm_inline.proofs.lemmas.ReaderLemmas.{before-split, then-ok, with_text, text-read, text-items, opener-is}
 use Rattle.cm_inline.proofs.brackets.Reader.leave_as_text.Goals as goal
 
 pub overflow_sub-bracket : goal.overflow_sub-bracket

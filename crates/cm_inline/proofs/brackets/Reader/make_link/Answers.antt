@@ -5,10 +5,10 @@ use Rattle.cm_inline.specs.declared.fault.InlineFault.TheVariants.{InlinesTooDee
 use Rattle.cm_inline.specs.steps.Groups.{nodes_in, items_in, made_by, target_of}
 use Rattle.cm_inline.specs.steps.Pairs.{Keeps}
 use Rattle.cm_inline.specs.steps.Brackets.{IsRead, link_made}
-use Rattle.cm_inline.proofs.BracketLemmas.{split-last, split-within}
-use Rattle.cm_inline.proofs.PairLemmas.{placed-inside}
-use Rattle.cm_inline.proofs.DeeperLemmas.{same-fault}
-use Rattle.cm_inline.proofs.ReaderLemmas.{IsLink, makes, link-items, read-linked, read-other, link-deeper, paired-depth, paired-deeper, inside-pays, inside-looks, made-keeps}
+use Rattle.cm_inline.proofs.lemmas.BracketLemmas.{split-last, split-within}
+use Rattle.cm_inline.proofs.lemmas.PairLemmas.{placed-inside}
+use Rattle.cm_inline.proofs.lemmas.DeeperLemmas.{same-fault}
+use Rattle.cm_inline.proofs.lemmas.ReaderLemmas.{IsLink, makes, link-items, read-linked, read-other, link-deeper, paired-depth, paired-deeper, inside-pays, inside-looks, made-keeps}
 use Rattle.cm_inline.proofs.brackets.Reader.make_link.Goals.{In_ok-wrap}
 use Rattle.cm_inline.proofs.brackets.Reader.make_link.Goals as goal
 

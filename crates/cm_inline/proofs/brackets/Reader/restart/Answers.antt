@@ -1,6 +1,6 @@
 use Rattle.std.proofs.Common.{sym, subst}
 use Rattle.cm_inline.specs.steps.Groups.{nodes_in, ArePlaced}
-use Rattle.cm_inline.proofs.ReaderLemmas.{nothing-read}
+use Rattle.cm_inline.proofs.lemmas.ReaderLemmas.{nothing-read}
 use Rattle.cm_inline.proofs.brackets.Reader.restart.Goals as goal
 
 pub returns-clause-read : goal.returns-clause-read

@@ -1,6 +1,6 @@
 use Rattle.std.proofs.Common.{◌≡◌, ap, arith}
 use Rattle.cm_inline.specs.steps.Entries.{Listed}
-use Rattle.cm_inline.proofs.UpdateLemmas.{there-in, slot-read, link-before}
+use Rattle.cm_inline.proofs.lemmas.UpdateLemmas.{there-in, slot-read, link-before}
 use Rattle.cm_inline.proofs.delimiter_list.DelimiterList.before.Goals as goal
 
 pub index-requires : goal.index-requires

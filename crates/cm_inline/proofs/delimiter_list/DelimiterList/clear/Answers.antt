@@ -1,6 +1,6 @@
 use Rattle.std.proofs.Common.{length, None, sym, ap, subst}
 use Rattle.cm_inline.specs.steps.Slots.{AreLinked, listed_below}
-use Rattle.cm_inline.proofs.UpdateLemmas.{none-linked}
+use Rattle.cm_inline.proofs.lemmas.UpdateLemmas.{none-linked}
 use Rattle.cm_inline.proofs.delimiter_list.DelimiterList.clear.Goals as goal
 
 pub invariant_of-self : goal.invariant_of-self

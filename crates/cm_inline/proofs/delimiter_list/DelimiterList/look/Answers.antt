@@ -1,6 +1,6 @@
 use Rattle.std.proofs.Common.{◌≡◌, ap, arith}
 use Rattle.cm_inline.specs.steps.Entries.{Listed}
-use Rattle.cm_inline.proofs.UpdateLemmas.{there-in, slot-read, entry-read}
+use Rattle.cm_inline.proofs.lemmas.UpdateLemmas.{there-in, slot-read, entry-read}
 use Rattle.cm_inline.proofs.delimiter_list.DelimiterList.look.Goals as goal
 
 pub index-slot-requires : goal.index-slot-requires

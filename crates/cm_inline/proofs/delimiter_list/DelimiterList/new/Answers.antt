@@ -1,8 +1,8 @@
 use Rattle.std.proofs.Common.{List, [], None, length, refl, sym, ap, subst, ◌∙◌}
 use Rattle.cm_inline.specs.steps.Slots.{AreLinked, listed_below}
 use Rattle.cm_inline.specs.declared.delimiter_list.Slot.{Slot}
-use Rattle.cm_inline.proofs.ListedLemmas.{below-zero}
-use Rattle.cm_inline.proofs.UpdateLemmas.{none-linked}
+use Rattle.cm_inline.proofs.lemmas.ListedLemmas.{below-zero}
+use Rattle.cm_inline.proofs.lemmas.UpdateLemmas.{none-linked}
 use Rattle.cm_inline.proofs.delimiter_list.DelimiterList.new.Goals as goal
 
 pub invariant_of-result : goal.invariant_of-result

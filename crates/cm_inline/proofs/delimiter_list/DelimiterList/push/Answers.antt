@@ -2,8 +2,8 @@ use Rattle.std.proofs.Common.{◌≡◌, Some, None, ◌∷◌, true, length, ar
 use Rattle.cm_inline.specs.steps.Entries.{Listed, Below}
 use Rattle.cm_inline.specs.steps.Slots.{AreLinked, listed_below}
 use Rattle.cm_inline.specs.steps.Runs.{run_of}
-use Rattle.cm_inline.proofs.ListedLemmas.{below-below}
-use Rattle.cm_inline.proofs.UpdateLemmas.{push-law, push-previous}
+use Rattle.cm_inline.proofs.lemmas.ListedLemmas.{below-below}
+use Rattle.cm_inline.proofs.lemmas.UpdateLemmas.{push-law, push-previous}
 use Rattle.cm_inline.proofs.delimiter_list.DelimiterList.push.Goals as goal
 
 pub link_after-requires : goal.link_after-requires

@@ -2,10 +2,10 @@ use Rattle.std.specs.Option.{is_some}
 use Rattle.std.proofs.lemmas.Option.{none-some}
 use Rattle.cm_inline.specs.steps.Entries.{without_place}
 use Rattle.cm_inline.specs.steps.Slots.{AreLinked, listed_below}
-use Rattle.cm_inline.proofs.ListedLemmas.{true-false}
+use Rattle.cm_inline.proofs.lemmas.ListedLemmas.{true-false}
 use Rattle.std.proofs.Common.{◌≡◌, ℕ, Option, Some, None, true, false, length, refl, ap, ◌∙◌}
 use Rattle.cm_inline.specs.steps.Entries.{Listed}
-use Rattle.cm_inline.proofs.UpdateLemmas.{there-in, remove-previous, remove-next, remove-law}
+use Rattle.cm_inline.proofs.lemmas.UpdateLemmas.{there-in, remove-previous, remove-next, remove-law}
 use Rattle.cm_inline.proofs.delimiter_list.DelimiterList.remove.Goals as goal
 
 pub unlist-slot-requires : goal.unlist-slot-requires

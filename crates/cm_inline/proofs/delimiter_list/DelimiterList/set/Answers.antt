@@ -1,6 +1,6 @@
 use Rattle.std.proofs.Common.{ap, ◌∙◌}
 use Rattle.cm_inline.specs.steps.Entries.{Listed}
-use Rattle.cm_inline.proofs.UpdateLemmas.{there-in, left-law}
+use Rattle.cm_inline.proofs.lemmas.UpdateLemmas.{there-in, left-law}
 use Rattle.cm_inline.proofs.delimiter_list.DelimiterList.set.Goals as goal
 
 pub write-requires : goal.write-requires

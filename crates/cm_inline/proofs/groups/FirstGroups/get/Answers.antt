@@ -2,7 +2,7 @@ use Rattle.std.proofs.Common.{rules, length, ap, arith, subst, ◌≡◌, ◌<�
 use Rattle.std.proofs.lemmas.List.{length-map}
 use Rattle.cm_tree.specs.LinkTargets.{IsKept}
 use Rattle.cm_inline.specs.steps.Groups.{group_in}
-use Rattle.cm_inline.proofs.PlacedLemmas.{target-at}
+use Rattle.cm_inline.proofs.lemmas.PlacedLemmas.{target-at}
 use Rattle.cm_inline.proofs.groups.FirstGroups.get.Goals as goal
 
 pub lend-requires : goal.lend-requires

@@ -1,7 +1,7 @@
 use Rattle.std.proofs.Common.{take, sym, ap, ◌∙◌}
 use Rattle.std.proofs.lemmas.List.{take-map}
 use Rattle.cm_inline.specs.steps.Groups.{group_in}
-use Rattle.cm_inline.proofs.PlacedLemmas.{targets-take}
+use Rattle.cm_inline.proofs.lemmas.PlacedLemmas.{targets-take}
 use Rattle.cm_inline.proofs.groups.FirstGroups.up_to.Goals as goal
 
 pub invariant_of-result : goal.invariant_of-result

@@ -1,6 +1,6 @@
 use Rattle.std.proofs.Common.{string_bytes, sym, ap, subst, ◌∙◌}
 use Rattle.cm_inline.specs.steps.Groups.{groups_in, AreTargets}
-use Rattle.cm_inline.proofs.PlacedLemmas.{groups-same, targets-grow, on-err, pushed-targets, pushed-groups}
+use Rattle.cm_inline.proofs.lemmas.PlacedLemmas.{groups-same, targets-grow, on-err, pushed-targets, pushed-groups}
 use Rattle.cm_inline.proofs.groups.Groups.push.Goals as goal
 
 pub invariant_of-self : goal.invariant_of-self

@@ -1,4 +1,4 @@
-use Rattle.cm_inline.proofs.MissingEndsLemmas.{known-at-end}
+use Rattle.cm_inline.proofs.lemmas.MissingEndsLemmas.{known-at-end}
 use Rattle.cm_inline.proofs.missing_ends.MissingEnds.of.Goals as goal
 
 pub returns : goal.returns

@@ -2,7 +2,7 @@ use Rattle.std.proofs.Common.{◌≡◌, suc, ◌+◌, ◌≤◌, [], drop, leng
 use Rattle.std.proofs.lemmas.List.{take_rest}
 use Rattle.cm_inline.specs.steps.Nodes.{nodes_depth}
 use Rattle.cm_inline.specs.steps.Groups.{nodes_in, nodes_of}
-use Rattle.cm_inline.proofs.GroupLemmas.{nodes-in-length, depth-from}
+use Rattle.cm_inline.proofs.lemmas.GroupLemmas.{nodes-in-length, depth-from}
 use Rattle.cm_inline.proofs.nodes.Nodes.depth_behind.Goals as goal
 
 pub overflow_add-place : goal.overflow_add-place

@@ -3,7 +3,7 @@ use Rattle.std.specs.List.{list_any}
 use Rattle.std.proofs.lemmas.List.{take_rest}
 use Rattle.cm_inline.specs.steps.Nodes.{is_closer}
 use Rattle.cm_inline.specs.steps.Groups.{nodes_of}
-use Rattle.cm_inline.proofs.GroupLemmas.{nodes-in-length, closers-from}
+use Rattle.cm_inline.proofs.lemmas.GroupLemmas.{nodes-in-length, closers-from}
 use Rattle.cm_inline.proofs.nodes.Nodes.has_closer_from.Goals as goal
 
 pub offset_bounds-deref-from : goal.offset_bounds-deref-from

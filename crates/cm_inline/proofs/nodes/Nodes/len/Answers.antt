@@ -1,5 +1,5 @@
 use Rattle.std.proofs.Common.{length, ap, arith}
-use Rattle.cm_inline.proofs.GroupLemmas.{nodes-in-length}
+use Rattle.cm_inline.proofs.lemmas.GroupLemmas.{nodes-in-length}
 use Rattle.cm_inline.proofs.nodes.Nodes.len.Goals as goal
 
 pub returns : goal.returns

@@ -4,8 +4,8 @@ use Rattle.std.proofs.lemmas.Bool.Decides.{nat_tests}
 use Rattle.cm_inline.specs.contracts.nodes.Nodes.{the_view}
 use Rattle.cm_inline.specs.steps.Nodes.{nodes_depth}
 use Rattle.cm_inline.specs.steps.Groups.{nodes_in, nodes_of}
-use Rattle.cm_inline.proofs.GroupLemmas.{depth-from}
-use Rattle.cm_inline.proofs.HeldLemmas.{held-depth}
+use Rattle.cm_inline.proofs.lemmas.GroupLemmas.{depth-from}
+use Rattle.cm_inline.proofs.lemmas.HeldLemmas.{held-depth}
 use Rattle.cm_inline.proofs.nodes.Nodes.nest_past.Goals as goal
 
 pub returns-then-len-limit : goal.returns-then-len-limit

@@ -3,7 +3,7 @@ use Rattle.std.proofs.lemmas.List.{drop_all}
 use Rattle.cm_inline.specs.declared.tokens.Token.{Token}
 use Rattle.cm_inline.specs.steps.Groups.{Held, AreHeld, Takes}
 use Rattle.std.proofs.Common.{List}
-use Rattle.cm_inline.proofs.HeldLemmas.{over, over-start, over-next, waiting-next, passes-start, passes-more, takes-run, takes-none, next-held, rest-held, Passes}
+use Rattle.cm_inline.proofs.lemmas.HeldLemmas.{over, over-start, over-next, waiting-next, passes-start, passes-more, takes-run, takes-none, next-held, rest-held, Passes}
 use Rattle.cm_inline.proofs.nodes.Nodes.pass.Goals as goal
 
 pub returns-then-self-len-clause-takes : goal.returns-then-self-len-clause-takes

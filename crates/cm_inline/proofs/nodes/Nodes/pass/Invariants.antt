@@ -1,6 +1,6 @@
 use Rattle.std.proofs.Common.{◌≡◌, ◌-◌, ◌≤◌, drop, length}
 use Rattle.cm_inline.specs.steps.Groups.{AreHeld}
-use Rattle.cm_inline.proofs.HeldLemmas.{Passes, over}
+use Rattle.cm_inline.proofs.lemmas.HeldLemmas.{Passes, over}
 use Rattle.cm_inline.proofs.nodes.Nodes.pass.Given as goal
 
 -- what is passed over so far has no run

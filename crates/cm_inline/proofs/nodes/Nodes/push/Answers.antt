@@ -1,4 +1,4 @@
-use Rattle.cm_inline.proofs.HeldLemmas.{read-held, push-nodes, same-waiting}
+use Rattle.cm_inline.proofs.lemmas.HeldLemmas.{read-held, push-nodes, same-waiting}
 use Rattle.cm_inline.proofs.nodes.Nodes.push.Goals as goal
 
 pub invariant_of-self-2 : goal.invariant_of-self-2

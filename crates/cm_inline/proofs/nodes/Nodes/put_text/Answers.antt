@@ -1,7 +1,7 @@
 use Rattle.std.proofs.Common.{length, ap, arith}
 use Rattle.cm_inline.specs.declared.tokens.Token.TheVariants as tokens
-use Rattle.cm_inline.proofs.GroupLemmas.{nodes-in-length}
-use Rattle.cm_inline.proofs.HeldLemmas.{put-held, put-nodes, same-waiting}
+use Rattle.cm_inline.proofs.lemmas.GroupLemmas.{nodes-in-length}
+use Rattle.cm_inline.proofs.lemmas.HeldLemmas.{put-held, put-nodes, same-waiting}
 use Rattle.cm_inline.proofs.nodes.Nodes.put_text.Goals as goal
 
 pub index_mut-requires : goal.index_mut-requires

@@ -1,7 +1,7 @@
 use Rattle.std.proofs.Common.{◌≤◌, ◌-◌, ◌++◌, take, drop, length, arith, rules, ap, ◌∙◌}
 use Rattle.std.proofs.lemmas.List.{take_rest}
-use Rattle.cm_inline.proofs.GroupLemmas.{nodes-in-length}
-use Rattle.cm_inline.proofs.HeldLemmas.{aside-held, aside-nodes, aside-waiting}
+use Rattle.cm_inline.proofs.lemmas.GroupLemmas.{nodes-in-length}
+use Rattle.cm_inline.proofs.lemmas.HeldLemmas.{aside-held, aside-nodes, aside-waiting}
 use Rattle.cm_inline.proofs.nodes.Nodes.set_aside.Goals as goal
 
 pub offset_bounds-deref-from : goal.offset_bounds-deref-from

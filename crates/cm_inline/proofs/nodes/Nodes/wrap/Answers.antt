@@ -3,8 +3,8 @@ use Rattle.cm_inline.specs.declared.nodes.Nodes.TheInside.{Inside}
 use Rattle.cm_inline.specs.contracts.nodes.Nodes.{the_view}
 use Rattle.cm_inline.specs.steps.Groups.{nodes_in, target_of}
 use Rattle.cm_inline.specs.steps.Nodes.{nodes_depth}
-use Rattle.cm_inline.proofs.GroupLemmas.{nodes-in-length}
-use Rattle.cm_inline.proofs.HeldLemmas.{held-depth, IsCut, none-left, cut-some, cut-none, copied, cut-held, cut-group, same-held, grouped-held, wrapped-held, wrapped-nodes, wrapped-waiting}
+use Rattle.cm_inline.proofs.lemmas.GroupLemmas.{nodes-in-length}
+use Rattle.cm_inline.proofs.lemmas.HeldLemmas.{held-depth, IsCut, none-left, cut-some, cut-none, copied, cut-held, cut-group, same-held, grouped-held, wrapped-held, wrapped-nodes, wrapped-waiting}
 use Rattle.cm_inline.proofs.nodes.Nodes.wrap.Goals.{After-push-2, in-Some+in_ok-push, in_default}
 use Rattle.cm_inline.proofs.nodes.Nodes.wrap.Goals as goal
 

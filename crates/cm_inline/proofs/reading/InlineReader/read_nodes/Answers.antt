@@ -10,11 +10,11 @@ use Rattle.cm_inline.specs.steps.Depths.{items_depth}
 use Rattle.cm_inline.specs.steps.Groups.{nodes_in}
 use Rattle.cm_inline.specs.steps.Nodes.{items_of}
 use Rattle.cm_inline.specs.steps.Reads.{kinds_by}
-use Rattle.cm_inline.proofs.DepthLemmas.{settled-depth}
-use Rattle.cm_inline.proofs.DeeperLemmas.{settled-items}
-use Rattle.cm_inline.proofs.EmphasisLemmas.{settled-holds}
-use Rattle.cm_inline.proofs.PaysLemmas.{pays-most, pays-few-in}
-use Rattle.cm_inline.proofs.WholeLemmas.{inlines-are, nat_lt-false, nests, within-limit, refused}
+use Rattle.cm_inline.proofs.lemmas.DepthLemmas.{settled-depth}
+use Rattle.cm_inline.proofs.lemmas.DeeperLemmas.{settled-items}
+use Rattle.cm_inline.proofs.lemmas.EmphasisLemmas.{settled-holds}
+use Rattle.cm_inline.proofs.lemmas.PaysLemmas.{pays-most, pays-few-in}
+use Rattle.cm_inline.proofs.lemmas.WholeLemmas.{inlines-are, nat_lt-false, nests, within-limit, refused}
 use Rattle.cm_inline.proofs.reading.InlineReader.read_nodes.Goals as goal
 
 pub pair_from-requires-clause-few : goal.pair_from-requires-clause-few

@@ -1,5 +1,5 @@
 use Rattle.std.proofs.Common.{arith}
-use Rattle.cm_inline.proofs.DepthLemmas.{one-more-depth}
+use Rattle.cm_inline.proofs.lemmas.DepthLemmas.{one-more-depth}
 use Rattle.cm_inline.proofs.spare.Spare.+inlines.Goals as goal
 
 pub keep_inlines-keep_inline-requires : goal.keep_inlines-keep_inline-requires

@@ -1,6 +1,6 @@
 use Rattle.std.proofs.Common.{ℕ, ◌==◌, refl, arith}
 use Rattle.std.proofs.lemmas.Simd.{zip2_splat}
-use Rattle.cm_text.proofs.SearchLemmas.{masked}
+use Rattle.cm_text.proofs.lemmas.SearchLemmas.{masked}
 use Rattle.cm_source.proofs.inline_refusals.NulByteKind.lanes.Goals as goal
 
 pub returns : goal.returns

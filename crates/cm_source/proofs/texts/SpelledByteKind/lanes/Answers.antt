@@ -1,6 +1,6 @@
 use Rattle.std.proofs.Common.{ℕ, ◌≤◌, length, leb, cond, bit_and, bit_or, refl, arith}
 use Rattle.std.proofs.lemmas.Simd.{zip2_splat, splat_is_map}
-use Rattle.cm_text.proofs.SearchLemmas.{joined, masked}
+use Rattle.cm_text.proofs.lemmas.SearchLemmas.{joined, masked}
 use Rattle.cm_source.specs.steps.Bytes.{is_spelled}
 use Rattle.cm_source.proofs.texts.SpelledByteKind.lanes.Goals as goal
 

@@ -1,7 +1,7 @@
 use Rattle.std.proofs.Common.{ℕ, bit_or, refl, sym, arith}
 use Rattle.std.proofs.lemmas.List.{map-id}
 use Rattle.cm_text.specs.LineText.{is_line_ending}
-use Rattle.cm_text.proofs.SearchLemmas.{hits, joined, masked}
+use Rattle.cm_text.proofs.lemmas.SearchLemmas.{hits, joined, masked}
 use Rattle.cm_text.proofs.endings.LineEndingByteKind.lanes.Goals as goal
 
 pub returns : goal.returns

@@ -1,7 +1,7 @@
 use Rattle.std.proofs.Common.{map, ap, sym, ◌∙◌}
 use Rattle.cm_text.specs.Lines.{seen_line}
 use Rattle.cm_text.specs.Feed.{Feed}
-use Rattle.cm_text.proofs.ReadyLemmas.{steps_moved, steps_refused}
+use Rattle.cm_text.proofs.lemmas.ReadyLemmas.{steps_moved, steps_refused}
 use Rattle.cm_text.proofs.feed.LineFeed.accept.Goals as goal
 
 pub returns-clause-step : goal.returns-clause-step

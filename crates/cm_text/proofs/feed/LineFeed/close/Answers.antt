@@ -1,7 +1,7 @@
 use Rattle.std.proofs.Common.{map, ap, sym, ◌∙◌}
 use Rattle.cm_text.specs.Lines.{seen_line}
 use Rattle.cm_text.specs.Feed.{Feed}
-use Rattle.cm_text.proofs.ReadyLemmas.{closes_moved, closes_refused}
+use Rattle.cm_text.proofs.lemmas.ReadyLemmas.{closes_moved, closes_refused}
 use Rattle.cm_text.proofs.feed.LineFeed.close.Goals as goal
 
 pub returns-clause-closes : goal.returns-clause-closes

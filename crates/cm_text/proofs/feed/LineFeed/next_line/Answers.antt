@@ -1,4 +1,4 @@
-use Rattle.cm_text.proofs.ReadyLemmas.{next_stands}
+use Rattle.cm_text.proofs.lemmas.ReadyLemmas.{next_stands}
 use Rattle.cm_text.proofs.feed.LineFeed.next_line.Goals as goal
 
 pub returns-clause-stands : goal.returns-clause-stands

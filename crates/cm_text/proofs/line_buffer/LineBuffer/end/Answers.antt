@@ -1,6 +1,6 @@
 use Rattle.std.proofs.Common.{Some, Err, sym, subst}
 use Rattle.cm_text.specs.Feed.{Feed, StandsAs}
-use Rattle.cm_text.proofs.FeedLemmas.{goes, close_stands, close_answers, close_fails, failed}
+use Rattle.cm_text.proofs.lemmas.FeedLemmas.{goes, close_stands, close_answers, close_fails, failed}
 use Rattle.cm_text.proofs.line_buffer.LineBuffer.end.Goals as goal
 
 pub returns-in-Err-clause-stands : goal.returns-in-Err-clause-stands

@@ -1,5 +1,5 @@
 use Rattle.std.proofs.Common.{refl, rules}
-use Rattle.cm_text.proofs.FeedLemmas.{new_goes}
+use Rattle.cm_text.proofs.lemmas.FeedLemmas.{new_goes}
 use Rattle.cm_text.proofs.line_buffer.LineBuffer.new.Goals as goal
 
 pub returns-clause-stands : goal.returns-clause-stands

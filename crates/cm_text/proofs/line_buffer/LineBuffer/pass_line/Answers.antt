@@ -1,7 +1,7 @@
 use Rattle.std.proofs.Common.{◌+◌, sym, subst}
 use Rattle.cm_text.specs.Cut.{Cut}
 use Rattle.cm_text.specs.Feed.{StandsFor}
-use Rattle.cm_text.proofs.FeedLemmas.{pass_stands}
+use Rattle.cm_text.proofs.lemmas.FeedLemmas.{pass_stands}
 use Rattle.cm_text.proofs.line_buffer.LineBuffer.pass_line.Goals as goal
 
 pub returns-clause-stands : goal.returns-clause-stands

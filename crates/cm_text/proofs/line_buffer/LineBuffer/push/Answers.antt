@@ -1,6 +1,6 @@
 use Rattle.std.proofs.Common.{◌++◌, Some, Err, sym, subst}
 use Rattle.cm_text.specs.Feed.{Feed, StandsAs}
-use Rattle.cm_text.proofs.FeedLemmas.{goes, answers, push_goes, push_fails, failed}
+use Rattle.cm_text.proofs.lemmas.FeedLemmas.{goes, answers, push_goes, push_fails, failed}
 use Rattle.cm_text.proofs.line_buffer.LineBuffer.push.Goals as goal
 
 pub returns-in-Err-clause-stands : goal.returns-in-Err-clause-stands

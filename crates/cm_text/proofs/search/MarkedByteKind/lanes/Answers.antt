@@ -1,6 +1,6 @@
 use Rattle.std.proofs.Common.{bit_or, refl, arith}
 use Rattle.cm_text.specs.Search.{is_marked}
-use Rattle.cm_text.proofs.SearchLemmas.{in-table, joined, masked, places-ok}
+use Rattle.cm_text.proofs.lemmas.SearchLemmas.{in-table, joined, masked, places-ok}
 use Rattle.cm_text.specs.declared.search.TheConstants.{MARKED, ALSO_MARKED}
 use Rattle.cm_text.proofs.search.MarkedByteKind.lanes.Goals as goal
 

@@ -1,6 +1,6 @@
 use Rattle.std.proofs.Common.{IsUtf8, subst, arith}
 use Rattle.std.proofs.lemmas.Str.{IsCharBoundary-before_ascii}
-use Rattle.cm_text.proofs.TextLineLemmas.{feed_last, spaces_within, spaces_boundary, not_last, content_is}
+use Rattle.cm_text.proofs.lemmas.TextLineLemmas.{feed_last, spaces_within, spaces_boundary, not_last, content_is}
 use Rattle.cm_text.proofs.text_lines.TextLines.content.Goals as goal
 
 pub range-requires-clause-start_le_end : goal.range-requires-clause-start_le_end

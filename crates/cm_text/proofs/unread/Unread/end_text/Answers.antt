@@ -3,7 +3,7 @@ use Rattle.std.proofs.lemmas.Bool.{eqb-true, eqb-false}
 use Rattle.std.proofs.lemmas.Result.{on_ok_weaker}
 use Rattle.cm_text.specs.Cut.{Cut}
 use Rattle.cm_text.specs.Lines.{ends_a_line}
-use Rattle.cm_text.proofs.EndedLines.{none_open, nothing_open, last_ends}
+use Rattle.cm_text.proofs.lemmas.EndedLines.{none_open, nothing_open, last_ends}
 use Rattle.cm_text.proofs.unread.Unread.end_text.Goals as goal
 
 pub returns-then-is_empty-clause-ok : goal.returns-then-is_empty-clause-ok

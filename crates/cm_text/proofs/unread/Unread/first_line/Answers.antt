@@ -1,8 +1,8 @@
 use Rattle.std.proofs.Common.{◌∙◌, ◌==◌, drop, length, ap, arith, string_bytes, take, length-drop}
 use Rattle.std.proofs.lemmas.List.Sums.{count_by-le-length}
 use Rattle.cm_text.specs.LineText.{is_line}
-use Rattle.cm_text.proofs.CutLemmas.{none_ends, slice_from_start}
-use Rattle.cm_text.proofs.UnreadLemmas.{lent}
+use Rattle.cm_text.proofs.lemmas.CutLemmas.{none_ends, slice_from_start}
+use Rattle.cm_text.proofs.lemmas.UnreadLemmas.{lent}
 use Rattle.cm_text.proofs.unread.Unread.first_line.Goals as goal
 
 pub returns-then-self-rest-clause-none : goal.returns-then-self-rest-clause-none

@@ -1,5 +1,5 @@
 use Rattle.std.proofs.Common.{◌∙◌, ℕ, List, sym, subst, string_bytes, IsCharBoundary}
-use Rattle.cm_text.proofs.UnreadLemmas.{boundary_on}
+use Rattle.cm_text.proofs.lemmas.UnreadLemmas.{boundary_on}
 use Rattle.cm_text.proofs.unread.Unread.go_on.Goals as goal
 
 pub past_line_feed-passed-requires : goal.past_line_feed-passed-requires

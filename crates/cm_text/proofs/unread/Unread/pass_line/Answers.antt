@@ -2,8 +2,8 @@ use Rattle.std.proofs.Common.{◌≡◌, ◌∙◌, ◌<◌, ◌+◌, ◌==◌, 
 use Rattle.std.proofs.lemmas.List.{get_or-drop}
 use Rattle.std.proofs.lemmas.Str.{IsCharBoundary-after_ascii}
 use Rattle.cm_text.specs.Cut.{cut_of, cut_more, begun}
-use Rattle.cm_text.proofs.CutLemmas.{none_ends}
-use Rattle.cm_text.proofs.UnreadLemmas.{passed_by, none_passed, ending_is_ascii}
+use Rattle.cm_text.proofs.lemmas.CutLemmas.{none_ends}
+use Rattle.cm_text.proofs.lemmas.UnreadLemmas.{passed_by, none_passed, ending_is_ascii}
 use Rattle.cm_text.proofs.unread.Unread.pass_line.Goals as goal
 
 pub returns-then-self-rest-clause-cut : goal.returns-then-self-rest-clause-cut

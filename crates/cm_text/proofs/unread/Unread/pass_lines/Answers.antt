@@ -1,6 +1,6 @@
 use Rattle.std.proofs.Common.{◌∙◌, ap}
 use Rattle.cm_text.specs.Cut.{cut_of, without}
-use Rattle.cm_text.proofs.TextLineLemmas.{passed_more}
+use Rattle.cm_text.proofs.lemmas.TextLineLemmas.{passed_more}
 use Rattle.cm_text.proofs.unread.Unread.pass_lines.Goals as goal
 
 pub loop-preserved : goal.loop-preserved

@@ -1,5 +1,5 @@
 use Rattle.std.proofs.Common.{string_bytes}
-use Rattle.cm_text.proofs.TextLineLemmas.{text_passed}
+use Rattle.cm_text.proofs.lemmas.TextLineLemmas.{text_passed}
 use Rattle.cm_text.proofs.unread.Unread.pass_text.Goals as goal
 
 pub returns-clause-cut : goal.returns-clause-cut

@@ -2,7 +2,7 @@ use Rattle.std.proofs.Common.{◌∙◌, List, ℕ, ap, subst, length, arith}
 use Rattle.std.proofs.lemmas.Result.{on_ok_weaker}
 use Rattle.memchr.specs.Find.{is_byte, Passes, Nowhere}
 use Rattle.cm_text.specs.Cut.{cut_of, cut_more}
-use Rattle.cm_text.proofs.TextLemmas.{nul-nowhere, text_of-length}
+use Rattle.cm_text.proofs.lemmas.TextLemmas.{nul-nowhere, text_of-length}
 use Rattle.cm_text.proofs.unread.Unread.take.Goals as goal
 
 pub returns-in-None-clause-ok : goal.returns-in-None-clause-ok

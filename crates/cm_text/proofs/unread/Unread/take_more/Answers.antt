@@ -1,7 +1,7 @@
 use Rattle.std.proofs.Common.{◌++◌}
 use Rattle.cm_text.specs.Cut.{cut_of}
-use Rattle.cm_text.proofs.CutLemmas.{on_err}
-use Rattle.cm_text.proofs.FeedLemmas.{valid_stays}
+use Rattle.cm_text.proofs.lemmas.CutLemmas.{on_err}
+use Rattle.cm_text.proofs.lemmas.FeedLemmas.{valid_stays}
 use Rattle.cm_text.proofs.unread.Unread.take_more.Goals as goal
 
 pub returns-in_err-extend_from_slice-2-clause-err : goal.returns-in_err-extend_from_slice-2-clause-err

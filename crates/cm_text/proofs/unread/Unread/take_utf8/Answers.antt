@@ -3,9 +3,9 @@ use Rattle.std.proofs.lemmas.Str.{utf8_valid_len-IsUtf8}
 use Rattle.cm_text.specs.Lines.{text_of}
 use Rattle.cm_text.specs.Cut.{Cut, cut_of, cut_more, IsFront}
 use Rattle.cm_text.specs.Feed.{cut_valid}
-use Rattle.cm_text.proofs.FeedLemmas.{valid_stays}
-use Rattle.cm_text.proofs.CutLemmas.{on_err}
-use Rattle.cm_text.proofs.Utf8Lemmas.{take_valid, sound_whole}
+use Rattle.cm_text.proofs.lemmas.FeedLemmas.{valid_stays}
+use Rattle.cm_text.proofs.lemmas.CutLemmas.{on_err}
+use Rattle.cm_text.proofs.lemmas.Utf8Lemmas.{take_valid, sound_whole}
 use Rattle.cm_text.proofs.unread.Unread.take_utf8.Goals as goal
 
 pub returns-in_err-take-in-Ok-clause-err : goal.returns-in_err-take-in-Ok-clause-err

@@ -1,5 +1,5 @@
 use Rattle.std.proofs.Common.{arith}
-use Rattle.cm_text.proofs.ViewLemmas.{rest_is_line, behind_fits}
+use Rattle.cm_text.proofs.lemmas.ViewLemmas.{rest_is_line, behind_fits}
 use Rattle.cm_text.proofs.view.View.past.Goals as goal
 
 pub invariant_of-result : goal.invariant_of-result

@@ -1,5 +1,5 @@
 use Rattle.std.proofs.Common.{arith}
-use Rattle.cm_text.proofs.ViewLemmas.{rest_is_line, rest_fits, strip_line_some, strip_line_all, few_spaces, none_left}
+use Rattle.cm_text.proofs.lemmas.ViewLemmas.{rest_is_line, rest_fits, strip_line_some, strip_line_all, few_spaces, none_left}
 use Rattle.cm_text.proofs.view.View.strip.Goals as goal
 
 pub returns-then-n-self-clause-line : goal.returns-then-n-self-clause-line

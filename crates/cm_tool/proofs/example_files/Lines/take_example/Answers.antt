@@ -1,6 +1,6 @@
 use Rattle.std.proofs.Common.{◌∙◌, ◌+◌, string_bytes}
 use Rattle.cm_text.specs.Lines.{lines_of}
-use Rattle.cm_tool.proofs.ExampleLemmas.{no_source, with_source, no_html, with_html}
+use Rattle.cm_tool.proofs.lemmas.ExampleLemmas.{no_source, with_source, no_html, with_html}
 use Rattle.cm_tool.proofs.example_files.Lines.take_example.Goals as goal
 
 pub returns-in_default-clause-unclosed : goal.returns-in_default-clause-unclosed

@@ -1,7 +1,7 @@
 use Rattle.std.proofs.Common.{◌∙◌, ap, string_bytes}
 use Rattle.std.proofs.lemmas.Result.{err_from_is_err_and}
 use Rattle.cm_tool.specs.ExampleFiles.{report_on, report_view}
-use Rattle.cm_tool.proofs.ReportingLemmas.{judged, lost_report, reported, wrote_report}
+use Rattle.cm_tool.proofs.lemmas.ReportingLemmas.{judged, lost_report, reported, wrote_report}
 use Rattle.cm_tool.proofs.example_files.reporting.report.Goals as goal
 
 pub returns-in_err-write_all : goal.returns-in_err-write_all

@@ -1,6 +1,6 @@
 use Rattle.std.proofs.lemmas.Result.{err_from_is_err_and}
-use Rattle.cm_tool.proofs.ConversionLemmas.{html_lost}
-use Rattle.cm_tool.proofs.ReadLemmas.{read_whole}
+use Rattle.cm_tool.proofs.lemmas.ConversionLemmas.{html_lost}
+use Rattle.cm_tool.proofs.lemmas.ReadLemmas.{read_whole}
 use Rattle.cm_tool.proofs.outputs.conversion.convert.Goals as goal
 
 pub returns-in_err-write : goal.returns-in_err-write

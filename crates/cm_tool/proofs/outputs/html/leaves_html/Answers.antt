@@ -1,7 +1,7 @@
 use Rattle.std.proofs.lemmas.Result.{err_from_is_err_and}
 use Rattle.cm_scan.specs.inlines.Brackets.{defined_in}
 use Rattle.cm_scan.specs.Documents.{with_inlines}
-use Rattle.cm_tool.proofs.LeafWalkLemmas.{begun_told, begun_within}
+use Rattle.cm_tool.proofs.lemmas.LeafWalkLemmas.{begun_told, begun_within}
 use Rattle.cm_tool.proofs.outputs.html.leaves_html.Goals as goal
 
 pub returns-in_err-push_all-clause-told : goal.returns-in_err-push_all-clause-told

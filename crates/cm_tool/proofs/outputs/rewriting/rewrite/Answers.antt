@@ -2,8 +2,8 @@ use Rattle.std.proofs.Common.{◌∙◌, ap, length, subst, sym}
 use Rattle.std.proofs.lemmas.Result.{err_from_is_err_and}
 use Rattle.cm_tool.specs.Rewriting.{kept_tree}
 use Rattle.cm_tool.specs.steps.PlainSources.{Spelled}
-use Rattle.cm_tool.proofs.ReadLemmas.{read_whole}
-use Rattle.cm_tool.proofs.RewritingLemmas.{was_lost, went_out}
+use Rattle.cm_tool.proofs.lemmas.ReadLemmas.{read_whole}
+use Rattle.cm_tool.proofs.lemmas.RewritingLemmas.{was_lost, went_out}
 use Rattle.cm_tool.proofs.outputs.rewriting.rewrite.Goals as goal
 
 pub returns-in_err-write_all : goal.returns-in_err-write_all

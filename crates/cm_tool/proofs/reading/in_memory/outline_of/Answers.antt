@@ -1,6 +1,6 @@
 use Rattle.std.proofs.Common.{[]}
 use Rattle.std.proofs.lemmas.Result.{err_from_is_err_and}
-use Rattle.cm_tool.proofs.SettledLemmas.{tells_whole}
+use Rattle.cm_tool.proofs.lemmas.SettledLemmas.{tells_whole}
 use Rattle.cm_tool.proofs.reading.in_memory.outline_of.Goals as goal
 
 pub returns-in_err-feed-clause-told : goal.returns-in_err-feed-clause-told

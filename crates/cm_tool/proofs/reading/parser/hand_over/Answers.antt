@@ -2,8 +2,8 @@ use Rattle.std.proofs.Common.{◌∙◌, [], ◌∷◌, ◌++◌, ap, sym, arith
 use Rattle.std.proofs.lemmas.Result.{err_from_is_err_and}
 use Rattle.cm_text.specs.Views.{seen_view}
 use Rattle.cm_block.specs.Parser.{HasTaken}
-use Rattle.cm_tool.proofs.ParserLemmas.{taken_told}
-use Rattle.cm_tool.proofs.PassedLemmas.{one_passed, hands_then}
+use Rattle.cm_tool.proofs.lemmas.ParserLemmas.{taken_told}
+use Rattle.cm_tool.proofs.lemmas.PassedLemmas.{one_passed, hands_then}
 use Rattle.cm_tool.proofs.reading.parser.hand_over.Goals as goal
 
 pub loop-feed-preserved : goal.loop-feed-preserved

@@ -1,7 +1,7 @@
 use Rattle.std.proofs.Common.{◌≡◌, ◌∙◌, ◌++◌, ◌+◌, ℕ, List, drop, ap, subst}
 use Rattle.cm_text.specs.Lines.{plain_lines_of}
 use Rattle.cm_text.specs.Feed.{Feed, StandsFor, with_ready}
-use Rattle.cm_tool.proofs.PassedLemmas.{text_within, text_passed}
+use Rattle.cm_tool.proofs.lemmas.PassedLemmas.{text_within, text_passed}
 use Rattle.cm_tool.proofs.reading.parser.hand_over_text.Goals as goal
 
 pub returns-clause-handed : goal.returns-clause-handed

@@ -3,7 +3,7 @@ use Rattle.std.specs.List.{IsSplitAt}
 use Rattle.std.proofs.lemmas.List.Elements.{All-from_get_or}
 use Rattle.std.proofs.lemmas.Result.{err_from_is_err_and}
 use Rattle.cm_text.specs.Settled.{AreBytes}
-use Rattle.cm_tool.proofs.PartLemmas.{none_pushed, part_pushed, last_pushed, part_told}
+use Rattle.cm_tool.proofs.lemmas.PartLemmas.{none_pushed, part_pushed, last_pushed, part_told}
 use Rattle.cm_tool.proofs.reading.parser.push.Goals as goal
 
 pub loop-part-init : goal.loop-part-init

@@ -1,6 +1,6 @@
 use Rattle.std.proofs.Common.{◌≡◌, ◌+◌, length, false}
 use Rattle.cm_text.specs.Feed.{count}
-use Rattle.cm_tool.proofs.PartLemmas.{PushedSoFar}
+use Rattle.cm_tool.proofs.lemmas.PartLemmas.{PushedSoFar}
 use Rattle.cm_tool.proofs.reading.parser.push.Given as goal
 
 abbrev pub invariant-loop-part : goal.invariant-loop-part

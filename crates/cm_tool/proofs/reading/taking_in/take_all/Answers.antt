@@ -1,6 +1,6 @@
 use Rattle.std.proofs.Common.{[], ◌++◌, ◌∙◌, take, arith}
 use Rattle.std.proofs.lemmas.Result.{err_from_is_err_and}
-use Rattle.cm_tool.proofs.ReadLemmas.{nothing_read, more_so_far, more_read, last_read, nothing_more, failed_so_far, fault_told}
+use Rattle.cm_tool.proofs.lemmas.ReadLemmas.{nothing_read, more_so_far, more_read, last_read, nothing_more, failed_so_far, fault_told}
 use Rattle.cm_tool.proofs.reading.taking_in.take_all.Goals as goal
 
 pub loop-n-init : goal.loop-n-init

@@ -1,6 +1,6 @@
 use Rattle.std.proofs.Common.{◌≡◌, ℕ, List, [], None}
 use Rattle.cm_text.specs.Limits.{LimitsView}
-use Rattle.cm_tool.proofs.ReadLemmas.{SoFar}
+use Rattle.cm_tool.proofs.lemmas.ReadLemmas.{SoFar}
 use Rattle.cm_tool.proofs.reading.taking_in.take_all.Given as goal
 
 abbrev pub invariant-loop-n : goal.invariant-loop-n

@@ -1,5 +1,5 @@
 use Rattle.std.proofs.Common.{string_bytes}
-use Rattle.cm_tree.proofs.EntryLemmas.{kept-grow, same-targets, on-err, told-kept, told-more, told-same}
+use Rattle.cm_tree.proofs.lemmas.EntryLemmas.{kept-grow, same-targets, on-err, told-kept, told-more, told-same}
 use Rattle.cm_tree.proofs.definitions.Definitions.add_new.Goals as goal
 
 pub invariant_of-self : goal.invariant_of-self

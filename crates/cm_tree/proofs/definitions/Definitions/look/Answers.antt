@@ -4,7 +4,7 @@ use Rattle.cm_tree.specs.Definitions.{Target, target_if_followed}
 use Rattle.cm_tree.specs.LinkTargets.{kept_in}
 use Rattle.cm_tree.specs.steps.LabelIndex.{IsLabel, IsNew}
 use Rattle.cm_tree.specs.steps.Entries.{labels_in, IsEntry}
-use Rattle.cm_tree.proofs.EntryLemmas.{read-entry, reads-label, reads-new, count}
+use Rattle.cm_tree.proofs.lemmas.EntryLemmas.{read-entry, reads-label, reads-new, count}
 use Rattle.cm_tree.proofs.definitions.Definitions.look.Goals as goal
 
 pub lend-requires : goal.lend-requires

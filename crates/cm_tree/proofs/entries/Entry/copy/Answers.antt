@@ -1,8 +1,8 @@
 use Rattle.std.proofs.Common.{◌∙◌, ap, string_bytes, arith}
 use Rattle.cm_text.specs.Rules.{Rules}
 use Rattle.cm_text.specs.Addresses.{is_followed}
-use Rattle.cm_tree.proofs.TargetLemmas.{goes-on, same-goes-on}
-use Rattle.cm_tree.proofs.EntryLemmas.{goes-on-more, made}
+use Rattle.cm_tree.proofs.lemmas.TargetLemmas.{goes-on, same-goes-on}
+use Rattle.cm_tree.proofs.lemmas.EntryLemmas.{goes-on-more, made}
 use Rattle.cm_tree.proofs.entries.Entry.copy.Goals as goal
 
 pub returns-in_err-push_str-clause-goes_on : goal.returns-in_err-push_str-clause-goes_on

@@ -1,4 +1,4 @@
-use Rattle.cm_tree.proofs.KeptLemmas.{keeps-behind}
+use Rattle.cm_tree.proofs.lemmas.KeptLemmas.{keeps-behind}
 use Rattle.cm_tree.proofs.link_target.KeptTarget.place.Goals as goal
 
 pub returns-clause-kept : goal.returns-clause-kept

@@ -1,6 +1,6 @@
 use Rattle.std.proofs.Common.{◌<◌, ap, arith, length}
 use Rattle.cm_tree.specs.RawBlocks.{Raw}
-use Rattle.cm_tree.proofs.RawLemmas.{made-length, block-there, placed-there}
+use Rattle.cm_tree.proofs.lemmas.RawLemmas.{made-length, block-there, placed-there}
 use Rattle.cm_tree.proofs.raw_blocks.RawBlocks.block_at.Goals as goal
 
 pub index-requires : goal.index-requires

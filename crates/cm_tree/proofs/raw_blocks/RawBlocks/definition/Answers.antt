@@ -1,4 +1,4 @@
-use Rattle.cm_tree.proofs.RawLemmas.{grows-more}
+use Rattle.cm_tree.proofs.lemmas.RawLemmas.{grows-more}
 use Rattle.cm_tree.proofs.raw_blocks.RawBlocks.definition.Goals as goal
 
 pub returns-in_err-second-clause-grows : goal.returns-in_err-second-clause-grows

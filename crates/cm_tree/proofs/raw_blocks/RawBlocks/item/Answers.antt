@@ -1,7 +1,7 @@
 use Rattle.std.proofs.Common.{[], ap, sym, arith, ◌∙◌}
 use Rattle.std.proofs.lemmas.List.{append-nil}
 use Rattle.cm_tree.specs.RawBlocks.{Raw, blocks_in}
-use Rattle.cm_tree.proofs.RawLemmas.{grows-same, made-length, blocks-behind, blocks-held, blocks-last}
+use Rattle.cm_tree.proofs.lemmas.RawLemmas.{grows-same, made-length, blocks-behind, blocks-held, blocks-last}
 use Rattle.cm_tree.proofs.raw_blocks.RawBlocks.item.Goals as goal
 
 pub returns-in_err-extend_from_slice-clause-grows : goal.returns-in_err-extend_from_slice-clause-grows

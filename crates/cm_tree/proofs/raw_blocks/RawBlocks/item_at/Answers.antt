@@ -1,6 +1,6 @@
 use Rattle.std.proofs.Common.{◌<◌, ap, arith, length}
 use Rattle.cm_tree.specs.RawBlocks.{Raw}
-use Rattle.cm_tree.proofs.RawLemmas.{items-length, is_item-there}
+use Rattle.cm_tree.proofs.lemmas.RawLemmas.{items-length, is_item-there}
 use Rattle.cm_tree.proofs.raw_blocks.RawBlocks.item_at.Goals as goal
 
 pub returns-clause-placed : goal.returns-clause-placed

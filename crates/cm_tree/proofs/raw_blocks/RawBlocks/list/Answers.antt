@@ -2,7 +2,7 @@ use Rattle.std.proofs.Common.{[], ap, sym, arith, ◌∙◌}
 use Rattle.std.proofs.lemmas.List.{append-nil}
 use Rattle.cm_tree.specs.RawBlocks.{Raw, items_in}
 use Rattle.cm_tree.specs.declared.tree.Block.TheVariants as trees
-use Rattle.cm_tree.proofs.RawLemmas.{grows-same, items-behind, items-held, items-last}
+use Rattle.cm_tree.proofs.lemmas.RawLemmas.{grows-same, items-behind, items-held, items-last}
 use Rattle.cm_tree.proofs.raw_blocks.RawBlocks.list.Goals as goal
 
 pub returns-in_err-extend_from_slice-clause-grows : goal.returns-in_err-extend_from_slice-clause-grows

@@ -1,4 +1,4 @@
-use Rattle.cm_tree.proofs.RawLemmas.{nothing-made}
+use Rattle.cm_tree.proofs.lemmas.RawLemmas.{nothing-made}
 use Rattle.cm_tree.proofs.raw_blocks.RawBlocks.new.Goals as goal
 
 pub returns-clause-blocks : goal.returns-clause-blocks

@@ -1,4 +1,4 @@
-use Rattle.cm_tree.proofs.RawLemmas.{grows-same}
+use Rattle.cm_tree.proofs.lemmas.RawLemmas.{grows-same}
 use Rattle.cm_tree.proofs.raw_blocks.RawBlocks.push_text.Goals as goal
 
 pub returns-in_err-from-clause-grows : goal.returns-in_err-from-clause-grows

@@ -3,7 +3,7 @@ use Rattle.std.proofs.lemmas.List.{append-nil}
 use Rattle.std.proofs.lemmas.Str.{IsUtf8-nil}
 use Rattle.cm_tree.specs.RawBlocks.{Raw}
 use Rattle.cm_tree.specs.steps.RawSteps.{items_of}
-use Rattle.cm_tree.proofs.RawLemmas.{between-behind, text-same, text-behind, text-held}
+use Rattle.cm_tree.proofs.lemmas.RawLemmas.{between-behind, text-same, text-behind, text-held}
 use Rattle.cm_tree.proofs.raw_blocks.RawBlocks.put_text.Goals as goal
 
 pub returns-in_err-push_str-clause-grows : goal.returns-in_err-push_str-clause-grows

@@ -1,6 +1,6 @@
 use Rattle.std.proofs.Common.{◌∙◌, ◌++◌, ap}
 use Rattle.cm_tree.specs.RawTrees.{all_blocks}
-use Rattle.cm_tree.proofs.RawTreeLemmas.{all_blocks-push}
+use Rattle.cm_tree.proofs.lemmas.RawTreeLemmas.{all_blocks-push}
 use Rattle.cm_tree.proofs.raw_tree.RawTree.push.Goals as goal
 
 pub returns-clause-ok : goal.returns-clause-ok

@@ -1,5 +1,5 @@
 use Rattle.std.proofs.Common.{◌++◌, ap, ◌∙◌}
-use Rattle.cm_tree.proofs.TargetLemmas.{same-goes-on, goes-on, both-behind}
+use Rattle.cm_tree.proofs.lemmas.TargetLemmas.{same-goes-on, goes-on, both-behind}
 use Rattle.cm_tree.proofs.target_places.TargetPlaces.push.Goals as goal
 
 pub returns-in_err-push_str-clause-goes_on : goal.returns-in_err-push_str-clause-goes_on

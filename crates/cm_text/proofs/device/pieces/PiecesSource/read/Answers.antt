@@ -1,7 +1,7 @@
 use Rattle.std.proofs.Common.{ap, sym, ◌∙◌, arith, length, ◌≤◌, Some, rules, ◌≡◌, ◌+◌, ◌++◌, drop, get_or, min}
 use Rattle.std.specs.List.{flat_map}
 use Rattle.cm_text.specs.Devices.{next_piece}
-use Rattle.cm_text.proofs.PiecesLemmas.{joined_next, piece_passed, bytes_given, some_given, some_left, none_left, unwrapped, piece_here, piece_later, piece_none, given_of_piece}
+use Rattle.cm_text.proofs.lemmas.PiecesLemmas.{joined_next, piece_passed, bytes_given, some_given, some_left, none_left, unwrapped, piece_here, piece_later, piece_none, given_of_piece}
 use Rattle.cm_text.proofs.device.pieces.PiecesSource.read.Goals as goal
 
 pub returns-then-self-piece-clause-bytes : goal.returns-then-self-piece-clause-bytes

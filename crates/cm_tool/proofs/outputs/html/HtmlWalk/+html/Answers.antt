@@ -5,16 +5,16 @@ use Rattle.std.proofs.lemmas.Result.{err_from_is_err_and}
 use Rattle.cm_tree.specs.Depth.{depth_of_block}
 use Rattle.cm_tree.specs.RawBlocks.{block_in, IsPlaced}
 use Rattle.cm_tree.specs.declared.raw_blocks.RawBlock.{RawBlock}
-use Rattle.cm_tree.proofs.RawWalks.{joined, quote_depth, list_depth}
+use Rattle.cm_tree.proofs.lemmas.RawWalks.{joined, quote_depth, list_depth}
 use Rattle.cm_html.specs.Html.{alone, item_html, heading_end, heading_start, html_of, inlines_html, inside, items_html, list_end, list_start, written}
 use Rattle.cm_html.specs.steps.ItemPass.{inside_from, line_feed}
-use Rattle.cm_html.proofs.ItemLemmas.{inside_added}
+use Rattle.cm_html.proofs.lemmas.ItemLemmas.{inside_added}
 use Rattle.cm_scan.specs.inlines.Brackets.{defined_in}
 use Rattle.cm_tool.specs.declared.outputs.leaf_walk.Unread.{Unread}
 use Rattle.cm_tool.specs.Leaves.{depths_in, leaf_depths}
 use Rattle.cm_tool.specs.steps.LeafWalks.{all_read, content_at, block_read_of, blocks_read_at, items_read_at, HasRead, TellsOf}
-use Rattle.cm_tool.proofs.LeafWalkLemmas.{reads_none, none_there, blocks_first, less_deep, items_first, item_less_deep, block_told, block_next, item_told, item_next}
-use Rattle.cm_tool.proofs.RawWalkLemmas.{enclosed, paragraph_depths, heading_depths, code_depths, html_depths, break_depths, definition_depths, quote_depths, list_depths, paragraph_written, heading_written, code_written, html_written, break_written, definition_written, quote_written, list_written, whole_written, nothing_inside, inlines_inside, loose_inlines_inside, whole_inside}
+use Rattle.cm_tool.proofs.lemmas.LeafWalkLemmas.{reads_none, none_there, blocks_first, less_deep, items_first, item_less_deep, block_told, block_next, item_told, item_next}
+use Rattle.cm_tool.proofs.lemmas.RawWalkLemmas.{enclosed, paragraph_depths, heading_depths, code_depths, html_depths, break_depths, definition_depths, quote_depths, list_depths, paragraph_written, heading_written, code_written, html_written, break_written, definition_written, quote_written, list_written, whole_written, nothing_inside, inlines_inside, loose_inlines_inside, whole_inside}
 use Rattle.cm_tool.proofs.outputs.html.HtmlWalk.+html.Goals as goal
 
 -- what a block of a kind has, in each of its arms

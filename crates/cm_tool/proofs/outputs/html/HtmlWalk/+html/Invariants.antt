@@ -9,7 +9,7 @@ use Rattle.cm_html.specs.steps.ItemPass.{inside_from}
 use Rattle.cm_tool.specs.Leaves.{leaf_depths}
 use Rattle.cm_tool.specs.steps.Items.{items_leaf_depths}
 use Rattle.cm_tool.specs.steps.LeafWalks.{blocks_read_at, items_read_at}
-use Rattle.cm_tool.proofs.LeafWalkLemmas.{Reads}
+use Rattle.cm_tool.proofs.lemmas.LeafWalkLemmas.{Reads}
 use Rattle.cm_tool.proofs.outputs.html.HtmlWalk.+html.Given as goal
 
 -- What stands in a quote or an item nests less deep than the quote or the list.

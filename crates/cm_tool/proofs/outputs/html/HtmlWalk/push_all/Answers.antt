@@ -1,8 +1,8 @@
 use Rattle.std.proofs.Common.{◌≡◌, ◌∙◌, ◌++◌, ap, subst}
-use Rattle.cm_tree.proofs.RawWalks.{joined}
+use Rattle.cm_tree.proofs.lemmas.RawWalks.{joined}
 use Rattle.cm_html.specs.Html.{alone, html_of, written}
 use Rattle.cm_tool.specs.steps.LeafWalks.{block_read_of, all_left}
-use Rattle.cm_tool.proofs.LeafWalkLemmas.{goes_next}
+use Rattle.cm_tool.proofs.lemmas.LeafWalkLemmas.{goes_next}
 use Rattle.cm_tool.proofs.outputs.html.HtmlWalk.push_all.Goals as goal
 
 pub loop-block-preserved : goal.loop-block-preserved

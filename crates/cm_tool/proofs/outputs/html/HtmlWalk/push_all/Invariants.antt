@@ -1,7 +1,7 @@
 use Rattle.std.proofs.Common.{◌≡◌, ◌++◌, length}
 use Rattle.cm_html.specs.Html.{html_of}
 use Rattle.cm_tool.specs.steps.LeafWalks.{all_left}
-use Rattle.cm_tool.proofs.LeafWalkLemmas.{Goes}
+use Rattle.cm_tool.proofs.lemmas.LeafWalkLemmas.{Goes}
 use Rattle.cm_tool.proofs.outputs.html.HtmlWalk.push_all.Given as goal
 
 -- what was written and what is left come to the whole

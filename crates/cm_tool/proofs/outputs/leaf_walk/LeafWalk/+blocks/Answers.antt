@@ -1,8 +1,8 @@
 use Rattle.std.proofs.Common.{◌≡◌, ◌∙◌, ◌++◌, ◌+◌, [], ◌∷◌, ap, sym, subst, arith}
 use Rattle.std.proofs.lemmas.Result.{err_from_is_err_and}
-use Rattle.cm_tree.proofs.RawWalks.{joined}
+use Rattle.cm_tree.proofs.lemmas.RawWalks.{joined}
 use Rattle.cm_tool.specs.steps.LeafWalks.{block_read_of, blocks_read_at, items_read_at, TellsOf}
-use Rattle.cm_tool.proofs.LeafWalkLemmas.{blocks_first, less_deep, items_first, item_less_deep, block_told, block_next, item_told, item_next, quote_leaves, list_leaves}
+use Rattle.cm_tool.proofs.lemmas.LeafWalkLemmas.{blocks_first, less_deep, items_first, item_less_deep, block_told, block_next, item_told, item_next, quote_leaves, list_leaves}
 use Rattle.cm_tool.proofs.outputs.leaf_walk.LeafWalk.+blocks.Goals as goal
 
 pub block-returns-in_err-blocks-in-Quote-clause-told : goal.block-returns-in_err-blocks-in-Quote-clause-told

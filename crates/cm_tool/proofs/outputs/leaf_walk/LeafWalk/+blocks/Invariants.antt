@@ -6,7 +6,7 @@ use Rattle.cm_tree.specs.RawBlocks.{block_in}
 use Rattle.cm_tool.specs.Leaves.{leaf_depths}
 use Rattle.cm_tool.specs.steps.Items.{items_leaf_depths}
 use Rattle.cm_tool.specs.steps.LeafWalks.{blocks_read_at, items_read_at}
-use Rattle.cm_tool.proofs.LeafWalkLemmas.{Reads}
+use Rattle.cm_tool.proofs.lemmas.LeafWalkLemmas.{Reads}
 use Rattle.cm_tool.proofs.outputs.leaf_walk.LeafWalk.+blocks.Given as goal
 
 -- What stands in a quote or an item nests less deep than the quote or the list.

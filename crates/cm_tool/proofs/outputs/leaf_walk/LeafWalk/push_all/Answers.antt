@@ -1,8 +1,8 @@
 use Rattle.std.proofs.Common.{◌≡◌, ◌∙◌, ◌++◌, [], ◌∷◌, ap, subst}
 use Rattle.std.proofs.lemmas.Result.{err_from_is_err_and}
-use Rattle.cm_tree.proofs.RawWalks.{joined}
+use Rattle.cm_tree.proofs.lemmas.RawWalks.{joined}
 use Rattle.cm_tool.specs.steps.LeafWalks.{block_read_of, all_left}
-use Rattle.cm_tool.proofs.LeafWalkLemmas.{goes_next, goes_told}
+use Rattle.cm_tool.proofs.lemmas.LeafWalkLemmas.{goes_next, goes_told}
 use Rattle.cm_tool.proofs.outputs.leaf_walk.LeafWalk.push_all.Goals as goal
 
 pub returns-in_err-block-clause-told : goal.returns-in_err-block-clause-told

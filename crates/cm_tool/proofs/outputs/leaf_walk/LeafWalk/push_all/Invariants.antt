@@ -1,6 +1,6 @@
 use Rattle.std.proofs.Common.{◌≡◌, ◌++◌, length}
 use Rattle.cm_tool.specs.steps.LeafWalks.{all_left}
-use Rattle.cm_tool.proofs.LeafWalkLemmas.{Goes}
+use Rattle.cm_tool.proofs.lemmas.LeafWalkLemmas.{Goes}
 use Rattle.cm_tool.proofs.outputs.leaf_walk.LeafWalk.push_all.Given as goal
 
 -- what was read and what is left come to the whole

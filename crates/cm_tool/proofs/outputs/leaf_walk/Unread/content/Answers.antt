@@ -2,8 +2,8 @@ use Rattle.std.proofs.lemmas.Result.{err_from_is_err_and}
 use Rattle.cm_scan.specs.inlines.Brackets.{defined_in}
 use Rattle.cm_scan.specs.Documents.{content_read}
 use Rattle.cm_tree.specs.RawBlocks.{raw_inlines}
-use Rattle.cm_tool.proofs.LeafLemmas.{leaf_within, leaf_refused}
-use Rattle.cm_tool.proofs.RawWalkLemmas.{source_read}
+use Rattle.cm_tool.proofs.lemmas.LeafLemmas.{leaf_within, leaf_refused}
+use Rattle.cm_tool.proofs.lemmas.RawWalkLemmas.{source_read}
 use Rattle.cm_tool.proofs.outputs.leaf_walk.Unread.content.Goals as goal
 
 pub returns-in_err-inlines-clause-deep : goal.returns-in_err-inlines-clause-deep

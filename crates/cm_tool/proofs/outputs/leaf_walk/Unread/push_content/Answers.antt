@@ -6,8 +6,8 @@ use Rattle.cm_scan.specs.Documents.{content_read}
 use Rattle.cm_tree.specs.RawBlocks.{raw_inlines}
 use Rattle.cm_inline.specs.declared.fault.InlineFault.TheVariants as inline_faults
 use Rattle.cm_inline.specs.Reading.{Refused}
-use Rattle.cm_tool.proofs.LeafLemmas.{leaf_within, leaf_refused}
-use Rattle.cm_tool.proofs.RawWalkLemmas.{source_read}
+use Rattle.cm_tool.proofs.lemmas.LeafLemmas.{leaf_within, leaf_refused}
+use Rattle.cm_tool.proofs.lemmas.RawWalkLemmas.{source_read}
 use Rattle.cm_tool.proofs.outputs.leaf_walk.Unread.push_content.Goals as goal
 
 pub returns-clause-pushed : goal.returns-clause-pushed

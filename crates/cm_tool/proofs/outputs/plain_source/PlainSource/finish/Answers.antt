@@ -1,4 +1,4 @@
-use Rattle.cm_tool.proofs.PlainSourceLemmas.{refused_for}
+use Rattle.cm_tool.proofs.lemmas.PlainSourceLemmas.{refused_for}
 use Rattle.cm_tool.proofs.outputs.plain_source.PlainSource.finish.Goals as goal
 
 pub returns-in-Some : goal.returns-in-Some

@@ -1,6 +1,6 @@
 use Rattle.std.proofs.Common.{◌∙◌, sym, subst}
 use Rattle.cm_source.specs.Speller.{Refuses}
-use Rattle.cm_tool.proofs.PlainSourceLemmas.{now_refused}
+use Rattle.cm_tool.proofs.lemmas.PlainSourceLemmas.{now_refused}
 use Rattle.cm_tool.proofs.outputs.plain_source.PlainSource.push.Goals as goal
 
 pub returns-in-Err-Unspellable : goal.returns-in-Err-Unspellable

@@ -5,8 +5,8 @@ use Rattle.cm_tree.specs.declared.tree.Block.{Block}
 use Rattle.cm_source.specs.Definitions.{without_definitions}
 use Rattle.cm_tool.specs.steps.LeafWalks.{block_read_of, all_left}
 use Rattle.cm_tool.specs.steps.PlainSources.{HasTaken}
-use Rattle.cm_tool.proofs.LeafWalkLemmas.{goes_next, goes_told}
-use Rattle.cm_tool.proofs.PlainSourceLemmas.{Takes, takes_next}
+use Rattle.cm_tool.proofs.lemmas.LeafWalkLemmas.{goes_next, goes_told}
+use Rattle.cm_tool.proofs.lemmas.PlainSourceLemmas.{Takes, takes_next}
 use Rattle.cm_tool.proofs.outputs.plain_source.PlainSourceWalk.push_all.Goals as goal
 
 pub returns-in_err-block-clause-told : goal.returns-in_err-block-clause-told

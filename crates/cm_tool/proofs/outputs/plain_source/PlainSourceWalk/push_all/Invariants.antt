@@ -4,8 +4,8 @@ use Rattle.cm_tree.specs.declared.tree.Block.{Block}
 use Rattle.cm_source.specs.Definitions.{without_definitions}
 use Rattle.cm_tool.specs.steps.LeafWalks.{all_left}
 use Rattle.cm_tool.specs.steps.PlainSources.{HasTaken}
-use Rattle.cm_tool.proofs.LeafWalkLemmas.{Goes}
-use Rattle.cm_tool.proofs.PlainSourceLemmas.{Takes}
+use Rattle.cm_tool.proofs.lemmas.LeafWalkLemmas.{Goes}
+use Rattle.cm_tool.proofs.lemmas.PlainSourceLemmas.{Takes}
 use Rattle.cm_tool.proofs.outputs.plain_source.PlainSourceWalk.push_all.Given as goal
 
 -- What was taken and what is left come to the whole.

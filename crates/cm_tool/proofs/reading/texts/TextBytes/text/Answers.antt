@@ -4,8 +4,8 @@ use Rattle.std.proofs.lemmas.Result.{err_from_is_err_and}
 use Rattle.cm_text.specs.Faults.{text_fault}
 use Rattle.cm_tool.specs.ToldFaults.{told}
 use Rattle.cm_tool.specs.steps.Texts.{TextSoFar, HasGathered}
-use Rattle.cm_tool.proofs.ParserLemmas.{no_fault}
-use Rattle.cm_tool.proofs.TextLemmas.{feed_told, feed_goes, had_none, sound_is_utf8}
+use Rattle.cm_tool.proofs.lemmas.ParserLemmas.{no_fault}
+use Rattle.cm_tool.proofs.lemmas.TextLemmas.{feed_told, feed_goes, had_none, sound_is_utf8}
 use Rattle.cm_tool.proofs.reading.texts.TextBytes.text.Goals as goal
 
 pub returns-in_err-end-clause-told : goal.returns-in_err-end-clause-told

@@ -2,10 +2,10 @@ use Rattle.std.proofs.Common.{◌++◌, ap, subst, sym}
 use Rattle.std.specs.Prelude.{option_map}
 use Rattle.std.proofs.lemmas.Result.{err_from_is_err_and}
 use Rattle.cm_text.specs.Faults.{settled_fault}
-use Rattle.cm_text.proofs.FeedLemmas.{goes}
+use Rattle.cm_text.proofs.lemmas.FeedLemmas.{goes}
 use Rattle.cm_tool.specs.ToldFaults.{told}
 use Rattle.cm_tool.specs.steps.Texts.{TextSoFar, HasGathered}
-use Rattle.cm_tool.proofs.TextLemmas.{feed_told, feed_goes, had_none}
+use Rattle.cm_tool.proofs.lemmas.TextLemmas.{feed_told, feed_goes, had_none}
 use Rattle.cm_tool.proofs.reading.texts.TextBytesTakesBytes.take.Goals as goal
 
 pub returns-in_err-push-clause-settled : goal.returns-in_err-push-clause-settled

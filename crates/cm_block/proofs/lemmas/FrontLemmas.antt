@@ -1,0 +1,121 @@
+-- Blocks that stand before all that is open play no part in what is done there.
+use Rattle.std.proofs.Common.{◌≡◌, ◌∙◌, ◌&&◌, ◌||◌, Bool, true, false, List, [], ◌∷◌, ◌++◌, length, Option, Some, None, refl, sym, ap, append_assoc, arith}
+use Rattle.std.proofs.lemmas.List.{same_from_push}
+use Rattle.cm_text.specs.Rules.{Rules}
+use Rattle.cm_text.specs.Lines.{LineView}
+use Rattle.cm_tree.specs.declared.tree.Block.{Block}
+use Rattle.cm_tree.specs.declared.tree.ListKind.{ListKind}
+use Rattle.cm_scan.specs.blocks.LineForms.{is_same_kind}
+use Rattle.cm_block.specs.Level.{OpenList, Level, with_list, closed_blocks, separated_next, block_opens, block_closes, Item, item_closes, item_opens, item_opens_in, list_opens, list_goes_on}
+use Rattle.cm_block.specs.Frames.{Container, Frame}
+use Rattle.cm_block.specs.steps.FrameSteps.{matching, quoted_by}
+use Rattle.cm_block.specs.steps.LevelSteps.{has_list_of, is_list_of}
+use Rattle.cm_block.specs.steps.FrontViews.{level_behind, frames_behind, innermost}
+use Rattle.cm_block.proofs.lemmas.FrameStartLemmas.{frame}
+
+-- What is closed before a list that opens may be closed already.
+pub items-open-again : (kind : ListKind) (level : Level) → has_list_of level kind ≡ false → item_opens (block_opens level) kind ≡ item_opens level kind
+items-open-again kind level other = ap (λ mark. opened mark) (settled level.has_block (separated_next level)) ∙ by-list level.open_list other
+  where
+    opened : Bool → Level
+    opened mark = record { blocks = closed_blocks level; open_list = Some (record { kind = kind; loose = false; items = [] }); has_block = true; ends_blank = false; separated = mark }
+
+    settled : (has mark : Bool) → mark || has && false ≡ mark
+    settled true true = refl
+    settled true false = refl
+    settled false true = refl
+    settled false false = refl
+
+    by-list : (list : Option OpenList) → is_list_of list kind ≡ false → list_opens level kind ≡ item_opens_in level list kind
+    by-list None other = refl
+    by-list (Some list) other = ap (λ same. elim same [ true ↦ list_goes_on level list | false ↦ list_opens level kind ]) (sym other)
+
+module _ (front : List Block) where
+  -- ---- one level
+
+  abbrev with_blocks : Level → List Block → Level
+  with_blocks level blocks = record { blocks = blocks; open_list = level.open_list; has_block = level.has_block; ends_blank = level.ends_blank; separated = level.separated }
+
+  pub closed-behind : (blocks : List Block) (list : Option OpenList) → with_list (front ++ blocks) list ≡ front ++ with_list blocks list
+  closed-behind blocks None = refl
+  closed-behind blocks (Some list) = append_assoc front blocks _
+
+  pub opens-behind : (level : Level) → block_opens (level_behind front level) ≡ level_behind front (block_opens level)
+  opens-behind level = ap (with_blocks (block_opens level)) (closed-behind level.blocks level.open_list)
+
+  pub closes-behind : (block : Block) (level : Level) → block_closes (level_behind front level) block ≡ level_behind front (block_closes level block)
+  closes-behind block level = ap (with_blocks (block_closes level block)) (append_assoc front level.blocks (block ∷ []))
+
+  list-opens-behind : (kind : ListKind) (level : Level) → list_opens (level_behind front level) kind ≡ level_behind front (list_opens level kind)
+  list-opens-behind kind level = ap (with_blocks (list_opens level kind)) (closed-behind level.blocks level.open_list)
+
+  item-opens-in : (kind : ListKind) (level : Level) (list : Option OpenList) → item_opens_in (level_behind front level) list kind ≡ level_behind front (item_opens_in level list kind)
+  item-opens-in kind level None = list-opens-behind kind level
+  item-opens-in kind level (Some list) = by-kind (is_same_kind list.kind kind)
+    where
+      by-kind : (same : Bool) → elim same [ true ↦ list_goes_on (level_behind front level) list | false ↦ list_opens (level_behind front level) kind ]
+          ≡ level_behind front (elim same [ true ↦ list_goes_on level list | false ↦ list_opens level kind ])
+      by-kind true = refl
+      by-kind false = list-opens-behind kind level
+
+  pub item-opens-behind : (kind : ListKind) (level : Level) → item_opens (level_behind front level) kind ≡ level_behind front (item_opens level kind)
+  item-opens-behind kind level = item-opens-in kind level level.open_list
+
+  -- ---- the innermost level
+
+  pub inner-does : (does : Level → Level) → ((level : Level) → does (level_behind front level) ≡ level_behind front (does level)) → (frames : List Frame) (level : Level)
+      → innermost front frames (does level) ≡ does (innermost front frames level)
+  inner-does does same [] level = sym (same level)
+  inner-does does same (f ∷ fs) level = refl
+
+  pub inner-closes : (block : Block) (frames : List Frame) (level : Level) → innermost front frames (block_closes level block) ≡ block_closes (innermost front frames level) block
+  inner-closes block frames level = inner-does (λ l. block_closes l block) (closes-behind block) frames level
+
+  pub inner-item-closes : (item : Item) (frames : List Frame) (level : Level) → innermost front frames (item_closes level item) ≡ item_closes (innermost front frames level) item
+  inner-item-closes item [] level = refl
+  inner-item-closes item (f ∷ fs) level = refl
+
+  pub inner-list : (frames : List Frame) (level : Level) → (innermost front frames level).open_list ≡ level.open_list
+  inner-list [] level = refl
+  inner-list (f ∷ fs) level = refl
+
+  -- a container is opened
+  pub frames-push : (frames : List Frame) (level : Level) (container : Container)
+      → frames_behind front (frames ++ frame level container ∷ []) ≡ frames_behind front frames ++ frame (innermost front frames level) container ∷ []
+  frames-push [] level container = refl
+  frames-push (f ∷ fs) level container = refl
+
+  pub inner-pushed : (frames : List Frame) (f : Frame) (level : Level) → innermost front (frames ++ f ∷ []) level ≡ level
+  inner-pushed [] f level = refl
+  inner-pushed (g ∷ gs) f level = refl
+
+  -- a container is closed
+  pub last-taken : (frames outer : List Frame) (f last : Frame) → frames_behind front (frames ++ f ∷ []) ≡ outer ++ last ∷ []
+      → (frames_behind front frames ≡ outer) × ((innermost front frames f.level ≡ last.level) × (f.container ≡ last.container))
+  last-taken [] outer f last all =
+      let same = same_from_push [] outer (frame (level_behind front f.level) f.container) last all in
+      (same.0, (ap (λ (x : Frame). x.level) same.1, ap (λ (x : Frame). x.container) same.1))
+  last-taken (g ∷ gs) outer f last all =
+      let same = same_from_push (frames_behind front (g ∷ gs)) outer f last all in
+      (same.0, (ap (λ (x : Frame). x.level) same.1, ap (λ (x : Frame). x.container) same.1))
+
+  -- no container is open
+  pub none-inside : (frames : List Frame) (level : Level) → frames_behind front frames ≡ [] → innermost front frames level ≡ level_behind front level
+  none-inside [] level none = refl
+  none-inside (f ∷ fs) level none = absurd (omega (arith, ap length none))
+
+  -- ---- what reads the containers alone
+
+  pub matching-behind : (rules : Rules) (bare open_text : Bool) (frames : List Frame) (line : LineView) → matching rules bare open_text (frames_behind front frames) line ≡ matching rules bare open_text frames line
+  unfolding matching
+  matching-behind rules bare open_text [] line = refl
+  matching-behind rules bare open_text (f ∷ fs) line = refl
+
+  pub quoted-behind : (quoted : Bool) (frames : List Frame) → quoted_by quoted (frames_behind front frames) ≡ quoted_by quoted frames
+  unfolding quoted_by
+  quoted-behind quoted [] = refl
+  quoted-behind quoted (f ∷ fs) = refl
+
+  pub length-behind : (frames : List Frame) → length (frames_behind front frames) ≡ length frames
+  length-behind [] = refl
+  length-behind (f ∷ fs) = refl

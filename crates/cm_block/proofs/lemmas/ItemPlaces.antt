@@ -1,0 +1,51 @@
+-- What the spaces in front of the rest of a line tell of an open item.
+use Rattle.std.specs.Prelude.{nat_le, ◌||◌}
+use Rattle.std.proofs.lemmas.Bool.Decides.{nat_tests}
+use Rattle.std.proofs.Common.{◌≡◌, ℕ, ◌+◌, ◌-◌, ◌<◌, ◌≤◌, Bool, true, false, not, List, [], ◌∷◌, ◌++◌, replicate, refl, sym, ◌∙◌, ap, arith}
+use Rattle.cm_text.specs.Lines.{LineView}
+use Rattle.cm_text.specs.Indentation.{indent_of, strip_from, strip_columns}
+use Rattle.cm_text.proofs.lemmas.ViewLemmas.{indent_spaces, strip_all}
+use Rattle.cm_scan.specs.Words.{is_blank_text, is_space_or_tab}
+use Rattle.cm_scan.specs.blocks.Lines.{is_blank}
+use Rattle.cm_block.specs.steps.PlaceViews.{begins_plain}
+use Rattle.cm_block.proofs.lemmas.PlaceLemmas.{blank_spaces}
+
+module _ (column spaces from : ℕ) (rest : List ℕ) (lazy : Bool) where
+  abbrev pub line : LineView
+  line = record { column = from; text = replicate spaces 32 ++ rest; lazy = lazy }
+
+  -- the spaces reach its column
+  pub spaces_reach : column ≤ spaces → (nat_le column (indent_of line) || is_blank line) ≡ true
+  spaces_reach few =
+      let e = indent_spaces spaces from rest in
+      let h : nat_le column (indent_of line) ≡ true = grind (arith, nat_tests, e, few) in
+      grind (arith, h)
+
+  -- nothing stands behind them
+  pub nothing_behind : rest ≡ [] → (nat_le column (indent_of line) || is_blank line) ≡ true
+  nothing_behind none =
+      let blank : is_blank line ≡ true = blank_spaces spaces rest ∙ ap is_blank_text none in
+      grind (arith, blank)
+
+  pub all_taken : rest ≡ [] → spaces ≤ column → strip_columns spaces line ≡ strip_columns column line
+  all_taken none few =
+      ap (λ (left : ℕ × List ℕ). record { column = left.0; text = left.1; lazy = lazy }) (
+      strip_all spaces spaces from rest (omega arith)
+      ∙ ap (strip_from (spaces - spaces) (from + spaces)) none
+      ∙ sym (strip_all spaces column from rest few ∙ ap (strip_from (column - spaces) (from + spaces)) none)
+      )
+
+  -- something else stands behind them, and they don't reach it
+  pub plain_behind : begins_plain rest ≡ true → spaces < column → (nat_le column (indent_of line) || is_blank line) ≡ false
+  plain_behind plain near =
+      let no_more = go rest refl in
+      let e = indent_spaces spaces from rest in
+      let h : nat_le column (indent_of line) ≡ false = grind (arith, nat_tests, e, no_more.0, near) in
+      let blank : is_blank line ≡ false = blank_spaces spaces rest ∙ no_more.1 in
+      grind (arith, h, blank)
+    where
+      go : (text : List ℕ) → rest ≡ text → (indent_of (record { column = from + spaces; text = rest; lazy = lazy }) ≡ 0) × (is_blank_text rest ≡ false)
+      go [] is = absurd (cc (ap begins_plain is, plain))
+      go (b ∷ bs) is =
+          let h : not (is_space_or_tab b) ≡ true = sym (ap begins_plain is) ∙ plain in
+          rw is (grind (arith, h), grind (arith, h))

@@ -1,0 +1,157 @@
+-- The open leaf as the code has it: what one more line does to it.
+use Rattle.std.proofs.Common.{◌≡◌, ℕ, zero, suc, ◌+◌, ◌<◌, ◌≤◌, Bool, true, false, List, [], ◌∷◌, ◌++◌, replicate, Option, Some, None, refl, sym, ap, ap₂, ◌∙◌, arith}
+use Rattle.std.specs.Prelude.{nat_le, ◌&&◌}
+use Rattle.std.specs.Option.{is_some}
+use Rattle.std.proofs.lemmas.List.{append_assoc}
+use Rattle.std.proofs.lemmas.Bool.Decides.{nat_tests}
+use Rattle.cm_text.specs.Rules.{Rules}
+use Rattle.cm_text.specs.Lines.{LineView}
+use Rattle.cm_text.specs.Indentation.{indent_of, strip_columns}
+use Rattle.cm_scan.specs.Words.{given, is_at_word, holds_word}
+use Rattle.cm_scan.specs.blocks.Lines.{is_blank, with_ending}
+use Rattle.cm_scan.specs.blocks.HtmlBlocks.{HtmlKind, RawText, Comment, Instruction, Declaration, CharacterData, BlockTag, AnyTag, is_html_end, ends_at_blank_line}
+use Rattle.cm_scan.specs.blocks.LineForms.{Fence}
+use Rattle.cm_scan.specs.blocks.Starts.{IndentedCode, OpeningFence, HtmlStart}
+use Rattle.cm_scan.specs.blocks.Parts.{html, info_of}
+use Rattle.cm_scan.specs.blocks.Blocks.{line_feeds, NextLine, next_line, closes_fence, code_line}
+use Rattle.cm_block.proofs.lemmas.FeedLemmas.{feeds_append, feeds_ended}
+use Rattle.cm_block.specs.declared.leaf_kind.LeafKind.{LeafKind}
+use Rattle.cm_block.specs.declared.leaf_kind.LeafKind.TheVariants as leaf
+use Rattle.cm_block.specs.OpenLeaf.{no_leaf, open_text, open_code, open_fence, open_html, closed_leaves, LeafLine, stays_open, is_last, begins_leaf, begin_of_start, line_of_text, line_of_code, line_of_fence, line_of_html, line_of_leaf}
+use Rattle.cm_block.specs.LeafViews.{ended, code_of, leaf_with}
+use Rattle.cm_block.specs.steps.LeafSteps.{leaves_with}
+
+-- spaces in front of a line don't matter to the end of an HTML block
+
+end-space : (kind : HtmlKind) (text : List ℕ) → is_html_end kind (32 ∷ text) ≡ is_html_end kind text
+unfolding is_html_end holds_word is_at_word
+end-space RawText text = refl
+end-space Comment text = refl
+end-space Instruction text = refl
+end-space Declaration text = refl
+end-space CharacterData text = refl
+end-space BlockTag text = refl
+end-space AnyTag text = refl
+
+end-spaces : (kind : HtmlKind) (n : ℕ) (text : List ℕ) → is_html_end kind (replicate n 32 ++ text) ≡ is_html_end kind text
+end-spaces kind zero text = refl
+end-spaces kind (suc n) text = end-space kind (replicate n 32 ++ text) ∙ end-spaces kind n text
+
+some-given : (there : Bool) (end : ℕ) → is_some (given there end) ≡ there
+some-given true end = refl
+some-given false end = refl
+
+pub html_ends : (kind : HtmlKind) (n : ℕ) (text : List ℕ) (read : Option ℕ) (end : ℕ) → read ≡ given (is_html_end kind text) end
+    → is_some read ≡ is_html_end kind (replicate n 32 ++ text)
+html_ends kind n text read end e = ap is_some e ∙ some-given (is_html_end kind text) end ∙ sym (end-spaces kind n text)
+
+-- by which kind it is open
+
+pub is_nothing : (kind : LeafKind) (text : List ℕ) → leaf_with kind text ≡ no_leaf → kind ≡ leaf.Nothing
+is_nothing leaf.Nothing text h = refl
+is_nothing leaf.Run text h = absurd (cc (h))
+is_nothing (leaf.Code blank_lines) text h = absurd (cc (h))
+is_nothing (leaf.Fence kind info columns) text h = absurd (cc (h))
+is_nothing (leaf.Html kind) text h = absurd (cc (h))
+
+-- closing
+
+pub closes : (kind : LeafKind) (text : List ℕ) → leaves_with None false kind text ≡ closed_leaves (leaf_with kind text)
+unfolding closed_leaves
+closes leaf.Nothing text = refl
+closes leaf.Run text = refl
+closes (leaf.Code blank_lines) text = refl
+closes (leaf.Fence kind info columns) text = refl
+closes (leaf.Html kind) text = refl
+
+-- a line behind indented code
+
+module _ (rules : Rules) where
+  line-of-code : (text blanks : List ℕ) (line : LineView) (blank indented : Bool) → is_blank line ≡ blank → nat_le 4 (indent_of line) ≡ indented
+      → line_of_code (ended text) (suc (line_feeds text)) blanks (line_feeds blanks) line blank indented ≡ line_of_leaf rules (code_of text blanks) line
+  unfolding line_of_leaf
+  line-of-code text blanks line blank indented b i =
+      sym (λ k. line_of_code (ended text) (suc (line_feeds text)) blanks (line_feeds blanks) line (b k) (i k))
+
+  pub waits : (text blanks after : List ℕ) (line : LineView) → is_blank line ≡ true → after ≡ blanks ++ with_ending (strip_columns 4 line) → line_feeds after ≡ suc (line_feeds blanks)
+      → given true (stays_open (code_of text after)) ≡ line_of_leaf rules (code_of text blanks) line
+  waits text blanks after line blank e feeds =
+      let same : code_of text after ≡ open_code (ended text) (suc (line_feeds text)) (blanks ++ with_ending (strip_columns 4 line)) (suc (line_feeds blanks)) =
+      ap₂ (open_code (ended text) (suc (line_feeds text))) e feeds in
+      ap (λ x. Some (stays_open x)) same ∙ line-of-code text blanks line true (nat_le 4 (indent_of line)) blank refl
+
+  pub no_code : (text blanks : List ℕ) (line : LineView) → is_blank line ≡ false → indent_of line < 4
+      → given false (stays_open (code_of text blanks)) ≡ line_of_leaf rules (code_of text blanks) line
+  no_code text blanks line blank near =
+      let far : nat_le 4 (indent_of line) ≡ false = grind (arith, nat_tests, near) in
+      line-of-code text blanks line false false blank far
+
+  pub goes_on : (text blanks after : List ℕ) (line : LineView) → is_blank line ≡ false → 4 ≤ indent_of line
+      → after ≡ ((text ++ 10 ∷ []) ++ blanks) ++ (strip_columns 4 line).text → line_feeds after ≡ line_feeds ((text ++ 10 ∷ []) ++ blanks)
+      → given true (stays_open (code_of after [])) ≡ line_of_leaf rules (code_of text blanks) line
+  unfolding line_feeds
+  goes_on text blanks after line blank far e feeds =
+      let indented : nat_le 4 (indent_of line) ≡ true = grind (arith, nat_tests, far) in
+      let ends : ended after ≡ ended text ++ blanks ++ with_ending (strip_columns 4 line) = ap ended e ∙ append_assoc ((text ++ 10 ∷ []) ++ blanks) (strip_columns 4 line).text (10 ∷ []) in
+      let lines : suc (line_feeds after) ≡ suc (line_feeds text) + line_feeds blanks + 1 = omega (arith, feeds, feeds_append (text ++ 10 ∷ []) blanks, feeds_ended text) in
+      ap₂ (λ t n. Some (stays_open (open_code t n [] 0))) ends lines ∙ line-of-code text blanks line false true blank indented
+
+-- a line behind each other kind of leaf
+
+module _ (rules : Rules) where
+  pub no_line : (line : LineView) → None ≡ line_of_leaf rules no_leaf line
+  unfolding line_of_leaf
+  no_line line = refl
+
+  pub text_line : (source : List ℕ) (line : LineView) (next : NextLine) → next ≡ next_line rules source line → line_of_text source line next ≡ line_of_leaf rules (open_text source) line
+  unfolding line_of_leaf
+  text_line source line next e = ap (line_of_text source line) e
+
+  pub fence_line : (fence : Fence) (columns : ℕ) (text : List ℕ) (lines : ℕ) (line : LineView) (closes : Bool) → closes ≡ closes_fence fence line
+      → Some (line_of_fence fence columns text lines line closes) ≡ line_of_leaf rules (open_fence fence columns text lines) line
+  unfolding line_of_leaf
+  fence_line fence columns text lines line closes e = ap (λ b. Some (line_of_fence fence columns text lines line b)) e
+
+  pub html_out : (kind : HtmlKind) (text : List ℕ) (lines : ℕ) (line : LineView) → (ends_at_blank_line kind && is_blank line) ≡ true → None ≡ line_of_leaf rules (open_html kind text lines) line
+  unfolding line_of_leaf
+  html_out kind text lines line e =
+      sym (ap (λ b. elim b as (λ _. Option LeafLine) [ true ↦ None | false ↦ Some (line_of_html kind text lines line (is_html_end kind line.text)) ]) e)
+
+  pub html_line : (kind : HtmlKind) (text : List ℕ) (lines : ℕ) (line : LineView) (ends : Bool) → (ends_at_blank_line kind && is_blank line) ≡ false → ends ≡ is_html_end kind line.text
+      → Some (line_of_html kind text lines line ends) ≡ line_of_leaf rules (open_html kind text lines) line
+  unfolding line_of_leaf
+  html_line kind text lines line ends e k =
+      ap (λ b. Some (line_of_html kind text lines line b)) k
+      ∙ sym (ap (λ b. elim b as (λ _. Option LeafLine) [ true ↦ None | false ↦ Some (line_of_html kind text lines line (is_html_end kind line.text)) ]) e)
+
+-- lines that line feeds part, and one more
+pub one_more : (text after line : List ℕ) → after ≡ text ++ 10 ∷ line → ended after ≡ ended text ++ (line ++ 10 ∷ [])
+one_more text after line e = ap ended e ∙ append_assoc text (10 ∷ line) (10 ∷ []) ∙ sym (append_assoc text (10 ∷ []) (line ++ 10 ∷ []))
+
+-- first lines
+
+pub code_begins : (rules : Rules) (text blanks : List ℕ) (line : LineView) → text ≡ (strip_columns 4 line).text → line_feeds text ≡ 0 → blanks ≡ []
+    → begins_leaf (stays_open (code_of text blanks)) ≡ begin_of_start rules IndentedCode line
+unfolding line_feeds
+code_begins rules text blanks line e feeds none =
+    let lines : suc (line_feeds text) ≡ 1 = ap suc feeds in
+    ap₂ (λ t n. begins_leaf (stays_open (open_code t n blanks (line_feeds blanks)))) (ap ended e) lines
+    ∙ ap (λ b. begins_leaf (stays_open (open_code (code_line line) 1 b (line_feeds b)))) none
+
+pub html_begins : (rules : Rules) (kind : HtmlKind) (text : List ℕ) (line : LineView) → text ≡ line.text → line_feeds text ≡ 0 → false ≡ is_html_end kind line.text
+    → begins_leaf (stays_open (open_html kind (ended text) (suc (line_feeds text)))) ≡ begin_of_start rules (HtmlStart kind) line
+html_begins rules kind text line e feeds ends =
+    ap₂ (λ t n. begins_leaf (stays_open (open_html kind t n))) (ap ended e) (ap suc feeds) ∙ ap (λ b. begins_leaf (line_of_html kind [] 0 line b)) ends
+
+pub html_whole : (rules : Rules) (kind : HtmlKind) (text : List ℕ) (line : LineView) → text ≡ line.text → line_feeds text ≡ 0 → true ≡ is_html_end kind line.text
+    → begins_leaf (is_last ((html (ended text), suc (line_feeds text)) ∷ [])) ≡ begin_of_start rules (HtmlStart kind) line
+html_whole rules kind text line e feeds ends =
+    ap₂ (λ t n. begins_leaf (is_last ((html t, n) ∷ []))) (ap ended e) (ap suc feeds) ∙ ap (λ b. begins_leaf (line_of_html kind [] 0 line b)) ends
+
+pub fence_begins : (rules : Rules) (marker count : ℕ) (info source : List ℕ) (columns : ℕ) (text : List ℕ) (line : LineView) → info ≡ info_of rules source → columns ≡ indent_of line → text ≡ []
+    → begins_leaf (stays_open (open_fence (record { marker = marker; count = count; info = info }) columns text (suc (line_feeds text))))
+    ≡ begin_of_start rules (OpeningFence (record { marker = marker; count = count; info = source })) line
+unfolding line_feeds
+fence_begins rules marker count info source columns text line e k none =
+    ap₂ (λ i n. begins_leaf (stays_open (open_fence (record { marker = marker; count = count; info = i }) n text (suc (line_feeds text))))) e k
+    ∙ ap (λ t. begins_leaf (stays_open (open_fence (record { marker = marker; count = count; info = info_of rules source }) (indent_of line) t (suc (line_feeds t))))) none

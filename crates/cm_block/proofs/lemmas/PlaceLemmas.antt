@@ -1,0 +1,237 @@
+-- Places of lines in containers.
+use Rattle.std.specs.Prelude.{min, nat_le, ◌-◌, ◌==◌, ◌||◌}
+use Rattle.std.proofs.lemmas.Bool.{and_parts, eqb-true}
+use Rattle.std.proofs.lemmas.List.{append_assoc, replicate-append-replicate, length-append, length-replicate}
+use Rattle.std.proofs.lemmas.Bool.Decides.{nat_tests}
+use Rattle.std.proofs.Common.{◌≡◌, ◌≢◌, ℕ, zero, suc, ◌+◌, ◌*◌, ◌^◌, ◌<◌, ◌≤◌, Bool, true, false, not, ◌&&◌, List, [], ◌∷◌, ◌++◌, length, replicate, drop, None, refl, sym, ◌∙◌, ap, ap₂, arith}
+use Rattle.cm_text.specs.Rules.{Rules}
+use Rattle.cm_text.specs.Lines.{LineView}
+use Rattle.cm_text.specs.LineText.{is_line, tabs}
+use Rattle.cm_scan.specs.Words.{is_blank_text, run_length}
+use Rattle.cm_scan.specs.blocks.Lines.{is_blank, content_of, past, as_lazy}
+use Rattle.cm_scan.specs.blocks.Starts.{Start, IndentedCode, QuoteMarker, AtxHeading, OpeningFence, HtmlStart, BreakLine, ItemStart, TextLine, start_of, Place, Stays, StaysIfOpen, Leaves, may_be_lazy, place_if_lazy, behind_quote_marker, quote_place, place_in_quote, behind_marker, content_offset, content_column, first_content, place_in_item}
+use Rattle.cm_scan.specs.blocks.LineForms.{ItemMarker}
+use Rattle.cm_scan.specs.laws.PartLaws.{goes_inward}
+use Rattle.cm_text.specs.Indentation.{indent_of, strip_columns}
+use Rattle.cm_text.specs.Views.{seen_view}
+use Rattle.cm_text.specs.declared.view.View.{View}
+use Rattle.cm_text.proofs.lemmas.StripLemmas.{strip_takes_columns}
+use Rattle.cm_block.specs.steps.PlaceViews.{begins_quote}
+use Rattle.cm_block.proofs.lemmas.StartLemmas.{content_left}
+
+pub blank_spaces : (n : ℕ) (text : List ℕ) → is_blank_text (replicate n 32 ++ text) ≡ is_blank_text text
+blank_spaces zero text = refl
+blank_spaces (suc n) text = let h : is_blank_text (replicate n 32 ++ text) ≡ is_blank_text text = blank_spaces n text in grind (arith, h)
+
+module _ (rules : Rules) where
+  pub lazy_blank : (line : LineView) → is_blank line ≡ true → Leaves ≡ place_if_lazy rules line
+  unfolding place_if_lazy
+  lazy_blank line blank = grind (arith, blank)
+
+  pub lazy_other : (line : LineView) (start : Start) → is_blank line ≡ false → start ≡ start_of rules line → may_be_lazy start ≡ false → Leaves ≡ place_if_lazy rules line
+  unfolding place_if_lazy
+  lazy_other line start some is other =
+      let e : may_be_lazy (start_of rules line) ≡ false = rw is at other in
+      grind (arith, some, e)
+
+  pub lazy_stays : (line : LineView) (start : Start) → is_blank line ≡ false → start ≡ start_of rules line → may_be_lazy start ≡ true → StaysIfOpen (as_lazy line) ≡ place_if_lazy rules line
+  unfolding place_if_lazy
+  lazy_stays line start some is may =
+      let e : may_be_lazy (start_of rules line) ≡ true = rw is at may in
+      grind (arith, some, e)
+
+  -- a lazy continuation line goes inward only where a paragraph is left open
+  pub lazy_closed : (line : LineView) → None ≡ goes_inward (place_if_lazy rules line) false
+  unfolding place_if_lazy
+  lazy_closed line = go (not (is_blank line) && may_be_lazy (start_of rules line))
+    where
+      go : (b : Bool) → None ≡ goes_inward (elim b as (λ _. Place) [ true ↦ StaysIfOpen (as_lazy line) | false ↦ Leaves ]) false
+      go true = refl
+      go false = refl
+
+-- places in a quote
+
+module _ (rules : Rules) where
+  pub in_quote_as : (line : LineView) → start_of rules line ≡ QuoteMarker → place_in_quote rules line ≡ Stays (behind_quote_marker line)
+  unfolding place_in_quote
+  in_quote_as line e = ap (λ start. quote_place rules start line) e
+
+  pub in_quote_if_lazy : (line : LineView) → begins_quote (start_of rules line) ≡ false → place_in_quote rules line ≡ place_if_lazy rules line
+  unfolding place_in_quote
+  in_quote_if_lazy line e = go (start_of rules line) e
+    where
+      go : (start : Start) → begins_quote start ≡ false → quote_place rules start line ≡ place_if_lazy rules line
+      go IndentedCode e = refl
+      go QuoteMarker e = absurd (cc e)
+      go (AtxHeading h) e = refl
+      go (OpeningFence f) e = refl
+      go (HtmlStart k) e = refl
+      go BreakLine e = refl
+      go (ItemStart m) e = refl
+      go TextLine e = refl
+
+-- places in an item
+
+module _ (rules : Rules) (column : ℕ) (bare : Bool) (line : LineView) where
+  pub in_item_lazy : line.lazy ≡ true → place_in_item rules column bare line ≡ place_if_lazy rules line
+  unfolding place_in_item
+  in_item_lazy e = grind (arith, e)
+
+  pub in_item_blank : line.lazy ≡ false → is_blank line ≡ true → bare ≡ false → place_in_item rules column bare line ≡ Stays (strip_columns column line)
+  unfolding place_in_item
+  in_item_blank e b n = grind (arith, e, b, n)
+
+  pub in_item_bare : line.lazy ≡ false → is_blank line ≡ true → bare ≡ true → place_in_item rules column bare line ≡ Leaves
+  unfolding place_in_item
+  in_item_bare e b n = grind (arith, e, b, n)
+
+  pub in_item_near : line.lazy ≡ false → is_blank line ≡ false → indent_of line < column → place_in_item rules column bare line ≡ place_if_lazy rules line
+  unfolding place_in_item
+  in_item_near e b n = let h : nat_le column (indent_of line) ≡ false = grind (arith, n) in grind (arith, e, b, h)
+
+  pub in_item_far : line.lazy ≡ false → is_blank line ≡ false → column ≤ indent_of line → place_in_item rules column bare line ≡ Stays (strip_columns column line)
+  unfolding place_in_item
+  in_item_far e b n = let h : nat_le column (indent_of line) ≡ true = grind (arith, n) in grind (arith, e, b, h)
+
+  pub in_item_leaves : line.lazy ≡ false → (bare && is_blank line) ≡ true → place_in_item rules column bare line ≡ Leaves
+  in_item_leaves e both = go bare (is_blank line) refl refl both
+    where
+      go : (b k : Bool) → bare ≡ b → is_blank line ≡ k → (b && k) ≡ true → place_in_item rules column bare line ≡ Leaves
+      go true true is blank both = in_item_bare e blank is
+      go true false is blank both = absurd (cc both)
+      go false k is blank both = absurd (cc both)
+
+  -- a blank line, which ends it, is no lazy continuation line either
+  pub in_item_ends : line.lazy ≡ false → (bare && is_blank line) ≡ true → place_in_item rules column bare line ≡ place_if_lazy rules line
+  in_item_ends e both = in_item_leaves e both ∙ lazy_blank rules line (and_parts bare (is_blank line) both).1
+
+  -- there is more of it than its marker, or the line isn't blank
+  pub in_item_with_more : line.lazy ≡ false → (bare && is_blank line) ≡ false → place_in_item rules column bare line ≡ place_in_item rules column false line
+  unfolding place_in_item
+  in_item_with_more e more = go bare (is_blank line) refl refl more
+    where
+      go : (b k : Bool) → bare ≡ b → is_blank line ≡ k → (b && k) ≡ false → place_in_item rules column bare line ≡ place_in_item rules column false line
+      go true true is blank more = absurd (cc more)
+      go true false is blank more = grind (arith, e, is, blank)
+      go false k is blank more = grind (arith, is)
+
+  pub in_item_stays : line.lazy ≡ false → (bare && is_blank line) ≡ false → (nat_le column (indent_of line) || is_blank line) ≡ true
+      → place_in_item rules column bare line ≡ Stays (strip_columns column line)
+  in_item_stays e more either = go bare (is_blank line) (nat_le column (indent_of line)) refl refl refl more either
+    where
+      go : (b k r : Bool) → bare ≡ b → is_blank line ≡ k → nat_le column (indent_of line) ≡ r → (b && k) ≡ false → (r || k) ≡ true
+          → place_in_item rules column bare line ≡ Stays (strip_columns column line)
+      go true true r is blank reach more either = absurd (cc more)
+      go false true r is blank reach more either = in_item_blank e blank is
+      go b false true is blank reach more either = in_item_far e blank (grind (arith, nat_tests, reach))
+      go b false false is blank reach more either = absurd (cc either)
+
+  pub in_item_lazily : line.lazy ≡ false → (nat_le column (indent_of line) || is_blank line) ≡ false → place_in_item rules column bare line ≡ place_if_lazy rules line
+  in_item_lazily e neither = go (is_blank line) (nat_le column (indent_of line)) refl refl neither
+    where
+      go : (k r : Bool) → is_blank line ≡ k → nat_le column (indent_of line) ≡ r → (r || k) ≡ false → place_in_item rules column bare line ≡ place_if_lazy rules line
+      go true true blank reach neither = absurd (cc neither)
+      go true false blank reach neither = absurd (cc neither)
+      go false true blank reach neither = absurd (cc neither)
+      go false false blank reach neither = in_item_near e blank (grind (arith, nat_tests, reach))
+
+-- a line of which as many columns are taken as there are up to a column
+pub far_enough : (column : ℕ) (line inner : LineView) (blank : Bool) → inner ≡ strip_columns column line → inner.column - line.column ≡ column → (inner.column - line.column == column) ≡ (nat_le column (indent_of line) || blank)
+far_enough column line inner blank is far =
+    let taken : inner.column ≡ line.column + min column (indent_of line) = ap (λ (l : LineView). l.column) is ∙ (strip_takes_columns column line).0 in
+    let reach : nat_le column (indent_of line) ≡ true = grind (arith, nat_tests, taken, far) in
+    grind (arith, nat_tests, reach, far)
+
+pub not_far_enough : (column : ℕ) (line inner : LineView) (blank : Bool) → inner ≡ strip_columns column line → inner.column - line.column ≢ column → blank ≡ (nat_le column (indent_of line) || blank)
+not_far_enough column line inner blank is near =
+    let taken : inner.column ≡ line.column + min column (indent_of line) = ap (λ (l : LineView). l.column) is ∙ (strip_takes_columns column line).0 in
+    let reach : nat_le column (indent_of line) ≡ false = grind (arith, nat_tests, taken, near) in
+    grind (arith, reach)
+
+pub taken_goes_on : (column : ℕ) (line inner : LineView) → inner ≡ strip_columns column line → line.column ≤ inner.column
+taken_goes_on column line inner is =
+    let taken : inner.column ≡ line.column + min column (indent_of line) = ap (λ (l : LineView). l.column) is ∙ (strip_takes_columns column line).0 in
+    grind (arith, taken)
+
+-- a line behind a marker
+
+pub past_content : (line : LineView) (n k : ℕ) (view : View) → n ≡ indent_of line → seen_view view ≡ strip_columns n line → view.spaces ≡ 0
+    → record { column = view.column + k; text = drop k view.rest.now; lazy = view.lazy } ≡ past k line
+unfolding past
+past_content line n k view all left none =
+    ap₂ (λ c (t : List ℕ). record { column = c; text = drop k t; lazy = view.lazy }) columns (content_left line n view all left none)
+    ∙ ap (λ z. record { column = line.column + indent_of line + k; text = drop k (content_of line); lazy = z }) (ap (λ (l : LineView). l.lazy) left)
+  where
+    columns : view.column + k ≡ line.column + indent_of line + k
+    columns =
+        let taken : view.column ≡ line.column + min n (indent_of line) = ap (λ (l : LineView). l.column) left ∙ (strip_takes_columns n line).0 in
+        let least : min n (indent_of line) ≡ indent_of line = grind (arith, all) in
+        omega (arith, taken, least)
+
+-- the columns behind an item's marker
+
+pub offset_blank : (behind : LineView) → is_blank behind ≡ true → 1 ≡ content_offset behind
+unfolding content_offset
+offset_blank behind e = grind (arith, e)
+
+pub offset_far : (behind : LineView) → is_blank behind ≡ false → 4 < indent_of behind → 1 ≡ content_offset behind
+unfolding content_offset
+offset_far behind e n = grind (arith, e, n)
+
+pub offset_near : (behind : LineView) → is_blank behind ≡ false → indent_of behind ≤ 4 → indent_of behind ≡ content_offset behind
+unfolding content_offset
+offset_near behind e n = grind (arith, e, n)
+
+pub behind_quote : (line inner : LineView) (view : View) → seen_view view ≡ past 1 line → inner ≡ strip_columns 1 (seen_view view) → inner ≡ behind_quote_marker line
+unfolding behind_quote_marker
+behind_quote line inner view at is = is ∙ ap (strip_columns 1) at
+
+pub column_is : (marker : ItemMarker) (line behind : LineView) (indent offset : ℕ) → behind ≡ behind_marker marker line → indent ≡ indent_of line → offset ≡ content_offset behind
+    → indent + (marker.digits + 1) + offset ≡ content_column marker line
+unfolding content_column
+column_is marker line behind indent offset at in_front is =
+    let there : offset ≡ content_offset (behind_marker marker line) = is ∙ ap content_offset at in
+    omega (arith, in_front, there)
+
+pub first_is_content : (marker : ItemMarker) (line behind : LineView) (offset : ℕ) → behind ≡ behind_marker marker line → offset ≡ content_offset behind
+    → strip_columns offset behind ≡ first_content marker line
+unfolding first_content
+first_is_content marker line behind offset at is = ap₂ strip_columns (is ∙ ap content_offset at) at
+
+-- the spaces at the front of a text, and what stands behind them
+
+spaces-front : (text : List ℕ) → replicate (run_length 32 text) 32 ++ drop (run_length 32 text) text ≡ text
+unfolding run_length
+spaces-front [] = refl
+spaces-front (b ∷ bs) = go (b == 32) refl (spaces-front bs)
+  where
+    go : (space : Bool) → (b == 32) ≡ space → replicate (run_length 32 bs) 32 ++ drop (run_length 32 bs) bs ≡ bs
+        → replicate (elim space as (λ _. ℕ) [ true ↦ suc (run_length 32 bs) | false ↦ 0 ]) 32
+        ++ drop (elim space as (λ _. ℕ) [ true ↦ suc (run_length 32 bs) | false ↦ 0 ]) (b ∷ bs) ≡ b ∷ bs
+    go true e again = ap₂ (λ c cs. c ∷ cs) (sym (eqb-true b 32 e)) again
+    go false e again = refl
+
+replicate-more : (n m : ℕ) (text : List ℕ) → replicate (n + m) 32 ++ text ≡ replicate n 32 ++ (replicate m 32 ++ text)
+replicate-more n m text = ap (λ xs. xs ++ text) (sym (replicate-append-replicate n m 32)) ∙ append_assoc (replicate n 32) (replicate m 32) text
+
+line-behind : (n : ℕ) (rest : List ℕ) → is_line (replicate n 32 ++ rest) ≡ true → is_line rest ≡ true
+line-behind zero rest h = h
+line-behind (suc n) rest h = line-behind n rest h
+
+tabs-behind : (n : ℕ) (rest : List ℕ) → tabs (replicate n 32 ++ rest) ≡ tabs rest
+tabs-behind zero rest = refl
+tabs-behind (suc n) rest = tabs-behind n rest
+
+module _ (text rest : List ℕ) (spaces : ℕ) (run : spaces ≡ run_length 32 text) (behind : rest ≡ drop spaces text) where
+  front : replicate spaces 32 ++ rest ≡ text
+  front = ap₂ (λ n t. replicate n 32 ++ t) run (behind ∙ ap (λ n. drop n text) run) ∙ spaces-front text
+
+  pub columns_line : is_line text ≡ true → is_line rest ≡ true
+  columns_line h = line-behind spaces rest (ap is_line front ∙ h)
+
+  pub columns_fit : (before : ℕ) → before + length text + 3 * tabs text < 2 ^ 64 → before + spaces + length rest + 3 * tabs rest < 2 ^ 64
+  columns_fit before h =
+      omega (arith, h, ap length front, length-append (replicate spaces 32) rest, length-replicate {A = ℕ} spaces 32, ap tabs front, tabs-behind spaces rest)
+
+  pub columns_seen : (n : ℕ) → replicate (n + spaces) 32 ++ rest ≡ replicate n 32 ++ text
+  columns_seen n = replicate-more n spaces rest ∙ ap (λ t. replicate n 32 ++ t) front

@@ -1,0 +1,125 @@
+-- A stack as a row: the last frame, once it is taken, and more is there.
+use Rattle.std.proofs.Common.{◌≡◌, length, arith, Bool, Option, Some, None, List, [], ◌∷◌, ◌++◌, refl, append-nil, sym, ap, ap₂, subst, ◌∙◌, Result, Ok, Err}
+use Rattle.std.specs.Result.{OnOk, OnErr}
+use Rattle.std.specs.Option.{option_map}
+use Rattle.cm_tree.specs.declared.tree.Block.{Block}
+use Rattle.cm_tree.specs.declared.raw_blocks.RawBlock.{RawBlock}
+use Rattle.cm_tree.specs.RawBlocks.{Raw, block_in, blocks_in, ArePlaced, Grows}
+use Rattle.cm_block.specs.Level.{Level, OpenList, block_closes}
+use Rattle.cm_block.specs.declared.level.Level as code_level
+use Rattle.cm_block.specs.declared.level.OpenList as code_list
+use Rattle.cm_block.specs.declared.stack.Frame as code
+use Rattle.cm_block.specs.Frames.{Container, Frame, Row}
+use Rattle.cm_block.proofs.lemmas.FrameStartLemmas.{frame}
+use Rattle.cm_block.specs.steps.LevelViews.{list_in, level_in, IsListPlaced, IsLevelPlaced}
+use Rattle.cm_block.specs.steps.FrameViews.{container_of, frame_in, frames_in, AreFramesPlaced}
+use Rattle.cm_block.proofs.lemmas.LevelViewLemmas.{level-grows, level-placed-grows, frames-grow, frames-placed-grow, frames-append, frames-before, frames-behind}
+use Rattle.cm_block.specs.steps.FrontViews.{level_behind, frames_behind, innermost}
+use Rattle.cm_block.proofs.lemmas.FrontLemmas.{last-taken, inner-pushed, inner-does, inner-closes, inner-list}
+use Rattle.cm_block.proofs.lemmas.Matching.{frames_last}
+
+module _ (front : List Block) (a b : Raw) (frames before : List code.Frame) (frame : code.Frame) (level : code_level.Level) (taken : frames ≡ before ++ frame ∷ []) (outside : level ≡ frame.level)
+    (placed : AreFramesPlaced a frames) (grows : Grows a b) where
+  apart : AreFramesPlaced a before × IsLevelPlaced a frame.level
+  apart =
+      let all = subst (AreFramesPlaced a) taken placed in
+      (frames-before a before (frame ∷ []) all, (frames-behind a before (frame ∷ []) all).0)
+
+  pub taken-placed : AreFramesPlaced b before × IsLevelPlaced b level
+  taken-placed = (frames-placed-grow a b before grows apart.0, subst (IsLevelPlaced b) (sym outside) (level-placed-grows a b frame.level grows apart.1))
+
+  -- what the others and the last are
+  pub taken-is : (now outer : List Frame) (last : Frame) → frames_behind front (frames_in a frames) ≡ now → now ≡ outer ++ last ∷ []
+      → (frames_behind front (frames_in b before) ≡ outer) × ((innermost front (frames_in b before) (level_in b level) ≡ last.level) × (container_of frame.container ≡ last.container))
+  taken-is now outer last is all =
+      let same = last-taken front (frames_in a before) outer (frame_in a frame) last (ap (frames_behind front) (sym (frames_last a before frame) ∙ ap (frames_in a) (sym taken)) ∙ is ∙ all) in
+      let still = frames-grow a b before grows apart.0 in (
+        ap (frames_behind front) still ∙ same.0,
+        (ap₂ (innermost front) still (ap (level_in b) outside ∙ level-grows a b frame.level grows apart.1) ∙ same.1.0, same.1.1),
+      )
+
+  -- the level inside, which is closed with a frame still there
+  pub inside-is : (inner : Level) → innermost front (frames_in a frames) inner ≡ inner
+  inside-is inner = ap (λ fs. innermost front fs inner) (ap (frames_in a) taken ∙ frames_last a before frame) ∙ inner-pushed front (frames_in a before) (frame_in a frame) inner
+
+-- more is there
+
+module _ (front : List Block) (a b : Raw) (frames : List code.Frame) (level : code_level.Level) (grows : Grows a b) (placed : AreFramesPlaced a frames × IsLevelPlaced a level) where
+  pub still-placed : AreFramesPlaced b frames × IsLevelPlaced b level
+  still-placed = (frames-placed-grow a b frames grows placed.0, level-placed-grows a b level grows placed.1)
+
+  pub same-frames : (now : List Frame) → frames_behind front (frames_in a frames) ≡ now → frames_behind front (frames_in b frames) ≡ now
+  same-frames now is = ap (frames_behind front) (frames-grow a b frames grows placed.0) ∙ is
+
+  -- a block that was opened is put
+  pub block-put : (now : code_level.Level) (block : RawBlock) (before : Level) (made : Block) → innermost front (frames_in a frames) (level_in a level) ≡ before → block_in b block ≡ made
+      → level_in b now ≡ block_closes (level_in b level) (block_in b block) → innermost front (frames_in b frames) (level_in b now) ≡ block_closes before made
+  block-put now block before made is block_is closed =
+      ap₂ (innermost front) (frames-grow a b frames grows placed.0) (closed ∙ ap₂ block_closes (level-grows a b level grows placed.1) block_is)
+      ∙ inner-closes front made (frames_in a frames) (level_in a level)
+      ∙ ap (λ l. block_closes l made) is
+
+  -- something is done in the innermost level
+  pub inner-done : (now : code_level.Level) (before : Level) (does : Level → Level) → ((l : Level) → does (level_behind front l) ≡ level_behind front (does l))
+      → innermost front (frames_in a frames) (level_in a level) ≡ before → level_in b now ≡ does (level_in a level) → innermost front (frames_in b frames) (level_in b now) ≡ does before
+  inner-done now before does same is done =
+      ap₂ (innermost front) (frames-grow a b frames grows placed.0) done ∙ inner-does front does same (frames_in a frames) (level_in a level) ∙ ap does is
+
+  -- a container is opened in a level
+  pub frames-open : (now opened : List Frame) (inner outside : Level) (container : Container) → frames_behind front (frames_in a frames) ≡ now → inner ≡ outside
+      → opened ≡ frames_behind front (frames_in b frames) ++ frame inner container ∷ [] → opened ≡ now ++ frame outside container ∷ []
+  frames-open now opened inner outside container is level_is all = all ∙ ap₂ (λ fs v. fs ++ frame v container ∷ []) (same-frames now is) level_is
+
+-- whether there was memory for one more frame or not
+pub one-more-frame : {T E : Type 0} (raw : Raw) (before after : List code.Frame) (last : code.Frame) (r : Result T E) → OnOk r (after ≡ before ++ last ∷ []) → OnErr r (after ≡ before)
+    → AreFramesPlaced raw before → IsLevelPlaced raw last.level → AreFramesPlaced raw after
+one-more-frame raw before after last (Ok x) ok err placed outside = subst (AreFramesPlaced raw) (sym ok) (frames-append raw before (last ∷ []) placed (outside, tt))
+one-more-frame raw before after last (Err e) ok err placed outside = subst (AreFramesPlaced raw) (sym err) placed
+
+-- ---- all that stands there becomes a part
+
+pub no-frames : (raw : Raw) (front : List Block) (frames : List code.Frame) → frames_behind front (frames_in raw frames) ≡ [] → frames ≡ []
+no-frames raw front [] none = refl
+no-frames raw front (frame ∷ frames) none = absurd (omega (arith, ap length none))
+
+no-list-in : (raw : Raw) (list : Option code_list.OpenList) → option_map (list_in raw) list ≡ None → list ≡ None
+no-list-in raw None none = refl
+no-list-in raw (Some list) none = cc
+
+pub no-list : (raw : Raw) (front : List Block) (frames : List code.Frame) (level : code_level.Level) → (innermost front (frames_in raw frames) (level_in raw level)).open_list ≡ None → level.open_list ≡ None
+no-list raw front frames level none = no-list-in raw level.open_list (sym (inner-list front (frames_in raw frames) (level_in raw level)) ∙ none)
+
+-- nothing that is made of what was there is left
+pub none-placed : (raw : Raw) (frames : List code.Frame) (now : code_level.Level) → frames ≡ [] → now.open_list ≡ None → now.blocks.items ≡ [] → AreFramesPlaced raw frames × IsLevelPlaced raw now
+none-placed raw frames now no_frames no_open empty =
+    (subst (AreFramesPlaced raw) (sym no_frames) tt, record { blocks = subst (ArePlaced raw) (sym empty) tt; open_list = subst (IsListPlaced raw) (sym no_open) tt })
+
+abbrev row : Bool → List Frame → Level → Row
+row bare frames level = record { frames = frames; bare = bare; level = level }
+
+abbrev with_both : Level → List Block → Option OpenList → Level
+with_both level blocks list = record { blocks = blocks; open_list = list; has_block = level.has_block; ends_blank = level.ends_blank; separated = level.separated }
+
+abbrev marked : List Block → Option OpenList → Bool → Bool → Bool → Level
+marked blocks list has ends separated = record { blocks = blocks; open_list = list; has_block = has; ends_blank = ends; separated = separated }
+
+abbrev row_in : Raw → List Block → List code.Frame → Bool → code_level.Level → Row
+row_in raw front frames bare level = row bare (frames_behind front (frames_in raw frames)) (innermost front (frames_in raw frames) (level_in raw level))
+
+pub finished : (a b : Raw) (front more : List Block) (frames : List code.Frame) (bare : Bool) (level now : code_level.Level) → frames ≡ [] → level.open_list ≡ None
+    → now.open_list ≡ level.open_list → now.has_block ≡ level.has_block → now.ends_blank ≡ level.ends_blank → now.separated ≡ level.separated
+    → now.blocks.items ≡ [] → more ≡ front ++ blocks_in a level.blocks.items → row_in b more frames bare now ≡ row_in a front frames bare level
+finished a b front more frames bare level now none no_list same_list same_has same_ends same_separated empty is =
+    let list : option_map (list_in b) now.open_list ≡ option_map (list_in a) level.open_list =
+    ap (option_map (list_in b)) (same_list ∙ no_list) ∙ sym (ap (option_map (list_in a)) no_list) in
+    let blocks : more ++ blocks_in b now.blocks.items ≡ front ++ blocks_in a level.blocks.items =
+    ap (λ bs. more ++ blocks_in b bs) empty ∙ append-nil more ∙ is in
+    let marks : level_behind more (level_in b now) ≡ with_both (level_in a level) (more ++ blocks_in b now.blocks.items) (option_map (list_in b) now.open_list) =
+    ap₂ (λ h e. marked (more ++ blocks_in b now.blocks.items) (option_map (list_in b) now.open_list) h e now.separated) same_has same_ends
+    ∙ ap (marked (more ++ blocks_in b now.blocks.items) (option_map (list_in b) now.open_list) level.has_block level.ends_blank) same_separated in
+    ap₂ (row bare)
+    (ap (λ fs. frames_behind more (frames_in b fs)) none ∙ sym (ap (λ fs. frames_behind front (frames_in a fs)) none))
+    (ap (λ fs. innermost more (frames_in b fs) (level_in b now)) none
+    ∙ marks
+    ∙ ap₂ (with_both (level_in a level)) blocks list
+    ∙ sym (ap (λ fs. innermost front (frames_in a fs) (level_in a level)) none))

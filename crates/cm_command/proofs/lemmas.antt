@@ -1,0 +1,4 @@
+pub mod AskedLemmas
+pub mod CommandLineLemmas
+pub mod RowLemmas
+pub mod WalkedLemmas

@@ -1,0 +1,16 @@
+pub mod Pushed
+pub mod ListingLemmas
+pub mod EscapeLemmas
+pub mod Words
+pub mod ItemLemmas
+pub mod Destinations
+pub mod MarkupSteps
+pub mod MarkupTexts
+pub mod WrittenSchemes
+pub mod MarkupClasses
+pub mod FollowedByProfile
+pub mod MarkupInlines
+pub mod MarkupBlocks
+pub mod PageLemmas
+pub mod FormedLemmas
+pub mod WritingLemmas

@@ -1,0 +1,481 @@
+-- What begins at a place of a source, by the byte that stands there.
+use Rattle.std.proofs.Common.{◌≡◌, ℕ, suc, ◌+◌, ◌-◌, ◌<◌, ◌≤◌, ◌==◌, ◌&&◌, ◌||◌, not, Bool, true, false, List, [], ◌∷◌, length, take, drop, get_or, reverse, replicate, Option, Some, None, codes, refl, sym, ap, subst, ◌∙◌, arith, length-append, length-drop, drop-drop, get_or-drop}
+use Rattle.std.specs.Prelude.{IsUtf8, nat_le, if◌then◌else◌, encode_utf8_all}
+use Rattle.std.specs.List.{slice_range}
+use Rattle.std.specs.Str.{IsCharBoundary}
+use Rattle.std.proofs.lemmas.Bool.{eqb-true}
+use Rattle.std.proofs.lemmas.List.{drop_more}
+use Rattle.std.proofs.lemmas.Str.{IsCharBoundary-after_ascii}
+use Rattle.cm_text.specs.Rules.{Rules}
+use Rattle.cm_text.specs.Characters.{is_ascii_punct}
+use Rattle.cm_text.specs.References.{reference, reference_at, chars_of}
+use Rattle.cm_text.specs.declared.references.Chars.{Chars}
+use Rattle.cm_tree.specs.Depth.{depth_of}
+use Rattle.cm_tree.specs.declared.tree.Inline.TheVariants as inline
+use Rattle.cm_scan.specs.Words.{begins_with, run_length, after_run, after_word}
+use Rattle.cm_scan.specs.inlines.Links.{Reading}
+use Rattle.cm_scan.specs.spans.Autolinks.{Autolink, followed_autolink}
+use Rattle.cm_scan.specs.spans.RawHtml.{raw_html}
+use Rattle.cm_scan.specs.spans.Angles.{Angled, Addressed, Tagged, before, tagged, at_angle}
+use Rattle.cm_scan.specs.spans.CodeSpans.{span_content, one_line, stripped, code_span}
+use Rattle.cm_scan.specs.Scanned.{whole_of}
+use Rattle.cm_scan.specs.inlines.Delimiters as delimiters
+use Rattle.cm_scan.specs.inlines.Pairing as items
+use Rattle.cm_scan.specs.inlines.Atoms.{AtomRead, Plain, Whole, Delimiter, OpenBracket, read, is_markup, or_byte, byte_atom, backtick_atom, angle_atom, link_of, backslash_atom, reference_atom, break_atom, run_between, run_atom, tilde_atom, bang_atom, markup_atom, atom_at}
+use Rattle.cm_scan.proofs.lemmas.texts.WordsGoOn.{none-some, false-true}
+use Rattle.cm_scan.proofs.lemmas.texts.ScannerAnswers.{begins-at}
+use Rattle.cm_scan.proofs.lemmas.inlines.LeftByEachStep.{atom-left}
+use Rattle.cm_scan.proofs.lemmas.spans.BacktickStrings.{not-same}
+use Rattle.cm_inline.proofs.lemmas.BottomLemmas.{kind-small, kind-untilded}
+use Rattle.cm_inline.proofs.lemmas.EmphasisLemmas.{emph-holds, code-holds, html-holds, hard-holds, soft-holds, autolink-holds}
+use Rattle.cm_inline.proofs.lemmas.DepthLemmas.{code-depth, html-depth, hard-depth, soft-depth, link-depth}
+use Rattle.cm_inline.specs.steps.Nodes.{Node, Piece, Characters, Run, Opener, item_of, IsPart}
+use Rattle.cm_inline.specs.declared.tokens.Token.{Token}
+use Rattle.cm_inline.specs.declared.tokens.Token.TheVariants as tokens
+use Rattle.cm_inline.specs.steps.Groups.{node_of, IsNoGroup}
+use Rattle.cm_inline.proofs.lemmas.StandaloneLemmas.{finished}
+use Rattle.cm_inline.specs.declared.delimiter_runs.Marker.{Marker}
+use Rattle.cm_inline.specs.declared.delimiter_runs.Marker.TheVariants.{Star, Underscore, Tilde}
+use Rattle.cm_inline.specs.declared.delimiter_runs.DelimiterRun.{DelimiterRun}
+use Rattle.cm_inline.specs.steps.Runs.{byte_of, run_of}
+use Rattle.cm_inline.specs.Emphases.{emphases_of}
+use Rattle.cm_inline.specs.steps.Searching.{kind}
+use Rattle.cm_inline.specs.steps.Reads.{Stands, atom_in, is_break_byte, item_for, kinds_by, IsNew, IsAtom}
+
+-- the source from the place on
+front : (source : List ℕ) (at b : ℕ) → Stands source at b → drop at source ≡ b ∷ drop (at + 1) source
+front source at b s = drop_more source at 0 s.within ∙ ap (λ c. c ∷ drop (at + 1) source) s.byte
+
+here : (rules : Rules) (source : List ℕ) (at b : ℕ) → Stands source at b → atom_in rules source at ≡ atom_at rules (reverse (take at source)) b (drop (at + 1) source)
+here rules source at b s = ap (λ c. atom_at rules (reverse (take at source)) c (drop (at + 1) source)) s.byte
+
+-- an atom takes a byte or more
+further : (rules : Rules) (source : List ℕ) (at end : ℕ) → at < length source → (atom_in rules source at).rest ≡ drop end source → at < end
+further rules source at end within rest =
+    let left = atom-left rules (reverse (take at source)) (get_or source at 0) (drop (at + 1) source) in
+    let size : length (drop (at + 1) source) ≡ length left.end.front + length (atom_in rules source at).rest = ap length left.end.is ∙ length-append left.end.front (atom_in rules source at).rest in
+    omega (arith, within, size, ap length rest, length-drop (at + 1) source, length-drop end source)
+
+module _ (rules : Rules) (source : List ℕ) (at : ℕ) where
+  is-atom : (node : Node) (end : ℕ) (a : AtomRead) → at < length source → atom_in rules source at ≡ a → a.rest ≡ drop end source → item_for a.atom a.rest ≡ Some (item_of source node)
+      → IsPart source node → IsCharBoundary source end → IsNew (kinds_by rules) (item_of source node) → IsAtom rules source at node end
+  is-atom node end a within same rest item part boundary fresh =
+      let left : (atom_in rules source at).rest ≡ drop end source = ap (λ (t : AtomRead). t.rest) same ∙ rest in
+      record {
+        rest = left;
+        item = ap (λ (t : AtomRead). item_for t.atom t.rest) same ∙ item;
+        part = part;
+        further = further rules source at end within left;
+        within = boundary.0;
+        boundary = boundary;
+        fresh = fresh;
+      }
+
+  -- an answer that is this token and this end
+  pub told : (answer : Token × ℕ) (token : Token) (end : ℕ) → answer ≡ (token, end) → IsAtom rules source at (node_of [] token) end → IsAtom rules source at (node_of [] answer.0) answer.1
+  told answer token end e is = subst (λ (r : Token × ℕ). IsAtom rules source at (node_of [] r.0) r.1) (sym e) is
+
+  -- a run
+
+  run-front : (m : ℕ) (text : List ℕ) → take (run_length m text) text ≡ replicate (run_length m text) m
+  unfolding run_length
+  run-front m [] = refl
+  run-front m (b ∷ bs) = go (b == m) refl (run-front m bs)
+    where
+      go : (c : Bool) → (b == m) ≡ c → take (run_length m bs) bs ≡ replicate (run_length m bs) m → take (elim c as (λ _. ℕ) [ true ↦ suc (run_length m bs) | false ↦ 0 ]) (b ∷ bs) ≡ replicate (elim c as (λ _. ℕ) [ true ↦ suc (run_length m bs) | false ↦ 0 ]) m
+      go true e again = ap (λ c. c ∷ take (run_length m bs) bs) (eqb-true b m e) ∙ ap (λ t. m ∷ t) again
+      go false e again = refl
+
+  run-is : (m end : ℕ) (a : AtomRead) → Stands source at m → end ≡ at + run_length m (drop at source) → drop end source ≡ after_run m (drop at source) → IsCharBoundary source end
+      → atom_in rules source at ≡ a → a.rest ≡ after_run m (drop at source) → item_for a.atom a.rest ≡ Some (items.Characters (replicate (run_length m (drop at source)) m)) → IsAtom rules source at (Piece at end) end
+  run-is m end a s run left boundary same rest item =
+      let size : end - at ≡ run_length m (drop at source) = omega (arith, run) in
+      let low : at ≤ end = omega (arith, run) in
+      is-atom (Piece at end) end a s.within same (rest ∙ sym left)
+      (item ∙ sym (ap (λ t. Some (items.Characters t)) (ap (λ n. take n (drop at source)) size ∙ run-front m (drop at source)))) (low, s.boundary, boundary) boundary tt
+
+  -- one byte as text
+
+  one-byte : (b : ℕ) → Stands source at b → slice_range source at (at + 1) ≡ b ∷ []
+  one-byte b s = let one : at + 1 - at ≡ 1 = omega arith in ap (λ n. take n (drop at source)) one ∙ ap (take 1) (front source at b s)
+
+  behind-byte : (b : ℕ) → IsUtf8 source → Stands source at b → b < 128 → IsCharBoundary source (at + 1)
+  behind-byte b utf8 s ascii = IsCharBoundary-after_ascii source at utf8 s.within (omega (arith, s.byte, ascii))
+
+  byte-is : (b : ℕ) (a : AtomRead) → IsUtf8 source → Stands source at b → b < 128 → atom_in rules source at ≡ a → a.rest ≡ drop (at + 1) source → item_for a.atom a.rest ≡ Some (items.Characters (b ∷ []))
+      → IsAtom rules source at (Piece at (at + 1)) (at + 1)
+  byte-is b a utf8 s ascii same rest item =
+      let low : at ≤ at + 1 = omega arith in
+      is-atom (Piece at (at + 1)) (at + 1) a s.within same rest (item ∙ sym (ap (λ t. Some (items.Characters t)) (one-byte b s))) (low, s.boundary, behind-byte b utf8 s ascii) (behind-byte b utf8 s ascii) tt
+
+  -- the byte behind it
+  next-stands : (b c : ℕ) → IsUtf8 source → Stands source at b → b < 128 → begins_with c (drop (at + 1) source) ≡ true → Stands source (at + 1) c
+  next-stands b c utf8 s ascii next =
+      let found = begins-at c source (at + 1) next in
+      record { short = s.short; within = found.0; boundary = behind-byte b utf8 s ascii; byte = found.2 }
+
+  -- a code span, or a backtick string as text
+
+  abbrev span_or : List ℕ → Option Reading → Option AtomRead
+  span_or text o = elim o as (λ _. Option AtomRead) [ Some span ↦ read (Whole (inline.Code span.text)) span.rest | None ↦ read (Plain (replicate (run_length 96 text) 96)) (after_run 96 text) ]
+
+  tick-in : (o : Option Reading) → Stands source at 96 → o ≡ code_span (drop at source) → atom_in rules source at ≡ or_byte 96 (drop (at + 1) source) (span_or (drop at source) o)
+  unfolding atom_at markup_atom backtick_atom
+  tick-in o s h =
+      here rules source at 96 s ∙ ap (λ t. or_byte 96 (drop (at + 1) source) (backtick_atom t)) (sym (front source at 96 s))
+      ∙ ap (λ t. or_byte 96 (drop (at + 1) source) (span_or (drop at source) t)) (sym h)
+
+  pub code-span-is : (inside : List ℕ) (end : ℕ) → Stands source at 96 → span_content (Some (record { text = inside; rest = drop end source })) ≡ code_span (drop at source) → IsCharBoundary source end
+      → IsAtom rules source at (finished (inline.Code (stripped (one_line inside))) 0) end
+  code-span-is inside end s h boundary =
+      is-atom _ end (record { atom = Whole (inline.Code (stripped (one_line inside))); rest = drop end source }) s.within
+      (tick-in (Some (record { text = stripped (one_line inside); rest = drop end source })) s h) refl refl (code-depth (stripped (one_line inside))) boundary (code-holds (stripped (one_line inside)))
+
+  pub backticks-are : (end : ℕ) → Stands source at 96 → None ≡ code_span (drop at source) → end ≡ at + run_length 96 (drop at source) → drop end source ≡ after_run 96 (drop at source)
+      → IsCharBoundary source end → IsAtom rules source at (Piece at end) end
+  backticks-are end s h run left boundary =
+      run-is 96 end (record { atom = Plain (replicate (run_length 96 (drop at source)) 96); rest = after_run 96 (drop at source) }) s run left boundary (tick-in None s h) refl refl
+
+  -- an autolink, raw HTML, or `<` as text
+
+  abbrev angled_or : Option Angled → Option AtomRead
+  angled_or o = elim o as (λ _. Option AtomRead) [
+    | Some angled ↦ elim angled as (λ _. Option AtomRead) [ Addressed link ↦ read (Whole (link_of link)) link.rest | Tagged tag ↦ read (Whole (inline.Html tag.text)) tag.rest ]
+    | None ↦ None
+  ]
+
+  abbrev link_or : Option Autolink → Option Angled
+  link_or o = elim o as (λ _. Option Angled) [ Some link ↦ Some (Addressed link) | None ↦ tagged (drop at source) (raw_html rules (drop at source)) ]
+
+  angle-in : (o : Option Autolink) → Stands source at 60 → o ≡ followed_autolink rules (drop at source) → atom_in rules source at ≡ or_byte 60 (drop (at + 1) source) (angled_or (link_or o))
+  unfolding atom_at markup_atom angle_atom at_angle
+  angle-in o s h =
+      here rules source at 60 s ∙ ap (λ t. or_byte 60 (drop (at + 1) source) (angle_atom rules t)) (sym (front source at 60 s))
+      ∙ ap (λ t. or_byte 60 (drop (at + 1) source) (angled_or (link_or t))) (sym h)
+
+  pub link-is : (link : Autolink) (end : ℕ) → Stands source at 60 → Some link ≡ followed_autolink rules (drop at source) → link.rest ≡ drop end source → IsCharBoundary source end → IsAtom rules source at (finished (link_of link) 1) end
+  link-is link end s h rest boundary = is-atom _ end (record { atom = Whole (link_of link); rest = link.rest }) s.within (angle-in (Some link) s h) rest refl (link-depth link) boundary (autolink-holds link)
+
+  html-in : (o : Option (List ℕ)) → Stands source at 60 → None ≡ followed_autolink rules (drop at source) → raw_html rules (drop at source) ≡ o → atom_in rules source at ≡ or_byte 60 (drop (at + 1) source) (angled_or (tagged (drop at source) o))
+  html-in o s h e = angle-in None s h ∙ ap (λ t. or_byte 60 (drop (at + 1) source) (angled_or (tagged (drop at source) t))) e
+
+  whole-read : (text html rest : List ℕ) (o : Option (List ℕ)) → Some (record { text = html; rest = rest }) ≡ whole_of text o → (o ≡ Some rest) × (html ≡ before rest text)
+  whole-read text html rest None h = none-some (sym h)
+  whole-read text html rest (Some left) h =
+      let same : rest ≡ left = ap rest_of h in
+      (ap Some (sym same), ap text_of h ∙ ap (λ t. before t text) (sym same))
+    where
+      rest_of : Option Reading → List ℕ
+      rest_of None = []
+      rest_of (Some r) = r.rest
+
+      text_of : Option Reading → List ℕ
+      text_of None = []
+      text_of (Some r) = r.text
+
+  none-read : (text : List ℕ) (o : Option (List ℕ)) → None ≡ whole_of text o → o ≡ None
+  none-read text None h = refl
+  none-read text (Some left) h = none-some h
+
+  pub html-is : (html : List ℕ) (end : ℕ) → Stands source at 60 → None ≡ followed_autolink rules (drop at source) → Some (record { text = html; rest = drop end source }) ≡ whole_of (drop at source) (raw_html rules (drop at source))
+      → IsCharBoundary source end → IsAtom rules source at (finished (inline.Html html) 0) end
+  html-is html end s h e boundary =
+      let parts = whole-read (drop at source) html (drop end source) (raw_html rules (drop at source)) e in
+      is-atom _ end (record { atom = Whole (inline.Html (before (drop end source) (drop at source))); rest = drop end source }) s.within (html-in (Some (drop end source)) s h parts.0) refl
+      (sym (ap (λ t. Some (items.Finished (inline.Html t))) parts.1)) (html-depth html) boundary (html-holds html)
+
+  pub angle-is-text : IsUtf8 source → Stands source at 60 → None ≡ followed_autolink rules (drop at source) → None ≡ whole_of (drop at source) (raw_html rules (drop at source)) → IsAtom rules source at (Piece at (at + 1)) (at + 1)
+  angle-is-text utf8 s h e =
+      byte-is 60 (byte_atom 60 (drop (at + 1) source)) utf8 s (omega arith) (html-in None s h (none-read (drop at source) (raw_html rules (drop at source)) e)) refl refl
+
+  -- a hard line break, an escaped character, or a backslash as text
+
+  slash-in : (rest : List ℕ) → Stands source at 92 → drop (at + 1) source ≡ rest → atom_in rules source at ≡ or_byte 92 rest (backslash_atom (92 ∷ rest))
+  unfolding atom_at markup_atom
+  slash-in rest s e = here rules source at 92 s ∙ ap (λ t. or_byte 92 t (backslash_atom (92 ∷ t))) e
+
+  pub hard-is : IsUtf8 source → Stands source at 92 → begins_with 10 (drop (at + 1) source) ≡ true → IsAtom rules source at (finished inline.Hard 0) (at + 2)
+  unfolding backslash_atom after_word
+  hard-is utf8 s next =
+      let feed = next-stands 92 10 utf8 s (omega arith) next in
+      let end : at + 1 + 1 ≡ at + 2 = omega arith in
+      is-atom _ (at + 2) (record { atom = Whole inline.Hard; rest = drop (at + 1 + 1) source }) s.within (slash-in (10 ∷ drop (at + 1 + 1) source) s (front source (at + 1) 10 feed)) (ap (λ n. drop n source) end) refl hard-depth
+      (subst (IsCharBoundary source) end (IsCharBoundary-after_ascii source (at + 1) utf8 feed.within (omega (arith, feed.byte)))) hard-holds
+
+  abbrev escape_or : Option (List ℕ × ℕ) → List ℕ → Option AtomRead
+  escape_or o text = elim o as (λ _. Option AtomRead) [ Some escaped ↦ read (Plain escaped.0) (drop escaped.1 text) | None ↦ None ]
+
+  pub escape-is : (c : ℕ) → IsUtf8 source → Stands source at 92 → at + 1 < length source → get_or source (at + 1) 0 ≡ c → c < 128 → is_ascii_punct c ≡ true → IsAtom rules source at (Piece (at + 1) (at + 2)) (at + 2)
+  unfolding backslash_atom after_word
+  escape-is c utf8 s within byte ascii punct =
+      let boundary = behind-byte 92 utf8 s (omega arith) in
+      let next : Stands source (at + 1) c = record { short = s.short; within = within; boundary = boundary; byte = byte } in
+      let end : at + 1 + 1 ≡ at + 2 = omega arith in
+      let behind : IsCharBoundary source (at + 2) = subst (IsCharBoundary source) end (IsCharBoundary-after_ascii source (at + 1) utf8 within (omega (arith, byte, ascii))) in
+      let one : at + 2 - (at + 1) ≡ 1 = omega arith in
+      let low : at + 1 ≤ at + 2 = omega arith in
+      is-atom _ (at + 2) (record { atom = Plain (c ∷ []); rest = drop (at + 1 + 1) source }) s.within
+      (slash-in (c ∷ drop (at + 1 + 1) source) s (front source (at + 1) c next) ∙ escaped (c == 10) (no-feed c punct)) (ap (λ n. drop n source) end)
+      (sym (ap (λ t. Some (items.Characters t)) (ap (λ n. take n (drop (at + 1) source)) one ∙ ap (take 1) (front source (at + 1) c next)))) (low, boundary, behind) behind tt
+    where
+      no-feed : (c : ℕ) → is_ascii_punct c ≡ true → (c == 10) ≡ false
+      no-feed c punct = grind (arith, punct)
+
+      escaped : (feed : Bool) → feed ≡ false
+          → or_byte 92 (c ∷ drop (at + 1 + 1) source) (elim (elim feed as (λ _. Option (List ℕ)) [ true ↦ Some (drop (at + 1 + 1) source) | false ↦ None ]) as (λ _. Option AtomRead) [
+            | Some rest ↦ read (Whole inline.Hard) rest
+            | None ↦ escape_or (if is_ascii_punct c then Some (c ∷ [], 2) else None) (92 ∷ c ∷ drop (at + 1 + 1) source)
+          ]) ≡ record { atom = Plain (c ∷ []); rest = drop (at + 1 + 1) source }
+      escaped true e = false-true (sym e)
+      escaped false e = ap (λ p. or_byte 92 (c ∷ drop (at + 1 + 1) source) (escape_or (if p then Some (c ∷ [], 2) else None) (92 ∷ c ∷ drop (at + 1 + 1) source))) punct
+
+  -- nothing of these follows the backslash
+  escapes-none : (text : List ℕ) → begins_with 10 text ≡ false → (0 < length text → is_ascii_punct (get_or text 0 0) ≡ false) → or_byte 92 text (backslash_atom (92 ∷ text)) ≡ byte_atom 92 text
+  unfolding backslash_atom after_word
+  escapes-none [] feed punct = refl
+  escapes-none (c ∷ cs) feed punct =
+      ap (λ f. or_byte 92 (c ∷ cs) (elim (elim f as (λ _. Option (List ℕ)) [ true ↦ Some cs | false ↦ None ]) as (λ _. Option AtomRead) [
+        | Some rest ↦ read (Whole inline.Hard) rest
+        | None ↦ escape_or (if is_ascii_punct c then Some (c ∷ [], 2) else None) (92 ∷ c ∷ cs)
+      ])) feed
+      ∙ ap (λ p. or_byte 92 (c ∷ cs) (escape_or (if p then Some (c ∷ [], 2) else None) (92 ∷ c ∷ cs))) (punct (omega arith))
+
+  pub backslash-is-text : IsUtf8 source → Stands source at 92 → begins_with 10 (drop (at + 1) source) ≡ false → (at + 1 < length source → is_ascii_punct (get_or source (at + 1) 0) ≡ false)
+      → IsAtom rules source at (Piece at (at + 1)) (at + 1)
+  backslash-is-text utf8 s feed punct =
+      byte-is 92 (byte_atom 92 (drop (at + 1) source)) utf8 s (omega arith)
+      (slash-in (drop (at + 1) source) s refl ∙ escapes-none (drop (at + 1) source) feed
+      (λ some. ap is_ascii_punct (get_or-drop (at + 1) source 0 0 ∙ ap (λ n. get_or source n 0) nothing) ∙ punct (omega (arith, some, length-drop (at + 1) source)))) refl refl
+    where
+      nothing : at + 1 + 0 ≡ at + 1
+      nothing = omega arith
+
+  -- a reference, or `&` as text
+
+  abbrev reference_or : List ℕ → Option (List ℕ × ℕ) → Option AtomRead
+  reference_or text o = elim o as (λ _. Option AtomRead) [ Some found ↦ read (Plain (encode_utf8_all found.0)) (drop found.1 text) | None ↦ None ]
+
+  ampersand-in : (o : Option (List ℕ × ℕ)) → Stands source at 38 → reference (drop at source) ≡ o → atom_in rules source at ≡ or_byte 38 (drop (at + 1) source) (reference_or (drop at source) o)
+  unfolding atom_at markup_atom reference_atom
+  ampersand-in o s e =
+      here rules source at 38 s ∙ ap (λ t. or_byte 38 (drop (at + 1) source) (reference_atom t)) (sym (front source at 38 s))
+      ∙ ap (λ t. or_byte 38 (drop (at + 1) source) (reference_or (drop at source) t)) e
+
+  pub reference-is : (chars : Chars) (end : ℕ) → Stands source at 38 → Some (chars_of chars, end) ≡ reference_at source at → IsCharBoundary source end → IsAtom rules source at (Characters chars) end
+  reference-is chars end s h boundary = go (reference (drop at source)) refl h
+    where
+      go : (o : Option (List ℕ × ℕ)) → reference (drop at source) ≡ o → Some (chars_of chars, end) ≡ elim o as (λ _. Option (List ℕ × ℕ)) [ None ↦ None | Some found ↦ Some (found.0, at + found.1) ]
+          → IsAtom rules source at (Characters chars) end
+      go None e g = none-some (sym g)
+      go (Some found) e g =
+          let same : chars_of chars ≡ found.0 = ap chars_in g in
+          let place : end ≡ at + found.1 = ap end_in g in
+          is-atom _ end (record { atom = Plain (encode_utf8_all found.0); rest = drop found.1 (drop at source) }) s.within (ampersand-in (Some found) s e)
+          (drop-drop found.1 at source ∙ ap (λ n. drop n source) (sym place)) (sym (ap (λ t. Some (items.Characters (encode_utf8_all t))) same)) tt boundary tt
+        where
+          chars_in : Option (List ℕ × ℕ) → List ℕ
+          chars_in None = []
+          chars_in (Some r) = r.0
+
+          end_in : Option (List ℕ × ℕ) → ℕ
+          end_in None = 0
+          end_in (Some r) = r.1
+
+  pub ampersand-is-text : IsUtf8 source → Stands source at 38 → None ≡ reference_at source at → IsAtom rules source at (Piece at (at + 1)) (at + 1)
+  ampersand-is-text utf8 s h = byte-is 38 (byte_atom 38 (drop (at + 1) source)) utf8 s (omega arith) (ampersand-in None s (go (reference (drop at source)) h)) refl refl
+    where
+      go : (o : Option (List ℕ × ℕ)) → None ≡ elim o as (λ _. Option (List ℕ × ℕ)) [ None ↦ None | Some found ↦ Some (found.0, at + found.1) ] → o ≡ None
+      go None g = refl
+      go (Some found) g = none-some g
+
+  -- a line ending with the spaces before it, or a space as text
+
+  abbrev break_or : List ℕ → Option (List ℕ) → Option AtomRead
+  break_or text o = elim o as (λ _. Option AtomRead) [ Some rest ↦ read (Whole (if nat_le 2 (run_length 32 text) then inline.Hard else inline.Soft)) rest | None ↦ None ]
+
+  abbrev BreakRead : ℕ → Type 0
+  BreakRead b = atom_at rules (reverse (take at source)) b (drop (at + 1) source) ≡ or_byte b (drop (at + 1) source) (break_atom (b ∷ drop (at + 1) source))
+
+  feed-read : BreakRead 10
+  unfolding atom_at markup_atom
+  feed-read = refl
+
+  space-read : BreakRead 32
+  unfolding atom_at markup_atom
+  space-read = refl
+
+  break-in : (b : ℕ) (o : Option (List ℕ)) → Stands source at b → is_break_byte b ≡ true → after_word (codes "\n") (after_run 32 (drop at source)) ≡ o
+      → atom_in rules source at ≡ or_byte b (drop (at + 1) source) (break_or (drop at source) o)
+  unfolding break_atom
+  break-in b o s is e =
+      here rules source at b s ∙ by (b == 10) refl is ∙ ap (λ t. or_byte b (drop (at + 1) source) (break_atom t)) (sym (front source at b s))
+      ∙ ap (λ t. or_byte b (drop (at + 1) source) (break_or (drop at source) t)) e
+    where
+      by : (feed : Bool) → (b == 10) ≡ feed → (feed || b == 32) ≡ true → BreakRead b
+      by true p h = subst BreakRead (sym (eqb-true b 10 p)) feed-read
+      by false p h = subst BreakRead (sym (eqb-true b 32 h)) space-read
+
+  feed-next : (text : List ℕ) → begins_with 10 text ≡ true → after_word (codes "\n") text ≡ Some (drop 1 text)
+  unfolding after_word
+  feed-next [] h = false-true h
+  feed-next (b ∷ bs) h = ap (λ f. elim f as (λ _. Option (List ℕ)) [ true ↦ Some bs | false ↦ None ]) h
+
+  no-feed-next : (text : List ℕ) → begins_with 10 text ≡ false → after_word (codes "\n") text ≡ None
+  unfolding after_word
+  no-feed-next [] h = refl
+  no-feed-next (b ∷ bs) h = ap (λ f. elim f as (λ _. Option (List ℕ)) [ true ↦ Some bs | false ↦ None ]) h
+
+  pub break-is : (b feed : ℕ) → IsUtf8 source → Stands source at b → is_break_byte b ≡ true → feed ≡ at + run_length 32 (drop at source) → drop feed source ≡ after_run 32 (drop at source)
+      → begins_with 10 (drop feed source) ≡ true → IsAtom rules source at (finished (if nat_le 2 (feed - at) then inline.Hard else inline.Soft) 0) (feed + 1)
+  break-is b feed utf8 s is run left next =
+      let size : feed - at ≡ run_length 32 (drop at source) = omega (arith, run) in
+      let found = begins-at 10 source feed next in
+      is-atom _ (feed + 1) (record { atom = Whole (if nat_le 2 (run_length 32 (drop at source)) then inline.Hard else inline.Soft); rest = drop 1 (drop feed source) }) s.within
+      (break-in b (Some (drop 1 (drop feed source))) s is (ap (after_word (codes "\n")) (sym left) ∙ feed-next (drop feed source) next))
+      (drop-drop 1 feed source) (sym (ap (λ n. Some (items.Finished (if nat_le 2 n then inline.Hard else inline.Soft))) size)) (shallow (nat_le 2 (feed - at)))
+      (IsCharBoundary-after_ascii source feed utf8 found.0 (omega (arith, found.2))) (none (nat_le 2 (feed - at)))
+    where
+      shallow : (hard : Bool) → depth_of (if hard then inline.Hard else inline.Soft) ≡ 0
+      shallow true = hard-depth
+      shallow false = soft-depth
+
+      none : (hard : Bool) → emphases_of (if hard then inline.Hard else inline.Soft) ≡ 0
+      none true = hard-holds
+      none false = soft-holds
+
+  -- a line feed with no space before it
+  pub feed-is : IsUtf8 source → Stands source at 10 → IsAtom rules source at (finished inline.Soft 0) (at + 1)
+  unfolding run_length after_run
+  feed-is utf8 s =
+      let first : drop at source ≡ 10 ∷ drop (at + 1) source = front source at 10 s in
+      let none : run_length 32 (drop at source) ≡ 0 = ap (run_length 32) first in
+      let stays : after_run 32 (drop at source) ≡ drop at source = ap (after_run 32) first ∙ sym first in
+      let size : at - at ≡ 0 = omega arith in
+      subst (λ n. IsAtom rules source at (finished (if nat_le 2 n then inline.Hard else inline.Soft) 0) (at + 1)) size
+      (break-is 10 at utf8 s refl (omega (arith, none)) (sym stays) (ap (begins_with 10) first))
+
+  pub space-is-text : (b feed : ℕ) → IsUtf8 source → Stands source at b → is_break_byte b ≡ true → drop feed source ≡ after_run 32 (drop at source)
+      → begins_with 10 (drop feed source) ≡ false → IsAtom rules source at (Piece at (at + 1)) (at + 1)
+  space-is-text b feed utf8 s is left next =
+      byte-is b (byte_atom b (drop (at + 1) source)) utf8 s (small b is)
+      (break-in b None s is (ap (after_word (codes "\n")) (sym left) ∙ no-feed-next (drop feed source) next)) refl refl
+    where
+      small : (b : ℕ) → is_break_byte b ≡ true → b < 128
+      small b h = grind (arith, h)
+
+  -- `![`, or `!` as text
+
+  bang-in : (rest : List ℕ) → Stands source at 33 → drop (at + 1) source ≡ rest → atom_in rules source at ≡ or_byte 33 rest (bang_atom (33 ∷ rest))
+  unfolding atom_at markup_atom
+  bang-in rest s e = here rules source at 33 s ∙ ap (λ t. or_byte 33 t (bang_atom (33 ∷ t))) e
+
+  pub image-is : IsUtf8 source → Stands source at 33 → begins_with 91 (drop (at + 1) source) ≡ true → IsAtom rules source at (Opener true (at + 2)) (at + 2)
+  unfolding bang_atom after_word
+  image-is utf8 s next =
+      let bracket = next-stands 33 91 utf8 s (omega arith) next in
+      let end : at + 1 + 1 ≡ at + 2 = omega arith in
+      let behind : IsCharBoundary source (at + 2) = subst (IsCharBoundary source) end (IsCharBoundary-after_ascii source (at + 1) utf8 bracket.within (omega (arith, bracket.byte))) in
+      let rest : drop (at + 1 + 1) source ≡ drop (at + 2) source = ap (λ n. drop n source) end in
+      is-atom _ (at + 2) (record { atom = OpenBracket true; rest = drop (at + 1 + 1) source }) s.within (bang-in (91 ∷ drop (at + 1 + 1) source) s (front source (at + 1) 91 bracket)) rest
+      (ap (λ t. Some (items.Opener true t)) rest)
+      (record { at = at; place = refl; front = front source at 33 s ∙ ap (λ t. 33 ∷ t) (front source (at + 1) 91 bracket ∙ ap (λ t. 91 ∷ t) rest); start = s.boundary; end = behind }) behind tt
+
+  alone-bang : (text : List ℕ) → begins_with 91 text ≡ false → or_byte 33 text (bang_atom (33 ∷ text)) ≡ byte_atom 33 text
+  unfolding bang_atom after_word
+  alone-bang [] h = refl
+  alone-bang (b ∷ bs) h =
+      ap (λ f. or_byte 33 (b ∷ bs) (elim (elim f as (λ _. Option (List ℕ)) [ true ↦ Some bs | false ↦ None ]) as (λ _. Option AtomRead) [ Some rest ↦ read (OpenBracket true) rest | None ↦ None ])) h
+
+  pub bang-is-text : IsUtf8 source → Stands source at 33 → begins_with 91 (drop (at + 1) source) ≡ false → IsAtom rules source at (Piece at (at + 1)) (at + 1)
+  bang-is-text utf8 s next = byte-is 33 (byte_atom 33 (drop (at + 1) source)) utf8 s (omega arith) (bang-in (drop (at + 1) source) s refl ∙ alone-bang (drop (at + 1) source) next) refl refl
+
+  -- `[`
+
+  pub opener-is : IsUtf8 source → Stands source at 91 → IsAtom rules source at (Opener false (at + 1)) (at + 1)
+  unfolding atom_at markup_atom
+  opener-is utf8 s =
+      let behind = behind-byte 91 utf8 s (omega arith) in
+      is-atom _ (at + 1) (record { atom = OpenBracket false; rest = drop (at + 1) source }) s.within (here rules source at 91 s) refl refl
+      (record { at = at; place = refl; front = front source at 91 s; start = s.boundary; end = behind }) behind tt
+
+  -- a run of a marker
+
+  -- tildes are of a run only with strikethrough
+  known : (m : Marker) (strike two : Bool) (run : delimiters.Run) → run.character ≡ byte_of m → (not (byte_of m == 126) || strike && two) ≡ true → kind run < (if strike then 13 else 12)
+  known m true two run is e = kind-small run
+  known Star false two run is e = kind-untilded run (ap (λ c. c == 126) is)
+  known Underscore false two run is e = kind-untilded run (ap (λ c. c == 126) is)
+  known Tilde false two run is e = absurd (cc e)
+
+  abbrev run_read : ℕ → List ℕ → AtomRead
+  run_read m text = record { atom = Delimiter (run_between rules m (run_length m (m ∷ text)) (reverse (take at source)) (after_run m (m ∷ text))); rest = after_run m (m ∷ text) }
+
+  -- tildes are a run just where there are two of them and strikethrough is on
+  abbrev is_struck : ℕ → List ℕ → Bool
+  is_struck m text = not (m == 126) || rules.strike && run_length m (m ∷ text) == 2
+
+  abbrev marker_read : ℕ → List ℕ → Bool → AtomRead
+  marker_read m text struck = elim struck as (λ _. AtomRead) [ true ↦ run_read m text | false ↦ record { atom = Plain (replicate (run_length m (m ∷ text)) m); rest = after_run m (m ∷ text) } ]
+
+  tildes-read : (text : List ℕ) (both : Bool) → or_byte 126 text (elim both as (λ _. Option AtomRead) [ true ↦ Some (run_read 126 text) | false ↦ read (Plain (replicate (run_length 126 (126 ∷ text)) 126)) (after_run 126 (126 ∷ text)) ]) ≡ marker_read 126 text both
+  tildes-read text true = refl
+  tildes-read text false = refl
+
+  marker-read : (m : Marker) (text : List ℕ) → atom_at rules (reverse (take at source)) (byte_of m) text ≡ marker_read (byte_of m) text (is_struck (byte_of m) text)
+  unfolding atom_at markup_atom tilde_atom run_atom
+  marker-read Star text = refl
+  marker-read Underscore text = refl
+  marker-read Tilde text = tildes-read text (rules.strike && run_length 126 (126 ∷ text) == 2)
+
+  marker-in : (m : Marker) → Stands source at (byte_of m) → atom_in rules source at ≡ marker_read (byte_of m) (drop (at + 1) source) (is_struck (byte_of m) (drop (at + 1) source))
+  marker-in m s = here rules source at (byte_of m) s ∙ marker-read m (drop (at + 1) source)
+
+  pub marker-text-is : (m : Marker) (end : ℕ) → Stands source at (byte_of m) → (not (byte_of m == 126) || rules.strike && end - at == 2) ≡ false → end ≡ at + run_length (byte_of m) (drop at source)
+      → drop end source ≡ after_run (byte_of m) (drop at source) → IsCharBoundary source end → IsAtom rules source at (Piece at end) end
+  marker-text-is m end s struck run left boundary =
+      let b = byte_of m in
+      let f = front source at b s in
+      let count : end - at ≡ run_length b (b ∷ drop (at + 1) source) = omega (arith, run, ap (run_length b) f) in
+      run-is b end (marker_read b (drop (at + 1) source) false) s run left boundary
+      (marker-in m s ∙ ap (marker_read b (drop (at + 1) source)) (ap (λ n. not (b == 126) || rules.strike && n == 2) (sym count) ∙ struck))
+      (ap (after_run b) (sym f)) (ap (λ t. Some (items.Characters (replicate (run_length b t) b))) (sym f))
+
+  pub marker-run-is : (m : Marker) (run : DelimiterRun) (end : ℕ) → Stands source at (byte_of m) → (not (byte_of m == 126) || rules.strike && end - at == 2) ≡ true → end ≡ at + run_length (byte_of m) (drop at source)
+      → drop end source ≡ after_run (byte_of m) (drop at source) → IsCharBoundary source end → run_of run ≡ run_between rules (byte_of m) (end - at) (reverse (take at source)) (drop end source)
+      → IsAtom rules source at (Run run) end
+  unfolding run_between
+  marker-run-is m run end s struck size left boundary is =
+      let b = byte_of m in
+      let f = front source at b s in
+      let count : end - at ≡ run_length b (b ∷ drop (at + 1) source) = omega (arith, size, ap (run_length b) f) in
+      let same = marker-in m s ∙ ap (marker_read b (drop (at + 1) source)) (ap (λ n. not (b == 126) || rules.strike && n == 2) (sym count) ∙ struck) in
+      let rest = ap (after_run b) (sym f) ∙ sym left in
+      let low : at < end = further rules source at end s.within (ap (λ (t : AtomRead). t.rest) same ∙ rest) in
+      let whole : run.left ≡ end - at = ap (λ (r : delimiters.Run). r.left) is in
+      is-atom (Run run) end (run_read b (drop (at + 1) source)) s.within same rest
+      (ap (λ r. Some (items.Delimiters r)) (ap (λ n. run_between rules b n (reverse (take at source)) (after_run b (b ∷ drop (at + 1) source))) (sym count) ∙ ap (run_between rules b (end - at) (reverse (take at source))) rest ∙ sym is))
+      tt boundary (known m rules.strike (end - at == 2) (run_of run) (ap (λ (r : delimiters.Run). r.character) is) struck, whole ∙ sym (ap (λ (r : delimiters.Run). r.whole) is), (let long : run.whole ≡ end - at = ap (λ (r : delimiters.Run). r.whole) is in omega (arith, long, low)))
+
+  -- a byte by itself
+
+  pub lone-is : (b : ℕ) → IsUtf8 source → Stands source at b → b < 128 → is_markup b ≡ false → IsAtom rules source at (Piece at (at + 1)) (at + 1)
+  unfolding atom_at
+  lone-is b utf8 s ascii lone =
+      byte-is b (byte_atom b (drop (at + 1) source)) utf8 s ascii
+      (here rules source at b s ∙ ap (λ m. elim m as (λ _. AtomRead) [ true ↦ or_byte b (drop (at + 1) source) (markup_atom rules (reverse (take at source)) b (drop (at + 1) source)) | false ↦ byte_atom b (drop (at + 1) source) ]) lone) refl refl
+
+-- a byte that is none of those
+pub lone-byte : (b : ℕ) → (b ≡ 10 → ⊥) → (b ≡ 32 → ⊥) → (b ≡ 33 → ⊥) → (b ≡ 38 → ⊥) → (b ≡ 42 → ⊥) → (b ≡ 60 → ⊥) → (b ≡ 91 → ⊥) → (b ≡ 92 → ⊥) → (b ≡ 93 → ⊥) → (b ≡ 95 → ⊥) → (b ≡ 96 → ⊥) → (b ≡ 126 → ⊥)
+    → is_markup b ≡ false
+lone-byte b feed space bang ampersand star angle left slash right underscore tick tilde =
+    rw (not-same b 10 feed, not-same b 32 space, not-same b 33 bang, not-same b 38 ampersand, not-same b 42 star, not-same b 60 angle, not-same b 91 left, not-same b 92 slash, not-same b 93 right, not-same b 95 underscore, not-same b 96 tick, not-same b 126 tilde) refl
+
+-- a token that is an atom was read, since a group holds emphasis as long as nothing is made of the groups
+pub token-read : (rules : Rules) (source : List ℕ) (at : ℕ) (token : Token) (end : ℕ) → IsAtom rules source at (node_of [] token) end → IsNoGroup token
+token-read rules source at (tokens.Piece from to) end is = tt
+token-read rules source at (tokens.Characters chars) end is = tt
+token-read rules source at (tokens.Whole standalone) end is = tt
+token-read rules source at (tokens.Made number depth false) end is = absurd (omega (arith, is.fresh, emph-holds []))
+token-read rules source at (tokens.Made number depth true) end is = absurd (omega (arith, is.fresh, emph-holds []))
+token-read rules source at (tokens.Run run) end is = tt
+token-read rules source at (tokens.Opener image behind) end is = tt

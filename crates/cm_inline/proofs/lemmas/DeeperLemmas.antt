@@ -1,0 +1,219 @@
+-- What is finished among items stays, so that they never come to nest less deep.
+use Rattle.std.proofs.Common.{◌≡◌, ℕ, zero, suc, ◌+◌, ◌-◌, ◌<◌, ◌≤◌, Bool, true, false, not, ◌&&◌, nat_le, List, [], ◌∷◌, ◌++◌, length, reverse, Option, Some, None, refl, sym, ap, ◌∙◌, arith, max, append-nil, cond}
+use Rattle.std.specs.Prelude.{Result, Ok, Err}
+use Rattle.std.specs.Result.{IsErrAnd}
+use Rattle.std.proofs.lemmas.List.{reverse-append}
+use Rattle.std.proofs.lemmas.Option.{none-some, same_Some}
+use Rattle.cm_text.specs.Rules.{Rules}
+use Rattle.cm_tree.specs.declared.tree.Inline.{Inline}
+use Rattle.cm_tree.specs.declared.tree.Inline.TheVariants.{Link, Image}
+use Rattle.cm_tree.specs.declared.tree.Inline.TheViews.{outs-Link, outs-Image}
+use Rattle.cm_tree.specs.declared.tree.Inline.TheFolds.{fold_out-Inline}
+use Rattle.cm_tree.specs.Depth.{depth_step, depth_of, inlines_depth}
+use Rattle.cm_scan.specs.inlines.Delimiters.{Run}
+use Rattle.cm_scan.specs.inlines.Pairing.{Item, Characters, Finished, Linked, Delimiters, Opener, Opened, nearest_opener, without, used, emphasised, settled_after, settled, pair_all, emphasis_of, bracket_text}
+use Rattle.cm_scan.specs.inlines.OnePass.{up_to_pair, closer_left, closed_within, passed, pass_from}
+use Rattle.cm_scan.specs.inlines.Atoms.{Atom, Plain, Whole, Delimiter, OpenBracket, CloseBracket, atom_at}
+use Rattle.cm_scan.specs.inlines.Brackets.{LinkEnd, Defined, end_at, OpenerFound, last_opener, holds_link, made, Bracketed, bracket_is_text, brackets_are_text, source_up_to, closed_by_bracket, close_bracket}
+use Rattle.cm_scan.specs.inlines.Inlines.{add_atom, item_step, items_after}
+use Rattle.cm_scan.proofs.lemmas.inlines.PairingLemmas.{nearest-splits, together}
+use Rattle.cm_scan.proofs.lemmas.inlines.OnePassLemmas.{pairs_in_one_pass, closed-none, closed-gone, closed-more, closed_by-gone, closed_by-more}
+use Rattle.cm_inline.specs.declared.fault.InlineFault.{InlineFault}
+use Rattle.cm_inline.specs.steps.Nodes.{Node, items_of, nodes_depth, AreParts}
+use Rattle.cm_inline.specs.steps.Depths.{item_depth, items_depth}
+use Rattle.cm_inline.proofs.lemmas.DepthLemmas.{emphasised-depth, text-first, none-deeper, settled-depth}
+use Rattle.cm_inline.proofs.lemmas.PairLemmas.{pass-closer, pass-other}
+
+pub both : (xs ys : List Item) → items_depth (xs ++ ys) ≡ max (items_depth xs) (items_depth ys)
+both [] ys = sym (none-deeper (items_depth ys))
+both (x ∷ xs) ys = omega (arith, both xs ys)
+
+pub reverse-depth : (items : List Item) → items_depth (reverse items) ≡ items_depth items
+reverse-depth [] = refl
+reverse-depth (item ∷ items) = ap items_depth (reverse-append (item ∷ []) items) ∙ omega (arith, both (reverse items) (item ∷ []), reverse-depth items)
+
+settled-is : (text : List ℕ) (items : List Item) → inlines_depth (settled_after text items) ≡ items_depth items
+unfolding settled_after
+settled-is text [] = text-first text []
+settled-is text (Characters more ∷ items) = settled-is _ items ∙ sym (none-deeper (items_depth items))
+settled-is text (Delimiters run ∷ items) = settled-is _ items ∙ sym (none-deeper (items_depth items))
+settled-is text (Opener image source ∷ items) = settled-is _ items ∙ sym (none-deeper (items_depth items))
+settled-is text (Finished inline ∷ items) = text-first text (inline ∷ settled_after [] items) ∙ ap (λ n. max (depth_of inline) n) (settled-is [] items)
+settled-is text (Linked inline ∷ items) = text-first text (inline ∷ settled_after [] items) ∙ ap (λ n. max (depth_of inline) n) (settled-is [] items)
+
+pub settled-items : (items : List Item) → inlines_depth (settled items) ≡ items_depth items
+settled-items items = settled-is [] items
+
+without-depth : (n : ℕ) (run : Run) → items_depth (without n run) ≡ 0
+without-depth n run = go (nat_le run.left n)
+  where
+    go : (b : Bool) → items_depth (cond b [] (Delimiters (record run { left = run.left - n }) ∷ [])) ≡ 0
+    go true = refl
+    go false = omega arith
+
+-- a pair nests deeper than what stands between its runs, and no less deep than what stands before
+pub pair-deeper : (found : Opened) (closer : Run) → (items_depth found.inside < items_depth (up_to_pair found closer)) × (items_depth (together found) ≤ items_depth (up_to_pair found closer))
+pair-deeper found closer =
+    let n = used found.opener closer in
+    let emphasis = emphasised closer.character n (settled found.inside) in
+    let one : depth_of emphasis ≡ items_depth found.inside + 1 = emphasised-depth closer.character n (settled found.inside) ∙ ap (λ d. d + 1) (settled-items found.inside) in
+    let up = both (found.before ++ without n found.opener) (Finished emphasis ∷ []) in
+    let front = both found.before (without n found.opener) in
+    let all = both found.before (Delimiters found.opener ∷ found.inside) in
+    (omega (arith, one, up, front), omega (arith, one, up, front, all, without-depth n found.opener))
+
+split-depth : (before : List Item) (closer : Run) (found : Opened) → nearest_opener closer before [] ≡ Some found → items_depth before ≤ items_depth (up_to_pair found closer)
+split-depth before closer found s =
+    let whole : items_depth before ≡ items_depth (together found) = sym (reverse-depth before) ∙ ap items_depth (sym (append-nil (reverse before)) ∙ nearest-splits closer before [] found s) in
+    omega (arith, whole, (pair-deeper found closer).1)
+
+closed-deeper : (n : ℕ) (before : List Item) (closer : Run) → items_depth before ≤ items_depth (closed_within n before closer)
+unfolding closed_within
+closed-deeper zero before closer = omega arith
+closed-deeper (suc n) before closer = go (nearest_opener closer before []) refl (λ items run. closed-deeper n items run)
+  where
+    go : (o : Option Opened) → nearest_opener closer before [] ≡ o → ((items : List Item) (run : Run) → items_depth items ≤ items_depth (closed_within n items run)) → items_depth before ≤ items_depth (closed_within (suc n) before closer)
+    go None s further = omega (arith, ap items_depth (closed-none n before closer s))
+    go (Some found) s further = part (nat_le closer.left (used found.opener closer)) refl
+      where
+        part : (b : Bool) → nat_le closer.left (used found.opener closer) ≡ b → items_depth before ≤ items_depth (closed_within (suc n) before closer)
+        part true k = omega (arith, split-depth before closer found s, reverse-depth (up_to_pair found closer), ap items_depth (closed-gone n before closer found s k))
+        part false k =
+            omega (arith, split-depth before closer found s, reverse-depth (up_to_pair found closer), ap items_depth (closed-more n before closer found s k), further (reverse (up_to_pair found closer)) (closer_left found closer))
+
+-- the nodes of a source nest as deep as their items
+pub nodes-items : (source : List ℕ) (nodes : List Node) → AreParts source nodes → items_depth (items_of source nodes) ≡ nodes_depth nodes
+nodes-items source nodes parts = sym (settled-items (items_of source nodes)) ∙ settled-depth source nodes parts
+
+-- what a closer comes to nests deeper than what stands between it and its opener
+pub closer-deeper : (before : List Item) (closer : Run) (found : Opened) → closer.closes ≡ true → nearest_opener closer before [] ≡ Some found → items_depth found.inside < items_depth (passed before (Delimiters closer))
+closer-deeper before closer found h s = go (nat_le closer.left (used found.opener closer)) refl
+  where
+    more : items_depth found.inside < items_depth (reverse (up_to_pair found closer))
+    more = omega (arith, (pair-deeper found closer).0, reverse-depth (up_to_pair found closer))
+
+    go : (b : Bool) → nat_le closer.left (used found.opener closer) ≡ b → items_depth found.inside < items_depth (passed before (Delimiters closer))
+    go true k = omega (arith, more, ap items_depth (pass-closer before closer h ∙ closed_by-gone before closer found s k))
+    go false k =
+        omega (arith, more, ap items_depth (pass-closer before closer h ∙ closed_by-more before closer found s k), closed-deeper (suc (closer_left found closer).left) (reverse (up_to_pair found closer)) (closer_left found closer))
+
+passed-deeper : (before : List Item) (item : Item) → items_depth before ≤ items_depth (passed before item)
+passed-deeper before (Characters t) = omega arith
+passed-deeper before (Finished i) = omega arith
+passed-deeper before (Linked i) = omega arith
+passed-deeper before (Opener b s) = omega arith
+passed-deeper before (Delimiters run) = go run.closes refl
+  where
+    go : (b : Bool) → run.closes ≡ b → items_depth before ≤ items_depth (passed before (Delimiters run))
+    go true h = omega (arith, ap items_depth (pass-closer before run h), closed-deeper (suc run.left) before run)
+    go false h = omega (arith, ap items_depth (pass-other before run h))
+
+-- the items that follow take nothing of it
+pub pass-deeper : (before after : List Item) → items_depth before ≤ items_depth (pass_from before after)
+unfolding pass_from
+pass-deeper before [] = omega (arith, reverse-depth before)
+pass-deeper before (item ∷ after) = omega (arith, passed-deeper before item, pass-deeper (passed before item) after)
+
+abbrev fault_or : {A : Type 0} → InlineFault → Result A InlineFault → InlineFault
+fault_or f (Ok x) = f
+fault_or f (Err g) = g
+
+-- a fault that is handed on
+pub same-fault : {A : Type 0} (r : Result A InlineFault) (told fault : InlineFault) → IsErrAnd r (λ e. e ≡ told) → r ≡ Err fault → told ≡ fault
+same-fault (Ok x) told fault is e = absurd (cc e)
+same-fault (Err f) told fault is e = sym is ∙ ap (fault_or f) e
+
+-- making all pairs makes nothing less deep
+
+after-stays : (before after : List Item) → items_depth after ≤ items_depth (pass_from before after)
+unfolding pass_from
+after-stays before [] = omega arith
+after-stays before (Characters text ∷ after) = omega (arith, after-stays (Characters text ∷ before) after)
+after-stays before (Finished inline ∷ after) = omega (arith, pass-deeper (Finished inline ∷ before) after, after-stays (Finished inline ∷ before) after)
+after-stays before (Linked inline ∷ after) = omega (arith, pass-deeper (Linked inline ∷ before) after, after-stays (Linked inline ∷ before) after)
+after-stays before (Delimiters run ∷ after) = omega (arith, after-stays (passed before (Delimiters run)) after)
+after-stays before (Opener image source ∷ after) = omega (arith, after-stays (Opener image source ∷ before) after)
+
+pub emphasis-deeper : (items : List Item) → items_depth items ≤ inlines_depth (emphasis_of items)
+emphasis-deeper items = omega (arith, after-stays [] items, settled-items (pair_all items), ap items_depth (pairs_in_one_pass items))
+
+-- nor does a `]`
+
+opener-parts : (items inside : List Item) (found : OpenerFound) → last_opener items inside ≡ Some found → max (items_depth items) (items_depth inside) ≡ max (items_depth found.before) (items_depth found.inside)
+unfolding last_opener
+opener-parts [] inside found e = absurd (none-some found e)
+opener-parts (Characters text ∷ before) inside found e = omega (arith, opener-parts before (Characters text ∷ inside) found e)
+opener-parts (Finished inline ∷ before) inside found e = omega (arith, opener-parts before (Finished inline ∷ inside) found e)
+opener-parts (Linked inline ∷ before) inside found e = omega (arith, opener-parts before (Linked inline ∷ inside) found e)
+opener-parts (Delimiters run ∷ before) inside found e = omega (arith, opener-parts before (Delimiters run ∷ inside) found e)
+opener-parts (Opener image source ∷ before) inside found e =
+    let same = same_Some (record { before = before; image = image; source = source; inside = inside }) found e in
+    omega (arith, ap (λ (f : OpenerFound). items_depth f.before) same, ap (λ (f : OpenerFound). items_depth f.inside) same)
+
+pub link-depth : (dest title : List ℕ) (content : List Inline) → depth_of (Link dest title content) ≡ inlines_depth content + 1
+link-depth dest title content = simp (fold_out-Inline ℕ depth_step, outs-Link)
+
+pub image-depth : (dest title : List ℕ) (content : List Inline) → depth_of (Image dest title content) ≡ inlines_depth content + 1
+image-depth dest title content = simp (fold_out-Inline ℕ depth_step, outs-Image)
+
+-- a link or an image nests one deeper than its content
+pub made-depth : (image : Bool) (dest title : List ℕ) (inside : List Item) → item_depth (made image dest title inside) ≡ inlines_depth (emphasis_of inside) + 1
+made-depth false dest title inside = link-depth dest title (emphasis_of inside)
+made-depth true dest title inside = go (holds_link inside)
+  where
+    go : (b : Bool) → item_depth (cond b (Linked (Image dest title (emphasis_of inside))) (Finished (Image dest title (emphasis_of inside)))) ≡ inlines_depth (emphasis_of inside) + 1
+    go true = image-depth dest title (emphasis_of inside)
+    go false = image-depth dest title (emphasis_of inside)
+
+-- and deeper than what stands between its brackets
+pub made-deeper : (image : Bool) (dest title : List ℕ) (inside : List Item) → items_depth inside < item_depth (made image dest title inside)
+made-deeper image dest title inside = omega (arith, made-depth image dest title inside, emphasis-deeper inside)
+
+texts-depth : (found : OpenerFound) → items_depth (brackets_are_text found) ≡ max (items_depth found.before) (items_depth found.inside)
+texts-depth found = omega (arith, both (reverse found.inside) (Characters (bracket_text found.image) ∷ found.before), reverse-depth found.inside)
+
+by_bracket-deeper : (rules : Rules) (defined : Defined) (found : OpenerFound) (rest : List ℕ) → max (items_depth found.before) (items_depth found.inside) ≤ items_depth (closed_by_bracket rules defined found rest).items
+unfolding closed_by_bracket
+by_bracket-deeper rules defined found rest = go (not found.image && holds_link found.inside) (end_at rules defined (source_up_to found.source (93 ∷ rest)) rest)
+  where
+    as_text : Bracketed
+    as_text = record { items = brackets_are_text found; rest = rest }
+
+    go : (barred : Bool) (o : Option LinkEnd) → max (items_depth found.before) (items_depth found.inside) ≤ items_depth (elim barred as (λ _. Bracketed) [
+      | true ↦ as_text
+      | false ↦ elim o as (λ _. Bracketed) [ Some end ↦ record { items = made found.image end.dest end.title found.inside ∷ found.before; rest = end.rest } | None ↦ as_text ]
+    ]).items
+    go true o = omega (arith, texts-depth found)
+    go false None = omega (arith, texts-depth found)
+    go false (Some end) = omega (arith, made-deeper found.image end.dest end.title found.inside)
+
+pub bracket-deeper : (rules : Rules) (defined : Defined) (items : List Item) (rest : List ℕ) → items_depth items ≤ items_depth (close_bracket rules defined items rest).items
+unfolding close_bracket
+bracket-deeper rules defined items rest = go (last_opener items []) refl
+  where
+    go : (o : Option OpenerFound) → last_opener items [] ≡ o
+        → items_depth items ≤ items_depth (elim o as (λ _. Bracketed) [ Some found ↦ closed_by_bracket rules defined found rest | None ↦ record { items = bracket_is_text items; rest = rest } ]).items
+    go (Some found) e = omega (arith, opener-parts items [] found e, by_bracket-deeper rules defined found rest)
+    go None e = omega arith
+
+-- so nothing that is read further does
+
+pub atom-deeper : (rules : Rules) (defined : Defined) (items : List Item) (atom : Atom) (rest : List ℕ) → items_depth items ≤ items_depth (add_atom rules defined items atom rest).items
+unfolding add_atom
+atom-deeper rules defined items (Plain text) rest = omega arith
+atom-deeper rules defined items (Whole inline) rest = omega arith
+atom-deeper rules defined items (Delimiter run) rest = omega arith
+atom-deeper rules defined items (OpenBracket image) rest = omega arith
+atom-deeper rules defined items CloseBracket rest = bracket-deeper rules defined items rest
+
+step-deeper : (rules : Rules) (defined : Defined) (before : List ℕ) (b : ℕ) (bs : List ℕ) (items : List Item) → items_depth items ≤ items_depth (item_step rules defined before b bs items).items
+unfolding item_step
+step-deeper rules defined before b bs items = let a = atom_at rules before b bs in atom-deeper rules defined items a.atom a.rest
+
+pub after-deeper : (rules : Rules) (defined : Defined) (n : ℕ) (before source : List ℕ) (items : List Item) → items_depth items ≤ items_depth (items_after rules defined n before source items)
+unfolding items_after
+after-deeper rules defined n before [] items = omega arith
+after-deeper rules defined (suc n) before (b ∷ bs) items = after-deeper rules defined n (b ∷ before) bs items
+after-deeper rules defined zero before (b ∷ bs) items =
+    let next = item_step rules defined before b bs items in
+    omega (arith, step-deeper rules defined before b bs items, after-deeper rules defined (length bs - length next.rest) (b ∷ before) bs next.items)

@@ -1,0 +1,213 @@
+-- What follows the right bracket of a link or an image, by what comes next in the source.
+use Rattle.std.proofs.Common.{◌≡◌, ◌≢◌, ℕ, suc, ◌+◌, ◌<◌, ◌≤◌, ◌==◌, Bool, true, false, List, [], ◌∷◌, ◌++◌, length, drop, get_or, Option, Some, None, Result, Ok, Err, IfOk, IfSome, codes, refl, sym, ap, subst, ◌∙◌, arith, length-append, length-drop}
+use Rattle.std.specs.List.{slice_range}
+use Rattle.std.specs.Str.{IsCharBoundary}
+use Rattle.std.proofs.lemmas.List.{drop_more}
+use Rattle.cm_text.specs.Rules.{Rules}
+use Rattle.cm_text.specs.Addresses.{is_followed}
+use Rattle.cm_text.specs.Unescaping.{unescape}
+use Rattle.cm_tree.specs.Definitions.{Target}
+use Rattle.cm_scan.specs.Words.{begins_with, after_word}
+use Rattle.cm_scan.specs.spans.Tags.{is_blank_next, after_gap}
+use Rattle.cm_scan.specs.inlines.Links.{Reading, label, destination, title}
+use Rattle.cm_scan.specs.inlines.Brackets as brackets
+use Rattle.cm_scan.specs.inlines.Brackets.{Defined, closed, after_destination, inline_end, target_of, target_between, collapsed_or_shortcut, reference_end, end_if_followed, end_at}
+use Rattle.cm_scan.proofs.lemmas.texts.ScannerAnswers.{begins-at}
+use Rattle.cm_scan.proofs.lemmas.inlines.LeftByEachStep.{end_at-end}
+use Rattle.cm_inline.specs.declared.links.LinkEnd.{LinkEnd}
+use Rattle.cm_inline.specs.steps.Reads.{Stands}
+use Rattle.cm_inline.specs.steps.Links.{found_target, ends_of, leads_to, behind_brackets}
+use Rattle.cm_inline.proofs.lemmas.SliceLemmas.{slice-front}
+use Rattle.cm_inline.proofs.lemmas.LabelLemmas.{label_between, no_label_between}
+
+-- The next byte
+
+-- a byte that comes next in a copy of a text
+pub next-of : (b : ℕ) (text copy : List ℕ) (at : ℕ) (next : Bool) → copy ≡ text → next ≡ begins_with b (drop at copy) → next ≡ begins_with b (drop at text)
+next-of b text copy at next same h = subst (λ t. next ≡ begins_with b (drop at t)) same h
+
+abbrev if_next : Bool → List ℕ → List ℕ → Option (List ℕ)
+if_next next word rest = elim next [ true ↦ after_word word rest | false ↦ None ]
+
+word-by : (b : ℕ) (word : List ℕ) (c : ℕ) (cs : List ℕ) (next : Bool) → (c == b) ≡ next → after_word (b ∷ word) (c ∷ cs) ≡ if_next next word cs
+unfolding after_word
+word-by b word c cs next h = ap (λ v. if_next v word cs) h
+
+word-none : (b : ℕ) (word text : List ℕ) → begins_with b text ≡ false → after_word (b ∷ word) text ≡ None
+unfolding after_word
+word-none b word [] h = refl
+word-none b word (c ∷ cs) h = word-by b word c cs false h
+
+word-next : (b : ℕ) (word text : List ℕ) (at : ℕ) → begins_with b (drop at text) ≡ true → after_word (b ∷ word) (drop at text) ≡ after_word word (drop (at + 1) text)
+word-next b word text at h =
+    let next = (begins-at b text at h).1 in
+    let one : suc at ≡ at + 1 = omega arith in
+    ap (after_word (b ∷ word)) next ∙ word-by b word b (drop (suc at) text) true (ap (begins_with b) (sym next) ∙ h) ∙ ap (λ n. after_word word (drop n text)) one
+
+word-all : (text : List ℕ) → after_word [] text ≡ Some text
+unfolding after_word
+word-all text = refl
+
+word-one : (b : ℕ) (text : List ℕ) (at : ℕ) → begins_with b (drop at text) ≡ true → after_word (b ∷ []) (drop at text) ≡ Some (drop (at + 1) text)
+word-one b text at h = word-next b [] text at h ∙ word-all (drop (at + 1) text)
+
+-- The end of an inline link
+
+abbrev ended : List ℕ → List ℕ → Option (List ℕ) → Option brackets.LinkEnd
+ended dest title o = elim o [ Some rest ↦ Some (record { dest = unescape dest; title = unescape title; rest = rest }) | None ↦ None ]
+
+pub not-closed : (dest title text : List ℕ) (at end : ℕ) → drop end text ≡ after_gap (drop at text) → begins_with 41 (drop end text) ≡ false → closed dest title (drop at text) ≡ None
+not-closed dest title text at end gap next = ap (λ t. ended dest title (after_word (codes ")") t)) (sym gap) ∙ ap (ended dest title) (word-none 41 [] (drop end text) next)
+
+pub is-closed : (dest title text : List ℕ) (at end : ℕ) → drop end text ≡ after_gap (drop at text) → begins_with 41 (drop end text) ≡ true
+    → closed dest title (drop at text) ≡ Some (record { dest = unescape dest; title = unescape title; rest = drop (end + 1) text })
+is-closed dest title text at end gap next = ap (λ t. ended dest title (after_word (codes ")") t)) (sym gap) ∙ ap (ended dest title) (word-one 41 text end next)
+
+abbrev titled : List ℕ → List ℕ → Option Reading → Option brackets.LinkEnd
+titled dest text o = elim o [ Some t ↦ closed dest t.text t.rest | None ↦ closed dest [] text ]
+
+abbrev parted : List ℕ → List ℕ → Bool → Option brackets.LinkEnd
+parted dest text blank = elim blank [ true ↦ titled dest text (title (after_gap text)) | false ↦ closed dest [] text ]
+
+pub not-parted : (dest text : List ℕ) → is_blank_next text ≡ false → after_destination dest text ≡ closed dest [] text
+unfolding after_destination
+not-parted dest text blank = ap (parted dest text) blank
+
+pub by-title : (dest text gap : List ℕ) (o : Option Reading) → is_blank_next text ≡ true → gap ≡ after_gap text → o ≡ title gap → after_destination dest text ≡ titled dest text o
+unfolding after_destination
+by-title dest text gap o blank same h = ap (parted dest text) blank ∙ ap (titled dest text) (ap title (sym same) ∙ sym h)
+
+abbrev in_parentheses : List ℕ → Option Reading → Option brackets.LinkEnd
+in_parentheses inside o = elim o [ Some d ↦ after_destination d.text d.rest | None ↦ closed [] [] inside ]
+
+abbrev opened : Option (List ℕ) → Option brackets.LinkEnd
+opened o = elim o [ Some inside ↦ in_parentheses inside (destination (after_gap inside)) | None ↦ None ]
+
+pub no-inline_end : (text : List ℕ) → begins_with 40 text ≡ false → inline_end text ≡ None
+unfolding inline_end
+no-inline_end text next = ap opened (word-none 40 [] text next)
+
+pub by-destination : (text gap : List ℕ) (at : ℕ) (o : Option Reading) → begins_with 40 (drop at text) ≡ true → gap ≡ after_gap (drop (at + 1) text) → o ≡ destination gap
+    → inline_end (drop at text) ≡ in_parentheses (drop (at + 1) text) o
+unfolding inline_end
+by-destination text gap at o next same h = ap opened (word-one 40 text at next) ∙ ap (in_parentheses (drop (at + 1) text)) (ap destination (sym same) ∙ sym h)
+
+-- References
+
+abbrev either : Defined → List ℕ → List ℕ → Option Reading → Option brackets.LinkEnd
+either defined between text o = elim o [ Some l ↦ leads_to (target_of defined l.text) l.rest | None ↦ collapsed_or_shortcut (target_between defined between) text ]
+
+pub by-full : (defined : Defined) (between text : List ℕ) (l : Reading) → Some l ≡ label text → reference_end defined between text ≡ leads_to (target_of defined l.text) l.rest
+unfolding reference_end
+by-full defined between text l h = ap (either defined between text) (sym h)
+
+abbrev without : List ℕ → Option (List ℕ) → List ℕ
+without text o = elim o [ Some rest ↦ rest | None ↦ text ]
+
+-- by the two brackets that follow, or by what follows
+not-full : (target : Option Target) (text : List ℕ) → collapsed_or_shortcut target text ≡ leads_to target (behind_brackets text)
+not-full None text = refl
+not-full (Some target) text = go (after_word (codes "[]") text)
+  where
+    go : (o : Option (List ℕ)) → elim o as (λ _. Option brackets.LinkEnd) [ Some rest ↦ Some (brackets.link_end target rest) | None ↦ Some (brackets.link_end target text) ]
+        ≡ Some (brackets.link_end target (without text o))
+    go (Some rest) = refl
+    go None = refl
+
+pub by-between : (defined : Defined) (between text : List ℕ) (target : Option Target) → None ≡ label text → target ≡ target_between defined between
+    → reference_end defined between text ≡ leads_to target (behind_brackets text)
+unfolding reference_end
+by-between defined between text target h same =
+    ap (either defined between text) (sym h) ∙ not-full (target_between defined between) text ∙ ap (λ t. leads_to t (behind_brackets text)) (sym same)
+
+-- `[]` comes next
+pub both-brackets : (text : List ℕ) (at : ℕ) → begins_with 91 (drop at text) ≡ true → begins_with 93 (drop (at + 1) text) ≡ true → drop (at + 2) text ≡ behind_brackets (drop at text)
+both-brackets text at left right =
+    let two : at + 1 + 1 ≡ at + 2 = omega arith in
+    sym (ap (without (drop at text)) (word-next 91 (93 ∷ []) text at left ∙ word-one 93 text (at + 1) right) ∙ ap (λ n. drop n text) two)
+
+pub not-both : (text : List ℕ) (at : ℕ) → (begins_with 91 (drop at text) ≡ true → begins_with 93 (drop (at + 1) text) ≡ false) → drop at text ≡ behind_brackets (drop at text)
+not-both text at h = go (begins_with 91 (drop at text)) refl
+  where
+    go : (next : Bool) → begins_with 91 (drop at text) ≡ next → drop at text ≡ behind_brackets (drop at text)
+    go true e = sym (ap (without (drop at text)) (word-next 91 (93 ∷ []) text at e ∙ word-none 93 [] (drop (at + 1) text) (h e)))
+    go false e = sym (ap (without (drop at text)) (word-none 91 (93 ∷ []) (drop at text) e))
+
+-- The label between the brackets
+
+module _ (source : List ℕ) (before at : ℕ) where
+  pub between-brackets : (behind : ℕ) → behind ≡ before + 1 → before < length source → get_or source before 0 ≡ 91 → behind ≤ at → Stands source at 93
+      → drop before source ≡ 91 ∷ (slice_range source behind at ++ 93 ∷ drop (at + 1) source)
+  between-brackets behind place within byte low stands =
+      drop_more source before 0 within ∙ ap (λ b. b ∷ drop (before + 1) source) byte ∙ ap (λ n. 91 ∷ drop n source) (sym place)
+      ∙ ap (λ t. 91 ∷ t) (slice-front source behind at low ∙ ap (λ t. slice_range source behind at ++ t) (drop_more source at 0 stands.within ∙ ap (λ b. b ∷ drop (at + 1) source) stands.byte))
+
+  pub no-label : (defined : Defined) (behind : ℕ) → behind ≡ before + 1 → before < length source → get_or source before 0 ≡ 91 → behind ≤ at → Stands source at 93 → None ≡ label (drop before source)
+      → None ≡ target_between defined (slice_range source behind at)
+  no-label defined behind place within byte low stands h =
+      sym (no_label_between defined (slice_range source behind at) (drop (at + 1) source) None (ap label (sym (between-brackets behind place within byte low stands)) ∙ sym h) tt)
+
+  pub other-label : (defined : Defined) (behind end : ℕ) (inside : List ℕ) → behind ≡ before + 1 → before < length source → get_or source before 0 ≡ 91 → behind ≤ at → Stands source at 93
+      → Some (record { text = inside; rest = drop end source }) ≡ label (drop before source) → end ≤ length source → end ≢ at + 1
+      → None ≡ target_between defined (slice_range source behind at)
+  other-label defined behind end inside place within byte low stands h short other =
+      sym (no_label_between defined (slice_range source behind at) (drop (at + 1) source) (Some (record { text = inside; rest = drop end source }))
+      (ap label (sym (between-brackets behind place within byte low stands)) ∙ sym h)
+      (λ same. other (omega (arith, same, short, stands.within, length-drop end source, length-drop (at + 1) source))))
+
+  pub this-label : (defined : Defined) (behind end : ℕ) (inside : List ℕ) → behind ≡ before + 1 → before < length source → get_or source before 0 ≡ 91 → behind ≤ at → Stands source at 93
+      → Some (record { text = inside; rest = drop end source }) ≡ label (drop before source) → end ≡ at + 1
+      → target_of defined inside ≡ target_between defined (slice_range source behind at)
+  this-label defined behind end inside place within byte low stands h same =
+      let found = label_between defined (slice_range source behind at) (drop (at + 1) source) (record { text = inside; rest = drop end source })
+      (ap label (sym (between-brackets behind place within byte low stands)) ∙ sym h) (ap (λ n. length (drop n source)) same) in
+      ap (target_of defined) found.0 ∙ sym found.1
+
+-- The whole
+
+-- what a scanner answered that may have found nothing
+pub turned : {E : Type 0} (source : List ℕ) (r : Result (Option LinkEnd) E) (a b : Option brackets.LinkEnd) → a ≡ b → IfOk r (λ found. ends_of source found ≡ a) → IfOk r (λ found. ends_of source found ≡ b)
+turned source r a b e h = subst (λ x. IfOk r (λ found. ends_of source found ≡ x)) e h
+
+-- what a reference leads to, in this source
+pub led : {E : Type 0} (rules : Rules) (source : List ℕ) (r : Result (Option LinkEnd) E) (target : Option Target) (end : ℕ) (b : Option brackets.LinkEnd) → leads_to target (drop end source) ≡ b
+    → IfOk r (λ found. (s : List ℕ) → ends_of s found ≡ end_if_followed rules (leads_to target (drop end s))) → IfOk r (λ found. ends_of source found ≡ end_if_followed rules b)
+led rules source (Ok found) target end b e h = h source ∙ ap (end_if_followed rules) e
+led rules source (Err f) target end b e h = tt
+
+-- an end that was found ends behind the right bracket
+pub place : (source : List ℕ) (at : ℕ) (rules : Rules) (defined : Defined) (between : List ℕ) (found : Option LinkEnd) → at < length source → ends_of source found ≡ end_at rules defined between (drop (at + 1) source)
+    → IfSome found (λ e. IsCharBoundary source e.end) → IfSome found (λ e. (at < e.end) × (e.end ≤ length source) × IsCharBoundary source e.end)
+place source at rules defined between None within h boundary = tt
+place source at rules defined between (Some e) within h boundary =
+    let left = end_at-end rules defined between (drop (at + 1) source) (record { dest = (found_target e.target).0; title = (found_target e.target).1; rest = drop e.end source }) (sym h) in
+    let low : at < e.end = omega (arith, within, boundary.0, ap length left.is, length-append left.front (drop e.end source), length-drop (at + 1) source, length-drop e.end source) in
+    (low, boundary.0, boundary)
+
+pub place-in : {E : Type 0} (source : List ℕ) (at : ℕ) (rules : Rules) (defined : Defined) (between : List ℕ) (r : Result (Option LinkEnd) E) → at < length source
+    → IfOk r (λ found. ends_of source found ≡ end_at rules defined between (drop (at + 1) source)) → IfOk r (λ found. IfSome found (λ e. IsCharBoundary source e.end))
+    → IfOk r (λ found. IfSome found (λ e. (at < e.end) × (e.end ≤ length source) × IsCharBoundary source e.end))
+place-in source at rules defined between (Ok found) within h boundary = place source at rules defined between found within h boundary
+place-in source at rules defined between (Err e) within h boundary = tt
+
+abbrev first_of : Rules → Defined → List ℕ → List ℕ → Option brackets.LinkEnd → Option brackets.LinkEnd
+first_of rules defined between text o = elim o [ Some end ↦ Some end | None ↦ end_if_followed rules (reference_end defined between text) ]
+
+-- an inline link's end goes first
+pub inline-first : (source : List ℕ) (rules : Rules) (defined : Defined) (between text : List ℕ) (found : Option LinkEnd) (e : LinkEnd) → found ≡ Some e → ends_of source found ≡ end_if_followed rules (inline_end text)
+    → ends_of source (Some e) ≡ end_at rules defined between text
+unfolding end_at
+inline-first source rules defined between text found e same h = ap (first_of rules defined between text) (ap (ends_of source) (sym same) ∙ h)
+
+pub no-inline : (source : List ℕ) (rules : Rules) (defined : Defined) (between text : List ℕ) (found : Option LinkEnd) → found ≡ None → ends_of source found ≡ end_if_followed rules (inline_end text)
+    → end_if_followed rules (reference_end defined between text) ≡ end_at rules defined between text
+unfolding end_at
+no-inline source rules defined between text found none h = ap (first_of rules defined between text) (ap (ends_of source) (sym none) ∙ h)
+
+-- an end by whether the rules follow where it leads
+module _ (rules : Rules) (end : brackets.LinkEnd) where
+  pub end-followed : is_followed rules end.dest ≡ true → Some end ≡ end_if_followed rules (Some end)
+  end-followed on = sym (ap (λ (t : Bool). elim t as (λ _. Option brackets.LinkEnd) [ true ↦ Some end | false ↦ None ]) on)
+
+  pub end-not-followed : is_followed rules end.dest ≡ false → None ≡ end_if_followed rules (Some end)
+  end-not-followed off = sym (ap (λ (t : Bool). elim t as (λ _. Option brackets.LinkEnd) [ true ↦ Some end | false ↦ None ]) off)

@@ -1,0 +1,195 @@
+-- Where a text ends.
+use Rattle.std.proofs.Common.{◌≡◌, ℕ, zero, suc, ◌+◌, ◌-◌, ◌<◌, ◌≤◌, ◌==◌, ◌&&◌, ◌||◌, not, Bool, true, false, List, [], ◌∷◌, ◌++◌, length, take, drop, get_or, replicate, refl, sym, ap, subst, ◌∙◌, arith, append_assoc, length-append, length-drop, get_or-drop, drop-drop, take_all}
+use Rattle.std.specs.Prelude.{min, nat_lt, cond}
+use Rattle.std.specs.List.{list_all, list_any, slice_range, position_or_len}
+use Rattle.std.specs.Str.{IsCharBoundary}
+use Rattle.std.proofs.lemmas.Bool.{and_parts}
+use Rattle.std.proofs.lemmas.Bool.Decides.{nat_tests}
+use Rattle.std.proofs.lemmas.List.{drop_more, length-take}
+use Rattle.std.proofs.lemmas.Str.{IsCharBoundary-before_ascii}
+use Rattle.cm_text.specs.Search.{next_place, is_marked}
+use Rattle.cm_scan.specs.Words.{begins_with, is_empty, trim_end_spaces}
+use Rattle.cm_scan.specs.spans.Autolinks.{ends_with}
+use Rattle.cm_scan.specs.laws.InlineLaws.{is_plain_byte, keeps_spaces}
+use Rattle.cm_scan.proofs.lemmas.texts.TrimLemmas.{trimmed}
+use Rattle.cm_scan.proofs.lemmas.inlines.ReadingSteps.{unmarked_is_plain, plain_is_itself}
+use Rattle.cm_text.specs.Rules.{Rules}
+use Rattle.cm_tree.specs.declared.tree.Inline.TheVariants.{Text}
+use Rattle.cm_scan.specs.inlines.Brackets.{Defined}
+use Rattle.cm_scan.specs.inlines.Inlines.{inlines_of}
+use Rattle.cm_inline.proofs.lemmas.SliceLemmas.{slice-front}
+use Rattle.cm_inline.specs.steps.Reads.{IsTextTo}
+
+-- the bytes up to the first that is looked for
+record UpTo (text : List ℕ) (count : ℕ) : Type 0 where
+  within : count ≤ length text
+  plain : list_all is_plain_byte (take count text) ≡ true
+  marked : count < length text → is_marked (get_or text count 0) ≡ true
+
+up-to : (text : List ℕ) → UpTo text (position_or_len is_marked text)
+up-to [] = record { within = omega arith; plain = refl; marked = λ some. absurd (omega (arith, some)) }
+up-to (b ∷ bs) = go (is_marked b) refl (up-to bs)
+  where
+    go : (m : Bool) → is_marked b ≡ m → UpTo bs (position_or_len is_marked bs) → UpTo (b ∷ bs) (cond (not m) (1 + position_or_len is_marked bs) 0)
+    go true e again = record { within = omega arith; plain = refl; marked = λ some. e }
+    go false e again =
+        let one : suc (position_or_len is_marked bs) ≡ 1 + position_or_len is_marked bs = omega arith in
+        subst (UpTo (b ∷ bs)) one (record {
+          within = omega (arith, again.within);
+          plain = ap (λ v. v && list_all is_plain_byte (take (position_or_len is_marked bs) bs)) (unmarked_is_plain b e) ∙ again.plain;
+          marked = λ some. again.marked (omega (arith, some));
+        })
+
+-- the same at a place
+record Reaches (source : List ℕ) (at end : ℕ) : Type 0 where
+  low : at ≤ end
+  within : end ≤ length source
+  plain : list_all is_plain_byte (slice_range source at end) ≡ true
+  marked : end < length source → is_marked (get_or source end 0) ≡ true
+
+reaches : (source : List ℕ) (at end : ℕ) → at ≤ length source → end ≡ next_place is_marked source at → Reaches source at end
+reaches source at end within e =
+    let text = drop at source in
+    let found = up-to text in
+    let count = position_or_len is_marked text in
+    let size : length text ≡ length source - at = length-drop at source in
+    let place : end ≡ at + count = e ∙ least (length source) (at + count) (omega (arith, found.within, size, within)) in
+    let front : end - at ≡ count = omega (arith, place) in
+    record {
+      low = omega (arith, place);
+      within = omega (arith, place, found.within, size, within);
+      plain = ap (λ n. list_all is_plain_byte (take n text)) front ∙ found.plain;
+      marked = λ some. ap is_marked (ap (λ n. get_or source n 0) place ∙ sym (get_or-drop at source count 0)) ∙ found.marked (omega (arith, some, place, size, within));
+    }
+  where
+    least : (a b : ℕ) → b ≤ a → min a b ≡ b
+    least a b low = omega (arith, low)
+
+marked-ascii : (b : ℕ) → is_marked b ≡ true → b < 128
+marked-ascii b e = grind (arith, nat_tests, e)
+
+no-space : (b : ℕ) → is_marked b ≡ true → (b == 32) ≡ false
+no-space b e = grind (arith, nat_tests, e)
+
+-- the next markup is no line feed, or there is none
+pub text-to-markup : (source : List ℕ) (at end : ℕ) → at ≤ length source → end ≡ next_place is_marked source at → (end < length source → (get_or source end 0 == 10) ≡ false) → IsTextTo source at end
+text-to-markup source at end within e other =
+    let found = reaches source at end within e in
+    record {
+      low = found.low;
+      boundary = boundary found (nat_lt end (length source)) refl;
+      plain = found.plain;
+      spaces = kept (drop end source) (λ b bs f. next found b bs f);
+      ascii = λ some. marked-ascii (get_or source end 0) (found.marked some);
+    }
+  where
+    boundary : Reaches source at end → (some : Bool) → nat_lt end (length source) ≡ some → IsCharBoundary source end
+    boundary found true f =
+        let some : end < length source = grind (arith, nat_tests, f) in
+        IsCharBoundary-before_ascii source end some (marked-ascii (get_or source end 0) (found.marked some))
+    boundary found false f = (found.within, λ some. absurd (grind (arith, nat_tests, f, some)))
+
+    next : Reaches source at end → (b : ℕ) (bs : List ℕ) → drop end source ≡ b ∷ bs → ((b == 32) ≡ false) × ((b == 10) ≡ false)
+    next found b bs f =
+        let size : length (drop end source) ≡ suc (length bs) = ap length f in
+        let some : end < length source = omega (arith, size, length-drop end source) in
+        let same : get_or source end 0 ≡ b = ap (λ t. get_or t 0 0) (sym (drop_more source end 0 some) ∙ f) in
+        (ap (λ c. c == 32) (sym same) ∙ no-space (get_or source end 0) (found.marked some), ap (λ c. c == 10) (sym same) ∙ other some)
+
+    kept : (rest : List ℕ) → ((b : ℕ) (bs : List ℕ) → rest ≡ b ∷ bs → ((b == 32) ≡ false) × ((b == 10) ≡ false)) → keeps_spaces rest (slice_range source at end) ≡ true
+    kept [] f = refl
+    kept (b ∷ bs) f = let parts = f b bs refl in ap2 parts.0 parts.1
+      where
+        ap2 : (b == 32) ≡ false → (b == 10) ≡ false → not ((b == 32 || b == 10) && ends_with 32 (slice_range source at end)) ≡ true
+        ap2 p q = ap (λ v. not ((v || b == 10) && ends_with 32 (slice_range source at end))) p ∙ ap (λ v. not (v && ends_with 32 (slice_range source at end))) q
+
+drop-past : (front rest : List ℕ) → drop (length front) (front ++ rest) ≡ rest
+drop-past [] rest = refl
+drop-past (b ∷ bs) rest = drop-past bs rest
+
+take-past : (front rest : List ℕ) → take (length front) (front ++ rest) ≡ front
+take-past [] rest = refl
+take-past (b ∷ bs) rest = ap (λ t. b ∷ t) (take-past bs rest)
+
+length-take-le-count : (n : ℕ) (text : List ℕ) → length (take n text) ≤ n
+length-take-le-count n text = omega (arith, length-take n text)
+
+front-plain : (front rest : List ℕ) → list_all is_plain_byte (front ++ rest) ≡ true → list_all is_plain_byte front ≡ true
+front-plain [] rest h = refl
+front-plain (b ∷ bs) rest h =
+    let parts = and_parts (is_plain_byte b) (list_all is_plain_byte (bs ++ rest)) h in
+    ap (λ v. v && list_all is_plain_byte bs) parts.0 ∙ front-plain bs rest parts.1
+
+-- a space or a line feed comes next
+first-ascii : (source : List ℕ) (at count : ℕ) (rest : List ℕ) → at < length source → drop at source ≡ replicate count 32 ++ rest → get_or rest 0 0 ≡ 10 → get_or source at 0 < 128
+first-ascii source at zero rest within e feed = let same : get_or source at 0 ≡ 10 = ap (λ t. get_or t 0 0) (sym (drop_more source at 0 within) ∙ e) ∙ feed in omega (arith, same)
+first-ascii source at (suc count) rest within e feed = let same : get_or source at 0 ≡ 32 = ap (λ t. get_or t 0 0) (sym (drop_more source at 0 within) ∙ e) in omega (arith, same)
+
+-- the next markup is a line feed: the text is that without the spaces at its end
+pub text-to-spaces : (source : List ℕ) (at end : ℕ) → at ≤ length source → end ≡ next_place is_marked source at → end < length source → get_or source end 0 ≡ 10
+    → IsTextTo source at (at + length (trim_end_spaces (slice_range source at end)))
+text-to-spaces source at end within e some feed =
+    let found = reaches source at end within e in
+    let text = slice_range source at end in
+    let parts = trimmed text in
+    let left = trim_end_spaces text in
+    let behind : drop at source ≡ left ++ (replicate parts.count 32 ++ drop end source) = slice-front source at end found.low ∙ ap (λ t. t ++ drop end source) parts.is ∙ append_assoc left (replicate parts.count 32) (drop end source) in
+    let rest : drop (at + length left) source ≡ replicate parts.count 32 ++ drop end source = sym (drop-drop (length left) at source) ∙ ap (drop (length left)) behind ∙ drop-past left (replicate parts.count 32 ++ drop end source) in
+    let size : length text ≡ length left + length (replicate {A = ℕ} parts.count 32) = ap length parts.is ∙ length-append left (replicate parts.count 32) in
+    let whole : length text ≤ end - at = length-take-le-count (end - at) (drop at source) in
+    let inside : at + length left < length source = omega (arith, size, whole, found.low, some) in
+    let first : get_or source (at + length left) 0 < 128 = first-ascii source (at + length left) parts.count (drop end source) inside rest (ap (λ t. get_or t 0 0) (drop_more source end 0 some) ∙ feed) in
+    let part : slice_range source at (at + length left) ≡ left = (let n : at + length left - at ≡ length left = omega arith in ap (λ k. take k (drop at source)) n ∙ ap (take (length left)) behind ∙ take-past left (replicate parts.count 32 ++ drop end source)) in
+    record {
+      low = omega arith;
+      boundary = IsCharBoundary-before_ascii source (at + length left) inside first;
+      plain = ap (list_all is_plain_byte) part ∙ front-plain left (replicate parts.count 32) (sym (ap (list_all is_plain_byte) parts.is) ∙ found.plain);
+      spaces = ap (λ t. not ((begins_with 32 (drop (at + length left) source) || begins_with 10 (drop (at + length left) source)) && ends_with 32 t)) part
+          ∙ ap (λ v. not ((begins_with 32 (drop (at + length left) source) || begins_with 10 (drop (at + length left) source)) && v)) parts.ended
+          ∙ none (begins_with 32 (drop (at + length left) source) || begins_with 10 (drop (at + length left) source));
+      ascii = λ _. first;
+    }
+  where
+    none : (next : Bool) → not (next && false) ≡ true
+    none true = refl
+    none false = refl
+
+-- a source without markup is one text
+
+plain-to-end : (source : List ℕ) → length source ≡ next_place is_marked source 0 → list_all is_plain_byte source ≡ true
+plain-to-end source e =
+    let found = reaches source 0 (length source) (omega arith) e in
+    let all : length source - 0 ≡ length source = omega arith in
+    sym (ap (list_all is_plain_byte) (ap (λ n. take n source) all ∙ take_all (length source) source (omega arith))) ∙ found.plain
+
+pub one-text : (rules : Rules) (defined : Defined) (source : List ℕ) → (length source == 0) ≡ false → length source ≡ next_place is_marked source 0 → inlines_of rules defined source ≡ Text source ∷ []
+one-text rules defined [] some e = absurd (cc some)
+one-text rules defined (b ∷ bs) some e = plain_is_itself rules defined (b ∷ bs) (plain-to-end (b ∷ bs) e)
+
+-- the next markup is at the end just where there is none
+none-marked : (text : List ℕ) → (position_or_len is_marked text == length text) ≡ not (list_any is_marked text)
+none-marked [] = refl
+none-marked (b ∷ bs) = go (is_marked b) (none-marked bs)
+  where
+    next : (m n : ℕ) → (1 + m == suc n) ≡ (m == n)
+    next m n = grind (arith, nat_tests)
+
+    other : (n : ℕ) → (0 == suc n) ≡ false
+    other n = grind (arith, nat_tests)
+
+    go : (m : Bool) → (position_or_len is_marked bs == length bs) ≡ not (list_any is_marked bs) → (cond (not m) (1 + position_or_len is_marked bs) 0 == suc (length bs)) ≡ not (m || list_any is_marked bs)
+    go true rest = other (length bs)
+    go false rest = next (position_or_len is_marked bs) (length bs) ∙ rest
+
+pub is-unmarked : (source : List ℕ) → (next_place is_marked source 0 == length source) ≡ not (list_any is_marked source)
+is-unmarked source =
+    let found = up-to source in
+    let place : next_place is_marked source 0 ≡ position_or_len is_marked source = omega (arith, found.within) in
+    ap (λ n. n == length source) place ∙ none-marked source
+
+pub is-empty : (source : List ℕ) → (length source == 0) ≡ is_empty source
+is-empty [] = refl
+is-empty (b ∷ bs) = some (length bs)
+  where
+    some : (n : ℕ) → (suc n == 0) ≡ false
+    some n = grind (arith, nat_tests)

@@ -1,0 +1,214 @@
+-- How a source is read from one place to the next.
+use Rattle.std.proofs.Common.{◌≡◌, ℕ, zero, ◌+◌, ◌-◌, ◌<◌, ◌≤◌, Bool, true, false, List, [], ◌∷◌, ◌++◌, length, take, drop, get_or, reverse, Some, refl, sym, ap, subst, ◌∙◌, arith}
+use Rattle.std.specs.Prelude.{nat_lt, if◌then◌else◌, Result, Ok, Err, IfOk}
+use Rattle.std.specs.List.{slice_range}
+use Rattle.std.proofs.lemmas.Bool.Decides.{nat_tests}
+use Rattle.std.proofs.lemmas.List.{reverse-append, reverse-reverse, drop_more, append-nil, drop_all, map-append}
+use Rattle.std.proofs.lemmas.List.Concat.{flat_map-append}
+use Rattle.cm_text.specs.Rules.{Rules}
+use Rattle.cm_tree.specs.Definitions.{Targets}
+use Rattle.cm_tree.specs.Depth.{inlines_depth}
+use Rattle.cm_scan.specs.inlines.Pairing as pairing
+use Rattle.cm_scan.specs.inlines.Pairing.{emphasis_of}
+use Rattle.cm_scan.specs.inlines.Pieces.{one_by_one, pieces_of, in_pieces}
+use Rattle.cm_scan.specs.inlines.Atoms.{Atom, Plain, Whole, Delimiter, OpenBracket, CloseBracket}
+use Rattle.cm_scan.specs.inlines.Brackets.{Defined, Bracketed, defined_in}
+use Rattle.cm_scan.specs.inlines.Inlines.{with_item, add_atom, item_step, items_after, inlines_of, depth_of_leaf, nests_past}
+use Rattle.cm_scan.specs.inlines.Inlines as inlines
+use Rattle.cm_scan.proofs.lemmas.inlines.ReadingSteps.{reading_goes_on, bracket_step, plain_front_is_text}
+use Rattle.cm_scan.proofs.lemmas.inlines.PairingInPieces.{texts_in_pieces}
+use Rattle.cm_scan.proofs.lemmas.inlines.ReadingInPieces.{reading_in_pieces}
+use Rattle.cm_inline.specs.Reading.{Refused}
+use Rattle.cm_inline.specs.declared.fault.InlineFault.{InlineFault}
+use Rattle.cm_inline.specs.declared.fault.InlineFault.TheVariants.{InlinesTooDeep, NoMemory}
+use Rattle.cm_inline.specs.steps.Nodes.{Node, Piece, item_of, items_of, text_between}
+use Rattle.cm_inline.specs.steps.Brackets.{closed_at}
+use Rattle.cm_inline.specs.steps.Depths.{items_depth}
+use Rattle.cm_inline.specs.steps.Reads.{Stands, atom_in, item_for, IsAtom, IsTextTo, ahead}
+use Rattle.cm_inline.proofs.lemmas.DeeperLemmas.{emphasis-deeper, reverse-depth, after-deeper}
+use Rattle.cm_inline.proofs.lemmas.PairLemmas.{last-item}
+use Rattle.cm_inline.proofs.lemmas.SliceLemmas.{slice-front, before-later, before-one}
+
+-- the items from a place on, behind items that have the last first
+abbrev pub items_from : Rules → Defined → List ℕ → ℕ → List pairing.Item → List pairing.Item
+items_from rules defined source at items = items_after rules defined zero (reverse (take at source)) (drop at source) items
+
+-- one step at a place
+abbrev pub step_at : Rules → Defined → List ℕ → ℕ → List pairing.Item → Bracketed
+step_at rules defined source at items = item_step rules defined (reverse (take at source)) (get_or source at 0) (drop (at + 1) source) items
+
+-- a step takes the source up to a place
+step-on : (rules : Rules) (defined : Defined) (source : List ℕ) (at end : ℕ) (items : List pairing.Item) → at < length source → at < end → (step_at rules defined source at items).rest ≡ drop end source
+    → items_from rules defined source at items ≡ items_from rules defined source end (step_at rules defined source at items).items
+step-on rules defined source at end items within further rest =
+    let b = get_or source at 0 in
+    let before = reverse (take at source) in
+    let taken = slice_range source (at + 1) end in
+    let behind : drop (at + 1) source ≡ taken ++ drop end source = slice-front source (at + 1) end (omega (arith, further)) in
+    ap (λ t. items_after rules defined zero before t items) (drop_more source at 0 within ∙ ap (λ t. b ∷ t) behind)
+    ∙ reading_goes_on rules defined before b taken (drop end source) items (ap (λ t. (item_step rules defined before b t items).rest) (sym behind) ∙ rest)
+    ∙ ap (λ t. items_after rules defined zero (reverse taken ++ b ∷ before) (drop end source) (item_step rules defined before b t items).items) (sym behind)
+    ∙ ap (λ p. items_after rules defined zero p (drop end source) (step_at rules defined source at items).items) (before-one source at end further within)
+
+pub ahead-step : (rules : Rules) (defined : Defined) (source : List ℕ) (nodes more : List Node) (at end : ℕ) → at < length source → at < end
+    → step_at rules defined source at (reverse (items_of source nodes)) ≡ record { items = reverse (items_of source more); rest = drop end source }
+    → ahead rules defined source more end ≡ ahead rules defined source nodes at
+ahead-step rules defined source nodes more at end within further gives =
+    ap (λ t. in_pieces (reverse t)) (
+    ap (items_from rules defined source end) (ap (λ (s : Bracketed). s.items) (sym gives))
+    ∙ sym (step-on rules defined source at end (reverse (items_of source nodes)) within further (ap (λ (s : Bracketed). s.rest) gives))
+    )
+
+-- an atom that puts one item
+pub adds-item : (rules : Rules) (defined : Defined) (items : List pairing.Item) (a : Atom) (rest : List ℕ) (i : pairing.Item) → item_for a rest ≡ Some i → add_atom rules defined items a rest ≡ with_item items i rest
+unfolding add_atom
+adds-item rules defined items (Plain text) rest i e = ap (λ i. with_item items i rest) (cc e)
+adds-item rules defined items (Whole inline) rest i e = ap (λ i. with_item items i rest) (cc e)
+adds-item rules defined items (Delimiter run) rest i e = ap (λ i. with_item items i rest) (cc e)
+adds-item rules defined items (OpenBracket image) rest i e = ap (λ i. with_item items i rest) (cc e)
+adds-item rules defined items CloseBracket rest i e = absurd (cc e)
+
+pub ahead-atom : (rules : Rules) (defined : Defined) (source : List ℕ) (nodes : List Node) (at : ℕ) (node : Node) (end : ℕ) → at < length source → IsAtom rules source at node end
+    → ahead rules defined source (nodes ++ node ∷ []) end ≡ ahead rules defined source nodes at
+unfolding item_step
+ahead-atom rules defined source nodes at node end within is =
+    let items = reverse (items_of source nodes) in
+    let a = atom_in rules source at in
+    ahead-step rules defined source nodes (nodes ++ node ∷ []) at end within is.further (
+    adds-item rules defined items a.atom a.rest (item_of source node) is.item
+    ∙ ap (λ t. with_item items (item_of source node) t) is.rest
+    ∙ ap (λ t. record { items = t; rest = drop end source }) (sym (last-item source nodes node))
+    )
+
+pub bracket-at : (rules : Rules) (defined : Defined) (source : List ℕ) (nodes : List Node) (at : ℕ) → Stands source at 93 → step_at rules defined source at (reverse (items_of source nodes)) ≡ closed_at rules defined source nodes at
+bracket-at rules defined source nodes at stands =
+    ap (λ b. item_step rules defined (reverse (take at source)) b (drop (at + 1) source) (reverse (items_of source nodes))) stands.byte
+    ∙ bracket_step rules defined (reverse (take at source)) (drop (at + 1) source) (reverse (items_of source nodes))
+
+ahead-bracket : (rules : Rules) (defined : Defined) (source : List ℕ) (nodes more : List Node) (at end : ℕ) → Stands source at 93 → at < end
+    → closed_at rules defined source nodes at ≡ record { items = reverse (items_of source more); rest = drop end source }
+    → ahead rules defined source more end ≡ ahead rules defined source nodes at
+ahead-bracket rules defined source nodes more at end stands further closed =
+    ahead-step rules defined source nodes more at end stands.within further (bracket-at rules defined source nodes at stands ∙ closed)
+
+-- where the call did its work
+pub ahead-closed : {E : Type 0} (r : Result ℕ E) (rules : Rules) (defined : Defined) (source : List ℕ) (nodes more : List Node) (at : ℕ) (whole : List pairing.Item) → Stands source at 93 → ahead rules defined source nodes at ≡ whole
+    → IfOk r (λ end. at < end) → IfOk r (λ end. closed_at rules defined source nodes at ≡ record { items = reverse (items_of source more); rest = drop end source }) → IfOk r (λ end. ahead rules defined source more end ≡ whole)
+ahead-closed (Ok end) rules defined source nodes more at whole stands same further closed = ahead-bracket rules defined source nodes more at end stands further closed ∙ same
+ahead-closed (Err e) rules defined source nodes more at whole stands same further closed = tt
+
+-- nodes with one more, in pieces
+pieces-more : (source : List ℕ) (nodes : List Node) (node : Node) → in_pieces (items_of source (nodes ++ node ∷ [])) ≡ in_pieces (items_of source nodes) ++ pieces_of (item_of source node)
+pieces-more source nodes node =
+    ap in_pieces (map-append (item_of source) nodes (node ∷ [])) ∙ flat_map-append pieces_of (items_of source nodes) (item_of source node ∷ [])
+    ∙ ap (λ t. in_pieces (items_of source nodes) ++ t) (append-nil (pieces_of (item_of source node)))
+
+pieces-pieces : (text : List ℕ) → in_pieces (one_by_one text) ≡ one_by_one text
+pieces-pieces [] = refl
+pieces-pieces (b ∷ bs) = ap (λ t. pairing.Characters (b ∷ []) ∷ t) (pieces-pieces bs)
+
+pub text-pieces : (source : List ℕ) (nodes : List Node) (at end : ℕ) → let text = slice_range source at end in
+    in_pieces (reverse (reverse (one_by_one text) ++ reverse (items_of source nodes))) ≡ in_pieces (reverse (reverse (items_of source (nodes ++ Piece at end ∷ []))))
+text-pieces source nodes at end =
+    let text = one_by_one (slice_range source at end) in
+    let items = items_of source nodes in
+    ap in_pieces (reverse-append (reverse text) (reverse items) ∙ ap (λ t. t ++ reverse (reverse text)) (reverse-reverse items) ∙ ap (λ t. items ++ t) (reverse-reverse text))
+    ∙ flat_map-append pieces_of items text
+    ∙ ap (λ t. in_pieces items ++ t) (pieces-pieces (slice_range source at end))
+    ∙ sym (pieces-more source nodes (Piece at end))
+    ∙ ap in_pieces (sym (reverse-reverse (items_of source (nodes ++ Piece at end ∷ []))))
+
+text-on : (rules : Rules) (defined : Defined) (source : List ℕ) (nodes : List Node) (at end : ℕ) → IsTextTo source at end
+    → ahead rules defined source (nodes ++ Piece at end ∷ []) end ≡ ahead rules defined source nodes at
+text-on rules defined source nodes at end is =
+    let text = slice_range source at end in
+    let before = reverse (take at source) in
+    let items = reverse (items_of source nodes) in
+    sym (
+    ap (λ t. in_pieces (reverse t)) (
+    ap (λ t. items_after rules defined zero before t items) (slice-front source at end is.low)
+    ∙ plain_front_is_text rules defined before text (drop end source) items is.plain is.spaces
+    ∙ ap (λ p. items_after rules defined zero p (drop end source) (reverse (one_by_one text) ++ items)) (sym (before-later source at end is.low))
+    )
+    ∙ reading_in_pieces rules defined zero (reverse (take end source)) (drop end source) (reverse (one_by_one text) ++ items) (reverse (items_of source (nodes ++ Piece at end ∷ []))) (text-pieces source nodes at end)
+    )
+
+pub nat_lt-false : (a b : ℕ) → nat_lt a b ≡ false → b ≤ a
+nat_lt-false a b e = grind (arith, nat_tests, e)
+
+pub ahead-text : (rules : Rules) (defined : Defined) (source : List ℕ) (nodes : List Node) (at end : ℕ) → IsTextTo source at end
+    → ahead rules defined source (nodes ++ text_between at end) end ≡ ahead rules defined source nodes at
+ahead-text rules defined source nodes at end is = go (nat_lt at end) refl
+  where
+    go : (some : Bool) → nat_lt at end ≡ some → ahead rules defined source (nodes ++ (if some then Piece at end ∷ [] else [])) end ≡ ahead rules defined source nodes at
+    go true e = text-on rules defined source nodes at end is
+    go false e =
+        let same : end ≡ at = omega (arith, is.low, nat_lt-false at end e) in
+        ap (λ t. ahead rules defined source t end) (append-nil nodes) ∙ ap (ahead rules defined source nodes) same
+
+-- at the front and at the end of a source
+pub ahead-start : (rules : Rules) (defined : Defined) (source : List ℕ) → ahead rules defined source [] zero ≡ in_pieces (inlines.items_of rules defined source)
+unfolding inlines.items_of
+ahead-start rules defined source = refl
+
+pub ahead-end : (rules : Rules) (defined : Defined) (source : List ℕ) (nodes : List Node) (at : ℕ) → length source ≤ at → ahead rules defined source nodes at ≡ in_pieces (items_of source nodes)
+unfolding items_after
+ahead-end rules defined source nodes at past =
+    ap (λ t. in_pieces (reverse (items_after rules defined zero (reverse (take at source)) t (reverse (items_of source nodes))))) (drop_all at source past)
+    ∙ ap in_pieces (reverse-reverse (items_of source nodes))
+
+-- the inlines of items that are a source's, in pieces
+pub inlines-are : (rules : Rules) (defined : Defined) (source : List ℕ) (items : List pairing.Item) → in_pieces items ≡ in_pieces (inlines.items_of rules defined source) → emphasis_of items ≡ inlines_of rules defined source
+unfolding inlines_of
+inlines-are rules defined source items same = sym (texts_in_pieces items) ∙ ap emphasis_of same ∙ texts_in_pieces (inlines.items_of rules defined source)
+
+-- What a `]` makes is never less deep once reading went on.
+pub closed-deeper : (rules : Rules) (defined : Defined) (source : List ℕ) (nodes : List Node) (at limit : ℕ) → Stands source at 93 → limit < items_depth (closed_at rules defined source nodes at).items
+    → limit < inlines_depth (emphasis_of (ahead rules defined source nodes at))
+unfolding items_after
+closed-deeper rules defined source nodes at limit stands deep =
+    let b = get_or source at 0 in
+    let before = reverse (take at source) in
+    let bs = drop (at + 1) source in
+    let items = reverse (items_of source nodes) in
+    let next = item_step rules defined before b bs items in
+    let later = items_from rules defined source at items in
+    let first : later ≡ items_after rules defined (length bs - length next.rest) (b ∷ before) bs next.items = ap (λ t. items_after rules defined zero before t items) (drop_more source at 0 stands.within) in
+    let kept : items_depth next.items ≤ items_depth later = subst (λ t. items_depth next.items ≤ items_depth t) (sym first) (after-deeper rules defined (length bs - length next.rest) (b ∷ before) bs next.items) in
+    let same : items_depth next.items ≡ items_depth (closed_at rules defined source nodes at).items = ap (λ (s : Bracketed). items_depth s.items) (bracket-at rules defined source nodes at stands) in
+    let whole : inlines_depth (emphasis_of (ahead rules defined source nodes at)) ≡ inlines_depth (emphasis_of (reverse later)) = ap inlines_depth (texts_in_pieces (reverse later)) in
+    omega (arith, deep, kept, same, whole, emphasis-deeper (reverse later), reverse-depth later)
+
+-- the leaf nests past the limit
+pub nests : (rules : Rules) (defined : Defined) (limit : ℕ) (source : List ℕ) (items : List pairing.Item) → in_pieces items ≡ in_pieces (inlines.items_of rules defined source) → limit < inlines_depth (emphasis_of items)
+    → nests_past rules defined limit source ≡ true
+unfolding depth_of_leaf
+nests rules defined limit source items same deep =
+    let whole : inlines_depth (emphasis_of items) ≡ depth_of_leaf rules defined source = ap inlines_depth (inlines-are rules defined source items same) in
+    above limit (depth_of_leaf rules defined source) (omega (arith, deep, whole))
+  where
+    above : (a b : ℕ) → a < b → nat_lt a b ≡ true
+    above a b h = grind (arith, nat_tests, h)
+
+pub nests-ahead : (rules : Rules) (defined : Defined) (limit : ℕ) (source : List ℕ) (items : List pairing.Item) → items ≡ in_pieces (inlines.items_of rules defined source) → limit < inlines_depth (emphasis_of items)
+    → nests_past rules defined limit source ≡ true
+nests-ahead rules defined limit source items same deep =
+    let whole = inlines.items_of rules defined source in
+    let depth : inlines_depth (emphasis_of items) ≡ inlines_depth (emphasis_of whole) = ap (λ t. inlines_depth (emphasis_of t)) same ∙ ap inlines_depth (texts_in_pieces whole) in
+    nests rules defined limit source whole refl (omega (arith, deep, depth))
+
+-- a fault of the reading
+pub refused : (told : InlineFault) (rules : Rules) (targets : Targets) (limit : ℕ) (source : List ℕ) → (told ≡ InlinesTooDeep → nests_past rules (defined_in targets) limit source ≡ true)
+    → Refused told rules targets limit source
+refused InlinesTooDeep rules targets limit source deep = deep refl
+refused NoMemory rules targets limit source deep = tt
+
+pub within-limit : (rules : Rules) (defined : Defined) (limit : ℕ) (source : List ℕ) (items : List pairing.Item) → in_pieces items ≡ in_pieces (inlines.items_of rules defined source) → inlines_depth (emphasis_of items) ≤ limit
+    → nests_past rules defined limit source ≡ false
+unfolding depth_of_leaf
+within-limit rules defined limit source items same low =
+    let whole : inlines_depth (emphasis_of items) ≡ depth_of_leaf rules defined source = ap inlines_depth (inlines-are rules defined source items same) in
+    not-above limit (depth_of_leaf rules defined source) (omega (arith, low, whole))
+  where
+    not-above : (a b : ℕ) → b ≤ a → nat_lt a b ≡ false
+    not-above a b h = grind (arith, nat_tests, h)

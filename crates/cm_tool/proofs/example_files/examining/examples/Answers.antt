@@ -1,4 +1,0 @@
-use Rattle.cm_tool.proofs.example_files.examining.examples.Goals as goal
-
-pub returns : goal.returns
-returns c = rw c.profile.ensures at c.examples_by.ensures

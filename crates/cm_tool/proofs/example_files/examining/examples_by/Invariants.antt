@@ -1,5 +1,0 @@
-use Rattle.cm_tool.proofs.ExampleLemmas.{SoFar}
-use Rattle.cm_tool.proofs.example_files.examining.examples_by.Given as goal
-
-abbrev pub invariant-loop-at : goal.invariant-loop-at
-invariant-loop-at l = SoFar l.fn.rules l.example-items l.agree l.differ.items l.at
