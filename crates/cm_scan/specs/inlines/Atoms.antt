@@ -107,43 +107,17 @@ is_markup b =
 
 -- the atom that such a byte begins, if it begins one
 unfoldable pub markup_atom : Rules → (before : List ℕ) → ℕ → List ℕ → Option AtomRead
-markup_atom rules before b bs = elim (b == backtick) [
-  | true ↦ backtick_atom (b ∷ bs)
-  | false ↦
-      elim (b == less_than) [
-        | true ↦ angle_atom rules (b ∷ bs)
-        | false ↦
-            elim (b == backslash) [
-              | true ↦ backslash_atom (b ∷ bs)
-              | false ↦
-                  elim (b == ampersand) [
-                    | true ↦ reference_atom (b ∷ bs)
-                    | false ↦
-                        elim (b == line_feed || b == space) [
-                          | true ↦ break_atom (b ∷ bs)
-                          | false ↦
-                              elim (b == tilde) [
-                                | true ↦ tilde_atom rules before (b ∷ bs)
-                                | false ↦
-                                    elim (b == exclamation_mark) [
-                                      | true ↦ bang_atom (b ∷ bs)
-                                      | false ↦
-                                          elim (b == left_bracket) [
-                                            | true ↦ read (OpenBracket false) bs
-                                            | false ↦
-                                                elim (b == right_bracket) [
-                                                  | true ↦ read CloseBracket bs
-                                                  | false ↦
-                                                      run_atom rules before b (b ∷ bs)
-                                                ]
-                                          ]
-                                    ]
-                              ]
-                        ]
-                  ]
-            ]
-      ]
-]
+markup_atom rules before b bs =
+    if b == backtick then backtick_atom (b ∷ bs)
+    else if b == less_than then angle_atom rules (b ∷ bs)
+    else if b == backslash then backslash_atom (b ∷ bs)
+    else if b == ampersand then reference_atom (b ∷ bs)
+    else if b == line_feed || b == space then break_atom (b ∷ bs)
+    else if b == tilde then tilde_atom rules before (b ∷ bs)
+    else if b == exclamation_mark then bang_atom (b ∷ bs)
+    else if b == left_bracket then read (OpenBracket false) bs
+    else if b == right_bracket then read CloseBracket bs
+    else run_atom rules before b (b ∷ bs)
 
 -- the byte alone, as text
 abbrev pub byte_atom : ℕ → List ℕ → AtomRead

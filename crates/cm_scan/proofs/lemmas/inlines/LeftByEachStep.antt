@@ -500,7 +500,7 @@ itself : (b : ℕ) → (b == b) ≡ true
 itself b = grind (arith, nat_tests)
 
 -- one case after another
-or-else : (c : Bool) (o p : Option AtomRead) (bs : List ℕ) → (c ≡ true → Leaves o bs) → Leaves p bs → Leaves (elim c as (λ _. Option AtomRead) [ true ↦ o | false ↦ p ]) bs
+or-else : (c : Bool) (o p : Option AtomRead) (bs : List ℕ) → (c ≡ true → Leaves o bs) → Leaves p bs → Leaves (if c then o else p) bs
 or-else true o p bs h k = h refl
 or-else false o p bs h k = k
 

@@ -342,7 +342,7 @@ module _ (K : Kept) where
         go None = tt
         go (Some rest) = tt
 
-    choice : (t : Bool) (a b : Option AtomRead) → ReadOk a → ReadOk b → ReadOk (elim t [ true ↦ a | false ↦ b ])
+    choice : (t : Bool) (a b : Option AtomRead) → ReadOk a → ReadOk b → ReadOk (if t then a else b)
     choice true a b h k = h
     choice false a b h k = k
 
