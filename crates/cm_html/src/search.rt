@@ -18,7 +18,7 @@ impl ByteKind for Escaped {
 
     #[inline(always)]
     fn contains(b: u8) -> bool {
-        b == b'&' || b == b'<' || b == b'>' || b == b'"'
+        ESCAPED[usize::from(b & 15)] == b
     }
 
     #[inline(always)]

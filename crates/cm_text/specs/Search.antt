@@ -1,7 +1,7 @@
 -- Bytes that are searched for.
-use Rattle.std.specs.Prelude.{ℕ, ◌+◌, min, ◌==◌, ◌||◌, Bool, List, length, drop}
+use Rattle.std.specs.Prelude.{ℕ, ◌+◌, min, ◌==◌, ◌||◌, not, Bool, List, length, drop}
 use Rattle.std.specs.List.{position_or_len}
-use Rattle.cm_text.specs.Bytes.{line_feed, carriage_return, exclamation_mark, ampersand, asterisk, less_than, left_bracket, backslash, right_bracket, underscore, backtick, tilde}
+use Rattle.cm_text.specs.Bytes.{line_feed, carriage_return, space, exclamation_mark, ampersand, asterisk, less_than, left_bracket, backslash, right_bracket, underscore, backtick, tilde}
 
 -- the least place, from there on, of a byte that passes, or the length where none does
 abbrev pub next_place : (ℕ → Bool) → List ℕ → ℕ → ℕ
@@ -12,3 +12,6 @@ abbrev pub is_marked : ℕ → Bool
 is_marked b =
     b == line_feed || b == carriage_return || b == exclamation_mark || b == ampersand || b == asterisk || b == less_than
     || b == left_bracket || b == backslash || b == right_bracket || b == underscore || b == backtick || b == tilde
+
+abbrev pub is_no_space : ℕ → Bool
+is_no_space b = not (b == space)

@@ -1,9 +1,10 @@
 //! The search for bytes of a kind, many at a time, each in a lane of a wide register.
 ghost use Rattle.std.specs.Prelude.{◌≡◌, ◌+◌, ◌<◌, ◌≤◌};
 ghost use Rattle.std.specs.Prelude.{ℕ, Bool, false, not, length, get_or, map, None, IfSome};
-ghost use Rattle.std.specs.List.{prefix_len};
+ghost use Rattle.std.specs.List.{position_or_len, prefix_len};
+ghost use Rattle.std.specs.Str.{IsCharBoundary};
 ghost use Rattle.std.specs.Simd.Lanes.{chunk, mask_l};
-ghost use Rattle.cm_text.specs.Search.{next_place, is_marked};
+ghost use Rattle.cm_text.specs.Search.{next_place, is_marked, is_no_space};
 
 use std::simd::prelude::*;
 
@@ -123,10 +124,8 @@ impl ByteKind for Marked {
 
     #[inline(always)]
     fn contains(b: u8) -> bool {
-        matches!(
-            b,
-            b'\n' | b'\r' | b'!' | b'&' | b'*' | b'<' | b'[' | b'\\' | b']' | b'_' | b'`' | b'~'
-        )
+        let place = usize::from(b & 15);
+        (MARKED[place] == b) | (ALSO_MARKED[place] == b)
     }
 
     #[inline(always)]
@@ -138,6 +137,32 @@ impl ByteKind for Marked {
             .simd_eq(lanes);
         (first | second).to_bitmask()
     }
+}
+
+/// Bytes other than a space.
+struct NoSpace;
+
+impl ByteKind for NoSpace {
+    ghost passes = { is_no_space };
+
+    #[inline(always)]
+    fn contains(b: u8) -> bool {
+        b != b' '
+    }
+
+    #[inline(always)]
+    fn lanes(lanes: u8x16) -> u64 {
+        lanes.simd_ne(u8x16::splat(b' ')).to_bitmask()
+    }
+}
+
+/// How many spaces a text begins with.
+#[inline(always)]
+pub fn leading_spaces(text: &str) -> usize
+    ensures spaces { result ≡ position_or_len is_no_space text.now }
+    ensures boundary { IsCharBoundary text.now result }
+{
+    next_of::<NoSpace>(text.as_bytes(), 0)
 }
 
 /// The least place, at or after `from`, of a byte with which an inline other than

@@ -5,6 +5,7 @@ ghost use Rattle.cm_text.specs.steps.FirstLine.{IsFirstLine};
 ghost use Rattle.cm_text.specs.steps.TextAhead.{IsAhead};
 
 use crate::endings::line_len;
+use crate::search::leading_spaces;
 
 /// Lines of text that follow one another, seen without a copy: each begins with a letter of ASCII or with a
 /// character beyond it, the first behind spaces or not. No block but a paragraph begins so, and a line that
@@ -77,18 +78,6 @@ pub(crate) fn may_begin_text(bytes: &[u8]) -> bool {
     }
 }
 
-/// How many spaces a text begins with.
-#[inline(always)]
-fn spaces_in_front(bytes: &[u8]) -> usize
-    ensures { (k : ℕ) → k < result → get_or bytes.now k 0 ≡ 32 }
-{
-    let mut count = 0;
-    while count < bytes.len() && bytes[count] == b' ' {
-        count += 1;
-    }
-    count
-}
-
 /// Whether a line goes up to a place, and a line feed ends it there, and it begins as text, at another place.
 #[inline(always)]
 fn is_text_line(bytes: &[u8], first: usize, end: usize) -> bool
@@ -108,7 +97,7 @@ pub(crate) fn text_ahead(text: &str, line: usize) -> TextAhead
     ensures { IsAhead result text.now }
 {
     let bytes = text.as_bytes();
-    let spaces = spaces_in_front(bytes);
+    let spaces = leading_spaces(text);
     let mut ahead = TextAhead {
         spaces,
         count: 0,

@@ -3,8 +3,10 @@ use Rattle.std.specs.Prelude.{min, nat_le, ◌-◌, ◌==◌, ◌||◌}
 use Rattle.std.proofs.lemmas.Bool.{and_parts, eqb-true}
 use Rattle.std.proofs.lemmas.List.{append_assoc, replicate-append-replicate, length-append, length-replicate}
 use Rattle.std.proofs.lemmas.Bool.Decides.{nat_tests}
-use Rattle.std.proofs.Common.{◌≡◌, ◌≢◌, ℕ, zero, suc, ◌+◌, ◌*◌, ◌^◌, ◌<◌, ◌≤◌, Bool, true, false, not, ◌&&◌, List, [], ◌∷◌, ◌++◌, length, replicate, drop, None, refl, sym, ◌∙◌, ap, ap₂, arith}
+use Rattle.std.proofs.Common.{◌≡◌, ◌≢◌, ℕ, zero, suc, ◌+◌, ◌*◌, ◌^◌, ◌<◌, ◌≤◌, Bool, true, false, cond, not, ◌&&◌, List, [], ◌∷◌, ◌++◌, length, replicate, drop, None, refl, sym, ◌∙◌, ap, ap₂, arith}
+use Rattle.std.specs.List.{position_or_len}
 use Rattle.cm_text.specs.Rules.{Rules}
+use Rattle.cm_text.specs.Search.{is_no_space}
 use Rattle.cm_text.specs.Lines.{LineView}
 use Rattle.cm_text.specs.LineText.{is_line, tabs}
 use Rattle.cm_scan.specs.Words.{is_blank_text, run_length}
@@ -235,3 +237,14 @@ module _ (text rest : List ℕ) (spaces : ℕ) (run : spaces ≡ run_length 32 t
 
   pub columns_seen : (n : ℕ) → replicate (n + spaces) 32 ++ rest ≡ replicate n 32 ++ text
   columns_seen n = replicate-more n spaces rest ∙ ap (λ t. replicate n 32 ++ t) front
+
+-- the spaces in front of a text, as the search counts them
+pub spaces_run : (text : List ℕ) → run_length 32 text ≡ position_or_len is_no_space text
+unfolding run_length
+spaces_run [] = refl
+spaces_run (b ∷ bs) = go (b == 32) (spaces_run bs)
+  where
+    go : (is : Bool) → run_length 32 bs ≡ position_or_len is_no_space bs
+        → elim is as (λ _. ℕ) [ true ↦ suc (run_length 32 bs) | false ↦ 0 ] ≡ cond (not (not is)) (1 + position_or_len is_no_space bs) 0
+    go true rest = omega (arith, rest)
+    go false rest = refl

@@ -12,8 +12,8 @@ ghost use Rattle.cm_block.specs.steps.StartViews.{seen};
 ghost use Rattle.cm_block.specs.steps.PlaceViews.{begins_quote, seen_marker};
 
 use crate::counted_line::starts::{Start, start_of};
-use cm_scan::{HtmlKind, ItemMarker, after_run, is_blank_text, quote_marker};
-use cm_text::{Rules, View};
+use cm_scan::{HtmlKind, ItemMarker, is_blank_text, quote_marker};
+use cm_text::{Rules, View, leading_spaces};
 
 /// How many spaces a text begins with, and what stands behind them.
 #[inline(always)]
@@ -22,7 +22,7 @@ fn behind_spaces(text: &str) -> (usize, &str)
     ensures behind { result.1.now ≡ drop result.0 text.now }
     ensures within { result.0 ≤ length text.now }
 {
-    let spaces = after_run(b' ', text, 0);
+    let spaces = leading_spaces(text);
     (spaces, &text[spaces..])
 }
 

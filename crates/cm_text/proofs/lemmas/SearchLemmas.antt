@@ -4,13 +4,17 @@ use Rattle.std.specs.Simd.Lanes.{zip2, mask_l, top, Each1}
 use Rattle.std.proofs.lemmas.Nat.{and_le_r}
 use Rattle.std.proofs.lemmas.Simd.{map-map, mask_l-mod, zip2_splat, swz_l, length-swz_l, get_or-swz_l_below, SwzOk, SwzOk-from_below}
 use Rattle.std.proofs.lemmas.List.{length-map, map-id, ext_get_or, get_or-drop, get_or-map}
-use Rattle.std.proofs.lemmas.List.Sums.{position_or_len_is, fails_before_first, passes_at_first}
+use Rattle.std.specs.Prelude.{IsUtf8}
+use Rattle.std.specs.Str.{IsCharBoundary}
+use Rattle.std.proofs.lemmas.Str.{IsCharBoundary-start, IsCharBoundary-after_ascii}
+use Rattle.std.proofs.lemmas.Bool.Decides.{nat_tests}
+use Rattle.std.proofs.lemmas.List.Sums.{prefix_len-le-length, position_or_len_is, fails_before_first, passes_at_first}
 use Rattle.std.proofs.lemmas.Bool.{cases_lt, agree_below, agree_below_at, ltb-true, ltb-false, true≢false}
 use Rattle.std.specs.Bool.{then_some}
 use Rattle.std.specs.Option.{is_some}
 use Rattle.std.specs.List.{position_or_len, prefix_len}
 use Rattle.memchr.specs.Find.{IsFirstByte}
-use Rattle.cm_text.specs.Search.{next_place}
+use Rattle.cm_text.specs.Search.{next_place, is_no_space}
 
 zip2-map : (h : ℕ → ℕ → ℕ) (f g : ℕ → ℕ) (xs : List ℕ) → zip2 h (map f xs) (map g xs) ≡ map (λ x. h (f x) (g x)) xs
 zip2-map h f g [] = refl
@@ -148,3 +152,20 @@ first-byte p bs at found place e = subst (IsFirstByte p bs) (sym e) (go (nat_lt 
     go false h =
         let past : length bs ≤ at = ltb-false at (length bs) h in
         λ k low under. fails k (omega (arith, place, past, under))
+
+-- searching from the front
+pub from_the_front : (p : ℕ → Bool) (bs : List ℕ) → next_place p bs 0 ≡ position_or_len p bs
+from_the_front p bs = omega (arith, prefix_len-le-length (λ b. not (p b)) bs)
+
+-- ---- the spaces in front of a text
+
+pub spaces_first : (bs : List ℕ) (k : ℕ) → k < position_or_len is_no_space bs → get_or bs k 0 ≡ 32
+spaces_first bs k below =
+    let fails : is_no_space (get_or bs k 0) ≡ false = fails_before_first is_no_space bs k 0 below in
+    grind (arith, nat_tests, fails)
+
+pub spaces_boundary : (text : List ℕ) (n : ℕ) → IsUtf8 text → n ≤ length text → ((k : ℕ) → k < n → get_or text k 0 ≡ 32) → IsCharBoundary text n
+spaces_boundary text zero utf8 within spaces = IsCharBoundary-start text utf8
+spaces_boundary text (suc n) utf8 within spaces =
+    let next : n + 1 ≡ suc n = omega arith in
+    subst (IsCharBoundary text) next (IsCharBoundary-after_ascii text n utf8 (omega (arith, within)) (omega (arith, spaces n (omega arith))))

@@ -5,6 +5,7 @@ use Rattle.cm_text.specs.Lines.{lines_of}
 use Rattle.cm_text.specs.TextLines.{begins_text, is_text_behind, are_text}
 use Rattle.cm_text.specs.steps.FirstLine.{IsFirstLine}
 use Rattle.cm_text.specs.steps.TextAhead.{IsAhead}
+use Rattle.cm_text.proofs.lemmas.SearchLemmas.{spaces_first}
 use Rattle.cm_text.proofs.lemmas.TextLineLemmas.{next_spaces, no_spaces, boundary_next, text_next}
 use Rattle.cm_text.proofs.text_lines.text_ahead.Goals as goal
 
@@ -48,9 +49,9 @@ loop-first-preserved c =
           (text_next text a i.ahead within (bytes (a.len + a.line) ∙ found.feed c.loop-first-test.true) c.loop-first.first len c.line_len.result
           (i.first ∙ ap (λ n. a.len + next_spaces a.count n) (sym i.spaces)) (found.first c.loop-first-test.true)
           (ap begins_text (bytes c.loop-first.first) ∙ found.begins c.loop-first-test.true)
-          (λ k below. bytes k ∙ c.spaces_in_front-spaces.ensures k (omega (arith, below, i.spaces)))
+          (λ k below. spaces_first text k (omega (arith, below, i.spaces, c.leading_spaces-spaces.ensures.spaces)))
           refl c.utf8.text (subst (IsFirstLine c.line_len.result) c.range_from.ensures.value c.line_len.ensures));
-      first = omega (arith, no_spaces a.count c.spaces_in_front-spaces.result);
+      first = omega (arith, no_spaces a.count c.leading_spaces-spaces.result);
       spaces = refl;
       few = omega (arith, i.few);
     }
