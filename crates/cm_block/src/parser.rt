@@ -85,7 +85,8 @@ impl BlockParser {
         }
     }
 
-    /// Puts the open leaf, closed by an underline of this level or by none, and by a closing fence or by none.
+    /// Puts the open leaf, closed by an underline of this level or by none, and by a closing fence or by
+    /// none.
     #[inline(always)]
     fn put_leaf(&mut self, heading: Option<u8>, ended: bool) -> Result<(), NoMemory>
         ensures level { OnOk result (self.new.stack.level ≡ close_leaves self.old.stack.level

@@ -1,7 +1,8 @@
 //! Laws: facts about the definitions alone. Each is the contract of a public function with an empty body.
 ghost use Rattle.cm_scan.specs.laws.PartLaws.{NoLines, FixedPoint, BlankCase, BreakCase, HeadingCase};
-ghost use Rattle.cm_scan.specs.laws.PartLaws.{FenceCase, HtmlCase, CodeCase, TextCase, OneMoreStays, QuoteCase};
-ghost use Rattle.cm_scan.specs.laws.PartLaws.{ItemCase, OneOwnerALine, RunsInOrder, HeadingLevels};
+ghost use Rattle.cm_scan.specs.laws.PartLaws.{FenceCase, HtmlCase, CodeCase, TextCase, OneMoreStays};
+ghost use Rattle.cm_scan.specs.laws.PartLaws.{QuoteCase, ItemCase, OneOwnerALine, RunsInOrder};
+ghost use Rattle.cm_scan.specs.laws.PartLaws.{HeadingLevels};
 ghost use Rattle.cm_scan.specs.laws.Looseness.{PartsHaveLines, LooseByOwners};
 ghost use Rattle.cm_scan.specs.laws.BlockExamples.{LeafExamples, ContainerExamples};
 ghost use Rattle.cm_scan.specs.laws.BlockExamples.{DefinitionExamples, DepthExamples, BoundExamples};

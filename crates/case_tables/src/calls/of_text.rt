@@ -7,8 +7,8 @@ use crate::trouble::{Trouble, wrong};
 use crate::words::{Word, number};
 use cm_text::{
     Limits, Line, LineFeed, Rules, View, cut_at, fold_label, fold_label_or_lend, indent,
-    is_ascii_punct, is_followed, is_punct, is_punct_by, is_space, next_markup, reference_at, strip,
-    unescape, unescape_or_lend,
+    is_ascii_punct, is_followed, is_punct, is_punct_by, is_space, leading_spaces, next_markup,
+    reference_at, strip, unescape, unescape_or_lend,
 };
 use std::alloc::Global;
 
@@ -167,6 +167,7 @@ fn of_one_text(answer: &mut Answer, name: &str, text: &str) -> Result<bool, Trou
         "fold_label_or_lend" => answer.text(fold_label_or_lend(alloc, text)?.as_str())?,
         "unescape" => answer.text(unescape(alloc, text)?.as_str())?,
         "unescape_or_lend" => answer.text(unescape_or_lend(alloc, text)?.as_str())?,
+        "leading_spaces" => answer.number(leading_spaces(text))?,
         "is_ascii_punct" => characters(answer, text, &Kind::AsciiPunctuation)?,
         "is_punct" => characters(answer, text, &Kind::Punctuation)?,
         "is_space" => characters(answer, text, &Kind::Space)?,
