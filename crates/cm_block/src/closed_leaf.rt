@@ -227,14 +227,12 @@ fn put_html(text: &mut LeafText, stack: &mut Stack, owners: &mut Owners) -> Resu
 }
 
 impl OpenLeaf {
-    ghost use Rattle.cm_block.specs.OpenLeaf.{no_leaf};
-    ghost use Rattle.cm_block.specs.LeafViews.{leaf_of};
     ghost use Rattle.cm_block.specs.steps.LeafSteps.{leaves_with};
 
     /// Puts the leaf at the end of the innermost level, closed by an underline of this level or by none, and
     /// by a closing fence or by none, and its lines at the end of the owners. It is left open.
     #[inline(always)]
-    fn put_open(
+    pub(crate) fn put(
         &mut self,
         alloc: Global,
         heading: Option<u8>,
@@ -259,30 +257,6 @@ impl OpenLeaf {
             }
             LeafKind::Html { .. } => Ok(put_html(&mut self.text, stack, owners)?),
         }
-    }
-
-    /// Puts the leaf, closed by an underline of this level or by none, and by a closing fence or by none. No
-    /// leaf is open then.
-    #[inline(always)]
-    pub(crate) fn put(
-        &mut self,
-        alloc: Global,
-        heading: Option<u8>,
-        ended: bool,
-        stack: &mut Stack,
-        owners: &mut Owners,
-    ) -> Result<(), NoMemory>
-        ensures level { OnOk result (stack.new.level
-            ≡ close_leaves stack.old.level (leaves_with heading ended self.old.kind self.old.text)) }
-        ensures frames { stack.new.frames ≡ stack.old.frames }
-        ensures bare { stack.new.bare ≡ stack.old.bare }
-        ensures owners { OnOk result (owners.new
-            ≡ own_leaves owners.old (leaves_with heading ended self.old.kind self.old.text)) }
-        ensures closed { OnOk result (leaf_of self.new ≡ no_leaf) }
-    {
-        self.put_open(alloc, heading, ended, stack, owners)?;
-        self.clear();
-        Ok(())
     }
 }
 

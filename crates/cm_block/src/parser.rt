@@ -106,7 +106,9 @@ impl BlockParser {
             ended,
             &mut self.stack,
             &mut self.owners,
-        )
+        )?;
+        self.leaf.clear();
+        Ok(())
     }
 
     /// Closes the open leaf.

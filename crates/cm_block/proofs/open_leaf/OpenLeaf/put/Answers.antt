@@ -7,7 +7,7 @@ use Rattle.cm_block.specs.Stack.{close_leaves, own_leaves}
 use Rattle.cm_block.specs.LeafViews.{ended}
 use Rattle.cm_block.specs.steps.LeafSteps.{fence_lines, leaves_with, own_plain_leaf}
 use Rattle.cm_block.proofs.lemmas.PutLemmas.{none_closes, none_owns, one_closes, one_owns}
-use Rattle.cm_block.proofs.open_leaf.OpenLeaf.put_open.Goals as goal
+use Rattle.cm_block.proofs.open_leaf.OpenLeaf.put.Goals as goal
 
 pub returns-in-Nothing-clause-level : goal.returns-in-Nothing-clause-level
 returns-in-Nothing-clause-level c =
