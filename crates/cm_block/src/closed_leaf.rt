@@ -230,7 +230,8 @@ impl OpenLeaf {
     ghost use Rattle.cm_block.specs.steps.LeafSteps.{leaves_with};
 
     /// Puts the leaf at the end of the innermost level, closed by an underline of this level or by none, and
-    /// by a closing fence or by none, and its lines at the end of the owners. It is left open.
+    /// by a closing fence or by none, and its lines at the end of the owners. It is left
+    /// open, and `clear` has to follow.
     #[inline(always)]
     pub(crate) fn put(
         &mut self,

@@ -13,5 +13,6 @@ is_marked b =
     b == line_feed || b == carriage_return || b == exclamation_mark || b == ampersand || b == asterisk || b == less_than
     || b == left_bracket || b == backslash || b == right_bracket || b == underscore || b == backtick || b == tilde
 
+-- any byte but a space
 abbrev pub is_no_space : ℕ → Bool
 is_no_space b = not (b == space)
