@@ -1,11 +1,11 @@
 # Builds and installs the program cmk and the library libcmk.
 #
 #   make                                    proves and builds the program, libcmk.a and libcmk.so
-#   make check                              runs the merge gate
+#   make check                              runs the tests in two minutes, and proves nothing
 #   make install PREFIX=/usr/local DESTDIR= installs them, with the header, the man pages, the completions and cmk.pc
-#   make uninstall PREFIX= DESTDIR=         takes all of these away
+#   make uninstall PREFIX= DESTDIR=         removes all of these
 #
-# BUILD= takes the program and libcmk_c.a that are built already, and proves nothing.
+# With BUILD= the program and libcmk_c.a must be built already; nothing is proved. The merge gate is .ci/run.
 
 PREFIX = /usr/local
 DESTDIR =
@@ -24,35 +24,32 @@ BUILD = all
 VERSION := $(shell sed -n 's/^.define CMK_VERSION "\(.*\)"$$/\1/p' include/cmk.h)
 SONAME := libcmk.so.$(firstword $(subst ., ,$(VERSION)))
 SHARED := libcmk.so.$(VERSION)
-# The three calls for memory that the library makes, of the kit that rt is of.
+# The three functions for memory that the library calls, from the kit of rt.
 KIT := $(shell rt=$$(command -v rt || echo /opt/rattle/bin/rt); dirname "$$(dirname "$$(readlink -f "$$rt")")")
 HEAP := $(KIT)/c/liblibc_c.a
 PROGRAM := crates/cmk/out/cmk
 CRATE := crates/cmk_c/out/libcmk_c.a
 OUT := out
 
-.PHONY: all program library check install uninstall clean
+.PHONY: all proved check install uninstall clean
 
-all: program $(OUT)/libcmk.a $(OUT)/$(SHARED) $(OUT)/cmk.pc
+all: $(OUT)/libcmk.a $(OUT)/$(SHARED) $(OUT)/cmk.pc
 
-# Whether they are current only the build knows, so it is asked each time, and the libraries are linked anew: all is done in a second
-# where nothing has changed.
-program:
-	@$(if $(BUILD),./cmk --version >/dev/null,test -x $(PROGRAM))
+# Only the build knows whether the program and the crate's library are current, so each make asks it, and links the libraries again. If
+# nothing has changed, that takes a second.
+proved:
+	@$(if $(BUILD),tools/build.py,test -x $(PROGRAM) -a -r $(CRATE))
 
-library:
-	@$(if $(BUILD),tools/build_library.py,test -r $(CRATE))
-
-# One archive of both.
-$(OUT)/libcmk.a: library
+# One archive of the crate and the functions for memory.
+$(OUT)/libcmk.a: proved
 	@mkdir -p $(OUT)/objects
 	cd $(OUT)/objects && rm -f *.o && $(AR) x $(abspath $(CRATE)) && $(AR) x $(HEAP)
 	rm -f $@
 	$(AR) rcs $@ $(OUT)/objects/*.o
 	rm -r $(OUT)/objects
 
-# Only the exports are seen from outside.
-$(OUT)/$(SHARED): library
+# Only the exports are visible from outside.
+$(OUT)/$(SHARED): proved
 	@mkdir -p $(OUT)
 	$(CC) -shared -o $@ -Wl,-soname,$(SONAME) -Wl,--whole-archive $(CRATE) -Wl,--no-whole-archive \
 		-Wl,--exclude-libs,liblibc_c.a $(HEAP) -Wl,--no-undefined -Wl,-z,relro,-z,now $(LDFLAGS)
@@ -64,7 +61,7 @@ $(OUT)/cmk.pc: cmk.pc.in include/cmk.h FORCE
 FORCE:
 
 check:
-	.ci/run
+	@tools/check
 
 install: all
 	$(INSTALL) -d $(addprefix $(DESTDIR),$(BINDIR) $(INCLUDEDIR) $(LIBDIR)/pkgconfig $(MANDIR)/man1 $(MANDIR)/man3 $(BASHDIR) $(ZSHDIR) $(FISHDIR))
@@ -87,6 +84,6 @@ uninstall:
 	rm -f $(DESTDIR)$(MANDIR)/man1/cmk.1 $(DESTDIR)$(MANDIR)/man3/cmk.3
 	rm -f $(DESTDIR)$(BASHDIR)/cmk $(DESTDIR)$(ZSHDIR)/_cmk $(DESTDIR)$(FISHDIR)/cmk.fish
 
-# What is proved stays.
+# The proved program and library stay.
 clean:
 	rm -rf $(OUT)

@@ -1,14 +1,13 @@
 #!/usr/bin/env python3
-"""Proves and builds the program cmk, and then becomes it: ./cmk calls this where the program isn't there, or may be older than its sources.
+"""Proves and builds the program cmk and the static library of cmk_c, or one of the two.
 
-  tools/build.py [WORD..]    the words are those of cmk
+  tools/build.py [cmk] [cmk_c]
 
-tools/build_library.py builds the static library of cmk_c in the same way.
-
-Each crate is proved from nothing, and built for those above it without its proofs. What is proved is kept in ~/.cache/cmk, or in
-$XDG_CACHE_HOME/cmk, by the sum of all that it was made from: so another copy of these sources takes it from there, and after an
-interrupt the crates that were whole are there. What is told of it goes to standard error.
+It proves each crate from nothing, and builds it for the crates above without its proofs. A proved crate is kept in ~/.cache/cmk, or in
+$XDG_CACHE_HOME/cmk, under a checksum of everything it was made from. So an interrupted build resumes at the last finished crate, and
+another copy of the same sources proves nothing again. Messages go to standard error.
 """
+import argparse
 import contextlib
 import fcntl
 import hashlib
@@ -24,18 +23,17 @@ import time
 
 TOP = pathlib.Path(__file__).resolve().parent.parent
 PROGRAM, LIBRARY = "cmk", "cmk_c"
-# What is built of each, and what that is called.
+# The file that is built of each.
 MADE = {PROGRAM: "cmk", LIBRARY: "libcmk_c.a"}
-WHAT = {PROGRAM: "the program", LIBRARY: "the library"}
 PARTS = ("src", "specs", "proofs")
 MEMORY = pathlib.Path("/proc/meminfo")
-# What `rattle build` takes, and what the kit's folder holds, where libraries can be built without their proofs.
+# The options that `rattle build` needs and the files that the kit needs so that libraries can be built without their proofs.
 FLAGS = "--crate-name --extern -L --antt-project --logic-built --links --statements --jobs --backend --toolchain -o".split()
 FILES = "bin/rattle bin/rattle-link rlibs logic_built rattle/logic/antt-project.json toolchain c/libos_c.a c/liblibc_c.a".split()
-# How many jobs may prove a crate.
+# The most jobs that may prove one crate.
 JOBS = 4
-# About how many seconds each crate took on the last machine, and by how many jobs at most. Those that others are proved beside have one:
-# a second was hardly faster there. A fourth job on cm_tool costs more than it gives.
+# The seconds that each crate took on the last machine, and its most jobs. A crate has one job if others are proved at the same time: a
+# second was hardly faster there. A fourth job for cm_tool costs more than it gains.
 TIMES = {
     "cm_text": (105, JOBS),
     "cm_tree": (113, JOBS),
@@ -49,16 +47,16 @@ TIMES = {
     "cmk": (108, 1),
     "cmk_c": (120, 1),
 }
-# A crate takes twice as much memory as this, in kB, and once more for each job after the first.
+# A crate takes twice this memory, in kB, and once more for each job after the first.
 ROOM = 1536 * 1024
-# How many of each name are kept.
+# The store keeps this many entries of each name.
 KEPT = 2
-# The clock that a file's time is taken from may be so many seconds late.
+# A file's modification time may lag behind the clock by this many seconds.
 TICK = 0.02
 
 
 class Failed(Exception):
-    """Why there is no program, or none with what was asked for."""
+    """The reason why nothing was built."""
 
 
 class Stopped(Exception):
@@ -70,7 +68,7 @@ def tell(text):
 
 
 class Crate:
-    """A crate of the repository, with the libraries that it names: those of the repository, and those of the kit."""
+    """A crate of the repository, with the libraries it depends on: those of the repository and those of the kit."""
 
     def __init__(self, name, named, ours):
         self.name = name
@@ -80,25 +78,25 @@ class Crate:
         self.seconds, self.jobs = TIMES.get(name, (max(TIMES.values())[0], JOBS))
 
     def sum(self, kit, below):
-        """Returns the sum of all that the crate is made from: the kit, the sources, and what it stands on, of which the sums are given."""
+        """Returns the checksum of everything the crate is made from: the kit, its sources, and the crates below, given by their checksums."""
         made_of = hashlib.sha256(repr((kit.identity, self.name, self.of_kit, below)).encode())
         for file in sorted(it for part in PARTS for it in (self.folder / part).rglob("*") if it.is_file()):
             made_of.update(repr((str(file.relative_to(self.folder)), file.read_bytes())).encode())
         return made_of.hexdigest()[:32]
 
     def keeps_work(self):
-        """Returns whether `rt check` has left work, over which it is short."""
+        """Returns whether `rt check` has left work that makes the next check short."""
         kept = self.folder / "out/incremental"
         return kept.is_dir() and any(kept.iterdir())
 
 
-def out_of(target):
-    """Returns the folder for what is built of a crate."""
-    return TOP / "crates" / target / "out"
+def made_of(target):
+    """Returns the path of the file that is built of a target."""
+    return TOP / "crates" / target / "out" / MADE[target]
 
 
-def crates(target):
-    """Returns by name the crates that the target stands on, and the target: each behind those that it stands on."""
+def crates(*targets):
+    """Returns the targets and the crates they depend on by name, each after those it depends on."""
     lines = (it.partition("#")[0].replace(",", " ").partition(":") for it in (TOP / "crates.txt").read_text().splitlines())
     named = {head.split()[0]: names.split() for head, colon, names in lines if colon}
     found, entered = {}, set()
@@ -106,15 +104,16 @@ def crates(target):
     def add(name):
         if name in named and name not in found:
             if name in entered:
-                raise Failed(f"in {TOP}/crates.txt crates stand on one another in a circle")
+                raise Failed(f"the dependencies in {TOP}/crates.txt form a cycle")
             entered.add(name)
             for it in named[name]:
                 add(it)
             found[name] = Crate(name, named[name], named)
 
-    add(target)
-    if not found:
-        raise Failed(f"{TOP}/crates.txt doesn't name {target}")
+    for target in targets:
+        add(target)
+        if target not in found:
+            raise Failed(f"{TOP}/crates.txt doesn't name {target}")
     return found
 
 
@@ -131,14 +130,14 @@ class Kit:
     def __init__(self):
         self.prover = shutil.which("rt") or "/opt/rattle/bin/rt"
         if not os.access(self.prover, os.X_OK):
-            raise Failed(f"there is something to prove, and there is no rt on PATH or at {self.prover}")
+            raise Failed(f"this needs the Rattle kit, and there is no rt on the PATH or at {self.prover}")
         self.folder = pathlib.Path(self.prover).resolve().parent.parent
         self.identity = ""
         with contextlib.suppress(OSError):
             self.identity = (self.folder / "KIT-ID").read_text().strip()
 
     def lacking(self):
-        """Returns what isn't as it has to be where libraries are built without their proofs, or None."""
+        """Returns what this kit lacks to build libraries without their proofs, or None."""
         absent = [it for it in FILES if not (self.folder / it).exists()]
         if absent:
             return absent[0]
@@ -148,8 +147,8 @@ class Kit:
         return next((it for it in FLAGS if it not in words), None)
 
     def steps(self, crate, libraries, jobs, made):
-        """Returns the commands that prove the crate and build it into a folder. The libraries are those of the repository that it
-        stands on, by name, with their folders."""
+        """Returns the commands that prove the crate and build it into a folder. `libraries` has the folder of each library of the
+        repository that the crate depends on."""
         rattle = self.folder / "bin/rattle"
         words = ["--crate-name", crate.name, "--links", f"{crate.name}="]
         for name in crate.of_kit:
@@ -175,53 +174,62 @@ class Kit:
 
 
 class Store:
-    """What was proved on this machine: a folder for each crate, by its name and its sum."""
+    """What was built on this machine: a folder for each crate, named after it and its checksum."""
 
-    def __init__(self, out):
+    def __init__(self):
         cache = os.environ.get("XDG_CACHE_HOME") or os.path.expanduser("~/.cache")
-        for folder in ([pathlib.Path(cache) / "cmk"] if os.path.isabs(cache) else []) + [out / "proved"]:
+        own = made_of(PROGRAM).parent / "proved"
+        for folder in ([pathlib.Path(cache) / "cmk"] if os.path.isabs(cache) else []) + [own]:
             with contextlib.suppress(OSError):
                 folder.mkdir(parents=True, exist_ok=True)
-                self.folder, self.lock = folder, (folder / "lock").open("a")
+                (folder / "lock").open("a").close()
+                self.folder, self.locks = folder, {}
                 return
-        raise Failed(f"nothing can be written to {out}")
+        raise Failed(f"nothing can be written to {own}")
 
-    def wait(self):
-        """Waits until no other run proves anything here. The kernel drops a run's lock when the run ends, however that is."""
+    def wait(self, name, what):
+        """Waits until no other run holds the lock with this name. The kernel releases a lock when its run ends, no matter how."""
+        if name in self.locks:
+            return
+        lock = self.locks[name] = (self.folder / name).open("a")
         try:
-            fcntl.flock(self.lock, fcntl.LOCK_EX | fcntl.LOCK_NB)
+            fcntl.flock(lock, fcntl.LOCK_EX | fcntl.LOCK_NB)
         except BlockingIOError:
-            tell("waiting for another run that proves it")
-            fcntl.flock(self.lock, fcntl.LOCK_EX)
-        # A run that was killed may have left such a folder.
-        for left in self.folder.glob("proving.*"):
+            tell(f"waiting for another run that {what}")
+            fcntl.flock(lock, fcntl.LOCK_EX)
+
+    def room(self, prefix):
+        """Returns a new temporary folder, and removes those that killed runs have left."""
+        for left in self.folder.glob(f"{prefix}.*"):
             shutil.rmtree(left, ignore_errors=True)
+        return tempfile.TemporaryDirectory(prefix=f"{prefix}.", dir=self.folder)
 
-    def place(self, name, made_of):
-        return self.folder / f"{name}-{made_of}"
+    def place(self, name, checksum):
+        return self.folder / f"{name}-{checksum}"
 
-    def has(self, name, made_of):
-        return self.place(name, made_of).is_dir()
+    def has(self, name, checksum):
+        return self.place(name, checksum).is_dir()
 
-    def keep(self, made, name, made_of):
-        """Takes a folder in. Of those of one name the last few stay."""
-        made.rename(self.place(name, made_of))
+    def keep(self, made, name, checksum):
+        """Moves a folder into the store, which keeps the last few of each name."""
+        made.rename(self.place(name, checksum))
         for old in sorted(self.folder.glob(f"{name}-*"), key=lambda it: it.stat().st_mtime)[:-KEPT]:
             shutil.rmtree(old, ignore_errors=True)
 
 
 class Processes:
-    """What this run starts, in a group of processes that ends when this run ends, however that is."""
+    """The processes that this run starts, in a group that gets a signal when this run ends, no matter how."""
 
-    def __init__(self):
+    def __init__(self, signal_name="KILL"):
         # The shell's read returns when this run's end of the pipe closes.
         nowhere = {"stdout": subprocess.DEVNULL, "stderr": subprocess.DEVNULL}
         self.started = []
-        self.guard = subprocess.Popen(["sh", "-c", "read _; kill -9 0"], stdin=subprocess.PIPE, preexec_fn=os.setpgrp, **nowhere)
+        at_end = f"read _; kill -s {signal_name} 0"
+        self.guard = subprocess.Popen(["sh", "-c", at_end], stdin=subprocess.PIPE, preexec_fn=os.setpgrp, **nowhere)
 
-    def start(self, words, folder, log):
+    def start(self, words, folder, log, **more):
         with log.open("ab") as to:
-            how = {"cwd": folder, "stdin": subprocess.DEVNULL, "stdout": to, "stderr": subprocess.STDOUT}
+            how = {"cwd": folder, "stdin": subprocess.DEVNULL, "stdout": to, "stderr": subprocess.STDOUT, **more}
             self.started.append(subprocess.Popen(words, preexec_fn=lambda: os.setpgid(0, self.guard.pid), **how))
         return self.started[-1]
 
@@ -232,7 +240,7 @@ class Processes:
 
 
 class Making:
-    """A crate that is proved and built into a folder, command by command."""
+    """A crate on its way: the commands that prove it and build it into a folder, one after another."""
 
     def __init__(self, crate, jobs, steps, processes, made):
         self.crate, self.jobs, self.steps, self.processes, self.made = crate, jobs, steps, processes, made
@@ -242,14 +250,14 @@ class Making:
         made.mkdir()
 
     def goes_on(self):
-        """Starts the next command where the last one has ended, and returns whether one is at work."""
+        """Starts the next command if the last one has ended, and returns whether one is running."""
         if self.process and self.process.poll() is None:
             return True
         if self.process and self.process.returncode:
             lines = [it for it in self.log.read_text(errors="replace").splitlines() if not it.startswith("statements ")]
-            why = "was killed, most likely for want of memory" if self.process.returncode == -signal.SIGKILL else "isn't proved"
+            why = "was killed, probably for lack of memory" if self.process.returncode == -signal.SIGKILL else "isn't proved"
             print("\n".join(lines[-20:]), file=sys.stderr)
-            raise Failed(f"{self.crate.name} {why}, so nothing was run")
+            raise Failed(f"{self.crate.name} {why}, so nothing was built")
         if self.steps:
             self.process = self.processes.start(self.steps.pop(0), self.crate.folder, self.log)
             return True
@@ -257,7 +265,7 @@ class Making:
 
 
 class Progress:
-    """Tells how far it is: on a terminal in a line that is written anew, and elsewhere in a line a minute."""
+    """Shows the progress: on a terminal in one line that is rewritten, elsewhere in a line a minute."""
 
     def __init__(self):
         self.is_terminal = sys.stderr.isatty()
@@ -271,7 +279,7 @@ class Progress:
             self.told = time.monotonic()
             tell(text)
 
-    def end(self):
+    def close(self):
         if self.is_terminal:
             print("\r\033[K", end="", file=sys.stderr, flush=True)
 
@@ -282,15 +290,16 @@ def minutes(seconds):
 
 
 class Build:
-    """The crates that aren't kept, as far as they are proved."""
+    """The crates that the store lacks for the targets, and how far they are."""
 
-    def __init__(self, target, plan, sums, kit, store):
+    def __init__(self, targets, plan, sums, kit, store):
         self.plan, self.sums, self.kit, self.store = plan, sums, kit, store
-        self.waiting = [it for it in plan if not store.has(target, sums[target]) and not store.has(it, sums[it])]
+        needed = crates(*(it for it in targets if not store.has(it, sums[it])))
+        self.waiting = [it for it in plan if it in needed and not store.has(it, sums[it])]
         self.total = len(self.waiting)
         self.running = {}
         self.processors = len(os.sched_getaffinity(0))
-        # The seconds that those which have ended took, here and on the last machine.
+        # The seconds that the finished crates took, here and on the last machine.
         self.took = self.expected = 0
 
     def is_kept(self, name):
@@ -300,14 +309,14 @@ class Build:
         return any(it == other or self.stands_on(it, other) for it in self.plan[name].below)
 
     def chains(self, seconds):
-        """Returns for each crate the longest time that it and crates above it take one after another, by the seconds of each."""
+        """Returns for each crate the time of the longest chain that starts with it and goes upwards, given the seconds of each crate."""
         found = {}
         for name in reversed(self.plan):
             found[name] = seconds[name] + max((found[it] for it in found if name in self.plan[it].below), default=0)
         return found
 
     def left(self):
-        """Returns the seconds that are left at the pace so far: of the longest chain, or of all crates if the processors don't suffice."""
+        """Returns the seconds left at the pace so far: those of the longest chain, or of all crates if there are too few processors."""
         pace = self.took / self.expected if self.expected else 1
         seconds = {name: 0 if self.is_kept(name) else crate.seconds * pace for name, crate in self.plan.items()}
         for name, it in self.running.items():
@@ -315,8 +324,8 @@ class Build:
         return max(*self.chains(seconds).values(), sum(seconds.values()) / self.processors)
 
     def jobs(self, name, others):
-        """Returns how many jobs one more crate may have, with a processor left to each of so many others: none where there is no processor
-        or no memory for it. The first has one in any case."""
+        """Returns how many jobs one more crate may have if each of the given number of others keeps a processor: 0 if there is no
+        processor or no memory for it. The first crate always has one."""
         lines = dict(it.split(":", 1) for it in MEMORY.read_text().splitlines())
         room = int(lines["MemAvailable"].split()[0]) // ROOM - 2 * len(self.running)
         free = self.processors - sum(it.jobs for it in self.running.values())
@@ -324,7 +333,7 @@ class Build:
         return max(found, 0 if self.running else 1)
 
     def start_ready(self, processes, work):
-        """Starts the crates that wait for none, first those on which most others wait, as long as there is a place."""
+        """Starts the crates that wait for no other while there is room, those at the start of the longest chains first."""
         chains = self.chains({name: 0 if self.is_kept(name) else crate.seconds for name, crate in self.plan.items()})
         ready = [it for it in self.waiting if all(self.is_kept(below) for below in self.plan[it].below)]
         ready.sort(key=chains.get)
@@ -339,87 +348,104 @@ class Build:
             self.running[name] = Making(self.plan[name], jobs, steps, processes, work / name)
 
     def keep_ended(self):
-        """Keeps what has been built, if its sources are as they were."""
+        """Stores the finished crates, provided that their sources haven't changed."""
         for name, it in list(self.running.items()):
             if it.goes_on():
                 continue
             if self.plan[name].sum(self.kit, [self.sums[below] for below in self.plan[name].below]) != self.sums[name]:
-                raise Failed(f"a source of {name} has changed while it was proved: run it again")
+                raise Failed(f"a source of {name} changed while it was being proved: run this again")
             self.store.keep(it.made, name, self.sums[name])
             del self.running[name]
             self.took += time.monotonic() - it.began
             self.expected += self.plan[name].seconds
 
-    def run(self, processes, work):
-        progress = Progress()
-        try:
+    def run(self):
+        """Proves and builds the crates, and stores each as soon as it is done."""
+        progress, processes = Progress(), Processes()
+        with self.store.room("proving") as work, contextlib.closing(processes), contextlib.closing(progress):
             while self.waiting or self.running:
-                self.start_ready(processes, work)
+                self.start_ready(processes, pathlib.Path(work))
                 done, now = self.total - len(self.waiting) - len(self.running), " and ".join(self.running)
                 progress.tell(f"{done} of {self.total} crates are proved, now {now}; about {minutes(self.left())} left")
                 time.sleep(0.1)
                 self.keep_ended()
-        finally:
-            progress.end()
 
 
-def run_rt(target, kit, processes, work):
+def run_rt(target, kit, store):
     """Has rt prove what isn't proved, one crate after another, and build the target in its folder."""
     jobs = min(JOBS, len(os.sched_getaffinity(0)))
     words = ["lib", "--jobs", str(jobs)] if target == LIBRARY else ["run", "--jobs", str(jobs), "--", "--help"]
-    rt = Making(Crate(target, [], []), jobs, [[kit.prover, *words]], processes, work / target)
-    progress = Progress()
-    try:
+    progress, processes = Progress(), Processes()
+    with store.room("proving") as work, contextlib.closing(processes), contextlib.closing(progress):
+        rt = Making(Crate(target, [], []), jobs, [[kit.prover, *words]], processes, pathlib.Path(work) / target)
         while rt.goes_on():
-            progress.tell(f"proving for {minutes(time.monotonic() - rt.began)}")
+            progress.tell(f"proving {target} for {minutes(time.monotonic() - rt.began)}")
             time.sleep(0.1)
-    finally:
-        progress.end()
 
 
-def obtain(target, plan, sums, kit, store):
-    """Puts the target into its folder: the one that is kept, or one that is built once all is proved."""
-    build = Build(target, plan, sums, kit, store)
-    is_developed = all(it.keeps_work() for it in plan.values() if it.name != target)
+def take(target, checksum, store):
+    """Copies a target from the store into its folder."""
+    made = made_of(target)
+    new = made.with_name("new")
+    shutil.copy2(store.place(target, checksum) / MADE[target], new)
+    new.replace(made)
+
+
+def mark(target, checksum, kit, since):
+    """Marks a target as built from the sources with this checksum, which were read after the time `since`. It gets that time, so that
+    each source changed later is newer."""
+    made = made_of(target)
+    (made.parent / "built").write_text(f"{kit.identity}\n{checksum}\n")
+    os.utime(made, (since, since))
+
+
+def is_built(target, checksum, kit):
+    """Returns whether a target is in its folder, built from the sources with this checksum."""
+    made = made_of(target)
+    built = made.parent / "built"
+    return made.exists() and built.exists() and built.read_text() == f"{kit.identity}\n{checksum}\n"
+
+
+def obtain(targets, plan, sums, kit, store):
+    """Puts the targets into their folders: from the store, once everything they depend on is proved."""
+    build = Build(targets, plan, sums, kit, store)
+    is_developed = all(it.keeps_work() for it in plan.values() if it.name not in MADE)
     lacking = None if is_developed or not build.total else kit.lacking()
-    made = out_of(target) / MADE[target]
-    what = "what changed" if made.exists() else f"each function of {WHAT[target]}"
-    processes = Processes()
-    with tempfile.TemporaryDirectory(prefix="proving.", dir=store.folder) as work, contextlib.closing(processes):
-        if not build.total:
-            tell(f"these sources are proved already, and {WHAT[target]} is in {store.folder}")
-        elif is_developed or lacking:
-            why = f"since this kit has no {lacking}" if lacking else "over the work that rt check has left"
-            verb = "lib" if target == LIBRARY else "run"
-            tell(f"{what} is proved on this machine first, by rt {verb}, {why}")
-            run_rt(target, kit, processes, pathlib.Path(work))
-            return
-        else:
-            tell(f"{what} is proved on this machine first: about {minutes(build.left())}")
-            build.run(processes, pathlib.Path(work))
-    shutil.copy2(store.place(target, sums[target]) / MADE[target], out_of(target) / "new")
-    (out_of(target) / "new").replace(made)
+    what = "what has changed" if all(made_of(it).exists() for it in targets) else "every function"
+    if not build.total:
+        tell(f"these sources are proved already: taking {' and '.join(targets)} from {store.folder}")
+    elif is_developed or lacking:
+        why = f"because this kit has no {lacking}" if lacking else "on top of the work that rt check has left"
+        tell(f"proving {what} with rt, {why}")
+        for target in targets:
+            run_rt(target, kit, store)
+        return
+    else:
+        tell(f"proving {what}: about {minutes(build.left())}")
+        build.run()
+    for target in targets:
+        take(target, sums[target], store)
 
 
-def prove(target):
-    """Sees to it that the target is there, and is that of these sources and this kit."""
-    out = out_of(target)
-    out.mkdir(parents=True, exist_ok=True)
-    plan, kit, store = crates(target), Kit(), Store(out)
-    store.wait()
-    began = time.time() - TICK
+def prove(targets):
+    """Proves and builds those targets that aren't built from the present sources with the present kit."""
+    for target in targets:
+        made_of(target).parent.mkdir(parents=True, exist_ok=True)
+    plan, kit, store = crates(*targets), Kit(), Store()
+    store.wait("lock", "proves it")
+    since = time.time() - TICK
     sums = sums_of(plan, kit)
-    made, built, made_of = out / MADE[target], out / "built", f"{kit.identity}\n{sums[target]}\n"
-    if not made.exists() or not built.exists() or built.read_text() != made_of:
-        built.unlink(missing_ok=True)
-        obtain(target, plan, sums, kit, store)
-        built.write_text(made_of)
-    # It is as old as the start of this run, so a source that changed meanwhile is newer.
-    os.utime(made, (began, began))
+    stale = [it for it in targets if not is_built(it, sums[it], kit)]
+    for target in stale:
+        (made_of(target).parent / "built").unlink(missing_ok=True)
+    if stale:
+        obtain(stale, plan, sums, kit, store)
+    for target in targets:
+        mark(target, sums[target], kit, since)
 
 
-def status_of(target):
-    """Proves and builds the target, and returns the exit status: 0 where it is there."""
+def outcome(work):
+    """Does some work, and returns the exit status: 0 if it succeeds."""
 
     def stop(number, _):
         raise Stopped(number)
@@ -428,7 +454,7 @@ def status_of(target):
         if signal.getsignal(number) is not signal.SIG_IGN:
             signal.signal(number, stop)
     try:
-        prove(target)
+        work()
     except BrokenPipeError:
         return 128 + signal.SIGPIPE
     except (Failed, OSError) as why:
@@ -441,13 +467,12 @@ def status_of(target):
 
 
 def main():
-    status = status_of(PROGRAM)
-    if status:
-        return status
-    # Python ignores this signal, and a program keeps what is ignored.
-    signal.signal(signal.SIGPIPE, signal.SIG_DFL)
-    program = out_of(PROGRAM) / MADE[PROGRAM]
-    os.execv(program, [program, *sys.argv[1:]])
+    given = argparse.ArgumentParser(prog="tools/build.py", description="Proves and builds the targets; without any, both.")
+    given.add_argument("targets", nargs="*", metavar="TARGET", help=" or ".join(MADE))
+    targets = given.parse_args().targets or list(MADE)
+    if not set(targets) <= set(MADE):
+        given.error(f"a target is {' or '.join(MADE)}")
+    return outcome(lambda: prove(targets))
 
 
 if __name__ == "__main__":

@@ -1,0 +1,119 @@
+#!/usr/bin/env python3
+"""Becomes the program cmk with the given arguments: ./cmk calls this if no proved program of the present sources is in its folder.
+
+  tools/launch.py [WORD..]
+
+If the store of tools/build.py has that program, it is taken from there. Otherwise the program is built without its proofs by `rt try`, with
+run-time checks in their place, which takes about a minute. The store keeps this build too, under the checksum of the sources. Each run of
+it says on standard error that it isn't proved. Proofs are never started: `make` does that.
+"""
+import contextlib
+import contextlib
+import errno
+import os
+import pathlib
+import shutil
+import signal
+import sys
+import time
+
+import build
+
+# The programs that can be tried, and the arguments with which each reads a file.
+READS = {build.PROGRAM: ["render"], "conformance": []}
+
+
+def reader(pipe):
+    """Opens a named pipe for writing, and returns its number, or None while nobody reads it."""
+    try:
+        return os.open(pipe, os.O_WRONLY | os.O_NONBLOCK)
+    except OSError as why:
+        if why.errno != errno.ENXIO:
+            raise
+        return None
+
+
+def try_program(name, kit, work, made):
+    """Has `rt try` build a program without its proofs, and copies that to `made`. `rt try` removes what it has built when the program ends.
+    So the program is given a named pipe to read, and is copied while it waits."""
+    pipe, log = work / "pipe", work / "log"
+    os.mkfifo(pipe)
+    processes, progress, began = build.Processes("TERM"), build.Progress(), time.monotonic()
+    with contextlib.closing(processes), contextlib.closing(progress):
+        words = [kit.prover, "try", "--", *READS[name], pipe]
+        tried = processes.start(words, build.TOP / "crates" / name, log, env={**os.environ, "TMPDIR": str(work)})
+        while (number := reader(pipe)) is None:
+            progress.tell(f"building {name} without proofs, which takes about a minute: {time.monotonic() - began:.0f} s")
+            if tried.poll() is not None and reader(pipe) is None:
+                print(log.read_text(errors="replace"), end="", file=sys.stderr)
+                raise build.Failed("rt try has built no program, so nothing was run")
+            time.sleep(0.05)
+        for program in work.glob("*/*/program"):
+            shutil.copy2(program, made)
+        os.close(number)
+    if not made.exists():
+        raise build.Failed("this kit's rt try has its program elsewhere, so nothing was run: run 'make'")
+
+
+class Sources:
+    """The present sources of a program, the kit, and the store of what was built on this machine."""
+
+    def __init__(self, name):
+        self.name, self.plan, self.kit, self.store = name, build.crates(name), build.Kit(), build.Store()
+        self.since = time.time() - build.TICK
+        self.sums = build.sums_of(self.plan, self.kit)
+        self.checksum = self.sums[name]
+
+    def proved(self):
+        """Returns the proved program, if it is in its folder or in the store, or None."""
+        made = build.made_of(self.name)
+        if not build.is_built(self.name, self.checksum, self.kit):
+            if not self.store.has(self.name, self.checksum):
+                return None
+            build.tell(f"these sources are proved already: taking {self.name} from {self.store.folder}")
+            made.parent.mkdir(parents=True, exist_ok=True)
+            build.take(self.name, self.checksum, self.store)
+        build.mark(self.name, self.checksum, self.kit, self.since)
+        return made
+
+    def unproved(self):
+        """Returns the unproved program, and builds it if the store lacks it."""
+        entry = f"unproved-{self.name}", self.checksum
+        if not self.store.has(*entry):
+            self.store.wait(f"unproved-{self.name}.lock", "builds it without proofs")
+        if not self.store.has(*entry):
+            with self.store.room(f"trying-{self.name}") as room:
+                folder = pathlib.Path(room) / "made"
+                folder.mkdir()
+                try_program(self.name, self.kit, pathlib.Path(room), folder / self.name)
+                self.store.keep(folder, *entry)
+        return self.store.place(*entry) / self.name
+
+    def time_to_prove(self):
+        return build.minutes(build.Build([self.name], self.plan, self.sums, self.kit, self.store).left())
+
+
+def find():
+    """Returns the proved program, or else the unproved one, and says so."""
+    sources = Sources(build.PROGRAM)
+    proved = sources.proved()
+    if not proved:
+        build.tell(
+            "not proved on this machine yet; this output comes from unproved code with run-time checks. "
+            f"Run 'make' to prove and build cmk (about {sources.time_to_prove()})."
+        )
+    return proved or sources.unproved()
+
+
+def main():
+    found = []
+    status = build.outcome(lambda: found.append(find()))
+    if status:
+        return status
+    # Python ignores this signal, and a program inherits what is ignored.
+    signal.signal(signal.SIGPIPE, signal.SIG_DFL)
+    os.execv(found[0], [found[0], *sys.argv[1:]])
+
+
+if __name__ == "__main__":
+    sys.exit(main())
