@@ -2,6 +2,7 @@
 
 use crate::devices::Done;
 use crate::runs::{Space, Written, in_memory, ran, told};
+use crate::texts::Tries;
 use case_tables::cases::Case;
 use case_tables::trouble::{Trouble, same, wrong};
 use case_tables::words::{Word, words};
@@ -111,7 +112,7 @@ fn is_done_with_failures(
 }
 
 /// That a command line is answered as its case wants.
-pub(crate) fn agrees(alloc: Global, case: &Case) -> Result<(), Trouble> {
+pub(crate) fn agrees(alloc: Global, tries: Tries, case: &Case) -> Result<(), Trouble> {
     case.has_only(&PARTS)?;
     let all = words_of(alloc, case.rest("words").unwrap_or(""))?;
     let input = case.bytes("input")?.unwrap_or(Vec::new(alloc));
@@ -121,7 +122,10 @@ pub(crate) fn agrees(alloc: Global, case: &Case) -> Result<(), Trouble> {
             let given = (vec![in alloc; input.clone()?]?, false);
             is_done(alloc, case, &ran(alloc, &task, given, spaces)?)?;
             is_in_memory(alloc, case, &task, input.as_slice())?;
-            is_done_with_failures(alloc, case, &task, input.as_slice())
+            match tries {
+                Tries::Once => Ok(()),
+                Tries::InAllWays => is_done_with_failures(alloc, case, &task, input.as_slice()),
+            }
         }
         Err(stop) => is_done(alloc, case, &told(alloc, &stop, spaces)?),
     }

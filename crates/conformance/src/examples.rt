@@ -2,7 +2,7 @@
 //! first. Then come the text, a line with a point, its HTML, and a closing line of 32 backticks. → stands for
 //! a tab. Lines outside of examples are passed over.
 
-use crate::texts::{Outcome, Text};
+use crate::texts::{Outcome, Text, Tries};
 use case_tables::trouble::{Trouble, wrong};
 use cm_text::{Limits, Rules};
 use std::alloc::{AllocError, Global};
@@ -20,7 +20,7 @@ pub(crate) struct Example {
 
 impl Example {
     /// That the text comes to the HTML by these rules.
-    pub(crate) fn agrees(&self, rules: Rules) -> Result<(), Trouble> {
+    pub(crate) fn agrees(&self, rules: Rules, tries: Tries) -> Result<(), Trouble> {
         let html = Some(self.html.as_bytes());
         Text {
             alloc: self.alloc,
@@ -34,7 +34,7 @@ impl Example {
                 listing: None,
             },
         }
-        .agrees()
+        .agrees(tries)
     }
 }
 

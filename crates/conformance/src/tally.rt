@@ -1,6 +1,7 @@
 //! How many cases of a table come out.
 
 use crate::examples::examples;
+use crate::texts::Tries;
 use crate::{calls, commands, texts};
 use case_tables::cases::{Case, cases};
 use case_tables::trees;
@@ -12,6 +13,7 @@ use std::alloc::Global;
 #[derive(Drop)]
 pub(crate) struct Tally {
     alloc: Global,
+    tries: Tries,
     total: usize,
     differ: Vec<String>,
 }
@@ -48,11 +50,11 @@ impl Tally {
         }
     }
 
-    /// Each example by itself, in every way that a text is tried.
+    /// Each example by itself, as a text is tried.
     fn examples(&mut self, rules: Rules, file: &str) -> Result<(), Trouble> {
         for example in &examples(self.alloc, file)? {
             let title = format!(in self.alloc; "example {}", self.total.saturating_add(1))?;
-            self.count(title.as_str(), example.agrees(rules))?;
+            self.count(title.as_str(), example.agrees(rules, self.tries))?;
         }
         Ok(())
     }
@@ -73,10 +75,10 @@ impl Tally {
     /// Judges a case by the part that says what it is of.
     fn case(&self, case: &Case, docs: &mut Vec<cm_tree::Doc>) -> Result<(), Trouble> {
         if case.has("words") {
-            return commands::agrees(self.alloc, case);
+            return commands::agrees(self.alloc, self.tries, case);
         }
         if case.has("input") {
-            return texts::agrees(self.alloc, case);
+            return texts::agrees(self.alloc, self.tries, case);
         }
         Ok(docs.push(trees::agrees(self.alloc, case)?)?)
     }
@@ -92,9 +94,15 @@ impl Tally {
 }
 
 /// How many cases of the table with this name come out.
-pub(crate) fn tally_of(alloc: Global, name: &str, table: &str) -> Result<Tally, NoMemory> {
+pub(crate) fn tally_of(
+    alloc: Global,
+    tries: Tries,
+    name: &str,
+    table: &str,
+) -> Result<Tally, NoMemory> {
     let mut tally = Tally {
         alloc,
+        tries,
         total: 0,
         differ: Vec::new(alloc),
     };

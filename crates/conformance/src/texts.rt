@@ -16,6 +16,15 @@ use std::alloc::{AllocError, Global};
 /// The report of a file without examples.
 const NO_EXAMPLES: &[u8] = b"0 of 0 agree\n";
 
+/// How a text is tried.
+#[derive(Clone, Copy, Debug)]
+pub(crate) enum Tries {
+    /// Once: whole, as `run` renders and lists it.
+    Once,
+    /// By each call, in each cut, and with readers and writers that fail.
+    InAllWays,
+}
+
 /// What a text comes to.
 #[derive(Clone, Copy, Debug)]
 pub(crate) enum Outcome<'a> {
@@ -358,6 +367,15 @@ impl Text<'_> {
         self.fails_at_each_place()
     }
 
+    /// That the whole text is rendered and listed as is wanted, as far as its table tells.
+    fn agrees_once(&self) -> Result<(), Trouble> {
+        for job in [Job::Render, Job::Tree] {
+            let len = self.whole(job).map_or(0, |whole| whole.len());
+            self.runs(job, Cut::Nowhere, ample(len))?;
+        }
+        Ok(())
+    }
+
     /// The listing of the document, where the text comes whole.
     fn listed(&self) -> Result<String, Trouble> {
         let mut parser = Parser::new(self.alloc, self.limits);
@@ -368,8 +386,12 @@ impl Text<'_> {
         }
     }
 
-    /// The same, and that it comes to one tree in all cuts where its table has none.
-    pub(crate) fn agrees(&self) -> Result<(), Trouble> {
+    /// That it comes to what is wanted as often as it is tried, and in all cuts to one tree where its table has
+    /// none.
+    pub(crate) fn agrees(&self, tries: Tries) -> Result<(), Trouble> {
+        if let Tries::Once = tries {
+            return self.agrees_once();
+        }
         let Outcome::Document {
             html,
             listing: None,
@@ -431,7 +453,7 @@ fn outcome_of<'a>(
 }
 
 /// That a text comes to what its case wants.
-pub(crate) fn agrees(alloc: Global, case: &Case) -> Result<(), Trouble> {
+pub(crate) fn agrees(alloc: Global, tries: Tries, case: &Case) -> Result<(), Trouble> {
     case.has_only(&PARTS)?;
     let input = case.bytes("input")?.unwrap_or(Vec::new(alloc));
     let html = case.bytes("html")?;
@@ -445,5 +467,5 @@ pub(crate) fn agrees(alloc: Global, case: &Case) -> Result<(), Trouble> {
         depth: case.number("depth")?,
         outcome: outcome_of(alloc, case, html)?,
     }
-    .agrees()
+    .agrees(tries)
 }
