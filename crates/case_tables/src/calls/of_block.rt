@@ -47,28 +47,48 @@ fn outline(answer: &mut Answer, text: &str) -> Result<Outline, Trouble> {
     }
 }
 
-/// The blocks at the top level of a text, part by part, and the owners of its lines.
-fn blocks(answer: &mut Answer, text: &str) -> Result<(), Trouble> {
-    let Outline { blocks, owners, .. } = outline(answer, text)?;
-    for part in blocks.into_parts() {
+/// Adds to the answer the owners of an outline's lines.
+fn show_owners(answer: &mut Answer, outline: &Outline) -> Result<(), Trouble> {
+    answer.shown(&outline.to_owners(answer.alloc)?)
+}
+
+/// Adds to the answer the top-level blocks of an outline, part by part, followed by the owners of its lines.
+fn show_parts(answer: &mut Answer, outline: &Outline) -> Result<(), Trouble> {
+    for part in outline.blocks.parts() {
         let (top, _inside) = part.contents();
         answer.shown(&top)?;
     }
-    answer.shown(&owners.to_items(answer.alloc)?)
+    show_owners(answer, outline)
+}
+
+/// The blocks at the top level of a text, part by part, and the owners of its lines.
+fn blocks(answer: &mut Answer, text: &str) -> Result<(), Trouble> {
+    let outline = outline(answer, text)?;
+    show_parts(answer, &outline)
+}
+
+/// Adds to the answer the blocks of an outline as blocks of the tree, followed by the owners of its lines.
+fn show_tree(answer: &mut Answer, outline: &Outline) -> Result<(), Trouble> {
+    answer.shown(&outline.to_blocks(answer.alloc)?)?;
+    show_owners(answer, outline)
 }
 
 /// The blocks of a text's outline as blocks of the tree, and the owners of its lines.
 fn given(answer: &mut Answer, text: &str) -> Result<(), Trouble> {
     let outline = outline(answer, text)?;
-    answer.shown(&outline.to_blocks(answer.alloc)?)?;
-    answer.shown(&outline.to_owners(answer.alloc)?)
+    show_tree(answer, &outline)
+}
+
+/// Adds to the answer what an outline defines under a label, or that it defines nothing.
+fn show_definition(answer: &mut Answer, label: &str, outline: &Outline) -> Result<bool, Trouble> {
+    answer.shown(&outline.definitions.find(label)?)?;
+    Ok(true)
 }
 
 /// What a text defines under a label.
 fn defined(answer: &mut Answer, label: &str, text: &str) -> Result<bool, Trouble> {
     let outline = outline(answer, text)?;
-    answer.shown(&outline.definitions.find(label)?)?;
-    Ok(true)
+    show_definition(answer, label, &outline)
 }
 
 /// The limits of a parser, the faults of lines within so many quotes and items, and what is told at the end.
