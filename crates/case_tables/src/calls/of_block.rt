@@ -26,21 +26,21 @@ fn tell(answer: &mut Answer, at: usize, refusal: Option<BlockFault>) -> Result<(
     Ok(())
 }
 
-/// The parser of these limits behind lines. The answer has the number of each line that is refused, counted
-/// from 0, and its fault.
-fn behind(answer: &mut Answer, limits: Limits, lines: &[Line]) -> Result<BlockParser, Trouble> {
-    let mut parser = BlockParser::new(answer.alloc, limits);
-    for (at, line) in lines.iter().enumerate() {
-        let refusal = refusal(&mut parser, line);
+/// Passes the lines of a text to a parser, and adds to the answer the number of each line that it refuses,
+/// counted from 0, and the fault.
+fn read(answer: &mut Answer, parser: &mut BlockParser, text: &str) -> Result<(), Trouble> {
+    let lines = lines_of(answer.alloc, text)?;
+    for (at, line) in lines.as_slice().iter().enumerate() {
+        let refusal = refusal(parser, line);
         tell(answer, at, refusal)?;
     }
-    Ok(parser)
+    Ok(())
 }
 
 /// The outline of a text, by the standard limits.
 fn outline(answer: &mut Answer, text: &str) -> Result<Outline, Trouble> {
-    let lines = lines_of(answer.alloc, text)?;
-    let parser = behind(answer, Limits::standard(), lines.as_slice())?;
+    let mut parser = BlockParser::new(answer.alloc, Limits::standard());
+    read(answer, &mut parser, text)?;
     match finished(parser) {
         Ok(outline) => Ok(outline),
         Err(_) => Err(wrong(answer.alloc, "a line is refused")),
@@ -91,18 +91,45 @@ fn defined(answer: &mut Answer, label: &str, text: &str) -> Result<bool, Trouble
     show_definition(answer, label, &outline)
 }
 
+/// Passes the lines of a text to a parser, and adds to the answer what the parser then holds.
+fn show_held(answer: &mut Answer, parser: &mut BlockParser, text: &str) -> Result<(), Trouble> {
+    read(answer, parser, text)?;
+    answer.shown(parser)
+}
+
+/// What a parser with the standard limits holds after the lines of a text.
+fn held(answer: &mut Answer, text: &str) -> Result<(), Trouble> {
+    let mut parser = BlockParser::new(answer.alloc, Limits::standard());
+    show_held(answer, &mut parser, text)
+}
+
+/// Passes the lines of a text to a parser, and adds to the answer the parser's limits.
+fn show_limits(answer: &mut Answer, parser: &mut BlockParser, text: &str) -> Result<(), Trouble> {
+    read(answer, parser, text)?;
+    answer.shown(&parser.limits())
+}
+
+/// Adds to the answer the fault met at the end, or the word `none`.
+fn show_fault(answer: &mut Answer, fault: Option<BlockFault>) -> Result<(), Trouble> {
+    match fault {
+        Some(fault) => answer.shown(&fault),
+        None => answer.word("none"),
+    }
+}
+
+/// Adds to the answer the faults of lines under these limits, the parser's limits, and the fault at the end.
+fn refused_by(answer: &mut Answer, limits: Limits, text: &str) -> Result<(), Trouble> {
+    let mut parser = BlockParser::new(answer.alloc, limits);
+    show_limits(answer, &mut parser, text)?;
+    show_fault(answer, finished(parser).err())
+}
+
 /// The limits of a parser, the faults of lines within so many quotes and items, and what is told at the end.
 fn refused(answer: &mut Answer, limit: &str, text: &str) -> Result<bool, Trouble> {
     let Some(limits) = Limits::new(100, number(answer.alloc, limit)?, 1) else {
         return Err(wrong(answer.alloc, "the limits are out of range"));
     };
-    let lines = lines_of(answer.alloc, text)?;
-    let parser = behind(answer, limits, lines.as_slice())?;
-    answer.shown(&parser.limits())?;
-    match finished(parser) {
-        Ok(_outline) => answer.word("none")?,
-        Err(fault) => answer.shown(&fault)?,
-    }
+    refused_by(answer, limits, text)?;
     Ok(true)
 }
 
@@ -120,11 +147,7 @@ fn of_text(answer: &mut Answer, name: &str, text: &str) -> Result<bool, Trouble>
     match name {
         "blocks" => blocks(answer, text)?,
         "given" => given(answer, text)?,
-        "held" => {
-            let lines = lines_of(answer.alloc, text)?;
-            let parser = behind(answer, Limits::standard(), lines.as_slice())?;
-            answer.shown(&parser)?;
-        }
+        "held" => held(answer, text)?,
         _ => return Ok(false),
     }
     Ok(true)
