@@ -1,4 +1,5 @@
 //! Calls of `cm_text`.
+ghost use Rattle.std.specs.Prelude.{◌≡◌, false};
 
 use crate::calls::answer::Answer;
 use crate::dialects::rules_of;
@@ -24,31 +25,58 @@ enum Kind {
     Space,
 }
 
-/// The lines of a text that comes in these pieces.
-fn lines(answer: &mut Answer, pieces: &[Word]) -> Result<bool, Trouble> {
-    let alloc = answer.alloc;
-    let mut feed = LineFeed::new(alloc, Limits::standard());
-    for piece in pieces {
-        let Word::Text(piece) = piece else {
-            return Err(wrong(alloc, "a piece is no text"));
-        };
-        if feed.push(piece.as_bytes()).is_err() {
-            return Err(Trouble::NoMemory);
-        }
-        // What has ended is handed out at once.
-        for _ in 0..piece.len() {
-            if let Some(line) = feed.next_line() {
-                answer.text(line.text.as_str())?;
-            }
-        }
-    }
-    if feed.end().is_err() {
-        return Err(Trouble::NoMemory);
-    }
+/// Adds to the answer the next line of a feed, if one has ended.
+fn show_line(answer: &mut Answer, feed: &mut LineFeed) -> Result<(), Trouble>
+    ensures { feed.new.ended ≡ feed.old.ended }
+{
     if let Some(line) = feed.next_line() {
         answer.text(line.text.as_str())?;
     }
-    answer.truth(feed.ended())?;
+    Ok(())
+}
+
+/// Passes a piece to a feed, and adds to the answer the lines that have ended.
+fn push(answer: &mut Answer, feed: &mut LineFeed, piece: &Word) -> Result<(), Trouble>
+    requires { feed.old.ended ≡ false }
+    ensures { feed.new.ended ≡ false }
+{
+    let Word::Text(piece) = piece else {
+        return Err(wrong(answer.alloc, "a piece is no text"));
+    };
+    if feed.push(piece.as_bytes()).is_err() {
+        return Err(Trouble::NoMemory);
+    }
+    for _ in 0..piece.len() {
+        show_line(answer, feed)?;
+    }
+    Ok(())
+}
+
+/// Ends a feed, and adds to the answer the last line, if it had no ending, and whether the feed has ended.
+fn end(answer: &mut Answer, feed: &mut LineFeed) -> Result<(), Trouble>
+    requires { feed.old.ended ≡ false }
+{
+    if feed.end().is_err() {
+        return Err(Trouble::NoMemory);
+    }
+    show_line(answer, feed)?;
+    answer.truth(feed.ended())
+}
+
+/// Passes pieces to a feed and ends it, and adds to the answer the lines and whether the feed has ended.
+fn show_lines(answer: &mut Answer, feed: &mut LineFeed, pieces: &[Word]) -> Result<(), Trouble>
+    requires { feed.old.ended ≡ false }
+{
+    for piece in pieces {
+        push(answer, feed, piece)?;
+    }
+    end(answer, feed)
+}
+
+/// The lines of a text that comes in these pieces.
+fn lines(answer: &mut Answer, pieces: &[Word]) -> Result<bool, Trouble> {
+    let mut feed = LineFeed::new(answer.alloc, Limits::standard());
+    show_lines(answer, &mut feed, pieces)?;
     Ok(true)
 }
 
