@@ -6,31 +6,51 @@ use crate::words::Word;
 use cm_tree::Definitions;
 use std::alloc::Global;
 
+/// Adds a definition, given by its label, its destination and its title, to the table.
+fn add(alloc: Global, table: &mut Definitions, given: &[Word]) -> Result<(), Trouble> {
+    let [Word::Text(label), Word::Text(dest), Word::Text(title)] = given else {
+        return Err(wrong(alloc, "a definition isn't whole"));
+    };
+    Ok(table.add(label.as_str(), dest.as_str(), title.as_str())?)
+}
+
+/// Adds definitions, three words each, to the table.
+fn add_all(alloc: Global, table: &mut Definitions, given: &[Word]) -> Result<(), Trouble> {
+    for one in given.chunks(3) {
+        add(alloc, table, one)?;
+    }
+    Ok(())
+}
+
 /// The table of definitions, each given by its label, its destination and its title.
 fn table(alloc: Global, given: &[Word]) -> Result<Definitions, Trouble> {
     let mut table = Definitions::new(alloc);
-    for one in given.chunks(3) {
-        let [Word::Text(label), Word::Text(dest), Word::Text(title)] = one else {
-            return Err(wrong(alloc, "a definition isn't whole"));
-        };
-        table.add(label.as_str(), dest.as_str(), title.as_str())?;
-    }
+    add_all(alloc, &mut table, given)?;
     Ok(table)
+}
+
+/// Adds to the answer what the table has under a label: as texts for the call `find`, else as it lends them.
+fn show(answer: &mut Answer, table: &Definitions, call: &str, label: &str) -> Result<(), Trouble> {
+    if call == "find" {
+        answer.shown(&table.find(label)?)
+    } else {
+        answer.shown(&table.target(label)?)
+    }
+}
+
+/// Looks up a label in the table of these definitions, and adds to the answer what is found.
+fn look_up(answer: &mut Answer, call: &str, label: &str, given: &[Word]) -> Result<(), Trouble> {
+    let table = table(answer.alloc, given)?;
+    show(answer, &table, call, label)
 }
 
 /// Answers the call, if it is one of `cm_tree`: what a table has under a label, as texts or as they are lent.
 pub fn answers(answer: &mut Answer, name: &str, given: &[Word]) -> Result<bool, Trouble> {
-    let [Word::Text(label), given @ ..] = given else {
-        return Ok(false);
-    };
-    if name != "find" && name != "target" {
-        return Ok(false);
+    match (name, given) {
+        ("find" | "target", [Word::Text(label), given @ ..]) => {
+            look_up(answer, name, label.as_str(), given)?;
+            Ok(true)
+        }
+        _ => Ok(false),
     }
-    let table = table(answer.alloc, given)?;
-    if name == "find" {
-        answer.shown(&table.find(label.as_str())?)?;
-    } else {
-        answer.shown(&table.target(label.as_str())?)?;
-    }
-    Ok(true)
 }
