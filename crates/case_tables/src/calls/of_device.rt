@@ -93,24 +93,26 @@ fn whole(answer: &mut Answer, capacity: &str, at_most: &str, text: &str) -> Resu
     Ok(true)
 }
 
-/// Answers the call, if it is one of a device.
-pub fn answers(answer: &mut Answer, name: &str, given: &[Word]) -> Result<bool, Trouble> {
-    match given {
-        texts if name == "from_write" => from_write(answer, texts),
-        [Word::Text(text)] if name == "from_read" => from_read(answer, text.as_str()),
-        [Word::Plain(end), texts @ ..] if name == "pieces" => {
-            from_pieces(answer, end.as_str(), texts)
-        }
-        [Word::Plain(capacity), Word::Plain(at_most), texts @ ..] if name == "room" => {
-            to_room(answer, capacity.as_str(), at_most.as_str(), texts)
-        }
-        [
-            Word::Plain(capacity),
-            Word::Plain(at_most),
-            Word::Text(text),
-        ] if name == "write_all" => {
+/// A call with a room, given by its capacity and the most that it takes at once, if it is one.
+fn of_room(answer: &mut Answer, name: &str, given: &[Word]) -> Result<bool, Trouble> {
+    let [Word::Plain(capacity), Word::Plain(at_most), texts @ ..] = given else {
+        return Ok(false);
+    };
+    match (name, texts) {
+        ("room", texts) => to_room(answer, capacity.as_str(), at_most.as_str(), texts),
+        ("write_all", [Word::Text(text)]) => {
             whole(answer, capacity.as_str(), at_most.as_str(), text.as_str())
         }
         _ => Ok(false),
+    }
+}
+
+/// Answers the call, if it is one of a device.
+pub fn answers(answer: &mut Answer, name: &str, given: &[Word]) -> Result<bool, Trouble> {
+    match (name, given) {
+        ("from_write", texts) => from_write(answer, texts),
+        ("from_read", [Word::Text(text)]) => from_read(answer, text.as_str()),
+        ("pieces", [Word::Plain(end), texts @ ..]) => from_pieces(answer, end.as_str(), texts),
+        _ => of_room(answer, name, given),
     }
 }
