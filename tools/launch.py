@@ -1,5 +1,5 @@
 #!/usr/bin/env python3
-"""Becomes the program cmk with the given arguments: ./cmk calls this if no proved program of the present sources is in its folder.
+"""Runs cmk with the given arguments: ./cmk calls this if no proved program of the present sources is in its folder.
 
   tools/launch.py [WORD..]
 
@@ -14,6 +14,7 @@ import os
 import pathlib
 import shutil
 import signal
+import subprocess
 import sys
 import time
 
@@ -93,26 +94,45 @@ class Sources:
         return build.minutes(build.Build([self.name], self.plan, self.sums, self.kit, self.store).left())
 
 
-def find():
-    """Returns the proved program, or else the unproved one, and says so."""
-    sources = Sources(build.PROGRAM)
-    proved = sources.proved()
-    if not proved:
-        build.tell(
-            "not proved on this machine yet; this output comes from unproved code with run-time checks. "
-            f"Run 'make' to prove and build cmk (about {sources.time_to_prove()})."
-        )
-    return proved or sources.unproved()
+def run(program, words):
+    """Runs the unproved program, and returns its exit status."""
+    ran = subprocess.Popen([program, *words])
+    for number in (signal.SIGHUP, signal.SIGINT, signal.SIGTERM):
+        if signal.getsignal(number) is not signal.SIG_IGN:
+            signal.signal(number, lambda it, _: ran.send_signal(it))
+    status = ran.wait()
+    if status == -signal.SIGABRT:
+        build.tell("a run-time check of the unproved code failed; 'rt try' in crates/cmk says which")
+        return 1
+    return status if status >= 0 else 128 - status
+
+
+def become(program, words):
+    """Replaces this process by the proved program."""
+    # Python ignores this signal, and a program inherits what is ignored.
+    signal.signal(signal.SIGPIPE, signal.SIG_DFL)
+    os.execv(program, [program, *words])
 
 
 def main():
-    found = []
-    status = build.outcome(lambda: found.append(find()))
+    """Runs the proved program, or else the unproved one, and says so."""
+    programs = {}
+
+    def find():
+        sources = Sources(build.PROGRAM)
+        programs["proved"] = sources.proved()
+        if not programs["proved"]:
+            build.tell(
+                "not proved on this machine yet; this output comes from unproved code with run-time checks. "
+                f"Run 'make' to prove and build cmk (about {sources.time_to_prove()})."
+            )
+            programs["unproved"] = sources.unproved()
+
+    status = build.outcome(find)
     if status:
         return status
-    # Python ignores this signal, and a program inherits what is ignored.
-    signal.signal(signal.SIGPIPE, signal.SIG_DFL)
-    os.execv(found[0], [found[0], *sys.argv[1:]])
+    words = sys.argv[1:]
+    return become(programs["proved"], words) if programs["proved"] else run(programs["unproved"], words)
 
 
 if __name__ == "__main__":

@@ -386,7 +386,7 @@ impl Text<'_> {
         }
     }
 
-    /// That it comes to what is wanted as often as it is tried, and in all cuts to one tree where its table has
+    /// That it comes to what is wanted, as often as it is tried, and to one tree in all cuts if its table has
     /// none.
     pub(crate) fn agrees(&self, tries: Tries) -> Result<(), Trouble> {
         if let Tries::Once = tries {
