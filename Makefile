@@ -1,7 +1,7 @@
 # Builds and installs the program cmk and the library libcmk.
 #
 #   make                                    proves and builds the program, libcmk.a and libcmk.so
-#   make check                              runs the tests in two minutes, and proves nothing
+#   make check                              runs the tests, and proves nothing
 #   make install PREFIX=/usr/local DESTDIR= installs them, with the header, the man pages, the completions and cmk.pc
 #   make uninstall PREFIX= DESTDIR=         removes all of these
 #
