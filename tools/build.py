@@ -233,6 +233,13 @@ class Processes:
             self.started.append(subprocess.Popen(words, preexec_fn=lambda: os.setpgid(0, self.guard.pid), **how))
         return self.started[-1]
 
+    def kill(self, word):
+        """Kills the processes of the group that have a word among their arguments."""
+        for it in pathlib.Path("/proc").glob("[0-9]*"):
+            with contextlib.suppress(OSError):
+                if os.getpgid(int(it.name)) == self.guard.pid and word in (it / "cmdline").read_bytes().split(b"\0"):
+                    os.kill(int(it.name), signal.SIGKILL)
+
     def close(self):
         self.guard.stdin.close()
         for it in (self.guard, *self.started):

@@ -22,6 +22,8 @@ import build
 
 # The programs that can be tried, and the arguments with which each reads a file.
 READS = {build.PROGRAM: ["render"], "conformance": []}
+# An argument of the check that `rt try` runs beside the build: it only gives hints on names, and keeps a second processor busy.
+HINTS = b"no function"
 
 
 def reader(pipe):
@@ -48,7 +50,8 @@ def try_program(name, kit, work, made):
             if tried.poll() is not None and reader(pipe) is None:
                 print(log.read_text(errors="replace"), end="", file=sys.stderr)
                 raise build.Failed("rt try has built no program, so nothing was run")
-            time.sleep(0.05)
+            processes.kill(HINTS)
+            time.sleep(0.1)
         for program in work.glob("*/*/program"):
             shutil.copy2(program, made)
         os.close(number)
