@@ -8,7 +8,6 @@ run-time checks in their place, which takes about a minute. The store keeps this
 it says on standard error that it isn't proved. Proofs are never started: `make` does that.
 """
 import contextlib
-import contextlib
 import errno
 import os
 import pathlib
