@@ -35,20 +35,19 @@ def reader(pipe):
         return None
 
 
-def try_program(name, kit, work, made):
+def try_program(name, kit, work, made, processes):
     """Has `rt try` build a program without its proofs, and copies that to `made`. `rt try` removes what it has built when the program ends.
     So the program is given a named pipe to read, and is copied while it waits."""
     pipe, log = work / "pipe", work / "log"
     os.mkfifo(pipe)
-    processes, progress, began = build.Processes("TERM"), build.Progress(), time.monotonic()
-    with contextlib.closing(processes), contextlib.closing(progress):
+    began = time.monotonic()
+    with contextlib.closing(build.Progress()) as progress:
         words = [kit.prover, "try", "--", *READS[name], pipe]
         tried = processes.start(words, build.TOP / "crates" / name, log, env={**os.environ, "TMPDIR": str(work)})
         while (number := reader(pipe)) is None:
             progress.tell(f"building {name} without proofs, which takes about a minute: {time.monotonic() - began:.0f} s")
             if tried.poll() is not None and reader(pipe) is None:
-                print(log.read_text(errors="replace"), end="", file=sys.stderr)
-                raise build.Failed("rt try has built no program, so nothing was run")
+                raise build.Failed(f"rt try has built no program, so nothing was run:\n{log.read_text(errors='replace').rstrip()}")
             processes.kill(HINTS)
             time.sleep(0.1)
         for program in work.glob("*/*/program"):
@@ -66,6 +65,7 @@ class Sources:
         self.since = time.time() - build.TICK
         self.sums = build.sums_of(self.plan, self.kit)
         self.checksum = self.sums[name]
+        self.tried = f"unproved-{name}"
 
     def proved(self):
         """Returns the proved program, if it is in its folder or in the store, or None."""
@@ -79,18 +79,21 @@ class Sources:
         build.mark(self.name, self.checksum, self.kit, self.since)
         return made
 
-    def unproved(self):
-        """Returns the unproved program, and builds it if the store lacks it."""
-        entry = f"unproved-{self.name}", self.checksum
-        if not self.store.has(*entry):
-            self.store.wait(f"unproved-{self.name}.lock", "builds it without proofs")
-        if not self.store.has(*entry):
+    def wait(self):
+        """Waits until no other run builds the unproved program."""
+        if not self.store.has(self.tried, self.checksum):
+            self.store.wait(f"{self.tried}.lock", "builds it without proofs")
+
+    def unproved(self, processes):
+        """Returns the unproved program, and builds it if the store lacks it. The build ends early if the processes are closed."""
+        self.wait()
+        if not self.store.has(self.tried, self.checksum):
             with self.store.room(f"trying-{self.name}") as room:
                 folder = pathlib.Path(room) / "made"
                 folder.mkdir()
-                try_program(self.name, self.kit, pathlib.Path(room), folder / self.name)
-                self.store.keep(folder, *entry)
-        return self.store.place(*entry) / self.name
+                try_program(self.name, self.kit, pathlib.Path(room), folder / self.name, processes)
+                self.store.keep(folder, self.tried, self.checksum)
+        return self.store.place(self.tried, self.checksum) / self.name
 
     def time_to_prove(self):
         return build.minutes(build.Build([self.name], self.plan, self.sums, self.kit, self.store).left())
@@ -128,7 +131,8 @@ def main():
                 "not proved on this machine yet; this output comes from unproved code with run-time checks. "
                 f"Run 'make' to prove and build cmk (about {sources.time_to_prove()})."
             )
-            programs["unproved"] = sources.unproved()
+            with contextlib.closing(build.Processes("TERM")) as processes:
+                programs["unproved"] = sources.unproved(processes)
 
     status = build.outcome(find)
     if status:
