@@ -32,20 +32,19 @@ FLAGS = "--crate-name --extern -L --antt-project --logic-built --links --stateme
 FILES = "bin/rattle bin/rattle-link rlibs logic_built rattle/logic/antt-project.json toolchain c/libos_c.a c/liblibc_c.a".split()
 # The most jobs that may prove one crate.
 JOBS = 4
-# The seconds that each crate took on the last machine, and its most jobs. A crate has one job if others are proved at the same time: a
-# second was hardly faster there. A fourth job for cm_tool costs more than it gains.
+# The seconds that each crate took on the last machine, and its most jobs: a second job for cm_block or a fourth for cm_tool gained nothing.
 TIMES = {
     "cm_text": (105, JOBS),
-    "cm_tree": (113, JOBS),
+    "cm_tree": (125, JOBS),
     "cm_command": (123, 1),
-    "cm_html": (234, 1),
-    "cm_scan": (209, 1),
-    "cm_source": (250, 1),
-    "cm_block": (366, 1),
-    "cm_inline": (375, 1),
-    "cm_tool": (205, 3),
-    "cmk": (108, 1),
-    "cmk_c": (120, 1),
+    "cm_html": (195, 2),
+    "cm_scan": (190, 2),
+    "cm_source": (265, 1),
+    "cm_block": (405, 1),
+    "cm_inline": (370, 1),
+    "cm_tool": (160, 3),
+    "cmk": (83, 1),
+    "cmk_c": (76, 1),
 }
 # A crate takes twice this memory, in kB, and once more for each job after the first.
 ROOM = 1536 * 1024

@@ -5,8 +5,8 @@ use crate::dialects::rules_of;
 use crate::trouble::{Trouble, same, wrong};
 use cm_html::listing;
 use cm_source::{
-    Reason, SourceFault, Speller, block_without_definitions, spell, spell_by, spellable,
-    spellable_by, without_definitions,
+    SourceFault, Speller, Why, block_without_definitions, spell, spell_by, spellable, spellable_by,
+    without_definitions,
 };
 use cm_text::Rules;
 use cm_tree::{Block, Doc, Items};
@@ -21,7 +21,7 @@ fn source_of(alloc: Global, rules: Option<Rules>, blocks: &[Block]) -> Result<St
 }
 
 /// Why a tree can't be spelled by these rules, or by the standard's.
-fn refusal(rules: Option<Rules>, blocks: &[Block]) -> Option<Reason> {
+fn refusal(rules: Option<Rules>, blocks: &[Block]) -> Option<Why> {
     match rules {
         Some(rules) => spellable_by(rules, blocks).err(),
         None => spellable(blocks).err(),
@@ -75,7 +75,7 @@ fn pushed(alloc: Global, rules: Rules, blocks: &Items<Block>) -> Result<(String,
             }
         }
     }
-    Ok((speller.finish(), reasons))
+    Ok((speller.finish()?, reasons))
 }
 
 /// That pushing the blocks one after another gives the source that the case wants, and its reasons.

@@ -24,7 +24,6 @@ mod starts;
 
 use crate::leaf_text::LeafText;
 use crate::open_leaf::OpenLeaf;
-use crate::stack::Frame;
 use cm_scan::{FenceKind, HtmlKind};
 use cm_text::{NoMemory, Rules, TextLines, View};
 use cm_tree::ListKind;
@@ -33,7 +32,8 @@ use ends::{closes_fence, ends_html};
 pub(crate) use first_line::FirstLine;
 use first_line::begin_leaf;
 use interruptions::{interrupts_paragraph, underline_of};
-use items::{InItems, begin_with_item, inside_item, inside_items};
+pub(crate) use items::LineInItems;
+use items::inside_item;
 use places::{ends_bare_item, if_lazy, is_blank, item_content, quote_content, with_columns};
 use starts::{Start, begins_with_letter, start_of};
 use std::alloc::{AllocError, Global};
@@ -80,14 +80,6 @@ pub(crate) enum Begins<'a> {
     Leaf(LeafStart<'a>),
 }
 
-/// How many items a line has gone into by itself, and whether the next container is an item in which it
-/// doesn't stay so.
-#[derive(Clone, Copy, Debug)]
-pub(crate) struct EnteredItems {
-    pub(crate) count: usize,
-    pub(crate) leaves: bool,
-}
-
 /// What a line is, as far as one look tells.
 #[derive(Clone, Copy, Debug)]
 pub(crate) enum Look {
@@ -100,10 +92,6 @@ pub(crate) enum Look {
 }
 
 impl<'a> CountedLine<'a> {
-    ghost use Rattle.std.specs.Prelude.{◌<◌, ◌≤◌, Bool, drop, length};
-    ghost use Rattle.cm_block.specs.Prelude.{Raw};
-    ghost use Rattle.cm_block.specs.steps.FrameSteps.{matching, behind, LeavesNext};
-    ghost use Rattle.cm_block.specs.steps.FrameViews.{frames_in};
     ghost use Rattle.cm_block.specs.steps.LineTests.{ReadOnce};
     ghost use Rattle.cm_block.specs.steps.FirstLines.{Found};
     ghost use Rattle.cm_block.specs.steps.Looks.{LooksLike};
@@ -195,40 +183,29 @@ impl<'a> CountedLine<'a> {
         true
     }
 
-    /// Goes into the items in front of these containers as far as the line stays there by itself. `bare` says
-    /// that of the last one there is only the marker, and then it goes into none. Each item is one reading,
-    /// and so is the next one if the line doesn't stay there (5.2 List items).
+    /// The line on its way into open items, unless it is marked as a lazy continuation line, which stays in
+    /// none by itself. It isn't read yet.
     #[inline(always)]
-    pub(crate) fn enter_items(&mut self, frames: &[Frame], bare: bool) -> EnteredItems
-        ensures through { (rules : all.Rules) (open_text : Bool) (raw : Raw) → behind result.count
-            (matching rules bare open_text (drop result.count (frames_in raw frames.now))
-            (seen_view self.new.rest))
-            ≡ matching rules bare open_text (frames_in raw frames.now) (seen_view self.old.rest) }
-        ensures within { result.count ≤ length frames.now }
-        ensures more { result.leaves ≡ true → result.count < length frames.now }
-        ensures leaves { result.leaves ≡ true → (raw : Raw) →
-            LeavesNext (frames_in raw frames.now) result.count (seen_view self.new.rest) }
-        ensures all { result.leaves ≡ true → bare ≡ false }
-        ensures tests { result.leaves ≡ false →
-            Tested result.count result.count self.old.tests self.new.tests }
-        ensures next { result.leaves ≡ true →
-            Tested (suc result.count) (suc result.count) self.old.tests self.new.tests }
+    pub(crate) fn to_items(&self) -> Option<LineInItems<'a>>
+        ensures line { IfSome result (λ line. seen_view line.inner ≡ seen_view self.now.rest) }
+        ensures plain { IfSome result (λ line. line.inner.lazy ≡ false) }
+        ensures tests { IfSome result (λ line. line.tests ≡ 0) }
     {
-        if bare || self.rest.lazy || !begin_with_item(frames) {
-            return EnteredItems {
-                count: 0,
-                leaves: false,
-            };
+        if self.rest.lazy {
+            return None;
         }
-        let InItems {
-            inner,
-            count,
-            leaves,
-        } = inside_items(with_columns(&self.rest), frames);
-        let tests = if leaves { count + 1 } else { count };
+        Some(LineInItems::new(&self.rest))
+    }
+
+    /// The end of that way: the line has gone into the items, and was read as often as is counted there.
+    #[inline(always)]
+    pub(crate) fn enter_items(&mut self, line: LineInItems<'a>)
+        ensures line { self.new.rest ≡ line.entry.inner }
+        ensures tests { Tested line.entry.tests line.entry.tests self.old.tests self.new.tests }
+    {
+        let (inner, tests) = line.into_parts();
         self.tests = self.tests.saturating_add(tests as u64);
         self.enter(inner);
-        EnteredItems { count, leaves }
     }
 
     /// Whether the line goes on a paragraph without the markers of its containers, as which it is then

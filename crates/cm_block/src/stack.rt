@@ -1,6 +1,6 @@
 //! The open quotes and items.
 ghost use Rattle.std.specs.Prelude.{◌≡◌, ◌<◌, ◌≤◌, ◌∷◌, ◌++◌, ◌+◌, ◌&&◌, []};
-ghost use Rattle.std.specs.Prelude.{true, false, suc, List, length, take, drop, None, OnOk, IfOk};
+ghost use Rattle.std.specs.Prelude.{Bool, true, false, suc, List, length, take, drop, None, OnOk, IfOk};
 ghost use Rattle.cm_text.specs.Rules as all;
 ghost use Rattle.cm_block.specs.Prelude.{seen_view, given, place_if_lazy, Raw};
 ghost use Rattle.cm_block.specs.steps.LineTests.{Tested};
@@ -9,14 +9,14 @@ ghost use Rattle.cm_block.specs.Level.{closed_blocks, item_opens, push_blank};
 ghost use Rattle.cm_block.specs.steps.LeafBlocks.{block_of};
 ghost use Rattle.cm_block.specs.steps.LevelViews.{level_in, IsLevelPlaced};
 ghost use Rattle.cm_block.specs.Frames.{a_quote, an_item, is_last, Frame as open_frame};
-ghost use Rattle.cm_block.specs.steps.FrameSteps.{place_in, inward, matching, quoted_by};
-ghost use Rattle.cm_block.specs.steps.FrameSteps.{close_container, close_frames};
+ghost use Rattle.cm_block.specs.steps.FrameSteps.{place_in, inward, matching, behind, LeavesNext};
+ghost use Rattle.cm_block.specs.steps.FrameSteps.{quoted_by, close_container, close_frames};
 ghost use Rattle.cm_block.specs.steps.PlaceViews.{IsInside, stays};
 ghost use Rattle.cm_block.specs.declared.stack.Stays.TheVariants.{Inside, Lazily, Leaves};
 ghost use Rattle.cm_block.specs.steps.FrameViews.{container_of, frames_in, AreFramesPlaced};
 
 use crate::block_room::BlockRoom;
-use crate::counted_line::CountedLine;
+use crate::counted_line::{CountedLine, LineInItems};
 use crate::leaf_block::LeafBlock;
 use crate::level::Level;
 use cm_text::Rules;
@@ -92,6 +92,109 @@ pub(crate) struct Frame {
     pub(crate) container: Container,
 }
 
+/// How many items a line has gone into by itself, and whether the next container is an item in which it
+/// doesn't stay so.
+#[derive(Clone, Copy, Debug)]
+struct EnteredItems {
+    count: usize,
+    leaves: bool,
+}
+
+impl EnteredItems {
+    /// None.
+    #[inline(always)]
+    fn none() -> EnteredItems
+        ensures { result ≡ record { count = 0; leaves = false } }
+    {
+        EnteredItems {
+            count: 0,
+            leaves: false,
+        }
+    }
+}
+
+/// Whether the first of the containers is an item.
+#[inline(always)]
+fn begin_with_item(frames: &[Frame]) -> bool {
+    matches!(
+        frames,
+        [
+            Frame {
+                container: Container::Item { .. },
+                ..
+            },
+            ..,
+        ]
+    )
+}
+
+/// Takes a line into the items in front of these containers as far as it stays there by itself. There is more
+/// of each item than its marker. Each item is one reading, and so is the next one if the line doesn't stay
+/// there (5.2 List items).
+#[inline(always)]
+fn go_into_items(frames: &[Frame], line: &mut LineInItems<'_>) -> EnteredItems
+    requires plain { line.old.inner.lazy ≡ false }
+    requires unread { line.old.tests ≡ 0 }
+    ensures through { (rules : all.Rules) (open_text : Bool) (raw : Raw) → behind result.count
+        (matching rules false open_text (drop result.count (frames_in raw frames.now))
+        (seen_view line.new.inner))
+        ≡ matching rules false open_text (frames_in raw frames.now) (seen_view line.old.inner) }
+    ensures within { result.count ≤ length frames.now }
+    ensures more { result.leaves ≡ true → result.count < length frames.now }
+    ensures leaves { result.leaves ≡ true → (raw : Raw) →
+        LeavesNext (frames_in raw frames.now) result.count (seen_view line.new.inner) }
+    ensures tests { result.leaves ≡ false → line.new.tests ≡ result.count }
+    ensures next { result.leaves ≡ true → line.new.tests ≡ suc result.count }
+{
+    for depth in 0..frames.len() {
+        let Container::Item { column, .. } = frames[depth].container else {
+            return EnteredItems {
+                count: depth,
+                leaves: false,
+            };
+        };
+        if !line.stays_in(column) {
+            return EnteredItems {
+                count: depth,
+                leaves: true,
+            };
+        }
+    }
+    EnteredItems {
+        count: frames.len(),
+        leaves: false,
+    }
+}
+
+/// The same. `bare` says that of the innermost container there is only the marker, and then the line goes
+/// into none.
+#[inline(always)]
+fn enter_items(frames: &[Frame], bare: bool, line: &mut CountedLine<'_>) -> EnteredItems
+    ensures through { (rules : all.Rules) (open_text : Bool) (raw : Raw) → behind result.count
+        (matching rules bare open_text (drop result.count (frames_in raw frames.now))
+        (seen_view line.new.rest))
+        ≡ matching rules bare open_text (frames_in raw frames.now) (seen_view line.old.rest) }
+    ensures within { result.count ≤ length frames.now }
+    ensures more { result.leaves ≡ true → result.count < length frames.now }
+    ensures leaves { result.leaves ≡ true → (raw : Raw) →
+        LeavesNext (frames_in raw frames.now) result.count (seen_view line.new.rest) }
+    ensures all { result.leaves ≡ true → bare ≡ false }
+    ensures tests { result.leaves ≡ false →
+        Tested result.count result.count line.old.tests line.new.tests }
+    ensures next { result.leaves ≡ true →
+        Tested (suc result.count) (suc result.count) line.old.tests line.new.tests }
+{
+    if bare || !begin_with_item(frames) {
+        return EnteredItems::none();
+    }
+    let Some(mut inner) = line.to_items() else {
+        return EnteredItems::none();
+    };
+    let entered = go_into_items(frames, &mut inner);
+    line.enter_items(inner);
+    entered
+}
+
 /// Whether a container is the innermost one and that has only its marker so far.
 fn is_bare_at(frames: &[Frame], depth: usize, bare: bool) -> bool
     requires { depth < length frames.now }
@@ -115,7 +218,7 @@ fn matching(
     ensures plain { line.new.rest.lazy ≡ false → length frames.now ≤ result →
         line.new.tests ≤ line.old.tests + result }
 {
-    let first = line.enter_items(frames, bare);
+    let first = enter_items(frames, bare, line);
     if first.leaves {
         return if line.goes_on_lazily(rules, open_text) {
             frames.len()

@@ -5,12 +5,12 @@ use Rattle.cm_text.specs.Rules.{Rules}
 use Rattle.cm_tree.specs.declared.tree.Block.{Block}
 use Rattle.cm_source.specs.declared.fault.SourceFault.{SourceFault}
 use Rattle.cm_source.specs.declared.fault.SourceFault.TheVariants.{Unspellable, NoMemory}
-use Rattle.cm_source.specs.declared.reason.Reason.{Reason}
+use Rattle.cm_source.specs.declared.why.Why.{Why}
 use Rattle.cm_source.specs.Refusals.{refusal_of, IsSpellable}
 use Rattle.cm_source.specs.Spelling.{spelling_of}
 
 -- fine, unless there is a reason to refuse it
-abbrev pub ok_unless : Option Reason → Result (Unit {0}) Reason
+abbrev pub ok_unless : Option Why → Result (Unit {0}) Why
 ok_unless None = Ok tt
 ok_unless (Some why) = Err why
 

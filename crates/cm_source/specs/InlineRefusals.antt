@@ -13,11 +13,11 @@ use Rattle.cm_tree.specs.declared.tree.Inline.TheFolds.{fold-Inline}
 use Rattle.cm_scan.specs.Words.{is_empty, holds_word, ◌<|>◌}
 use Rattle.cm_scan.specs.spans.Angles.{Addressed, Tagged, at_angle}
 use Rattle.cm_scan.specs.inlines.Atoms.{first_character, last_character}
-use Rattle.cm_source.specs.declared.reason.Reason.{Reason}
-use Rattle.cm_source.specs.declared.reason.Reason.TheVariants.{Nul, Text, EmphasisNested, EmphasisTouching, EmphasisEdge, CodeSpan, RawHtml, LinkInLink, LineBreak, StrikeOff, AddressOff}
+use Rattle.cm_source.specs.declared.why.Why.{Why}
+use Rattle.cm_source.specs.declared.why.Why.TheVariants.{Nul, Text, EmphasisNested, EmphasisTouching, EmphasisEdge, CodeSpan, RawHtml, LinkInLink, LineBreak, StrikeOff, AddressOff}
 
 -- the first reason that holds
-abbrev pub refused : List (Bool × Reason) → Option Reason
+abbrev pub refused : List (Bool × Why) → Option Why
 refused [] = None
 refused (reason ∷ reasons) = if reason.0 then Some reason.1 else refused reasons
 
@@ -85,7 +85,7 @@ pub record Judged : Type 0 where
   pub face : Face
   pub has_emphasis : Bool
   pub has_link : Bool
-  pub refusal : Place → (before after : Option Face) → Option Reason
+  pub refusal : Place → (before after : Option Face) → Option Why
 
 abbrev pub first_face : List Judged → Option Face
 first_face [] = None
@@ -110,7 +110,7 @@ abbrev pub inside_link : Place → Place
 inside_link place = record { heading = place.heading; opens_paragraph = false; in_opening_link = place.in_opening_link || place.opens_paragraph }
 
 -- inlines, one after another
-abbrev pub refusal_of_all : Place → (before : Option Face) → List Judged → Option Reason
+abbrev pub refusal_of_all : Place → (before : Option Face) → List Judged → Option Why
 refusal_of_all place before [] = None
 refusal_of_all place before (next ∷ others) = next.refusal place before (first_face others) <|> refusal_of_all (further_in place) (Some next.face) others
 
@@ -124,7 +124,7 @@ has_wrong_edge rules before content after =
     || is_whitespace (last_of (last_face content))
     || is_plain rules (first_of after) && not (is_plain rules (last_of (last_face content)))
 
-abbrev pub emphasis_reasons : Rules → List Judged → (before after : Option Face) → List (Bool × Reason)
+abbrev pub emphasis_reasons : Rules → List Judged → (before after : Option Face) → List (Bool × Why)
 emphasis_reasons rules content before after =
     (hold_emphasis content, EmphasisNested) ∷ (is_emphasis before, EmphasisTouching) ∷ (has_wrong_edge rules before content after, EmphasisEdge) ∷ []
 
@@ -145,25 +145,25 @@ ends_a_label place text = place.in_opening_link && holds_word (codes "]:") text
 abbrev pub is_one_tag : Rules → List ℕ → Bool
 is_one_tag rules text = elim (at_angle rules text) [ Some (Tagged tag) ↦ is_empty tag.rest | Some (Addressed link) ↦ false | None ↦ false ]
 
-abbrev pub code_reasons : Place → List ℕ → Option Face → List (Bool × Reason)
+abbrev pub code_reasons : Place → List ℕ → Option Face → List (Bool × Why)
 code_reasons place text before = (has_nul text, Nul) ∷ (is_empty text || has_line_ending text || is_code before || ends_a_label place text, CodeSpan) ∷ []
 
-abbrev pub html_reasons : Rules → Place → List ℕ → Option Face → List (Bool × Reason)
+abbrev pub html_reasons : Rules → Place → List ℕ → Option Face → List (Bool × Why)
 html_reasons rules place text before =
     (has_nul text, Nul) ∷ (has_line_ending text || not (is_one_tag rules text) || place.opens_paragraph || is_break before || ends_a_label place text, RawHtml) ∷ []
 
-abbrev pub break_reasons : Place → (before after : Option Face) → List (Bool × Reason)
+abbrev pub break_reasons : Place → (before after : Option Face) → List (Bool × Why)
 break_reasons place before after = (place.heading || is_none before || is_none after || is_break before, LineBreak) ∷ []
 
-abbrev pub link_reasons : Rules → (dest title : List ℕ) → List Judged → List (Bool × Reason)
+abbrev pub link_reasons : Rules → (dest title : List ℕ) → List Judged → List (Bool × Why)
 link_reasons rules dest title content =
     (has_nul dest || has_nul title, Nul) ∷ (hold_link content, LinkInLink) ∷ (not (is_followed rules dest), AddressOff) ∷ []
 
-abbrev pub image_reasons : Rules → (dest title : List ℕ) → List (Bool × Reason)
+abbrev pub image_reasons : Rules → (dest title : List ℕ) → List (Bool × Why)
 image_reasons rules dest title = (has_nul dest || has_nul title, Nul) ∷ (not (is_followed rules dest), AddressOff) ∷ []
 
 -- an inline in which none stands
-abbrev pub leaf : Face → (Place → (before after : Option Face) → List (Bool × Reason)) → Judged
+abbrev pub leaf : Face → (Place → (before after : Option Face) → List (Bool × Why)) → Judged
 leaf face reasons = record { face = face; has_emphasis = false; has_link = false; refusal = λ place before after. refused (reasons place before after) }
 
 -- one inline, with how each inline of its content is judged in its place
@@ -201,8 +201,8 @@ abbrev pub of_heading : Place
 of_heading = record { heading = true; opens_paragraph = false; in_opening_link = false }
 
 -- why the content of a paragraph, or of a heading, is refused
-abbrev pub paragraph_refusal : Rules → List Inline → Option Reason
+abbrev pub paragraph_refusal : Rules → List Inline → Option Why
 paragraph_refusal rules content = refusal_of_all of_paragraph None (map (judged rules) content)
 
-abbrev pub heading_refusal : Rules → List Inline → Option Reason
+abbrev pub heading_refusal : Rules → List Inline → Option Why
 heading_refusal rules content = refusal_of_all of_heading None (map (judged rules) content)

@@ -4,6 +4,7 @@ pub mod InlineRefusals
 pub mod Inlines
 pub mod ReadingBack
 pub mod ReadingBackExamples
+pub mod Reasons
 pub mod RefusalExamples
 pub mod Refusals
 pub mod Speller

@@ -13,8 +13,8 @@ use Rattle.cm_scan.specs.Documents.{tree_of}
 use Rattle.cm_scan.specs.laws.InlineExamples.{struck}
 use Rattle.cm_scan.specs.laws.RuleExamples.{safe}
 use Rattle.cm_scan.specs.inlines.Inlines.{inlines_of}
-use Rattle.cm_source.specs.declared.reason.Reason.{Reason}
-use Rattle.cm_source.specs.declared.reason.Reason.TheVariants as why
+use Rattle.cm_source.specs.declared.why.Why.{Why}
+use Rattle.cm_source.specs.declared.why.Why.TheVariants as why
 use Rattle.cm_source.specs.InlineRefusals.{paragraph_refusal, heading_refusal}
 use Rattle.cm_source.specs.Inlines.{spelled_content}
 use Rattle.cm_source.specs.ReadingBack.{all_sourced}
@@ -32,12 +32,12 @@ abbrev pub ReadsBack : List Block → List ℕ → Type 0
 ReadsBack = ReadsBackBy profile
 
 -- By these rules the tree can't be spelled, for this reason: its source would be this, the tree of which is another.
-pub record MisreadBy (rules : Rules) (tree : List Block) (reason : Reason) (source : List ℕ) (other : List Block) : Type 0 where
+pub record MisreadBy (rules : Rules) (tree : List Block) (reason : Why) (source : List ℕ) (other : List Block) : Type 0 where
   pub refused : refusal_of rules tree ≡ Some reason
   pub spelled : spelling_of tree ≡ source
   pub read : tree_of rules source ≡ other
 
-abbrev pub Misread : List Block → Reason → List ℕ → List Block → Type 0
+abbrev pub Misread : List Block → Why → List ℕ → List Block → Type 0
 Misread = MisreadBy profile
 
 -- the word `b`, as inlines and as a paragraph; and one paragraph with a content

@@ -6,7 +6,7 @@ use Rattle.cm_tree.specs.declared.tree.Block.TheVariants as block
 use Rattle.cm_tree.specs.declared.tree.ListKind.TheVariants.{Dash, Plus, Dot}
 use Rattle.cm_scan.specs.laws.InlineExamples.{struck}
 use Rattle.cm_scan.specs.laws.RuleExamples.{safe}
-use Rattle.cm_source.specs.declared.reason.Reason.TheVariants as why
+use Rattle.cm_source.specs.declared.why.Why.TheVariants as why
 use Rattle.cm_source.specs.InlineRefusals.{paragraph_refusal, heading_refusal}
 use Rattle.cm_source.specs.Refusals.{refusal_of}
 use Rattle.cm_source.specs.WorkedExamples.{words, a, paragraph_a}

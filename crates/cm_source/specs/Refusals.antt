@@ -17,8 +17,8 @@ use Rattle.cm_scan.specs.blocks.LineForms.{is_same_kind}
 use Rattle.cm_scan.specs.blocks.HtmlBlocks.{html_start, is_html_end, ends_at_blank_line}
 use Rattle.cm_scan.specs.blocks.Parts.{Parts, none, leaf, html}
 use Rattle.cm_scan.specs.blocks.Blocks.{parts_of}
-use Rattle.cm_source.specs.declared.reason.Reason.{Reason}
-use Rattle.cm_source.specs.declared.reason.Reason.TheVariants.{Definition, Nul, Shape, CodeText, HtmlBlock, AdjacentLists, ItemBeginsWithList, Looseness, InfoOff}
+use Rattle.cm_source.specs.declared.why.Why.{Why}
+use Rattle.cm_source.specs.declared.why.Why.TheVariants.{Definition, Nul, Shape, CodeText, HtmlBlock, AdjacentLists, ItemBeginsWithList, Looseness, InfoOff}
 use Rattle.cm_source.specs.InlineRefusals.{refused, has_nul, paragraph_refusal, heading_refusal}
 
 -- What the blocks round a block see of it: the list that it is, with whether its first item has a block.
@@ -102,17 +102,17 @@ is_html_block rules text = begins_with less_than text && is_html_part text (part
 -- A block as it is judged: what others see of it, and why it is refused behind another.
 pub record JudgedBlock : Type 0 where
   pub face : BlockFace
-  pub refusal : (before : Option BlockFace) → Option Reason
+  pub refusal : (before : Option BlockFace) → Option Why
 
 abbrev pub faces : List JudgedBlock → List BlockFace
 faces blocks = map (λ (b : JudgedBlock). b.face) blocks
 
 -- blocks, one after another
-abbrev pub refusal_of_all : (before : Option BlockFace) → List JudgedBlock → Option Reason
+abbrev pub refusal_of_all : (before : Option BlockFace) → List JudgedBlock → Option Why
 refusal_of_all before [] = None
 refusal_of_all before (next ∷ others) = next.refusal before <|> refusal_of_all (Some next.face) others
 
-abbrev pub refusal_of_items : List (List JudgedBlock) → Option Reason
+abbrev pub refusal_of_items : List (List JudgedBlock) → Option Why
 refusal_of_items [] = None
 refusal_of_items (item ∷ items) = refusal_of_all None item <|> refusal_of_items items
 
@@ -121,7 +121,7 @@ abbrev pub is_behind_same : ListKind → Option BlockFace → Bool
 is_behind_same kind (Some (ListFace other filled)) = is_same_kind kind other
 is_behind_same kind _ = false
 
-abbrev pub list_reasons : ListKind → (tight : Bool) → List (List BlockFace) → Option BlockFace → List (Bool × Reason)
+abbrev pub list_reasons : ListKind → (tight : Bool) → List (List BlockFace) → Option BlockFace → List (Bool × Why)
 list_reasons kind tight items before =
     (not (list_any (λ item. true) items) || begins_too_high kind, Shape) ∷ (is_behind_same kind before, AdjacentLists)
     ∷ (list_any is_list items, ItemBeginsWithList) ∷ (not (is_as_said tight items), Looseness) ∷ []
@@ -131,10 +131,10 @@ abbrev pub is_filled : List (List JudgedBlock) → Bool
 is_filled ((block ∷ blocks) ∷ items) = true
 is_filled _ = false
 
-abbrev pub leaf_block : BlockFace → Option Reason → JudgedBlock
+abbrev pub leaf_block : BlockFace → Option Why → JudgedBlock
 leaf_block face refusal = record { face = face; refusal = λ before. refusal }
 
-abbrev pub code_reasons : Rules → (info text : List ℕ) → List (Bool × Reason)
+abbrev pub code_reasons : Rules → (info text : List ℕ) → List (Bool × Why)
 code_reasons rules info text =
     (has_nul info || has_nul text, Nul) ∷ (not (is_code_text text), CodeText) ∷ (not (is_read_info rules info), InfoOff) ∷ []
 
@@ -156,7 +156,7 @@ abbrev pub judged_block : Rules → Block → JudgedBlock
 judged_block rules = fold-Block JudgedBlock (block_step rules)
 
 -- the first reason why a tree can't be spelled, by these rules
-abbrev pub refusal_of : Rules → List Block → Option Reason
+abbrev pub refusal_of : Rules → List Block → Option Why
 refusal_of rules blocks = refusal_of_all None (map (judged_block rules) blocks)
 
 -- the tree can be spelled

@@ -21,6 +21,7 @@ pub record HasSpelled (rules : Rules) (speller : code.Speller) (blocks : List Bl
   pub spellable : IsSpellable rules blocks
   pub spelled : IsBetween speller.source false (spelling_of blocks) [] []
   pub last : seen speller.before ≡ face_behind None (map (judged_block rules) blocks)
+  pub fine : speller.failed ≡ false
 
 -- Why a block isn't spelled behind these: they can't be spelled with it, whatever stands behind it; memory may be refused.
 abbrev pub Refuses : SourceFault → Rules → List Block → Block → Type 0

@@ -1,5 +1,5 @@
 //! Why no source is spelled.
-use crate::reason::Reason;
+use crate::why::Why;
 use cm_text::NoMemory;
 use thiserror::Error;
 
@@ -13,7 +13,7 @@ pub enum SourceFault {
     #[error("cannot be spelled: {why}")]
     Unspellable {
         /// Its first node, in the order of the document, that can't be.
-        why: Reason,
+        why: Why,
     },
 }
 
@@ -28,13 +28,13 @@ impl From<NoMemory> for SourceFault {
     }
 }
 
-impl From<Reason> for SourceFault {
+impl From<Why> for SourceFault {
     ghost use Rattle.std.specs.Prelude.{◌≡◌};
     ghost use Rattle.cm_source.specs.declared.fault.SourceFault.TheVariants as faults;
 
     ghost from_gives = { λ why e. e ≡ faults.Unspellable why };
 
-    fn from(why: Reason) -> SourceFault {
+    fn from(why: Why) -> SourceFault {
         SourceFault::Unspellable { why }
     }
 }

@@ -12,7 +12,7 @@ ghost use Rattle.cm_source.specs.InlineRefusals.{html_reasons, break_reasons, li
 ghost use Rattle.cm_source.specs.InlineRefusals.{refusal_of_all, paragraph_refusal, heading_refusal};
 ghost use Rattle.cm_source.specs.steps.InlineFaces.{shown, seen, place_of};
 
-use crate::reason::Reason;
+use crate::why::Why;
 use cm_scan::{autolink_by, first_character, holds_from, last_character, raw_html_by};
 use cm_text::{ByteKind, Rules, is_followed, is_punct_by, is_space, next_of};
 use cm_tree::Inline;
@@ -65,7 +65,7 @@ impl Place {
 }
 
 /// Refuses for a reason where it holds.
-pub(crate) fn refuse_if(holds: bool, why: Reason) -> Result<(), Reason>
+pub(crate) fn refuse_if(holds: bool, why: Why) -> Result<(), Why>
     ensures { result ≡ ok_unless (refused ((holds, why) ∷ [])) }
 {
     if holds { Err(why) } else { Ok(()) }
@@ -281,15 +281,15 @@ fn check_emphasis(
     content: &[Inline],
     before: Option<Face<'_>>,
     after: Option<Face<'_>>,
-) -> Result<(), Reason>
+) -> Result<(), Why>
     ensures { result ≡ ok_unless (refused (emphasis_reasons rules
         (map (judged rules) content.now) (seen before.entry) (seen after.entry))) }
 {
-    refuse_if(hold_emphasis(content), Reason::EmphasisNested)?;
-    refuse_if(is_emphasis(before), Reason::EmphasisTouching)?;
+    refuse_if(hold_emphasis(content), Why::EmphasisNested)?;
+    refuse_if(is_emphasis(before), Why::EmphasisTouching)?;
     refuse_if(
         has_wrong_edge(rules, before, content, after),
-        Reason::EmphasisEdge,
+        Why::EmphasisEdge,
     )
 }
 
@@ -315,66 +315,61 @@ fn is_one_tag(rules: Rules, text: &str) -> bool
 }
 
 /// Refuses a text behind this.
-fn check_text(text: &str, before: Option<Face<'_>>) -> Result<(), Reason>
-    ensures { result ≡ ok_unless (refused ((has_nul text.now, Reason.Nul)
-        ∷ (is_empty text.now || is_text (seen before.entry), Reason.Text) ∷ [])) }
+fn check_text(text: &str, before: Option<Face<'_>>) -> Result<(), Why>
+    ensures { result ≡ ok_unless (refused ((has_nul text.now, Why.Nul)
+        ∷ (is_empty text.now || is_text (seen before.entry), Why.Text) ∷ [])) }
 {
-    refuse_if(has_nul(text), Reason::Nul)?;
+    refuse_if(has_nul(text), Why::Nul)?;
     refuse_if(
         text.is_empty() || matches!(before, Some(Face::Text(_))),
-        Reason::Text,
+        Why::Text,
     )
 }
 
 /// Refuses a code span at a place, behind this.
-fn check_code(place: Place, text: &str, before: Option<Face<'_>>) -> Result<(), Reason>
+fn check_code(place: Place, text: &str, before: Option<Face<'_>>) -> Result<(), Why>
     ensures { result ≡ ok_unless (refused (code_reasons (place_of place) text.now (seen before.entry))) }
 {
-    refuse_if(has_nul(text), Reason::Nul)?;
+    refuse_if(has_nul(text), Why::Nul)?;
     refuse_if(
         text.is_empty()
             || has_line_ending(text)
             || matches!(before, Some(Face::Code))
             || ends_a_label(place, text),
-        Reason::CodeSpan,
+        Why::CodeSpan,
     )
 }
 
 /// Refuses raw HTML at a place, behind this.
-fn check_html(
-    rules: Rules,
-    place: Place,
-    text: &str,
-    before: Option<Face<'_>>,
-) -> Result<(), Reason>
+fn check_html(rules: Rules, place: Place, text: &str, before: Option<Face<'_>>) -> Result<(), Why>
     ensures { result
         ≡ ok_unless (refused (html_reasons rules (place_of place) text.now (seen before.entry))) }
 {
-    refuse_if(has_nul(text), Reason::Nul)?;
+    refuse_if(has_nul(text), Why::Nul)?;
     refuse_if(
         has_line_ending(text)
             || !is_one_tag(rules, text)
             || place.opens_paragraph
             || matches!(before, Some(Face::Break))
             || ends_a_label(place, text),
-        Reason::RawHtml,
+        Why::RawHtml,
     )
 }
 
 /// Refuses a line break at a place, behind this and before these.
-fn check_break(place: Place, before: Option<Face<'_>>, rest: &[Inline]) -> Result<(), Reason>
+fn check_break(place: Place, before: Option<Face<'_>>, rest: &[Inline]) -> Result<(), Why>
     ensures { (rules : text_rules.Rules) → result ≡ ok_unless (refused
         (break_reasons (place_of place) (seen before.entry) (first_face (map (judged rules) rest.now)))) }
 {
     refuse_if(
         place.heading || before.is_none() || rest.is_empty() || matches!(before, Some(Face::Break)),
-        Reason::LineBreak,
+        Why::LineBreak,
     )
 }
 
 /// Refuses inlines from a place on.
 #[cycle(inlines)]
-fn check_inlines(rules: Rules, place: Place, inlines: &[Inline]) -> Result<(), Reason>
+fn check_inlines(rules: Rules, place: Place, inlines: &[Inline]) -> Result<(), Why>
     ensures { result ≡ ok_unless (refusal_of_all (place_of place) None (map (judged rules) inlines.now)) }
 {
     let mut place = place;
@@ -395,7 +390,7 @@ fn check_inline(
     inline: &Inline,
     before: Option<Face<'_>>,
     rest: &[Inline],
-) -> Result<(), Reason>
+) -> Result<(), Why>
     ensures { result ≡ ok_unless ((judged rules inline.now).refusal
         (place_of place) (seen before.entry) (first_face (map (judged rules) rest.now))) }
 {
@@ -440,10 +435,10 @@ fn check_inline(
 }
 
 /// Refuses strikethrough where the rules have it off.
-fn check_strike(rules: Rules, strike: bool) -> Result<(), Reason>
-    ensures { result ≡ ok_unless (refused ((strike && not rules.strike, Reason.StrikeOff) ∷ [])) }
+fn check_strike(rules: Rules, strike: bool) -> Result<(), Why>
+    ensures { result ≡ ok_unless (refused ((strike && not rules.strike, Why.StrikeOff) ∷ [])) }
 {
-    refuse_if(strike && !rules.strike(), Reason::StrikeOff)
+    refuse_if(strike && !rules.strike(), Why::StrikeOff)
 }
 
 /// Refuses emphasis, strong emphasis or strikethrough at a place, behind this and before these.
@@ -455,7 +450,7 @@ fn check_between(
     content: &[Inline],
     before: Option<Face<'_>>,
     rest: &[Inline],
-) -> Result<(), Reason>
+) -> Result<(), Why>
     ensures { result ≡ ok_unless ((emphasis rules strike (map (judged rules) content.now)).refusal
         (place_of place) (seen before.entry) (first_face (map (judged rules) rest.now))) }
 {
@@ -467,21 +462,21 @@ fn check_between(
 /// Refuses a link with such a destination, title and content.
 ///
 /// Where a link holds another, the walk ends here. So no inline is searched for links twice.
-fn check_target(rules: Rules, dest: &str, title: &str, content: &[Inline]) -> Result<(), Reason>
+fn check_target(rules: Rules, dest: &str, title: &str, content: &[Inline]) -> Result<(), Why>
     ensures { result
         ≡ ok_unless (refused (link_reasons rules dest.now title.now (map (judged rules) content.now))) }
 {
-    refuse_if(has_nul_in(dest, title), Reason::Nul)?;
-    refuse_if(hold_link(content), Reason::LinkInLink)?;
-    refuse_if(!is_followed(rules, dest), Reason::AddressOff)
+    refuse_if(has_nul_in(dest, title), Why::Nul)?;
+    refuse_if(hold_link(content), Why::LinkInLink)?;
+    refuse_if(!is_followed(rules, dest), Why::AddressOff)
 }
 
 /// Refuses an image with such a destination and title.
-fn check_source(rules: Rules, dest: &str, title: &str) -> Result<(), Reason>
+fn check_source(rules: Rules, dest: &str, title: &str) -> Result<(), Why>
     ensures { result ≡ ok_unless (refused (image_reasons rules dest.now title.now)) }
 {
-    refuse_if(has_nul_in(dest, title), Reason::Nul)?;
-    refuse_if(!is_followed(rules, dest), Reason::AddressOff)
+    refuse_if(has_nul_in(dest, title), Why::Nul)?;
+    refuse_if(!is_followed(rules, dest), Why::AddressOff)
 }
 
 /// Refuses a link at a place.
@@ -492,7 +487,7 @@ fn check_link(
     dest: &str,
     title: &str,
     content: &[Inline],
-) -> Result<(), Reason>
+) -> Result<(), Why>
     ensures { result
         ≡ ok_unless (refused (link_reasons rules dest.now title.now (map (judged rules) content.now))
         <|> refusal_of_all (inside_link (place_of place)) None (map (judged rules) content.now)) }
@@ -509,7 +504,7 @@ fn check_image(
     dest: &str,
     title: &str,
     content: &[Inline],
-) -> Result<(), Reason>
+) -> Result<(), Why>
     ensures { result ≡ ok_unless (refused (image_reasons rules dest.now title.now)
         <|> refusal_of_all (further_in (place_of place)) None (map (judged rules) content.now)) }
 {
@@ -518,7 +513,7 @@ fn check_image(
 }
 
 /// Refuses the content of a paragraph.
-pub(crate) fn check_in_paragraph(rules: Rules, content: &[Inline]) -> Result<(), Reason>
+pub(crate) fn check_in_paragraph(rules: Rules, content: &[Inline]) -> Result<(), Why>
     ensures { result ≡ ok_unless (paragraph_refusal rules content.now) }
 {
     let place = Place {
@@ -530,7 +525,7 @@ pub(crate) fn check_in_paragraph(rules: Rules, content: &[Inline]) -> Result<(),
 }
 
 /// Refuses the content of a heading.
-pub(crate) fn check_in_heading(rules: Rules, content: &[Inline]) -> Result<(), Reason>
+pub(crate) fn check_in_heading(rules: Rules, content: &[Inline]) -> Result<(), Why>
     ensures { result ≡ ok_unless (heading_refusal rules content.now) }
 {
     let place = Place {

@@ -25,15 +25,15 @@ mod inline_refusals;
 mod inlines;
 pub mod laws;
 pub mod reading_laws;
-mod reason;
 mod refusals;
 mod search;
 mod source_lines;
 mod speller;
 mod texts;
+mod why;
 
 pub use definitions::{block_without_definitions, without_definitions};
 pub use fault::SourceFault;
-pub use reason::Reason;
 pub use refusals::{spellable, spellable_by};
 pub use speller::{Speller, spell, spell_by};
+pub use why::Why;

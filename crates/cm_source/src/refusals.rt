@@ -17,8 +17,8 @@ use crate::html_alone::is_html_block;
 use crate::inline_refusals::{
     check_in_heading, check_in_paragraph, has_nul, has_nul_in, refuse_if,
 };
-use crate::reason::Reason;
 use crate::texts::is_code_text;
+use crate::why::Why;
 use cm_scan::is_same_kind;
 use cm_text::Rules;
 use cm_tree::{Block, Inline, Items, ListKind};
@@ -194,23 +194,23 @@ fn check_list(
     tight: bool,
     items: &[Items<Block>],
     before: Option<Face>,
-) -> Result<(), Reason>
+) -> Result<(), Why>
     ensures { (rules : text_rules.Rules) → result
         ≡ ok_unless (refused (list_reasons kind tight (faces_of_items rules items.now) (seen before))) }
 {
-    refuse_if(is_malformed(kind, items), Reason::Shape)?;
-    refuse_if(is_behind_same(kind, before), Reason::AdjacentLists)?;
-    refuse_if(any_begins_with_list(items), Reason::ItemBeginsWithList)?;
-    refuse_if(!is_as_said(tight, items), Reason::Looseness)
+    refuse_if(is_malformed(kind, items), Why::Shape)?;
+    refuse_if(is_behind_same(kind, before), Why::AdjacentLists)?;
+    refuse_if(any_begins_with_list(items), Why::ItemBeginsWithList)?;
+    refuse_if(!is_as_said(tight, items), Why::Looseness)
 }
 
 /// Refuses a code block.
-fn check_code(rules: Rules, info: &str, text: &str) -> Result<(), Reason>
+fn check_code(rules: Rules, info: &str, text: &str) -> Result<(), Why>
     ensures { result ≡ ok_unless (refused (code_reasons rules info.now text.now)) }
 {
-    refuse_if(has_nul_in(info, text), Reason::Nul)?;
-    refuse_if(!is_code_text(text), Reason::CodeText)?;
-    refuse_if(!is_read_info(rules, info), Reason::InfoOff)
+    refuse_if(has_nul_in(info, text), Why::Nul)?;
+    refuse_if(!is_code_text(text), Why::CodeText)?;
+    refuse_if(!is_read_info(rules, info), Why::InfoOff)
 }
 
 /// Whether an info is one that the rules leave as it is.
@@ -230,35 +230,35 @@ fn has_line_space(info: &str) -> bool
 }
 
 /// Refuses an HTML block.
-fn check_html(rules: Rules, text: &str) -> Result<(), Reason>
-    ensures { result ≡ ok_unless (refused ((has_nul text.now, Reason.Nul)
-        ∷ (not (is_html_block rules text.now), Reason.HtmlBlock) ∷ [])) }
+fn check_html(rules: Rules, text: &str) -> Result<(), Why>
+    ensures { result ≡ ok_unless (refused ((has_nul text.now, Why.Nul)
+        ∷ (not (is_html_block rules text.now), Why.HtmlBlock) ∷ [])) }
 {
-    refuse_if(has_nul(text), Reason::Nul)?;
-    refuse_if(!is_html_block(rules, text), Reason::HtmlBlock)
+    refuse_if(has_nul(text), Why::Nul)?;
+    refuse_if(!is_html_block(rules, text), Why::HtmlBlock)
 }
 
 /// Refuses a paragraph.
-fn check_paragraph(rules: Rules, content: &[Inline]) -> Result<(), Reason>
-    ensures { result ≡ ok_unless (refused ((not (list_any (λ i. true) content.now), Reason.Shape) ∷ [])
+fn check_paragraph(rules: Rules, content: &[Inline]) -> Result<(), Why>
+    ensures { result ≡ ok_unless (refused ((not (list_any (λ i. true) content.now), Why.Shape) ∷ [])
         <|> paragraph_refusal rules content.now) }
 {
-    refuse_if(content.is_empty(), Reason::Shape)?;
+    refuse_if(content.is_empty(), Why::Shape)?;
     check_in_paragraph(rules, content)
 }
 
 /// Refuses a heading.
-fn check_heading(rules: Rules, level: u8, content: &[Inline]) -> Result<(), Reason>
-    ensures { result ≡ ok_unless (refused ((not (nat_le 1 level && nat_le level 6), Reason.Shape) ∷ [])
+fn check_heading(rules: Rules, level: u8, content: &[Inline]) -> Result<(), Why>
+    ensures { result ≡ ok_unless (refused ((not (nat_le 1 level && nat_le level 6), Why.Shape) ∷ [])
         <|> heading_refusal rules content.now) }
 {
-    refuse_if(!(1..=6).contains(&level), Reason::Shape)?;
+    refuse_if(!(1..=6).contains(&level), Why::Shape)?;
     check_in_heading(rules, content)
 }
 
 /// Refuses blocks, one after another.
 #[cycle(blocks)]
-fn check_blocks(rules: Rules, blocks: &[Block]) -> Result<(), Reason>
+fn check_blocks(rules: Rules, blocks: &[Block]) -> Result<(), Why>
     ensures { result ≡ ok_unless (refusal_of_all None (map (judged_block rules) blocks.now)) }
 {
     let mut before = None;
@@ -271,7 +271,7 @@ fn check_blocks(rules: Rules, blocks: &[Block]) -> Result<(), Reason>
 
 /// Refuses a block behind this one.
 #[cycle(blocks)]
-pub(crate) fn check_block(rules: Rules, block: &Block, before: Option<Face>) -> Result<(), Reason>
+pub(crate) fn check_block(rules: Rules, block: &Block, before: Option<Face>) -> Result<(), Why>
     ensures { result ≡ ok_unless ((judged_block rules block.now).refusal (seen before)) }
 {
     match block {
@@ -280,7 +280,7 @@ pub(crate) fn check_block(rules: Rules, block: &Block, before: Option<Face>) -> 
         Block::Code { info, text } => check_code(rules, info.as_str(), text.as_str()),
         Block::Html { text } => check_html(rules, text.as_str()),
         Block::Break => Ok(()),
-        Block::Definition { .. } => Err(Reason::Definition),
+        Block::Definition { .. } => Err(Why::Definition),
         Block::Quote(blocks) => check_blocks(rules, blocks.as_slice()),
         Block::List { kind, tight, items } => {
             check_list(*kind, *tight, items.as_slice(), before)?;
@@ -299,7 +299,7 @@ pub(crate) fn check_block(rules: Rules, block: &Block, before: Option<Face>) -> 
 ///
 /// Why it can't: the reason for which the first node in the order of the document is refused, parents first.
 /// A reason that rests on two neighbours is that of the second.
-pub fn spellable(blocks: &[Block]) -> Result<(), Reason>
+pub fn spellable(blocks: &[Block]) -> Result<(), Why>
     ensures { result ≡ ok_unless (refusal_of profile blocks.now) }
 {
     spellable_by(Rules::profile(), blocks)
@@ -313,7 +313,7 @@ pub fn spellable(blocks: &[Block]) -> Result<(), Reason>
 /// # Errors
 ///
 /// Why it can't, as `spellable` tells it.
-pub fn spellable_by(rules: Rules, blocks: &[Block]) -> Result<(), Reason>
+pub fn spellable_by(rules: Rules, blocks: &[Block]) -> Result<(), Why>
     ensures { result ≡ ok_unless (refusal_of rules blocks.now) }
 {
     check_blocks(rules, blocks)

@@ -1,5 +1,6 @@
 //! The source that is spelled for a tree.
-ghost use Rattle.std.specs.Prelude.{◌≡◌, ◌≢◌, [], ◌∷◌, ◌++◌, List, Some, IfOk, IfErr, OnOk, string_bytes};
+ghost use Rattle.std.specs.Prelude.{◌≡◌, ◌≢◌, ◌↔◌, [], ◌∷◌, ◌++◌, List, Some, Err, true};
+ghost use Rattle.std.specs.Prelude.{IsErr, IfOk, IfErr, OnOk, string_bytes};
 ghost use Rattle.std.specs.Option.{is_some};
 ghost use Rattle.cm_text.specs.Rules as text_rules;
 ghost use Rattle.cm_text.specs.Rules.{profile};
@@ -68,6 +69,8 @@ pub struct Speller {
     source: SourceLines,
     /// What the next block sees of the last one.
     before: Option<Face>,
+    /// Whether a request for memory was refused.
+    failed: bool,
 }
 
 /// Its name alone.
@@ -86,6 +89,7 @@ impl Speller {
             rules,
             source: SourceLines::new(alloc),
             before: None,
+            failed: false,
         }
     }
 
@@ -95,7 +99,7 @@ impl Speller {
     ///
     /// `Unspellable` where the blocks can't be spelled with this one, with the reason that `spellable_by`
     /// tells of them, whatever stands behind; the speller stays as it was then. `NoMemory` where a request
-    /// for memory was refused, after which nothing is known of what `finish` answers.
+    /// for memory was refused, and from then on.
     pub fn push(&mut self, block: &Block) -> Result<(), SourceFault>
         // Whatever blocks it stood for, it stands for them and the block.
         ensures stands { OnOk result ((rules : text_rules.Rules) (blocks : List trees.Block) →
@@ -103,9 +107,17 @@ impl Speller {
         ensures told { IfErr result (λ fault. (rules : text_rules.Rules) (blocks : List trees.Block) →
             HasSpelled rules self.old blocks → Refuses fault rules blocks block.now) }
         ensures same { IfErr result (λ fault. fault ≢ faults.NoMemory → self.new ≡ self.old) }
+        ensures memory { IfErr result (λ fault. fault ≡ faults.NoMemory → self.new.failed ≡ true) }
+        ensures failed { self.old.failed ≡ true → result ≡ Err faults.NoMemory }
     {
+        if self.failed {
+            return Err(SourceFault::NoMemory);
+        }
         check_block(self.rules, block, self.before)?;
-        self.add(block)?;
+        if let Err(NoMemory) = self.add(block) {
+            self.failed = true;
+            return Err(SourceFault::NoMemory);
+        }
         Ok(())
     }
 
@@ -116,6 +128,7 @@ impl Speller {
         ensures before { OnOk result ((rules : text_rules.Rules) →
             seen self.new.before ≡ Some (judged_block rules block.now).face) }
         ensures rules { self.new.rules ≡ self.old.rules }
+        ensures failed { self.new.failed ≡ self.old.failed }
     {
         spell_gap(&mut self.source, self.before.is_some())?;
         spell_block(&mut self.source, block)?;
@@ -124,13 +137,21 @@ impl Speller {
     }
 
     /// The source of the blocks so far, which reads back as just these.
-    pub fn finish(self) -> String
-        ensures spelled { (rules : text_rules.Rules) (blocks : List trees.Block) →
+    ///
+    /// # Errors
+    ///
+    /// `NoMemory` exactly where `push` has answered that.
+    pub fn finish(self) -> Result<String, NoMemory>
+        ensures spelled { IfOk result (λ source. (rules : text_rules.Rules) (blocks : List trees.Block) →
             HasSpelled rules self blocks →
-            IsSpellable rules blocks × (string_bytes result ≡ spelling_of blocks) }
-        ensures reads_back { (rules : text_rules.Rules) (blocks : List trees.Block) →
-            HasSpelled rules self blocks → tree_of rules (string_bytes result) ≡ blocks }
+            IsSpellable rules blocks × (string_bytes source ≡ spelling_of blocks)) }
+        ensures reads_back { IfOk result (λ source. (rules : text_rules.Rules) (blocks : List trees.Block) →
+            HasSpelled rules self blocks → tree_of rules (string_bytes source) ≡ blocks) }
+        ensures failed { IsErr result ↔ (self.failed ≡ true) }
     {
-        self.source.text
+        if self.failed {
+            return Err(NoMemory);
+        }
+        Ok(self.source.text)
     }
 }

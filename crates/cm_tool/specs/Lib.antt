@@ -2,6 +2,7 @@ pub mod Leaves
 pub mod ToldFaults
 pub mod Document
 pub mod Faults
+pub mod FaultLines
 pub mod Reading
 pub mod FaultExamples
 pub mod Owners

@@ -1,5 +1,5 @@
 -- What a run of a task, or of what stands in place of a task, writes and answers.
-use Rattle.std.specs.Prelude.{◌≡◌, ℕ, List, Result, Ok, Err, codes, string_bytes, ◌++◌, ◌⊎◌}
+use Rattle.std.specs.Prelude.{◌≡◌, ℕ, List, Result, Ok, Err, string_bytes, ◌⊎◌}
 use Rattle.cm_tool.specs.Reading.{SourceView}
 use Rattle.cm_text.specs.Limits.{LimitsView}
 use Rattle.cm_text.specs.Writing.{SinkView, IsUnwritten, Wrote, WroteFront}
@@ -8,6 +8,9 @@ use Rattle.cm_tool.specs.Writing.{Lists}
 use Rattle.cm_tool.specs.Reporting.{WritesReport}
 use Rattle.cm_tool.specs.Rewriting.{Rewrites}
 use Rattle.cm_tool.specs.declared.fault.Fault.{Fault}
+use Rattle.cm_tool.specs.declared.fault.Fault.TheVariants as faults
+use Rattle.cm_tool.specs.declared.fault.Fault.TheVariants.{WriteFailed}
+use Rattle.cm_tool.specs.FaultLines.{fault_text, line_of}
 use Rattle.cm_command.specs.declared.job.Job.{Job}
 use Rattle.cm_command.specs.declared.job.Job.TheVariants.{Render, Tree, Rewrite, Examples}
 use Rattle.cm_command.specs.declared.job.Stop.{Stop}
@@ -21,19 +24,19 @@ WroteSome old new text = (written : ℕ) × WroteFront old new text written
 abbrev pub Offered : SinkView → SinkView → List ℕ → Type 0
 Offered old new text = Wrote old new text 0 ⊎ WroteSome old new text
 
--- the same of some line for a fault
-abbrev pub OfferedLine : SinkView → SinkView → Type 0
-OfferedLine old new = (text : List ℕ) × Offered old new (codes "cmk: " ++ text ++ codes "\n")
+-- the same of a fault's line
+abbrev pub OfferedLine : Fault → SinkView → SinkView → Type 0
+OfferedLine fault old new = Offered old new (line_of (fault_text fault))
 
 -- the exit status after an answer
 abbrev pub status_of : Result ℕ Fault → ℕ
 status_of (Ok _) = 0
 status_of (Err _) = 1
 
--- the errors get a line for a fault, and else nothing
+-- the errors get the line of a fault, and else nothing
 abbrev pub Reports : Result ℕ Fault → SinkView → SinkView → Type 0
 Reports (Ok _) old new = IsUnwritten old new
-Reports (Err _) old new = OfferedLine old new
+Reports (Err fault) old new = OfferedLine fault old new
 
 -- what doing a job answers once these bytes have been read, and what it has written then
 abbrev pub Does : Job → Result ℕ Fault → LimitsView → List ℕ → SourceView → SourceView → SinkView → SinkView → Type 0
@@ -48,12 +51,12 @@ pub record RunsTo (answer : Result ℕ Fault) (status : ℕ) (job : Job) (limits
   pub told : status ≡ status_of answer
   pub reports : Reports answer old-errors new-errors
 
--- help is written, which may fail; a wrong command line is told; want of memory has its line
+-- help is written, or the failure is told; a wrong command line is told; want of memory has its line
 abbrev pub Tells : Stop → ℕ → SinkView → SinkView → SinkView → SinkView → Type 0
 Tells (Help text) status old new old-errors new-errors =
     ((status ≡ 0) × Wrote old new (string_bytes text) 0 × IsUnwritten old-errors new-errors)
-    ⊎ ((status ≡ 1) × WroteSome old new (string_bytes text) × OfferedLine old-errors new-errors)
+    ⊎ ((status ≡ 1) × (written : ℕ) × WroteFront old new (string_bytes text) written × OfferedLine (WriteFailed written) old-errors new-errors)
 Tells (Wrong text) status old new old-errors new-errors =
     (status ≡ 2) × IsUnwritten old new × Offered old-errors new-errors (string_bytes text)
 Tells NoMemory status old new old-errors new-errors =
-    (status ≡ 1) × IsUnwritten old new × OfferedLine old-errors new-errors
+    (status ≡ 1) × IsUnwritten old new × OfferedLine faults.NoMemory old-errors new-errors

@@ -1,47 +1,126 @@
 //! Faults, and the texts by which they are told.
-ghost use Rattle.std.specs.Prelude.{◌≡◌};
+ghost use Rattle.std.specs.Prelude.{◌≡◌, ◌+◌, ◌≤◌, ◌++◌, Some, length};
+ghost use Rattle.cm_tool.specs.FaultLines.{fault_text, line_of};
+ghost use Rattle.cm_tool.specs.steps.FaultParts.{parts_text};
 
+use arrayvec::ArrayString;
 use cm_block::BlockFault;
 use cm_html::HtmlFault;
-use cm_source::{Reason, SourceFault};
+use cm_source::{SourceFault, Why};
 use cm_text::{NoMemory, TextFault, WriteFailed};
+use itoa::Buffer;
 use std::alloc::AllocError;
-use thiserror::Error;
+use std::error::Error;
+use std::fmt;
+
+/// The most bytes of a fault's line.
+pub const LINE: usize = 126;
 
 /// Why a task ends without its answer. Its `Display` is what the program prints after `cmk: `.
-#[derive(Clone, Copy, Debug, PartialEq, Eq, Drop, Error)]
+#[derive(Clone, Copy, Debug, PartialEq, Eq, Drop)]
 pub enum Fault {
     /// The bytes aren't UTF-8; `at` is the length of the longest well-formed front.
-    #[error("F1 not UTF-8 at byte {at}")]
     NotUtf8 { at: usize },
     /// There is a byte past the limit, which is `at`.
-    #[error("F2 input too long at byte {at}")]
     TooLong { at: usize },
     /// More quotes and items stand round the line, counted from 1, than the limit.
-    #[error("F3 blocks too deep on line {line}")]
     BlocksTooDeep { line: u128 },
     /// The inlines of the leaf, counted from 1, nest deeper than the limit.
-    #[error("F4 inlines too deep in leaf {leaf}")]
     InlinesTooDeep { leaf: usize },
     /// A request for memory was refused.
-    #[error("F5 out of memory")]
     NoMemory,
     /// The reader failed, or the file couldn't be opened.
-    #[error("F6 read failed")]
     ReadFailed,
     /// The writer failed, or took no byte of a nonempty piece, after it had taken so many bytes.
-    #[error("F7 write failed after {written} bytes")]
     WriteFailed { written: usize },
     /// The tree can't be spelled as plain source.
-    #[error("F8 cannot be spelled: {why}")]
-    Unspellable { why: Reason },
+    Unspellable { why: Why },
     /// An example isn't closed, whose opening line, counted from 1, is this.
-    #[error("F9 bad example file at line {line}")]
     BadExampleFile { line: usize },
     /// The example, counted from 1, is the first whose output differs from the HTML that it wants.
-    #[error("F10 example {number} differs")]
     ExampleDiffers { number: usize },
 }
+
+/// What a fault's text is made of: words, perhaps a number, and words behind it.
+#[derive(Clone, Copy, Debug)]
+struct Parts {
+    front: &'static str,
+    number: Option<u128>,
+    behind: &'static str,
+}
+
+impl Fault {
+    /// What its text is made of.
+    fn parts(&self) -> Parts
+        ensures text { parts_text result ≡ fault_text self.now }
+        ensures short { length result.front.now + length result.behind.now ≤ 80 }
+    {
+        let (front, number, behind) = match *self {
+            Fault::NotUtf8 { at } => ("F1 not UTF-8 at byte ", Some(at as u128), ""),
+            Fault::TooLong { at } => ("F2 input too long at byte ", Some(at as u128), ""),
+            Fault::BlocksTooDeep { line } => ("F3 blocks too deep on line ", Some(line), ""),
+            Fault::InlinesTooDeep { leaf } => {
+                ("F4 inlines too deep in leaf ", Some(leaf as u128), "")
+            }
+            Fault::NoMemory => ("F5 out of memory", None, ""),
+            Fault::ReadFailed => ("F6 read failed", None, ""),
+            Fault::WriteFailed { written } => {
+                ("F7 write failed after ", Some(written as u128), " bytes")
+            }
+            Fault::Unspellable { why } => ("F8 cannot be spelled: ", None, why.text()),
+            Fault::BadExampleFile { line } => {
+                ("F9 bad example file at line ", Some(line as u128), "")
+            }
+            Fault::ExampleDiffers { number } => ("F10 example ", Some(number as u128), " differs"),
+        };
+        Parts {
+            front,
+            number,
+            behind,
+        }
+    }
+
+    /// Puts its text behind what stands in a line.
+    fn push_text(&self, line: &mut ArrayString<LINE>)
+        requires { length line.old.bytes ≤ 5 }
+        ensures text { line.new.bytes ≡ line.old.bytes ++ fault_text self.now }
+        ensures short { length line.new.bytes ≤ 125 }
+    {
+        let Parts {
+            front,
+            number,
+            behind,
+        } = self.parts();
+        line.push_str(front);
+        if let Some(number) = number {
+            line.push_str(Buffer::new().format(number));
+        }
+        line.push_str(behind);
+    }
+
+    /// The line that the program prints for it: `cmk: `, its text and a line feed. It takes no memory.
+    pub fn line(&self) -> ArrayString<LINE>
+        ensures { result.bytes ≡ line_of (fault_text self.now) }
+    {
+        let mut line = ArrayString::new();
+        line.push_str("cmk: ");
+        self.push_text(&mut line);
+        line.push_str("\n");
+        line
+    }
+}
+
+impl fmt::Display for Fault {
+    ghost output = { λ fault. Some (fault_text fault) };
+
+    fn fmt<W: fmt::Write>(&self, f: &mut fmt::Formatter<W>) -> fmt::Result {
+        let mut text = ArrayString::new();
+        self.push_text(&mut text);
+        f.write_str(text.as_str())
+    }
+}
+
+impl Error for Fault {}
 
 impl From<TextFault> for Fault {
     ghost use Rattle.std.specs.Prelude.{◌≡◌};
@@ -135,13 +214,13 @@ impl From<SourceFault> for Fault {
     }
 }
 
-impl From<Reason> for Fault {
+impl From<Why> for Fault {
     ghost use Rattle.std.specs.Prelude.{◌≡◌};
     ghost use Rattle.cm_tool.specs.declared.fault.Fault.TheVariants.{Unspellable};
 
     ghost from_gives = { λ why e. e ≡ Unspellable why };
 
-    fn from(why: Reason) -> Fault {
+    fn from(why: Why) -> Fault {
         Fault::Unspellable { why }
     }
 }

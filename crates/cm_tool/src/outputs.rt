@@ -18,7 +18,7 @@ mod rewriting;
 use crate::fault::Fault;
 use cm_block::Outline;
 use cm_html::Pages;
-use cm_source::Reason;
+use cm_source::Why;
 use cm_text::Limits;
 use cm_tree::Doc;
 pub use conversion::convert;
@@ -69,7 +69,7 @@ pub(crate) fn plain_source_of_outline(
     alloc: Global,
     limits: Limits,
     outline: Outline,
-) -> Result<Result<String, Reason>, Fault>
+) -> Result<Result<String, Why>, Fault>
     ensures { (bytes : List ℕ) → IsOutline limits bytes outline
         → Makes (Spelled limits.rules (kept_tree limits.rules bytes)) result limits bytes }
 {

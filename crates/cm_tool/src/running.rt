@@ -1,5 +1,5 @@
 //! Doing a task, and telling what goes wrong.
-ghost use Rattle.std.specs.Prelude.{◌≡◌, ℕ, ◌+◌, ◌-◌, ◌^◌, ◌<◌, ◌≤◌, ◌++◌, List, Result, IfOk, length, take};
+ghost use Rattle.std.specs.Prelude.{◌≡◌, ℕ, ◌-◌, ◌^◌, ◌<◌, List, Result, IfOk};
 ghost use Rattle.std.specs.Io.KnownBytes.{Consumes};
 ghost use Rattle.cm_tool.specs.declared.fault.Fault as faults;
 ghost use Rattle.cm_tool.specs.Running.{Does, Offered, OfferedLine, Tells, RunsTo};
@@ -10,10 +10,6 @@ use crate::outputs::{convert, list, rewrite};
 use cm_command::{Job, Stop, Task};
 use cm_text::{Sink, Source, WriteFailed, write_all};
 use std::alloc::Global;
-use std::io::{Cursor, Write};
-
-/// Room for the text of each fault.
-const ROOM: usize = 120;
 
 /// Writes the text, and passes over a failure.
 fn offer<E: Sink>(errors: &mut E, text: &[u8])
@@ -26,34 +22,15 @@ fn offer<E: Sink>(errors: &mut E, text: &[u8])
     let _ = write_all(errors, text);
 }
 
-/// Puts the bytes into the line after so many, and answers how many it has then.
-fn put(line: &mut [u8], after: usize, bytes: &[u8]) -> usize
-    requires { after + length bytes.now ≤ length line.old }
-    ensures end { result ≡ after + length bytes.now }
-    ensures kept { length line.new ≡ length line.old }
-    ensures put { take result line.new ≡ take after line.old ++ bytes.now }
-{
-    let end = after + bytes.len();
-    line[after..end].copy_from_slice(bytes);
-    end
-}
-
 /// Writes the fault's line, and answers the exit status. It passes over a failure, and takes no memory.
 fn tell_fault<E: Sink>(fault: Fault, errors: &mut E) -> u8
     requires { E.failed errors.old < 2 ^ 64 - 1 }
     ensures status { result ≡ 1 }
-    ensures line { OfferedLine
+    ensures line { OfferedLine fault
         (record { taken = E.taken errors.old; failed = E.failed errors.old })
         (record { taken = E.taken errors.new; failed = E.failed errors.new }) }
 {
-    let mut text = Cursor::new([0; ROOM]);
-    let _ = write!(text, "{fault}");
-    let length = ROOM.min(text.position() as usize);
-    let mut line = [0; 5 + ROOM + 1];
-    let front = put(&mut line, 0, b"cmk: ");
-    let told = put(&mut line, front, &text.get_ref()[..length]);
-    let end = put(&mut line, told, b"\n");
-    offer(errors, &line[..end]);
+    offer(errors, fault.line().as_str().as_bytes());
     1
 }
 

@@ -1,5 +1,5 @@
 -- What a call from C answers.
-use Rattle.std.specs.Prelude.{◌≡◌, ◌⊎◌, ◌==◌, not, ℕ, suc, ◌^◌, ◌≤◌, List, [], ◌∷◌, ◌++◌, codes, length, drop, Option, Some, None, Result, Ok, Err, ⊤, option_map, if◌then◌else◌, Vec}
+use Rattle.std.specs.Prelude.{◌≡◌, ◌⊎◌, ◌==◌, not, ℕ, suc, ◌^◌, ◌<◌, ◌≤◌, List, [], ◌∷◌, ◌++◌, length, drop, Option, Some, None, Result, Ok, Err, ⊤, option_map, if◌then◌else◌, Vec}
 use Rattle.std.specs.Option.{option_or}
 use Rattle.std.specs.declared.alloc.Global.{Global}
 use Rattle.cm_text.specs.Rules.{Rules}
@@ -11,7 +11,7 @@ use Rattle.cm_tool.specs.Faults.{fault_of}
 use Rattle.cm_tool.specs.Rewriting.{kept_tree}
 use Rattle.cmk_c.specs.declared.options.Options.{Options}
 use Rattle.cmk_c.specs.declared.message.Message.{Message}
-use Rattle.cmk_c.specs.Numbers.{number_of, place_of}
+use Rattle.cmk_c.specs.Numbers.{number_of, place_of, message_line, IsLine}
 
 -- the number, or the standard one in place of 0
 abbrev pub or_standard : ℕ → ℕ → ℕ
@@ -92,6 +92,7 @@ pub record IsFilled (output room : List ℕ) (answer : Answer) : Type 0 where
   pub place : answer.place ≡ 0
   pub count : answer.count ≡ length output
   pub filled : answer.bytes ≡ ended output ++ drop (suc (length output)) room
+  pub fits : length output < length room
 
 -- there is no room for the output and the NUL; its length is told, and the room is as it was
 pub record IsShort (output room : List ℕ) (answer : Answer) : Type 0 where
@@ -115,11 +116,7 @@ abbrev pub Fills : (fault : LimitsView → List ℕ → Option Fault) → (outpu
 Fills fault output None text room answer = IsEmpty 11 room answer
 Fills fault output (Some limits) text room answer = FillsBy (fault limits text) (output limits.rules text) room answer
 
--- the line with this text, as the program prints it
-abbrev pub line_of : List ℕ → List ℕ
-line_of text = codes "cmk: " ++ text ++ codes "\n"
-
--- The line of a message stands in the room, or its length is told. Where there is no message it is 11.
+-- The line of a message, which is one line, stands in the room, or its length is told. Where there is no message it is 11.
 abbrev pub TellsLine : Option Message → (room : List ℕ) → Answer → Type 0
 TellsLine None room answer = IsEmpty 11 room answer
-TellsLine (Some message) room answer = (text : List ℕ) × IsPut (line_of text) room answer
+TellsLine (Some message) room answer = IsPut (message_line message) room answer × IsLine (message_line message)

@@ -1,9 +1,11 @@
 -- Faults as numbers.
-use Rattle.std.specs.Prelude.{◌≡◌, ◌==◌, ℕ, Option, Some, None, option_map, if◌then◌else◌}
-use Rattle.cm_source.specs.declared.reason.Reason.{Reason}
-use Rattle.cm_source.specs.declared.reason.Reason.TheVariants as whys
+use Rattle.std.specs.List.{list_all}
+use Rattle.std.specs.Prelude.{◌≡◌, ◌==◌, ◌&&◌, not, true, ℕ, List, codes, ◌++◌, Option, Some, None, option_map, if◌then◌else◌}
+use Rattle.cm_source.specs.declared.why.Why.{Why}
+use Rattle.cm_source.specs.declared.why.Why.TheVariants as whys
 use Rattle.cm_tool.specs.declared.fault.Fault.{Fault}
 use Rattle.cm_tool.specs.declared.fault.Fault.TheVariants.{NotUtf8, TooLong, BlocksTooDeep, InlinesTooDeep, NoMemory, ReadFailed, WriteFailed, Unspellable, BadExampleFile, ExampleDiffers}
+use Rattle.cm_tool.specs.FaultLines.{fault_text, line_of}
 use Rattle.cmk_c.specs.declared.message.Message.{Message}
 use Rattle.cmk_c.specs.declared.message.Message.TheVariants.{Refused, OutOfRange, NoRoom}
 
@@ -21,7 +23,7 @@ number_of (BadExampleFile line) = 9
 number_of (ExampleDiffers number) = 10
 
 -- the number of a reason why a tree can't be spelled
-abbrev pub reason_of : Reason → ℕ
+abbrev pub reason_of : Why → ℕ
 reason_of whys.Definition = 1
 reason_of whys.Nul = 2
 reason_of whys.Shape = 3
@@ -56,7 +58,7 @@ place_of (BadExampleFile line) = line
 place_of (ExampleDiffers number) = number
 
 -- the reason with this number
-abbrev pub why_numbered : ℕ → Option Reason
+abbrev pub why_numbered : ℕ → Option Why
 why_numbered number =
     if number == 1 then Some whys.Definition
     else if number == 2 then Some whys.Nul
@@ -100,6 +102,16 @@ message_of number place =
     if number == 11 then Some OutOfRange
     else if number == 12 then Some NoRoom
     else option_map Refused (fault_numbered number place)
+
+-- the line of a message, as the program prints it
+abbrev pub message_line : Message → List ℕ
+message_line (Refused fault) = line_of (fault_text fault)
+message_line OutOfRange = line_of (codes "a number is out of its range")
+message_line NoRoom = line_of (codes "the room is too small")
+
+-- one line: a line feed at its end and nowhere else, and no NUL
+abbrev pub IsLine : List ℕ → Type 0
+IsLine bytes = (text : List ℕ) × ((bytes ≡ text ++ codes "\n") × (list_all (λ b. not (b == 0) && not (b == 10)) text ≡ true))
 
 -- So each fault has a message.
 abbrev pub FaultsHaveMessages : Type 0

@@ -14,7 +14,7 @@
 //! ```
 #![tactic(auto)]
 
-ghost use Rattle.std.specs.Prelude.{◌≡◌, ℕ, List};
+ghost use Rattle.std.specs.Prelude.{◌≡◌, ◌≤◌, ℕ, List};
 ghost use Rattle.cm_tool.specs.Faults.{fault_of};
 ghost use Rattle.cm_tool.specs.Writing.{converted, listed};
 ghost use Rattle.cm_tool.specs.Rewriting.{rewritten};
@@ -138,13 +138,14 @@ pub extern "C" fn cmk_fault_text(
     room: &mut [u8],
     filled: &mut Filled,
 ) -> u32
-    ensures { TellsLine (message_of number place) room.old
+    ensures told { TellsLine (message_of number place) room.old
         (record {
           number = result;
           place = filled.new.place;
           count = filled.new.length;
           bytes = room.new;
         }) }
+    ensures short { filled.new.length ≤ 126 }
 {
     match message_of(number, place) {
         Some(message) => fill_line(message, room, filled),

@@ -1,25 +1,21 @@
 //! What the number that a call answers tells, and the line for it.
-ghost use Rattle.std.specs.Prelude.{◌≡◌, ℕ, List, ◌+◌, ◌≤◌, ◌++◌, length, take, codes};
-ghost use Rattle.cmk_c.specs.Calls.{IsPut, line_of};
-ghost use Rattle.cmk_c.specs.Numbers.{message_of};
+ghost use Rattle.std.specs.Prelude.{◌≡◌, ◌≤◌};
+ghost use Rattle.cmk_c.specs.Calls.{IsPut, ended};
+ghost use Rattle.cmk_c.specs.Numbers.{message_of, message_line};
 
 use crate::filling::{Filled, fill_with};
 use crate::numbers::{NO_ROOM, OUT_OF_RANGE, fault_numbered};
+use arrayvec::ArrayString;
 use cm_tool::Fault;
-use std::io::{Cursor, Write};
-use thiserror::Error;
 
-/// What a call tells in place of its output. Its `Display` is its line behind `cmk: `.
-#[derive(Clone, Copy, Debug, Drop, Error)]
+/// What a call tells in place of its output.
+#[derive(Clone, Copy, Debug, Drop)]
 pub enum Message {
     /// The fault of a text, as the program tells it.
-    #[error(transparent)]
     Refused(Fault),
     /// A number that was handed over is out of its range.
-    #[error("a number is out of its range")]
     OutOfRange,
     /// The caller's room is too small.
-    #[error("the room is too small")]
     NoRoom,
 }
 
@@ -37,38 +33,35 @@ pub(crate) fn message_of(number: u32, place: usize) -> Option<Message>
     }
 }
 
-/// Room for the text of each message.
-const ROOM: usize = 120;
+/// The most bytes of a message's line with a NUL behind it.
+const ROOM: usize = 127;
 
-/// Puts the bytes into the line after so many, and answers how many it has then.
-fn put(line: &mut [u8], after: usize, bytes: &[u8]) -> usize
-    requires { after + length bytes.now ≤ length line.old }
-    ensures end { result ≡ after + length bytes.now }
-    ensures kept { length line.new ≡ length line.old }
-    ensures put { take result line.new ≡ take after line.old ++ bytes.now }
-{
-    let end = after + bytes.len();
-    line[after..end].copy_from_slice(bytes);
-    end
+impl Message {
+    /// Its line, with a NUL behind it. It takes no memory.
+    fn ended_line(&self) -> ArrayString<ROOM>
+        ensures { result.bytes ≡ ended (message_line self.now) }
+    {
+        let mut line = ArrayString::new();
+        match self {
+            Message::Refused(fault) => line.push_str(fault.line().as_str()),
+            Message::OutOfRange => line.push_str("cmk: a number is out of its range\n"),
+            Message::NoRoom => line.push_str("cmk: the room is too small\n"),
+        }
+        line.push_str("\0");
+        line
+    }
 }
 
 /// Puts the line of the message, with a NUL behind it, to the front of the room. It takes no memory.
 pub(crate) fn fill_line(message: Message, room: &mut [u8], filled: &mut Filled) -> u32
-    ensures { (text : List ℕ) × IsPut (line_of text) room.old
+    ensures line { IsPut (message_line message) room.old
         (record {
           number = result;
           place = filled.new.place;
           count = filled.new.length;
           bytes = room.new;
         }) }
+    ensures short { filled.new.length ≤ 126 }
 {
-    let mut text = Cursor::new([0; ROOM]);
-    let _ = write!(text, "{message}");
-    let length = ROOM.min(text.position() as usize);
-    let mut line = [0; 5 + ROOM + 2];
-    let front = put(&mut line, 0, b"cmk: ");
-    let told = put(&mut line, front, &text.get_ref()[..length]);
-    let end = put(&mut line, told, b"\n");
-    let ended = put(&mut line, end, b"\0");
-    fill_with(&line[..ended], room, filled)
+    fill_with(message.ended_line().as_str().as_bytes(), room, filled)
 }

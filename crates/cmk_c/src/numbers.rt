@@ -4,7 +4,7 @@ ghost use Rattle.cm_tool.specs.declared.fault.Fault.TheVariants.{Unspellable};
 ghost use Rattle.cmk_c.specs.steps.Places.{HasPlace};
 ghost use Rattle.cmk_c.specs.Numbers.{number_of, place_of, reason_of, why_numbered, fault_numbered};
 
-use cm_source::Reason;
+use cm_source::Why;
 use cm_tool::Fault;
 
 /// There is no fault.
@@ -35,29 +35,29 @@ pub(crate) fn number_of(fault: Fault) -> u32
 }
 
 /// The number of a reason why a tree can't be spelled.
-fn reason_of(why: Reason) -> usize
+fn reason_of(why: Why) -> usize
     ensures { result ≡ reason_of why }
 {
     match why {
-        Reason::Definition => 1,
-        Reason::Nul => 2,
-        Reason::Shape => 3,
-        Reason::Text => 4,
-        Reason::EmphasisNested => 5,
-        Reason::EmphasisTouching => 6,
-        Reason::EmphasisEdge => 7,
-        Reason::CodeSpan => 8,
-        Reason::RawHtml => 9,
-        Reason::LinkInLink => 10,
-        Reason::LineBreak => 11,
-        Reason::CodeText => 12,
-        Reason::HtmlBlock => 13,
-        Reason::AdjacentLists => 14,
-        Reason::ItemBeginsWithList => 15,
-        Reason::Looseness => 16,
-        Reason::StrikeOff => 17,
-        Reason::AddressOff => 18,
-        Reason::InfoOff => 19,
+        Why::Definition => 1,
+        Why::Nul => 2,
+        Why::Shape => 3,
+        Why::Text => 4,
+        Why::EmphasisNested => 5,
+        Why::EmphasisTouching => 6,
+        Why::EmphasisEdge => 7,
+        Why::CodeSpan => 8,
+        Why::RawHtml => 9,
+        Why::LinkInLink => 10,
+        Why::LineBreak => 11,
+        Why::CodeText => 12,
+        Why::HtmlBlock => 13,
+        Why::AdjacentLists => 14,
+        Why::ItemBeginsWithList => 15,
+        Why::Looseness => 16,
+        Why::StrikeOff => 17,
+        Why::AddressOff => 18,
+        Why::InfoOff => 19,
     }
 }
 
@@ -81,29 +81,29 @@ pub(crate) fn place_of(fault: Fault) -> usize
 }
 
 /// The reason with this number.
-fn why_numbered(number: usize) -> Option<Reason>
+fn why_numbered(number: usize) -> Option<Why>
     ensures { result ≡ why_numbered number }
 {
     match number {
-        1 => Some(Reason::Definition),
-        2 => Some(Reason::Nul),
-        3 => Some(Reason::Shape),
-        4 => Some(Reason::Text),
-        5 => Some(Reason::EmphasisNested),
-        6 => Some(Reason::EmphasisTouching),
-        7 => Some(Reason::EmphasisEdge),
-        8 => Some(Reason::CodeSpan),
-        9 => Some(Reason::RawHtml),
-        10 => Some(Reason::LinkInLink),
-        11 => Some(Reason::LineBreak),
-        12 => Some(Reason::CodeText),
-        13 => Some(Reason::HtmlBlock),
-        14 => Some(Reason::AdjacentLists),
-        15 => Some(Reason::ItemBeginsWithList),
-        16 => Some(Reason::Looseness),
-        17 => Some(Reason::StrikeOff),
-        18 => Some(Reason::AddressOff),
-        19 => Some(Reason::InfoOff),
+        1 => Some(Why::Definition),
+        2 => Some(Why::Nul),
+        3 => Some(Why::Shape),
+        4 => Some(Why::Text),
+        5 => Some(Why::EmphasisNested),
+        6 => Some(Why::EmphasisTouching),
+        7 => Some(Why::EmphasisEdge),
+        8 => Some(Why::CodeSpan),
+        9 => Some(Why::RawHtml),
+        10 => Some(Why::LinkInLink),
+        11 => Some(Why::LineBreak),
+        12 => Some(Why::CodeText),
+        13 => Some(Why::HtmlBlock),
+        14 => Some(Why::AdjacentLists),
+        15 => Some(Why::ItemBeginsWithList),
+        16 => Some(Why::Looseness),
+        17 => Some(Why::StrikeOff),
+        18 => Some(Why::AddressOff),
+        19 => Some(Why::InfoOff),
         _ => None,
     }
 }

@@ -1,41 +1,12 @@
-//! The open items in which a line stays, one after another from the outside in.
-ghost use Rattle.std.specs.Prelude.{◌≡◌, ◌<◌, ◌≤◌, Bool, true, false, drop, length, IfSome, MatchOption};
+//! Whether a line stays in an open item by itself, and what is left of it there.
+ghost use Rattle.std.specs.Prelude.{◌≡◌, ◌<◌, ◌≤◌, ◌+◌, ◌-◌, ◌^◌, false, IfSome, MatchOption};
 ghost use Rattle.cm_text.specs.Rules as all;
 ghost use Rattle.cm_scan.specs.blocks.Starts.{Stays};
-ghost use Rattle.cm_block.specs.Prelude.{Raw, seen_view, strip_columns, place_if_lazy, place_in_item};
-ghost use Rattle.cm_block.specs.steps.FrameSteps.{matching, behind, LeavesNext};
-ghost use Rattle.cm_block.specs.steps.FrameViews.{frames_in};
-ghost use Rattle.cm_block.specs.steps.PlaceViews.{begins_plain};
+ghost use Rattle.cm_block.specs.Prelude.{seen_view, strip_columns, place_if_lazy, place_in_item};
+ghost use Rattle.cm_block.specs.steps.PlaceViews.{begins_plain, IsInside};
 
-use crate::counted_line::places::reaches_or_is_blank;
-use crate::stack::{Container, Frame};
+use crate::counted_line::places::{reaches_or_is_blank, with_columns};
 use cm_text::View;
-
-/// How far a line goes into open items by itself.
-#[derive(Clone, Copy, Debug)]
-pub(crate) struct InItems<'a> {
-    /// The line, as it goes into the last of them.
-    pub(crate) inner: View<'a>,
-    /// How many these are.
-    pub(crate) count: usize,
-    /// Whether the next container is an item in which it doesn't stay by itself.
-    pub(crate) leaves: bool,
-}
-
-/// Whether the first of the containers is an item.
-#[inline(always)]
-pub(crate) fn begin_with_item(frames: &[Frame]) -> bool {
-    matches!(
-        frames,
-        [
-            Frame {
-                container: Container::Item { .. },
-                ..
-            },
-            ..,
-        ]
-    )
-}
 
 /// The line without so many of the spaces in front of its rest.
 #[inline(always)]
@@ -63,8 +34,8 @@ fn begins_plain(text: &str) -> bool
     }
 }
 
-/// The line as it goes into an open item whose content begins at a column, if it stays there by itself. There
-/// is more of the item than its marker (5.2 List items).
+/// The line as it goes into an open item whose content begins at a column, if it stays there by itself. No
+/// space stands in front of its rest, and there is more of the item than its marker (5.2 List items).
 #[inline(always)]
 pub(crate) fn inside_item<'a>(line: &View<'a>, column: usize) -> Option<View<'a>>
     requires { line.now.lazy ≡ false }
@@ -89,41 +60,55 @@ pub(crate) fn inside_item<'a>(line: &View<'a>, column: usize) -> Option<View<'a>
     Some(inner)
 }
 
-/// How far a line goes into the items in front of these containers by itself. There is more of each item than
-/// its marker.
-#[inline(always)]
-pub(crate) fn inside_items<'a>(line: View<'a>, frames: &[Frame]) -> InItems<'a>
-    requires { line.lazy ≡ false }
-    ensures through { (rules : all.Rules) (open_text : Bool) (raw : Raw) → behind result.count
-        (matching rules false open_text (drop result.count (frames_in raw frames.now))
-        (seen_view result.inner))
-        ≡ matching rules false open_text (frames_in raw frames.now) (seen_view line.entry) }
-    ensures within { result.count ≤ length frames.now }
-    ensures more { result.leaves ≡ true → result.count < length frames.now }
-    ensures leaves { result.leaves ≡ true → (raw : Raw) →
-        LeavesNext (frames_in raw frames.now) result.count (seen_view result.inner) }
-{
-    let mut inner = line;
-    for depth in 0..frames.len() {
-        let Container::Item { column, .. } = frames[depth].container else {
-            return InItems {
-                inner,
-                count: depth,
-                leaves: false,
-            };
-        };
-        let Some(next) = inside_item(&inner, column) else {
-            return InItems {
-                inner,
-                count: depth,
-                leaves: true,
-            };
-        };
-        inner = next;
+/// A line on its way into open items, and how often it has been read there. As of a `CountedLine`, nothing
+/// that shows it leaves this type: each of its calls is one reading, which it counts, and none lets it go
+/// without the count.
+pub(crate) struct LineInItems<'a> {
+    inner: View<'a>,
+    tests: usize,
+}
+
+impl<'a> LineInItems<'a> {
+    /// A line that hasn't been read on this way.
+    #[inline(always)]
+    pub(super) fn new(line: &View<'a>) -> LineInItems<'a>
+        ensures line { seen_view result.inner ≡ seen_view line.now }
+        ensures tests { result.tests ≡ 0 }
+    {
+        LineInItems {
+            inner: with_columns(line),
+            tests: 0,
+        }
     }
-    InItems {
-        inner,
-        count: frames.len(),
-        leaves: false,
+
+    /// The line as it has gone into the last of the items, and how often it was read.
+    #[inline(always)]
+    pub(super) fn into_parts(self) -> (View<'a>, usize)
+        ensures line { result.0 ≡ self.entry.inner }
+        ensures tests { result.1 ≡ self.entry.tests }
+    {
+        let LineInItems { inner, tests } = self;
+        (inner, tests)
+    }
+
+    /// Whether the line stays by itself in an open item whose content begins at a column, into which it then
+    /// goes. There is more of the item than its marker (5.2 List items).
+    #[inline(always)]
+    pub(crate) fn stays_in(&mut self, column: usize) -> bool
+        requires plain { self.old.inner.lazy ≡ false }
+        requires few { self.old.tests < 2 ^ 64 - 1 }
+        ensures place { (by : all.Rules) → IsInside result
+            (place_in_item by column false (seen_view self.old.inner))
+            (place_if_lazy by (seen_view self.old.inner)) (seen_view self.new.inner) }
+        ensures same { result ≡ false → self.new.inner ≡ self.old.inner }
+        ensures lazy { self.new.inner.lazy ≡ false }
+        ensures tests { self.new.tests ≡ self.old.tests + 1 }
+    {
+        self.tests += 1;
+        let Some(inner) = inside_item(&self.inner, column) else {
+            return false;
+        };
+        self.inner = inner;
+        true
     }
 }

@@ -15,7 +15,7 @@ use Rattle.cm_scan.specs.Documents.{content_read, block_read, with_inlines, defi
 use Rattle.cm_scan.specs.inlines.Inlines.{inlines_of}
 use Rattle.cm_tree.specs.RawBlocks.{raw_inlines}
 use Rattle.cm_scan.specs.Words.{is_empty}
-use Rattle.cm_source.specs.declared.reason.Reason.TheVariants as why
+use Rattle.cm_source.specs.declared.why.Why.TheVariants as why
 use Rattle.cm_source.specs.Inlines.{spelled_content}
 use Rattle.cm_source.specs.InlineRefusals.{refused, paragraph_refusal, heading_refusal, of_paragraph, of_heading}
 use Rattle.cm_source.specs.ReadingBack.{sourced, all_sourced, TreesReadBack}

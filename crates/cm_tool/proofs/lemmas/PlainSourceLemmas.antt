@@ -6,7 +6,7 @@ use Rattle.cm_text.specs.Rules.{Rules}
 use Rattle.cm_tree.specs.declared.tree.Block.{Block}
 use Rattle.cm_source.specs.declared.speller.Speller.{Speller}
 use Rattle.cm_source.specs.declared.fault.SourceFault.TheVariants.{Unspellable}
-use Rattle.cm_source.specs.declared.reason.Reason.{Reason}
+use Rattle.cm_source.specs.declared.why.Why.{Why}
 use Rattle.cm_source.specs.Definitions.{cleared, is_definition, kept, without_definitions}
 use Rattle.cm_source.specs.Refusals.{refusal_of}
 use Rattle.cm_source.specs.Speller.{HasSpelled, Refuses}
@@ -15,13 +15,13 @@ use Rattle.cm_tool.specs.steps.PlainSources.{Spells, HasTaken}
 
 -- one more block behind those that a source has taken
 
-pub now_refused : (refused : Option Reason) (speller : Speller) (rules : Rules) (blocks : List Block) (block : Block) (why : Reason) → is_some refused ≡ false
+pub now_refused : (refused : Option Why) (speller : Speller) (rules : Rules) (blocks : List Block) (block : Block) (why : Why) → is_some refused ≡ false
     → (HasSpelled rules speller blocks → Refuses (Unspellable why) rules blocks block) → Spells refused speller rules blocks
     → (others : List Block) → refusal_of rules ((blocks ++ block ∷ []) ++ others) ≡ Some why
 now_refused None speller rules blocks block why none told takes others = ap (refusal_of rules) (append_assoc blocks (block ∷ []) others) ∙ told takes others
 now_refused (Some other) speller rules blocks block why none told takes others = absurd (cc none)
 
-pub refused_for : (refused : Option Reason) (speller : Speller) (rules : Rules) (blocks : List Block) (why : Reason) → refused ≡ Some why → Spells refused speller rules blocks
+pub refused_for : (refused : Option Why) (speller : Speller) (rules : Rules) (blocks : List Block) (why : Why) → refused ≡ Some why → Spells refused speller rules blocks
     → refusal_of rules blocks ≡ Some why
 refused_for refused speller rules blocks why is takes = ap (refusal_of rules) (sym (append-nil blocks)) ∙ subst (λ r. Spells r speller rules blocks) is takes []
 

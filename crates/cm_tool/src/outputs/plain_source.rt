@@ -11,7 +11,7 @@ ghost use Rattle.cm_tool.specs.steps.LeafWalks.{all_left, ArePlacedLeft, HasRead
 use crate::fault::Fault;
 use crate::outputs::leaf_walk::LeafWalk;
 use cm_inline::InlineReader;
-use cm_source::{Reason, SourceFault, Speller, block_without_definitions};
+use cm_source::{SourceFault, Speller, Why, block_without_definitions};
 use cm_text::{Limits, NoMemory, Rules};
 use cm_tree::{Block, Definitions, RawTree};
 use std::alloc::Global;
@@ -20,7 +20,7 @@ use std::alloc::Global;
 #[derive(Drop)]
 struct PlainSource {
     speller: Speller,
-    refused: Option<Reason>,
+    refused: Option<Why>,
 }
 
 impl PlainSource {
@@ -71,14 +71,14 @@ impl PlainSource {
     }
 
     /// The source of the blocks so far.
-    fn finish(self) -> Result<String, Reason>
-        ensures { (rules : text_rules.Rules) (blocks : List trees.Block)
-            → HasTaken rules self blocks → Spelled rules blocks result }
+    fn finish(self) -> Result<Result<String, Why>, NoMemory>
+        ensures { IfOk result (λ source. (rules : text_rules.Rules) (blocks : List trees.Block)
+            → HasTaken rules self blocks → Spelled rules blocks source) }
     {
         let PlainSource { speller, refused } = self;
         match refused {
-            Some(why) => Err(why),
-            None => Ok(speller.finish()),
+            Some(why) => Ok(Err(why)),
+            None => Ok(Ok(speller.finish()?)),
         }
     }
 }
@@ -125,7 +125,7 @@ pub(crate) fn leaves_plain_source(
     limits: Limits,
     definitions: Definitions,
     blocks: RawTree,
-) -> Result<Result<String, Reason>, Fault>
+) -> Result<Result<String, Why>, Fault>
     ensures source { IfOk result (λ source. Spelled limits.rules
         (without_definitions (with_inlines limits.rules (defined_in definitions) blocks)) source) }
     ensures within { IfOk result (λ _.
@@ -137,5 +137,5 @@ pub(crate) fn leaves_plain_source(
     let walk = LeafWalk::new(alloc, limits, definitions, blocks);
     let mut walk = PlainSourceWalk { walk, source };
     walk.push_all()?;
-    Ok(walk.source.finish())
+    Ok(walk.source.finish()?)
 }

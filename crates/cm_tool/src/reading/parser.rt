@@ -125,8 +125,9 @@ impl Parser {
     ///
     /// As `finish`.
     pub fn finish_html(self) -> Result<Pages, Fault>
-        ensures { (limits : LimitsView) (bytes : List ℕ) → HasTakenIn limits self bytes
+        ensures finishes { (limits : LimitsView) (bytes : List ℕ) → HasTakenIn limits self bytes
             → Makes (λ pages. pages ≡ converted limits.rules bytes) result limits bytes }
+        ensures failed { (fault : faults.Fault) → self.fault ≡ Some fault → result ≡ Err fault }
     {
         let (alloc, limits) = (self.alloc, self.blocks.limits());
         html_of_outline(alloc, limits, self.outline()?)

@@ -19,7 +19,7 @@ use Rattle.cm_block.specs.Depths.{line_depths}
 use Rattle.cm_block.specs.Stack.{Stack, empty_stack, push_line}
 use Rattle.cm_block.proofs.lemmas.Depths.{too_deep_at_once}
 use Rattle.cm_source.specs.Refusals.{refusal_of}
-use Rattle.cm_source.specs.declared.reason.Reason.{Reason}
+use Rattle.cm_source.specs.declared.why.Why.{Why}
 use Rattle.cm_tool.specs.declared.fault.Fault.{Fault}
 use Rattle.cm_tool.specs.declared.fault.Fault.TheVariants.{NotUtf8, TooLong, BlocksTooDeep, InlinesTooDeep, NoMemory, ReadFailed, WriteFailed, Unspellable, BadExampleFile, ExampleDiffers}
 use Rattle.cm_tool.specs.ToldFaults.{told}
@@ -209,7 +209,7 @@ module _ (limits : LimitsView) (text : List ℕ) (small : limits.bytes ≤ 2 ^ 3
   told_has_place (BadExampleFile line) output gives = tt
   told_has_place (ExampleDiffers number) output gives = tt
 
-  not_unspellable : (found : Option Fault) (why : Option Reason) (line : ℕ) → option_or found (option_map Unspellable why) ≡ Some (BlocksTooDeep line) → found ≡ Some (BlocksTooDeep line)
+  not_unspellable : (found : Option Fault) (why : Option Why) (line : ℕ) → option_or found (option_map Unspellable why) ≡ Some (BlocksTooDeep line) → found ≡ Some (BlocksTooDeep line)
   not_unspellable (Some fault) why line e = e
   not_unspellable None None line e = cc
   not_unspellable None (Some why) line e = cc

@@ -53,7 +53,7 @@ returns-then-goes_on_lazily-clause-line c = λ raw.
     let e = c.enter_items-first.ensures in
     let leaves = c.if-first.true in
     let count = c.enter_items-first.result.count in
-    let line = seen_view c.enter_items-first.new.self.rest in
+    let line = seen_view c.enter_items-first.new.line.rest in
     all_lazily c.args.rules c.args.open_text raw c.args.frames.now count line (e.leaves leaves raw)
     (seen_view c.goes_on_lazily.new.self.rest) (e.more leaves) c.if-goes_on_lazily.ensures.line (c.goes_on_lazily.ensures.lazy c.if-goes_on_lazily.true)
     ∙ ap (λ b. behind count (matching c.args.rules b c.args.open_text (drop count (frames_in raw c.args.frames.now)) line)) (sym (e.all leaves))
@@ -70,7 +70,7 @@ returns-else-goes_on_lazily-clause-line c = λ raw.
     let e = c.enter_items-first.ensures in
     let leaves = c.if-first.true in
     let count = c.enter_items-first.result.count in
-    let line = seen_view c.enter_items-first.new.self.rest in
+    let line = seen_view c.enter_items-first.new.line.rest in
     ap (λ (v : View). (count, seen_view v)) (c.goes_on_lazily.ensures.same c.if-goes_on_lazily.false)
     ∙ none_lazily c.args.rules c.args.open_text raw c.args.frames.now count line (e.leaves leaves raw) c.if-goes_on_lazily.ensures.line
     ∙ ap (λ b. behind count (matching c.args.rules b c.args.open_text (drop count (frames_in raw c.args.frames.now)) line)) (sym (e.all leaves))

@@ -2,7 +2,7 @@ use Rattle.std.proofs.Common.{◌+◌, List, Option, Some, None, map, drop, refl
 use Rattle.std.proofs.lemmas.List.{take_rest}
 use Rattle.cm_tree.specs.declared.tree.Inline.{Inline}
 use Rattle.cm_scan.specs.Words.{◌<|>◌}
-use Rattle.cm_source.specs.declared.reason.Reason.{Reason}
+use Rattle.cm_source.specs.declared.why.Why.{Why}
 use Rattle.cm_source.specs.Answers.{ok_unless}
 use Rattle.cm_source.specs.InlineRefusals.{first_face, further_in, Judged, judged, refused, emphasis_reasons, refusal_of_all}
 use Rattle.cm_source.specs.steps.InlineFaces.{seen, place_of}
@@ -23,7 +23,7 @@ check_inlines-loop-at-preserved t c =
     let rest = drop (c.loop-at.at + 1) all in
     let after = ap (λ l. first_face (map (judged rules) l)) (take_rest all (c.loop-at.at + 1)) in
     let fine = no-reason _ (c.in_ok-check_inline.ensures ∙ ap (λ a. ok_unless ((judged rules next).refusal place before a)) after) in
-    let left : List Inline → Option Reason = λ l. refusal_of_all place before (map (judged rules) l) in
+    let left : List Inline → Option Why = λ l. refusal_of_all place before (map (judged rules) l) in
     c.loop-at.invariant ∙ from-next left all c.loop-at.at next c.loop-at-test.true c.index-inlines-at.is
     ∙ ap (λ r. r <|> refusal_of_all (further_in place) (Some (judged rules next).face) (map (judged rules) rest)) fine
     ∙ ap (λ p. refusal_of_all p (Some (judged rules next).face) (map (judged rules) rest)) (sym c.further-place.ensures)
@@ -32,7 +32,7 @@ check_inlines-loop-at-preserved t c =
 pub check_inlines-returns : goal.check_inlines-returns
 check_inlines-returns t c =
     let rules = c.args.rules in
-    let left : List Inline → Option Reason = λ l. refusal_of_all (place_of c.loop-at.place) (seen c.loop-at.before) (map (judged rules) l) in
+    let left : List Inline → Option Why = λ l. refusal_of_all (place_of c.loop-at.place) (seen c.loop-at.before) (map (judged rules) l) in
     sym (ap ok_unless (c.loop-at.invariant ∙ from-end left c.args.inlines.now c.loop-at.at c.loop-at-test.false))
 
 pub check_inlines-returns-in_err-check_inline : goal.check_inlines-returns-in_err-check_inline
@@ -45,7 +45,7 @@ check_inlines-returns-in_err-check_inline t c =
     let rest = drop (c.loop-at.at + 1) all in
     let after = ap (λ l. first_face (map (judged rules) l)) (take_rest all (c.loop-at.at + 1)) in
     let why = c.in_err-check_inline.ensures ∙ ap (λ a. ok_unless ((judged rules next).refusal place before a)) after in
-    let left : List Inline → Option Reason = λ l. refusal_of_all place before (map (judged rules) l) in
+    let left : List Inline → Option Why = λ l. refusal_of_all place before (map (judged rules) l) in
     told-error c.from_residual.result c.in_err-check_inline.field-0.0 c.from_residual.ensures.1
     ∙ stops _ (refusal_of_all (further_in place) (Some (judged rules next).face) (map (judged rules) rest)) _ why
     ∙ sym (ap ok_unless (c.loop-at.invariant ∙ from-next left all c.loop-at.at next c.loop-at-test.true c.index-inlines-at.is))

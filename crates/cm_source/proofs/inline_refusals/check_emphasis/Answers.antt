@@ -1,5 +1,5 @@
 use Rattle.std.proofs.Common.{[], ◌∷◌, map, ◌∙◌}
-use Rattle.cm_source.specs.declared.reason.Reason.TheVariants.{EmphasisNested, EmphasisTouching, EmphasisEdge}
+use Rattle.cm_source.specs.declared.why.Why.TheVariants.{EmphasisNested, EmphasisTouching, EmphasisEdge}
 use Rattle.cm_source.specs.InlineRefusals.{is_emphasis, hold_emphasis, has_wrong_edge, judged}
 use Rattle.cm_source.specs.steps.InlineFaces.{seen}
 use Rattle.cm_source.proofs.lemmas.refusals.RefusalLemmas.{told-error, this-reason, next-reason, last-reason}

@@ -1,6 +1,6 @@
 use Rattle.std.proofs.Common.{[], ◌∷◌, ◌||◌, not, map, ap, ◌∙◌}
 use Rattle.cm_text.specs.Addresses.{is_followed}
-use Rattle.cm_source.specs.declared.reason.Reason.TheVariants.{Nul, LinkInLink, AddressOff}
+use Rattle.cm_source.specs.declared.why.Why.TheVariants.{Nul, LinkInLink, AddressOff}
 use Rattle.cm_source.specs.InlineRefusals.{has_nul, hold_link, judged}
 use Rattle.cm_source.proofs.lemmas.refusals.RefusalLemmas.{told-error, this-reason, next-reason, last-reason}
 use Rattle.cm_source.proofs.inline_refusals.check_target.Goals as goal

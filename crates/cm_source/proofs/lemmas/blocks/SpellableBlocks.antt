@@ -14,8 +14,8 @@ use Rattle.cm_scan.specs.Words.{◌<|>◌}
 use Rattle.cm_tree.specs.Followed.{is_read_info}
 use Rattle.cm_scan.specs.blocks.Parts.{paragraph, heading, code, html, thematic_break, definition, leaf_block}
 use Rattle.cm_tree.specs.RawBlocks.{raw_inlines}
-use Rattle.cm_source.specs.declared.reason.Reason.{Reason}
-use Rattle.cm_source.specs.declared.reason.Reason.TheVariants.{Definition, Nul, Shape, HtmlBlock}
+use Rattle.cm_source.specs.declared.why.Why.{Why}
+use Rattle.cm_source.specs.declared.why.Why.TheVariants.{Definition, Nul, Shape, HtmlBlock}
 use Rattle.cm_source.specs.Inlines.{spelled_content}
 use Rattle.cm_source.specs.InlineRefusals.{refused, has_nul, paragraph_refusal, heading_refusal}
 use Rattle.cm_source.specs.Refusals as refusals
@@ -182,10 +182,10 @@ module _ (rules : Rules) where
 
   -- The kinds of blocks
 
-  abbrev leaf_judged : SpelledLeaf → Option Reason → JudgedBlock
+  abbrev leaf_judged : SpelledLeaf → Option Why → JudgedBlock
   leaf_judged x reason = refusals.leaf_block (leaf_face x.part) reason
 
-  leaf-spelled : (x : SpelledLeaf) (s : Block) (reason : Option Reason) → (reason ≡ None → LeafFits rules x × (leaf_block x.part ≡ s)) → Spelled (leaf_then x) (leaf_judged x reason) s x.lines
+  leaf-spelled : (x : SpelledLeaf) (s : Block) (reason : Option Why) → (reason ≡ None → LeafFits rules x × (leaf_block x.part ≡ s)) → Spelled (leaf_then x) (leaf_judged x reason) s x.lines
   unfolding FitAll tree block_lines
   leaf-spelled x s reason fits = record {
     faces = λ rest. refl;

@@ -14,19 +14,19 @@ use Rattle.cm_scan.specs.spans.RawHtml.{raw_html}
 use Rattle.cm_scan.specs.spans.Autolinks.{Autolink, followed_autolink}
 use Rattle.cm_scan.specs.spans.Angles.{Angled, Addressed, Tagged, before, tagged, at_angle}
 use Rattle.cm_scan.specs.Scanned.{whole_of}
-use Rattle.cm_source.specs.declared.reason.Reason.{Reason}
+use Rattle.cm_source.specs.declared.why.Why.{Why}
 use Rattle.cm_source.specs.Answers.{ok_unless}
 use Rattle.cm_source.specs.InlineRefusals.{refused, Face, is_none, first_of, last_of, is_whitespace, is_plain, Judged, first_face, last_face, has_wrong_edge, is_one_tag, judged}
 
-pub stops : (first second : Option Reason) (why : Reason) → Err why ≡ ok_unless first → Err why ≡ ok_unless (first <|> second)
+pub stops : (first second : Option Why) (why : Why) → Err why ≡ ok_unless first → Err why ≡ ok_unless (first <|> second)
 stops None second why e = absurd (cc e)
 stops (Some other) second why e = e
 
-pub goes-on : (first second : Option Reason) → Ok tt ≡ ok_unless first → ok_unless second ≡ ok_unless (first <|> second)
+pub goes-on : (first second : Option Why) → Ok tt ≡ ok_unless first → ok_unless second ≡ ok_unless (first <|> second)
 goes-on None second e = refl
 goes-on (Some why) second e = absurd (cc e)
 
-pub no-reason : (reason : Option Reason) → Ok tt ≡ ok_unless reason → reason ≡ None
+pub no-reason : (reason : Option Why) → Ok tt ≡ ok_unless reason → reason ≡ None
 no-reason None e = refl
 no-reason (Some why) e = absurd (cc e)
 
@@ -52,13 +52,13 @@ last-is rules (y ∷ z ∷ zs) x e =
     last-is rules (z ∷ zs) x (e ∙ ap (slice_get (y ∷ z ∷ zs)) more ∙ ap (slice_get (z ∷ zs)) less)
 
 -- the error of a `?`
-pub told-error : (r : Result (Unit {0}) Reason) (why : Reason) → IsErrAnd r (λ e. e ≡ why) → r ≡ Err why
+pub told-error : (r : Result (Unit {0}) Why) (why : Why) → IsErrAnd r (λ e. e ≡ why) → r ≡ Err why
 told-error (Ok x) why is = absurd is
 told-error (Err e) why is = ap Err is
 
 -- reasons in a list, each as it is told
 
-pub this-reason : (told holds : Bool) (why : Reason) (others : List (Bool × Reason)) (error : Reason) → Err error ≡ ok_unless (refused ((told, why) ∷ [])) → told ≡ holds
+pub this-reason : (told holds : Bool) (why : Why) (others : List (Bool × Why)) (error : Why) → Err error ≡ ok_unless (refused ((told, why) ∷ [])) → told ≡ holds
     → Err error ≡ ok_unless (refused ((holds, why) ∷ others))
 this-reason told holds why others error e same = go holds (e ∙ ap (λ v. ok_unless (refused ((v, why) ∷ []))) same)
   where
@@ -66,7 +66,7 @@ this-reason told holds why others error e same = go holds (e ∙ ap (λ v. ok_un
     go true k = k
     go false k = absurd (cc k)
 
-pub next-reason : (told holds : Bool) (why : Reason) (others : List (Bool × Reason)) (answer : Result (Unit {0}) Reason) → Ok tt ≡ ok_unless (refused ((told, why) ∷ [])) → told ≡ holds
+pub next-reason : (told holds : Bool) (why : Why) (others : List (Bool × Why)) (answer : Result (Unit {0}) Why) → Ok tt ≡ ok_unless (refused ((told, why) ∷ [])) → told ≡ holds
     → answer ≡ ok_unless (refused others) → answer ≡ ok_unless (refused ((holds, why) ∷ others))
 next-reason told holds why others answer e same later = go holds (e ∙ ap (λ v. ok_unless (refused ((v, why) ∷ []))) same)
   where
@@ -74,7 +74,7 @@ next-reason told holds why others answer e same later = go holds (e ∙ ap (λ v
     go true k = absurd (cc k)
     go false k = later
 
-pub last-reason : (told holds : Bool) (why : Reason) (answer : Result (Unit {0}) Reason) → answer ≡ ok_unless (refused ((told, why) ∷ [])) → told ≡ holds → answer ≡ ok_unless (refused ((holds, why) ∷ []))
+pub last-reason : (told holds : Bool) (why : Why) (answer : Result (Unit {0}) Why) → answer ≡ ok_unless (refused ((told, why) ∷ [])) → told ≡ holds → answer ≡ ok_unless (refused ((holds, why) ∷ []))
 last-reason told holds why answer e same = e ∙ ap (λ v. ok_unless (refused ((v, why) ∷ []))) same
 
 pub empty-is : {X : Type 0} (xs : List X) → (length xs == 0) ≡ not (list_any (λ x. true) xs)

@@ -7,23 +7,23 @@ use Rattle.cm_text.specs.Addresses.{is_followed}
 use Rattle.cm_tree.specs.declared.tree.Inline.{Inline}
 use Rattle.cm_tree.specs.declared.tree.Inline.TheVariants.{Text, Code, Html, Soft, Hard, Emph, Strong, Strike, Link, Image}
 use Rattle.cm_scan.specs.Words.{is_empty, ◌<|>◌}
-use Rattle.cm_source.specs.declared.reason.Reason.{Reason}
-use Rattle.cm_source.specs.declared.reason.Reason.TheVariants as why
+use Rattle.cm_source.specs.declared.why.Why.{Why}
+use Rattle.cm_source.specs.declared.why.Why.TheVariants as why
 use Rattle.cm_source.specs.InlineRefusals.{refused, has_nul, has_line_ending, Face, is_text, is_code, is_break, is_emphasis, is_none, Place, Judged, further_in, inside_link, refusal_of_all, hold_emphasis, hold_link, has_wrong_edge, emphasis_reasons, emphasis, ends_a_label, code_reasons, html_reasons, break_reasons, link_reasons, image_reasons, is_one_tag, judged}
 use Rattle.cm_source.proofs.lemmas.shared.InlineKinds.{text-judged, code-judged, html-judged, soft-judged, hard-judged, emph-judged, strong-judged, strike-judged, link-judged, image-judged}
 
 -- no reason holds
 
-abbrev pub NoneHold : List (Bool × Reason) → Type 0
+abbrev pub NoneHold : List (Bool × Why) → Type 0
 NoneHold [] = ⊤
 NoneHold (reason ∷ reasons) = (reason.0 ≡ false) × NoneHold reasons
 
-pub none-holds : (reasons : List (Bool × Reason)) → refused reasons ≡ None → NoneHold reasons
+pub none-holds : (reasons : List (Bool × Why)) → refused reasons ≡ None → NoneHold reasons
 none-holds [] e = tt
 none-holds ((true, why) ∷ reasons) e = absurd (cc e)
 none-holds ((false, why) ∷ reasons) e = (refl, none-holds reasons e)
 
-pub or-none : (first second : Option Reason) → (first <|> second) ≡ None → (first ≡ None) × (second ≡ None)
+pub or-none : (first second : Option Why) → (first <|> second) ≡ None → (first ≡ None) × (second ≡ None)
 or-none None second e = (refl, e)
 or-none (Some u) second e = absurd (cc e)
 

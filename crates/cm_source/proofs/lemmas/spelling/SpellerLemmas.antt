@@ -7,7 +7,7 @@ use Rattle.std.proofs.lemmas.List.Concat.{flat_map-append}
 use Rattle.cm_text.specs.Rules.{Rules}
 use Rattle.cm_tree.specs.declared.tree.Block.{Block}
 use Rattle.cm_scan.specs.Words.{◌<|>◌}
-use Rattle.cm_source.specs.declared.reason.Reason.{Reason}
+use Rattle.cm_source.specs.declared.why.Why.{Why}
 use Rattle.cm_source.specs.declared.fault.SourceFault.TheVariants.{Unspellable}
 use Rattle.cm_source.specs.declared.refusals.Face.{Face as SeenFace}
 use Rattle.cm_source.specs.declared.speller.Speller as code
@@ -22,7 +22,7 @@ use Rattle.cm_source.proofs.lemmas.refusals.RefusalLemmas.{no-reason}
 
 -- why blocks are refused that stand behind others
 
-or-more : (first second third : Option Reason) → first <|> (second <|> third) ≡ (first <|> second) <|> third
+or-more : (first second third : Option Why) → first <|> (second <|> third) ≡ (first <|> second) <|> third
 or-more None second third = refl
 or-more (Some why) second third = refl
 
@@ -49,10 +49,10 @@ module _ (rules : Rules) (blocks : List Block) (block : Block) where
   pub one-more : IsSpellable rules blocks → (judged_block rules block).refusal last_seen ≡ None → IsSpellable rules (blocks ++ block ∷ [])
   one-more e fine = behind-is [] e ∙ ap (λ r. r <|> None) fine
 
-  pub refuses : (why : Reason) → IsSpellable rules blocks → Err why ≡ ok_unless ((judged_block rules block).refusal last_seen) → Refuses (Unspellable why) rules blocks block
+  pub refuses : (why : Why) → IsSpellable rules blocks → Err why ≡ ok_unless ((judged_block rules block).refusal last_seen) → Refuses (Unspellable why) rules blocks block
   refuses why e told others = behind-is others e ∙ go ((judged_block rules block).refusal last_seen) told
     where
-      go : (reason : Option Reason) → Err why ≡ ok_unless reason → reason <|> refusal_of_all (Some (judged_block rules block).face) (map (judged_block rules) others) ≡ Some why
+      go : (reason : Option Why) → Err why ≡ ok_unless reason → reason <|> refusal_of_all (Some (judged_block rules block).face) (map (judged_block rules) others) ≡ Some why
       go None told = absurd (cc told)
       go (Some other) told = let same : other ≡ why = cc told in ap Some same
 
@@ -87,13 +87,13 @@ fits-behind rules old blocks block stands fine =
     one-more rules blocks block stands.spellable
     (ap (judged_block rules block).refusal (sym stands.last) ∙ ap (λ r. (judged_block r block).refusal (seen old.before)) (sym stands.same_rules) ∙ no-reason ((judged_block old.rules block).refusal (seen old.before)) fine)
 
-pub refused-behind : (rules : Rules) (old : code.Speller) (blocks : List Block) (block : Block) (why : Reason) → HasSpelled rules old blocks → Err why ≡ ok_unless ((judged_block old.rules block).refusal (seen old.before)) → Refuses (Unspellable why) rules blocks block
+pub refused-behind : (rules : Rules) (old : code.Speller) (blocks : List Block) (block : Block) (why : Why) → HasSpelled rules old blocks → Err why ≡ ok_unless ((judged_block old.rules block).refusal (seen old.before)) → Refuses (Unspellable why) rules blocks block
 refused-behind rules old blocks block why stands told =
     refuses rules blocks block why stands.spellable (told ∙ ap (λ r. ok_unless ((judged_block r block).refusal (seen old.before))) stands.same_rules ∙ ap (λ f. ok_unless ((judged_block rules block).refusal f)) stands.last)
 
 pub goes-on-behind : (rules : Rules) (old new : code.Speller) (blocks : List Block) (block : Block) → HasSpelled rules old blocks → new.rules ≡ old.rules → Ok tt ≡ ok_unless ((judged_block old.rules block).refusal (seen old.before))
-    → Writes old.source new.source (gap (is_some old.before) ++ lines_of_block block) → seen new.before ≡ Some (judged_block rules block).face → HasSpelled rules new (blocks ++ block ∷ [])
-goes-on-behind rules old new blocks block stands same fine writes last =
+    → Writes old.source new.source (gap (is_some old.before) ++ lines_of_block block) → seen new.before ≡ Some (judged_block rules block).face → new.failed ≡ false → HasSpelled rules new (blocks ++ block ∷ [])
+goes-on-behind rules old new blocks block stands same fine writes last sound =
     let lines = gap (is_some old.before) ++ lines_of_block block in
     let ended : List ℕ → List ℕ = λ line. line ++ 10 ∷ [] in
     let some = seen-some old.before ∙ ap is_some stands.last in
@@ -104,4 +104,5 @@ goes-on-behind rules old new blocks block stands same fine writes last =
       spellable = fits-behind rules old blocks block stands fine;
       spelled = subst (λ t. IsBetween new.source false t [] []) (sym spelled) (written-behind lines old.source new.source (spelling_of blocks) stands.spelled writes);
       last = last ∙ sym (ap (face_behind None) (map-append (judged_block rules) blocks (block ∷ [])) ∙ face-behind None (map (judged_block rules) blocks) (judged_block rules block));
+      fine = sound;
     }

@@ -1,6 +1,6 @@
 use Rattle.std.proofs.Common.{true, not, ◌||◌, [], ◌∷◌, ap, ◌∙◌}
 use Rattle.std.specs.List.{list_any}
-use Rattle.cm_source.specs.declared.reason.Reason.TheVariants.{Shape, AdjacentLists, ItemBeginsWithList, Looseness}
+use Rattle.cm_source.specs.declared.why.Why.TheVariants.{Shape, AdjacentLists, ItemBeginsWithList, Looseness}
 use Rattle.cm_source.specs.Refusals.{begins_too_high, is_behind_same, is_list, is_as_said}
 use Rattle.cm_source.specs.steps.BlockFaces.{seen}
 use Rattle.cm_source.proofs.lemmas.refusals.RefusalLemmas.{told-error, this-reason, next-reason, last-reason}

@@ -1,5 +1,5 @@
 use Rattle.std.proofs.Common.{◌∙◌}
-use Rattle.cm_source.specs.declared.reason.Reason.TheVariants.{Shape}
+use Rattle.cm_source.specs.declared.why.Why.TheVariants.{Shape}
 use Rattle.cm_source.proofs.lemmas.refusals.RefusalLemmas.{goes-on, last-reason, empty-is}
 use Rattle.cm_source.proofs.refusals.check_paragraph.Goals as goal
 
