@@ -1,5 +1,5 @@
 -- What reading the inlines of a leaf answers.
-use Rattle.std.specs.Prelude.{◌≡◌, ℕ, ◌*◌, ◌≤◌, true, false, if◌then◌else◌, List, Result, Ok, Err, ⊤}
+use Rattle.std.specs.Prelude.{◌≡◌, ℕ, ◌*◌, ◌^◌, ◌≤◌, true, false, if◌then◌else◌, List, length, Result, Ok, Err, ⊤}
 use Rattle.cm_text.specs.Rules.{Rules}
 use Rattle.cm_tree.specs.Definitions.{Targets}
 use Rattle.cm_tree.specs.declared.tree.Inline.{Inline}
@@ -8,7 +8,7 @@ use Rattle.cm_scan.specs.inlines.Inlines.{inlines_of, nests_past}
 use Rattle.cm_scan.specs.inlines.DelimiterRuns.{runs_of, characters_of}
 use Rattle.cm_inline.specs.Emphases.{emphases}
 use Rattle.cm_inline.specs.declared.fault.InlineFault.{InlineFault}
-use Rattle.cm_inline.specs.declared.fault.InlineFault.TheVariants.{InlinesTooDeep, NoMemory}
+use Rattle.cm_inline.specs.declared.fault.InlineFault.TheVariants.{InlinesTooDeep, NoMemory, SourceTooLong}
 use Rattle.cm_inline.specs.declared.reading.Steps.{Steps}
 
 -- How many openers are looked at for a character of a delimiter run, at most: one in vain for each of the twelve kinds of closers,
@@ -28,6 +28,7 @@ pub record Read (rules : Rules) (defined : Defined) (limit : ℕ) (source : List
 abbrev pub Refused : InlineFault → Rules → Targets → (limit : ℕ) → List ℕ → Type 0
 Refused InlinesTooDeep rules targets limit source = nests_past rules (defined_in targets) limit source ≡ true
 Refused NoMemory rules targets limit source = ⊤
+Refused SourceTooLong rules targets limit source = 2 ^ 32 ≤ length source
 
 -- the inlines of a source, or why they aren't read
 abbrev pub Reads : Result (List Inline × Steps) InlineFault → Rules → Targets → (limit : ℕ) → List ℕ → Type 0

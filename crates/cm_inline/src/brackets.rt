@@ -1,12 +1,12 @@
 //! Links and images by their brackets (CommonMark 0.31.2, 6.3 Links, 6.4 Images).
-ghost use Rattle.std.specs.Prelude.{◌≡◌, ◌+◌, ◌<◌, ◌≤◌, ◌^◌, ◌++◌, [], ◌∷◌, ◌||◌};
+ghost use Rattle.std.specs.Prelude.{◌≡◌, ◌≢◌, ◌+◌, ◌<◌, ◌≤◌, ◌^◌, ◌++◌, [], ◌∷◌, ◌||◌};
 ghost use Rattle.std.specs.Prelude.{List, drop, length, reverse, not, nat_lt, IfOk, OnOk, IfSome, Err};
 ghost use Rattle.cm_inline.specs.steps.Prelude.{IsCharBoundary, defined_in, bracket_text, InlinesTooDeep};
 ghost use Rattle.cm_inline.specs.steps.Prelude.{led_to, Inline, made_of, target_of, node_of, nodes_in};
 ghost use Rattle.cm_inline.specs.steps.Prelude.{IsNoGroup, items_in, IsOpener, items_depth, Keeps, AreFew};
 ghost use Rattle.cm_inline.specs.steps.Prelude.{Stands, ends_of, found_target, IsReadTo, IsReadWith};
 ghost use Rattle.cm_inline.specs.steps.Prelude.{bracket_in, link_of, link_made, left_as_text, closed_at};
-ghost use Rattle.cm_inline.specs.steps.Prelude.{end_for, right_bracket};
+ghost use Rattle.cm_inline.specs.steps.Prelude.{end_for, right_bracket, SourceTooLong};
 
 use crate::fault::InlineFault;
 use crate::groups::{Kind, Making};
@@ -117,6 +117,7 @@ impl Reader {
             }) }
         ensures deep { result ≡ Err InlinesTooDeep → limit < items_depth
             (closed_at rules (defined_in definitions.now) source.now (nodes_in self.old.nodes) at).items }
+        ensures short { result ≢ Err SourceTooLong }
     {
         let Some(bracket) = self.brackets.pop() else {
             self.nodes.push(Token::Piece {
@@ -197,6 +198,7 @@ impl Reader {
         ensures deep { result ≡ Err InlinesTooDeep
             → limit < items_depth (link_made source.now (nodes_in self.old.nodes) bracket
             (found_target end.now.target).0 (found_target end.now.target).1) }
+        ensures short { result ≢ Err SourceTooLong }
     {
         let holds_link = self.holds_link(bracket);
         // How many nodes there are bounds the place of one.

@@ -14,6 +14,9 @@ pub enum InlineFault {
     /// A request for memory was refused.
     #[error("out of memory")]
     NoMemory,
+    /// The source has 2^32 bytes or more. No text within the limits has such a leaf.
+    #[error("source too long")]
+    SourceTooLong,
 }
 
 impl From<AllocError> for InlineFault {

@@ -1,13 +1,13 @@
 //! Emphasis by pairs of delimiter runs, made in one pass over the nodes (CommonMark 0.31.2, 6.2 Emphasis and
 //! strong emphasis).
-ghost use Rattle.std.specs.Prelude.{◌≡◌, ◌+◌, ◌<◌, ◌≤◌, ◌^◌};
+ghost use Rattle.std.specs.Prelude.{◌≡◌, ◌≢◌, ◌+◌, ◌<◌, ◌≤◌, ◌^◌};
 ghost use Rattle.std.specs.Prelude.{ℕ, List, true, suc, reverse, drop, length, IfOk, OnOk, IfSome, Err};
 ghost use Rattle.cm_inline.specs.steps.Prelude.{Delimiters, without, used, emphasised, up_to_pair, passed};
 ghost use Rattle.cm_inline.specs.steps.Prelude.{Inline, InlinesTooDeep, items_depth, is_listed, spent, Ready};
 ghost use Rattle.cm_inline.specs.steps.Prelude.{Spends, IsRestOf, run_of, rest_of, entry_of, byte_of};
 ghost use Rattle.cm_inline.specs.steps.Prelude.{made_of, target_of, nodes_in, waiting_in, items_from};
 ghost use Rattle.cm_inline.specs.steps.Prelude.{nodes_depth, AreParts, Adds, Stays, opened_at, AreFew};
-ghost use Rattle.cm_inline.specs.steps.Prelude.{MakesPairs, PairsNestPast};
+ghost use Rattle.cm_inline.specs.steps.Prelude.{MakesPairs, PairsNestPast, SourceTooLong};
 
 use crate::delimiter_list::Delimiter;
 use crate::delimiter_runs::{DelimiterRun, Marker, used, without};
@@ -55,6 +55,7 @@ fn make_pair(
     ensures waiting { OnOk result (waiting_in nodes.new ≡ waiting_in nodes.old) }
     ensures deep { result ≡ Err InlinesTooDeep
         → limit ≤ nodes_depth (drop (suc opener.item) (drop from (nodes_in nodes.old))) }
+    ensures short { result ≢ Err SourceTooLong }
     ensures rest { IfOk result (λ rest.
         rest_of rest ≡ without (used (run_of opener.run) (run_of closer)) (run_of closer)) }
     ensures fewer { IfOk result (λ rest. IfSome rest (λ left. IsRestOf left closer)) }
@@ -94,6 +95,7 @@ fn add_run(
     ensures waiting { OnOk result (waiting_in nodes.new ≡ waiting_in nodes.old) }
     ensures deep { result ≡ Err InlinesTooDeep → (source : List ℕ) → AreParts source (nodes_in nodes.old) →
         limit < items_depth (passed (reverse (items_from source from nodes.old)) (Delimiters (run_of run))) }
+    ensures short { result ≢ Err SourceTooLong }
 {
     let place = begin(openers, run, nodes.len() - from)?;
     let mut closer = run;
@@ -127,6 +129,7 @@ pub(crate) fn pair_from(
     ensures made { OnOk result
         (MakesPairs from nodes.old openers.old.list.looks nodes.new openers.new.list.looks) }
     ensures deep { result ≡ Err InlinesTooDeep → PairsNestPast limit from nodes.old }
+    ensures short { result ≢ Err SourceTooLong }
 {
     if !nodes.has_closer_from(from) {
         return Ok(());
@@ -147,6 +150,7 @@ fn make_pairs(
     ensures made { OnOk result
         (MakesPairs from nodes.old openers.old.list.looks nodes.new openers.new.list.looks) }
     ensures deep { result ≡ Err InlinesTooDeep → PairsNestPast limit from nodes.old }
+    ensures short { result ≢ Err SourceTooLong }
 {
     openers.clear();
     nodes.set_aside(from)?;

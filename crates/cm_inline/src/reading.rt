@@ -1,11 +1,11 @@
 //! The inlines of a leaf, or their HTML, read from its source.
-ghost use Rattle.std.specs.Prelude.{◌≡◌, ◌<◌, ◌^◌, ◌&&◌, [], ◌∷◌, ◌++◌, not};
+ghost use Rattle.std.specs.Prelude.{◌≡◌, ◌≢◌, ◌<◌, ◌≤◌, ◌^◌, ◌&&◌, [], ◌∷◌, ◌++◌, not};
 ghost use Rattle.std.specs.Prelude.{ℕ, true, false, length, string_bytes, IfOk, OnOk, IfErr, IsTrue, Err};
 ghost use Rattle.cm_inline.specs.steps.Prelude.{list_any, Rules, profile, is_marked, is_empty, Text, Defined};
 ghost use Rattle.cm_inline.specs.steps.Prelude.{defined_in, emphasis_of, settled, in_pieces, inlines_depth};
 ghost use Rattle.cm_inline.specs.steps.Prelude.{InlinesTooDeep, inlines_html, Read, Reads, Refused, IsReadTo};
 ghost use Rattle.cm_inline.specs.steps.Prelude.{nodes_in, ArePlaced, items_in, items_of, text_between};
-ghost use Rattle.cm_inline.specs.steps.Prelude.{AreParts, IsAllText, IsTextTo, Pays, ahead};
+ghost use Rattle.cm_inline.specs.steps.Prelude.{AreParts, IsAllText, IsTextTo, Pays, ahead, SourceTooLong};
 ghost use Rattle.cm_scan.specs.inlines.Inlines as inlines;
 
 use crate::atoms::{read_atom, text_end};
@@ -70,6 +70,7 @@ fn read_on(
         ≡ ahead rules (defined_in definitions.now) source.now (nodes_in reader.old.nodes) text.0) }
     ensures deep { result ≡ Err InlinesTooDeep → limit < inlines_depth (emphasis_of
         (ahead rules (defined_in definitions.now) source.now (nodes_in reader.old.nodes) text.0)) }
+    ensures short { result ≢ Err SourceTooLong }
 {
     let (at, end) = text;
     push_text(&mut reader.nodes, at, end)?;
@@ -82,8 +83,8 @@ fn read_on(
     Ok(read_atom(alloc, rules, source, end, reader)?)
 }
 
-/// Reads a source to its end, in one pass, from the text at its front on, which ends at a place. A source to
-/// whose end no place of 32 bits leads is refused.
+/// Reads a source to its end, in one pass, from the text at its front on, which ends at a place. Places have
+/// 32 bits.
 fn read_all(
     alloc: Global,
     rules: Rules,
@@ -101,9 +102,10 @@ fn read_all(
         ≡ in_pieces (inlines.items_of rules (defined_in definitions.now) source.now)) }
     ensures deep { result ≡ Err InlinesTooDeep
         → inlines.nests_past rules (defined_in definitions.now) limit source.now ≡ true }
+    ensures long { result ≡ Err SourceTooLong → 2 ^ 32 ≤ length source.now }
 {
     if source.len() > u32::MAX as usize {
-        return Err(InlineFault::NoMemory);
+        return Err(InlineFault::SourceTooLong);
     }
     reader.restart(source);
     let mut text = (0, first);
@@ -208,8 +210,8 @@ impl InlineReader {
     /// # Errors
     ///
     /// `InlinesTooDeep` where the inlines nest deeper than the limit, `NoMemory` where a request for memory
-    /// was refused, or where the source has 2^32 bytes or more, to which no text within the limits comes. The
-    /// next leaf is read all the same.
+    /// was refused, `SourceTooLong` where the source has 2^32 bytes or more. The next leaf is read all the
+    /// same.
     pub fn inlines(
         &mut self,
         rules: Rules,

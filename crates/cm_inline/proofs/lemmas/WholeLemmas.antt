@@ -1,5 +1,5 @@
 -- How a source is read from one place to the next.
-use Rattle.std.proofs.Common.{◌≡◌, ℕ, zero, ◌+◌, ◌-◌, ◌<◌, ◌≤◌, Bool, true, false, List, [], ◌∷◌, ◌++◌, length, take, drop, get_or, reverse, Some, refl, sym, ap, subst, ◌∙◌, arith}
+use Rattle.std.proofs.Common.{◌≡◌, ℕ, zero, ◌+◌, ◌-◌, ◌^◌, ◌<◌, ◌≤◌, Bool, true, false, List, [], ◌∷◌, ◌++◌, length, take, drop, get_or, reverse, Some, refl, sym, ap, subst, ◌∙◌, arith}
 use Rattle.std.specs.Prelude.{nat_lt, if◌then◌else◌, Result, Ok, Err, IfOk}
 use Rattle.std.specs.List.{slice_range}
 use Rattle.std.proofs.lemmas.Bool.Decides.{nat_tests}
@@ -20,7 +20,7 @@ use Rattle.cm_scan.proofs.lemmas.inlines.PairingInPieces.{texts_in_pieces}
 use Rattle.cm_scan.proofs.lemmas.inlines.ReadingInPieces.{reading_in_pieces}
 use Rattle.cm_inline.specs.Reading.{Refused}
 use Rattle.cm_inline.specs.declared.fault.InlineFault.{InlineFault}
-use Rattle.cm_inline.specs.declared.fault.InlineFault.TheVariants.{InlinesTooDeep, NoMemory}
+use Rattle.cm_inline.specs.declared.fault.InlineFault.TheVariants.{InlinesTooDeep, NoMemory, SourceTooLong}
 use Rattle.cm_inline.specs.steps.Nodes.{Node, Piece, item_of, items_of, text_between}
 use Rattle.cm_inline.specs.steps.Brackets.{closed_at}
 use Rattle.cm_inline.specs.steps.Depths.{items_depth}
@@ -199,9 +199,10 @@ nests-ahead rules defined limit source items same deep =
 
 -- a fault of the reading
 pub refused : (told : InlineFault) (rules : Rules) (targets : Targets) (limit : ℕ) (source : List ℕ) → (told ≡ InlinesTooDeep → nests_past rules (defined_in targets) limit source ≡ true)
-    → Refused told rules targets limit source
-refused InlinesTooDeep rules targets limit source deep = deep refl
-refused NoMemory rules targets limit source deep = tt
+    → (told ≡ SourceTooLong → 2 ^ 32 ≤ length source) → Refused told rules targets limit source
+refused InlinesTooDeep rules targets limit source deep long = deep refl
+refused NoMemory rules targets limit source deep long = tt
+refused SourceTooLong rules targets limit source deep long = long refl
 
 pub within-limit : (rules : Rules) (defined : Defined) (limit : ℕ) (source : List ℕ) (items : List pairing.Item) → in_pieces items ≡ in_pieces (inlines.items_of rules defined source) → inlines_depth (emphasis_of items) ≤ limit
     → nests_past rules defined limit source ≡ false

@@ -18,7 +18,7 @@ pub use Rattle.cm_scan.specs.spans.RawHtml.{raw_html}
 pub use Rattle.cm_scan.specs.Scanned.{reading_of, whole_of}
 pub use Rattle.cm_scan.specs.Words.{is_empty}
 pub use Rattle.cm_inline.specs.Reading.{Read, Reads, Refused}
-pub use Rattle.cm_inline.specs.declared.fault.InlineFault.TheVariants.{InlinesTooDeep}
+pub use Rattle.cm_inline.specs.declared.fault.InlineFault.TheVariants.{InlinesTooDeep, SourceTooLong}
 pub use Rattle.cm_inline.specs.steps.Brackets.{IsReadTo, IsReadWith, bracket_in, link_of, link_made, left_as_text, closed_at, end_for, Puts}
 pub use Rattle.cm_text.specs.Bytes.{line_feed, space, exclamation_mark, ampersand, less_than, backslash, right_bracket, backtick, tilde}
 pub use Rattle.cm_inline.specs.steps.Depths.{items_depth}

@@ -1,5 +1,7 @@
 -- How deep the inlines of one leaf nest.
-use Rattle.std.proofs.Common.{◌≡◌, ◌≤◌, ◌<◌, ℕ, List, true, false, sym, subst}
+use Rattle.std.proofs.Common.{◌≡◌, ◌≢◌, ◌-◌, ◌^◌, ◌≤◌, ◌<◌, ℕ, List, true, false, length, drop, sym, ap, subst, arith}
+use Rattle.std.specs.Prelude.{slice_range}
+use Rattle.std.proofs.lemmas.List.{length-take}
 use Rattle.std.proofs.lemmas.Bool.{ltb-false, ltb-true}
 use Rattle.cm_text.specs.Rules.{Rules}
 use Rattle.cm_tree.specs.Depth.{inlines_depth}
@@ -27,4 +29,12 @@ leaf_past rules defined limit source past = ltb-true limit (inlines_depth (inlin
 pub leaf_refused : (rules : Rules) (targets : Targets) (limit : ℕ) (source : List ℕ) (fault : InlineFault) → Refused fault rules targets limit source
     → fault ≡ inline.InlinesTooDeep → limit < inlines_depth (inlines_of rules (defined_in targets) source)
 leaf_refused rules targets limit source inline.InlinesTooDeep past is = leaf_past rules (defined_in targets) limit source past
+leaf_refused rules targets limit source inline.SourceTooLong long is = absurd (cc is)
 leaf_refused rules targets limit source inline.NoMemory past is = cc
+
+-- a source between two places of 32 bits isn't too long
+pub never_long : (rules : Rules) (targets : Targets) (limit : ℕ) (text : List ℕ) (from to : ℕ) (source : List ℕ) (fault : InlineFault) → source ≡ slice_range text from to → to < 2 ^ 32
+    → Refused fault rules targets limit source → fault ≢ inline.SourceTooLong
+never_long rules targets limit text from to source inline.InlinesTooDeep are few refused = λ e. absurd (cc e)
+never_long rules targets limit text from to source inline.NoMemory are few refused = λ e. absurd (cc e)
+never_long rules targets limit text from to source inline.SourceTooLong are few long = λ e. omega (arith, long, few, ap length are, length-take (to - from) (drop from text))

@@ -1,5 +1,5 @@
 //! A walk over the blocks of an outline, whose leaves are read on the way.
-ghost use Rattle.std.specs.Prelude.{◌≡◌, ◌≤◌, ◌<◌, ◌+◌, ◌++◌, ℕ, [], ◌∷◌, length};
+ghost use Rattle.std.specs.Prelude.{◌≡◌, ◌≢◌, ◌≤◌, ◌<◌, ◌+◌, ◌++◌, ℕ, [], ◌∷◌, length};
 ghost use Rattle.std.specs.Prelude.{true, false, IfOk, IfErr, IfSome, OnOk, None};
 ghost use Rattle.cm_tree.specs.Depth.{inlines_depth};
 ghost use Rattle.cm_tree.specs.RawBlocks.{IsBetween, IsPlaced};
@@ -85,6 +85,7 @@ impl Unread {
         ensures within { OnOk result (inlines_depth (content_at self.now from to) ≤ self.now.limits.inlines) }
         ensures deep { IfErr result (λ fault. fault ≡ inline_faults.InlinesTooDeep
             → self.now.limits.inlines < inlines_depth (content_at self.now from to)) }
+        ensures short { IfErr result (λ fault. fault ≢ inline_faults.SourceTooLong) }
     {
         let source = self.raw.text(from, to);
         if source.is_empty() {
@@ -116,6 +117,7 @@ impl Unread {
         ensures within { OnOk result (inlines_depth (content_at self.now from to) ≤ self.now.limits.inlines) }
         ensures deep { IfErr result (λ fault. fault ≡ inline_faults.InlinesTooDeep
             → self.now.limits.inlines < inlines_depth (content_at self.now from to)) }
+        ensures short { IfErr result (λ fault. fault ≢ inline_faults.SourceTooLong) }
     {
         let source = self.raw.text(from, to);
         let limits = self.limits;
@@ -141,14 +143,16 @@ fn count_leaf(next: &mut usize) -> Result<usize, Fault>
     Ok(leaf)
 }
 
-/// What is told of a leaf that can't be read.
+/// What is told of a leaf that can't be read. Its source lies between places of 32 bits, so it isn't too long.
 fn leaf_fault(fault: InlineFault, leaf: usize) -> Fault
+    requires { fault ≢ inline_faults.SourceTooLong }
     ensures { (limit depth : ℕ) → (fault ≡ inline_faults.InlinesTooDeep → limit < depth)
         → TellsLeaf result limit leaf (depth ∷ []) }
 {
     match fault {
         InlineFault::InlinesTooDeep => Fault::InlinesTooDeep { leaf },
         InlineFault::NoMemory => Fault::NoMemory,
+        InlineFault::SourceTooLong => unreachable!(),
     }
 }
 

@@ -30,7 +30,8 @@ returns-in_err-pair_from-clause-refused c =
     let p = err_from_is_err_and c.from_residual-in_err-pair_from.result c.from_residual-in_err-pair_from.ensures.1 in
     rw (p.1, p.2) (refused c.in_err-pair_from.field-0.0 c.args.rules c.args.definitions.now c.args.limit source (λ told.
     let deep : c.args.limit < items_depth (pair_all items) = c.in_err-pair_from.ensures.deep (ap Err told) source c.in_ok-read_all.ensures.read.0.parts in
-    nests c.args.rules defined c.args.limit source items c.in_ok-read_all.ensures.items (omega (arith, deep, settled-items (pair_all items)))))
+    nests c.args.rules defined c.args.limit source items c.in_ok-read_all.ensures.items (omega (arith, deep, settled-items (pair_all items))))
+    (λ told. absurd (c.in_err-pair_from.ensures.short (ap Err told))))
 
 pub returns-then-nest_past-clause-refused : goal.returns-then-nest_past-clause-refused
 returns-then-nest_past-clause-refused c =

@@ -2,7 +2,7 @@ use Rattle.std.proofs.lemmas.Result.{err_from_is_err_and}
 use Rattle.cm_scan.specs.inlines.Brackets.{defined_in}
 use Rattle.cm_scan.specs.Documents.{content_read}
 use Rattle.cm_tree.specs.RawBlocks.{raw_inlines}
-use Rattle.cm_tool.proofs.lemmas.LeafLemmas.{leaf_within, leaf_refused}
+use Rattle.cm_tool.proofs.lemmas.LeafLemmas.{leaf_within, leaf_refused, never_long}
 use Rattle.cm_tool.proofs.lemmas.RawWalkLemmas.{source_read}
 use Rattle.cm_tool.proofs.outputs.leaf_walk.Unread.content.Goals as goal
 
@@ -23,3 +23,10 @@ returns-clause-within c =
     let read = rw (c.rules.ensures, c.inlines.ensures.value) at c.in_ok-inlines.ensures in
     rw (← c.text-source.ensures)
     (leaf_within limits.rules defined limits.inlines source (content_read limits.rules defined (raw_inlines source)) (source_read limits.rules defined source) read.within)
+
+pub returns-in_err-inlines-clause-short : goal.returns-in_err-inlines-clause-short
+returns-in_err-inlines-clause-short c =
+    let p = err_from_is_err_and c.from_residual-in_err-inlines.result c.from_residual-in_err-inlines.ensures.1 in
+    let limits = c.args.self.now.limits in
+    rw (p.1, p.2) (never_long limits.rules c.args.self.now.definitions limits.inlines c.args.self.now.raw.text c.args.from c.args.to c.text-source.result.now c.in_err-inlines.field-0.0
+    c.text-source.ensures c.ranges.to.fits (rw (c.rules.ensures, c.inlines.ensures.value) at c.in_err-inlines.ensures))

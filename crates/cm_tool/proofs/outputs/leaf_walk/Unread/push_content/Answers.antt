@@ -1,4 +1,4 @@
-use Rattle.std.proofs.Common.{◌≡◌, ◌<◌}
+use Rattle.std.proofs.Common.{◌≡◌, ◌≢◌, ◌<◌}
 use Rattle.std.proofs.lemmas.Result.{on_ok_weaker, IfErr-weaker}
 use Rattle.cm_tree.specs.Depth.{inlines_depth}
 use Rattle.cm_scan.specs.inlines.Brackets.{defined_in}
@@ -6,7 +6,7 @@ use Rattle.cm_scan.specs.Documents.{content_read}
 use Rattle.cm_tree.specs.RawBlocks.{raw_inlines}
 use Rattle.cm_inline.specs.declared.fault.InlineFault.TheVariants as inline_faults
 use Rattle.cm_inline.specs.Reading.{Refused}
-use Rattle.cm_tool.proofs.lemmas.LeafLemmas.{leaf_within, leaf_refused}
+use Rattle.cm_tool.proofs.lemmas.LeafLemmas.{leaf_within, leaf_refused, never_long}
 use Rattle.cm_tool.proofs.lemmas.RawWalkLemmas.{source_read}
 use Rattle.cm_tool.proofs.outputs.leaf_walk.Unread.push_content.Goals as goal
 
@@ -36,3 +36,12 @@ returns-clause-deep c =
     (IfErr-weaker c.push_html.result (λ fault. Refused fault limits.rules targets limits.inlines source) (λ fault. fault ≡ inline_faults.InlinesTooDeep → limits.inlines < inlines_depth content)
     (λ fault refused. rw (source_read limits.rules (defined_in targets) source) (leaf_refused limits.rules targets limits.inlines source fault refused))
     (rw (c.rules.ensures, c.inlines.ensures.value) at c.push_html.ensures.refused))
+
+pub returns-clause-short : goal.returns-clause-short
+returns-clause-short c =
+    let limits = c.args.self.now.limits in
+    let targets = c.args.self.now.definitions in
+    let source = c.text-source.result.now in
+    IfErr-weaker c.push_html.result (λ fault. Refused fault limits.rules targets limits.inlines source) (λ fault. fault ≢ inline_faults.SourceTooLong)
+    (λ fault refused. never_long limits.rules targets limits.inlines c.args.self.now.raw.text c.args.from c.args.to source fault c.text-source.ensures c.ranges.to.fits refused)
+    (rw (c.rules.ensures, c.inlines.ensures.value) at c.push_html.ensures.refused)
