@@ -143,7 +143,8 @@ fn count_leaf(next: &mut usize) -> Result<usize, Fault>
     Ok(leaf)
 }
 
-/// What is told of a leaf that can't be read. Its source lies between places of 32 bits, so it isn't too long.
+/// The fault of a leaf that can't be read. Its source lies between two 32-bit places, so it is never too
+/// long.
 fn leaf_fault(fault: InlineFault, leaf: usize) -> Fault
     requires { fault ≢ inline_faults.SourceTooLong }
     ensures { (limit depth : ℕ) → (fault ≡ inline_faults.InlinesTooDeep → limit < depth)
