@@ -338,20 +338,26 @@ class Build:
         found = min(self.plan[name].jobs, max(free - others, min(free, 1)), room - 1)
         return max(found, 0 if self.running else 1)
 
-    def start_ready(self, processes, work):
-        """Starts the crates that wait for no other while there is room, those at the start of the longest chains first."""
+    def ready(self):
+        """Returns the crates that wait for no other, in the order in which they start: those at the start of the longest chains first. Crates
+        that hold up less than those which aren't ready yet are a list of their own: they start on processors that would be idle."""
         chains = self.chains({name: 0 if self.is_kept(name) else crate.seconds for name, crate in self.plan.items()})
         ready = [it for it in self.waiting if all(self.is_kept(below) for below in self.plan[it].below)]
-        ready.sort(key=chains.get)
-        while ready:
-            name = ready.pop()
-            jobs = self.jobs(name, len(ready))
-            if not jobs:
-                return
-            libraries = {it: self.store.place(it, self.sums[it]) for it in self.plan if self.stands_on(name, it)}
-            steps = self.kit.steps(self.plan[name], libraries, jobs, work / name)
-            self.waiting.remove(name)
-            self.running[name] = Making(self.plan[name], jobs, steps, processes, work / name)
+        ready.sort(key=chains.get, reverse=True)
+        longest = max((chains[it] for it in self.waiting if it not in ready), default=0)
+        return [it for it in ready if chains[it] >= longest], [it for it in ready if chains[it] < longest]
+
+    def start_ready(self, processes, work):
+        """Starts the crates that wait for no other while there is room."""
+        for ready in self.ready():
+            for at, name in enumerate(ready, 1):
+                jobs = self.jobs(name, len(ready) - at)
+                if not jobs:
+                    return
+                libraries = {it: self.store.place(it, self.sums[it]) for it in self.plan if self.stands_on(name, it)}
+                steps = self.kit.steps(self.plan[name], libraries, jobs, work / name)
+                self.waiting.remove(name)
+                self.running[name] = Making(self.plan[name], jobs, steps, processes, work / name)
 
     def keep_ended(self):
         """Stores the finished crates, provided that their sources haven't changed."""
