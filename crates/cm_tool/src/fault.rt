@@ -41,7 +41,7 @@ pub enum Fault {
     ExampleDiffers { number: usize },
 }
 
-/// What a fault's text is made of: words, perhaps a number, and words behind it.
+/// What a fault's text is made of: words, perhaps a number, and more words.
 #[derive(Clone, Copy, Debug)]
 struct Parts {
     front: &'static str,
@@ -80,7 +80,7 @@ impl Fault {
         }
     }
 
-    /// Puts its text behind what stands in a line.
+    /// Appends its text to a line.
     fn push_text(&self, line: &mut ArrayString<LINE>)
         requires { length line.old.bytes ≤ 5 }
         ensures text { line.new.bytes ≡ line.old.bytes ++ fault_text self.now }

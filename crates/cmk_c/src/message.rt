@@ -33,11 +33,11 @@ pub(crate) fn message_of(number: u32, place: usize) -> Option<Message>
     }
 }
 
-/// The most bytes of a message's line with a NUL behind it.
+/// The most bytes of a message's line, including the NUL that ends it.
 const ROOM: usize = 127;
 
 impl Message {
-    /// Its line, with a NUL behind it. It takes no memory.
+    /// Its line, followed by a NUL. It takes no memory.
     fn ended_line(&self) -> ArrayString<ROOM>
         ensures { result.bytes ≡ ended (message_line self.now) }
     {
