@@ -129,8 +129,8 @@ fn begin_with_item(frames: &[Frame]) -> bool {
 }
 
 /// Takes a line into the items that these containers start with, as far as it stays there by itself. There is
-/// more of each item than its marker. Each item is one reading, and so is the next one if the line doesn't stay
-/// there (5.2 List items).
+/// more of each item than its marker. Each item is one reading, and so is the next one if the line doesn't
+/// stay there (5.2 List items).
 #[inline(always)]
 fn go_into_items(frames: &[Frame], line: &mut LineInItems<'_>) -> EnteredItems
     requires plain { line.old.inner.lazy ≡ false }
