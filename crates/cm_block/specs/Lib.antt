@@ -11,6 +11,7 @@ pub mod WorkedExamples
 pub mod OwnedCode
 pub mod OwnerRuns
 pub mod LeafViews
+pub mod Faults
 pub mod Parser
 pub mod Prelude
 pub mod steps

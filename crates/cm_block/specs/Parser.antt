@@ -8,7 +8,7 @@ use Rattle.cm_scan.specs.laws.PartLaws.{AreLines}
 use Rattle.cm_block.specs.declared.parser.BlockParser as code
 use Rattle.cm_block.specs.declared.parser.Outline.{Outline}
 use Rattle.cm_block.specs.declared.fault.BlockFault.{BlockFault}
-use Rattle.cm_block.specs.declared.fault.BlockFault.TheVariants.{BlocksTooDeep, NoMemory}
+use Rattle.cm_block.specs.declared.fault.BlockFault.TheVariants.{BlocksTooDeep, NoMemory, TooLarge}
 use Rattle.cm_block.specs.OpenLeaf.{is_open_text}
 use Rattle.cm_block.specs.Stack.{Stack, empty_stack, push_lines}
 use Rattle.cm_block.specs.Frames.{stack_with}
@@ -32,10 +32,11 @@ pub record HasTaken (parser : code.BlockParser) (lines : List LineView) : Type 0
   pub few : length parser.stack.frames ≤ parser.limits.blocks
   pub tests : AllTested (count_of (stack_of parser)) ((parser.limits.blocks + 5) * length lines) 0 parser.tests
 
--- why the lines are refused; memory may be refused
+-- why the lines are refused; memory may be refused, or a place may need more than 32 bits
 abbrev pub TellsDepth : BlockFault → LimitsView → List LineView → Type 0
 TellsDepth (BlocksTooDeep line) limits lines = first_too_deep limits.rules limits.blocks lines ≡ Some line
 TellsDepth NoMemory limits lines = ⊤
+TellsDepth TooLarge limits lines = ⊤
 
 -- the outline of the lines by these rules
 pub record OutlineOf (outline : Outline) (rules : Rules) (lines : List LineView) : Type 0 where

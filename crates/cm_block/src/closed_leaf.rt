@@ -16,8 +16,9 @@ use crate::owners::Owners;
 use crate::stack::Stack;
 use crate::text_runs::line_feeds;
 use cm_scan::{LinkDefinition, definition, trim_end};
-use cm_text::{NoMemory, unescape_or_lend};
-use std::alloc::{AllocError, Global};
+use cm_text::unescape_or_lend;
+use cm_tree::RawFault;
+use std::alloc::Global;
 
 /// A leaf block of one line, which further lines never go on with.
 #[derive(Debug, Drop)]
@@ -29,11 +30,11 @@ pub(crate) enum WholeLeaf {
 }
 
 /// How many lines a leaf has with so many line feeds in its text, and so many more.
-fn count_lines(feeds: usize, more: usize) -> Result<usize, AllocError>
+fn count_lines(feeds: usize, more: usize) -> Result<usize, RawFault>
     ensures { IfOk result (λ lines. lines ≡ feeds + more) }
 {
     // Memory holds fewer lines than a `usize` counts.
-    feeds.checked_add(more).ok_or(AllocError)
+    feeds.checked_add(more).ok_or(RawFault::TooLarge)
 }
 
 /// Puts a definition. Its destination and title are resolved, and its label is its source (4.7).
@@ -43,7 +44,7 @@ fn put_definition(
     lines: usize,
     stack: &mut Stack,
     owners: &mut Owners,
-) -> Result<(), NoMemory>
+) -> Result<(), RawFault>
     ensures level { OnOk result (stack.new.level
         ≡ block_closes stack.old.level
         (leaf_block (definition found.entry.label.now found.entry.dest.now found.entry.title.now))) }
@@ -86,7 +87,7 @@ fn put_definitions<'a>(
     feeds: usize,
     stack: &mut Stack,
     owners: &mut Owners,
-) -> Result<(&'a str, usize), NoMemory>
+) -> Result<(&'a str, usize), RawFault>
     requires { feeds ≡ line_feeds text.now }
     ensures left { IfOk result (λ left. left.0.now ≡ (definitions_of text.now).left) }
     ensures feeds { IfOk result (λ left. left.1 ≡ line_feeds left.0.now) }
@@ -116,7 +117,7 @@ fn put_content(
     heading: Option<u8>,
     stack: &mut Stack,
     owners: &mut Owners,
-) -> Result<(), AllocError>
+) -> Result<(), RawFault>
     requires { feeds ≡ line_feeds source.now }
     ensures level { OnOk result (stack.new.level
         ≡ close_leaves stack.old.level (content_leaf heading source.now)) }
@@ -150,7 +151,7 @@ fn put_run(
     heading: Option<u8>,
     stack: &mut Stack,
     owners: &mut Owners,
-) -> Result<(), NoMemory>
+) -> Result<(), RawFault>
     ensures level { OnOk result (stack.new.level
         ≡ close_leaves stack.old.level (run_leaves heading source.now)) }
     ensures frames { stack.new.frames ≡ stack.old.frames }
@@ -164,8 +165,7 @@ fn put_run(
         stack,
         owners,
     )?;
-    put_content(left, feeds, heading, stack, owners)?;
-    Ok(())
+    put_content(left, feeds, heading, stack, owners)
 }
 
 /// Puts a code block, whose info is resolved.
@@ -175,7 +175,7 @@ fn put_code(
     lines: usize,
     stack: &mut Stack,
     owners: &mut Owners,
-) -> Result<(), AllocError>
+) -> Result<(), RawFault>
     ensures level { OnOk result (stack.new.level
         ≡ block_closes stack.old.level (leaf_block (code info.now text.now))) }
     ensures frames { stack.new.frames ≡ stack.old.frames }
@@ -187,18 +187,14 @@ fn put_code(
 }
 
 /// How many lines a fenced code block has with these lines, and with a closing fence or not.
-fn fence_lines(ended: bool, text: &LeafText) -> Result<usize, AllocError>
+fn fence_lines(ended: bool, text: &LeafText) -> Result<usize, RawFault>
     ensures { IfOk result (λ lines. lines ≡ fence_lines ended text.now) }
 {
     count_lines(text.feeds(), if ended { 2 } else { 1 })
 }
 
 /// Puts indented code, whose lines line feeds part (4.4 Indented code blocks).
-fn put_indented(
-    text: &mut LeafText,
-    stack: &mut Stack,
-    owners: &mut Owners,
-) -> Result<(), AllocError>
+fn put_indented(text: &mut LeafText, stack: &mut Stack, owners: &mut Owners) -> Result<(), RawFault>
     ensures level { OnOk result (stack.new.level
         ≡ block_closes stack.old.level (leaf_block (code [] (ended text.old)))) }
     ensures frames { stack.new.frames ≡ stack.old.frames }
@@ -211,7 +207,7 @@ fn put_indented(
 }
 
 /// Puts HTML, whose lines line feeds part (4.6 HTML blocks).
-fn put_html(text: &mut LeafText, stack: &mut Stack, owners: &mut Owners) -> Result<(), AllocError>
+fn put_html(text: &mut LeafText, stack: &mut Stack, owners: &mut Owners) -> Result<(), RawFault>
     ensures level { OnOk result (stack.new.level
         ≡ block_closes stack.old.level (leaf_block (html (ended text.old)))) }
     ensures frames { stack.new.frames ≡ stack.old.frames }
@@ -240,7 +236,7 @@ impl OpenLeaf {
         ended: bool,
         stack: &mut Stack,
         owners: &mut Owners,
-    ) -> Result<(), NoMemory>
+    ) -> Result<(), RawFault>
         ensures level { OnOk result (stack.new.level
             ≡ close_leaves stack.old.level (leaves_with heading ended self.old.kind self.old.text)) }
         ensures frames { stack.new.frames ≡ stack.old.frames }
@@ -251,19 +247,19 @@ impl OpenLeaf {
         match &self.kind {
             LeafKind::Nothing => Ok(()),
             LeafKind::Run => put_run(alloc, &self.text, heading, stack, owners),
-            LeafKind::Code { .. } => Ok(put_indented(&mut self.text, stack, owners)?),
+            LeafKind::Code { .. } => put_indented(&mut self.text, stack, owners),
             LeafKind::Fence { info, .. } => {
                 let lines = fence_lines(ended, &self.text)?;
-                Ok(put_code(info, self.text.as_str(), lines, stack, owners)?)
+                put_code(info, self.text.as_str(), lines, stack, owners)
             }
-            LeafKind::Html { .. } => Ok(put_html(&mut self.text, stack, owners)?),
+            LeafKind::Html { .. } => put_html(&mut self.text, stack, owners),
         }
     }
 }
 
 impl WholeLeaf {
     /// Puts the leaf at the end of the innermost level, and its line at the end of the owners.
-    pub(crate) fn put(self, stack: &mut Stack, owners: &mut Owners) -> Result<(), AllocError>
+    pub(crate) fn put(self, stack: &mut Stack, owners: &mut Owners) -> Result<(), RawFault>
         ensures level { OnOk result (stack.new.level ≡ close_leaves stack.old.level (whole_leaves self)) }
         ensures frames { stack.new.frames ≡ stack.old.frames }
         ensures bare { stack.new.bare ≡ stack.old.bare }

@@ -7,7 +7,8 @@ ghost use Rattle.cm_block.specs.steps.FrameStarts.{Inside};
 use crate::counted_line::{Begins, CountedLine, LeafStart};
 use crate::stack::Stack;
 use cm_text::Rules;
-use std::alloc::{AllocError, Global};
+use cm_tree::RawFault;
+use std::alloc::Global;
 
 /// What stands in the innermost of the quotes and items that a line begins.
 #[derive(Clone, Copy, Debug)]
@@ -29,7 +30,7 @@ impl Stack {
         rules: Rules,
         limit: usize,
         line: &mut CountedLine<'a>,
-    ) -> Result<Innermost<'a>, AllocError>
+    ) -> Result<Innermost<'a>, RawFault>
         requires { self.old.bare ≡ false }
         ensures inside { IfOk result (λ innermost. Inside rules limit self.old
             (seen_view line.old.rest) self.new (seen_view line.new.rest) innermost) }

@@ -2,6 +2,7 @@
 ghost use Rattle.std.specs.Prelude.{◌≡◌};
 
 use cm_text::NoMemory;
+use cm_tree::RawFault;
 use std::alloc::AllocError;
 use thiserror::Error;
 
@@ -14,6 +15,10 @@ pub enum BlockFault {
     /// A request for memory was refused.
     #[error("out of memory")]
     NoMemory,
+    /// The texts of one part of the document would have 2^32 bytes or more, or it would have as many blocks
+    /// or items. No document of less than 2^32 bytes has.
+    #[error("document too large")]
+    TooLarge,
 }
 
 impl From<AllocError> for BlockFault {
@@ -35,5 +40,19 @@ impl From<NoMemory> for BlockFault {
 
     fn from(_: NoMemory) -> BlockFault {
         BlockFault::NoMemory
+    }
+}
+
+impl From<RawFault> for BlockFault {
+    ghost use Rattle.std.specs.Prelude.{◌≡◌};
+    ghost use Rattle.cm_block.specs.Faults.{block_fault};
+
+    ghost from_gives = { λ fault e. e ≡ block_fault fault };
+
+    fn from(fault: RawFault) -> BlockFault {
+        match fault {
+            RawFault::NoMemory => BlockFault::NoMemory,
+            RawFault::TooLarge => BlockFault::TooLarge,
+        }
     }
 }

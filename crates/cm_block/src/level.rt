@@ -8,8 +8,8 @@ ghost use Rattle.cm_block.specs.steps.LevelViews.{level_in, IsLevelPlaced};
 ghost use Rattle.cm_block.specs.steps.LevelSteps.{item_with, without_list, has_list_of, goes_on};
 
 use cm_scan::is_same_kind;
-use cm_tree::{ListKind, RawBlock, RawBlocks, RawItem};
-use std::alloc::{AllocError, Global};
+use cm_tree::{ListKind, RawBlock, RawBlocks, RawFault, RawItem};
+use std::alloc::Global;
 
 /// A list with its closed items and its mark of looseness. A further item of it may be open.
 #[derive(Debug, Drop)]
@@ -56,7 +56,7 @@ impl Level {
 
     /// Puts the list at the end of the blocks, if there is one. Mostly there is none.
     #[inline(always)]
-    fn close_list(&mut self, raw: &mut RawBlocks) -> Result<(), AllocError>
+    fn close_list(&mut self, raw: &mut RawBlocks) -> Result<(), RawFault>
         requires { IsLevelPlaced raw.old self.old }
         ensures level { OnOk result (level_in raw.new self.new ≡ without_list (level_in raw.old self.old)) }
         ensures placed { IsLevelPlaced raw.new self.new }
@@ -70,7 +70,7 @@ impl Level {
 
     /// Puts the list at the end of the blocks, if there is one.
     #[inline(never)]
-    fn put_list(&mut self, raw: &mut RawBlocks) -> Result<(), AllocError>
+    fn put_list(&mut self, raw: &mut RawBlocks) -> Result<(), RawFault>
         requires { IsLevelPlaced raw.old self.old }
         ensures level { OnOk result (level_in raw.new self.new ≡ without_list (level_in raw.old self.old)) }
         ensures placed { IsLevelPlaced raw.new self.new }
@@ -84,7 +84,7 @@ impl Level {
     }
 
     /// Opens a block that is no item.
-    pub(crate) fn open_block(&mut self, raw: &mut RawBlocks) -> Result<(), AllocError>
+    pub(crate) fn open_block(&mut self, raw: &mut RawBlocks) -> Result<(), RawFault>
         requires { IsLevelPlaced raw.old self.old }
         ensures level { OnOk result (level_in raw.new self.new ≡ block_opens (level_in raw.old self.old)) }
         ensures placed { IsLevelPlaced raw.new self.new }
@@ -97,7 +97,7 @@ impl Level {
     }
 
     /// Puts a block that was opened at the end.
-    pub(crate) fn close_block(&mut self, block: RawBlock) -> Result<(), AllocError>
+    pub(crate) fn close_block(&mut self, block: RawBlock) -> Result<(), RawFault>
         ensures level { OnOk result ((raw : Raw) → level_in raw self.new
             ≡ block_closes (level_in raw self.old) (block_in raw block)) }
         ensures placed { (raw : Raw) → IsLevelPlaced raw self.old → IsPlaced raw block →
@@ -137,7 +137,7 @@ impl Level {
         alloc: Global,
         raw: &mut RawBlocks,
         kind: ListKind,
-    ) -> Result<(), AllocError>
+    ) -> Result<(), RawFault>
         requires { IsLevelPlaced raw.old self.old }
         ensures level { OnOk result (level_in raw.new self.new
             ≡ list_opens (level_in raw.old self.old) kind) }
@@ -160,7 +160,7 @@ impl Level {
         alloc: Global,
         raw: &mut RawBlocks,
         kind: ListKind,
-    ) -> Result<(), AllocError>
+    ) -> Result<(), RawFault>
         requires { IsLevelPlaced raw.old self.old }
         ensures level { OnOk result (level_in raw.new self.new
             ≡ item_opens (level_in raw.old self.old) kind) }
@@ -181,7 +181,7 @@ impl Level {
         item: RawItem,
         ends_blank: bool,
         separated: bool,
-    ) -> Result<(), AllocError>
+    ) -> Result<(), RawFault>
         ensures level { OnOk result ((raw : Raw) → level_in raw self.new
             ≡ item_closes (level_in raw self.old) (item_with (item_in raw item) ends_blank separated)) }
         ensures placed { (raw : Raw) → IsLevelPlaced raw self.old → IsItem raw item →
@@ -197,7 +197,7 @@ impl Level {
     }
 
     /// The blocks.
-    pub(crate) fn into_blocks(mut self, raw: &mut RawBlocks) -> Result<Vec<RawBlock>, AllocError>
+    pub(crate) fn into_blocks(mut self, raw: &mut RawBlocks) -> Result<Vec<RawBlock>, RawFault>
         requires { IsLevelPlaced raw.old self }
         ensures blocks { IfOk result (λ blocks. blocks_in raw.new blocks.items
             ≡ closed_blocks (level_in raw.old self)) }

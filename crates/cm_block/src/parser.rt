@@ -13,6 +13,7 @@ ghost use Rattle.cm_block.specs.steps.LeafSteps.{leaves_with};
 ghost use Rattle.cm_block.specs.steps.StartViews.{seen};
 ghost use Rattle.cm_block.specs.steps.FirstLines.{begins_container};
 ghost use Rattle.cm_block.specs.steps.FrameStarts.{begun_by, with_blank, LeafBegins, DeepIn};
+ghost use Rattle.cm_block.specs.Faults.{IsTooMuch};
 ghost use Rattle.cm_block.specs.Parser.{stack_of, is_in_text, HasTaken, TellsDepth, OutlineOf, TestsOf};
 ghost use Rattle.cm_block.specs.Tests.{count_of};
 ghost use Rattle.cm_block.specs.steps.LineTests.{Tested};
@@ -27,7 +28,7 @@ use crate::owner_runs::LineOwners;
 use crate::owners::Owners;
 use crate::stack::Stack;
 use cm_text::{Limits, Line, NoMemory, TextLines, View};
-use cm_tree::{Definitions, RawTree};
+use cm_tree::{Definitions, RawFault, RawTree};
 use std::alloc::Global;
 
 /// The block structure of a document: its tree, in which the source of a paragraph or heading stands as one
@@ -88,7 +89,7 @@ impl BlockParser {
     /// Puts the open leaf, closed by an underline of this level or by none, and by a closing fence or by
     /// none.
     #[inline(always)]
-    fn put_leaf(&mut self, heading: Option<u8>, ended: bool) -> Result<(), NoMemory>
+    fn put_leaf(&mut self, heading: Option<u8>, ended: bool) -> Result<(), RawFault>
         ensures level { OnOk result (self.new.stack.level ≡ close_leaves self.old.stack.level
             (leaves_with heading ended self.old.leaf.kind self.old.leaf.text)) }
         ensures owners { OnOk result (self.new.owners ≡ own_leaves self.old.owners
@@ -113,7 +114,7 @@ impl BlockParser {
 
     /// Closes the open leaf.
     #[inline(always)]
-    fn close_leaf(&mut self) -> Result<(), NoMemory>
+    fn close_leaf(&mut self) -> Result<(), RawFault>
         ensures level { OnOk result (self.new.stack.level
             ≡ close_open self.old.stack.level (in_leaf (leaf_of self.old.leaf))) }
         ensures owners { OnOk result (self.new.owners
@@ -160,7 +161,7 @@ impl BlockParser {
         &mut self,
         start: &LeafStart<'_>,
         line: &mut CountedLine<'_>,
-    ) -> Result<(), NoMemory>
+    ) -> Result<(), RawFault>
         requires plain { self.old.stack.bare ≡ false }
         requires leaf { leaf_of self.old.leaf ≡ no_leaf }
         requires start { begins_container (seen start.now.found) ≡ false }
@@ -176,7 +177,7 @@ impl BlockParser {
         match line.begin_leaf(self.alloc, rules, &mut self.leaf, start)? {
             Some(FirstLine::Opens) => Ok(()),
             Some(FirstLine::Ends) => self.put_leaf(None, false),
-            Some(FirstLine::Whole(leaf)) => Ok(leaf.put(&mut self.stack, &mut self.owners)?),
+            Some(FirstLine::Whole(leaf)) => leaf.put(&mut self.stack, &mut self.owners),
             None => Ok(()),
         }
     }
@@ -213,7 +214,7 @@ impl BlockParser {
     }
 
     /// A line that stays in so many of the open containers, if it is one of the open leaf: whether it is.
-    fn take_to_leaf(&mut self, depth: usize, line: &mut CountedLine<'_>) -> Result<bool, NoMemory>
+    fn take_to_leaf(&mut self, depth: usize, line: &mut CountedLine<'_>) -> Result<bool, RawFault>
         requires plain { self.old.stack.bare ≡ false }
         ensures taken { IfOk result (λ taken.
             TakenToLeaf taken depth self.old (seen_view line.old.rest) self.new) }
@@ -270,7 +271,8 @@ impl BlockParser {
     /// # Errors
     ///
     /// `BlocksTooDeep` in the call that brings the first line with more quotes and items round it than the
-    /// limit, `NoMemory` where a request for memory was refused; the same fault from then on.
+    /// limit, `NoMemory` where a request for memory was refused, `TooLarge` where a place would need more
+    /// than 32 bits; the same fault from then on.
     pub fn line(&mut self, line: &Line) -> Result<(), BlockFault>
         ensures stands { OnOk result ((lines : List LineView) → HasTaken self.old lines
             → HasTaken self.new (lines ++ seen_line line.now ∷ [])) }
@@ -288,7 +290,8 @@ impl BlockParser {
     /// # Errors
     ///
     /// `BlocksTooDeep` in the call that brings the first line with more quotes and items round it than the
-    /// limit, `NoMemory` where a request for memory was refused; the same fault from then on.
+    /// limit, `NoMemory` where a request for memory was refused, `TooLarge` where a place would need more
+    /// than 32 bits; the same fault from then on.
     pub fn line_view(&mut self, line: &View<'_>) -> Result<(), BlockFault>
         ensures stands { OnOk result ((lines : List LineView) → HasTaken self.old lines
             → HasTaken self.new (lines ++ seen_view line.now ∷ [])) }
@@ -353,14 +356,15 @@ impl BlockParser {
     ///
     /// # Errors
     ///
-    /// The fault that was met, or `NoMemory` where a request for memory was refused.
+    /// The fault that was met; `NoMemory` where a request for memory was refused, `TooLarge` where a place
+    /// would need more than 32 bits.
     pub fn finish(mut self) -> Result<Outline, BlockFault>
         ensures outline { IfOk result (λ outline. (lines : List LineView) → HasTaken self lines
             → OutlineOf outline self.limits.rules lines) }
         ensures tests { IfOk result (λ outline. (lines : List LineView) → HasTaken self lines →
             TestsOf outline self.limits.blocks lines) }
         ensures failed { (fault : faults.BlockFault) → self.fault ≡ Some fault → result ≡ Err fault }
-        ensures memory { self.fault ≡ None → IfErr result (λ fault. fault ≡ block_faults.NoMemory) }
+        ensures memory { self.fault ≡ None → IfErr result IsTooMuch }
     {
         if let Some(met) = self.fault {
             return Err(met);

@@ -20,7 +20,7 @@ use crate::counted_line::{CountedLine, LineInItems};
 use crate::leaf_block::LeafBlock;
 use crate::level::Level;
 use cm_text::Rules;
-use cm_tree::{Items, ListKind, RawBlock, RawBlocks, RawPart, RawTree};
+use cm_tree::{Items, ListKind, RawBlock, RawBlocks, RawFault, RawPart, RawTree};
 use std::alloc::{AllocError, Global};
 use std::marker::Model;
 use std::mem;
@@ -331,7 +331,7 @@ impl Stack {
     }
 
     /// Opens a container in the innermost level, as which this one stands from now on, and goes into it.
-    fn open(&mut self, alloc: Global, container: Container) -> Result<(), AllocError>
+    fn open(&mut self, alloc: Global, container: Container) -> Result<(), RawFault>
         ensures frames { OnOk result (self.new.frames
             ≡ self.old.frames ++ record { level = self.old.level; container = container_of container } ∷ []) }
         ensures level { OnOk result (self.new.level ≡ empty_level) }
@@ -339,11 +339,12 @@ impl Stack {
     {
         let inside = Level::new(self.room.take(alloc));
         let level = mem::replace(&mut self.level, inside);
-        self.frames.push(Frame { level, container })
+        self.frames.push(Frame { level, container })?;
+        Ok(())
     }
 
     /// Opens a quote.
-    pub(crate) fn open_quote(&mut self, alloc: Global) -> Result<(), AllocError>
+    pub(crate) fn open_quote(&mut self, alloc: Global) -> Result<(), RawFault>
         ensures frames { OnOk result (self.new.frames
             ≡ self.old.frames ++ record { level = block_opens self.old.level; container = a_quote } ∷ []) }
         ensures level { OnOk result (self.new.level ≡ empty_level) }
@@ -355,7 +356,7 @@ impl Stack {
     }
 
     /// Closes the list with which an item of this kind doesn't go on, and finishes a part there.
-    fn begin_list(&mut self, kind: ListKind) -> Result<(), AllocError>
+    fn begin_list(&mut self, kind: ListKind) -> Result<(), RawFault>
         ensures level { OnOk result (item_opens self.new.level kind ≡ item_opens self.old.level kind) }
         ensures frames { self.new.frames ≡ self.old.frames }
         ensures bare { self.new.bare ≡ self.old.bare }
@@ -372,7 +373,7 @@ impl Stack {
         alloc: Global,
         kind: ListKind,
         column: usize,
-    ) -> Result<(), AllocError>
+    ) -> Result<(), RawFault>
         ensures frames { OnOk result (self.new.frames
             ≡ self.old.frames
             ++ record { level = item_opens self.old.level kind; container = an_item kind column } ∷ []) }
@@ -385,7 +386,7 @@ impl Stack {
     }
 
     /// Closes the innermost container, if there is one.
-    fn close_last(&mut self) -> Result<(), AllocError>
+    fn close_last(&mut self) -> Result<(), RawFault>
         ensures closes { OnOk result ((outer : List open_frame) (last : open_frame) →
             self.old.frames ≡ outer ++ last ∷ [] →
             (self.new.frames ≡ outer)
@@ -414,7 +415,7 @@ impl Stack {
     }
 
     /// Closes the containers from the inside out until so many are open.
-    pub(crate) fn close_to(&mut self, depth: usize) -> Result<(), AllocError>
+    pub(crate) fn close_to(&mut self, depth: usize) -> Result<(), RawFault>
         requires { depth ≤ length self.old.frames }
         ensures frames { OnOk result (self.new.frames ≡ take depth self.old.frames) }
         ensures level { OnOk result (self.new.level
@@ -460,13 +461,14 @@ impl Stack {
     }
 
     /// Opens a leaf block in the innermost level.
-    pub(crate) fn open_block(&mut self) -> Result<(), AllocError>
+    pub(crate) fn open_block(&mut self) -> Result<(), RawFault>
         ensures level { OnOk result (self.new.level ≡ block_opens self.old.level) }
         ensures frames { self.new.frames ≡ self.old.frames }
         ensures bare { self.new.bare ≡ self.old.bare }
     {
         self.level.open_block(&mut self.raw)?;
-        self.finish_part()
+        self.finish_part()?;
+        Ok(())
     }
 
     /// Whether no container is open, and no list at the top level.
@@ -495,7 +497,7 @@ impl Stack {
 
     /// Puts a leaf block that was opened.
     #[inline(always)]
-    pub(crate) fn put(&mut self, leaf: &LeafBlock<'_>) -> Result<(), AllocError>
+    pub(crate) fn put(&mut self, leaf: &LeafBlock<'_>) -> Result<(), RawFault>
         ensures level { OnOk result (self.new.level ≡ block_closes self.old.level (block_of leaf.now)) }
         ensures frames { self.new.frames ≡ self.old.frames }
         ensures bare { self.new.bare ≡ self.old.bare }
@@ -505,7 +507,7 @@ impl Stack {
     }
 
     /// The blocks of the document, where no container is open.
-    pub(crate) fn into_tree(self) -> Result<RawTree, AllocError>
+    pub(crate) fn into_tree(self) -> Result<RawTree, RawFault>
         requires { self.frames ≡ [] }
         ensures { IfOk result (λ blocks. blocks ≡ closed_blocks self.level) }
     {

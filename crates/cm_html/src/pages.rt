@@ -60,11 +60,22 @@ impl Pages {
     pub fn new(alloc: Global) -> Result<Pages, AllocError>
         ensures { IfOk result (λ pages. pages ≡ []) }
     {
+        Pages::with_room(alloc, ROOM)
+    }
+
+    /// A text of no bytes, with room for this many, or for a page if they are more.
+    ///
+    /// # Errors
+    ///
+    /// As `new`.
+    pub fn with_room(alloc: Global, room: usize) -> Result<Pages, AllocError>
+        ensures { IfOk result (λ pages. pages ≡ []) }
+    {
         Ok(Pages {
             alloc,
             page_len: PAGE,
             full: Vec::new(alloc),
-            last: Page::with_room(alloc, ROOM)?,
+            last: Page::with_room(alloc, room.min(ROOM))?,
             formed: FormedTexts::new(alloc),
         })
     }
@@ -231,7 +242,8 @@ fn copied(alloc: Global, full: &[Page], last: &Page) -> Result<String, AllocErro
     let Some(len) = len_of(full, last) else {
         return Err(AllocError);
     };
-    let mut text = String::with_capacity(alloc, len)?;
+    // One byte more, since callers from C put a NUL after it.
+    let mut text = String::with_capacity(alloc, len.saturating_add(1))?;
     push_full(&mut text, full)?;
     last.push_to(&mut text)?;
     Ok(text)

@@ -146,7 +146,8 @@ impl From<BlockFault> for Fault {
     fn from(fault: BlockFault) -> Fault {
         match fault {
             BlockFault::BlocksTooDeep { line } => Fault::BlocksTooDeep { line },
-            BlockFault::NoMemory => Fault::NoMemory,
+            // No text within the limits is too large.
+            BlockFault::NoMemory | BlockFault::TooLarge => Fault::NoMemory,
         }
     }
 }

@@ -44,11 +44,13 @@ pub(crate) fn doc_of_outline(alloc: Global, limits: Limits, outline: Outline) ->
     Ok(Doc { blocks, owners })
 }
 
-/// The HTML of an outline's document in pages.
+/// The HTML of an outline's document in pages, the first with room for this many bytes, or for a whole page if
+/// they are more.
 pub(crate) fn html_of_outline(
     alloc: Global,
     limits: Limits,
     outline: Outline,
+    room: usize,
 ) -> Result<Pages, Fault>
     ensures { (bytes : List ℕ) → IsOutline limits bytes outline
         → Makes (λ pages. pages ≡ converted limits.rules bytes) result limits bytes }
@@ -61,7 +63,7 @@ pub(crate) fn html_of_outline(
     } = outline;
     // The HTML goes into the memory of the owners, which it doesn't show.
     drop(owners);
-    leaves_html(alloc, limits, definitions, blocks)
+    leaves_html(alloc, limits, definitions, blocks, room)
 }
 
 /// The plain source of an outline's document without its definitions, or why it can't be spelled.

@@ -77,7 +77,7 @@ pub use definitions::Definitions;
 pub use depth::{block_depth, inline_depth};
 pub use items::Items;
 pub use link_target::{KeptTarget, LinkTarget};
-pub use raw_blocks::{RawBlock, RawBlocks, RawItem};
+pub use raw_blocks::{RawBlock, RawBlocks, RawFault, RawItem};
 pub use raw_html::has_raw_html;
 pub use raw_tree::{RawPart, RawTree};
 pub use target_places::TargetPlaces;

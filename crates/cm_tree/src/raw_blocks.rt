@@ -1,14 +1,17 @@
 //! Blocks whose inlines haven't been read. They own no memory: their texts lie behind one another in one
 //! text, and the blocks in them in one list.
-ghost use Rattle.std.specs.Prelude.{◌≡◌, ◌<◌, [], ◌++◌, length, get_or, nat_le, IfOk, OnOk};
+ghost use Rattle.std.specs.Prelude.{◌≡◌, ◌<◌, ◌≤◌, ◌+◌, ◌^◌, [], ◌++◌, length, get_or, nat_le, IfOk, IfErr, OnOk};
 ghost use Rattle.std.specs.List.{slice_range};
 ghost use Rattle.cm_tree.specs.RawBlocks.{raw_inlines, block_in, blocks_in, item_in, items_in};
 ghost use Rattle.cm_tree.specs.RawBlocks.{IsBetween, IsPlaced, ArePlaced, IsItem, AreItems, Grows};
+ghost use Rattle.cm_tree.specs.declared.raw_blocks.RawFault.TheVariants as faults;
 ghost use Rattle.cm_tree.specs.declared.tree.Block.TheVariants as trees;
 
 use crate::tree::ListKind;
-use std::alloc::{AllocError, Global};
+use cm_text::NoMemory as OutOfMemory;
+use std::alloc::{AllocError, AllocFailed, Global};
 use std::marker::Model;
+use thiserror::Error;
 
 /// How many bytes of texts fill a part of a document.
 const FULL: usize = 32_768;
@@ -74,13 +77,55 @@ pub struct RawItem {
     pub to: u32,
 }
 
+/// Why a raw block isn't made.
+#[derive(Clone, Copy, Debug, PartialEq, Eq, Drop, Error)]
+pub enum RawFault {
+    /// A request for memory was refused.
+    #[error("out of memory")]
+    NoMemory,
+    /// The texts would have 2^32 bytes or more, or there would be as many blocks or items.
+    #[error("document too large")]
+    TooLarge,
+}
+
+impl From<AllocError> for RawFault {
+    ghost use Rattle.std.specs.Prelude.{◌≡◌};
+    ghost use Rattle.cm_tree.specs.declared.raw_blocks.RawFault.TheVariants.{NoMemory};
+
+    ghost from_gives = { λ _ e. e ≡ NoMemory };
+
+    fn from(_: AllocError) -> RawFault {
+        RawFault::NoMemory
+    }
+}
+
+impl<T: Drop> From<AllocFailed<T>> for RawFault {
+    ghost use Rattle.std.specs.Prelude.{◌≡◌};
+    ghost use Rattle.cm_tree.specs.declared.raw_blocks.RawFault.TheVariants.{NoMemory};
+
+    ghost from_gives = { λ _ e. e ≡ NoMemory };
+
+    fn from(_: AllocFailed<T>) -> RawFault {
+        RawFault::NoMemory
+    }
+}
+
+impl From<OutOfMemory> for RawFault {
+    ghost use Rattle.std.specs.Prelude.{◌≡◌};
+    ghost use Rattle.cm_tree.specs.declared.raw_blocks.RawFault.TheVariants.{NoMemory};
+
+    ghost from_gives = { λ _ e. e ≡ NoMemory };
+
+    fn from(_: OutOfMemory) -> RawFault {
+        RawFault::NoMemory
+    }
+}
+
 /// What [`RawBlock`]s are made of: the texts of all, the blocks that stand in
 /// others, each behind those in it, and the items.
 ///
-/// All that was made stays what it is when more is made. A call that makes something answers `AllocError`
-/// where a request for memory was refused, or where a place would need more than 32 bits, to which no text
-/// within the limits comes. A beginning of what it would have put behind the others may stand there then,
-/// which is part of no block.
+/// All that was made stays what it is when more is made. Where a call that makes something answers a fault, a
+/// beginning of what it would have put behind the others may stand there, which is part of no block.
 #[derive(Debug, Drop)]
 pub struct RawBlocks {
     text: String,
@@ -102,13 +147,14 @@ impl Model for RawBlocks {
     ghost invariant = { λ r. IsHeld (string_bytes r.text) r.blocks.items r.items.items };
 }
 
-/// A place as a block has it, or `AllocError` where it needs more than 32 bits.
-fn place(at: usize) -> Result<u32, AllocError>
-    ensures { IfOk result (λ place. place ≡ at) }
+/// A place as a block has it.
+fn place(at: usize) -> Result<u32, RawFault>
+    ensures place { IfOk result (λ place. place ≡ at) }
+    ensures large { IfErr result (λ fault. 2 ^ 32 ≤ at) }
 {
     match u32::try_from(at) {
         Ok(place) => Ok(place),
-        Err(_) => Err(AllocError),
+        Err(_) => Err(RawFault::TooLarge),
     }
 }
 
@@ -164,12 +210,13 @@ impl RawBlocks {
     }
 
     /// Puts a text behind the others, and answers where it begins and where it ends.
-    fn push_text(&mut self, text: &str) -> Result<(u32, u32), AllocError>
+    fn push_text(&mut self, text: &str) -> Result<(u32, u32), RawFault>
         ensures text { OnOk result (self.new.text ≡ self.old.text ++ text.now) }
         ensures from { IfOk result (λ places. places.0 ≡ length self.old.text) }
         ensures end { IfOk result (λ places. places.1 ≡ length self.new.text) }
         ensures between { IfOk result (λ places. IsBetween self.new.text places.0 places.1) }
         ensures grows { Grows self.old self.new }
+        ensures large { IfErr result (λ fault. fault ≡ faults.TooLarge → 2 ^ 32 ≤ length self.old.text + length text.now) }
     {
         let from = place(self.text.len())?;
         self.put_text(text)?;
@@ -181,12 +228,14 @@ impl RawBlocks {
     ///
     /// # Errors
     ///
-    /// `AllocError` where a request for memory was refused.
-    pub fn paragraph(&mut self, source: &str) -> Result<RawBlock, AllocError>
+    /// `NoMemory` where a request for memory was refused, `TooLarge` where a place would need more than 32
+    /// bits.
+    pub fn paragraph(&mut self, source: &str) -> Result<RawBlock, RawFault>
         ensures block { IfOk result (λ block.
             block_in self.new block ≡ trees.Paragraph (raw_inlines source.now)) }
         ensures placed { IfOk result (λ block. IsPlaced self.new block) }
         ensures grows { Grows self.old self.new }
+        ensures large { IfErr result (λ fault. fault ≡ faults.TooLarge → 2 ^ 32 ≤ length self.old.text + length source.now) }
     {
         let (from, to) = self.push_text(source)?;
         Ok(RawBlock::Paragraph { from, to })
@@ -196,12 +245,14 @@ impl RawBlocks {
     ///
     /// # Errors
     ///
-    /// `AllocError` where a request for memory was refused.
-    pub fn heading(&mut self, level: u8, source: &str) -> Result<RawBlock, AllocError>
+    /// `NoMemory` where a request for memory was refused, `TooLarge` where a place would need more than 32
+    /// bits.
+    pub fn heading(&mut self, level: u8, source: &str) -> Result<RawBlock, RawFault>
         ensures block { IfOk result (λ block.
             block_in self.new block ≡ trees.Heading level (raw_inlines source.now)) }
         ensures placed { IfOk result (λ block. IsPlaced self.new block) }
         ensures grows { Grows self.old self.new }
+        ensures large { IfErr result (λ fault. fault ≡ faults.TooLarge → 2 ^ 32 ≤ length self.old.text + length source.now) }
     {
         let (from, to) = self.push_text(source)?;
         Ok(RawBlock::Heading { level, from, to })
@@ -212,11 +263,13 @@ impl RawBlocks {
     ///
     /// # Errors
     ///
-    /// `AllocError` where a request for memory was refused.
-    pub fn code(&mut self, info: &str, text: &str) -> Result<RawBlock, AllocError>
+    /// `NoMemory` where a request for memory was refused, `TooLarge` where a place would need more than 32
+    /// bits.
+    pub fn code(&mut self, info: &str, text: &str) -> Result<RawBlock, RawFault>
         ensures block { IfOk result (λ block. block_in self.new block ≡ trees.Code info.now text.now) }
         ensures placed { IfOk result (λ block. IsPlaced self.new block) }
         ensures grows { Grows self.old self.new }
+        ensures large { IfErr result (λ fault. fault ≡ faults.TooLarge → 2 ^ 32 ≤ length self.old.text + length info.now + length text.now) }
     {
         let (at, _) = self.push_text(info)?;
         let (behind, to) = self.push_text(text)?;
@@ -231,11 +284,13 @@ impl RawBlocks {
     ///
     /// # Errors
     ///
-    /// `AllocError` where a request for memory was refused.
-    pub fn html(&mut self, text: &str) -> Result<RawBlock, AllocError>
+    /// `NoMemory` where a request for memory was refused, `TooLarge` where a place would need more than 32
+    /// bits.
+    pub fn html(&mut self, text: &str) -> Result<RawBlock, RawFault>
         ensures block { IfOk result (λ block. block_in self.new block ≡ trees.Html text.now) }
         ensures placed { IfOk result (λ block. IsPlaced self.new block) }
         ensures grows { Grows self.old self.new }
+        ensures large { IfErr result (λ fault. fault ≡ faults.TooLarge → 2 ^ 32 ≤ length self.old.text + length text.now) }
     {
         let (from, to) = self.push_text(text)?;
         Ok(RawBlock::Html { from, to })
@@ -246,17 +301,14 @@ impl RawBlocks {
     ///
     /// # Errors
     ///
-    /// `AllocError` where a request for memory was refused.
-    pub fn definition(
-        &mut self,
-        label: &str,
-        dest: &str,
-        title: &str,
-    ) -> Result<RawBlock, AllocError>
+    /// `NoMemory` where a request for memory was refused, `TooLarge` where a place would need more than 32
+    /// bits.
+    pub fn definition(&mut self, label: &str, dest: &str, title: &str) -> Result<RawBlock, RawFault>
         ensures block { IfOk result (λ block.
             block_in self.new block ≡ trees.Definition label.now dest.now title.now) }
         ensures placed { IfOk result (λ block. IsPlaced self.new block) }
         ensures grows { Grows self.old self.new }
+        ensures large { IfErr result (λ fault. fault ≡ faults.TooLarge → 2 ^ 32 ≤ length self.old.text + length label.now + length dest.now + length title.now) }
     {
         let (first, _) = self.push_text(label)?;
         let (second, _) = self.push_text(dest)?;
@@ -273,12 +325,14 @@ impl RawBlocks {
     ///
     /// # Errors
     ///
-    /// `AllocError` where a request for memory was refused.
-    pub fn item(&mut self, blocks: &[RawBlock]) -> Result<RawItem, AllocError>
+    /// `NoMemory` where a request for memory was refused, `TooLarge` where a place would need more than 32
+    /// bits.
+    pub fn item(&mut self, blocks: &[RawBlock]) -> Result<RawItem, RawFault>
         requires { ArePlaced self.old blocks.now }
         ensures item { IfOk result (λ item. item_in self.new item ≡ blocks_in self.old blocks.now) }
         ensures placed { IfOk result (λ item. IsItem self.new item) }
         ensures grows { Grows self.old self.new }
+        ensures large { IfErr result (λ fault. fault ≡ faults.TooLarge → 2 ^ 32 ≤ length self.old.blocks + length blocks.now) }
     {
         let from = place(self.blocks.len())?;
         self.blocks.extend_from_slice(blocks)?;
@@ -290,13 +344,15 @@ impl RawBlocks {
     ///
     /// # Errors
     ///
-    /// `AllocError` where a request for memory was refused.
-    pub fn quote(&mut self, blocks: &[RawBlock]) -> Result<RawBlock, AllocError>
+    /// `NoMemory` where a request for memory was refused, `TooLarge` where a place would need more than 32
+    /// bits.
+    pub fn quote(&mut self, blocks: &[RawBlock]) -> Result<RawBlock, RawFault>
         requires { ArePlaced self.old blocks.now }
         ensures block { IfOk result (λ block.
             block_in self.new block ≡ trees.Quote (blocks_in self.old blocks.now)) }
         ensures placed { IfOk result (λ block. IsPlaced self.new block) }
         ensures grows { Grows self.old self.new }
+        ensures large { IfErr result (λ fault. fault ≡ faults.TooLarge → 2 ^ 32 ≤ length self.old.blocks + length blocks.now) }
     {
         let RawItem { from, to } = self.item(blocks)?;
         Ok(RawBlock::Quote { from, to })
@@ -306,18 +362,20 @@ impl RawBlocks {
     ///
     /// # Errors
     ///
-    /// `AllocError` where a request for memory was refused.
+    /// `NoMemory` where a request for memory was refused, `TooLarge` where a place would need more than 32
+    /// bits.
     pub fn list(
         &mut self,
         kind: ListKind,
         tight: bool,
         items: &[RawItem],
-    ) -> Result<RawBlock, AllocError>
+    ) -> Result<RawBlock, RawFault>
         requires { AreItems self.old items.now }
         ensures block { IfOk result (λ block.
             block_in self.new block ≡ trees.List kind tight (items_in self.old items.now)) }
         ensures placed { IfOk result (λ block. IsPlaced self.new block) }
         ensures grows { Grows self.old self.new }
+        ensures large { IfErr result (λ fault. fault ≡ faults.TooLarge → 2 ^ 32 ≤ length self.old.items + length items.now) }
     {
         let from = place(self.items.len())?;
         self.items.extend_from_slice(items)?;

@@ -1,6 +1,5 @@
 -- A stack as a row: the last frame, once it is taken, and more is there.
-use Rattle.std.proofs.Common.{◌≡◌, length, arith, Bool, Option, Some, None, List, [], ◌∷◌, ◌++◌, refl, append-nil, sym, ap, ap₂, subst, ◌∙◌, Result, Ok, Err}
-use Rattle.std.specs.Result.{OnOk, OnErr}
+use Rattle.std.proofs.Common.{◌≡◌, length, arith, Bool, Option, Some, None, List, [], ◌∷◌, ◌++◌, refl, append-nil, sym, ap, ap₂, subst, ◌∙◌}
 use Rattle.std.specs.Option.{option_map}
 use Rattle.cm_tree.specs.declared.tree.Block.{Block}
 use Rattle.cm_tree.specs.declared.raw_blocks.RawBlock.{RawBlock}
@@ -70,11 +69,10 @@ module _ (front : List Block) (a b : Raw) (frames : List code.Frame) (level : co
       → opened ≡ frames_behind front (frames_in b frames) ++ frame inner container ∷ [] → opened ≡ now ++ frame outside container ∷ []
   frames-open now opened inner outside container is level_is all = all ∙ ap₂ (λ fs v. fs ++ frame v container ∷ []) (same-frames now is) level_is
 
--- whether there was memory for one more frame or not
-pub one-more-frame : {T E : Type 0} (raw : Raw) (before after : List code.Frame) (last : code.Frame) (r : Result T E) → OnOk r (after ≡ before ++ last ∷ []) → OnErr r (after ≡ before)
+-- one more frame
+pub one-more-frame : (raw : Raw) (before after : List code.Frame) (last : code.Frame) → after ≡ before ++ last ∷ []
     → AreFramesPlaced raw before → IsLevelPlaced raw last.level → AreFramesPlaced raw after
-one-more-frame raw before after last (Ok x) ok err placed outside = subst (AreFramesPlaced raw) (sym ok) (frames-append raw before (last ∷ []) placed (outside, tt))
-one-more-frame raw before after last (Err e) ok err placed outside = subst (AreFramesPlaced raw) (sym err) placed
+one-more-frame raw before after last is placed outside = subst (AreFramesPlaced raw) (sym is) (frames-append raw before (last ∷ []) placed (outside, tt))
 
 -- ---- all that stands there becomes a part
 

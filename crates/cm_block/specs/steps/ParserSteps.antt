@@ -4,7 +4,7 @@ use Rattle.cm_text.specs.Limits.{LimitsView}
 use Rattle.cm_text.specs.Lines.{LineView}
 use Rattle.cm_block.specs.declared.parser.BlockParser as code
 use Rattle.cm_block.specs.declared.fault.BlockFault.{BlockFault}
-use Rattle.cm_block.specs.declared.fault.BlockFault.TheVariants.{BlocksTooDeep, NoMemory}
+use Rattle.cm_block.specs.declared.fault.BlockFault.TheVariants.{BlocksTooDeep, NoMemory, TooLarge}
 use Rattle.cm_block.specs.Stack.{Stack, close_stack, push_leaf_line, push_line}
 use Rattle.cm_block.specs.Depths.{nesting}
 use Rattle.cm_block.specs.steps.FrameSteps.{within}
@@ -16,6 +16,7 @@ use Rattle.cm_block.specs.Parser.{stack_of}
 abbrev pub Deep : BlockFault → LimitsView → Stack → LineView → Type 0
 Deep (BlocksTooDeep n) limits before line = (limits.blocks < nesting (push_line limits.rules before line).now) × (n ≡ suc (length (close_stack before).owners))
 Deep NoMemory limits before line = ⊤
+Deep TooLarge limits before line = ⊤
 
 -- A line that stays in so many containers is one of the open leaf, or not: it stays in all then.
 abbrev pub TakenToLeaf : Bool → ℕ → code.BlockParser → LineView → code.BlockParser → Type 0

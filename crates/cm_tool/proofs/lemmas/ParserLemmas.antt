@@ -73,6 +73,7 @@ taken_told fault limits now lines front next all line same parts tells are =
         → TellsDepth fault limits (((lines ++ front) ++ line ∷ []) ++ next)
     more (blocks.BlocksTooDeep n) e are = too_deep_stays limits.rules limits.blocks n ((lines ++ front) ++ line ∷ []) next are e
     more blocks.NoMemory e are = tt
+    more blocks.TooLarge e are = tt
 
 abbrev pub doc_with : List Block → List Owner → Doc
 doc_with blocks owners = record { blocks = blocks; owners = owners }
@@ -160,6 +161,7 @@ module _ (limits : LimitsView) where
       by_fault : (fault : BlockFault) → TellsDepth fault limits (ended_of (bytes ++ piece)) → TellsFault (refused fault) (settled_fault_of limits (bytes ++ piece))
       by_fault (blocks.BlocksTooDeep line) e = (faults_in_order limits (bytes ++ piece)).1 ∙ ap (λ o. option_or (option_map BlocksTooDeep o) (option_map told (settled_fault limits.bytes (bytes ++ piece)))) e
       by_fault blocks.NoMemory e = tt
+      by_fault blocks.TooLarge e = tt
 
   -- The text ends with a fault,
   pub end_told : (fault : TextFault) (feed : Feed) (before : BlockParser) (bytes : List ℕ) → Goes limits feed before bytes
@@ -211,6 +213,7 @@ module _ (limits : LimitsView) where
       by_fault : (fault : BlockFault) → TellsDepth fault limits (plain_lines_of (text_of bytes)) → TellsFault (refused fault) (fault_of limits bytes)
       by_fault (blocks.BlocksTooDeep line) e = fault_by_lines feed before bytes (Some line) g end.sound e
       by_fault blocks.NoMemory e = tt
+      by_fault blocks.TooLarge e = tt
 
   -- all lines are taken in
   pub whole_taken : (feed ended : Feed) (before after : BlockParser) (bytes : List ℕ) → Goes limits feed before bytes → Ended ended bytes

@@ -212,8 +212,8 @@ impl HtmlWalk {
     }
 }
 
-/// The HTML of the blocks with the inlines of their leaves, in pages. The inlines of a leaf are let go of
-/// before those of the next one are read, and each part of the document before the next one is.
+/// The HTML of the blocks with the inlines of their leaves, in pages, the first with room for this many bytes.
+/// The inlines of a leaf are freed before those of the next one are read, and so is each part of the document.
 ///
 /// # Errors
 ///
@@ -223,6 +223,7 @@ pub(crate) fn leaves_html(
     limits: Limits,
     definitions: Definitions,
     blocks: RawTree,
+    room: usize,
 ) -> Result<Pages, Fault>
     ensures html { IfOk result (λ pages. pages ≡
         html_of (with_inlines limits.rules (defined_in definitions) blocks)) }
@@ -231,7 +232,7 @@ pub(crate) fn leaves_html(
     ensures told { IfErr result (λ fault. TellsFault fault (option_map faults.InlinesTooDeep
         (first_leaf_past limits.inlines (with_inlines limits.rules (defined_in definitions) blocks)))) }
 {
-    let html = Pages::new(alloc)?;
+    let html = Pages::with_room(alloc, room)?;
     let walk = LeafWalk::new(alloc, limits, definitions, blocks);
     let mut walk = HtmlWalk { walk, html };
     walk.push_all()?;

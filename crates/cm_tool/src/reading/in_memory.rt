@@ -36,6 +36,11 @@ pub fn doc_of(alloc: Global, bytes: &[u8], limits: Limits) -> Result<Doc, Fault>
     doc_of_outline(alloc, limits, outline_of(alloc, bytes, limits)?)
 }
 
+/// How many bytes the HTML of a text of this length usually needs at most.
+fn room_for_html(len: usize) -> usize {
+    len.saturating_add(len / 2).saturating_add(64)
+}
+
 /// The HTML of these bytes, which `convert` writes for a source that has them. Its pages can be written to a
 /// sink, or made one string.
 ///
@@ -45,7 +50,8 @@ pub fn doc_of(alloc: Global, bytes: &[u8], limits: Limits) -> Result<Doc, Fault>
 pub fn html_of(alloc: Global, bytes: &[u8], limits: Limits) -> Result<Pages, Fault>
     ensures { Makes (λ pages. pages ≡ converted limits.rules bytes.now) result limits bytes.now }
 {
-    html_of_outline(alloc, limits, outline_of(alloc, bytes, limits)?)
+    let room = room_for_html(bytes.len());
+    html_of_outline(alloc, limits, outline_of(alloc, bytes, limits)?, room)
 }
 
 /// Plain source of these bytes' tree without its link reference definitions, which `rewrite` writes for a

@@ -130,7 +130,7 @@ impl Parser {
         ensures failed { (fault : faults.Fault) → self.fault ≡ Some fault → result ≡ Err fault }
     {
         let (alloc, limits) = (self.alloc, self.blocks.limits());
-        html_of_outline(alloc, limits, self.outline()?)
+        html_of_outline(alloc, limits, self.outline()?, usize::MAX)
     }
 
     /// The document, where the bytes so far are all.

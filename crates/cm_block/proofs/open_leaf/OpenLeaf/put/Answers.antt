@@ -29,54 +29,60 @@ returns-in-Run-clause-owners c =
     on_ok_weaker c.put_run.result (λ put. put ∙ ap (λ k. own_leaves c.args.owners.now (leaves_with c.args.heading c.args.ended k c.args.self.now.text)) (sym c.in-Run.is))
     c.put_run.ensures.owners
 
-pub returns-in_ok-put_indented-in-Code-clause-level : goal.returns-in_ok-put_indented-in-Code-clause-level
-returns-in_ok-put_indented-in-Code-clause-level c =
+pub returns-in-Code-clause-level : goal.returns-in-Code-clause-level
+returns-in-Code-clause-level c =
     let level = c.args.stack.now.level in
     let text = c.args.self.now.text in
-    c.in_ok-put_indented-in-Code.ensures.level
+    on_ok_weaker c.put_indented.result (λ put.
+    put
     ∙ one_closes level (code [] (ended text)) (suc (line_feeds text))
-    ∙ ap (λ k. close_leaves level (leaves_with c.args.heading c.args.ended k text)) (sym c.in-Code.is)
+    ∙ ap (λ k. close_leaves level (leaves_with c.args.heading c.args.ended k text)) (sym c.in-Code.is)) c.put_indented.ensures.level
 
-pub returns-in_ok-put_indented-in-Code-clause-owners : goal.returns-in_ok-put_indented-in-Code-clause-owners
-returns-in_ok-put_indented-in-Code-clause-owners c =
+pub returns-in-Code-clause-owners : goal.returns-in-Code-clause-owners
+returns-in-Code-clause-owners c =
     let owned = c.args.owners.now in
     let text = c.args.self.now.text in
-    c.in_ok-put_indented-in-Code.ensures.owners
+    on_ok_weaker c.put_indented.result (λ put.
+    put
     ∙ one_owns owned (code [] (ended text)) (suc (line_feeds text)) refl
-    ∙ ap (λ k. own_leaves owned (leaves_with c.args.heading c.args.ended k text)) (sym c.in-Code.is)
+    ∙ ap (λ k. own_leaves owned (leaves_with c.args.heading c.args.ended k text)) (sym c.in-Code.is)) c.put_indented.ensures.owners
 
-pub returns-in_ok-put_code-in-Fence-clause-level : goal.returns-in_ok-put_code-in-Fence-clause-level
-returns-in_ok-put_code-in-Fence-clause-level c =
+pub returns-in_ok-lines-in-Fence-clause-level : goal.returns-in_ok-lines-in-Fence-clause-level
+returns-in_ok-lines-in-Fence-clause-level c =
     let level = c.args.stack.now.level in
     let text = c.args.self.now.text in
     let info = string_bytes c.in-Fence.info in
-    c.in_ok-put_code-in-Fence.ensures.level
+    on_ok_weaker c.put_code.result (λ put.
+    put
     ∙ ap (λ i. block_closes level (leaf_block (code i c.as_str.result.now))) c.deref.ensures
     ∙ ap (λ t. block_closes level (leaf_block (code info t))) c.as_str.ensures
     ∙ one_closes level (code info text) (fence_lines c.args.ended text)
-    ∙ ap (λ k. close_leaves level (leaves_with c.args.heading c.args.ended k text)) (sym c.in-Fence.is)
+    ∙ ap (λ k. close_leaves level (leaves_with c.args.heading c.args.ended k text)) (sym c.in-Fence.is)) c.put_code.ensures.level
 
-pub returns-in_ok-put_code-in-Fence-clause-owners : goal.returns-in_ok-put_code-in-Fence-clause-owners
-returns-in_ok-put_code-in-Fence-clause-owners c =
+pub returns-in_ok-lines-in-Fence-clause-owners : goal.returns-in_ok-lines-in-Fence-clause-owners
+returns-in_ok-lines-in-Fence-clause-owners c =
     let owned = c.args.owners.now in
     let text = c.args.self.now.text in
-    c.in_ok-put_code-in-Fence.ensures.owners
+    on_ok_weaker c.put_code.result (λ put.
+    put
     ∙ ap (own_plain_leaf owned) c.in_ok-lines-in-Fence.ensures
     ∙ one_owns owned (code (string_bytes c.in-Fence.info) text) (fence_lines c.args.ended text) refl
-    ∙ ap (λ k. own_leaves owned (leaves_with c.args.heading c.args.ended k text)) (sym c.in-Fence.is)
+    ∙ ap (λ k. own_leaves owned (leaves_with c.args.heading c.args.ended k text)) (sym c.in-Fence.is)) c.put_code.ensures.owners
 
-pub returns-in_ok-put_html-in-Html-clause-level : goal.returns-in_ok-put_html-in-Html-clause-level
-returns-in_ok-put_html-in-Html-clause-level c =
+pub returns-in-Html-clause-level : goal.returns-in-Html-clause-level
+returns-in-Html-clause-level c =
     let level = c.args.stack.now.level in
     let text = c.args.self.now.text in
-    c.in_ok-put_html-in-Html.ensures.level
+    on_ok_weaker c.put_html.result (λ put.
+    put
     ∙ one_closes level (html (ended text)) (suc (line_feeds text))
-    ∙ ap (λ k. close_leaves level (leaves_with c.args.heading c.args.ended k text)) (sym c.in-Html.is)
+    ∙ ap (λ k. close_leaves level (leaves_with c.args.heading c.args.ended k text)) (sym c.in-Html.is)) c.put_html.ensures.level
 
-pub returns-in_ok-put_html-in-Html-clause-owners : goal.returns-in_ok-put_html-in-Html-clause-owners
-returns-in_ok-put_html-in-Html-clause-owners c =
+pub returns-in-Html-clause-owners : goal.returns-in-Html-clause-owners
+returns-in-Html-clause-owners c =
     let owned = c.args.owners.now in
     let text = c.args.self.now.text in
-    c.in_ok-put_html-in-Html.ensures.owners
+    on_ok_weaker c.put_html.result (λ put.
+    put
     ∙ one_owns owned (html (ended text)) (suc (line_feeds text)) refl
-    ∙ ap (λ k. own_leaves owned (leaves_with c.args.heading c.args.ended k text)) (sym c.in-Html.is)
+    ∙ ap (λ k. own_leaves owned (leaves_with c.args.heading c.args.ended k text)) (sym c.in-Html.is)) c.put_html.ensures.owners

@@ -48,20 +48,21 @@ returns-in-Some-Ends-clause-pushed c =
       ),
     )) (both_ok _ _ c.put_leaf.result put.leaf (both_ok _ _ c.put_leaf.result put.level put.owners))
 
-pub returns-in_ok-put-in-Some-Whole-clause-pushed : goal.returns-in_ok-put-in-Some-Whole-clause-pushed
-returns-in_ok-put-in-Some-Whole-clause-pushed c =
+pub returns-in-Some-Whole-clause-pushed : goal.returns-in-Some-Whole-clause-pushed
+returns-in-Some-Whole-clause-pushed c =
     let s = c.args.self.now in
     let x = c.in-Some-Whole in
     let now = c.begin_leaf.new.leaf in
     let opened = c.in_ok-open_block.ensures in
-    let put = c.in_ok-put-in-Some-Whole.ensures in
+    let put = c.put.ensures in
     let begins = subst (λ o. IfSome o (λ f. begins_leaf (first_of f now) ≡ begin_of_start c.rules-rules.result (seen c.args.start.now.found) (seen_view c.args.line.now.rest))) x.is c.in_ok-begin_leaf.ensures.leaf in
-    let closed : leaf_of now ≡ no_leaf = subst (λ f. StaysClosed f now) x.field-0-is (subst (λ o. IfSome o (λ f. StaysClosed f now)) x.is c.in_ok-begin_leaf.ensures.closed) in (
+    let closed : leaf_of now ≡ no_leaf = subst (λ f. StaysClosed f now) x.field-0-is (subst (λ o. IfSome o (λ f. StaysClosed f now)) x.is c.in_ok-begin_leaf.ensures.closed) in
+    on_ok_weaker c.put.result (λ h. (
       is_last (whole_leaves x.leaf),
       (
         ap (λ f. begins_leaf (first_of f now)) (sym x.field-0-is) ∙ begins ∙ ap (λ by. begin_of_start by (seen c.args.start.now.found) (seen_view c.args.line.now.rest)) c.rules-rules.ensures,
         stack_ends c.put.new.stack.bare s.stack.frames c.put.new.stack.frames (block_opens s.stack.level) c.put.new.stack.level (leaf_of now) s.owners c.put.new.owners (whole_leaves x.leaf)
             (put.bare ∙ opened.bare ∙ c.requires.plain) (put.frames ∙ opened.frames) closed
-            (put.level ∙ ap (λ v. close_leaves v (whole_leaves x.leaf)) opened.level) put.owners,
+            (h.0 ∙ ap (λ v. close_leaves v (whole_leaves x.leaf)) opened.level) h.1,
       ),
-    )
+    )) (both_ok _ _ c.put.result put.level put.owners)

@@ -1,11 +1,18 @@
 use Rattle.std.proofs.Common.{subst, sym}
+use Rattle.cm_block.specs.steps.FrameViews.{AreFramesPlaced}
 use Rattle.cm_block.specs.steps.LevelViews.{IsLevelPlaced}
 use Rattle.cm_block.proofs.lemmas.RowLemmas.{one-more-frame}
 use Rattle.cm_block.proofs.stack.Stack.open.Goals as goal
 
 pub invariant_of-self : goal.invariant_of-self
 invariant_of-self c = (
-  one-more-frame c.self.inside.raw c.self.inside.frames c.push.new.self _ c.push.result c.push.ensures.ok c.push.ensures.err c.self.invariant.0
+  subst (AreFramesPlaced c.self.inside.raw) (sym c.in_err-push.ensures.err) c.self.invariant.0,
+  subst (IsLevelPlaced c.self.inside.raw) (sym c.replace-level.ensures.after) (c.new-inside.ensures.placed c.self.inside.raw),
+)
+
+pub invariant_of-self-2 : goal.invariant_of-self-2
+invariant_of-self-2 c = (
+  one-more-frame c.self.inside.raw c.self.inside.frames c.push.new.self _ c.in_ok-push.ensures.ok c.self.invariant.0
       (subst (IsLevelPlaced c.self.inside.raw) (sym c.replace-level.ensures.value) c.self.invariant.1),
   subst (IsLevelPlaced c.self.inside.raw) (sym c.replace-level.ensures.after) (c.new-inside.ensures.placed c.self.inside.raw),
 )

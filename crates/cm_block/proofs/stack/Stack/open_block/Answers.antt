@@ -1,5 +1,4 @@
 use Rattle.std.proofs.Common.{ap, ◌∙◌}
-use Rattle.std.proofs.lemmas.Result.{on_ok_weaker}
 use Rattle.cm_block.specs.Frames.{Row}
 use Rattle.cm_block.specs.Level.{block_opens}
 use Rattle.cm_block.proofs.lemmas.LevelViewLemmas.{frames-placed-grow}
@@ -20,14 +19,20 @@ pub invariant_of-self-2 : goal.invariant_of-self-2
 invariant_of-self-2 c =
     (frames-placed-grow c.self.inside.raw c.open_block.new.raw c.self.inside.frames c.in_ok-open_block.ensures.grows c.self.invariant.0, c.in_ok-open_block.ensures.placed)
 
+pub returns-in_err-finish_part-clause-frames : goal.returns-in_err-finish_part-clause-frames
+returns-in_err-finish_part-clause-frames c =
+    c.in_err-finish_part.ensures.frames
+    ∙ same-frames c.self.inside.parts c.self.inside.raw c.open_block.new.raw c.self.inside.frames c.self.inside.level c.in_ok-open_block.ensures.grows c.self.invariant c.args.self.now.frames
+    (ap (λ (r : Row). r.frames) c.self.view_is)
+
 pub returns-clause-level : goal.returns-clause-level
-returns-clause-level c = on_ok_weaker c.finish_part.result (λ h.
-    ap (λ (r : Row). r.level) h
+returns-clause-level c =
+    ap (λ (r : Row). r.level) c.in_ok-finish_part.ensures.same
     ∙ inner-done c.self.inside.parts c.self.inside.raw c.open_block.new.raw c.self.inside.frames c.self.inside.level c.in_ok-open_block.ensures.grows c.self.invariant c.open_block.new.self c.args.self.now.level block_opens
-    (opens-behind c.self.inside.parts) (ap (λ (r : Row). r.level) c.self.view_is) c.in_ok-open_block.ensures.level) c.finish_part.ensures.same
+    (opens-behind c.self.inside.parts) (ap (λ (r : Row). r.level) c.self.view_is) c.in_ok-open_block.ensures.level
 
 pub returns-clause-frames : goal.returns-clause-frames
 returns-clause-frames c =
-    c.finish_part.ensures.frames
+    c.in_ok-finish_part.ensures.frames
     ∙ same-frames c.self.inside.parts c.self.inside.raw c.open_block.new.raw c.self.inside.frames c.self.inside.level c.in_ok-open_block.ensures.grows c.self.invariant c.args.self.now.frames
     (ap (λ (r : Row). r.frames) c.self.view_is)
