@@ -31,6 +31,13 @@ PROGRAM := crates/cmk/out/cmk
 CRATE := crates/cmk_c/out/libcmk_c.a
 OUT := out
 
+# A path as one word of the shell, and the same of a file that is installed.
+quoted = '$(subst ','\'',$(1))'
+installed = $(call quoted,$(DESTDIR)$(1))
+ifneq (,$(filter ~%,$(firstword $(PREFIX)) $(firstword $(DESTDIR))))
+$(error ~ isn't expanded in PREFIX and DESTDIR: write $$HOME)
+endif
+
 .PHONY: all proved check install uninstall clean
 
 all: $(OUT)/libcmk.a $(OUT)/$(SHARED) $(OUT)/cmk.pc
@@ -43,7 +50,7 @@ proved:
 # One archive of the crate and the functions for memory.
 $(OUT)/libcmk.a: proved
 	@mkdir -p $(OUT)/objects
-	cd $(OUT)/objects && rm -f *.o && $(AR) x $(abspath $(CRATE)) && $(AR) x $(HEAP)
+	cd $(OUT)/objects && rm -f *.o && $(AR) x "$$OLDPWD/$(CRATE)" && $(AR) x $(call quoted,$(HEAP))
 	rm -f $@
 	$(AR) rcs $@ $(OUT)/objects/*.o
 	rm -r $(OUT)/objects
@@ -52,11 +59,12 @@ $(OUT)/libcmk.a: proved
 $(OUT)/$(SHARED): proved
 	@mkdir -p $(OUT)
 	$(CC) -shared -o $@ -Wl,-soname,$(SONAME) -Wl,--whole-archive $(CRATE) -Wl,--no-whole-archive \
-		-Wl,--exclude-libs,liblibc_c.a $(HEAP) -Wl,--no-undefined -Wl,-z,relro,-z,now $(LDFLAGS)
+		-Wl,--exclude-libs,liblibc_c.a $(call quoted,$(HEAP)) -Wl,--no-undefined -Wl,-z,relro,-z,now $(LDFLAGS)
 
 $(OUT)/cmk.pc: cmk.pc.in include/cmk.h FORCE
 	@mkdir -p $(OUT)
-	@sed 's|@PREFIX@|$(PREFIX)|; s|@LIBDIR@|$(LIBDIR)|; s|@INCLUDEDIR@|$(INCLUDEDIR)|; s|@VERSION@|$(VERSION)|' cmk.pc.in >$@
+	@printf '%s\n' $(call quoted,prefix=$(PREFIX)) $(call quoted,libdir=$(LIBDIR)) $(call quoted,includedir=$(INCLUDEDIR)) >$@
+	@sed 's|@VERSION@|$(VERSION)|' cmk.pc.in >>$@
 
 FORCE:
 
@@ -64,25 +72,28 @@ check:
 	@tools/check
 
 install: all
-	$(INSTALL) -d $(addprefix $(DESTDIR),$(BINDIR) $(INCLUDEDIR) $(LIBDIR)/pkgconfig $(MANDIR)/man1 $(MANDIR)/man3 $(BASHDIR) $(ZSHDIR) $(FISHDIR))
-	$(INSTALL) -m 755 $(PROGRAM) $(DESTDIR)$(BINDIR)/cmk
-	$(INSTALL) -m 644 include/cmk.h $(DESTDIR)$(INCLUDEDIR)/cmk.h
-	$(INSTALL) -m 644 $(OUT)/libcmk.a $(DESTDIR)$(LIBDIR)/libcmk.a
-	$(INSTALL) -m 755 $(OUT)/$(SHARED) $(DESTDIR)$(LIBDIR)/$(SHARED)
-	ln -sf $(SHARED) $(DESTDIR)$(LIBDIR)/$(SONAME)
-	ln -sf $(SONAME) $(DESTDIR)$(LIBDIR)/libcmk.so
-	$(INSTALL) -m 644 $(OUT)/cmk.pc $(DESTDIR)$(LIBDIR)/pkgconfig/cmk.pc
-	$(INSTALL) -m 644 man/cmk.1 $(DESTDIR)$(MANDIR)/man1/cmk.1
-	$(INSTALL) -m 644 man/cmk.3 $(DESTDIR)$(MANDIR)/man3/cmk.3
-	$(INSTALL) -m 644 completions/cmk.bash $(DESTDIR)$(BASHDIR)/cmk
-	$(INSTALL) -m 644 completions/_cmk $(DESTDIR)$(ZSHDIR)/_cmk
-	$(INSTALL) -m 644 completions/cmk.fish $(DESTDIR)$(FISHDIR)/cmk.fish
+	$(INSTALL) -d $(call installed,$(BINDIR)) $(call installed,$(INCLUDEDIR)) $(call installed,$(LIBDIR)/pkgconfig)
+	$(INSTALL) -d $(call installed,$(MANDIR)/man1) $(call installed,$(MANDIR)/man3)
+	$(INSTALL) -d $(call installed,$(BASHDIR)) $(call installed,$(ZSHDIR)) $(call installed,$(FISHDIR))
+	$(INSTALL) -m 755 $(PROGRAM) $(call installed,$(BINDIR)/cmk)
+	$(INSTALL) -m 644 include/cmk.h $(call installed,$(INCLUDEDIR)/cmk.h)
+	$(INSTALL) -m 644 $(OUT)/libcmk.a $(call installed,$(LIBDIR)/libcmk.a)
+	$(INSTALL) -m 755 $(OUT)/$(SHARED) $(call installed,$(LIBDIR)/$(SHARED))
+	ln -sf $(SHARED) $(call installed,$(LIBDIR)/$(SONAME))
+	ln -sf $(SONAME) $(call installed,$(LIBDIR)/libcmk.so)
+	$(INSTALL) -m 644 $(OUT)/cmk.pc $(call installed,$(LIBDIR)/pkgconfig/cmk.pc)
+	$(INSTALL) -m 644 man/cmk.1 $(call installed,$(MANDIR)/man1/cmk.1)
+	$(INSTALL) -m 644 man/cmk.3 $(call installed,$(MANDIR)/man3/cmk.3)
+	$(INSTALL) -m 644 completions/cmk.bash $(call installed,$(BASHDIR)/cmk)
+	$(INSTALL) -m 644 completions/_cmk $(call installed,$(ZSHDIR)/_cmk)
+	$(INSTALL) -m 644 completions/cmk.fish $(call installed,$(FISHDIR)/cmk.fish)
 
 uninstall:
-	rm -f $(DESTDIR)$(BINDIR)/cmk $(DESTDIR)$(INCLUDEDIR)/cmk.h $(DESTDIR)$(LIBDIR)/libcmk.a $(DESTDIR)$(LIBDIR)/libcmk.so
-	rm -f $(DESTDIR)$(LIBDIR)/$(SONAME) $(DESTDIR)$(LIBDIR)/$(SHARED) $(DESTDIR)$(LIBDIR)/pkgconfig/cmk.pc
-	rm -f $(DESTDIR)$(MANDIR)/man1/cmk.1 $(DESTDIR)$(MANDIR)/man3/cmk.3
-	rm -f $(DESTDIR)$(BASHDIR)/cmk $(DESTDIR)$(ZSHDIR)/_cmk $(DESTDIR)$(FISHDIR)/cmk.fish
+	rm -f $(call installed,$(BINDIR)/cmk) $(call installed,$(INCLUDEDIR)/cmk.h) $(call installed,$(LIBDIR)/pkgconfig/cmk.pc)
+	rm -f $(call installed,$(LIBDIR)/libcmk.a) $(call installed,$(LIBDIR)/libcmk.so)
+	rm -f $(call installed,$(LIBDIR)/$(SONAME)) $(call installed,$(LIBDIR)/$(SHARED))
+	rm -f $(call installed,$(MANDIR)/man1/cmk.1) $(call installed,$(MANDIR)/man3/cmk.3)
+	rm -f $(call installed,$(BASHDIR)/cmk) $(call installed,$(ZSHDIR)/_cmk) $(call installed,$(FISHDIR)/cmk.fish)
 
 # The proved program and library stay.
 clean:
