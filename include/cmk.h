@@ -102,7 +102,11 @@ uint32_t cmk_version(void);
 /* Gives the bytes of an output back, which has none then. It is C, so what is proved of the library leaves it out. */
 static inline void cmk_free(cmk_output *output) {
     if (output->size > 0) {
-        free((void *)output->bytes);
+#ifdef __cplusplus
+        free(const_cast<char *>(output->bytes));
+#else
+        free((void *)(uintptr_t)output->bytes); /* no warning that const is cast away */
+#endif
     }
     output->bytes = "";
     output->size = 0;
