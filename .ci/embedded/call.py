@@ -1,25 +1,38 @@
 """Calls libcmk for .ci/embedding by bindings/python.
 
   call.py html|tree|rewrite BYTES BLOCKS INLINES FLAGS     on standard input: its output, or the line of its fault and status 1; FLAGS has
-                                             0 or 1 for each of older, strike, no_html and web_links
+                                             0 or 1 for each of older, strike, no_html and web_links. The text is given as bytes, and as a
+                                             str if it is one, also with lone surrogates; status 3 if the two differ
   call.py threads                                          four threads at once
 """
 
+import contextlib
 import sys
 import threading
 
 import cmk
 
 
-def one(name, blocks, inlines, flags):
-    text = sys.stdin.buffer.read()
-    asked = {name: flag == "1" for name, flag in zip(("older", "strike", "no_html", "web_links"), flags)}
-    asked |= {} if blocks == "0" else {"blocks": int(blocks)}
-    asked |= {} if inlines == "0" else {"inlines": int(inlines)}
+def answer(call, text, asked):
+    """Returns the output of a call and None, or None and its error's line."""
     try:
-        sys.stdout.buffer.write(getattr(cmk, name)(text, **asked).encode())
+        return call(text, **asked), None
     except cmk.CmkError as error:
-        sys.exit(error.line)
+        return None, error.line
+
+
+def one(name, *words):
+    *numbers, flags = words
+    asked = {name: int(number) for name, number in zip(("bytes", "blocks", "inlines"), numbers) if number != "0"}
+    asked |= {name: flag == "1" for name, flag in zip(("older", "strike", "no_html", "web_links"), flags)}
+    call, text = getattr(cmk, name), sys.stdin.buffer.read()
+    output, line = answer(call, text, asked)
+    with contextlib.suppress(UnicodeDecodeError):
+        if answer(call, text.decode(errors="surrogatepass"), asked) != (output, line):
+            sys.exit(3)
+    if line:
+        sys.exit(line)
+    sys.stdout.buffer.write(output.encode())
 
 
 def threads():
@@ -39,4 +52,4 @@ def threads():
 
 if len(sys.argv) < 6:
     threads()
-one(sys.argv[1], *sys.argv[3:])
+one(*sys.argv[1:])

@@ -109,15 +109,26 @@ def _line(number, place):
     return room.raw[: filled.length].decode().rstrip("\n")
 
 
-def _called(call, text, blocks=100, inlines=100, older=False, strike=False, no_html=False, web_links=False, safe=False):
-    """Returns what a call gives for a text."""
-    # 0 would stand for the default, and a wide number would be cut.
-    if not (1 <= blocks <= 500 and 1 <= inlines <= 500):
+def _encoded(text):
+    """Returns the bytes of a text. The library refuses those of a lone surrogate, since they aren't UTF-8."""
+    if isinstance(text, str):
+        return text.encode(errors="surrogatepass")
+    return text if isinstance(text, bytes) else bytes(memoryview(text))
+
+
+def _asked(bytes=1 << 28, blocks=100, inlines=100, older=False, strike=False, no_html=False, web_links=False, safe=False):
+    """Returns the options as the library takes them."""
+    # It takes 0 for the default, and ctypes cuts a wide number.
+    if not (1 <= bytes <= 1 << 30 and 1 <= blocks <= 500 and 1 <= inlines <= 500):
         raise CmkError(_OUT_OF_RANGE, 0)
-    given = text.encode() if isinstance(text, str) else text if isinstance(text, bytes) else bytes(memoryview(text))
-    options, output, nothing = _Options(0, blocks, inlines, older, strike, no_html or safe, web_links or safe), _Output(), ctypes.c_char(0)
+    return _Options(bytes, blocks, inlines, older, strike, no_html or safe, web_links or safe)
+
+
+def _called(call, text, options):
+    """Returns the output of a call for a text."""
+    asked, given, output, nothing = _asked(**options), _encoded(text), _Output(), ctypes.c_char(0)
     output.bytes = ctypes.addressof(nothing)
-    number = call(given, len(given), ctypes.byref(options), ctypes.byref(output))
+    number = call(given, len(given), ctypes.byref(asked), ctypes.byref(output))
     if number:
         raise CmkError(number, output.place)
     try:
@@ -129,19 +140,21 @@ def _called(call, text, blocks=100, inlines=100, older=False, strike=False, no_h
 def html(text, **options):
     """Returns the HTML of a text, as `cmk render` writes it.
 
-    `blocks` is how many quotes and list items may stand round a line, and `inlines` how deep emphasis, links and images may nest, each 1 to
-    500. `older` reads by the older rules, and `strike` reads text between two tildes as struck through. `no_html` reads raw HTML as text,
-    `web_links` links with a scheme other than http, https or mailto, and `safe` both. Raises `CmkError` where the text has a fault, memory
-    is wanting, or a number is out of its range.
+    `bytes` is the greatest length of the text in UTF-8, 1 to 2^30; 2^28 if it is left out. `blocks` is how many quotes and list items may
+    enclose a line, and `inlines` how deep emphasis, links and images may nest, each 1 to 500; 100 if it is left out. `older` selects the
+    older rules, and `strike` reads text between two tildes as struck through. `no_html` reads raw HTML as text, `web_links` links with a
+    scheme other than http, https or mailto, and `safe` both.
+
+    Raises `CmkError` if the text has a fault, memory runs out, or a number is out of range. A `str` with a lone surrogate isn't UTF-8.
 
     Without `safe` raw HTML of the text goes to the output as it stands, and `javascript:` links stay.
     """
-    return _called(_library.cmk_html, text, **options)
+    return _called(_library.cmk_html, text, options)
 
 
 def tree(text, **options):
     """Returns the listing of the tree of a text and of the owners of its lines, as `cmk tree` writes it. Else as `html`."""
-    return _called(_library.cmk_tree, text, **options)
+    return _called(_library.cmk_tree, text, options)
 
 
 def rewrite(text, **options):
@@ -149,7 +162,7 @@ def rewrite(text, **options):
 
     Raises `CmkError` as `html` does, and where the tree can't be spelled, with the number 8. Else as `html`.
     """
-    return _called(_library.cmk_rewrite, text, **options)
+    return _called(_library.cmk_rewrite, text, options)
 
 
 def version():
