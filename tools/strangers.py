@@ -6,8 +6,9 @@
 The texts are made of what strangers try: addresses with schemes in many disguises, raw HTML, ends of attributes, info strings, control
 characters. They are rendered some thousands at a time, as a file of examples. Python's html.parser has to find in each output only the
 elements and attributes of a short list, each closed in its place. Each class has to be one word for HTML. Each address has to have no
-scheme or one of http, https and mailto, as urllib.parse reads it and as a browser does. What isn't so is told. Last it says how many
-texts were tried, and how many of the first ones would be refused without --safe. The status is 1 if any text is refused.
+scheme or one of http, https and mailto, as urllib.parse reads it and as a browser does. Without the characters that XML 1.0 forbids each
+output has to be well-formed XML for expat. What isn't so is told. Last it says how many texts were tried, and how many of the first ones
+would be refused without --safe. The status is 1 if any text is refused.
 """
 import argparse
 import html.parser
@@ -18,10 +19,12 @@ import subprocess
 import sys
 import tempfile
 import urllib.parse
+import xml.parsers.expat
 
 BATCH = 5000
 SCHEMES = {"", "http", "https", "mailto"}
 VOID = {"hr", "br", "img"}
+FORBIDDEN = re.compile("[\x00-\x08\x0b\x0c\x0e-\x1f\ufffe\uffff]")
 ELEMENTS = {it: set() for it in "p h1 h2 h3 h4 h5 h6 pre blockquote ul li em strong del hr br".split()}
 ELEMENTS |= {"code": {"class"}, "ol": {"start"}, "a": {"href", "title"}, "img": {"src", "alt", "title"}}
 
@@ -169,6 +172,14 @@ class Page(html.parser.HTMLParser):
         self.found.append("a section")
 
 
+def is_xml(output):
+    try:
+        xml.parsers.expat.ParserCreate().Parse("<body>" + FORBIDDEN.sub("\ufffd", output) + "</body>", True)
+    except xml.parsers.expat.ExpatError:
+        return False
+    return True
+
+
 def wrong_in(output):
     """Returns what is in an output and may not be there."""
     page = Page()
@@ -177,7 +188,8 @@ def wrong_in(output):
         page.close()
     except AssertionError:
         page.found.append("a declaration that can't be read")
-    return page.found + [f"{tag} left open" for tag in page.opened]
+    page.found += [f"{tag} left open" for tag in page.opened]
+    return page.found + ([] if is_xml(output) else ["what isn't XML"])
 
 
 def main():
