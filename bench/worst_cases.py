@@ -59,6 +59,7 @@ KINDS = {
     "breaks": times("***\n"),
     "delimiter runs that open": times("*a "),
     "emphasis": times("*a*"),
+    "emphasis and text": times("*a* b"),
     "brackets that open": times("["),
     "brackets and links": times("[](a)"),
     "code spans": times("`a`"),

@@ -7,7 +7,8 @@
  * - No pointer may be null. Where the number of bytes is 0 any pointer that isn't null will do, as "". (As the library is built, a null
  *   text of 0 bytes is read as the empty text, and the tests try that; what is proved is of pointers that aren't null.)
  * - What is read and what is written may not overlap.
- * - The library has no state. Any number of threads may call at once, each with an output or a room of its own.
+ * - The library has no state. Any number of threads may call at once, each with an output or a room of its own. They may share a text and
+ *   options that nobody writes meanwhile.
  * - No call may come from a signal handler, nor from the child of a fork of a process with threads: a call takes memory from malloc.
  * - Each call returns, and is safe for any bytes. As measured, it takes less than 200 kB of stack at the default limits, and less than
  *   1 MB at the highest.
@@ -33,7 +34,7 @@ enum {
     CMK_TOO_LONG = 2,         /* place: the limit of bytes */
     CMK_BLOCKS_TOO_DEEP = 3,  /* place: the line, counted from 1, that has more quotes and list items round it than the limit */
     CMK_INLINES_TOO_DEEP = 4, /* place: the leaf, counted from 1, whose inlines nest deeper than the limit */
-    CMK_NO_MEMORY = 5,        /* a request for memory was refused */
+    CMK_NO_MEMORY = 5,        /* memory ran out: a refused allocation left no answer */
     CMK_CANNOT_SPELL = 8,     /* cmk_rewrite: the tree has no plain source; place: the number of the reason */
     CMK_OUT_OF_RANGE = 11,    /* a number among the options, or the number of a fault, is out of its range */
     CMK_NO_ROOM = 12          /* cmk_html_into, cmk_fault_text: the room is too small; the length that is needed is told */
