@@ -30,6 +30,6 @@ pub fn convert<R: Source, W: Sink>(
         (record { taken = W.taken sink.new; failed = W.failed sink.new }) }
 {
     let outline = outline_of(alloc, source, limits)?;
-    let html = html_of_outline(alloc, limits, outline)?;
+    let html = html_of_outline(alloc, limits, outline, usize::MAX)?;
     Ok(html.write(sink)?)
 }
