@@ -197,6 +197,9 @@ class Call:
     is_empty: bool
     part: Part
 
+    def is_promise(self):
+        return TRAIT.match(self.part.text.splitlines()[0]) is not None
+
     def path(self):
         return f"{self.owner}::{self.name}" if self.owner else self.name
 
@@ -204,7 +207,7 @@ class Call:
 def comment_before(lines, at):
     """The lines of the doc comment before a line, without what marks them."""
     first = at
-    while first and lines[first - 1].strip().startswith(("///", "#[")):
+    while first and lines[first - 1].strip().startswith(("//", "#[")):
         first -= 1
     return [line.strip()[3:].strip() for line in lines[first:at] if line.strip().startswith("///")]
 
@@ -241,6 +244,13 @@ def call_at(file, lines, at, owner, in_trait):
     return Call(owner, found[2], comment_before(lines, at), clauses, is_public, is_empty, part)
 
 
+@functools.cache
+def is_private(file, trait):
+    """Whether a trait belongs to the crate of a file alone."""
+    crate = CRATES / file.relative_to(CRATES).parts[0] / "src"
+    return any(re.search(rf"^(?:pub\(crate\) )?trait {re.escape(trait)}\b", other.read_text(), re.MULTILINE) for other in crate.rglob("*.rt"))
+
+
 def promise_at(file, lines, at, end):
     """What a type promises by a trait: the ghosts and the clauses of the `impl` that these lines are."""
     found, text = TRAIT.match(lines[at]), lines[at:end]
@@ -258,7 +268,7 @@ def calls(file):
     while at < len(lines):
         block, promise = BLOCK.match(lines[at]), TRAIT.match(lines[at])
         end = next(number for number in range(at, len(lines)) if re.match(r"\}|impl.*\{\}$", lines[number])) + 1 if block or promise else at + 1
-        if promise:
+        if promise and not is_private(file, promise[1]):
             found.append(promise_at(file, lines, at, end))
         inside = [] if promise else [number for number in range(at, end) if FUNCTION.match(lines[number])]
         found += filter(None, (call_at(file, lines, number, block and block[1], lines[at].startswith("pub trait")) for number in inside))
@@ -314,11 +324,12 @@ def contract(path):
     raise SystemExit(f"there is no public function {path}")
 
 
-def reached(*firsts):
-    """All parts on which some stand, and the words of the kit."""
+def reached(*firsts, by_views=True):
+    """All parts on which some stand, and the words of the kit. Without the views of types nothing is followed that a type names."""
     seen, kit, waiting = set(), set(), [*firsts]
     while waiting:
-        named = named_by(waiting.pop())
+        part = waiting.pop()
+        named = named_by(part) if by_views or part in firsts or part.file.suffix == ".antt" else []
         kit |= {one for one in named if isinstance(one, str)}
         found = {one for one in named if not isinstance(one, str)} - seen
         seen |= found

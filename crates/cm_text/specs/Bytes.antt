@@ -1,4 +1,4 @@
--- Bytes of ASCII by their names.
+-- ASCII bytes by their names.
 use Rattle.std.specs.Prelude.{ℕ}
 
 abbrev pub tab : ℕ

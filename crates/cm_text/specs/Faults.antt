@@ -4,11 +4,11 @@ use Rattle.std.specs.Str.Lossy.{utf8_valid_len, utf8_error_len}
 use Rattle.cm_text.specs.declared.fault.TextFault.{TextFault}
 use Rattle.cm_text.specs.declared.fault.TextFault.TheVariants.{NotUtf8, TooLong}
 
--- the bytes after the longest well-formed front
+-- the bytes after the longest front that is UTF-8
 abbrev pub left_of : List ℕ → List ℕ
 left_of bytes = drop (utf8_valid_len bytes) bytes
 
--- the length of the longest well-formed front of the bytes within the limit
+-- the length of the longest front of the bytes within the limit that is UTF-8
 abbrev pub valid_len : ℕ → List ℕ → ℕ
 valid_len limit bytes = utf8_valid_len (take limit bytes)
 
@@ -16,13 +16,14 @@ valid_len limit bytes = utf8_valid_len (take limit bytes)
 abbrev pub after_valid : ℕ → List ℕ → List ℕ
 after_valid limit bytes = left_of (take limit bytes)
 
--- the fault of the bytes however they go on
+-- The fault that the bytes have however they go on: bytes that aren't UTF-8 within the limit, or else a byte
+-- past the limit.
 abbrev pub settled_fault : ℕ → List ℕ → Option TextFault
 settled_fault limit bytes =
     if is_some (utf8_error_len (after_valid limit bytes)) then Some (NotUtf8 (valid_len limit bytes))
     else (if nat_lt limit (length bytes) then Some (TooLong limit) else None)
 
--- the fault of the bytes where they end
+-- The fault of the bytes if they end here: the same, or a character that is cut short.
 abbrev pub text_fault : ℕ → List ℕ → Option TextFault
 text_fault limit bytes =
     if is_some (settled_fault limit bytes) then settled_fault limit bytes

@@ -1,4 +1,4 @@
--- What a feed of a text in pieces stands for: bytes, of whose lines some have been taken.
+-- What a line buffer or a line feed holds: the lines of the bytes so far, without those already taken.
 use Rattle.std.specs.Prelude.{◌≡◌, ℕ, ◌+◌, ◌≤◌, Bool, true, false, List, length, take, drop, Option, Some, None, Result, Ok, Err, ⊤}
 use Rattle.std.specs.Str.Lossy.{utf8_valid_len}
 use Rattle.cm_text.specs.declared.fault.TextFault.{TextFault}
@@ -7,15 +7,15 @@ use Rattle.cm_text.specs.Lines.{LineView, text_of, plain_lines_of}
 use Rattle.cm_text.specs.Cut.{Cut, IsFront, cut_more, nothing_cut, without}
 use Rattle.cm_text.specs.Faults.{valid_len, after_valid, settled_fault, text_fault}
 
--- a cut, and then that of the longest well-formed front
+-- a cut after the longest front of some bytes that is UTF-8
 abbrev pub cut_valid : Cut → List ℕ → Cut
 cut_valid cut bytes = cut_more cut (text_of (take (utf8_valid_len bytes) bytes))
 
--- the bytes' text as it is cut into lines
+-- the text of the bytes within the limit, up to the first that isn't UTF-8, cut into lines
 abbrev pub cut_bytes : ℕ → List ℕ → Cut
 cut_bytes limit bytes = cut_valid nothing_cut (take limit bytes)
 
--- a feed without where it lies in memory
+-- what a line buffer, or a line feed, holds, without where it lies in memory
 pub record Feed : Type 0 where
   pub limit : ℕ
   pub start : ℕ
@@ -24,7 +24,7 @@ pub record Feed : Type 0 where
   pub ended : Bool
   pub fault : Option TextFault
 
--- the feed can be given more
+-- These bytes have no fault so far, and the given number of their lines has been taken.
 pub record Goes (feed : Feed) (bytes : List ℕ) (taken : ℕ) : Type 0 where
   pub sound : settled_fault feed.limit bytes ≡ None
   pub start : feed.start ≡ valid_len feed.limit bytes
@@ -32,23 +32,24 @@ pub record Goes (feed : Feed) (bytes : List ℕ) (taken : ℕ) : Type 0 where
   pub cut : feed.cut ≡ without taken (cut_bytes feed.limit bytes)
   pub in_order : taken ≤ length (cut_bytes feed.limit bytes).ended
 
--- the feed has been given all
+-- These bytes are the whole text, and the given number of its lines has been taken.
 pub record HasEnded (feed : Feed) (bytes : List ℕ) (taken : ℕ) : Type 0 where
   pub sound : text_fault feed.limit bytes ≡ None
   pub ready : feed.cut.ended ≡ drop taken (plain_lines_of (text_of bytes))
   pub in_order : taken ≤ length (plain_lines_of (text_of bytes))
 
--- the feed has met a fault of the text, and the lines before it can be taken
+-- These bytes have this fault, and the lines that ended before it can still be taken.
 pub record HasFailed (fault : TextFault) (feed : Feed) (bytes : List ℕ) (taken : ℕ) : Type 0 where
   pub told : text_fault feed.limit bytes ≡ Some fault
   pub ready : feed.cut.ended ≡ drop taken (cut_bytes feed.limit bytes).ended
   pub in_order : taken ≤ length (cut_bytes feed.limit bytes).ended
 
--- memory was refused, and some of the lines can be taken
+-- Memory was refused, and some of the lines that ended can still be taken.
 pub record LostMemory (feed : Feed) (bytes : List ℕ) (taken : ℕ) : Type 0 where
   pub ready : IsFront feed.cut.ended (drop taken (cut_bytes feed.limit bytes).ended)
   pub in_order : taken ≤ length (cut_bytes feed.limit bytes).ended
 
+-- the same by cases: no fault and more to come, the end, a fault of the text, or refused memory
 abbrev pub StandsAs : Option TextFault → Bool → Feed → List ℕ → ℕ → Type 0
 StandsAs None false feed bytes taken = Goes feed bytes taken
 StandsAs None true feed bytes taken = HasEnded feed bytes taken
@@ -56,11 +57,12 @@ StandsAs (Some (NotUtf8 at)) ended feed bytes taken = HasFailed (NotUtf8 at) fee
 StandsAs (Some (TooLong at)) ended feed bytes taken = HasFailed (TooLong at) feed bytes taken
 StandsAs (Some NoMemory) ended feed bytes taken = LostMemory feed bytes taken
 
--- The feed holds what these bytes leave in it once so many lines have been taken.
+-- The feed holds what these bytes leave in it once the given number of lines has been taken: before their
+-- end, after it, after a fault, or after a refused request for memory.
 abbrev pub StandsFor : Feed → List ℕ → ℕ → Type 0
 StandsFor feed bytes taken = StandsAs feed.fault feed.ended feed bytes taken
 
--- what a call answers where the text has this fault; memory may be refused
+-- what a call returns if the text has this fault, or none; memory may be refused
 abbrev pub Answers : Result (Unit {0}) TextFault → Option TextFault → Type 0
 Answers (Ok _) told = told ≡ None
 Answers (Err NoMemory) told = ⊤

@@ -19,7 +19,7 @@ abbrev pub strip_leading : List ℕ → List ℕ
 strip_leading [] = []
 strip_leading (b ∷ bs) = elim (is_gap b) [ true ↦ strip_leading bs | false ↦ b ∷ bs ]
 
--- a byte before what is left of the text after it
+-- a byte before the rest of the text: nothing if it is a gap and the rest is empty
 abbrev pub keep_before : ℕ → List ℕ → List ℕ
 keep_before b [] = elim (is_gap b) [ true ↦ [] | false ↦ b ∷ [] ]
 keep_before b (c ∷ cs) = b ∷ c ∷ cs
@@ -29,7 +29,7 @@ abbrev pub strip_trailing : List ℕ → List ℕ
 strip_trailing [] = []
 strip_trailing (b ∷ bs) = keep_before b (strip_trailing bs)
 
--- A text with each run of gaps as a single space. The mark says that a gap stands before the text, and so its space.
+-- A text with each run of gaps as a single space; the mark says that a gap came before the text.
 abbrev pub collapse_after : (after_gap : Bool) → List ℕ → List ℕ
 collapse_after after_gap [] = []
 collapse_after after_gap (b ∷ bs) = elim (is_gap b) [
@@ -37,10 +37,11 @@ collapse_after after_gap (b ∷ bs) = elim (is_gap b) [
   | false ↦ b ∷ collapse_after false bs
 ]
 
+-- a text with each run of gaps as a single space
 abbrev pub collapse : List ℕ → List ℕ
 collapse text = collapse_after false text
 
--- stripped at both ends and collapsed inside
+-- a text without gaps at its ends, and with each run of gaps inside as a single space
 unfoldable pub settle_gaps : List ℕ → List ℕ
 settle_gaps text = collapse (strip_trailing (strip_leading text))
 

@@ -6,7 +6,7 @@ use Rattle.cm_text.specs.Bytes.{tab, line_feed, carriage_return}
 abbrev pub is_line_ending : ℕ → Bool
 is_line_ending b = b == line_feed || b == carriage_return
 
--- no byte ends a line
+-- a text without line endings
 abbrev pub is_line : List ℕ → Bool
 is_line [] = true
 is_line (b ∷ bs) = not (is_line_ending b) && is_line bs

@@ -1,6 +1,6 @@
 -- The names of entity references (CommonMark 0.31.2, 2.5 Entity and numeric character references), each with
--- the code points that it stands for. They are those of HTML for the characters of Latin 1, for its five
--- markup characters, for the Greek letters, and for a choice of others. Case counts.
+-- its code points. They are those of HTML for the characters of Latin 1, for its five markup characters, for
+-- the Greek letters, and for a choice of others. Case counts.
 use Rattle.std.specs.Prelude.{ℕ, List, [], ◌∷◌, codes}
 
 unfoldable pub names : List (List ℕ × List ℕ)

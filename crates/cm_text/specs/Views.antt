@@ -4,6 +4,6 @@ use Rattle.cm_text.specs.Bytes.{space}
 use Rattle.cm_text.specs.declared.view.View.{View}
 use Rattle.cm_text.specs.Lines.{LineView}
 
--- the line for which a view stands: its spaces, and then the rest of the text
+-- the line that a view shows: its spaces, and then the rest of the text
 abbrev pub seen_view : View → LineView
 seen_view view = record { column = view.column; text = replicate view.spaces space ++ view.rest.now; lazy = view.lazy }

@@ -1,8 +1,8 @@
--- What has gone out to a sink.
+-- What has been written to a sink.
 use Rattle.std.specs.Prelude.{◌≡◌, ℕ, ◌+◌, ◌≤◌, List, length, take, Option}
 use Rattle.std.specs.Io.KnownBytes.{Appends, Keeps}
 
--- a sink, by the bytes that it has taken, where they are known, and the number of failed writes
+-- a sink: the bytes that it has taken, if they are known, and the number of failed writes
 pub record SinkView : Type 0 where
   pub taken : Option (List ℕ)
   pub failed : ℕ
@@ -12,15 +12,15 @@ pub record IsUnwritten (old new : SinkView) : Type 0 where
   pub keeps : Keeps old.taken new.taken
   pub same : new.failed ≡ old.failed
 
--- these bytes went out, with so many failed writes
+-- these bytes were written, with the given number of failed writes
 pub record Wrote (old new : SinkView) (bytes : List ℕ) (failures : ℕ) : Type 0 where
   pub appends : Appends old.taken new.taken bytes
   pub failed : new.failed ≡ old.failed + failures
 
--- a beginning of the bytes went out, and no write failed
+-- a front of the bytes was written, and no write failed
 abbrev pub WroteBeginning : SinkView → SinkView → List ℕ → Type 0
 WroteBeginning old new bytes = (written : ℕ) × Wrote old new (take written bytes) 0
 
--- one write failed, and just the first so many bytes went out
+-- one write failed, and what was written is the front of the bytes with the given length
 abbrev pub WroteFront : SinkView → SinkView → List ℕ → (written : ℕ) → Type 0
 WroteFront old new bytes written = Wrote old new (take written bytes) 1 × (written ≤ length bytes)

@@ -4,9 +4,9 @@ ghost use Rattle.cm_text.specs.Addresses.{begins_a_part, is_followed, is_web_add
 
 use crate::rules::Rules;
 
-/// Whether an address leads somewhere by these rules: each one does, or those alone that have no scheme, or
-/// one of the web's, which are `http`, `https` and `mailto` in any case. A scheme is what stands before the
-/// first `:`, if no `/`, `?` or `#` stands before that.
+/// Whether the rules follow this address: they follow every address, or only those without a scheme or with
+/// `http`, `https` or `mailto` in any case. A scheme is what comes before the first `:`, if no `/`, `?` or
+/// `#` comes before that.
 ///
 /// The address is a destination whose backslashes and references are resolved, as a tree has it.
 pub fn is_followed(rules: Rules, address: &str) -> bool

@@ -11,7 +11,7 @@ use crate::lines::Line;
 use crate::view::View;
 
 impl Line {
-    /// The line, seen whole. It takes no memory.
+    /// The line as a view. It takes no memory.
     pub fn view(&self) -> View<'_>
         ensures line { seen_view result ≡ seen_line self.now }
         ensures bare { result.spaces ≡ 0 }
@@ -95,7 +95,8 @@ impl<'a> View<'a> {
         self.spaces + indent_from(self.column + self.spaces, self.rest)
     }
 
-    /// The line behind so many bytes of its rest, none of which is a tab. No spaces stand before the rest.
+    /// The line after the first `n` bytes of its rest, none of which is a tab. There must be no spaces before
+    /// the rest.
     pub fn past(&self, n: usize) -> View<'a>
         requires bare { self.now.spaces ≡ 0 }
         requires boundary { IsCharBoundary self.now.rest.now n }
@@ -114,9 +115,9 @@ impl<'a> View<'a> {
         }
     }
 
-    /// The line without `n` columns of indentation, or without its indentation where that is less. The
-    /// start column moves on by what is taken, and a tab of which some columns are taken leaves the others
-    /// as spaces (2.2 Tabs).
+    /// The line without `n` columns of indentation, or without its indentation if that is less. The start
+    /// column moves on by what is taken, and a tab that is taken in part leaves the other columns as spaces
+    /// (2.2 Tabs).
     pub fn strip(&self, n: usize) -> View<'a>
         ensures line { seen_view result ≡ strip_columns n (seen_view self.now) }
         ensures bare { indent_of (seen_view self.now) ≤ n → result.spaces ≡ 0 }

@@ -103,7 +103,7 @@ fn copy_lines(
 }
 
 impl LineFeed {
-    /// A feed of nothing so far. It takes no memory.
+    /// A feed that has been given nothing. It takes no memory.
     pub fn new(alloc: Global, limits: Limits) -> LineFeed
         ensures limit { result.limit ≡ limits.bytes }
         ensures fault { result.fault ≡ None }
@@ -196,7 +196,7 @@ impl LineFeed {
         self.buffer.ended()
     }
 
-    /// Tells that the text ends here. Its last line is ready then, if it has no ending and isn't empty.
+    /// Says that the text ends here. Its last line is ready then, if it has no ending and isn't empty.
     ///
     /// A character that is only cut short is `TextFault::NotUtf8`.
     pub fn end(&mut self) -> Result<(), TextFault>

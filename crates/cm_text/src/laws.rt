@@ -15,29 +15,29 @@ pub fn lines_are_determined()
     ensures { LinesAreDetermined }
 {}
 
-/// The lines that are computed are the text's.
+/// The lines that `lines_of` computes are the text's.
 pub fn lines_are_computed()
     ensures { LinesAreComputed }
 {}
 
-/// No line of a text holds a line ending, and a text that is made of lines,
-/// each ended by a line feed, has these.
+/// No line of a text contains a line ending, and a text that is made of lines, each followed by a line feed,
+/// has these lines.
 pub fn lines_with_line_feeds()
     ensures line { LinesAreLines }
     ensures whole { LinesWithLineFeeds }
 {}
 
-/// The lines that a feed hands out are those that are computed.
+/// The lines that a feed returns are those that the definition computes.
 pub fn lines_are_cut()
     ensures { LinesAreCut }
 {}
 
-/// The lines that a feed has ready before the text has ended are those that have ended.
+/// The lines that a feed returns before the text has ended are those that have ended.
 pub fn ended_lines_are_cut()
     ensures { EndedLinesAreCut }
 {}
 
-/// A feed tells a fault just where every text that begins with the bytes so far has it.
+/// A feed reports a fault exactly if every text that starts with the bytes so far has it.
 pub fn settled_is_told()
     ensures { SettledIsTold }
 {}
@@ -47,12 +47,12 @@ pub fn strip_takes_columns()
     ensures { StripTakesColumns }
 {}
 
-/// Columns may be taken in parts.
+/// Columns may be stripped in several steps.
 pub fn strip_in_parts()
     ensures { StripInParts }
 {}
 
-/// Spaces in front of a line are columns of its indentation, and stripping as many takes just them.
+/// Spaces before a line are columns of its indentation, and stripping as many takes just them.
 pub fn spaces_are_columns()
     ensures indentation { SpacesAreColumns }
     ensures stripped { SpacesAreStripped }

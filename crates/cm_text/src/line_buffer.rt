@@ -99,7 +99,7 @@ impl LineBuffer {
         Ok(())
     }
 
-    /// A buffer of nothing so far. It takes no memory.
+    /// A buffer that has been given nothing. It takes no memory.
     pub fn new(alloc: Global, limits: Limits) -> LineBuffer
         ensures limit { result.limit ≡ limits.bytes }
         ensures fault { result.fault ≡ None }
@@ -171,8 +171,8 @@ impl LineBuffer {
         self.unread.pass_line();
     }
 
-    /// Looks for lines of text at the front of those that have ended, each
-    /// ended by a line feed alone. It takes no memory.
+    /// Looks for lines of text at the front of those that have ended, each followed by a line feed alone. It
+    /// takes no memory.
     #[inline(always)]
     pub fn look_for_text(&mut self)
         ensures { self.new ≡ self.old }
@@ -190,8 +190,8 @@ impl LineBuffer {
         self.unread.text_lines()
     }
 
-    /// Goes past so many lines, or past all that have ended where there are fewer. For the lines of text that
-    /// were looked for it is one step. It takes no memory.
+    /// Goes past the given number of lines, or past all that have ended if there are fewer. For the lines of
+    /// text that were looked for it is one step. It takes no memory.
     #[inline(always)]
     pub fn pass_lines(&mut self, count: usize)
         ensures rest { self.new ≡ with_ready (drop count self.old.cut.ended) self.old }
@@ -208,7 +208,7 @@ impl LineBuffer {
         self.ended
     }
 
-    /// Tells that the text ends here. Its last line has ended then, if it has no ending and isn't empty.
+    /// Says that the text ends here. Its last line has ended then, if it has no ending and isn't empty.
     ///
     /// A character that is only cut short is `TextFault::NotUtf8`.
     pub fn end(&mut self) -> Result<(), TextFault>

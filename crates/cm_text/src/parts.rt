@@ -1,7 +1,7 @@
 //! A text cut in two, without a copy.
 ghost use Rattle.std.specs.Prelude.{◌≡◌, ◌+◌, ◌<◌, length, take, drop, slice_index, IsUtf8};
 
-/// What stands before an ASCII character of a text, and what stands after it.
+/// What comes before an ASCII character of a text, and what comes after it.
 pub fn cut_at(text: &str, at: usize) -> (&str, &str)
     requires within { at < length text.now }
     requires ascii { slice_index text.now at < 128 }

@@ -39,8 +39,8 @@ impl Chars {
     }
 }
 
-/// The reference at a place in a text, which is the boundary of a character: what it stands for, and the
-/// place after its semicolon (CommonMark 0.31.2, 2.5 Entity and numeric character references).
+/// The reference at a place in a text, which is the boundary of a character: its characters, and the place
+/// after its semicolon (CommonMark 0.31.2, 2.5 Entity and numeric character references).
 ///
 /// U+0000 and what is no Unicode scalar value give U+FFFD.
 pub fn reference_at(text: &str, place: usize) -> Option<(Chars, usize)>

@@ -16,7 +16,7 @@ pub trait Replaced: ByteKind {
         requires { IsTrue (Self.passes b) }
         ensures { OnOk result (string_bytes out.new ≡ string_bytes out.old ++ written b) };
 
-    /// Where the first byte of the kind stands, if one does.
+    /// The place of the first byte of the kind, if there is one.
     #[inline(always)]
     fn find(bytes: &[u8]) -> Option<usize>
         ensures { result ≡ position Self.passes bytes.now }
@@ -26,7 +26,7 @@ pub trait Replaced: ByteKind {
     }
 }
 
-/// Adds a text, of which the bytes of the kind are written otherwise: each run between them as one slice.
+/// Adds a text with each byte of the kind replaced: the bytes between them are added as one slice.
 ///
 /// # Errors
 ///

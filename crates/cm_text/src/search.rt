@@ -156,7 +156,7 @@ impl ByteKind for NoSpace {
     }
 }
 
-/// How many spaces a text begins with.
+/// How many spaces a text starts with.
 #[inline(always)]
 pub fn leading_spaces(text: &str) -> usize
     ensures spaces { result ≡ position_or_len is_no_space text.now }
@@ -165,9 +165,9 @@ pub fn leading_spaces(text: &str) -> usize
     next_of::<NoSpace>(text.as_bytes(), 0)
 }
 
-/// The least place, at or after `from`, of a byte with which an inline other than
-/// text can begin, or which ends a line; the length where there is none. The
-/// bytes are LF, CR, `!`, `&`, `*`, `<`, `[`, `\`, `]`, `_`, a backtick and `~`.
+/// The least place, at or after `from`, of a byte with which an inline other than text can start, or which
+/// ends a line; the length if there is none. The bytes are LF, CR, `!`, `&`, `*`, `<`, `[`, `\`, `]`, `_`, a
+/// backtick and `~`.
 pub fn next_markup(bytes: &[u8], from: usize) -> usize
     ensures { result ≡ next_place is_marked bytes.now from }
 {

@@ -22,7 +22,7 @@ pub struct TextLines<'a> {
 }
 
 impl<'a> TextLines<'a> {
-    /// The lines without the spaces in front of the first, and without the last line feed.
+    /// The lines without the spaces before the first, and without the last line feed.
     #[inline(always)]
     pub fn content(&self) -> &'a str
         ensures { drop self.now.spaces self.now.text.now ≡ result.now ++ 10 ∷ [] }

@@ -7,7 +7,7 @@ use crate::parts::cut_at;
 use memchr::memchr;
 use std::alloc::Global;
 
-/// The text of UTF-8 bytes: U+FFFD stands for U+0000 (CommonMark 0.31.2, 2.3 Insecure characters).
+/// The text of UTF-8 bytes, with U+FFFD in place of each U+0000 (CommonMark 0.31.2, 2.3 Insecure characters).
 ///
 /// # Errors
 ///

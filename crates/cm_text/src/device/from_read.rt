@@ -25,6 +25,7 @@ impl<R: Read> FromRead<R> {
     }
 }
 
+/// The bytes still to come are those of the reader. A file or a terminal leaves them open.
 impl<R: Read> Source for FromRead<R> {
     ghost remaining = { λ s. R.remaining s.reader };
 

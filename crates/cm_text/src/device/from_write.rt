@@ -26,6 +26,7 @@ impl<W: Write> FromWrite<W> {
     }
 }
 
+/// The bytes taken are those of the writer. A file or a terminal leaves them open.
 impl<W: Write> Sink for FromWrite<W> {
     ghost taken = { λ s. W.contents s.writer };
 

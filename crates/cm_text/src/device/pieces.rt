@@ -49,6 +49,7 @@ fn give(bytes: &[u8], buf: &mut [u8]) -> usize
     count
 }
 
+/// A read returns as many bytes of the next piece as the buffer holds, and no bytes of two pieces.
 impl Source for Pieces {
     ghost use Rattle.cm_text.specs.Devices.{fails_of, next_piece};
 

@@ -21,8 +21,8 @@ pub struct Room {
 impl Room {
     ghost use Rattle.cm_text.specs.Devices.{capacity_of, at_most_of};
 
-    /// Room for `capacity` bytes, of which a call takes at most `at_most`: with 0 each write fails.
-    /// All its memory is taken here.
+    /// Room for `capacity` bytes. A call takes at most `at_most` of them: with 0 each write fails. All its
+    /// memory is allocated here.
     pub fn new(alloc: Global, capacity: usize, at_most: usize) -> Result<Room, NoMemory>
         ensures failed { IfOk result (λ room. ⟦<Room as Sink>⟧.failed room ≡ 0) }
         ensures taken { IfOk result (λ room. ⟦<Room as Sink>⟧.taken room ≡ Some []) }
@@ -45,6 +45,7 @@ impl Room {
     }
 }
 
+/// A write takes as many bytes as there is room for in a call, or fails if it takes none of some.
 impl Sink for Room {
     ghost use Rattle.cm_text.specs.Devices.{room_answer, capacity_of, at_most_of};
 
