@@ -45,7 +45,7 @@ strip_columns n line =
     let left = strip_from n line.column line.text in
     record { column = left.0; text = left.1; lazy = line.lazy }
 
--- what follows the indentation
+-- what follows the indentation of a text
 abbrev pub after_indent : List ℕ → List ℕ
 after_indent [] = []
 after_indent (b ∷ bs) = elim (b == space || b == tab) [ true ↦ after_indent bs | false ↦ b ∷ bs ]

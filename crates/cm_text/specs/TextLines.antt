@@ -10,7 +10,7 @@ use Rattle.cm_text.specs.Lines.{lines_of, with_line_feed}
 abbrev pub begins_text : ℕ → Bool
 begins_text b = within 65 90 b || within 97 122 b || nat_le 128 b
 
--- after the given number of spaces, such a byte follows
+-- a line that starts with such a byte after the given number of spaces
 abbrev pub is_text_behind : ℕ → List ℕ → Bool
 is_text_behind spaces [] = false
 is_text_behind zero (b ∷ bs) = begins_text b

@@ -1,4 +1,5 @@
--- Link reference definitions by their folded labels (CommonMark 0.31.2, 4.7 and 6.3).
+-- Link reference definitions by their folded labels (CommonMark 0.31.2, 4.7 Link reference definitions, 6.3
+-- Links).
 use Rattle.std.specs.Prelude.{◌≡◌, ℕ, true, false, List, [], ◌∷◌, Option, Some, None, if◌then◌else◌}
 use Rattle.std.specs.Ordering.{nat_cmp}
 use Rattle.std.specs.Cmp.Lexicographic.{slice_cmp}
@@ -12,24 +13,24 @@ use Rattle.cm_text.specs.Labels.{fold_label}
 abbrev pub Target : Type 0
 Target = List ℕ × List ℕ
 
--- the target, if the rules follow its address
+-- a target, if the rules follow its address
 abbrev pub target_if_followed : Rules → Option Target → Option Target
 target_if_followed rules None = None
 target_if_followed rules (Some target) = elim (is_followed rules target.0) [ true ↦ Some target | false ↦ None ]
 
--- what each folded label stands for
+-- the target of each folded label
 abbrev pub Targets : Type 0
 Targets = FinMap (slice_cmp nat_cmp) Target
 
--- one more definition under this folded label, where the first of equal labels stays
+-- a table with one more definition: the first of equal folded labels stays
 abbrev pub add_first : Targets → List ℕ → Target → Targets
 add_first targets folded target = if contains_key targets folded then targets else insert targets folded target
 
--- labels with targets, of which the first of equal labels counts
+-- the table of these labels with their targets, as the program holds them
 abbrev pub targets_of : List (List ℕ × Target) → Targets
 targets_of entries = from_entries entries
 
--- a table to which these definitions, a label and a target each, have been added in order
+-- a table to which these definitions, each a label and a target, have been added in order
 abbrev pub add_all : Targets → List (List ℕ × Target) → Targets
 add_all targets [] = targets
 add_all targets (d ∷ ds) = add_all (add_first targets (fold_label d.0) d.1) ds
@@ -39,7 +40,8 @@ abbrev pub first_under : List ℕ → List (List ℕ × Target) → Option Targe
 first_under folded [] = None
 first_under folded (d ∷ ds) = if bytes_eq (fold_label d.0) folded then Some d.1 else first_under folded ds
 
--- In the table of definitions that were added in order, a label stands for the first definition under an equal folded label.
+-- In a table to which definitions were added in order, a label has the target of the first definition with an
+-- equal folded label.
 abbrev pub FirstCounts : Type 0
 FirstCounts = (definitions : List (List ℕ × Target)) (label : List ℕ)
     → get (add_all empty definitions) (fold_label label) ≡ first_under (fold_label label) definitions

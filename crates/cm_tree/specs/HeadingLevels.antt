@@ -1,22 +1,24 @@
--- The levels of a tree's headings (CommonMark 0.31.2, 4.2 and 4.3).
+-- The levels of a tree's headings (CommonMark 0.31.2, 4.2 ATX headings, 4.3 Setext headings).
 use Rattle.std.specs.Prelude.{ℕ, nat_le, Bool, true, ◌&&◌, List, [], ◌∷◌, map}
 use Rattle.cm_tree.specs.declared.tree.Block.{Block, Block-F}
 use Rattle.cm_tree.specs.declared.tree.Block.TheOpen as block
 use Rattle.cm_tree.specs.declared.tree.Block.TheFolds.{fold-Block}
 
--- 1 to 6
+-- a number from 1 to 6
 abbrev pub is_level : ℕ → Bool
 is_level level = nat_le 1 level && nat_le level 6
 
+-- each answer is true
 abbrev pub all_of : List Bool → Bool
 all_of [] = true
 all_of (answer ∷ answers) = answer && all_of answers
 
+-- the same of items, each with several answers
 abbrev pub all_of_items : List (List Bool) → Bool
 all_of_items [] = true
 all_of_items (item ∷ items) = all_of item && all_of_items items
 
--- one block, with the answer for each block inside in its place
+-- one block, given the answer for each block inside
 abbrev pub level_step : Block-F Bool → Bool
 level_step (block.Heading level content) = is_level level
 level_step (block.Quote blocks) = all_of blocks
@@ -26,6 +28,6 @@ level_step _ = true
 abbrev pub has_levels : Block → Bool
 has_levels = fold-Block Bool level_step
 
--- each heading in the blocks, at any depth, has such a level
+-- each heading in the blocks, at any depth, has a level from 1 to 6
 abbrev pub have_levels : List Block → Bool
 have_levels blocks = all_of (map has_levels blocks)

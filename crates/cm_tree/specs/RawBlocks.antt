@@ -1,4 +1,4 @@
--- Blocks whose inlines haven't been read: what they stand for.
+-- Blocks whose inlines haven't been read, held as places in texts and lists.
 use Rattle.std.specs.Prelude.{◌≡◌, ℕ, ◌≤◌, List, [], ◌∷◌, ◌++◌, length, map, refl, ⊤}
 use Rattle.std.specs.Coded.{Coded, code_by, coded_ℕ, coded_list, coded×}
 use Rattle.std.specs.List.{slice_range}
@@ -12,12 +12,12 @@ use Rattle.cm_tree.specs.declared.tree.Block.TheVariants as trees
 use Rattle.cm_tree.specs.declared.tree.Inline.{Inline}
 use Rattle.cm_tree.specs.declared.tree.Inline.TheVariants as inlines
 
--- an inline that stands for a leaf's source, or no inline if that is empty
+-- the source of a leaf as its one inline, or no inline if it is empty
 abbrev pub raw_inlines : List ℕ → List Inline
 raw_inlines [] = []
 raw_inlines (b ∷ bs) = inlines.Text (b ∷ bs) ∷ []
 
--- the texts of all, the blocks that stand in others, and the items with their blocks
+-- the texts of all blocks, the blocks that are in other blocks, and the items with their blocks
 pub record Raw : Type 0 where
   pub text : List ℕ
   pub blocks : List Block
@@ -30,7 +30,7 @@ raw_code =
     (coded× (coded_list coded_ℕ) (coded× (coded_list block.the_row.coded) (coded_list (coded_list block.the_row.coded))))
     (λ r. (r.text, (r.blocks, r.items))) (λ t. record { text = t.0; blocks = t.1.0; items = t.1.1 }) (λ _. refl)
 
--- a block, where these are the texts, the blocks and the items
+-- the block at these places of the texts, the blocks and the items
 abbrev pub block_in : Raw → RawBlock → Block
 block_in raw (raw_block.Paragraph from to) = trees.Paragraph (raw_inlines (slice_range raw.text from to))
 block_in raw (raw_block.Heading level from to) = trees.Heading level (raw_inlines (slice_range raw.text from to))
@@ -42,24 +42,27 @@ block_in raw (raw_block.Definition label dest title to) =
 block_in raw (raw_block.Quote from to) = trees.Quote (slice_range raw.blocks from to)
 block_in raw (raw_block.List kind tight from to) = trees.List kind tight (slice_range raw.items from to)
 
+-- the same of several blocks
 abbrev pub blocks_in : Raw → List RawBlock → List Block
 blocks_in raw blocks = map (block_in raw) blocks
 
--- the blocks of an item
+-- the blocks of the item at these places
 abbrev pub item_in : Raw → RawItem → List Block
 item_in raw item = slice_range raw.blocks item.from item.to
 
+-- the same of several items
 abbrev pub items_in : Raw → List RawItem → List (List Block)
 items_in raw items = map (item_in raw) items
 
--- places in a text, or in a list of so many
+-- two places of a text, in order, that are boundaries of characters
 abbrev pub IsBetween : List ℕ → ℕ → ℕ → Type 0
 IsBetween text from to = (from ≤ to) × IsCharBoundary text from × IsCharBoundary text to
 
+-- two places in a list of the given length, in order
 abbrev pub IsRange : ℕ → ℕ → ℕ → Type 0
 IsRange count from to = (from ≤ to) × (to ≤ count)
 
--- what a block is made of is there
+-- the places of a block are places of the texts, the blocks and the items
 abbrev pub IsPlaced : Raw → RawBlock → Type 0
 IsPlaced raw (raw_block.Paragraph from to) = IsBetween raw.text from to
 IsPlaced raw (raw_block.Heading level from to) = IsBetween raw.text from to
@@ -70,18 +73,21 @@ IsPlaced raw (raw_block.Definition label dest title to) = IsBetween raw.text lab
 IsPlaced raw (raw_block.Quote from to) = IsRange (length raw.blocks) from to
 IsPlaced raw (raw_block.List kind tight from to) = IsRange (length raw.items) from to
 
+-- the same of several blocks
 abbrev pub ArePlaced : Raw → List RawBlock → Type 0
 ArePlaced raw [] = ⊤
 ArePlaced raw (block ∷ blocks) = IsPlaced raw block × ArePlaced raw blocks
 
+-- the places of an item are places of the blocks
 abbrev pub IsItem : Raw → RawItem → Type 0
 IsItem raw item = IsRange (length raw.blocks) item.from item.to
 
+-- the same of several items
 abbrev pub AreItems : Raw → List RawItem → Type 0
 AreItems raw [] = ⊤
 AreItems raw (item ∷ items) = IsItem raw item × AreItems raw items
 
--- more is there, behind all that was: so what a block stood for it stands for
+-- More has been put after what was there, so each block that was there stays what it is.
 pub record Grows (old new : Raw) : Type 0 where
   pub text : List ℕ
   pub blocks : List Block

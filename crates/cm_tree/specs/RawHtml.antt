@@ -1,4 +1,4 @@
--- Where raw HTML stands in a tree.
+-- Raw HTML in a tree (CommonMark 0.31.2, 4.6 HTML blocks, 6.6 Raw HTML).
 use Rattle.std.specs.Prelude.{Bool, true, false, ◌||◌, List, [], ◌∷◌, map}
 use Rattle.cm_tree.specs.declared.tree.Inline.{Inline, Inline-F}
 use Rattle.cm_tree.specs.declared.tree.Inline.TheOpen as inline
@@ -7,12 +7,13 @@ use Rattle.cm_tree.specs.declared.tree.Block.{Block, Block-F}
 use Rattle.cm_tree.specs.declared.tree.Block.TheOpen as block
 use Rattle.cm_tree.specs.declared.tree.Block.TheFolds.{fold-Block}
 
+-- one of the answers is true
 abbrev pub any_of : List Bool → Bool
 any_of [] = false
 any_of (answer ∷ answers) = answer || any_of answers
 
--- One inline, with the answer for each inline of its content in its place. An image's content is its alternative text, and raw HTML
--- in that is text.
+-- One inline, given the answer for each inline of its content. The content of an image is its alternative
+-- text, and raw HTML in that is text.
 abbrev pub raw_inline_step : Inline-F Bool → Bool
 raw_inline_step (inline.Html text) = true
 raw_inline_step (inline.Emph content) = any_of content
@@ -24,14 +25,16 @@ raw_inline_step _ = false
 abbrev pub inline_has_raw : Inline → Bool
 inline_has_raw = fold-Inline Bool raw_inline_step
 
+-- raw HTML is in the inlines, at any depth but in an image
 abbrev pub inlines_have_raw : List Inline → Bool
 inlines_have_raw inlines = any_of (map inline_has_raw inlines)
 
+-- one of the answers for some items is true
 abbrev pub any_of_items : List (List Bool) → Bool
 any_of_items [] = false
 any_of_items (item ∷ items) = any_of item || any_of_items items
 
--- one block, with the answer for each block inside in its place
+-- one block, given the answer for each block inside
 abbrev pub raw_block_step : Block-F Bool → Bool
 raw_block_step (block.Paragraph content) = inlines_have_raw content
 raw_block_step (block.Heading level content) = inlines_have_raw content
@@ -43,6 +46,6 @@ raw_block_step _ = false
 abbrev pub block_has_raw : Block → Bool
 block_has_raw = fold-Block Bool raw_block_step
 
--- raw HTML or an HTML block stands in the blocks, at any depth, but in an image
+-- the blocks contain an HTML block, or raw HTML, at any depth but in an image
 abbrev pub blocks_have_raw : List Block → Bool
 blocks_have_raw blocks = any_of (map block_has_raw blocks)

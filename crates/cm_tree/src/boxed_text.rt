@@ -48,7 +48,7 @@ impl BoxedText {
         })
     }
 
-    /// The counted text inside, without a copy, or None where there is none: then the text has no bytes.
+    /// The counted text inside, without a copy, or None if there is none: then the text has no bytes.
     pub fn into_arc(self) -> Option<Arc<Text>>
         ensures { boxed_bytes result ≡ self }
     {
@@ -126,7 +126,7 @@ impl PartialOrd for BoxedText {
     }
 }
 
-/// By their bytes.
+/// Texts are ordered by their bytes.
 impl Ord for BoxedText {
     ghost cmp = { λ s t. slice_cmp nat_cmp s t };
 

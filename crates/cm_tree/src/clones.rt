@@ -6,6 +6,7 @@ use crate::items::Items;
 use crate::tree::{Block, Doc, Inline};
 use std::alloc::AllocError;
 
+/// An equal inline.
 impl Clone for Inline {
     ghost is_clone = { λ inline copy. copy ≡ inline };
 
@@ -14,6 +15,7 @@ impl Clone for Inline {
     }
 }
 
+/// An equal block.
 impl Clone for Block {
     ghost is_clone = { λ block copy. copy ≡ block };
 
@@ -22,6 +24,7 @@ impl Clone for Block {
     }
 }
 
+/// An equal document.
 impl Clone for Doc {
     ghost is_clone = { λ doc copy. copy ≡ doc };
 

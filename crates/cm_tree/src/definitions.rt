@@ -120,8 +120,8 @@ impl Definitions {
         )
     }
 
-    /// The destination and the title of the first definition that was added with a matching label, or
-    /// None where there is none.
+    /// The destination and the title of the first definition that was added with a matching label, or None if
+    /// there is none.
     ///
     /// # Errors
     ///
@@ -136,7 +136,7 @@ impl Definitions {
         }
     }
 
-    /// The same, as texts that are shared where they are long: a reference that keeps them copies no bytes.
+    /// The same, as texts that are shared if they are long: a reference that keeps them copies no bytes.
     ///
     /// # Errors
     ///

@@ -5,7 +5,7 @@ ghost use Rattle.cm_tree.specs.steps.ItemSteps.{items_depth};
 
 use crate::tree::{Block, Inline};
 
-/// The greatest number of `Emph`, `Strong`, `Strike`, `Link` and `Image` that stand in one another, or
+/// The greatest number of `Emph`, `Strong`, `Strike`, `Link` and `Image` nested in one another, or
 /// `usize::MAX` if that is less. It takes no memory.
 #[cycle(inline_depth)]
 pub fn inline_depth(inlines: &[Inline]) -> usize
@@ -32,8 +32,8 @@ fn one_inline_depth(inline: &Inline) -> usize
     }
 }
 
-/// The greatest number of quotes and items that stand in one another, or `usize::MAX` if that is
-/// less. A list by itself doesn't count. It takes no memory.
+/// The greatest number of block quotes and list items nested in one another, or `usize::MAX` if that is less.
+/// A list by itself doesn't count. It takes no memory.
 #[cycle(block_depth)]
 pub fn block_depth(blocks: &[Block]) -> usize
     ensures { result ≡ saturated (blocks_depth blocks.now) }

@@ -68,7 +68,7 @@ impl<T> Items<T> {
         })
     }
 
-    /// Takes the last item off, or answers None where there is none.
+    /// Removes the last item and returns it, or None if there is none. It takes no memory.
     pub fn pop(&mut self) -> Option<T>
         ensures { MatchOption result ((self.old ≡ []) × (self.new ≡ []))
             (λ last. self.old ≡ self.new ++ last ∷ []) }

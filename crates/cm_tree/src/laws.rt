@@ -2,8 +2,8 @@
 ghost use Rattle.cm_tree.specs.Definitions.{FirstCounts};
 ghost use Rattle.cm_tree.specs.WorkedExamples.{DepthExamples, DefinitionExamples};
 
-/// In the table of definitions that were added in order, a label stands for the first definition with
-/// a matching label.
+/// In a table to which definitions were added in order, a label has the target of the first definition with a
+/// matching label.
 pub fn first_counts()
     ensures { FirstCounts }
 {}

@@ -1,4 +1,4 @@
-//! Where a link leads, and its title: as they are lent, and as they are kept.
+//! The destination and title of a link, as they are borrowed and as they are kept.
 ghost use Rattle.std.specs.Prelude.{◌≡◌, IfOk, string_bytes};
 ghost use Rattle.cm_tree.specs.TargetPlaces.{GoesOn};
 ghost use Rattle.cm_tree.specs.LinkTargets.{led_to, kept_in, IsKept, Keeps};
@@ -33,7 +33,7 @@ pub enum LinkTarget<'a> {
 }
 
 impl<'a> LinkTarget<'a> {
-    /// Where the link leads.
+    /// The destination.
     pub fn dest(self) -> &'a str
         ensures { result.now ≡ (led_to self.entry).0 }
     {
@@ -43,7 +43,7 @@ impl<'a> LinkTarget<'a> {
         }
     }
 
-    /// Its title.
+    /// The title.
     pub fn title(self) -> &'a str
         ensures { result.now ≡ (led_to self.entry).1 }
     {
@@ -77,8 +77,8 @@ impl KeptTarget {
         Ok(KeptTarget::Placed(TargetPlaces::push(texts, dest, title)?))
     }
 
-    /// Keeps copies of a destination and a title: behind a text where both are
-    /// short, and else as texts to be shared.
+    /// Keeps copies of a destination and a title: appended to a text if both are short, or else as texts to
+    /// be shared.
     ///
     /// # Errors
     ///
@@ -101,7 +101,7 @@ impl KeptTarget {
         })
     }
 
-    /// Keeps where a link leads: copies of plain texts behind a text, and shared ones without a copy.
+    /// Keeps a borrowed target: copies of plain texts appended to a text, and shared ones without a copy.
     ///
     /// # Errors
     ///
@@ -119,7 +119,7 @@ impl KeptTarget {
         }
     }
 
-    /// What is kept, where this is the text.
+    /// What is kept, given the text that its places are in.
     pub fn lend<'a>(&'a self, texts: &'a str) -> LinkTarget<'a>
         requires { IsKept texts.now self.now }
         ensures { led_to result ≡ kept_in texts.now self.now }

@@ -189,7 +189,7 @@ impl RawBlocks {
         })
     }
 
-    /// Whether the texts are so many bytes that they fill a part of a document: 32 KiB.
+    /// Whether the texts are long enough to fill a part of a document: 32 KiB.
     pub fn is_full(&self) -> bool
         ensures { result ≡ nat_le 32768 (length self.now.text) }
     {
@@ -321,7 +321,7 @@ impl RawBlocks {
         })
     }
 
-    /// Puts blocks behind the others as those of an item (5.2 List items).
+    /// Puts blocks after the others as those of an item (5.2 List items).
     ///
     /// # Errors
     ///

@@ -4,8 +4,8 @@ ghost use Rattle.cm_tree.specs.RawHtml.{inline_has_raw, inlines_have_raw, block_
 
 use crate::tree::{Block, Inline};
 
-/// Whether an `Html`, as a block or as an inline, stands in the blocks, at any depth. Inlines in an
-/// `Image` don't count: they are its description, in which raw HTML is text. It takes no memory.
+/// Whether an `Html`, as a block or as an inline, is in the blocks, at any depth. The content of an image is
+/// its alternative text, so an `Html` in that doesn't count. It takes no memory.
 #[cycle(has_raw_html)]
 pub fn has_raw_html(blocks: &[Block]) -> bool
     ensures { result ≡ blocks_have_raw blocks.now }

@@ -1,4 +1,4 @@
-//! The blocks of a document whose inlines haven't been read, in parts that may be let go of one by one.
+//! The blocks of a document whose inlines haven't been read, in parts that may be freed one by one.
 ghost use Rattle.std.specs.Prelude.{◌≡◌, [], ◌++◌, OnOk, OnErr};
 ghost use Rattle.cm_tree.specs.RawBlocks.{blocks_in, ArePlaced};
 ghost use Rattle.cm_tree.specs.RawTrees.{all_blocks};
@@ -31,7 +31,7 @@ impl Model for RawPart {
 }
 
 impl RawPart {
-    /// Blocks, of which all that they are made of is inside.
+    /// Blocks, and all that they are made of.
     pub fn new(blocks: Vec<RawBlock>, inside: RawBlocks) -> RawPart
         requires { ArePlaced inside blocks.items }
         ensures { result ≡ blocks_in inside blocks.items }
@@ -39,7 +39,7 @@ impl RawPart {
         RawPart { blocks, inside }
     }
 
-    /// The blocks at the top level, and what they are made of, as they stand.
+    /// The blocks at the top level, and what they are made of, without a copy.
     pub fn contents(&self) -> (&[RawBlock], &RawBlocks)
         ensures blocks { blocks_in result.1.now result.0.now ≡ self.now }
         ensures placed { ArePlaced result.1.now result.0.now }
@@ -88,7 +88,7 @@ impl RawTree {
         }
     }
 
-    /// Puts the blocks of a part behind the others.
+    /// Puts the blocks of a part after the others.
     ///
     /// # Errors
     ///
@@ -101,14 +101,14 @@ impl RawTree {
         Ok(())
     }
 
-    /// The parts, as they stand.
+    /// The parts, without a copy.
     pub fn parts(&self) -> &[RawPart]
         ensures { all_blocks result.now ≡ self.now }
     {
         &self.parts
     }
 
-    /// The parts, each of which may be let go of by itself.
+    /// The parts, each of which may be freed by itself.
     pub fn into_parts(self) -> Vec<RawPart>
         ensures { all_blocks result.items ≡ self }
     {

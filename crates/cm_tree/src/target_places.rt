@@ -16,7 +16,7 @@ pub struct TargetPlaces {
 }
 
 impl TargetPlaces {
-    /// Puts a destination and a title behind a text, and answers where they lie.
+    /// Appends a destination and a title to a text, and returns their places.
     ///
     /// # Errors
     ///
@@ -39,7 +39,7 @@ impl TargetPlaces {
         })
     }
 
-    /// The destination that lies there.
+    /// The destination at these places.
     pub fn dest(self, texts: &str) -> &str
         requires { IsTarget texts.now self }
         ensures { result.now ≡ (target_in texts.now self).0 }
@@ -47,7 +47,7 @@ impl TargetPlaces {
         &texts[self.dest..self.title]
     }
 
-    /// The title that lies there.
+    /// The title at these places.
     pub fn title(self, texts: &str) -> &str
         requires { IsTarget texts.now self }
         ensures { result.now ≡ (target_in texts.now self).1 }
