@@ -1,27 +1,28 @@
--- How a scanner's answer is compared with the definitions: what it read, and what is left behind that.
+-- How the result of a scanner is compared with the definitions: what it read, and what is left after that.
 use Rattle.std.specs.Prelude.{List, drop, option_map, ℕ, Option, Some, None, Bool, if◌then◌else◌, ◌++◌, codes}
 use Rattle.std.specs.Borrow.{Bor}
 use Rattle.cm_scan.specs.inlines.Links.{Reading, LinkDefinition}
 use Rattle.cm_scan.specs.spans.Autolinks.{Autolink}
 use Rattle.cm_scan.specs.spans.Angles.{before}
 
--- what was read, if it was, with the place where it ends
+-- what was read, if anything was, with the place where it ends
 abbrev pub ending : {A : Type 0} → Option A → ℕ → Option (A × ℕ)
 ending None end = None
 ending (Some x) end = Some (x, end)
 
--- what a scanner answers: the part that it read, and what is left behind the place where it ended
+-- the result of a scanner: the part that it read, and what is left after the place where it ended
 abbrev pub reading_of : List ℕ → Option (Bor (List ℕ) × ℕ) → Option Reading
 reading_of text read = option_map (λ r. record { text = r.0.now; rest = drop r.1 text }) read
 
--- a definition of these parts
+-- a definition with these parts
 abbrev pub definition_with : List ℕ → List ℕ → List ℕ → List ℕ → LinkDefinition
 definition_with label dest title rest = record { label = label; dest = dest; title = title; rest = rest }
 
--- an autolink of this text: an address leads to `mailto:` and the text, and any other to the text
+-- An autolink with this text: the destination of an email address is `mailto:` and the text, and of any other
+-- the text.
 abbrev pub autolink_with : (address : Bool) → List ℕ → List ℕ → Autolink
 autolink_with address text rest = record { destination = if address then codes "mailto:" ++ text else text; text = text; rest = rest }
 
--- the whole of what was read of a text, as it is written, by what is left behind it
+-- all that was read of a text, as it is written, given what is left after it
 abbrev pub whole_of : List ℕ → Option (List ℕ) → Option Reading
 whole_of text rest = option_map (λ r. record { text = before r text; rest = r }) rest

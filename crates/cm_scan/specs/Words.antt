@@ -11,16 +11,19 @@ pub use Rattle.cm_text.specs.References.{begins_with}
 abbrev pub is_control : ℕ → Bool
 is_control b = nat_lt b 32 || b == 127
 
+-- an ASCII digit
 abbrev pub is_digit : ℕ → Bool
 is_digit b = within 48 57 b
 
+-- an ASCII letter
 abbrev pub is_letter : ℕ → Bool
 is_letter b = within 65 90 b || within 97 122 b
 
+-- an ASCII letter or digit
 abbrev pub is_letter_or_digit : ℕ → Bool
 is_letter_or_digit b = is_letter b || is_digit b
 
--- what is left of a text behind the bytes at its front that pass a test
+-- what is left of a text after the bytes at its front that pass a test
 unfoldable pub skip : (ℕ → Bool) → List ℕ → List ℕ
 skip test [] = []
 skip test (b ∷ bs) = elim (test b) [ true ↦ skip test bs | false ↦ b ∷ bs ]
@@ -30,21 +33,21 @@ unfoldable pub front_of : (ℕ → Bool) → List ℕ → List ℕ
 front_of test [] = []
 front_of test (b ∷ bs) = elim (test b) [ true ↦ b ∷ front_of test bs | false ↦ [] ]
 
--- how many times a byte stands at the front
+-- how many times a byte is repeated at the front of a text
 unfoldable pub run_length : ℕ → List ℕ → ℕ
 run_length marker [] = 0
 run_length marker (b ∷ bs) = elim (b == marker) [ true ↦ suc (run_length marker bs) | false ↦ 0 ]
 
--- what is left of a text behind that run
+-- what is left of a text after that run
 unfoldable pub after_run : ℕ → List ℕ → List ℕ
 after_run marker [] = []
 after_run marker (b ∷ bs) = elim (b == marker) [ true ↦ after_run marker bs | false ↦ b ∷ bs ]
 
--- without the spaces and tabs at the front
+-- a text without the spaces and tabs at its front
 abbrev pub trim_start : List ℕ → List ℕ
 trim_start text = skip is_space_or_tab text
 
--- a byte that goes from the end of a text: a space, and a tab where tabs go too
+-- a byte that is trimmed from the end of a text: a space, or a tab if tabs are trimmed too
 abbrev pub is_trimmed : (tabs : Bool) → ℕ → Bool
 is_trimmed true b = is_space_or_tab b
 is_trimmed false b = b == space
@@ -54,66 +57,69 @@ abbrev pub keep_byte : (tabs : Bool) → ℕ → List ℕ → List ℕ
 keep_byte tabs b [] = if is_trimmed tabs b then [] else b ∷ []
 keep_byte tabs b (c ∷ cs) = b ∷ c ∷ cs
 
+-- a text without the spaces at its end, or without the spaces and tabs
 unfoldable pub trim_end_by : (tabs : Bool) → List ℕ → List ℕ
 trim_end_by tabs [] = []
 trim_end_by tabs (b ∷ bs) = keep_byte tabs b (trim_end_by tabs bs)
 
--- without the spaces and tabs at the end
+-- a text without the spaces and tabs at its end
 abbrev pub trim_end : List ℕ → List ℕ
 trim_end text = trim_end_by true text
 
--- without the spaces at the end
+-- a text without the spaces at its end
 abbrev pub trim_end_spaces : List ℕ → List ℕ
 trim_end_spaces text = trim_end_by false text
 
--- without the spaces and tabs at both ends
+-- a text without the spaces and tabs at both ends
 abbrev pub trim : List ℕ → List ℕ
 trim text = trim_end (trim_start text)
 
--- nothing but spaces and tabs
+-- a text of nothing but spaces and tabs
 abbrev pub is_blank_text : List ℕ → Bool
 is_blank_text text = list_all is_space_or_tab text
 
--- a space, a tab or the line's end comes next
+-- a space, a tab or the end of the line comes next
 abbrev pub is_at_gap : List ℕ → Bool
 is_at_gap [] = true
 is_at_gap (b ∷ bs) = is_space_or_tab b
 
+-- a text without bytes
 abbrev pub is_empty : List ℕ → Bool
 is_empty [] = true
 is_empty (b ∷ bs) = false
 
--- the word comes next
+-- the text starts with the word
 unfoldable pub is_at_word : List ℕ → List ℕ → Bool
 is_at_word [] text = true
 is_at_word (w ∷ ws) [] = false
 is_at_word (w ∷ ws) (b ∷ bs) = b == w && is_at_word ws bs
 
--- the word stands somewhere in the text
+-- the text contains the word
 unfoldable pub holds_word : List ℕ → List ℕ → Bool
 holds_word word [] = is_at_word word []
 holds_word word (b ∷ bs) = is_at_word word (b ∷ bs) || holds_word word bs
 
--- the same bytes
+-- two texts have the same bytes
 unfoldable pub same_bytes : List ℕ → List ℕ → Bool
 same_bytes [] [] = true
 same_bytes (b ∷ bs) (c ∷ cs) = b == c && same_bytes bs cs
 same_bytes _ _ = false
 
+-- the word is one of these
 abbrev pub is_among : List (List ℕ) → List ℕ → Bool
 is_among words word = list_any (λ w. same_bytes w word) words
 
--- a letter in lower case
+-- an ASCII letter in lower case, and any other byte as it is
 abbrev pub to_lower : ℕ → ℕ
 to_lower b = if within 65 90 b then b + 32 else b
 
 infixr 6 ◌<|>◌
--- the first reading that there is
+-- the first of two readings, or the second if there is no first
 abbrev pub ◌<|>◌ : {A : Type 0} → Option A → Option A → Option A
 (Some x) <|> second = Some x
 None <|> second = second
 
--- a reading, where the test passes
+-- a value, if the test passes
 abbrev pub given : {A : Type 0} → Bool → A → Option A
 given true x = Some x
 given false x = None

@@ -15,7 +15,7 @@ use memchr::memchr;
 /// An autolink (CommonMark 0.31.2, 6.5 Autolinks).
 #[derive(Clone, Copy, Debug, PartialEq, Eq, Drop)]
 pub struct Autolink<'a> {
-    /// What stands between `<` and `>`.
+    /// what is between `<` and `>`.
     pub text: &'a str,
     /// Whether it is an e-mail address, which leads to `mailto:` and the text. Any other leads to the text.
     pub is_address: bool,

@@ -11,8 +11,8 @@ use crate::autolink_contents::{Autolink, link_of};
 use crate::links::is_next;
 use cm_text::{Rules, is_followed};
 
-/// The autolink at a place in a text, which is the boundary of a character, and the place behind its `>`
-/// (CommonMark 0.31.2, 6.5 Autolinks).
+/// The autolink at a place in a text, which is the boundary of a character, and the place after its `>`
+/// (CommonMark 0.31.2, 6.5 Autolinks). None where there is none.
 ///
 /// An absolute URI goes before an e-mail address. Nothing is read behind the first space,
 /// control character or `<` inside.
@@ -51,7 +51,7 @@ fn leads_on(rules: Rules, is_address: bool, text: &str) -> bool
     is_address || is_followed(rules, text)
 }
 
-/// What stands between `<` and `>`, and the place behind them.
+/// What is between `<` and `>`, and the place after them.
 fn in_angles<'a>(text: &'a str, at: usize) -> Option<(&'a str, usize)>
     requires { IsCharBoundary text.now at }
     ensures read { reading_of text.now result ≡ in_angles (drop at text.now) }

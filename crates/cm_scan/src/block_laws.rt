@@ -6,13 +6,13 @@ ghost use Rattle.cm_scan.specs.laws.BlockLaws.{FencedUpToItsEnd, FencedToTheLast
 ghost use Rattle.cm_scan.specs.laws.BlockLaws.{HtmlUpToABlankLine, KindOfItself};
 ghost use Rattle.cm_scan.specs.laws.BlockLaws.{ItemBeforeItsList, ItemByItself};
 
-/// A line at the margin that isn't lazy begins, and is as an underline, what its text as it stands tells.
+/// What a line starts, and whether it is an underline, is given by its whole text, if it isn't indented or
+/// lazy.
 pub fn lines_at_the_margin()
     ensures { UnindentedLine }
 {}
 
-/// Behind the marker of a quote or an item and one space the content begins, and also
-/// behind the marker alone.
+/// The content of a block quote or an item starts after its marker and one space, or after the marker alone.
 pub fn content_behind_markers()
     ensures quote { QuoteAndSpace }
     ensures quote_alone { QuoteAlone }

@@ -10,7 +10,7 @@ use crate::words::{after_run, bytes_from};
 use memchr::memchr;
 
 /// The code span at a place in a text, which is the boundary of a character: what stands
-/// between its two backtick strings, as it is written, and the place behind the second one
+/// between its two backtick strings, as it is written, and the place after the second one
 /// (CommonMark 0.31.2, 6.1 Code spans).
 ///
 /// The backtick string there has as many backticks as stand in a row from that place on, and the other is the

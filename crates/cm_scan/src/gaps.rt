@@ -15,7 +15,7 @@ pub(crate) fn is_blank_byte(b: u8) -> bool
     is_space_or_tab(b) || b == b'\n'
 }
 
-/// Whether a space, a tab or a line feed stands there.
+/// Whether a space, a tab or a line feed is at a place.
 #[inline(always)]
 pub fn is_blank_next(text: &[u8], at: usize) -> bool
     ensures { result ≡ is_blank_next (drop at text.now) }
@@ -37,7 +37,7 @@ pub(crate) fn after_blanks(text: &[u8], at: usize) -> usize
     end
 }
 
-/// The place behind spaces, tabs and up to one line feed.
+/// The place after spaces, tabs and up to one line feed.
 pub fn after_gap(text: &[u8], at: usize) -> usize
     requires { at ≤ length text.now }
     ensures skipped { drop result text.now ≡ after_gap (drop at text.now) }

@@ -282,7 +282,7 @@ fn is_any_tag_start(behind: &[u8]) -> bool
     is_blank_text(tag.rest) && !is_raw_text_name(tag.name)
 }
 
-/// The kind of the HTML block that begins at a place, by the first of the seven start conditions that is met
+/// The kind of the HTML block that starts at a place, by the first of the seven start conditions that is met
 /// there (4.6 HTML blocks). The last kind can't interrupt a paragraph.
 pub fn html_start(text: &str, at: usize) -> Option<HtmlKind>
     requires within { at ≤ length text.now }

@@ -14,7 +14,7 @@ use cm_text::Rules;
 use memchr::memmem;
 
 /// The raw HTML at a place in a text, which is the boundary of a character: the whole of it as it is written,
-/// and the place behind it (CommonMark 0.31.2, 6.6 Raw HTML).
+/// and the place after it (CommonMark 0.31.2, 6.6 Raw HTML).
 ///
 /// It is an open tag, a closing tag, a comment, a processing instruction, a declaration or a CDATA section.
 pub fn raw_html<'a>(text: &'a str, at: usize) -> Option<(&'a str, usize)>
@@ -27,8 +27,8 @@ pub fn raw_html<'a>(text: &'a str, at: usize) -> Option<(&'a str, usize)>
     raw_html_by(Rules::profile(), text, at)
 }
 
-/// The same by these rules. By the older ones a comment's text doesn't begin with `>` or `->`, doesn't end
-/// with `-`, and holds no `--`. By those without raw HTML there is none.
+/// The same by these rules. By the older ones the text of a comment doesn't start with `>` or `->`, doesn't
+/// end with `-`, and contains no `--`. By those without raw HTML there is none.
 pub fn raw_html_by<'a>(rules: Rules, text: &'a str, at: usize) -> Option<(&'a str, usize)>
     requires { IsCharBoundary text.now at }
     ensures read { reading_of text.now result
@@ -44,7 +44,7 @@ pub fn raw_html_by<'a>(rules: Rules, text: &'a str, at: usize) -> Option<(&'a st
     Some((&text[at..end], end))
 }
 
-/// Whether a word stands in a text from a place on.
+/// Whether a text contains a word from a place on.
 ///
 /// Where it doesn't, it stands behind no later place either. So a caller that has found no `-->`, `?>`, `]]>`
 /// or `>` has no need to try the raw HTML further on which needs it for its end (`raw_html_needs_its_end`).

@@ -35,22 +35,23 @@ pub fn inline_examples()
     ensures nesting { NestingExamples }
 {}
 
-/// Each step leaves an end of its source, and reading goes on behind what the step took, as if a source began
-/// there: no bound and no place in the whole matters. At a `]` the step is that of brackets.
+/// Each step leaves an end of its source, and reading goes on after the step as if the source started there:
+/// no bound and no place in the whole matters. At a `]` the step is that of brackets.
 pub fn reading_goes_on()
     ensures on { ReadingGoesOn }
     ensures end { StepLeavesAnEnd }
     ensures bracket { BracketStep }
 {}
 
-/// Each delimiter run has a character or more, and together they have no more than the source has bytes.
+/// Each delimiter run has at least one character, and together they have at most as many as the source has
+/// bytes.
 pub fn runs_are_few()
     ensures { RunsAreFew }
 {}
 
-/// What `cm_text::next_markup` passes over is plain, and a source of plain bytes is one
-/// text, itself. In front of anything else plain bytes are text, but for spaces before a
-/// line feed, which are a line break with it.
+/// The bytes that `cm_text::next_markup` skips are plain, and a source of plain bytes is one text, itself.
+/// Before anything else plain bytes are text, except for spaces before a line feed, which are a line break
+/// with it.
 pub fn plain_is_itself()
     ensures unmarked { UnmarkedIsPlain }
     ensures whole { PlainIsItself }
@@ -58,13 +59,13 @@ pub fn plain_is_itself()
     ensures line_break { SpacesAndLineFeed }
 {}
 
-/// However the texts among the items are cut, emphasis comes to the same, and reading goes on alike.
+/// However the texts among the items are cut, emphasis is the same, and reading goes on in the same way.
 pub fn texts_in_pieces()
     ensures emphasis { TextsInPieces }
     ensures reading { ReadingInPieces }
 {}
 
-/// Repeated pairing comes to what one pass from the left makes, in which each closer looks for its nearest
+/// Repeated pairing makes what one pass from the left makes, in which each closer looks for its nearest
 /// opener.
 pub fn pairs_in_one_pass()
     ensures { PairsInOnePass }

@@ -7,8 +7,8 @@ ghost use Rattle.cm_scan.specs.laws.Looseness.{PartsHaveLines, LooseByOwners};
 ghost use Rattle.cm_scan.specs.laws.BlockExamples.{LeafExamples, ContainerExamples};
 ghost use Rattle.cm_scan.specs.laws.BlockExamples.{DefinitionExamples, DepthExamples, BoundExamples};
 
-/// The parts of a list of lines are given by the cases on its first line, in which the parts of fewer
-/// lines stand: nothing rests on the bound by which the definition computes.
+/// The parts of a list of lines are given by the cases on its first line, in which the parts of fewer lines
+/// occur: nothing depends on the bound up to which the definition computes.
 #[tactic(auto, using(crate::proofs::lemmas::blocks::PartsByCases::all_cases))]
 pub fn parts_by_cases()
     ensures none { NoLines }
@@ -27,7 +27,7 @@ pub fn leaf_cases()
     ensures text { TextCase }
 {}
 
-/// The same for a quote and an item, by the lines that stay in them and the first that leaves.
+/// The same for a block quote and a list item, by the lines that stay in them and the first that doesn't.
 #[tactic(auto, using(crate::proofs::lemmas::blocks::PartsByCases::container_cases))]
 pub fn container_cases()
     ensures quote { QuoteCase }
@@ -44,16 +44,16 @@ pub fn worked_examples()
     ensures bounds { BoundExamples }
 {}
 
-/// Each line has one owner, and the leaves of the tree are those that the lines name: each leaf's lines
-/// are one nonempty unbroken run, and the runs stand in the order of the leaves' numbers.
+/// Each line has one owner, and the leaves of the tree are those that the lines name: the lines of each leaf
+/// are one nonempty unbroken run, and the runs are in the order of the leaves' numbers.
 #[tactic(auto, using(crate::proofs::lemmas::blocks::CountedLines::owners))]
 pub fn owners_of_lines()
     ensures one_a_line { OneOwnerALine }
     ensures runs { RunsInOrder }
 {}
 
-/// A list is loose just where the owners of its lines say it: a blank line stands right before its second
-/// or a later item, or right before the second or a later block of one of its items (5.3 Lists).
+/// A list is loose exactly if the owners of its lines say so: a blank line comes directly before its second
+/// or a later item, or directly before the second or a later block of one of its items (5.3 Lists).
 pub fn loose_lists()
     ensures lines { PartsHaveLines }
     ensures loose { LooseByOwners }

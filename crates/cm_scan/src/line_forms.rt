@@ -207,7 +207,7 @@ pub fn fence_end(kind: FenceKind, text: &str, at: usize) -> Option<usize>
     Some(text.len())
 }
 
-/// The marker of a block quote at a place (5.1 Block quotes): the place behind it.
+/// The marker of a block quote at a place (5.1 Block quotes), and the place after it.
 pub fn quote_marker(text: &str, at: usize) -> Option<usize>
     requires within { at ≤ length text.now }
     ensures marker { result ≡ given (begins_with 62 (drop at text.now)) (at + 1) }

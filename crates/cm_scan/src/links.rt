@@ -18,8 +18,8 @@ ghost use Rattle.cm_scan.specs.steps.LinkSteps.{is_plain, is_plain_in_run, is_re
 use crate::gaps::{after_blanks, after_gap, after_line, is_blank_byte, is_blank_next};
 use cm_text::is_ascii_punct;
 
-/// The link label at a place in a text, which is the boundary of a character: what stands between its
-/// brackets, as it is written, and the place behind the right one (CommonMark 0.31.2, 6.3 Links).
+/// The link label at a place in a text, which is the boundary of a character: what is between its
+/// brackets, as it is written, and the place after the right one (CommonMark 0.31.2, 6.3 Links).
 ///
 /// It ends at the first right bracket that no backslash escapes, no such left one stands before it, it has
 /// at most 999 characters, and not all of them are spaces, tabs and line feeds. No more than 999 characters
@@ -48,8 +48,8 @@ pub fn label<'a>(text: &'a str, at: usize) -> Option<(&'a str, usize)>
     Some((label, end))
 }
 
-/// The link destination at a place in a text, which is the boundary of a character: what stands between `<`
-/// and `>`, or a run without spaces and control characters, as it is written, and the place behind it
+/// The link destination at a place in a text, which is the boundary of a character: what is between `<`
+/// and `>`, or a run without spaces and control characters, as it is written, and the place after it
 /// (CommonMark 0.31.2, 6.3 Links).
 ///
 /// In a run no more than 32 parentheses are open at once.
@@ -73,8 +73,8 @@ pub fn destination<'a>(text: &'a str, at: usize) -> Option<(&'a str, usize)>
     enclosed(text, at, bounds)
 }
 
-/// The link title at a place in a text, which is the boundary of a character: what stands between its
-/// quotation marks or parentheses, as it is written, and the place behind them (CommonMark 0.31.2, 6.3
+/// The link title at a place in a text, which is the boundary of a character: what is between its
+/// quotation marks or parentheses, as it is written, and the place after them (CommonMark 0.31.2, 6.3
 /// Links).
 ///
 /// It has no blank line: nothing is read behind one.
@@ -99,7 +99,7 @@ pub fn title<'a>(text: &'a str, at: usize) -> Option<(&'a str, usize)>
 /// reference definitions).
 #[derive(Clone, Copy, Debug, PartialEq, Eq, Drop)]
 pub struct LinkDefinition<'a> {
-    /// What stands between the brackets of its label.
+    /// what is between the brackets of its label.
     pub label: &'a str,
     /// The destination.
     pub dest: &'a str,
@@ -108,7 +108,7 @@ pub struct LinkDefinition<'a> {
 }
 
 /// The link reference definition at a place in a text, which is the boundary of a character, and the place
-/// behind its last line: behind the line feed, or the text's end (CommonMark 0.31.2, 4.7 Link reference
+/// after its last line: after the line feed, or the end of the text (CommonMark 0.31.2, 4.7 Link reference
 /// definitions).
 #[inline(always)]
 pub fn definition<'a>(text: &'a str, at: usize) -> Option<(LinkDefinition<'a>, usize)>
@@ -144,7 +144,7 @@ fn end_of_definition<'a>(text: &'a str, at: usize) -> Option<(&'a str, usize)>
     Some(("", end))
 }
 
-/// A title behind a destination, and the place behind its line.
+/// A title behind a destination, and the place after its line.
 fn titled<'a>(text: &'a str, at: usize) -> Option<(&'a str, usize)>
     requires { IsCharBoundary text.now at }
     ensures read { (label dest : List ℕ) →
@@ -181,7 +181,7 @@ fn is_blank(text: &str) -> bool
     text.bytes().all(is_blank_byte)
 }
 
-/// The part between the byte there and the one that ends it, and the place behind that.
+/// The part between the byte there and the one that ends it, and the place after that.
 #[inline(always)]
 fn enclosed<'a>(text: &'a str, at: usize, bounds: Bounds) -> Option<(&'a str, usize)>
     requires within { at < length text.now }
@@ -404,7 +404,7 @@ fn begins_blank_line(text: &[u8], at: usize) -> bool
     text[at] == b'\n' && is_next(text, after_blanks(text, at + 1), b'\n')
 }
 
-/// Whether the byte stands there.
+/// Whether the byte is at a place.
 pub fn is_next(text: &[u8], at: usize, b: u8) -> bool
     ensures { result ≡ begins_with b (drop at text.now) }
 {

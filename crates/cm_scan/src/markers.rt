@@ -54,7 +54,7 @@ fn kind_of(digits: usize, number: u32, b: u8) -> Option<ListKind>
     }
 }
 
-/// The number at a place, of nine digits at most, and the place behind it: that place itself where no
+/// The number at a place, of nine digits at most, and the place after it: that place itself where no
 /// digit stands there.
 fn number_at(text: &str, at: usize) -> (u32, usize)
     requires { at ≤ length text.now }
@@ -78,8 +78,8 @@ fn number_at(text: &str, at: usize) -> (u32, usize)
     (number, end)
 }
 
-/// The marker of a list item at a place (5.2 List items), and the place behind it: a bullet, or one to nine
-/// digits and `.` or `)`, where a space, a tab or the text's end comes next.
+/// The marker of a list item at a place (5.2 List items), and the place after it: a bullet, or one to nine
+/// digits and `.` or `)`, if a space, a tab or the end of the text comes next.
 pub fn item_marker(text: &str, at: usize) -> Option<(ItemMarker, usize)>
     requires within { at ≤ length text.now }
     ensures marker { MatchOption result (item_marker (drop at text.now) ≡ None)
@@ -101,7 +101,7 @@ pub fn item_marker(text: &str, at: usize) -> Option<(ItemMarker, usize)>
     Some((ItemMarker { kind, digits }, behind))
 }
 
-/// Whether items of the two kinds go into one list (5.3 Lists).
+/// Whether items of the two kinds belong to one list (5.3 Lists).
 pub fn is_same_kind(one: ListKind, other: ListKind) -> bool
     ensures { result ≡ is_same_kind one other }
 {

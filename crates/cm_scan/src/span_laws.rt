@@ -7,24 +7,24 @@ ghost use Rattle.cm_scan.specs.laws.SpanLaws.{AutolinkGoesOn, NoAutolinkGoesOn};
 ghost use Rattle.cm_scan.specs.laws.SpanLaws.{CodeSpanGoesOn, AngledGoesOn};
 ghost use Rattle.cm_scan.specs.laws.SpanLaws.{WholeTagGoesOn, OlderIsRead, NeedsEnd};
 
-/// What is raw HTML at the front of a text is so with anything behind the text.
+/// Raw HTML at the front of a text is the same with anything after the text.
 pub fn raw_html_goes_on()
     ensures front { RawHtmlGoesOn }
     ensures whole { WholeRawHtmlGoesOn }
 {}
 
-/// An autolink stays one with anything behind it, and raw HTML that is no autolink becomes none.
+/// An autolink is the same with anything after it, and raw HTML that is no autolink doesn't become one.
 pub fn autolink_goes_on()
     ensures link { AutolinkGoesOn }
     ensures no_link { NoAutolinkGoesOn }
 {}
 
-/// A code span stays one with anything behind it but a backtick.
+/// A code span is the same with anything after it except a backtick.
 pub fn code_span_goes_on()
     ensures { CodeSpanGoesOn }
 {}
 
-/// What a `<` begins, an autolink or raw HTML, is the same with anything behind the text.
+/// What a `<` starts, an autolink or raw HTML, is the same with anything after the text.
 pub fn angled_goes_on()
     ensures any { AngledGoesOn }
     ensures whole_tag { WholeTagGoesOn }

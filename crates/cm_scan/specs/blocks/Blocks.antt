@@ -1,5 +1,5 @@
--- The block structure of a list of lines (CommonMark 0.31.2, chapters 3 to 5). It goes by cases on what the
--- first line begins, and then on the lines that are left.
+-- The block structure of a list of lines (CommonMark 0.31.2, chapters 3 to 5), by cases on what the first
+-- line starts, and then on the lines that are left.
 use Rattle.std.specs.Prelude.{ℕ, zero, suc, ◌+◌, ◌-◌, Bool, true, false, not, ◌&&◌, List, [], ◌∷◌, ◌++◌, length, Option, Some, None, ◌==◌, nat_lt, nat_le, if◌then◌else◌}
 use Rattle.std.specs.List.{flat_map, position}
 use Rattle.std.specs.Option.{option_map}
@@ -18,44 +18,48 @@ use Rattle.cm_scan.specs.inlines.Links.{LinkDefinition, definitions_of}
 use Rattle.cm_scan.specs.blocks.Starts.{Start, IndentedCode, QuoteMarker, AtxHeading, OpeningFence, HtmlStart, BreakLine, ItemStart, TextLine, start_of, interrupts_paragraph, underline_of, Place, Stays, StaysIfOpen, Leaves, behind_quote_marker, place_in_quote, content_column, first_content, place_in_item}
 use Rattle.cm_scan.specs.blocks.Parts.{info_of, LeafPart, paragraph, heading, code, html, thematic_break, definition, Parts, none, blank, leaf, quote, leaves_paragraph_open, put_item, put_leaves, blocks_of_parts, line_owners, depths_of, table_of}
 
--- one more line of a run of text, whose source so far is given: its leading spaces and tabs go (4.8 Paragraphs)
+-- the source of a run of text with one more line, without its leading spaces and tabs (4.8 Paragraphs)
 abbrev pub add_text : List ℕ → LineView → List ℕ
 add_text [] line = content_of line
 add_text (b ∷ bs) line = (b ∷ bs) ++ line_feed ∷ content_of line
 
--- what is left of a run without the definitions at its front; its last line's trailing spaces and tabs go
+-- what is left of a run of text after the definitions at its front; the spaces and tabs at its end are
+-- removed
 unfoldable pub rest_of : List ℕ → List ℕ
 rest_of source = (definitions_of (trim_end source)).left
 
--- what the next line is to a run of text with this source
+-- what the next line is to a run of text with this source: more text, after its end, or its underline
 pub data NextLine : Type 0 where
   GoesOn : NextLine
   Ends : NextLine
   Underlines : ℕ → NextLine
 
+-- a line that interrupts the run, or goes on with it
 abbrev pub by_interruption : Bool → NextLine
 by_interruption true = Ends
 by_interruption false = GoesOn
 
--- An underline wins over a thematic break and an item. It needs something above it that is no definition (4.3 Setext headings).
+-- the same, given the level of the underline, whether there is text above it, and whether the line interrupts
 abbrev pub by_underline : Option ℕ → (something_left interrupts : Bool) → NextLine
 by_underline (Some level) true interrupts = Underlines level
 by_underline (Some level) false interrupts = by_interruption interrupts
 by_underline None something_left interrupts = by_interruption interrupts
 
+-- What the next line is to a run of text. An underline takes precedence over a thematic break and an item,
+-- and it needs text above it that is no definition (4.3 Setext headings, 4.8 Paragraphs).
 unfoldable pub next_line : Rules → List ℕ → LineView → NextLine
 next_line rules source line = elim (is_blank line) [
   | true ↦ Ends
   | false ↦ by_underline (underline_of line) (not (is_empty (rest_of source))) (interrupts_paragraph rules line)
 ]
 
--- A run of text: its source, the level of the underline if one ends it, and the lines that follow.
+-- A run of text: its source, the level of its underline if it has one, and the lines that follow.
 pub record TextRun : Type 0 where
   pub source : List ℕ
   pub level : Option ℕ
   pub following : List LineView
 
--- the run with this source so far
+-- the run of text with this source so far (4.8 Paragraphs, 4.3 Setext headings)
 unfoldable pub text_run : Rules → List ℕ → List LineView → TextRun
 text_run rules source [] = record { source = source; level = None; following = [] }
 text_run rules source (line ∷ lines) = elim (next_line rules source line) [
@@ -69,44 +73,45 @@ unfoldable pub line_feeds : List ℕ → ℕ
 line_feeds [] = 0
 line_feeds (b ∷ bs) = if b == line_feed then suc (line_feeds bs) else line_feeds bs
 
--- how many lines a text has, which line feeds part
+-- how many lines a text has, separated by line feeds
 abbrev pub line_count : List ℕ → ℕ
 line_count [] = 0
 line_count (b ∷ bs) = suc (line_feeds (b ∷ bs))
 
--- the definitions at the front of a text, each with how many lines it has
+-- the definitions at the front of a text, each with its number of lines
 unfoldable pub definition_leaves : List ℕ → List LinkDefinition → List (LeafPart × ℕ)
 definition_leaves text [] = []
 definition_leaves text (d ∷ ds) = (definition d.label d.dest d.title, line_count text - line_count d.rest) ∷ definition_leaves d.rest ds
 
--- what is left of a run is a paragraph, or with an underline a heading, whose line is one more
+-- the rest of a run of text is a paragraph, or a heading with an underline, which is one more line
 abbrev pub content_leaf : Option ℕ → List ℕ → List (LeafPart × ℕ)
 content_leaf level [] = []
 content_leaf None (b ∷ bs) = (paragraph (b ∷ bs), line_count (b ∷ bs)) ∷ []
 content_leaf (Some level) (b ∷ bs) = (heading level (b ∷ bs), suc (line_count (b ∷ bs))) ∷ []
 
--- the leaves of a run: the definitions at its front, then what is left
+-- the leaves of a run of text: the definitions at its front, then the paragraph or heading
 unfoldable pub leaves_of_run : TextRun → List (LeafPart × ℕ)
 leaves_of_run run =
     let source = trim_end run.source in
     let found = definitions_of source in
     definition_leaves source found.taken ++ content_leaf run.level found.left
 
--- The text of a code or HTML block, how many lines it has, and the lines that follow.
+-- The text of a code or HTML block, its number of lines, and the lines that follow.
 pub record Taken : Type 0 where
   pub text : List ℕ
   pub lines : ℕ
   pub following : List LineView
 
+-- a block with this text and number of lines, and the lines that follow
 abbrev pub taken : List ℕ → ℕ → List LineView → Taken
 taken text lines following = record { text = text; lines = lines; following = following }
 
--- a closing fence: up to 3 columns of indentation (4.5 Fenced code blocks)
+-- a closing code fence: at most 3 columns of indentation (4.5 Fenced code blocks)
 abbrev pub closes_fence : Fence → LineView → Bool
 closes_fence fence line = nat_le (indent_of line) 3 && is_closing_fence fence (content_of line)
 
--- The lines behind an opening fence, up to its closing fence or to the end. Each loses up to the columns of the opening fence. The
--- text and the number of lines so far are given.
+-- The lines after an opening code fence, up to the closing fence or the end. The indentation of the opening
+-- fence is removed from each (4.5 Fenced code blocks). The text and the number of lines so far are given.
 unfoldable pub fenced : Fence → (columns : ℕ) → List ℕ → ℕ → List LineView → Taken
 fenced fence columns text n [] = taken text n []
 fenced fence columns text n (line ∷ lines) = elim (closes_fence fence line) [
@@ -130,15 +135,17 @@ html_to_blank text n (line ∷ lines) = elim (is_blank line) [
   | false ↦ html_to_blank (text ++ with_ending line) (suc n) lines
 ]
 
+-- the lines of an HTML block: up to the one that meets its end condition, or up to a blank line, or to the
+-- end (4.6 HTML blocks)
 unfoldable pub html_lines : HtmlKind → List LineView → Taken
 html_lines kind lines = if ends_at_blank_line kind then html_to_blank [] 0 lines else html_to_end kind [] 0 lines
 
--- the line without 4 columns of its indentation, in the text of a block
+-- a line of indented code: without 4 columns of its indentation, and with its line feed
 abbrev pub code_line : LineView → List ℕ
 code_line line = with_ending (strip_columns 4 line)
 
--- The lines of indented code. Blank lines belong to it only where a line of code follows them: those since the last are given too
--- (4.4 Indented code blocks).
+-- The lines of indented code. Blank lines belong to it only if a line of code follows them: those since the
+-- last one are given too (4.4 Indented code blocks).
 unfoldable pub indented : List ℕ → ℕ → (blanks : List LineView) → List LineView → Taken
 indented text n blanks [] = taken text n blanks
 indented text n blanks (line ∷ lines) = elim (is_blank line) [
@@ -154,15 +161,15 @@ pub record Inside : Type 0 where
   pub inner : List LineView
   pub following : List LineView
 
--- there is only a marker so far, with nothing on its line
+-- the lines of an item so far are one blank line, so it has only its marker
 abbrev pub is_bare : List LineView → Bool
 is_bare (line ∷ []) = is_blank line
 is_bare _ = false
 
 -- The cases; `parts` gives the parts of fewer lines, or of lines from which a marker was taken.
 module _ (rules : Rules) (parts : List LineView → Parts) where
-  -- The lines of a container whose lines so far are given, each as long as it stays. A line without the marker or the indentation
-  -- stays where those so far leave a paragraph open: it is a lazy continuation line.
+  -- The lines of a container, as long as each is inside it; those so far are given. A line without the marker
+  -- or the indentation is inside if those so far leave a paragraph open: it is a lazy continuation line.
   unfoldable pub inside : (Bool → LineView → Place) → List LineView → List LineView → Inside
   inside place so_far [] = record { inner = so_far; following = [] }
   inside place so_far (line ∷ lines) = elim (place (is_bare so_far) line) [
@@ -210,6 +217,7 @@ module _ (rules : Rules) (parts : List LineView → Parts) where
       let run = text_run rules (content_of line) lines in
       put_leaves (leaves_of_run run) (parts run.following)
 
+  -- the parts, given what the first line starts
   unfoldable pub parts_by_start : Start → LineView → List LineView → Parts
   parts_by_start IndentedCode line lines = code_parts line lines
   parts_by_start QuoteMarker line lines = quote_parts line lines
@@ -220,31 +228,33 @@ module _ (rules : Rules) (parts : List LineView → Parts) where
   parts_by_start (ItemStart marker) line lines = item_parts marker line lines
   parts_by_start TextLine line lines = text_parts line lines
 
-  -- a blank line separates blocks and is otherwise ignored (4.9 Blank lines)
+  -- The parts of lines by what the first line starts, given the parts of fewer lines. A blank line separates
+  -- blocks and is otherwise ignored (4.9 Blank lines).
   unfoldable pub parts_by_cases : List LineView → Parts
   parts_by_cases [] = none
   parts_by_cases (line ∷ lines) = elim (is_blank line) [ true ↦ blank (parts lines) | false ↦ parts_by_start (start_of rules line) line lines ]
 
--- the cases, as often within one another as a number says; the size of the lines is enough
+-- the cases, nested up to a given depth; the size of the lines is enough
 unfoldable pub parts_within : Rules → ℕ → List LineView → Parts
 parts_within rules zero lines = none
 parts_within rules (suc n) lines = parts_by_cases rules (λ fewer. parts_within rules n fewer) lines
 
+-- the parts of a list of lines
 unfoldable pub parts_of : Rules → List LineView → Parts
 parts_of rules lines = parts_within rules (size lines) lines
 
--- the blocks of a list of lines, in which a paragraph's or heading's source stands as one text
+-- the blocks of a list of lines; the source of a paragraph or heading is one text
 unfoldable pub blocks_of : Rules → List LineView → List Block
 blocks_of rules lines = blocks_of_parts (parts_of rules lines)
 
--- the owner of each line
+-- the owner of each line of a list of lines
 unfoldable pub owners_of : Rules → List LineView → List Owner
 owners_of rules lines = line_owners (parts_of rules lines)
 
--- the table of link reference definitions
+-- the table of the link reference definitions of a list of lines (4.7 Link reference definitions)
 unfoldable pub reference_table : Rules → List LineView → Targets
 reference_table rules lines = table_of (parts_of rules lines)
 
--- the first line, counted from 1, with more quotes and items round it than the limit
+-- the number of the first line, counted from 1, that is in more block quotes and list items than the limit
 unfoldable pub first_too_deep : Rules → ℕ → List LineView → Option ℕ
 first_too_deep rules limit lines = option_map suc (position (λ depth. nat_lt limit depth) (depths_of (parts_of rules lines)))

@@ -1,5 +1,5 @@
--- HTML blocks: the seven start conditions, and what ends each (CommonMark 0.31.2, 4.6 HTML blocks). A start is read behind the
--- line's indentation.
+-- HTML blocks: the seven start conditions, and what ends each (CommonMark 0.31.2, 4.6 HTML blocks). A start
+-- is read after the indentation of the line.
 use Rattle.std.specs.Prelude.{ℕ, Bool, true, false, not, ◌&&◌, ◌||◌, List, [], ◌∷◌, ◌++◌, Option, Some, None, ◌==◌, map, codes, if◌then◌else◌}
 use Rattle.std.specs.List.{list_any}
 use Rattle.cm_text.specs.Bytes.{less_than, greater_than}
@@ -7,7 +7,7 @@ use Rattle.cm_text.specs.Rules.{Rules}
 use Rattle.cm_scan.specs.Words.{is_space_or_tab, is_letter, is_blank_text, after_word, is_at_word, holds_word, is_among, to_lower, given, ◌<|>◌}
 use Rattle.cm_scan.specs.spans.Tags.{tag_name, open_tag, closing_tag}
 
--- the seven kinds, in the standard's order
+-- the seven kinds of HTML blocks, in the specification's order
 pub data HtmlKind : Type 0 where
   RawText : HtmlKind
   Comment : HtmlKind
@@ -17,7 +17,7 @@ pub data HtmlKind : Type 0 where
   BlockTag : HtmlKind
   AnyTag : HtmlKind
 
--- in lower case, since names are compared so
+-- a text in lower case, since names are compared case-insensitively
 abbrev pub lower : List ℕ → List ℕ
 lower text = map to_lower text
 
@@ -25,7 +25,7 @@ lower text = map to_lower text
 abbrev pub raw_text_names : List (List ℕ)
 raw_text_names = codes "pre" ∷ codes "script" ∷ codes "style" ∷ codes "textarea" ∷ []
 
--- the names of start condition 6 by all rules
+-- the names of start condition 6 with any rules
 unfoldable pub common_block_names : List (List ℕ)
 common_block_names =
     codes "address" ∷ codes "article" ∷ codes "aside" ∷ codes "base" ∷ codes "basefont" ∷ codes "blockquote" ∷ codes "body" ∷
@@ -38,7 +38,7 @@ common_block_names =
     codes "table" ∷ codes "tbody" ∷ codes "td" ∷ codes "tfoot" ∷ codes "th" ∷ codes "thead" ∷ codes "title" ∷ codes "tr" ∷
     codes "track" ∷ codes "ul" ∷ []
 
--- the one that differs: by the older rules `source` is one in place of `search`
+-- the one that differs: `search`, or `source` with the older rules
 abbrev pub block_name_by : Rules → List ℕ
 block_name_by rules = if rules.older then codes "source" else codes "search"
 
@@ -68,6 +68,7 @@ abbrev pub is_at_letter : List ℕ → Bool
 is_at_letter [] = false
 is_at_letter (b ∷ bs) = is_letter b
 
+-- the same, after `<!`
 unfoldable pub is_declaration_start : List ℕ → Bool
 is_declaration_start text = elim (after_word (codes "<!") text) [ Some rest ↦ is_at_letter rest | None ↦ false ]
 
@@ -92,7 +93,8 @@ is_any_tag_start text = elim (closing_tag text) [
   ]
 ]
 
--- the first condition that is met; each wants a `<`, and rules with raw HTML
+-- The first start condition that the line meets. Each needs a `<`; without raw HTML in the rules there is
+-- none. Condition 6 has `search` among its names, or `source` with the older rules.
 unfoldable pub html_start : Rules → List ℕ → Option HtmlKind
 html_start rules [] = None
 html_start rules (b ∷ bs) = elim (b == less_than && rules.raw_html) [
@@ -106,7 +108,7 @@ html_start rules (b ∷ bs) = elim (b == less_than && rules.raw_html) [
   | false ↦ None
 ]
 
--- A line, the first or a later one, meets the end condition; a blank line ends the last two kinds.
+-- a line, the first or a later one, meets the end condition; the last two kinds have none
 unfoldable pub is_html_end : HtmlKind → List ℕ → Bool
 is_html_end RawText text = list_any (λ name. holds_word (codes "</" ++ name ++ codes ">") (lower text)) raw_text_names
 is_html_end Comment text = holds_word (codes "-->") text
@@ -116,6 +118,7 @@ is_html_end CharacterData text = holds_word (codes "]]>") text
 is_html_end BlockTag text = false
 is_html_end AnyTag text = false
 
+-- a blank line ends the block: kinds 6 and 7
 abbrev pub ends_at_blank_line : HtmlKind → Bool
 ends_at_blank_line BlockTag = true
 ends_at_blank_line AnyTag = true

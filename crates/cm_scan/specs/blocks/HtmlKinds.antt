@@ -3,7 +3,7 @@ use Rattle.cm_scan.specs.blocks.HtmlBlocks as html
 use Rattle.cm_scan.specs.declared.html_blocks.HtmlKind.{HtmlKind}
 use Rattle.cm_scan.specs.declared.html_blocks.HtmlKind.TheVariants.{RawText, Comment, Instruction, Declaration, CharacterData, BlockTag, AnyTag}
 
--- the kind of the definitions
+-- the kind of an HTML block that a value of the program represents
 abbrev pub kind_of : HtmlKind → html.HtmlKind
 kind_of RawText = html.RawText
 kind_of Comment = html.Comment

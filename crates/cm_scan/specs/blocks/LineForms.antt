@@ -1,4 +1,4 @@
--- What one line is by itself, read behind its indentation (CommonMark 0.31.2, chapters 4 and 5).
+-- What one line is by itself, after its indentation (CommonMark 0.31.2, chapters 4 and 5).
 use Rattle.std.specs.Prelude.{ℕ, suc, ◌+◌, ◌-◌, ◌*◌, Bool, true, false, not, ◌&&◌, ◌||◌, List, [], ◌∷◌, length, Option, Some, None, ◌==◌, nat_le, if◌then◌else◌, count_by}
 use Rattle.std.specs.List.{list_any, list_all, fold}
 use Rattle.cm_tree.specs.declared.tree.ListKind.{ListKind}
@@ -6,27 +6,28 @@ use Rattle.cm_tree.specs.declared.tree.ListKind.TheVariants.{Dash, Plus, Star, D
 use Rattle.cm_scan.specs.Words.{is_space_or_tab, is_digit, is_blank_text, is_at_gap, skip, front_of, run_length, after_run, trim, given, ◌<|>◌}
 use Rattle.cm_text.specs.Bytes.{number_sign, right_parenthesis, asterisk, plus_sign, hyphen, full_stop, equals_sign, underscore, backtick, tilde}
 
--- three or more of one character, with spaces and tabs between and after (4.1 Thematic breaks)
+-- three or more of one character, with spaces and tabs between and after them
 abbrev pub is_break_of : ℕ → List ℕ → Bool
 is_break_of marker text = list_all (λ b. b == marker || is_space_or_tab b) text && nat_le 3 (count_by (λ b. b == marker) text)
 
--- a thematic break, of `-`, of `_` or of `*`
+-- a thematic break: three or more `-`, `_` or `*`, with spaces and tabs between and after them (4.1 Thematic
+-- breaks)
 unfoldable pub is_thematic_break : List ℕ → Bool
 is_thematic_break text = is_break_of hyphen text || is_break_of underscore text || is_break_of asterisk text
 
--- a level and a content (4.2 ATX headings)
+-- the level and the content of a heading (4.2 ATX headings)
 pub record Heading : Type 0 where
   pub level : ℕ
   pub content : List ℕ
 
--- Without a last run of `#`, if a space or tab stands before it. The text ends in neither; the mark says that a space, a tab
--- or nothing stands before the text.
+-- A text without a closing run of `#`, if a space, a tab or nothing comes before that. The text ends in
+-- neither space nor tab; the mark says that a space, a tab or nothing comes before it.
 unfoldable pub without_closing : (after_gap : Bool) → List ℕ → List ℕ
 without_closing after_gap [] = []
 without_closing after_gap (b ∷ bs) =
     if after_gap && list_all (λ c. c == number_sign) (b ∷ bs) then [] else b ∷ without_closing (is_space_or_tab b) bs
 
--- an ATX heading: one to six `#`, and then a space, a tab or the line's end
+-- an ATX heading: one to six `#`, followed by a space, a tab or the end of the line (4.2 ATX headings)
 unfoldable pub atx_heading : List ℕ → Option Heading
 atx_heading text =
     let level = run_length number_sign text in
@@ -41,36 +42,40 @@ is_underline_of marker text = nat_le 1 (run_length marker text) && is_blank_text
 unfoldable pub underline : List ℕ → Option ℕ
 underline text = given (is_underline_of equals_sign text) 1 <|> given (is_underline_of hyphen text) 2
 
--- the character of a fence, how many there are, and the info string (4.5 Fenced code blocks)
+-- the character of a code fence, how many there are, and the info string (4.5 Fenced code blocks)
 pub record Fence : Type 0 where
   pub marker : ℕ
   pub count : ℕ
   pub info : List ℕ
 
+-- a fence of three or more of this character
 unfoldable pub fence_of : ℕ → List ℕ → Option Fence
 fence_of marker text =
     let count = run_length marker text in
     given (nat_le 3 count) (record { marker = marker; count = count; info = trim (after_run marker text) })
 
--- behind backticks the info string has no backtick
+-- after backticks the info string has no backtick
 abbrev pub backticks_or : Option Fence → Option Fence → Option Fence
 backticks_or (Some fence) other = given (not (list_any (λ b. b == backtick) fence.info)) fence
 backticks_or None other = other
 
--- an opening fence: three or more backticks or tildes
+-- an opening code fence: three or more backticks or tildes; after backticks the info string has no backtick
+-- (4.5 Fenced code blocks)
 unfoldable pub opening_fence : List ℕ → Option Fence
 opening_fence text = backticks_or (fence_of backtick text) (fence_of tilde text)
 
--- a closing fence: as many of the fence's character or more, and spaces and tabs after them
+-- a closing code fence: at least as many of the same character, followed only by spaces and tabs (4.5 Fenced
+-- code blocks)
 unfoldable pub is_closing_fence : Fence → List ℕ → Bool
 is_closing_fence fence text = nat_le fence.count (run_length fence.marker text) && is_blank_text (after_run fence.marker text)
 
--- the marker of an item: the kind of its list, with the value of its number, and how many digits that has (5.2 List items)
+-- a list marker: the kind of its list with the value of its number, and how many digits that has (5.2 List
+-- items)
 pub record ItemMarker : Type 0 where
   pub kind : ListKind
   pub digits : ℕ
 
--- how many bytes the marker has
+-- how many bytes a list marker has
 abbrev pub marker_width : ItemMarker → ℕ
 marker_width marker = suc marker.digits
 
@@ -78,14 +83,16 @@ marker_width marker = suc marker.digits
 abbrev pub bullet_kind : ℕ → Option ListKind
 bullet_kind b = given (b == hyphen) Dash <|> given (b == plus_sign) Plus <|> given (b == asterisk) Star
 
--- `.` or `)` behind a number
+-- `.` or `)` after a number
 abbrev pub ordered_kind : ℕ → ℕ → Option ListKind
 ordered_kind number b = given (b == full_stop) (Dot number) <|> given (b == right_parenthesis) (Paren number)
 
+-- a marker that a space, a tab or the end of the line follows
 abbrev pub marker_at_gap : Option ListKind → ℕ → List ℕ → Option ItemMarker
 marker_at_gap None digits behind = None
 marker_at_gap (Some kind) digits behind = given (is_at_gap behind) (record { kind = kind; digits = digits })
 
+-- a bullet list marker
 unfoldable pub bullet_marker : List ℕ → Option ItemMarker
 bullet_marker [] = None
 bullet_marker (b ∷ bs) = marker_at_gap (bullet_kind b) 0 bs
@@ -98,6 +105,7 @@ decimal_value digits = fold (λ n b. n * 10 + (b - 48)) 0 digits
 abbrev pub is_number : List ℕ → Bool
 is_number digits = nat_le 1 (length digits) && nat_le (length digits) 9
 
+-- an ordered list marker with these digits
 unfoldable pub marker_behind : List ℕ → List ℕ → Option ItemMarker
 marker_behind digits [] = None
 marker_behind digits (b ∷ bs) = elim (is_number digits) [
@@ -105,14 +113,16 @@ marker_behind digits (b ∷ bs) = elim (is_number digits) [
   | false ↦ None
 ]
 
+-- an ordered list marker
 unfoldable pub ordered_marker : List ℕ → Option ItemMarker
 ordered_marker text = marker_behind (front_of is_digit text) (skip is_digit text)
 
--- a list marker, with a space, a tab or the line's end behind it
+-- a list marker, followed by a space, a tab or the end of the line (5.2 List items)
 unfoldable pub item_marker : List ℕ → Option ItemMarker
 item_marker text = bullet_marker text <|> ordered_marker text
 
--- items of one list have the same bullet, or the same delimiter behind their numbers (5.3 Lists)
+-- Two items are in one list if they have the same bullet, or the same delimiter after their numbers (5.3
+-- Lists).
 abbrev pub is_same_kind : ListKind → ListKind → Bool
 is_same_kind Dash Dash = true
 is_same_kind Plus Plus = true

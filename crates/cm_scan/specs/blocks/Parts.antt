@@ -1,6 +1,6 @@
--- What the lines of a document are parts of, in order (CommonMark 0.31.2, chapters 3 and 5). The parts tell
--- the tree of blocks, the owner of each line, whether a paragraph is left open, and how deep each line
--- stands.
+-- The parts that the lines of a document form, in order (CommonMark 0.31.2, chapters 3 and 5). They determine
+-- the tree of blocks, the owner of each line, whether a paragraph is left open, and how deep each line is
+-- nested.
 use Rattle.std.specs.Prelude.{ℕ, suc, ◌+◌, Bool, true, false, not, ◌&&◌, ◌||◌, List, [], ◌∷◌, ◌++◌, nat_lt, Option, Some, None, map, replicate, if◌then◌else◌}
 use Rattle.cm_text.specs.Bytes.{space}
 use Rattle.cm_text.specs.Rules.{Rules}
@@ -21,12 +21,14 @@ use Rattle.cm_scan.specs.blocks.LineForms.{is_same_kind}
 abbrev pub as_space : ℕ → ℕ
 as_space b = if is_line_space b then space else b
 
--- The info of a code block, from its source: backslash escapes and references stand for their characters (2.4, 2.5). By rules
--- without raw HTML it is one line, of which a reader of HTML sees the same words.
+-- The info string of a code block, given its source: backslash escapes and references are resolved (2.4
+-- Backslash escapes, 2.5 Entity and numeric character references). Without raw HTML in the rules each line
+-- feed, form feed and carriage return in it is a space, so it is one line with the same words for a reader of
+-- HTML.
 unfoldable pub info_of : Rules → List ℕ → List ℕ
 info_of rules source = if rules.raw_html then unescape source else map as_space (unescape source)
 
--- The leaf blocks, each string as it stands in the source but the info of a code block.
+-- a leaf block; each string is as it is in the source, except for the info string of a code block
 pub data LeafPart : Type 0 where
   paragraph : List ℕ → LeafPart
   heading : ℕ → List ℕ → LeafPart
@@ -35,7 +37,8 @@ pub data LeafPart : Type 0 where
   thematic_break : LeafPart
   definition : List ℕ → List ℕ → List ℕ → LeafPart
 
--- The parts of a list of lines: a blank line; a leaf block, with how many lines it has; a quote or a list, with the parts inside.
+-- The parts of a list of lines: a blank line; a leaf block, with its number of lines; a block quote or a
+-- list, with the parts inside.
 mutual
   pub data Parts : Type 0 where
     none : Parts
@@ -44,13 +47,13 @@ mutual
     quote : Parts → Parts → Parts
     list : ListKind → ItemParts → Parts → Parts
 
-  -- items, with how many blank lines stand between one and the next
+  -- items, with the number of blank lines between one and the next
   pub data ItemParts : Type 0 where
     last_item : Parts → ItemParts
     item : Parts → ℕ → ItemParts → ItemParts
 
--- A leaf block of the tree. Backslash escapes and references in a destination and a title stand for their characters there
--- (2.4, 2.5), and a label is its source.
+-- a leaf block of the tree; in a destination and a title backslash escapes and references are resolved (2.4
+-- Backslash escapes, 2.5 Entity and numeric character references), and a label is its source
 abbrev pub leaf_block : LeafPart → Block
 leaf_block (paragraph source) = Paragraph (raw_inlines source)
 leaf_block (heading level source) = Heading level (raw_inlines source)
@@ -65,7 +68,8 @@ is_open_leaf (paragraph source) = true
 is_open_leaf (definition label dest title) = true
 is_open_leaf _ = false
 
--- Whether the last line is a paragraph's or a definition's, at any depth; the mark is the answer for the lines before.
+-- Whether the last line is a paragraph's or a definition's, at any depth; the mark is the answer for the
+-- lines before.
 unfoldable mutual
   pub leaves_open_after : (before : Bool) → Parts → Bool
   leaves_open_after before none = before
@@ -78,30 +82,33 @@ unfoldable mutual
   items_leave_open (last_item inside) = leaves_open_after false inside
   items_leave_open (item inside blanks items) = items_leave_open items
 
+-- the last line is a paragraph's or a definition's, at any depth, so a lazy continuation line can follow (5.1
+-- Block quotes)
 unfoldable pub leaves_paragraph_open : Parts → Bool
 leaves_paragraph_open parts = leaves_open_after false parts
 
--- the items that follow, if nothing but so many blank lines stand before them, and what follows these
+-- the items that come next, after blank lines or none, with the number of these and what follows
 unfoldable pub next_items : ListKind → ℕ → Parts → Option (ℕ × ItemParts × Parts)
 next_items kind blanks (blank rest) = next_items kind (suc blanks) rest
 next_items kind blanks (list other items rest) = given (is_same_kind kind other) (blanks, items, rest)
 next_items kind blanks _ = None
 
+-- an item before these items, or by itself
 abbrev pub put_before : ListKind → Parts → Parts → Option (ℕ × ItemParts × Parts) → Parts
 put_before kind inside rest None = list kind (last_item inside) rest
 put_before kind inside rest (Some following) = list kind (item inside following.0 following.1) following.2
 
--- An item in front of what follows it: one list with what begins with items of its kind (5.3 Lists).
+-- An item before what follows it: if that starts with items of its kind, they are one list (5.3 Lists).
 unfoldable pub put_item : ListKind → Parts → Parts → Parts
 put_item kind inside rest = put_before kind inside rest (next_items kind 0 rest)
 
--- leaves in front of what follows them, each with how many lines it has
+-- leaves before what follows them, each with its number of lines
 unfoldable pub put_leaves : List (LeafPart × ℕ) → Parts → Parts
 put_leaves [] rest = rest
 put_leaves (x ∷ xs) rest = leaf x.0 x.1 (put_leaves xs rest)
 
--- Whether the last line is blank as seen at this level: from an item's first line and from each line of a quote a marker was taken.
--- The mark is the answer for the lines before.
+-- Whether the last line is blank as seen at this level: the first line of an item and each line of a block
+-- quote has a marker. The mark is the answer for the lines before.
 unfoldable mutual
   pub ends_blank_after : (before : Bool) → Parts → Bool
   ends_blank_after before none = before
@@ -115,8 +122,8 @@ unfoldable mutual
   items_end_blank (last_item inside) = ends_blank_after false inside
   items_end_blank (item inside blanks items) = items_end_blank items
 
--- Whether a blank line stands right before the second or a later block; the marks tell of the lines before: whether there is a block,
--- and whether the last is blank.
+-- A blank line comes directly before the second or a later block. The marks are of the lines before: whether
+-- there is a block, and whether the last one is blank.
 unfoldable pub is_separated : (block_before blank_before : Bool) → Parts → Bool
 is_separated block_before blank_before none = false
 is_separated block_before blank_before (blank rest) = is_separated block_before true rest
@@ -124,13 +131,13 @@ is_separated block_before blank_before (leaf x lines rest) = block_before && bla
 is_separated block_before blank_before (quote inside rest) = block_before && blank_before || is_separated true false rest
 is_separated block_before blank_before (list kind items rest) = block_before && blank_before || is_separated true (items_end_blank items) rest
 
--- A list is loose if a blank line stands right before its second or a later item, or right before the second or a later block of an
--- item. Otherwise it is tight (5.3).
+-- A list is loose if a blank line comes directly before its second or a later item, or directly before the
+-- second or a later block of an item. Otherwise it is tight (5.3 Lists).
 unfoldable pub is_loose : ItemParts → Bool
 is_loose (last_item inside) = is_separated false false inside
 is_loose (item inside blanks items) = is_separated false false inside || nat_lt 0 blanks || items_end_blank (last_item inside) || is_loose items
 
--- the blocks, blank lines left aside
+-- the blocks of the tree, without blank lines; the source of a paragraph or heading is one text
 unfoldable mutual
   pub blocks_of_parts : Parts → List Block
   blocks_of_parts none = []
@@ -156,13 +163,13 @@ unfoldable mutual
   item_leaf_count (last_item inside) = leaf_count inside
   item_leaf_count (item inside blanks items) = leaf_count inside + item_leaf_count items
 
--- a line from which a marker was taken
+-- a line from which a marker was removed
 abbrev pub marked : Owner → Owner
 marked Blank = Marker
 marked (Leaf number) = Leaf number
 marked Marker = Marker
 
--- the first line of an item, from which its marker was taken, where a blank line comes first
+-- the first line of an item, from which its marker was removed, if it is blank after that
 abbrev pub marked_head : List Owner → List Owner
 marked_head [] = []
 marked_head (owner ∷ owners) = Marker ∷ owners
@@ -172,8 +179,8 @@ abbrev pub marked_first : Parts → List Owner → List Owner
 marked_first (blank rest) owners = marked_head owners
 marked_first _ owners = owners
 
--- The owner of each line, where so many leaves stand before: the number of its leaf; or none, where only a container's marker was
--- taken from it, or where it is blank.
+-- The owner of each line, after the given number of leaves: the number of its leaf, or none if only a
+-- container's marker was removed from it, or it is blank.
 unfoldable mutual
   pub owners_after : ℕ → Parts → List Owner
   owners_after before none = []
@@ -187,10 +194,12 @@ unfoldable mutual
   item_owners_after before (item inside blanks items) =
       marked_first inside (owners_after before inside) ++ replicate blanks Blank ++ item_owners_after (before + leaf_count inside) items
 
+-- The owner of each line: the number of its leaf, or none if only a container's marker was removed from it,
+-- or it is blank.
 unfoldable pub line_owners : Parts → List Owner
 line_owners parts = owners_after 0 parts
 
--- how many quotes and items stand round each line
+-- how many block quotes and list items each line is in
 unfoldable mutual
   pub depths_of : Parts → List ℕ
   depths_of none = []
@@ -204,6 +213,7 @@ unfoldable mutual
   item_depths_of (item inside blanks items) = map suc (depths_of inside) ++ replicate blanks 0 ++ item_depths_of items
 
 -- the link reference definitions in the order of the document, each with its label, destination and title
+-- (4.7 Link reference definitions)
 unfoldable mutual
   pub definitions_in : Parts → List (List ℕ × Target)
   definitions_in none = []
@@ -217,6 +227,6 @@ unfoldable mutual
   item_definitions_in (last_item inside) = definitions_in inside
   item_definitions_in (item inside blanks items) = definitions_in inside ++ item_definitions_in items
 
--- the document's table of them, where the first of matching labels counts
+-- their table, in which the first of matching labels counts (4.7 Link reference definitions)
 unfoldable pub table_of : Parts → Targets
 table_of parts = add_all empty (definitions_in parts)

@@ -1,4 +1,4 @@
--- What a line begins, and what can interrupt a paragraph (CommonMark 0.31.2, chapters 4 and 5).
+-- What a line starts, and what can interrupt a paragraph (CommonMark 0.31.2, chapters 4 and 5).
 use Rattle.std.specs.Prelude.{ℕ, ◌+◌, Bool, true, false, not, ◌&&◌, ◌||◌, List, Option, Some, None, ◌==◌, nat_lt, nat_le, if◌then◌else◌}
 use Rattle.cm_text.specs.Bytes.{greater_than}
 use Rattle.cm_text.specs.Rules.{Rules}
@@ -11,7 +11,7 @@ use Rattle.cm_scan.specs.blocks.Lines.{is_blank, content_of, past, as_lazy}
 use Rattle.cm_scan.specs.blocks.LineForms.{is_thematic_break, Heading, atx_heading, underline, Fence, opening_fence, ItemMarker, marker_width, item_marker}
 use Rattle.cm_scan.specs.blocks.HtmlBlocks.{HtmlKind, AnyTag, html_start}
 
--- What a line that is neither blank nor lazy begins.
+-- what a line that isn't blank starts
 pub data Start : Type 0 where
   IndentedCode : Start
   QuoteMarker : Start
@@ -22,15 +22,17 @@ pub data Start : Type 0 where
   ItemStart : ItemMarker → Start
   TextLine : Start
 
+-- what was read, as a start
 abbrev pub seen_as : {A : Type 0} → (A → Start) → Option A → Option Start
 seen_as start None = None
 seen_as start (Some x) = Some (start x)
 
+-- a start, or else text
 abbrev pub or_text : Option Start → Start
 or_text None = TextLine
 or_text (Some start) = start
 
--- the first that fits, with up to 3 columns of indentation
+-- the first that fits, of a line with at most 3 columns of indentation
 unfoldable pub start_of_content : Rules → List ℕ → Start
 start_of_content rules text = or_text (
     given (begins_with greater_than text) QuoteMarker
@@ -40,16 +42,18 @@ start_of_content rules text = or_text (
     <|> given (is_thematic_break text) BreakLine
     <|> seen_as ItemStart (item_marker text))
 
--- Four columns of indentation make code. A lazy continuation line is text, whatever it looks like.
+-- the start of a line that is lazy or not, and has four columns of indentation or not
 abbrev pub start_by : (lazy indented : Bool) → Start → Start
 start_by true indented start = TextLine
 start_by false true start = IndentedCode
 start_by false false start = start
 
+-- What a line starts: indented code if it has four columns of indentation or more, and text if it is a lazy
+-- continuation line; else the first that fits.
 unfoldable pub start_of : Rules → LineView → Start
 start_of rules line = start_by line.lazy (nat_le 4 (indent_of line)) (start_of_content rules (content_of line))
 
--- the line behind an item's marker (5.2 List items)
+-- what is left of a line after its list marker (5.2 List items)
 abbrev pub behind_marker : ItemMarker → LineView → LineView
 behind_marker marker line = past (marker_width marker) line
 
@@ -61,8 +65,7 @@ starts_at_one Star = true
 starts_at_one (Dot number) = number == 1
 starts_at_one (Paren number) = number == 1
 
--- In order for an item to interrupt a paragraph, it must not be empty, and a number must be 1 (5.2). Indented code cannot interrupt
--- a paragraph (4.4), nor can HTML of the last kind (4.6).
+-- what can interrupt a paragraph
 abbrev pub can_interrupt : Start → LineView → Bool
 can_interrupt QuoteMarker line = true
 can_interrupt (AtxHeading heading) line = true
@@ -74,67 +77,78 @@ can_interrupt (ItemStart marker) line = starts_at_one marker.kind && not (is_bla
 can_interrupt IndentedCode line = false
 can_interrupt TextLine line = false
 
+-- The line can interrupt a paragraph: indented code and HTML of the last kind can't (4.4 Indented code
+-- blocks, 4.6 HTML blocks), and an item can only if it isn't empty and its number is 1 (5.2 List items).
 unfoldable pub interrupts_paragraph : Rules → LineView → Bool
 interrupts_paragraph rules line = can_interrupt (start_of rules line) line
 
+-- the level of an underline, if the test passes
 abbrev pub underline_if : Bool → List ℕ → Option ℕ
 underline_if true text = underline text
 underline_if false text = None
 
--- The level that the line gives to the text above it, as an underline: it is no lazy continuation line (4.3 Setext headings).
+-- the level that the line gives to the text above it as a setext heading underline; a lazy continuation line
+-- is none (4.3 Setext headings)
 unfoldable pub underline_of : LineView → Option ℕ
 underline_of line = underline_if (not line.lazy && nat_le (indent_of line) 3) (content_of line)
 
--- Where a line stands that follows those of an open container: in it, as it goes inward; in it if they leave a paragraph open; or
--- behind it.
+-- Where a line that follows those of an open container is: in it, given as what is left of the line; in it
+-- only if they leave a paragraph open; or after it.
 pub data Place : Type 0 where
   Stays : LineView → Place
   StaysIfOpen : LineView → Place
   Leaves : Place
 
--- what a lazy continuation line may begin, though it is read as text (5.1 Block quotes, 5.2 List items)
+-- what a lazy continuation line can look like, though it is read as text (5.1 Block quotes, 5.2 List items)
 abbrev pub may_be_lazy : Start → Bool
 may_be_lazy TextLine = true
 may_be_lazy IndentedCode = true
 may_be_lazy (HtmlStart AnyTag) = true
 may_be_lazy _ = false
 
--- a line without the container's marker or indentation
+-- where a line without the container's marker or indentation is
 unfoldable pub place_if_lazy : Rules → LineView → Place
 place_if_lazy rules line = elim (not (is_blank line) && may_be_lazy (start_of rules line)) [ true ↦ StaysIfOpen (as_lazy line) | false ↦ Leaves ]
 
--- the line behind a quote's marker and one column of space, if there is one (5.1)
+-- what is left of a line after the marker of a block quote, and one column of space if there is one (5.1
+-- Block quotes)
 unfoldable pub behind_quote_marker : LineView → LineView
 behind_quote_marker line = strip_columns 1 (past 1 line)
 
+-- where a line is, given what it starts
 abbrev pub quote_place : Rules → Start → LineView → Place
 quote_place rules QuoteMarker line = Stays (behind_quote_marker line)
 quote_place rules _ line = place_if_lazy rules line
 
--- a line stays in a quote that it marks again
+-- Where a line that follows those of an open block quote is: inside if it has the marker again, else inside
+-- only as a lazy continuation line (5.1 Block quotes).
 unfoldable pub place_in_quote : Rules → LineView → Place
 place_in_quote rules line = quote_place rules (start_of rules line) line
 
--- the columns of space between an item's marker and its content: 1 to 4, or 1 where there are more or the rest is blank
+-- the columns of space between a list marker and the content: 1 to 4, or 1 if there are more or the rest is
+-- blank
 unfoldable pub content_offset : LineView → ℕ
 content_offset behind = if is_blank behind || nat_lt 4 (indent_of behind) then 1 else indent_of behind
 
--- the column at which an item's content begins, counted like indentation
+-- the column at which an item's content starts, counted like indentation (5.2 List items)
 unfoldable pub content_column : ItemMarker → LineView → ℕ
 content_column marker line = indent_of line + marker_width marker + content_offset (behind_marker marker line)
 
--- the content on the marker's line
+-- the content on the line of the marker
 unfoldable pub first_content : ItemMarker → LineView → LineView
 first_content marker line = let behind = behind_marker marker line in strip_columns (content_offset behind) behind
 
--- A line stays in an item if it is blank or reaches the content column. Behind a marker with nothing on its line a blank line
--- ends the item: the second mark says that there is only such a marker so far.
+-- the same, given whether the line is blank, whether there is only a marker so far, and whether it reaches
+-- the column
 abbrev pub item_place : (blank bare reaches : Bool) → (inner : LineView) → (otherwise : Place) → Place
 item_place true true reaches inner otherwise = Leaves
 item_place true false reaches inner otherwise = Stays inner
 item_place false bare true inner otherwise = Stays inner
 item_place false bare false inner otherwise = otherwise
 
+-- Where a line that follows those of an open item is: inside if it is blank or reaches the content column,
+-- else inside only as a lazy continuation line. After a marker with nothing on its line a blank line ends the
+-- item: the mark says that there is only such a marker so far (5.2 List items).
 unfoldable pub place_in_item : Rules → (column : ℕ) → (bare : Bool) → LineView → Place
 place_in_item rules column bare line = elim line.lazy [
   | true ↦ place_if_lazy rules line

@@ -1,5 +1,5 @@
--- The atoms of a leaf's source (CommonMark 0.31.2, chapter 6). Its lines are parted by line feeds. The byte
--- at a place tells what is tried there. Where nothing fits, that byte is text.
+-- The atoms of a leaf's source (CommonMark 0.31.2, chapter 6). Its lines are separated by line feeds. The
+-- byte at a place says what is tried there. If nothing fits, that byte is text.
 use Rattle.std.specs.Prelude.{ℕ, Bool, true, false, ◌&&◌, ◌||◌, ◌==◌, nat_le, if◌then◌else◌, List, [], ◌∷◌, drop, reverse, replicate, slice_get, Option, Some, None, codes, chars, encode_utf8_all}
 use Rattle.cm_text.specs.Bytes.{line_feed, space, exclamation_mark, ampersand, asterisk, less_than, left_bracket, backslash, right_bracket, underscore, backtick, tilde}
 use Rattle.cm_text.specs.Rules.{Rules}
@@ -21,7 +21,7 @@ pub data Atom : Type 0 where
   OpenBracket : (image : Bool) → Atom
   CloseBracket : Atom
 
--- An atom, and what is left of the source behind it.
+-- an atom, and what is left of the source after it
 pub record AtomRead : Type 0 where
   pub atom : Atom
   pub rest : List ℕ
@@ -54,27 +54,27 @@ backslash_atom text = elim (after_word (codes "\\\n") text) [
   | None ↦ elim (escape text) [ Some escaped ↦ read (Plain escaped.0) (drop escaped.1 text) | None ↦ None ]
 ]
 
--- the characters for which a reference stands (2.5 Entity and numeric character references)
+-- the characters of a reference (2.5 Entity and numeric character references)
 unfoldable pub reference_atom : List ℕ → Option AtomRead
 reference_atom text = elim (reference text) [ Some found ↦ read (Plain (encode_utf8_all found.0)) (drop found.1 text) | None ↦ None ]
 
--- A line ending with the spaces before it: behind two or more spaces a hard line break, else a soft one (6.7 Hard line breaks, 6.8
--- Soft line breaks).
+-- A line ending with the spaces before it: a hard line break after two spaces or more, or else a soft one
+-- (6.7 Hard line breaks, 6.8 Soft line breaks).
 unfoldable pub break_atom : List ℕ → Option AtomRead
 break_atom text = elim (after_word (codes "\n") (after_run space text)) [
   | Some rest ↦ read (Whole (if nat_le 2 (run_length space text) then Hard else Soft)) rest
   | None ↦ None
 ]
 
--- the characters beside a run: that with which the source behind it begins, and the last of what stands before it, whose bytes
--- are given with the last first
+-- the first character of the source after a delimiter run
 abbrev pub first_character : List ℕ → Option ℕ
 first_character text = slice_get (chars text) 0
 
+-- the last character of what comes before a delimiter run, whose bytes are in reverse
 abbrev pub last_character : List ℕ → Option ℕ
 last_character before = slice_get (reverse (chars (reverse before))) 0
 
--- a run of so many characters between its neighbours in the source
+-- a run of the given number of characters between its neighbours in the source
 unfoldable pub run_between : Rules → (character count : ℕ) → (before rest : List ℕ) → Run
 run_between rules character count before rest =
     let b = neighbour rules (last_character before) in
@@ -99,13 +99,14 @@ tilde_atom rules before text = elim (rules.strike && run_length tilde text == 2)
 unfoldable pub bang_atom : List ℕ → Option AtomRead
 bang_atom text = elim (after_word (codes "![") text) [ Some rest ↦ read (OpenBracket true) rest | None ↦ None ]
 
--- the bytes that are looked at more closely: a space, for the line ending that may follow, and the bytes of markup
+-- the bytes with which an atom other than one byte of text can start: those of markup, a line feed, and a
+-- space, since a line ending may follow
 abbrev pub is_markup : ℕ → Bool
 is_markup b =
     b == line_feed || b == space || b == exclamation_mark || b == ampersand || b == asterisk || b == less_than || b == left_bracket
     || b == backslash || b == right_bracket || b == underscore || b == backtick || b == tilde
 
--- the atom that such a byte begins, if it begins one
+-- the atom that such a byte starts, if it starts one
 unfoldable pub markup_atom : Rules → (before : List ℕ) → ℕ → List ℕ → Option AtomRead
 markup_atom rules before b bs =
     if b == backtick then backtick_atom (b ∷ bs)
@@ -127,6 +128,7 @@ abbrev pub or_byte : ℕ → List ℕ → Option AtomRead → AtomRead
 or_byte b bs None = byte_atom b bs
 or_byte b bs (Some a) = a
 
--- the atom with which a source begins that isn't empty; the bytes before it have the last first
+-- The atom with which a source starts, by its first byte: characters of text, a whole inline, a delimiter
+-- run, `[`, `![` or `]`. The bytes before it are in reverse.
 unfoldable pub atom_at : Rules → (before : List ℕ) → ℕ → List ℕ → AtomRead
 atom_at rules before b bs = elim (is_markup b) [ true ↦ or_byte b bs (markup_atom rules before b bs) | false ↦ byte_atom b bs ]

@@ -1,5 +1,5 @@
--- Links and images by their brackets (CommonMark 0.31.2, 6.3 Links, 6.4 Images). The items so far are given
--- with the last first.
+-- Links and images by their brackets (CommonMark 0.31.2, 6.3 Links, 6.4 Images). The items so far are in
+-- reverse.
 use Rattle.std.specs.Prelude.{ℕ, ◌-◌, Bool, true, false, not, ◌&&◌, ◌||◌, List, [], ◌∷◌, ◌++◌, length, take, reverse, Option, Some, None, codes, if◌then◌else◌}
 use Rattle.std.specs.FinMap.{get}
 use Rattle.cm_text.specs.Bytes.{right_bracket}
@@ -14,7 +14,7 @@ use Rattle.cm_scan.specs.spans.Tags.{is_blank_next, after_gap}
 use Rattle.cm_scan.specs.inlines.Links.{label, destination, title}
 use Rattle.cm_scan.specs.inlines.Pairing.{Item, Characters, Finished, Linked, Opener, bracket_text, emphasis_of}
 
--- Where a link or an image leads, its title, and what is left of the source behind it.
+-- the destination and title of a link or an image, and what is left of the source after it
 pub record LinkEnd : Type 0 where
   pub dest : List ℕ
   pub title : List ℕ
@@ -30,7 +30,7 @@ closed dest title text = elim (after_word (codes ")") (after_gap text)) [
   | None ↦ None
 ]
 
--- behind a destination: a title that a gap parts from it, or none, and the end
+-- after a destination: a title that a gap separates from it, or none, and the end
 unfoldable pub after_destination : (dest : List ℕ) → List ℕ → Option LinkEnd
 after_destination dest text = elim (is_blank_next text) [
   | true ↦ elim (title (after_gap text)) [ Some t ↦ closed dest t.text t.rest | None ↦ closed dest [] text ]
@@ -49,7 +49,7 @@ inline_end text = elim (after_word (codes "(") text) [
   | None ↦ None
 ]
 
--- what a folded label stands for, if it is defined
+-- the target of each folded label, if it is defined
 abbrev pub Defined : Type 0
 Defined = List ℕ → Option Target
 
@@ -81,20 +81,20 @@ reference_end defined between text = elim (label text) [
   | None ↦ collapsed_or_shortcut (target_between defined between) text
 ]
 
--- an end that leads to an address which the rules follow
+-- an end whose address the rules follow
 abbrev pub end_if_followed : Rules → Option LinkEnd → Option LinkEnd
 end_if_followed rules None = None
 end_if_followed rules (Some end) = elim (is_followed rules end.dest) [ true ↦ Some end | false ↦ None ]
 
--- What follows a `]` with this source between it and its opener: an inline link's end goes before a reference. Neither is one where
--- the rules don't follow its address.
+-- What follows a `]` with this source between it and its opener: the end of an inline link, or else a
+-- reference, if the rules follow its address (6.3 Links, 6.4 Images).
 unfoldable pub end_at : Rules → Defined → (between : List ℕ) → List ℕ → Option LinkEnd
 end_at rules defined between text = elim (end_if_followed rules (inline_end text)) [
   | Some end ↦ Some end
   | None ↦ end_if_followed rules (reference_end defined between text)
 ]
 
--- What stands before the nearest opener of a `]`, the opener with the source behind it, and what stands between.
+-- what is before the nearest opener of a `]`, the opener with the source after it, and what is between them
 pub record OpenerFound : Type 0 where
   pub before : List Item
   pub image : Bool
@@ -115,13 +115,13 @@ unfoldable pub holds_link : List Item → Bool
 holds_link [] = false
 holds_link (item ∷ items) = is_linked item || holds_link items
 
--- The link or image of what stands between its brackets. An image that holds a link counts as one.
+-- The link or image with these items as its content. An image that contains a link counts as one.
 abbrev pub made : (image : Bool) → (dest title : List ℕ) → List Item → Item
 made false dest title inside = Linked (Link dest title (emphasis_of inside))
 made true dest title inside =
     if holds_link inside then Linked (Image dest title (emphasis_of inside)) else Finished (Image dest title (emphasis_of inside))
 
--- The items behind a `]`, and what is left of the source.
+-- the items after a `]`, in reverse, and what is left of the source
 pub record Bracketed : Type 0 where
   pub items : List Item
   pub rest : List ℕ
@@ -133,11 +133,12 @@ bracket_is_text items = Characters (codes "]") ∷ items
 abbrev pub brackets_are_text : OpenerFound → List Item
 brackets_are_text found = bracket_is_text (reverse found.inside ++ Characters (bracket_text found.image) ∷ found.before)
 
--- the source behind an opener, up to where this is left
+-- the source after an opener, up to what is left
 unfoldable pub source_up_to : (source left : List ℕ) → List ℕ
 source_up_to source left = take (length source - length left) source
 
--- A `]` with an opener, and what follows it. Links may not contain other links, at any level of nesting: a `[` with one behind it is text.
+-- A `]` with an opener, and what follows it. Links may not contain other links, at any level of nesting: a
+-- `[` with a link after it is text.
 unfoldable pub closed_by_bracket : Rules → Defined → OpenerFound → List ℕ → Bracketed
 closed_by_bracket rules defined found rest = elim (not found.image && holds_link found.inside) [
   | true ↦ record { items = brackets_are_text found; rest = rest }
@@ -147,7 +148,9 @@ closed_by_bracket rules defined found rest = elim (not found.image && holds_link
   ]
 ]
 
--- A `]`: the nearest `[` or `![` that nothing was made of decides.
+-- A `]` makes a link or an image with the nearest `[` or `![` that is still open, if what follows is the end
+-- of one; otherwise both brackets are text. Links may not contain other links, at any level of nesting (6.3
+-- Links, 6.4 Images).
 unfoldable pub close_bracket : Rules → Defined → List Item → List ℕ → Bracketed
 close_bracket rules defined items rest = elim (last_opener items []) [
   | Some found ↦ closed_by_bracket rules defined found rest

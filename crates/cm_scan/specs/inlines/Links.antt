@@ -1,5 +1,5 @@
--- Link labels, destinations, titles, and reference definitions (CommonMark 0.31.2, 6.3 Links, 4.7 Link reference definitions).
--- A text is a leaf's source: its lines are parted by line feeds.
+-- Link labels, destinations, titles and link reference definitions (CommonMark 0.31.2, 6.3 Links, 4.7 Link
+-- reference definitions). A text is a leaf's source: its lines are separated by line feeds.
 use Rattle.std.specs.Prelude.{ℕ, zero, suc, ◌-◌, Bool, true, false, not, ◌&&◌, ◌||◌, List, [], ◌∷◌, length, Option, Some, None, ◌==◌, nat_le, if◌then◌else◌, count_by, codes}
 use Rattle.std.specs.List.{list_all}
 use Rattle.cm_text.specs.Bytes.{line_feed, space, quotation_mark, apostrophe, left_parenthesis, right_parenthesis, less_than, greater_than, left_bracket, backslash, right_bracket}
@@ -7,12 +7,12 @@ use Rattle.cm_text.specs.Characters.{within, is_ascii_punct}
 use Rattle.cm_scan.specs.Words.{is_control, is_empty, begins_with, trim_start, after_word, given, ◌<|>◌}
 use Rattle.cm_scan.specs.spans.Tags.{is_blank_byte, is_blank_next, after_gap}
 
--- A part of a text, as it is written, and what is left behind it.
+-- a part of a text, as it is written, and what is left after it
 pub record Reading : Type 0 where
   pub text : List ℕ
   pub rest : List ℕ
 
--- a byte in front of what was read
+-- a byte added to the front of what was read
 abbrev pub behind : ℕ → Option Reading → Option Reading
 behind b None = None
 behind b (Some r) = Some (record { text = b ∷ r.text; rest = r.rest })
@@ -27,7 +27,7 @@ abbrev pub escapes_next : ℕ → List ℕ → Bool
 escapes_next b [] = false
 escapes_next b (c ∷ cs) = b == backslash && is_ascii_punct c
 
--- Up to the first byte that closes, which is taken off; there is none where a forbidden byte stands before it. The mark says
+-- Up to the first byte that closes, which is removed; none if a forbidden byte comes before it. The mark says
 -- that the first byte is escaped: it neither closes nor is forbidden.
 unfoldable pub up_to_closing : (ℕ → Bool) → (ℕ → Bool) → (escaped : Bool) → List ℕ → Option Reading
 up_to_closing closes forbidden escaped [] = None
@@ -37,11 +37,11 @@ up_to_closing closes forbidden false (b ∷ bs) = elim (closes b) [
   | false ↦ elim (forbidden b) [ true ↦ None | false ↦ behind b (up_to_closing closes forbidden (escapes_next b bs) bs) ]
 ]
 
--- how many characters a text has: each has one byte that continues none
+-- how many characters a text has: each has one byte that isn't a continuation byte
 abbrev pub characters : List ℕ → ℕ
 characters text = count_by (λ b. not (within 128 191 b)) text
 
--- at most 999 characters, of which one is no space, tab or line ending
+-- at most 999 characters, at least one of them no space, tab or line ending
 abbrev pub is_label : Reading → Bool
 is_label r = nat_le (characters r.text) 999 && not (list_all is_blank_byte r.text)
 
@@ -55,12 +55,13 @@ label (b ∷ bs) = elim (b == left_bracket) [
   | false ↦ None
 ]
 
--- how many parentheses are open behind a byte
+-- how many parentheses are open after a byte
 abbrev pub opened_by : ℕ → ℕ → ℕ
 opened_by opened b = if b == left_parenthesis then suc opened else (if b == right_parenthesis then opened - 1 else opened)
 
--- Up to the first space, ASCII control character, or right parenthesis that no left one opened. There is none where one is still
--- open then, or more than 32 are open at once. The mark says that the first byte is escaped.
+-- Up to the first space, ASCII control character, or right parenthesis without a left one. None if a
+-- parenthesis is still open then, or more than 32 are open at once. The mark says that the first byte is
+-- escaped.
 unfoldable pub bare_run : ℕ → (escaped : Bool) → List ℕ → Option Reading
 bare_run opened escaped [] = given (opened == 0) (record { text = []; rest = [] })
 bare_run opened true (b ∷ bs) = behind b (bare_run opened false bs)
@@ -72,9 +73,10 @@ bare_run opened false (b ∷ bs) = elim (b == space || is_control b || (b == rig
 abbrev pub is_filled : Reading → Bool
 is_filled r = not (is_empty r.text)
 
--- A link destination is zero or more characters between `<` and `>` without line endings or unescaped `<` or `>`; or a nonempty
--- sequence of characters that does not start with `<`, does not include ASCII control characters or space character, and includes
--- parentheses only if they are escaped or balanced.
+-- A link destination is zero or more characters between `<` and `>` without line endings or unescaped `<` or
+-- `>`; or a nonempty sequence of characters that does not start with `<`, does not include ASCII control
+-- characters or space character, and includes parentheses only if they are escaped or balanced, at most 32
+-- deep.
 unfoldable pub destination : List ℕ → Option Reading
 destination [] = None
 destination (b ∷ bs) = elim (b == less_than) [
@@ -90,7 +92,7 @@ has_blank_line (b ∷ bs) = (b == line_feed && begins_with line_feed (trim_start
 abbrev pub has_no_blank_line : Reading → Bool
 has_no_blank_line r = not (has_blank_line r.text)
 
--- the title that a byte begins: between `"`, between `'`, or between `(` and `)`
+-- the title that a byte starts: between `"`, between `'`, or between `(` and `)`
 unfoldable pub title_in : ℕ → List ℕ → Option Reading
 title_in b text =
     if b == quotation_mark then up_to_closing (λ c. c == quotation_mark) (λ c. false) false text
@@ -98,12 +100,13 @@ title_in b text =
     else (if b == left_parenthesis then up_to_closing (λ c. c == right_parenthesis) (λ c. c == left_parenthesis) false text
     else None))
 
--- Although link titles may span multiple lines, they may not contain a blank line.
+-- A link title is between `"`, between `'`, or between `(` and `)`. Although link titles may span multiple
+-- lines, they may not contain a blank line.
 unfoldable pub title : List ℕ → Option Reading
 title [] = None
 title (b ∷ bs) = keep_if has_no_blank_line (title_in b bs)
 
--- A link reference definition, each part as it is written, and what is left behind its last line.
+-- a link reference definition, each part as it is written, and what is left after its last line
 pub record LinkDefinition : Type 0 where
   pub label : List ℕ
   pub dest : List ℕ
@@ -114,7 +117,7 @@ abbrev pub at_line_end : List ℕ → Option (List ℕ)
 at_line_end [] = Some []
 at_line_end (b ∷ bs) = given (b == line_feed) bs
 
--- behind the end of the line, where nothing but spaces and tabs stand before it
+-- after the end of the line, if only spaces and tabs come before that
 unfoldable pub after_line : List ℕ → Option (List ℕ)
 after_line text = at_line_end (trim_start text)
 
@@ -122,14 +125,14 @@ abbrev pub defined : List ℕ → List ℕ → List ℕ → Option (List ℕ) �
 defined label dest title None = None
 defined label dest title (Some rest) = Some (record { label = label; dest = dest; title = title; rest = rest })
 
--- behind a destination: a title, which spaces, tabs or a line ending part from it, and the end of its line
+-- after a destination: a title, separated from it by spaces, tabs or a line ending, and the end of its line
 unfoldable pub titled : List ℕ → List ℕ → List ℕ → Option LinkDefinition
 titled label dest text = elim (is_blank_next text) [
   | true ↦ elim (title (after_gap text)) [ Some r ↦ defined label dest r.text (after_line r.rest) | None ↦ None ]
   | false ↦ None
 ]
 
--- behind a destination: no title, and the end of its line
+-- after a destination: no title, and the end of its line
 unfoldable pub untitled : List ℕ → List ℕ → List ℕ → Option LinkDefinition
 untitled label dest text = defined label dest [] (after_line text)
 
@@ -148,12 +151,12 @@ link_definition text = elim (label text) [
   | None ↦ None
 ]
 
--- The definitions at the front of a text, one after another, and what is left of it.
+-- the definitions at the front of a text, one after another, and what is left of it
 pub record Definitions : Type 0 where
   pub taken : List LinkDefinition
   pub left : List ℕ
 
--- at most so many definitions: there are no more than bytes
+-- at most the given number of definitions
 unfoldable pub definitions_within : ℕ → List ℕ → Definitions
 definitions_within zero text = record { taken = []; left = text }
 definitions_within (suc n) text = elim (link_definition text) [
@@ -161,5 +164,7 @@ definitions_within (suc n) text = elim (link_definition text) [
   | None ↦ record { taken = []; left = text }
 ]
 
+-- the link reference definitions at the front of a text, and what is left of it (4.7 Link reference
+-- definitions)
 unfoldable pub definitions_of : List ℕ → Definitions
 definitions_of text = definitions_within (length text) text

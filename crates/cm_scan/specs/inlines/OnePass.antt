@@ -1,4 +1,5 @@
--- Emphasis in one pass from the left, in which each run that may close looks for its nearest opener.
+-- Emphasis in one pass from the left (CommonMark 0.31.2, Appendix: A parsing strategy). Each run that can
+-- close emphasis looks for its nearest opener.
 use Rattle.std.specs.Prelude.{◌≡◌, ℕ, zero, suc, ◌-◌, true, false, List, [], ◌∷◌, ◌++◌, reverse, Some, None, codes, nat_le}
 use Rattle.cm_tree.specs.declared.tree.Inline.TheVariants.{Text, Emph, Strong}
 use Rattle.cm_scan.specs.inlines.Delimiters.{Run}
@@ -40,11 +41,11 @@ unfoldable pub pass_from : List Item → List Item → List Item
 pass_from before [] = reverse before
 pass_from before (item ∷ after) = pass_from (passed before item) after
 
--- One pass over the items from the left.
+-- the items after one pass over them from the left
 abbrev pub one_pass : List Item → List Item
 one_pass items = pass_from [] items
 
--- Repeated pairing comes to what one pass makes.
+-- Repeated pairing makes what one pass from the left makes.
 abbrev pub PairsInOnePass : Type 0
 PairsInOnePass = (items : List Item) → pair_all items ≡ one_pass items
 

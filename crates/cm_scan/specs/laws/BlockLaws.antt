@@ -1,4 +1,4 @@
--- Laws of single blocks, with any lines behind them.
+-- Laws of single blocks, whatever lines follow.
 use Rattle.std.specs.Prelude.{◌≡◌, ⊤, ℕ, zero, suc, ◌+◌, Bool, true, false, not, List, [], ◌∷◌, ◌++◌, length, Some, None}
 use Rattle.std.specs.List.{list_all, flat_map}
 use Rattle.cm_text.specs.Rules.{Rules}
@@ -15,12 +15,12 @@ use Rattle.cm_scan.specs.blocks.Blocks.{add_text, GoesOn, Ends, Underlines, next
 
 -- Lines at the margin
 
--- a text with something in it, of which neither a space nor a tab comes first
+-- a text that starts with neither a space nor a tab, and isn't empty
 abbrev pub is_unindented : List ℕ → Bool
 is_unindented [] = false
 is_unindented (b ∷ bs) = not (is_space_or_tab b)
 
--- what a line begins, and what it is as an underline, are told by its text as it stands
+-- what a line starts, and whether it is an underline, is given by its whole text
 pub record ReadsAtMargin (rules : Rules) (line : LineView) : Type 0 where
   pub not_blank : is_blank line ≡ false
   pub no_columns : indent_of line ≡ 0
@@ -28,37 +28,41 @@ pub record ReadsAtMargin (rules : Rules) (line : LineView) : Type 0 where
   pub start : start_of rules line ≡ start_of_content rules line.text
   pub level : underline_of line ≡ underline line.text
 
+-- A line that isn't indented and isn't lazy is read by its whole text.
 abbrev pub UnindentedLine : Type 0
 UnindentedLine = (rules : Rules) (line : LineView) → line.lazy ≡ false → is_unindented line.text ≡ true → ReadsAtMargin rules line
 
 -- Markers and a space behind them
 
--- the line with so many columns passed, and this text left
+-- a line after the given number of columns, with this text left
 abbrev pub after_columns : ℕ → List ℕ → LineView → LineView
 after_columns n text line = record { column = line.column + n; text = text; lazy = line.lazy }
 
--- `>` and a space, and `>` alone
+-- After `>` and a space the rest of the line is inside the block quote.
 abbrev pub QuoteAndSpace : Type 0
 QuoteAndSpace = (line : LineView) (text : List ℕ) → line.text ≡ 62 ∷ 32 ∷ text → behind_quote_marker line ≡ after_columns 2 text line
 
+-- After `>` alone an empty line is inside the block quote.
 abbrev pub QuoteAlone : Type 0
 QuoteAlone = (line : LineView) → line.text ≡ 62 ∷ [] → behind_quote_marker line ≡ after_columns 1 [] line
 
--- an item's marker and a space, and its marker alone: the content's column is behind both, and this is its first line
+-- the content of an item starts one column after the marker, and this is its first line
 abbrev pub ContentAt : ItemMarker → LineView → LineView → Type 0
 ContentAt marker line first = (content_column marker line ≡ suc (marker_width marker)) × (first_content marker line ≡ first)
 
+-- After a list marker and a space the rest of the line is the item's content.
 abbrev pub ItemAndSpace : Type 0
 ItemAndSpace = (marker : ItemMarker) (line : LineView) (mark text : List ℕ) → line.text ≡ mark ++ 32 ∷ text → length mark ≡ marker_width marker
     → is_unindented mark ≡ true → is_unindented text ≡ true → ContentAt marker line (after_columns (suc (marker_width marker)) text line)
 
+-- After a list marker alone an empty line is the item's content.
 abbrev pub ItemAlone : Type 0
 ItemAlone = (marker : ItemMarker) (line : LineView) → length line.text ≡ marker_width marker → is_unindented line.text ≡ true
     → ContentAt marker line (after_columns (marker_width marker) [] line)
 
 -- Runs of text
 
--- The lines all go on with a run of text, one after another; with them its source is the longer one.
+-- the lines all go on with a run of text, one after another, and make its source the longer one
 pub data AllGoOn (rules : Rules) : List ℕ → List LineView → List ℕ → Type 0 where
   no_more : {source : List ℕ} → AllGoOn rules source [] source
   one_goes_on : {source longer : List ℕ} {line : LineView} {lines : List LineView} → next_line rules source line ≡ GoesOn
@@ -69,10 +73,12 @@ abbrev pub FirstEnds : Rules → List ℕ → List LineView → Type 0
 FirstEnds rules source [] = ⊤
 FirstEnds rules source (line ∷ lines) = next_line rules source line ≡ Ends
 
+-- A run of text has the lines that go on with it, up to the one that ends it.
 abbrev pub RunUpToItsEnd : Type 0
 RunUpToItsEnd = (rules : Rules) (source longer : List ℕ) (lines rest : List LineView) → AllGoOn rules source lines longer → FirstEnds rules longer rest
     → text_run rules source (lines ++ rest) ≡ record { source = longer; level = None; following = rest }
 
+-- A run of text has the lines that go on with it, up to its underline.
 abbrev pub RunUpToItsUnderline : Type 0
 RunUpToItsUnderline = (rules : Rules) (source longer : List ℕ) (lines rest : List LineView) (line : LineView) (level : ℕ) → AllGoOn rules source lines longer
     → next_line rules longer line ≡ Underlines level
@@ -80,25 +86,30 @@ RunUpToItsUnderline = (rules : Rules) (source longer : List ℕ) (lines rest : L
 
 -- Fenced code and HTML
 
+-- no line closes the fence
 abbrev pub none_closes : Fence → List LineView → Bool
 none_closes fence lines = list_all (λ line. not (closes_fence fence line)) lines
 
--- the text of lines from which so many columns go
+-- the text of lines without the given number of columns of each
 abbrev pub text_without : ℕ → List LineView → List ℕ
 text_without columns lines = flat_map (λ line. with_ending (strip_columns columns line)) lines
 
+-- Fenced code has the lines up to its closing fence.
 abbrev pub FencedUpToItsEnd : Type 0
 FencedUpToItsEnd = (fence : Fence) (columns n : ℕ) (text : List ℕ) (lines rest : List LineView) (line : LineView) → none_closes fence lines ≡ true
     → closes_fence fence line ≡ true
     → fenced fence columns text n (lines ++ line ∷ rest) ≡ taken (text ++ text_without columns lines) (suc (n + length lines)) rest
 
+-- Fenced code without a closing fence has all lines.
 abbrev pub FencedToTheLast : Type 0
 FencedToTheLast = (fence : Fence) (columns n : ℕ) (text : List ℕ) (lines : List LineView) → none_closes fence lines ≡ true
     → fenced fence columns text n lines ≡ taken (text ++ text_without columns lines) (n + length lines) []
 
+-- no line meets the end condition
 abbrev pub none_ends : HtmlKind → List LineView → Bool
 none_ends kind lines = list_all (λ line. not (is_html_end kind line.text)) lines
 
+-- An HTML block of the first five kinds has the lines up to the one that meets its end condition.
 abbrev pub HtmlUpToItsEnd : Type 0
 HtmlUpToItsEnd = (kind : HtmlKind) (lines rest : List LineView) (line : LineView) → ends_at_blank_line kind ≡ false → none_ends kind lines ≡ true
     → is_html_end kind line.text ≡ true
@@ -109,25 +120,27 @@ abbrev pub first_is_blank : List LineView → Bool
 first_is_blank [] = true
 first_is_blank (line ∷ lines) = is_blank line
 
+-- An HTML block of the last two kinds has the lines up to a blank line.
 abbrev pub HtmlUpToABlankLine : Type 0
 HtmlUpToABlankLine = (kind : HtmlKind) (lines rest : List LineView) → ends_at_blank_line kind ≡ true → list_all (λ line. not (is_blank line)) lines ≡ true
     → first_is_blank rest ≡ true → html_lines kind (lines ++ rest) ≡ taken (flat_map with_ending lines) (length lines) rest
 
 -- Items
 
+-- Two items with the same marker are of one kind.
 abbrev pub KindOfItself : Type 0
 KindOfItself = (kind : ListKind) → is_same_kind kind kind ≡ true
 
--- so many blank lines
+-- the given number of blank lines before what follows
 abbrev pub blank_lines : ℕ → Parts → Parts
 blank_lines zero rest = rest
 blank_lines (suc n) rest = blank (blank_lines n rest)
 
--- an item before a list of its kind, with so many blank lines between, is the first of that list
+-- An item before a list of its kind, with blank lines or none between them, is the first of that list.
 abbrev pub ItemBeforeItsList : Type 0
 ItemBeforeItsList = (kind other : ListKind) (n : ℕ) (inside rest : Parts) (items : ItemParts) → is_same_kind kind other ≡ true
     → put_item kind inside (blank_lines n (list other items rest)) ≡ list kind (item inside n items) rest
 
--- before anything else it is a list by itself
+-- An item before anything else is a list by itself.
 abbrev pub ItemByItself : Type 0
 ItemByItself = (kind : ListKind) (inside rest : Parts) → next_items kind 0 rest ≡ None → put_item kind inside rest ≡ list kind (last_item inside) rest

@@ -1,4 +1,4 @@
--- What trees hold by rules without raw HTML, and by rules that follow the web's addresses alone.
+-- What trees contain with rules without raw HTML, and with rules that follow only the web's addresses.
 use Rattle.std.specs.Prelude.{◌≡◌, ℕ, true, false, List}
 use Rattle.cm_text.specs.Rules.{Rules}
 use Rattle.cm_text.specs.Lines.{LineView}
@@ -9,22 +9,23 @@ use Rattle.cm_scan.specs.inlines.Brackets.{Defined}
 use Rattle.cm_scan.specs.inlines.Inlines.{inlines_of}
 use Rattle.cm_scan.specs.Documents.{tree_of}
 
--- no line starts an HTML block
+-- With rules without raw HTML no lines have an HTML block.
 abbrev pub NoHtmlBlock : Type 0
 NoHtmlBlock = (rules : Rules) → rules.raw_html ≡ false → (lines : List LineView) → blocks_have_raw (blocks_of rules lines) ≡ false
 
--- no source has raw HTML
+-- With rules without raw HTML no source has raw HTML.
 abbrev pub NoRawHtml : Type 0
 NoRawHtml = (rules : Rules) → rules.raw_html ≡ false → (defined : Defined) (source : List ℕ) → inlines_have_raw (inlines_of rules defined source) ≡ false
 
--- the tree of no text has either
+-- With rules without raw HTML the tree of no text has an HTML block or raw HTML.
 abbrev pub NoHtml : Type 0
 NoHtml = (rules : Rules) → rules.raw_html ≡ false → (bytes : List ℕ) → blocks_have_raw (tree_of rules bytes) ≡ false
 
--- each link and image of a source leads to an address that the rules follow, whatever is defined
+-- Each link and image of a source has an address that the rules follow, whatever is defined.
 abbrev pub InlinesFollowed : Type 0
 InlinesFollowed = (rules : Rules) (defined : Defined) (source : List ℕ) → inlines_are_followed rules (inlines_of rules defined source) ≡ true
 
--- so does each in the tree of any text, and each info there is one that the rules leave as it is
+-- Each link and image in the tree of a text has an address that the rules follow, and each info string is one
+-- that they leave as it is.
 abbrev pub TreesFollowed : Type 0
 TreesFollowed = (rules : Rules) (bytes : List ℕ) → blocks_are_followed rules (tree_of rules bytes) ≡ true

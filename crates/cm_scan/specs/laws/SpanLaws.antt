@@ -1,4 +1,4 @@
--- Laws of raw HTML, autolinks and code spans, with anything behind the text.
+-- Laws of raw HTML, autolinks and code spans, whatever follows the text.
 use Rattle.std.specs.Prelude.{◌≡◌, ℕ, Bool, true, not, List, [], ◌∷◌, ◌++◌, Some, None}
 use Rattle.cm_text.specs.Rules.{Rules, profile, older_rules}
 use Rattle.cm_scan.specs.Words.{begins_with}
@@ -8,51 +8,52 @@ use Rattle.cm_scan.specs.spans.Autolinks.{Autolink, autolink}
 use Rattle.cm_scan.specs.spans.CodeSpans.{code_span}
 use Rattle.cm_scan.specs.spans.Angles.{Angled, Addressed, Tagged, at_angle}
 
--- with anything behind the text, that is what is left too
+-- Raw HTML at the front of a text is the same with more after the text.
 abbrev pub RawHtmlGoesOn : Type 0
 RawHtmlGoesOn = (rules : Rules) (text rest behind : List ℕ) → raw_html rules text ≡ Some rest → raw_html rules (text ++ behind) ≡ Some (rest ++ behind)
 
--- a text that is one raw HTML, in front of any other
+-- A text that is raw HTML as a whole is so with anything after it.
 abbrev pub WholeRawHtmlGoesOn : Type 0
 WholeRawHtmlGoesOn = (rules : Rules) (text behind : List ℕ) → raw_html rules text ≡ Some [] → raw_html rules (text ++ behind) ≡ Some behind
 
--- an autolink is the same
+-- An autolink at the front of a text is the same with more after the text.
 abbrev pub AutolinkGoesOn : Type 0
 AutolinkGoesOn = (text behind : List ℕ) (link : Autolink) → autolink text ≡ Some link
     → autolink (text ++ behind) ≡ Some (record { destination = link.destination; text = link.text; rest = link.rest ++ behind })
 
--- raw HTML that is no autolink becomes none
+-- Raw HTML that is no autolink doesn't become one with more after the text.
 abbrev pub NoAutolinkGoesOn : Type 0
 NoAutolinkGoesOn = (rules : Rules) (text rest behind : List ℕ) → raw_html rules text ≡ Some rest → autolink text ≡ None → autolink (text ++ behind) ≡ None
 
--- no backtick follows the end of a text that is all read
+-- what follows doesn't start with a backtick, if nothing is left of the text
 abbrev pub keeps_run : List ℕ → List ℕ → Bool
 keeps_run [] behind = not (begins_with 96 behind)
 keeps_run (b ∷ bs) behind = true
 
--- a code span is the same, where its last run doesn't grow
+-- A code span at the front of a text is the same with more after the text, unless that makes its last
+-- backtick string longer.
 abbrev pub CodeSpanGoesOn : Type 0
 CodeSpanGoesOn = (text behind : List ℕ) (span : Reading) → code_span text ≡ Some span → keeps_run span.rest behind ≡ true
     → code_span (text ++ behind) ≡ Some (record { text = span.text; rest = span.rest ++ behind })
 
--- with more behind what is left
+-- the same autolink or raw HTML, with more left after it
 abbrev pub longer_angled : Angled → List ℕ → Angled
 longer_angled (Addressed link) behind = Addressed (record { destination = link.destination; text = link.text; rest = link.rest ++ behind })
 longer_angled (Tagged tag) behind = Tagged (record { text = tag.text; rest = tag.rest ++ behind })
 
--- what a `<` begins is the same
+-- What a `<` starts is the same with more after the text.
 abbrev pub AngledGoesOn : Type 0
 AngledGoesOn = (rules : Rules) (text behind : List ℕ) (angled : Angled) → at_angle rules text ≡ Some angled → at_angle rules (text ++ behind) ≡ Some (longer_angled angled behind)
 
--- a text that is read as one raw HTML is so in front of any other
+-- A text that `<` starts and that is raw HTML as a whole is so with anything after it.
 abbrev pub WholeTagGoesOn : Type 0
 WholeTagGoesOn = (rules : Rules) (text behind : List ℕ) → at_angle rules text ≡ Some (Tagged (record { text = text; rest = [] }))
     → at_angle rules (text ++ behind) ≡ Some (Tagged (record { text = text; rest = behind }))
 
--- what the older rules read, the others read too
+-- Raw HTML by the older rules is raw HTML by the profile, and ends at the same place.
 abbrev pub OlderIsRead : Type 0
 OlderIsRead = (text rest : List ℕ) → raw_html older_rules text ≡ Some rest → raw_html profile text ≡ Some rest
 
--- what begins with the one word is no raw HTML where the other stands nowhere in it
+-- A text that starts with the one word is no raw HTML if it doesn't contain the other.
 abbrev pub NeedsEnd : List ℕ → List ℕ → Type 0
 NeedsEnd start end = (rules : Rules) (behind : List ℕ) → behind_word end (start ++ behind) ≡ None → raw_html rules (start ++ behind) ≡ None

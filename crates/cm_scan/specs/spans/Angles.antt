@@ -1,15 +1,16 @@
--- What begins with `<` in a leaf's source.
+-- What starts with `<` in a leaf's source.
 use Rattle.std.specs.Prelude.{ℕ, ◌-◌, List, length, take, Option, Some, None}
 use Rattle.cm_text.specs.Rules.{Rules}
 use Rattle.cm_scan.specs.inlines.Links.{Reading}
 use Rattle.cm_scan.specs.spans.RawHtml.{raw_html}
 use Rattle.cm_scan.specs.spans.Autolinks.{Autolink, followed_autolink}
 
+-- an autolink, or raw HTML
 pub data Angled : Type 0 where
   Addressed : Autolink → Angled
   Tagged : Reading → Angled
 
--- what stands before the rest of a text
+-- what comes before the rest of a text
 unfoldable pub before : List ℕ → List ℕ → List ℕ
 before rest text = take (length text - length rest) text
 
@@ -18,6 +19,7 @@ abbrev pub tagged : List ℕ → Option (List ℕ) → Option Angled
 tagged text None = None
 tagged text (Some rest) = Some (Tagged (record { text = before rest text; rest = rest }))
 
--- an autolink goes before raw HTML; one that leads to an address which the rules don't follow is none
+-- what a `<` starts: an autolink whose address the rules follow, or else raw HTML (6.5 Autolinks, 6.6 Raw
+-- HTML)
 unfoldable pub at_angle : Rules → List ℕ → Option Angled
 at_angle rules text = elim (followed_autolink rules text) [ Some link ↦ Some (Addressed link) | None ↦ tagged text (raw_html rules text) ]

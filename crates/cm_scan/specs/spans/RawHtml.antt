@@ -1,16 +1,17 @@
--- Raw HTML (CommonMark 0.31.2, 6.6 Raw HTML). Each reading answers what is left of the text behind it. By the older rules a
--- comment's text doesn't begin with `>` or `->`, doesn't end with `-`, and holds no `--`.
+-- Raw HTML (CommonMark 0.31.2, 6.6 Raw HTML). Each reading gives what is left of the text after it. With the
+-- older rules the text of a comment doesn't start with `>` or `->`, doesn't end with `-`, and contains no
+-- `--`.
 use Rattle.std.specs.Prelude.{ℕ, Bool, true, false, List, [], ◌∷◌, Option, Some, None, codes}
 use Rattle.cm_text.specs.Rules.{Rules}
 use Rattle.cm_scan.specs.Words.{is_letter, after_word, ◌<|>◌}
 use Rattle.cm_scan.specs.spans.Tags.{Named, open_tag, closing_tag}
 
--- what is left behind a tag
+-- what is left after a tag
 abbrev pub behind_tag : Option Named → Option (List ℕ)
 behind_tag None = None
 behind_tag (Some tag) = Some tag.rest
 
--- what is left behind the first place where a word of a byte or more stands
+-- what is left after the first place of a nonempty word
 unfoldable pub behind_word : List ℕ → List ℕ → Option (List ℕ)
 behind_word word [] = None
 behind_word word (b ∷ bs) = elim (after_word word (b ∷ bs)) [ Some rest ↦ Some rest | None ↦ behind_word word bs ]
@@ -19,12 +20,13 @@ behind_word word (b ∷ bs) = elim (after_word word (b ∷ bs)) [ Some rest ↦ 
 unfoldable pub from_to : List ℕ → List ℕ → List ℕ → Option (List ℕ)
 from_to start end text = elim (after_word start text) [ Some inside ↦ behind_word end inside | None ↦ None ]
 
--- what is left behind `>` or `->`, which end a comment right behind `<!--`
+-- what is left after `>` or `->`, which end a comment directly after `<!--`
 unfoldable pub short_end : List ℕ → Option (List ℕ)
 short_end inside = after_word (codes ">") inside <|> after_word (codes "->") inside
 
--- Behind `<!--`. A comment consists of `<!-->`, `<!--->`, or `<!--`, a string of characters not including the string `-->`, and
--- `-->`. By the older rules the first `--` belongs to the `-->` at the end, and neither `>` nor `->` comes next.
+-- After `<!--`. A comment consists of `<!-->`, `<!--->`, or `<!--`, a string of characters not including the
+-- string `-->`, and `-->`. With the older rules the first `--` belongs to the `-->` at the end, and neither
+-- `>` nor `->` comes next.
 unfoldable pub after_comment : Bool → List ℕ → Option (List ℕ)
 after_comment false inside = short_end inside <|> behind_word (codes "-->") inside
 after_comment true inside = elim (short_end inside) [
@@ -39,7 +41,7 @@ comment older text = elim (after_word (codes "<!--") text) [ Some inside ↦ aft
 abbrev pub instruction : List ℕ → Option (List ℕ)
 instruction text = from_to (codes "<?") (codes "?>") text
 
--- behind `<!`: an ASCII letter, and a text up to `>`
+-- after `<!`: an ASCII letter, and a text up to `>`
 unfoldable pub after_declaration : List ℕ → Option (List ℕ)
 after_declaration [] = None
 after_declaration (b ∷ bs) = elim (is_letter b) [ true ↦ behind_word (codes ">") bs | false ↦ None ]
@@ -53,12 +55,13 @@ declaration text = elim (after_word (codes "<!") text) [ Some inside ↦ after_d
 abbrev pub character_data : List ℕ → Option (List ℕ)
 character_data text = from_to (codes "<![CDATA[") (codes "]]>") text
 
--- An HTML tag consists of an open tag, a closing tag, an HTML comment, a processing instruction, a declaration, or a CDATA
--- section. No text begins with two of them.
+-- An HTML tag consists of an open tag, a closing tag, an HTML comment, a processing instruction, a
+-- declaration, or a CDATA section. No text starts with two of them.
 unfoldable pub html_tag : Rules → List ℕ → Option (List ℕ)
 html_tag rules text = behind_tag (open_tag text) <|> behind_tag (closing_tag text) <|> comment rules.older text <|> instruction text
     <|> declaration text <|> character_data text
 
--- by rules without raw HTML there is none
+-- what is left after an HTML tag: an open tag, a closing tag, a comment, a processing instruction, a
+-- declaration, or a CDATA section; with rules without raw HTML there is none
 unfoldable pub raw_html : Rules → List ℕ → Option (List ℕ)
 raw_html rules text = elim rules.raw_html [ true ↦ html_tag rules text | false ↦ None ]

@@ -1,10 +1,9 @@
--- Tags of HTML (CommonMark 0.31.2, 6.6 Raw HTML). Each reading answers what is left of the text behind it, and the next byte
--- always decides how it goes on.
+-- Tags of HTML (CommonMark 0.31.2, 6.6 Raw HTML). Each reading gives what is left of the text after it.
 use Rattle.std.specs.Prelude.{ℕ, zero, suc, Bool, true, false, not, ◌||◌, List, [], ◌∷◌, length, Option, Some, None, ◌==◌, if◌then◌else◌, codes}
 use Rattle.cm_scan.specs.Words.{is_space_or_tab, is_letter, is_digit, is_letter_or_digit, skip, front_of, trim_start, after_word}
 use Rattle.cm_text.specs.Bytes.{line_feed, quotation_mark, apostrophe, hyphen, full_stop, colon, less_than, equals_sign, greater_than, underscore, backtick}
 
--- a space, a tab or a line ending, which in a leaf's source is a line feed
+-- a space, a tab, or a line feed, which is the line ending of a leaf's source
 abbrev pub is_blank_byte : ℕ → Bool
 is_blank_byte b = is_space_or_tab b || b == line_feed
 
@@ -12,7 +11,7 @@ abbrev pub after_line_ending : List ℕ → List ℕ
 after_line_ending [] = []
 after_line_ending (b ∷ bs) = if b == line_feed then trim_start bs else b ∷ bs
 
--- behind spaces, tabs, and up to one line ending
+-- what is left after spaces, tabs, and up to one line ending
 unfoldable pub after_gap : List ℕ → List ℕ
 after_gap text = after_line_ending (trim_start text)
 
@@ -21,7 +20,7 @@ abbrev pub is_blank_next : List ℕ → Bool
 is_blank_next [] = false
 is_blank_next (b ∷ bs) = is_blank_byte b
 
--- A name and what is left behind it.
+-- a name, and what is left after it
 pub record Named : Type 0 where
   pub name : List ℕ
   pub rest : List ℕ
@@ -64,14 +63,15 @@ after_value (b ∷ bs) = elim (b == quotation_mark) [
   ]
 ]
 
--- An attribute value specification behind a name: a gap, `=`, a gap and a value. Where no `=` comes next, there is none.
+-- An attribute value specification after a name: a gap, `=`, a gap and a value. If no `=` comes next, there
+-- is none.
 unfoldable pub after_specification : List ℕ → Option (List ℕ)
 after_specification text = elim (after_word (codes "=") (after_gap text)) [
   | Some behind ↦ after_value (after_gap behind)
   | None ↦ Some text
 ]
 
--- an attribute behind its gap
+-- an attribute after its gap
 unfoldable pub after_attribute : List ℕ → Option (List ℕ)
 after_attribute [] = None
 after_attribute (b ∷ bs) = elim (begins_attribute b) [ true ↦ after_specification (skip continues_attribute bs) | false ↦ None ]
@@ -80,7 +80,7 @@ after_attribute (b ∷ bs) = elim (begins_attribute b) [ true ↦ after_specific
 unfoldable pub after_tag_end : List ℕ → Option (List ℕ)
 after_tag_end text = elim (after_word (codes "/>") text) [ Some rest ↦ Some rest | None ↦ after_word (codes ">") text ]
 
--- Behind the name of an open tag: attributes, each with a gap before it, a gap or none, and the end. There are no more
+-- After the name of an open tag: attributes, each after a gap, a gap or none, and the end. There are no more
 -- attributes than bytes.
 unfoldable pub after_attributes : ℕ → List ℕ → Option (List ℕ)
 after_attributes zero text = None
@@ -92,7 +92,7 @@ after_attributes (suc n) text = elim (after_tag_end (after_gap text)) [
   ]
 ]
 
--- what is left behind a tag whose name was read so
+-- what is left after a tag whose name was read
 abbrev pub with_rest : List ℕ → Option (List ℕ) → Option Named
 with_rest name None = None
 with_rest name (Some rest) = Some (record { name = name; rest = rest })
