@@ -1,5 +1,6 @@
--- The open leaf and the closed ones, as the code has them. The code counts the lines of a leaf by the line
--- feeds in its text.
+-- The open leaf as the code holds it, which counts the lines of a leaf by the line feeds in its text. A
+-- reader of the contracts needn't believe this: a new parser has taken no lines, and the clauses of its calls
+-- say how many more it has taken.
 use Rattle.std.specs.Prelude.{ℕ, suc, List, [], ◌∷◌, ◌++◌, string_bytes}
 use Rattle.cm_scan.specs.blocks.HtmlKinds.{kind_of}
 use Rattle.cm_scan.specs.blocks.Blocks.{line_feeds}
@@ -9,11 +10,11 @@ use Rattle.cm_block.specs.declared.leaf_kind.LeafKind.TheVariants.{Nothing, Run,
 use Rattle.cm_block.specs.OpenLeaf as spec
 use Rattle.cm_block.specs.OpenLeaf.{no_leaf, open_text, open_code, open_fence, open_html, run_leaves, stays_open, is_last}
 
--- lines that line feeds part, in the text of a block
+-- lines in the text of a block, separated by line feeds
 abbrev pub ended : List ℕ → List ℕ
 ended text = text ++ 10 ∷ []
 
--- indented code with these lines, and with these blank lines behind it
+-- indented code with these lines, and with these blank lines after it
 abbrev pub code_of : List ℕ → List ℕ → spec.OpenLeaf
 code_of text blank_lines = open_code (ended text) (suc (line_feeds text)) blank_lines (line_feeds blank_lines)
 
@@ -26,5 +27,6 @@ leaf_with (Fence kind info columns) text =
     open_fence (record { marker = kind.marker; count = kind.count; info = string_bytes info }) columns text (suc (line_feeds text))
 leaf_with (Html kind) text = open_html (kind_of kind) (ended text) (suc (line_feeds text))
 
+-- the open leaf that a value of the program represents
 abbrev pub leaf_of : OpenLeaf → spec.OpenLeaf
 leaf_of leaf = leaf_with leaf.kind leaf.text

@@ -1,5 +1,5 @@
--- One level read from the left: the blocks so far, and the list that an item may go on with. It also has what
--- tells whether a list is loose (CommonMark 0.31.2, 5.3 Lists).
+-- One level read from the left: the blocks so far, the list that an item may go on with, and what decides
+-- whether a list is loose (CommonMark 0.31.2, 5.3 Lists).
 use Rattle.std.specs.Prelude.{◌≡◌, Bool, true, false, not, ◌&&◌, ◌||◌, List, [], ◌∷◌, ◌++◌, Option, Some, None}
 use Rattle.cm_tree.specs.declared.tree.ListKind.{ListKind}
 use Rattle.cm_tree.specs.declared.tree.Block.{Block}
@@ -8,14 +8,14 @@ use Rattle.cm_scan.specs.blocks.LineForms.{is_same_kind}
 use Rattle.cm_scan.specs.blocks.Parts.{Parts, none, last_item, leaf_block, is_separated, items_end_blank, ends_blank_after, blocks_of_parts}
 use Rattle.cm_block.specs.Machine.{Piece, blank_piece, leaf_piece, quote_piece, item_piece, put_all}
 
--- A list with its closed items and its mark of looseness. A further item of it may be open.
+-- a list with its closed items, and whether it is loose so far; another item of it may be open
 pub record OpenList : Type 0 where
   pub kind : ListKind
   pub loose : Bool
   pub items : List (List Block)
 
--- The closed blocks, the list behind them, whether there is a block, whether the last line is blank as seen at this level, and whether
--- a blank line stands right before the second or a later block.
+-- The closed blocks, the open list after them, whether there is a block, whether the last line is blank as
+-- seen at this level, and whether a blank line comes directly before the second or a later block.
 pub record Level : Type 0 where
   pub blocks : List Block
   pub open_list : Option OpenList
@@ -23,6 +23,7 @@ pub record Level : Type 0 where
   pub ends_blank : Bool
   pub separated : Bool
 
+-- the level of no blocks
 abbrev pub empty_level : Level
 empty_level = record { blocks = []; open_list = None; has_block = false; ends_blank = false; separated = false }
 
@@ -30,10 +31,11 @@ abbrev pub with_list : List Block → Option OpenList → List Block
 with_list blocks None = blocks
 with_list blocks (Some list) = blocks ++ ListBlock list.kind (not list.loose) list.items ∷ []
 
--- all its blocks
+-- all blocks of a level, with the open list
 abbrev pub closed_blocks : Level → List Block
 closed_blocks level = with_list level.blocks level.open_list
 
+-- a level after a blank line
 abbrev pub push_blank : Level → Level
 push_blank level = record { blocks = level.blocks; open_list = level.open_list; has_block = level.has_block; ends_blank = true; separated = level.separated }
 
@@ -42,7 +44,7 @@ push_blank level = record { blocks = level.blocks; open_list = level.open_list; 
 abbrev pub separated_next : Level → Bool
 separated_next level = level.separated || level.has_block && level.ends_blank
 
--- a block that is no item ends the list
+-- A block that is no item ends the open list.
 abbrev pub block_opens : Level → Level
 block_opens level = record { blocks = closed_blocks level; open_list = None; has_block = level.has_block; ends_blank = false; separated = separated_next level }
 
@@ -69,26 +71,29 @@ abbrev pub item_opens_in : Level → Option OpenList → ListKind → Level
 item_opens_in level None kind = list_opens level kind
 item_opens_in level (Some list) kind = elim (is_same_kind list.kind kind) [ true ↦ list_goes_on level list | false ↦ list_opens level kind ]
 
--- an item goes on with a list of its kind; its list then stands open behind the blocks
+-- A level in which an item is opened: it goes on with the open list if that is of its kind, or starts a list.
 abbrev pub item_opens : Level → ListKind → Level
 item_opens level kind = item_opens_in level level.open_list kind
 
 -- Closing: the level is that in which the block was opened.
 
+-- a level in which this block was opened, once it is closed
 abbrev pub block_closes : Level → Block → Level
 block_closes level block = record { blocks = level.blocks ++ block ∷ []; open_list = level.open_list; has_block = true; ends_blank = false; separated = level.separated }
 
--- what its list needs of an item
+-- what a list needs of one of its items: its blocks, whether its last line is blank, and whether a blank line
+-- separates two blocks
 pub record Item : Type 0 where
   pub blocks : List Block
   pub ends_blank : Bool
   pub separated : Bool
 
--- an item that is separated makes its list loose
+-- An item with a blank line between two blocks makes its list loose.
 abbrev pub with_item : Option OpenList → Item → Option OpenList
 with_item None item = None
 with_item (Some list) item = Some (record { kind = list.kind; loose = list.loose || item.separated; items = list.items ++ item.blocks ∷ [] })
 
+-- a level in which an item was opened, once it is closed
 abbrev pub item_closes : Level → Item → Level
 item_closes level item = record { blocks = level.blocks; open_list = with_item level.open_list item; has_block = true; ends_blank = item.ends_blank; separated = level.separated }
 
@@ -114,7 +119,7 @@ unfoldable pub add_all : Level → List Piece → Level
 add_all level [] = level
 add_all level (piece ∷ pieces) = add_all (add level piece) pieces
 
--- A level read from the left has the blocks, the separation and the last line that its parts have.
+-- A level read from the left has the blocks of its parts, and what decides whether a list is loose.
 pub record LevelOfParts (pieces : List Piece) : Type 0 where
   pub blocks : closed_blocks (add_all empty_level pieces) ≡ blocks_of_parts (put_all pieces none)
   pub separated : (add_all empty_level pieces).separated ≡ is_separated false false (put_all pieces none)

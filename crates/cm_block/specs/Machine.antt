@@ -1,4 +1,5 @@
--- One pass over the lines: what is open, what one more line closes and opens, and what closing gives. No line is kept.
+-- One pass over the lines: what is open, what one more line closes and opens, and what closing gives. No line
+-- is kept.
 use Rattle.std.specs.Prelude.{ℕ, zero, suc, Bool, false, List, [], ◌∷◌, ◌++◌, replicate, Option, Some, None}
 use Rattle.cm_text.specs.Rules.{Rules}
 use Rattle.cm_text.specs.Lines.{LineView}
@@ -9,26 +10,28 @@ use Rattle.cm_scan.specs.blocks.Starts.{place_in_quote, place_in_item}
 use Rattle.cm_scan.specs.laws.PartLaws.{goes_inward}
 use Rattle.cm_block.specs.OpenLeaf.{OpenLeaf, no_leaf, closed_leaves, blank_lines_behind, is_open_text, LeafLine, stays_open, is_last, line_of_leaf, LineOpens, begins_nothing, begins_leaf, begins_quote, begins_item, begin_of}
 
--- What stands closed at one level: a blank line, a leaf with how many lines it has, a quote, an item.
+-- What is closed at one level: a blank line, a leaf with its number of lines, a block quote, a list item.
 pub data Piece : Type 0 where
   blank_piece : Piece
   leaf_piece : LeafPart → ℕ → Piece
   quote_piece : Parts → Piece
   item_piece : ListKind → Parts → Piece
 
--- a piece in front of the parts that follow it
+-- a piece before the parts that follow it
 abbrev pub put : Piece → Parts → Parts
 put blank_piece rest = blank rest
 put (leaf_piece x lines) rest = leaf x lines rest
 put (quote_piece inside) rest = quote inside rest
 put (item_piece kind inside) rest = put_item kind inside rest
 
+-- pieces before the parts that follow them
 unfoldable pub put_all : List Piece → Parts → Parts
 put_all [] rest = rest
 put_all (piece ∷ pieces) rest = put piece (put_all pieces rest)
 
--- What is open at one level: a leaf, or a container with what stands closed in it and with what is open in it. Of an item there is
--- also the column at which its content begins, and whether it is only a marker so far, with nothing on its line.
+-- What is open at one level: a leaf, or a container with what is closed in it and what is open in it. An item
+-- also has the column at which its content starts, and whether it is only a marker so far, with nothing on
+-- its line.
 pub data Open (A : Type 0) : Type 0 where
   in_leaf : OpenLeaf → Open A
   in_quote : A → Open A → Open A
@@ -62,14 +65,14 @@ abbrev pub leaf_change : LeafLine → Change
 leaf_change (stays_open x) = change [] (in_leaf x)
 leaf_change (is_last leaves) = change (leaf_pieces leaves) (in_leaf no_leaf)
 
--- What a line begins; `begin` says it of a line from which a marker was taken.
+-- what a line starts; `begin` gives it for a line after a marker
 abbrev pub begin_by : (LineView → Change) → LineOpens → Change
 begin_by begin begins_nothing = change (blank_piece ∷ []) (in_leaf no_leaf)
 begin_by begin (begins_leaf x) = leaf_change x
 begin_by begin (begins_quote inner) = let c = begin inner in change [] (in_quote c.closed c.now)
 begin_by begin (begins_item kind column inner) = let c = begin inner in change [] (in_item kind column (is_blank inner) c.closed c.now)
 
--- as many markers within one another as a number says; those of the line are enough
+-- the same with at most the given number of markers within one another; those of the line are enough
 unfoldable pub begin_within : Rules → ℕ → LineView → Change
 begin_within rules zero line = change [] (in_leaf no_leaf)
 begin_within rules (suc n) line = begin_by (λ inner. begin_within rules n inner) (begin_of rules line)
@@ -81,7 +84,7 @@ begin rules line = begin_within rules (suc (marks line.text)) line
 abbrev pub after_closing : Rules → List Piece → LineView → Change
 after_closing rules pieces line = let c = begin rules line in change (pieces ++ c.closed) c.now
 
--- by whether the line is one of the open leaf
+-- the same for an open leaf, given whether the line belongs to it
 abbrev pub leaf_step : Rules → OpenLeaf → LineView → Option LeafLine → Change
 leaf_step rules x line (Some l) = leaf_change l
 leaf_step rules x line None = after_closing rules (closing (in_leaf x)) line
@@ -98,7 +101,7 @@ step rules (in_item kind column bare closed now) line = elim (goes_inward (place
   | None ↦ after_closing rules (closing (in_item kind column bare closed now)) line
 ]
 
--- The machine: the closed pieces of the document, and what is open.
+-- the closed pieces of the document, and what is open
 abbrev pub Machine : Type 0
 Machine = Change
 
@@ -115,5 +118,6 @@ take_lines rules m (line ∷ lines) = take_lines rules (take_line rules m line) 
 unfoldable pub close : Machine → Parts
 close m = put_all (m.closed ++ closing m.now) none
 
+-- the parts of lines, made by one pass over them
 unfoldable pub parts_in_one_pass : Rules → List LineView → Parts
 parts_in_one_pass rules lines = close (take_lines rules new_machine lines)

@@ -1,5 +1,5 @@
 -- The leaf block that is open while lines are read one at a time, and what one more line does to it
--- (CommonMark 0.31.2, chapter 4). Such a leaf is held as its text so far, and how many lines that has.
+-- (CommonMark 0.31.2, chapter 4). It is held as its text so far, and its number of lines.
 use Rattle.std.specs.Prelude.{ℕ, suc, ◌+◌, Bool, true, false, ◌&&◌, List, [], ◌∷◌, ◌++◌, Option, Some, None, nat_le}
 use Rattle.cm_text.specs.Rules.{Rules}
 use Rattle.cm_text.specs.Lines.{LineView}
@@ -12,8 +12,9 @@ use Rattle.cm_scan.specs.blocks.Starts.{Start, IndentedCode, QuoteMarker, AtxHea
 use Rattle.cm_scan.specs.blocks.Parts.{info_of, LeafPart, heading, code, html, thematic_break}
 use Rattle.cm_scan.specs.blocks.Blocks.{add_text, NextLine, GoesOn, Ends, Underlines, next_line, leaves_of_run, closes_fence, code_line}
 
--- What is open: a run of text, by its source; indented code, with the text of the blank lines that wait for a further line of code,
--- and how many they are; a fence, with the columns that each line loses; an HTML block.
+-- What is open: nothing; a run of text, by its source; indented code, with the text and number of the blank
+-- lines that need another line of code after them; a fenced code block, with the columns removed from each
+-- line; an HTML block.
 pub data OpenLeaf : Type 0 where
   no_leaf : OpenLeaf
   open_text : (source : List ℕ) → OpenLeaf
@@ -25,7 +26,7 @@ pub data OpenLeaf : Type 0 where
 abbrev pub run_leaves : Option ℕ → List ℕ → List (LeafPart × ℕ)
 run_leaves level source = leaves_of_run (record { source = source; level = level; following = [] })
 
--- the leaves that it makes when it is closed, each with how many lines it has
+-- the leaves of the open block once it is closed, each with its number of lines
 unfoldable pub closed_leaves : OpenLeaf → List (LeafPart × ℕ)
 closed_leaves no_leaf = []
 closed_leaves (open_text source) = run_leaves None source
@@ -33,7 +34,7 @@ closed_leaves (open_code text lines blank_text blank_lines) = (code [] text, lin
 closed_leaves (open_fence fence columns text lines) = (code fence.info text, lines) ∷ []
 closed_leaves (open_html kind text lines) = (html text, lines) ∷ []
 
--- how many blank lines then stand behind them
+-- how many blank lines follow these leaves then
 abbrev pub blank_lines_behind : OpenLeaf → ℕ
 blank_lines_behind (open_code text lines blank_text blank_lines) = blank_lines
 blank_lines_behind _ = 0
@@ -43,7 +44,7 @@ abbrev pub is_open_text : OpenLeaf → Bool
 is_open_text (open_text source) = true
 is_open_text _ = false
 
--- A line of a leaf block: behind it the block is still open, or it was the last, and these are the leaves.
+-- A line of a leaf block: the block is still open after it, or it was the last, and these are the leaves.
 pub data LeafLine : Type 0 where
   stays_open : OpenLeaf → LeafLine
   is_last : List (LeafPart × ℕ) → LeafLine
@@ -82,18 +83,20 @@ line_of_leaf rules (open_html kind text lines) line = elim (ends_at_blank_line k
   | false ↦ Some (line_of_html kind text lines line (is_html_end kind line.text))
 ]
 
--- What a line begins where no leaf is open: nothing, since it is blank; a leaf block; a quote, with the line behind its marker; an
--- item, with the column at which its content begins and the line behind its marker.
+-- What a line starts if no leaf is open: nothing, since it is blank; a leaf block; a block quote, with what
+-- is left of the line after its marker; a list item, with the column at which its content starts and what is
+-- left of the line after its marker.
 pub data LineOpens : Type 0 where
   begins_nothing : LineOpens
   begins_leaf : LeafLine → LineOpens
   begins_quote : LineView → LineOpens
   begins_item : ListKind → (column : ℕ) → LineView → LineOpens
 
--- an open fence has its info as the tree has it
+-- an open fence whose info string is that of the tree
 abbrev pub open_as : Rules → Fence → Fence
 open_as rules fence = record fence { info = info_of rules fence.info }
 
+-- the same, given the start of the line
 abbrev pub begin_of_start : Rules → Start → LineView → LineOpens
 begin_of_start rules IndentedCode line = begins_leaf (stays_open (open_code (code_line line) 1 [] 0))
 begin_of_start rules QuoteMarker line = begins_quote (behind_quote_marker line)
@@ -104,5 +107,6 @@ begin_of_start rules BreakLine line = begins_leaf (is_last ((thematic_break, 1) 
 begin_of_start rules (ItemStart marker) line = begins_item marker.kind (content_column marker line) (first_content marker line)
 begin_of_start rules TextLine line = begins_leaf (stays_open (open_text (content_of line)))
 
+-- what a line starts if no leaf is open
 unfoldable pub begin_of : Rules → LineView → LineOpens
 begin_of rules line = elim (is_blank line) [ true ↦ begins_nothing | false ↦ begin_of_start rules (start_of rules line) line ]

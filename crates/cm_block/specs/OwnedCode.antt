@@ -1,4 +1,5 @@
--- `Owned` as a tuple of its fields, by which its values are compared. What a parser is in contracts needs it.
+-- `Owned` as a tuple of its fields, by which its values are compared: the view of a parser needs it. A reader
+-- of the contracts needn't believe it.
 use Rattle.std.specs.Prelude.{ℕ, List, refl}
 use Rattle.std.specs.FinMap as map
 use Rattle.std.specs.Coded.{Coded, code_by, coded_ℕ, coded_list, coded×}

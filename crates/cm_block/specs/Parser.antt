@@ -1,4 +1,4 @@
--- What a parser stands for: the lines that it has been given.
+-- What a parser has taken: the lines that it has been given.
 use Rattle.std.specs.Prelude.{◌≡◌, ℕ, ◌+◌, ◌*◌, ◌≤◌, Bool, not, ◌&&◌, List, length, Some, None, is_some, ⊤}
 use Rattle.cm_text.specs.Rules.{Rules}
 use Rattle.cm_text.specs.Limits.{LimitsView}
@@ -15,15 +15,16 @@ use Rattle.cm_block.specs.Frames.{stack_with}
 use Rattle.cm_block.specs.LeafViews.{leaf_of}
 use Rattle.cm_block.specs.Tests.{AllTested, container_count, count_of}
 
--- what the parser holds
+-- the stack that a parser holds
 abbrev pub stack_of : code.BlockParser → Stack
 stack_of parser = stack_with parser.stack.bare parser.stack.frames parser.stack.level (leaf_of parser.leaf) parser.owners
 
--- no fault was met, and a run of text is open
+-- the parser has met no fault, and a run of text is open
 abbrev pub is_in_text : code.BlockParser → Bool
 is_in_text parser = not (is_some parser.fault) && is_open_text (leaf_of parser.leaf)
 
--- The parser has been given these lines, none of which is too deep by its limits and their rules, and can be given more.
+-- The parser has been given these lines, none of which is too deep by its limits and rules, and can be given
+-- more. It has read them as often as `TestsOf` says.
 pub record HasTaken (parser : code.BlockParser) (lines : List LineView) : Type 0 where
   pub going : parser.fault ≡ None
   pub are_lines : AreLines lines
@@ -32,20 +33,20 @@ pub record HasTaken (parser : code.BlockParser) (lines : List LineView) : Type 0
   pub few : length parser.stack.frames ≤ parser.limits.blocks
   pub tests : AllTested (count_of (stack_of parser)) ((parser.limits.blocks + 5) * length lines) 0 parser.tests
 
--- why the lines are refused; memory may be refused, or a place may need more than 32 bits
+-- The lines have the reported fault; memory may be refused, and a place may need more than 32 bits.
 abbrev pub TellsDepth : BlockFault → LimitsView → List LineView → Type 0
 TellsDepth (BlocksTooDeep line) limits lines = first_too_deep limits.rules limits.blocks lines ≡ Some line
 TellsDepth NoMemory limits lines = ⊤
 TellsDepth TooLarge limits lines = ⊤
 
--- the outline of the lines by these rules
+-- the outline has the blocks, the owners and the link reference definitions of these lines
 pub record OutlineOf (outline : Outline) (rules : Rules) (lines : List LineView) : Type 0 where
   pub blocks : outline.blocks ≡ blocks_of rules lines
   pub owners : outline.owners ≡ owners_of rules lines
   pub definitions : outline.definitions ≡ reference_table rules lines
 
--- how often the lines were read: each quote and item was found by one reading, and where no line is in more than so many of them, each
--- line was read that often at most, and five times more
+-- How often the lines were read: at least once for each block quote and item in the outline, and for each
+-- line at most the limit of blocks and five times more.
 pub record TestsOf (outline : Outline) (blocks : ℕ) (lines : List LineView) : Type 0 where
   pub enough : container_count outline.blocks ≤ outline.tests
   pub few : outline.tests ≤ (blocks + 5) * length lines

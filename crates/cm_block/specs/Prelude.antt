@@ -1,4 +1,4 @@
--- What the contracts of this crate name again and again of the definitions in the crates below, passed on.
+-- Names of the crates below that the contracts of this crate use often. It defines nothing.
 pub use Rattle.cm_scan.specs.blocks.Blocks.{add_text, closes_fence, content_leaf, definition_leaves, line_count, line_feeds, next_line, rest_of}
 pub use Rattle.cm_scan.specs.blocks.HtmlBlocks.{ends_at_blank_line, html_start, is_at_letter, is_html_end}
 pub use Rattle.cm_scan.specs.blocks.HtmlKinds.{kind_of}

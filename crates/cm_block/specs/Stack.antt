@@ -1,6 +1,6 @@
--- The stack that a parser holds, in which no line is kept. It has the open quotes, lists and items from the
--- outside in, each with what stands closed in it. It has the text of the open leaf, the owners of the lines
--- so far, and the link reference definitions so far.
+-- The stack that a parser holds, in which no line is kept: the open block quotes, lists and items from the
+-- outside in, each with what is closed in it; the open leaf; the owners of the lines so far; and the link
+-- reference definitions so far.
 use Rattle.std.specs.FinMap.{empty}
 use Rattle.std.specs.Prelude.{ℕ, zero, suc, Bool, true, false, List, [], ◌∷◌, ◌++◌, replicate, Option, Some, None}
 use Rattle.cm_text.specs.Rules.{Rules}
@@ -20,7 +20,8 @@ use Rattle.cm_block.specs.OpenLeaf.{OpenLeaf, no_leaf, closed_leaves, blank_line
 use Rattle.cm_block.specs.Machine.{Open, in_leaf, in_quote, in_item, has_open_text}
 use Rattle.cm_block.specs.Level.{Level, empty_level, closed_blocks, push_blank, block_opens, item_opens, block_closes, Item, item_closes}
 
--- the owners of the lines so far, but the open leaf's, how many leaves they have, and the table of the definitions among these leaves
+-- the owners of the lines so far, except those of the open leaf; how many leaves they have; and the table of
+-- the definitions among these leaves
 pub record Owned : Type 0 where
   pub owners : List Owner
   pub leaves : ℕ
@@ -32,9 +33,11 @@ pub record Stack : Type 0 where
   pub now : Open Level
   pub owned : Owned
 
+-- a stack of these
 abbrev pub stack : Level → Open Level → Owned → Stack
 stack level now owned = record { level = level; now = now; owned = owned }
 
+-- the stack of no lines
 abbrev pub empty_stack : Stack
 empty_stack = stack empty_level (in_leaf no_leaf) (record { owners = []; leaves = 0; table = empty })
 
@@ -48,7 +51,7 @@ unfoldable pub push_blanks : ℕ → Level → Level
 push_blanks zero level = level
 push_blanks (suc n) level = push_blanks n (push_blank level)
 
--- what the list round it needs of an item with this level
+-- what the list needs of an item with this level
 abbrev pub item_of : Level → Item
 item_of inside = record { blocks = closed_blocks inside; ends_blank = inside.ends_blank; separated = inside.separated }
 
@@ -58,15 +61,17 @@ close_open level (in_leaf x) = push_blanks (blank_lines_behind x) (close_leaves 
 close_open level (in_quote inside now) = block_closes level (Quote (closed_blocks (close_open inside now)))
 close_open level (in_item kind column bare inside now) = item_closes level (item_of (close_open inside now))
 
--- a table behind one more leaf: the first of the definitions with matching labels counts (4.7 Link reference definitions)
+-- a table after one more leaf: the first of definitions with matching labels counts (4.7 Link reference
+-- definitions)
 abbrev pub table_with : Targets → LeafPart → Targets
 table_with table (definition label dest title) = add_first table (fold_label label) (unescape dest, unescape title)
 table_with table _ = table
 
--- lines of one more leaf, and of none
+-- the owners and the table after the lines of one more leaf
 abbrev pub own_leaf : Owned → LeafPart → ℕ → Owned
 own_leaf owned x lines = record { owners = owned.owners ++ replicate lines (Leaf (suc owned.leaves)); leaves = suc owned.leaves; table = table_with owned.table x }
 
+-- the owners after lines of no leaf
 abbrev pub own_lines : Owned → List Owner → Owned
 own_lines owned os = record { owners = owned.owners ++ os; leaves = owned.leaves; table = owned.table }
 
@@ -74,7 +79,7 @@ unfoldable pub own_leaves : Owned → List (LeafPart × ℕ) → Owned
 own_leaves owned [] = owned
 own_leaves owned (x ∷ xs) = own_leaves (own_leaf owned x.0 x.1) xs
 
--- the owner of a blank line, inside a quote or not
+-- the owner of a blank line, inside a block quote or not
 abbrev pub blank_owner : (in_a_quote : Bool) → Owner
 blank_owner true = Marker
 blank_owner false = Blank
@@ -89,12 +94,13 @@ own_open in_a_quote owned (in_leaf x) = own_blanks in_a_quote (blank_lines_behin
 own_open in_a_quote owned (in_quote inside now) = own_open true owned now
 own_open in_a_quote owned (in_item kind column bare inside now) = own_open in_a_quote owned now
 
--- the blocks, the owners and the table of definitions that a stack comes to
+-- the blocks, the owners and the table of definitions of a closed stack
 pub record Closed : Type 0 where
   pub blocks : List Block
   pub owners : List Owner
   pub definitions : Targets
 
+-- the blocks, the owners and the table of definitions once all that is open is closed
 unfoldable pub close_stack : Stack → Closed
 close_stack before =
     let owned = own_open false before.owned before.now in
@@ -107,11 +113,11 @@ abbrev pub push_leaf_line : Owned → Level → LeafLine → Stack
 push_leaf_line owned level (stays_open x) = stack level (in_leaf x) owned
 push_leaf_line owned level (is_last leaves) = stack (close_leaves level leaves) (in_leaf no_leaf) (own_leaves owned leaves)
 
--- a level in which the last line counts as one that isn't blank: from an item's first line its marker was taken
+-- a level whose last line counts as one that isn't blank, since the marker of an item was removed from it
 abbrev pub not_blank : Level → Level
 not_blank inside = record { blocks = inside.blocks; open_list = inside.open_list; has_block = inside.has_block; ends_blank = false; separated = inside.separated }
 
--- What a line begins; `push` says it of a line from which a marker was taken.
+-- what a line starts; `push` gives it for a line after a marker
 abbrev pub push_by : ((in_a_quote : Bool) → Owned → Level → LineView → Stack) → (in_a_quote : Bool) → Owned → Level → LineOpens → Stack
 push_by push in_a_quote owned level begins_nothing = stack (push_blank level) (in_leaf no_leaf) (own_lines owned (blank_owner in_a_quote ∷ []))
 push_by push in_a_quote owned level (begins_leaf l) = push_leaf_line owned (block_opens level) l
@@ -126,15 +132,16 @@ push_within rules (suc n) in_a_quote owned level line = push_by (λ in_a_quote o
 unfoldable pub push_begin : Rules → (in_a_quote : Bool) → Owned → Level → LineView → Stack
 push_begin rules in_a_quote owned level line = push_within rules (suc (marks line.text)) in_a_quote owned level line
 
--- what is open is closed, and the line begins something
+-- what is open is closed, and the line starts something
 abbrev pub push_after : Rules → (in_a_quote : Bool) → Owned → Level → Open Level → LineView → Stack
 push_after rules in_a_quote owned level now line = push_begin rules in_a_quote (own_open in_a_quote owned now) (close_open level now) line
 
--- by whether the line is one of the open leaf
+-- the same for an open leaf, given whether the line belongs to it
 abbrev pub push_to_leaf : Rules → (in_a_quote : Bool) → Owned → Level → OpenLeaf → LineView → Option LeafLine → Stack
 push_to_leaf rules in_a_quote owned level x line (Some l) = push_leaf_line owned level l
 push_to_leaf rules in_a_quote owned level x line None = push_after rules in_a_quote owned level (in_leaf x) line
 
+-- one more line, at one level
 unfoldable pub push_in : Rules → (in_a_quote : Bool) → Owned → Level → Open Level → LineView → Stack
 push_in rules in_a_quote owned level (in_leaf x) line = push_to_leaf rules in_a_quote owned level x line (line_of_leaf rules x line)
 push_in rules in_a_quote owned level (in_quote inside now) line = elim (goes_inward (place_in_quote rules line) (has_open_text now)) [
@@ -146,9 +153,11 @@ push_in rules in_a_quote owned level (in_item kind column bare inside now) line 
   | None ↦ push_after rules in_a_quote owned level (in_item kind column bare inside now) line
 ]
 
+-- the stack after one more line
 unfoldable pub push_line : Rules → Stack → LineView → Stack
 push_line rules before line = push_in rules false before.owned before.level before.now line
 
+-- the stack after more lines
 unfoldable pub push_lines : Rules → Stack → List LineView → Stack
 push_lines rules before [] = before
 push_lines rules before (line ∷ lines) = push_lines rules (push_line rules before line) lines

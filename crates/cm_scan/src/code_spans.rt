@@ -9,9 +9,8 @@ ghost use Rattle.cm_scan.specs.steps.SpanSteps.{run_at};
 use crate::words::{after_run, bytes_from};
 use memchr::memchr;
 
-/// The code span at a place in a text, which is the boundary of a character: what stands
-/// between its two backtick strings, as it is written, and the place after the second one
-/// (CommonMark 0.31.2, 6.1 Code spans).
+/// The code span at a place in a text, which is the boundary of a character: what is between its two backtick
+/// strings, as it is written, and the place after the second one (CommonMark 0.31.2, 6.1 Code spans).
 ///
 /// The backtick string there has as many backticks as stand in a row from that place on, and the other is the
 /// next one of just as many. Where there is none, no backtick string of as many further on has one either, so

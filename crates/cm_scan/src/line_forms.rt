@@ -1,5 +1,4 @@
-//! What one line is by itself, behind its indentation (CommonMark 0.31.2, chapters 4 and 5). Each call reads
-//! a text from a place on to its end. It takes no memory, and answers where what it read ends.
+//! What one line is by itself, after its indentation (CommonMark 0.31.2, chapters 4 and 5).
 ghost use Rattle.std.specs.Prelude.{◌≡◌, ◌+◌, ◌==◌, ◌<◌, ◌≤◌};
 ghost use Rattle.std.specs.Prelude.{ℕ, List, Some, None, length, drop, true, MatchOption, IfSome};
 ghost use Rattle.std.specs.List.{list_any};

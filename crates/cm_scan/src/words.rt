@@ -48,7 +48,7 @@ pub(crate) fn skip_while<F: Fn(u8) -> bool>(bytes: &[u8], test: F) -> &[u8]
     &[]
 }
 
-/// The place behind the run of a byte at a place: however often it is repeated there.
+/// The place after the run of a byte at a place, however often the byte is repeated there, or not at all.
 #[inline(always)]
 pub fn after_run(marker: u8, text: &str, at: usize) -> usize
     requires { at ≤ length text.now }
