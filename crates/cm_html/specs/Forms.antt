@@ -1,10 +1,11 @@
--- How a text of the tree is written.
+-- The form in which a text of the tree is written.
 use Rattle.std.specs.Prelude.{ℕ, List}
 use Rattle.cm_html.specs.declared.forms.Form.{Form}
 use Rattle.cm_html.specs.declared.forms.Form.TheVariants.{Destination, Escaped, Quoted}
 use Rattle.cm_html.specs.Escape.{escape, destination_html}
 use Rattle.cm_html.specs.Listing.{quoted}
 
+-- a text in a form: as a destination, as any other text in HTML, or between the quotes of a listing
 abbrev pub formed : Form → List ℕ → List ℕ
 formed Destination text = destination_html text
 formed Escaped text = escape text

@@ -1,4 +1,4 @@
--- The HTML of a tree.
+-- The HTML of a tree, by cases on its nodes.
 use Rattle.std.specs.Prelude.{ℕ, Bool, true, false, List, [], ◌∷◌, ◌++◌, map, codes, cond, ◌==◌}
 use Rattle.std.specs.Fmt.{decimal}
 use Rattle.cm_tree.specs.declared.tree.Inline.{Inline, Inline-F}
@@ -11,7 +11,7 @@ use Rattle.cm_tree.specs.declared.tree.ListKind.{ListKind}
 use Rattle.cm_tree.specs.declared.tree.ListKind.TheVariants.{Dash, Plus, Star, Dot, Paren}
 use Rattle.cm_html.specs.Escape.{escape, destination_html, class_word}
 
--- what an inline writes: its HTML, and its part of an image's alternative text
+-- What an inline writes: its HTML, and its part of the alternative text of an image.
 pub record Rendered : Type 0 where
   pub html : List ℕ
   pub plain : List ℕ
@@ -28,7 +28,7 @@ join_plain (inline ∷ inlines) = inline.plain ++ join_plain inlines
 abbrev pub code_span_html : List ℕ → List ℕ
 code_span_html text = codes "<code>" ++ escape text ++ codes "</code>"
 
--- between a start and an end tag
+-- HTML between a start tag and an end tag
 abbrev pub between : List ℕ → List ℕ → List ℕ → List ℕ
 between start html end = start ++ html ++ end
 
@@ -41,24 +41,27 @@ strong_html html = between (codes "<strong>") html (codes "</strong>")
 abbrev pub strike_html : List ℕ → List ℕ
 strike_html html = between (codes "<del>") html (codes "</del>")
 
--- an empty title has no attribute
+-- the `title` attribute, or nothing if the title is empty
 abbrev pub title_html : List ℕ → List ℕ
 title_html [] = []
 title_html (b ∷ bs) = codes " title=\"" ++ escape (b ∷ bs) ++ codes "\""
 
+-- the start tag of a link
 abbrev pub link_start : List ℕ → List ℕ → List ℕ
 link_start dest title = codes "<a href=\"" ++ destination_html dest ++ codes "\"" ++ title_html title ++ codes ">"
 
 abbrev pub link_html : List ℕ → List ℕ → List ℕ → List ℕ
 link_html dest title html = link_start dest title ++ html ++ codes "</a>"
 
+-- an image up to its alternative text
 abbrev pub image_start : List ℕ → List ℕ
 image_start dest = codes "<img src=\"" ++ destination_html dest ++ codes "\" alt=\""
 
 abbrev pub image_html : List ℕ → List ℕ → List ℕ → List ℕ
 image_html dest title plain = image_start dest ++ escape plain ++ codes "\"" ++ title_html title ++ codes " />"
 
--- one inline, with what each inline of its content writes in its place
+-- One inline, given what each inline of its content writes. The alternative text of an image is the text and
+-- code in its content, with a space for each line break, and raw HTML as it is.
 abbrev pub inline_step : Inline-F Rendered → Rendered
 inline_step (inline.Text text) = record { html = escape text; plain = text }
 inline_step (inline.Code text) = record { html = code_span_html text; plain = text }
@@ -71,18 +74,22 @@ inline_step (inline.Strike content) = record { html = strike_html (join_html con
 inline_step (inline.Link dest title content) = record { html = link_html dest title (join_html content); plain = join_plain content }
 inline_step (inline.Image dest title content) = record { html = image_html dest title (join_plain content); plain = join_plain content }
 
+-- what an inline writes
 abbrev pub rendered : Inline → Rendered
 rendered = fold-Inline Rendered inline_step
 
+-- the HTML of inlines
 abbrev pub inlines_html : List Inline → List ℕ
 inlines_html inlines = join_html (map rendered inlines)
 
 abbrev pub paragraph_html : List ℕ → List ℕ
 paragraph_html html = codes "<p>" ++ html ++ codes "</p>\n"
 
+-- the start tag of a heading
 abbrev pub heading_start : ℕ → List ℕ
 heading_start level = codes "<h" ++ decimal level ++ codes ">"
 
+-- the end tag of a heading, and a line feed
 abbrev pub heading_end : ℕ → List ℕ
 heading_end level = codes "</h" ++ decimal level ++ codes ">\n"
 
@@ -92,29 +99,31 @@ heading_html level html = heading_start level ++ html ++ heading_end level
 abbrev pub class_start : List ℕ → List ℕ
 class_start word = codes "<pre><code class=\"language-" ++ escape word ++ codes "\">"
 
--- the front of a code block with this class word, where an empty one has no attribute
+-- the start of a code block with this class word, or without a `class` attribute if it is empty
 abbrev pub code_start : List ℕ → List ℕ
 code_start [] = codes "<pre><code>"
 code_start (b ∷ bs) = class_start (b ∷ bs)
 
+-- a code block
 abbrev pub code_html : List ℕ → List ℕ → List ℕ
 code_html info text = code_start (class_word info) ++ escape text ++ codes "</code></pre>\n"
 
 abbrev pub quote_html : List ℕ → List ℕ
 quote_html html = codes "<blockquote>\n" ++ html ++ codes "</blockquote>\n"
 
--- what a block writes, and whether it is a definition, which writes nothing, or a paragraph, by its inlines
+-- What a block writes: nothing, if it is a definition; the inlines of a paragraph; or its HTML.
 pub data Written : Type 0 where
   Nothing : Written
   Inlines : List ℕ → Written
   Whole : List ℕ → Written
 
--- a block that stands in no item
+-- a block that is in no item
 abbrev pub alone : Written → List ℕ
 alone Nothing = []
 alone (Inlines html) = paragraph_html html
 alone (Whole html) = html
 
+-- blocks that are in no item
 abbrev pub all_alone : List Written → List ℕ
 all_alone [] = []
 all_alone (w ∷ ws) = alone w ++ all_alone ws
@@ -125,24 +134,25 @@ shown [] = []
 shown (Nothing ∷ ws) = shown ws
 shown (w ∷ ws) = w ∷ shown ws
 
--- what stands before these blocks of an item of a tight list, where they are its first or come directly after a paragraph: a line feed, if a
--- block other than a paragraph is next
+-- what comes before these blocks of an item of a tight list, if they are its first or directly follow a
+-- paragraph: a line feed, if a block other than a paragraph is next
 abbrev pub line_feed_before : List Written → List ℕ
 line_feed_before (Whole html ∷ ws) = codes "\n"
 line_feed_before _ = []
 
--- the blocks of an item of a tight list, one after another: a paragraph is written as its inlines alone
+-- The blocks of an item of a tight list: a paragraph is written as its inlines alone. Any other block that is
+-- the first, or directly follows such a paragraph, has a line feed before it.
 abbrev pub tight_blocks : List Written → List ℕ
 tight_blocks [] = []
 tight_blocks (Inlines html ∷ ws) = html ++ line_feed_before ws ++ tight_blocks ws
 tight_blocks (w ∷ ws) = alone w ++ tight_blocks ws
 
--- the blocks of an item of a loose list: a line feed stands before the first, and all are written as anywhere
+-- The blocks of an item of a loose list: a line feed comes before the first, and all are written as anywhere.
 abbrev pub loose_blocks : List Written → List ℕ
 loose_blocks [] = []
 loose_blocks (w ∷ ws) = codes "\n" ++ all_alone (w ∷ ws)
 
--- inside of an item: its blocks in order, definitions left aside
+-- the inside of an item: its blocks in order, without its definitions
 abbrev pub inside : (tight : Bool) → List Written → List ℕ
 inside true ws = line_feed_before (shown ws) ++ tight_blocks (shown ws)
 inside false ws = loose_blocks (shown ws)
@@ -157,6 +167,7 @@ items_html tight (item ∷ items) = item_html tight item ++ items_html tight ite
 abbrev pub ordered_start : ℕ → List ℕ
 ordered_start start = cond (start == 1) (codes "<ol>\n") (codes "<ol start=\"" ++ decimal start ++ codes "\">\n")
 
+-- the start tag of a list, and a line feed
 abbrev pub list_start : ListKind → List ℕ
 list_start Dash = codes "<ul>\n"
 list_start Plus = codes "<ul>\n"
@@ -164,6 +175,7 @@ list_start Star = codes "<ul>\n"
 list_start (Dot start) = ordered_start start
 list_start (Paren start) = ordered_start start
 
+-- the end tag of a list, and a line feed
 abbrev pub list_end : ListKind → List ℕ
 list_end Dash = codes "</ul>\n"
 list_end Plus = codes "</ul>\n"
@@ -171,7 +183,7 @@ list_end Star = codes "</ul>\n"
 list_end (Dot start) = codes "</ol>\n"
 list_end (Paren start) = codes "</ol>\n"
 
--- one block, with what each block inside writes in its place
+-- one block, given what each block inside writes
 abbrev pub block_step : Block-F Written → Written
 block_step (block.Paragraph content) = Inlines (inlines_html content)
 block_step (block.Heading level content) = Whole (heading_html level (inlines_html content))
@@ -182,6 +194,7 @@ block_step (block.Definition label dest title) = Nothing
 block_step (block.Quote blocks) = Whole (quote_html (all_alone blocks))
 block_step (block.List kind tight items) = Whole (list_start kind ++ items_html tight items ++ list_end kind)
 
+-- what a block writes
 abbrev pub written : Block → Written
 written = fold-Block Written block_step
 

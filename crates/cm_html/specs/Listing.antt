@@ -14,31 +14,32 @@ use Rattle.cm_tree.specs.declared.tree.Owner.{Owner}
 use Rattle.cm_tree.specs.declared.tree.Owner.TheVariants.{Leaf, Marker, Blank}
 use Rattle.cm_text.specs.Bytes.{line_feed, quotation_mark, backslash}
 
--- a byte between quotes: `\`, `"`, line feeds and other ASCII control characters are written by escapes
+-- a byte between quotes: `\`, `"`, line feeds and other ASCII control characters are escaped
 abbrev pub quote_byte : ℕ → List ℕ
 quote_byte b =
     if b == backslash then codes "\\\\"
     else (if b == quotation_mark then codes "\\\"" else (if b == line_feed then codes "\\n"
     else (if is_ascii_control b then codes "\\x" ++ digit_glyph false (b / 16) ∷ digit_glyph false (b % 16) ∷ [] else b ∷ [])))
 
+-- a text between quotes, in which `\`, `"`, line feeds and other ASCII control characters are escaped
 abbrev pub quoted : List ℕ → List ℕ
 quoted text = codes "\"" ++ flat_map quote_byte text ++ codes "\""
 
--- two spaces for each node round a line
+-- two spaces for each node around a line
 abbrev pub margin : ℕ → List ℕ
 margin zero = []
 margin (suc depth) = codes "  " ++ margin depth
 
--- texts between quotes, each behind a space
+-- texts between quotes, each after a space
 abbrev pub all_quoted : List (List ℕ) → List ℕ
 all_quoted [] = []
 all_quoted (text ∷ texts) = codes " " ++ quoted text ++ all_quoted texts
 
--- the line of a node with so many nodes round it: a word, and then texts
+-- the line of a node with the given number of nodes around it: a word, and then texts
 abbrev pub line : ℕ → List ℕ → List (List ℕ) → List ℕ
 line depth word texts = margin depth ++ word ++ all_quoted texts ++ codes "\n"
 
--- what is listed of a node with so many nodes round it
+-- the listing of a node, given the number of nodes around it
 abbrev pub Listed : Type 0
 Listed = ℕ → List ℕ
 
@@ -47,11 +48,11 @@ abbrev pub all_at : ℕ → List Listed → List ℕ
 all_at depth [] = []
 all_at depth (node ∷ nodes) = node depth ++ all_at depth nodes
 
--- a node that holds others
+-- a node that contains others
 abbrev pub holder : ℕ → List ℕ → List (List ℕ) → List Listed → List ℕ
 holder depth word texts nodes = line depth word texts ++ all_at (suc depth) nodes
 
--- one inline, with the listing of each inline of its content in its place
+-- one inline, given the listing of each inline of its content
 abbrev pub listed_inline_step : Inline-F Listed → Listed
 listed_inline_step (inline.Text text) depth = line depth (codes "text") (text ∷ [])
 listed_inline_step (inline.Code text) depth = line depth (codes "code") (text ∷ [])
@@ -91,7 +92,7 @@ abbrev pub all_items : ℕ → List (List Listed) → List ℕ
 all_items depth [] = []
 all_items depth (item ∷ items) = holder depth (codes "item") [] item ++ all_items depth items
 
--- one block, with the listing of each block inside in its place
+-- one block, given the listing of each block inside
 abbrev pub listed_step : Block-F Listed → Listed
 listed_step (block.Paragraph content) depth = holder depth (codes "paragraph") [] (map listed_inline content)
 listed_step (block.Heading level content) depth = heading_line depth level ++ listed_inlines (suc depth) content
@@ -116,11 +117,11 @@ owner_text Blank = codes "blank"
 abbrev pub owner_line : ℕ → Owner → List ℕ
 owner_line number owner = codes "owner " ++ decimal number ++ codes " " ++ owner_text owner ++ codes "\n"
 
--- the owners of the lines from the one of this number on
+-- the owners of the lines, starting from this number
 abbrev pub owners_from : ℕ → List Owner → List ℕ
 owners_from number [] = []
 owners_from number (owner ∷ owners) = owner_line number owner ++ owners_from (suc number) owners
 
--- the listing of blocks and of the owners of the source's lines
+-- the listing of blocks and of the owners of the lines of the source
 abbrev pub listing_of : List Block → List Owner → List ℕ
 listing_of blocks owners = listed_blocks 0 blocks ++ owners_from 1 owners

@@ -1,5 +1,5 @@
--- The tags of a tree, each without what stands in its quotes. Of the texts in the tree it asks only whether a title or a class word is
--- empty.
+-- The tags of a tree, each without what is in its quotes. Of the texts in the tree only whether a title or a
+-- class word is empty matters.
 use Rattle.std.specs.Prelude.{◌≡◌, ℕ, ◌==◌, Bool, true, false, Some, List, [], ◌∷◌, ◌++◌, codes, map, cond}
 use Rattle.std.specs.Fmt.{decimal}
 use Rattle.cm_tree.specs.declared.tree.Inline.{Inline, Inline-F}
@@ -18,7 +18,7 @@ use Rattle.cm_tree.specs.HeadingLevels.{have_levels}
 use Rattle.cm_html.specs.Markup.{tags_in}
 use Rattle.cm_tree.specs.RawHtml.{blocks_have_raw}
 
--- tags, in order
+-- tags in order
 abbrev pub Tags : Type 0
 Tags = List (List ℕ)
 
@@ -26,7 +26,7 @@ abbrev pub join_tags : List Tags → Tags
 join_tags [] = []
 join_tags (tags ∷ more) = tags ++ join_tags more
 
--- an element, by its tags and those inside
+-- an element: its start tag, the tags inside, and its end tag
 abbrev pub element : List ℕ → Tags → List ℕ → Tags
 element start tags end = start ∷ (tags ++ end ∷ [])
 
@@ -38,7 +38,7 @@ abbrev pub image_tag : (title : List ℕ) → List ℕ
 image_tag [] = codes "img src=\"\" alt=\"\" /"
 image_tag (b ∷ bs) = codes "img src=\"\" alt=\"\" title=\"\" /"
 
--- one inline, with the tags of each inline of its content in its place
+-- one inline, given the tags of each inline of its content
 abbrev pub inline_tags : Inline-F Tags → Tags
 inline_tags (inline.Code text) = codes "code" ∷ codes "/code" ∷ []
 inline_tags inline.Hard = codes "br /" ∷ []
@@ -74,7 +74,7 @@ abbrev pub paragraph_tags : (tight : Bool) → Tags → Tags
 paragraph_tags true tags = tags
 paragraph_tags false tags = element (codes "p") tags (codes "/p")
 
--- of blocks, by whether they stand in a tight item
+-- the tags of blocks, in a tight item or not
 abbrev pub join_blocks : Bool → List (Bool → Tags) → Tags
 join_blocks tight [] = []
 join_blocks tight (block ∷ blocks) = block tight ++ join_blocks tight blocks
@@ -83,7 +83,7 @@ abbrev pub join_items : Bool → List (List (Bool → Tags)) → Tags
 join_items tight [] = []
 join_items tight (item ∷ items) = element (codes "li") (join_blocks tight item) (codes "/li") ++ join_items tight items
 
--- one block, with the tags of each block inside in its place
+-- one block, given the tags of each block inside
 abbrev pub block_tags : Block-F (Bool → Tags) → Bool → Tags
 block_tags (block.Paragraph content) tight = paragraph_tags tight (tags_of_inlines content)
 block_tags (block.Heading level content) tight = element (codes "h" ++ decimal level) (tags_of_inlines content) (codes "/h" ++ decimal level)
@@ -96,16 +96,17 @@ block_tags _ tight = []
 abbrev pub tags_of_block : Block → Bool → Tags
 tags_of_block = fold-Block (Bool → Tags) block_tags
 
+-- the tags of blocks
 abbrev pub tags_of : List Block → Tags
 tags_of blocks = join_blocks false (map tags_of_block blocks)
 
--- Of a tree without raw HTML, whose headings have levels from 1 to 6, the tags in the HTML are those of the tree: no text adds, changes
--- or ends one.
+-- If a tree has no raw HTML, and its headings have levels from 1 to 6, then its HTML is markup whose tags are
+-- those of the tree: no text adds, changes or ends a tag.
 abbrev pub TextIsNoMarkup : Type 0
 TextIsNoMarkup = (blocks : List Block) → blocks_have_raw blocks ≡ false → have_levels blocks ≡ true → tags_in profile (html_of blocks) ≡ Some (tags_of blocks)
 
--- And where the tree holds only what the rules read, so does the HTML: the address of each link and image, as it is written, is one that
--- they follow, and by rules without raw HTML each class is one word.
+-- If such a tree also contains only what the rules read, then so does its HTML: the address of each link and
+-- image, as it is written, is one that they follow, and with rules without raw HTML each class is one word.
 abbrev pub AddressesStay : Type 0
 AddressesStay = (rules : Rules) (blocks : List Block) → blocks_have_raw blocks ≡ false → have_levels blocks ≡ true → blocks_are_followed rules blocks ≡ true
     → tags_in rules (html_of blocks) ≡ Some (tags_of blocks)

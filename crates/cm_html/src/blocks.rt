@@ -22,7 +22,7 @@ pub(crate) fn push_blocks(out: &mut Pages, blocks: &[Block]) -> Result<(), Alloc
     Ok(())
 }
 
-/// Adds the HTML of a block that stands in no item.
+/// Adds the HTML of a block that is in no item.
 ///
 /// # Errors
 ///

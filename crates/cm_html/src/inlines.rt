@@ -108,8 +108,8 @@ fn push_title_behind(out: &mut Pages, target: LinkTarget<'_>) -> Result<(), Allo
     push_title(out, target)
 }
 
-/// Adds the start tag of a link that leads there, with its title unless that is empty. Long texts that have
-/// other owners are held once.
+/// Adds the start tag of a link with this destination, and its title unless that is empty. Long texts that
+/// have other owners are held once.
 ///
 /// # Errors
 ///
@@ -133,7 +133,7 @@ fn push_link(out: &mut Pages, target: LinkTarget<'_>, content: &[Inline]) -> Res
     out.push_str("</a>")
 }
 
-/// Adds an image that leads there, up to its alternative text. A long text that has other owners is held
+/// Adds an image with this destination, up to its alternative text. A long text that has other owners is held
 /// once.
 ///
 /// # Errors
@@ -147,8 +147,8 @@ pub fn push_image_start(out: &mut Pages, target: LinkTarget<'_>) -> Result<(), A
     out.push_str("\" alt=\"")
 }
 
-/// Adds what is behind the alternative text of an image that leads there: its
-/// title, unless that is empty, and the end of the tag.
+/// Adds what follows the alternative text of an image: its title, unless that is empty, and the end of the
+/// tag.
 ///
 /// # Errors
 ///

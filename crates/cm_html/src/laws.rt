@@ -14,15 +14,15 @@ pub fn worked_examples()
     ensures listings { ListingExamples }
 {}
 
-/// The HTML of a tree without raw HTML, but for that in the alternative text of images, and with headings
-/// of the levels 1 to 6, is markup, and its tags are those of the tree. So no text, whatever it says, adds
-/// a tag, changes one or ends one.
+/// The HTML of a tree without raw HTML, except in the alternative text of images, and with headings of the
+/// levels 1 to 6, is markup, and its tags are those of the tree. So no text, whatever it says, adds, changes
+/// or ends a tag.
 pub fn text_is_no_markup()
     ensures { TextIsNoMarkup }
 {}
 
-/// The HTML of such a tree that holds only what the rules read holds no more: each address in it, as it is
-/// written, is one that they follow, and by rules without raw HTML each class is one word.
+/// If such a tree contains only what the rules read, then so does its HTML: each address in it, as it is
+/// written, is one that they follow, and with rules without raw HTML each class is one word.
 pub fn addresses_stay()
     ensures { AddressesStay }
 {}

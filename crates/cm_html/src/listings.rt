@@ -11,8 +11,8 @@ use cm_text::NoMemory;
 use cm_tree::{Block, BoxedText, Doc, Inline, ListKind, Owner};
 use std::alloc::{AllocError, Global};
 
-/// The listing of a document: a line for each node of the tree, parents first, with two spaces of
-/// indentation for each node round it, and then a line for each line of the source, by its owner.
+/// The listing of a document: a line for each node of the tree, parents first, with two spaces of indentation
+/// for each node around it, and then a line for each line of the source, with its owner.
 ///
 /// | Node | Its line |
 /// |---|---|

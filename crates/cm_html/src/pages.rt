@@ -106,7 +106,7 @@ impl Pages {
         self.last.push_str(more)
     }
 
-    /// Adds a text: `&`, `<`, `>` and `"` as references.
+    /// Adds a text with each `&`, `<`, `>` and `"` as a reference.
     ///
     /// # Errors
     ///
@@ -181,7 +181,7 @@ impl Pages {
         Ok(())
     }
 
-    /// Writes the text to a sink, and answers how many bytes it has. It takes no memory.
+    /// Writes the text to a sink, and returns its length in bytes. It takes no memory.
     ///
     /// # Errors
     ///
@@ -203,7 +203,7 @@ impl Pages {
         }
     }
 
-    /// The text as one string, without a copy where it is one page without insertions.
+    /// The text as one string, without a copy if it is one page without insertions.
     ///
     /// # Errors
     ///

@@ -1,4 +1,4 @@
--- What reading the inlines of a leaf answers.
+-- What reading the inlines of a leaf returns (CommonMark 0.31.2, chapter 6).
 use Rattle.std.specs.Prelude.{◌≡◌, ℕ, ◌*◌, ◌^◌, ◌≤◌, true, false, if◌then◌else◌, List, length, Result, Ok, Err, ⊤}
 use Rattle.cm_text.specs.Rules.{Rules}
 use Rattle.cm_tree.specs.Definitions.{Targets}
@@ -11,20 +11,22 @@ use Rattle.cm_inline.specs.declared.fault.InlineFault.{InlineFault}
 use Rattle.cm_inline.specs.declared.fault.InlineFault.TheVariants.{InlinesTooDeep, NoMemory, SourceTooLong}
 use Rattle.cm_inline.specs.declared.reading.Steps.{Steps}
 
--- How many openers are looked at for a character of a delimiter run, at most: one in vain for each of the twelve kinds of closers,
--- and one more where runs of tildes are of a kind of their own; one if it is taken out between a pair; one for a pair.
+-- The most openers that are looked at for each character of a delimiter run: one in vain for each of the
+-- twelve kinds of closers, and one more with strikethrough, whose runs are a kind of their own; one if it is
+-- taken out between a pair; and one for a pair.
 abbrev pub looks_at_most : Rules → ℕ
 looks_at_most rules = if rules.strike then 15 else 14
 
--- The inlines of a source, which don't nest past the limit. So many openers were looked at as its delimiter runs allow, or fewer, and
--- one or more for each emphasis, strong emphasis or strikethrough that was made.
+-- The inlines of a source, which don't nest past the limit. For each character of its delimiter runs at most
+-- fourteen openers were looked at, or fifteen with strikethrough, and at least one for each emphasis, strong
+-- emphasis or strikethrough that was made.
 pub record Read (rules : Rules) (defined : Defined) (limit : ℕ) (source : List ℕ) (answer : List Inline × Steps) : Type 0 where
   pub content : answer.0 ≡ inlines_of rules defined source
   pub within : nests_past rules defined limit source ≡ false
   pub most : answer.1.0 ≤ looks_at_most rules * characters_of (runs_of rules defined source)
   pub least : emphases answer.0 ≤ answer.1.0
 
--- the inlines of a source nest past the limit; memory may be refused
+-- The inlines of a source nest past the limit, or the source has 2^32 bytes or more; memory may be refused.
 abbrev pub Refused : InlineFault → Rules → Targets → (limit : ℕ) → List ℕ → Type 0
 Refused InlinesTooDeep rules targets limit source = nests_past rules (defined_in targets) limit source ≡ true
 Refused NoMemory rules targets limit source = ⊤

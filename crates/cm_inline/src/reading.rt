@@ -116,8 +116,8 @@ fn read_all(
     Ok(())
 }
 
-/// Whether a source has none of the bytes with which anything but text may begin, and isn't empty: it is its
-/// one inline itself then, by all rules and whatever is defined. It takes no memory.
+/// Whether a source has none of the bytes with which anything but text can start, and isn't empty: then it is
+/// its one inline itself, by all rules and whatever is defined. It takes no memory.
 ///
 /// Of other sources that come to one text, such as `a!`, it answers false.
 pub fn is_one_text(source: &str) -> bool
@@ -204,8 +204,8 @@ impl InlineReader {
         Ok(Steps(reader.openers.list.looks()))
     }
 
-    /// The inlines of a leaf with this source, whose lines are parted by line feeds, in a document with these
-    /// definitions, by these rules, and how many openers were looked at (CommonMark 0.31.2, chapter 6).
+    /// The inlines of a leaf with this source, whose lines are separated by line feeds, in a document with
+    /// these definitions, by these rules, and how many openers were looked at (CommonMark 0.31.2, chapter 6).
     ///
     /// # Errors
     ///
@@ -226,7 +226,7 @@ impl InlineReader {
         Ok((settle(&mut self.spare, source, &self.reader.nodes)?, steps))
     }
 
-    /// The source of a leaf without markup, as `is_one_text` tells it, as its one inline.
+    /// The source of a leaf without markup (`is_one_text`) as its one inline.
     ///
     /// # Errors
     ///

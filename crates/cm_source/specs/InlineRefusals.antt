@@ -1,5 +1,5 @@
--- Which inlines can't be spelled so that they read back, and why not. The reason is the first in document
--- order, parents first.
+-- Which inlines can't be spelled so that they read back, and why not (CommonMark 0.31.2, chapter 6). The
+-- reason is the first in document order, parents first.
 use Rattle.std.specs.Prelude.{ℕ, Bool, true, false, not, ◌==◌, ◌&&◌, ◌||◌, if◌then◌else◌, List, [], ◌∷◌, map, reverse, Option, Some, None, codes}
 use Rattle.std.specs.List.{list_any}
 use Rattle.std.specs.Char.{is_ascii_control}
@@ -16,19 +16,19 @@ use Rattle.cm_scan.specs.inlines.Atoms.{first_character, last_character}
 use Rattle.cm_source.specs.declared.why.Why.{Why}
 use Rattle.cm_source.specs.declared.why.Why.TheVariants.{Nul, Text, EmphasisNested, EmphasisTouching, EmphasisEdge, CodeSpan, RawHtml, LinkInLink, LineBreak, StrikeOff, AddressOff}
 
--- the first reason that holds
+-- the first of these reasons that holds
 abbrev pub refused : List (Bool × Why) → Option Why
 refused [] = None
 refused (reason ∷ reasons) = if reason.0 then Some reason.1 else refused reasons
 
--- U+0000, and a line ending, in a string
+-- U+0000 in a string
 abbrev pub has_nul : List ℕ → Bool
 has_nul text = list_any (λ b. b == 0) text
 
 abbrev pub has_line_ending : List ℕ → Bool
 has_line_ending text = list_any (λ b. b == line_feed || b == carriage_return) text
 
--- What the inlines round an inline see of it: what it is, and of a text its first and its last character.
+-- What the inlines around an inline see of it: what it is, and of a text its first and its last character.
 pub data Face : Type 0 where
   TextFace : (first last : Option ℕ) → Face
   CodeFace : Face
@@ -64,23 +64,24 @@ abbrev pub last_of : Option Face → Option ℕ
 last_of (Some (TextFace first last)) = last
 last_of _ = None
 
--- Unicode whitespace; and a plain character, which is neither that nor an ASCII control character nor Unicode punctuation
+-- Unicode whitespace
 abbrev pub is_whitespace : Option ℕ → Bool
 is_whitespace None = false
 is_whitespace (Some c) = is_space c
 
+-- a character that is neither Unicode whitespace, nor an ASCII control character, nor Unicode punctuation
 abbrev pub is_plain : Rules → Option ℕ → Bool
 is_plain rules None = false
 is_plain rules (Some c) = not (is_space c) && not (is_ascii_control c) && not (is_punct_by rules c)
 
--- Where an inline stands: in a heading, as the first of a paragraph, in a link that is the first of a paragraph.
+-- Where an inline is: in a heading, as the first of a paragraph, in a link that is the first of a paragraph.
 pub record Place : Type 0 where
   pub heading : Bool
   pub opens_paragraph : Bool
   pub in_opening_link : Bool
 
--- An inline as it is judged: what others see of it, whether it is or holds emphasis or a link, and why it is refused, at a place and
--- between its neighbours.
+-- An inline as it is judged: what others see of it, whether it is or contains emphasis or a link, and why it
+-- is refused, at a place and between its neighbours.
 pub record Judged : Type 0 where
   pub face : Face
   pub has_emphasis : Bool
@@ -102,7 +103,7 @@ hold_emphasis content = list_any (λ (i : Judged). i.has_emphasis) content
 abbrev pub hold_link : List Judged → Bool
 hold_link content = list_any (λ (i : Judged). i.has_link) content
 
--- behind the first inline of a paragraph, or inside of it
+-- after the first inline of a paragraph, or inside it
 abbrev pub further_in : Place → Place
 further_in place = record place { opens_paragraph = false }
 
@@ -114,8 +115,8 @@ abbrev pub refusal_of_all : Place → (before : Option Face) → List Judged →
 refusal_of_all place before [] = None
 refusal_of_all place before (next ∷ others) = next.refusal place before (first_face others) <|> refusal_of_all (further_in place) (Some next.face) others
 
--- An edge of emphasis: it has content, which doesn't begin with whitespace, and begins with a plain character where one stands right
--- before it; and the mirror image.
+-- An edge of emphasis is wrong if it has no content, if that starts with whitespace, or if a plain character
+-- comes before it and it doesn't start with one; and so at its end.
 abbrev pub has_wrong_edge : Rules → (before : Option Face) → List Judged → (after : Option Face) → Bool
 has_wrong_edge rules before content after =
     is_none (first_face content)
@@ -124,10 +125,12 @@ has_wrong_edge rules before content after =
     || is_whitespace (last_of (last_face content))
     || is_plain rules (first_of after) && not (is_plain rules (last_of (last_face content)))
 
+-- Emphasis is refused if it contains emphasis, directly follows emphasis, or has a wrong edge.
 abbrev pub emphasis_reasons : Rules → List Judged → (before after : Option Face) → List (Bool × Why)
 emphasis_reasons rules content before after =
     (hold_emphasis content, EmphasisNested) ∷ (is_emphasis before, EmphasisTouching) ∷ (has_wrong_edge rules before content after, EmphasisEdge) ∷ []
 
+-- Emphasis as it is judged. Strikethrough is refused if the rules have none.
 abbrev pub emphasis : Rules → (strike : Bool) → List Judged → Judged
 emphasis rules strike content = record {
   face = EmphasisFace;
@@ -145,28 +148,37 @@ ends_a_label place text = place.in_opening_link && holds_word (codes "]:") text
 abbrev pub is_one_tag : Rules → List ℕ → Bool
 is_one_tag rules text = elim (at_angle rules text) [ Some (Tagged tag) ↦ is_empty tag.rest | Some (Addressed link) ↦ false | None ↦ false ]
 
+-- A code span is refused if it has U+0000 or a line ending, is empty, directly follows another, or would end
+-- the label of a definition.
 abbrev pub code_reasons : Place → List ℕ → Option Face → List (Bool × Why)
 code_reasons place text before = (has_nul text, Nul) ∷ (is_empty text || has_line_ending text || is_code before || ends_a_label place text, CodeSpan) ∷ []
 
+-- Raw HTML is refused if it has U+0000 or a line ending, isn't one tag, starts a paragraph, directly follows
+-- a line break, or would end the label of a definition.
 abbrev pub html_reasons : Rules → Place → List ℕ → Option Face → List (Bool × Why)
 html_reasons rules place text before =
     (has_nul text, Nul) ∷ (has_line_ending text || not (is_one_tag rules text) || place.opens_paragraph || is_break before || ends_a_label place text, RawHtml) ∷ []
 
+-- A line break is refused in a heading, as the first or the last inline, and directly after another.
 abbrev pub break_reasons : Place → (before after : Option Face) → List (Bool × Why)
 break_reasons place before after = (place.heading || is_none before || is_none after || is_break before, LineBreak) ∷ []
 
+-- A link is refused if its destination or title has U+0000, if it contains a link, or if the rules don't
+-- follow its address.
 abbrev pub link_reasons : Rules → (dest title : List ℕ) → List Judged → List (Bool × Why)
 link_reasons rules dest title content =
     (has_nul dest || has_nul title, Nul) ∷ (hold_link content, LinkInLink) ∷ (not (is_followed rules dest), AddressOff) ∷ []
 
+-- An image is refused if its destination or title has U+0000, or if the rules don't follow its address.
 abbrev pub image_reasons : Rules → (dest title : List ℕ) → List (Bool × Why)
 image_reasons rules dest title = (has_nul dest || has_nul title, Nul) ∷ (not (is_followed rules dest), AddressOff) ∷ []
 
--- an inline in which none stands
+-- an inline without content
 abbrev pub leaf : Face → (Place → (before after : Option Face) → List (Bool × Why)) → Judged
 leaf face reasons = record { face = face; has_emphasis = false; has_link = false; refusal = λ place before after. refused (reasons place before after) }
 
--- one inline, with how each inline of its content is judged in its place
+-- One inline, given how each inline of its content is judged. A text is refused if it has U+0000, is empty,
+-- or directly follows another.
 abbrev pub inline_step : Rules → Inline-F Judged → Judged
 inline_step rules (inline.Text text) =
     leaf (TextFace (first_character text) (last_character (reverse text))) (λ place before after. (has_nul text, Nul) ∷ (is_empty text || is_text before, Text) ∷ [])
@@ -200,9 +212,10 @@ of_paragraph = record { heading = false; opens_paragraph = true; in_opening_link
 abbrev pub of_heading : Place
 of_heading = record { heading = true; opens_paragraph = false; in_opening_link = false }
 
--- why the content of a paragraph, or of a heading, is refused
+-- the first reason against the content of a paragraph, in document order, if there is one
 abbrev pub paragraph_refusal : Rules → List Inline → Option Why
 paragraph_refusal rules content = refusal_of_all of_paragraph None (map (judged rules) content)
 
+-- the first reason against the content of a heading, in document order, if there is one
 abbrev pub heading_refusal : Rules → List Inline → Option Why
 heading_refusal rules content = refusal_of_all of_heading None (map (judged rules) content)

@@ -5,14 +5,15 @@ use Rattle.cm_tree.specs.declared.tree.Inline.TheOpen as inline
 use Rattle.cm_tree.specs.declared.tree.Inline.TheFolds.{fold-Inline}
 use Rattle.cm_source.specs.Texts.{spelled_text, spelled_code, spelled_target}
 
--- An inline as it is spelled, by whether it stands at the beginning and at the end of a line; whether the line ends right before it,
--- as before a soft break; and whether one begins right behind it, as behind each break.
+-- An inline as it is spelled, at the beginning of a line or not, and at the end of one or not; whether the
+-- line ends directly before it, as before a soft line break; and whether one starts directly after it, as
+-- after each line break.
 pub record Spelled : Type 0 where
   pub spelling : (first last : Bool) → List ℕ
   pub ends_line : Bool
   pub begins_line : Bool
 
--- whether a line ends right before inlines, where one ends behind them or not
+-- whether a line ends directly before inlines, given whether one ends after them
 abbrev pub is_line_end : (last : Bool) → List Spelled → Bool
 is_line_end last [] = last
 is_line_end last (next ∷ inlines) = next.ends_line
@@ -26,11 +27,11 @@ join first last (next ∷ inlines) = next.spelling first (is_line_end last inlin
 abbrev pub inside_line : ((first last : Bool) → List ℕ) → Spelled
 inside_line spelling = record { spelling = spelling; ends_line = false; begins_line = false }
 
--- a content between two marks
+-- content between two marks
 abbrev pub between : List ℕ → List Spelled → List ℕ → Spelled
 between start content end = inside_line (λ first last. start ++ join false false content ++ end)
 
--- one inline, with how each inline of its content is spelled in its place
+-- One inline, given how each inline of its content is spelled.
 abbrev pub inline_step : Inline-F Spelled → Spelled
 inline_step (inline.Text text) = inside_line (λ first last. spelled_text first last text)
 inline_step (inline.Code text) = inside_line (λ first last. spelled_code text)
@@ -43,13 +44,14 @@ inline_step (inline.Strike content) = between (codes "~~") content (codes "~~")
 inline_step (inline.Link dest title content) = between (codes "[") content (spelled_target dest title)
 inline_step (inline.Image dest title content) = between (codes "![") content (spelled_target dest title)
 
+-- how an inline is spelled
 abbrev pub spelled : Inline → Spelled
 spelled = fold-Inline Spelled inline_step
 
--- inlines that begin and end with a line or not
+-- inlines at the beginning and the end of a line, or not
 abbrev pub spelled_inlines : (first last : Bool) → List Inline → List ℕ
 spelled_inlines first last inlines = join first last (map spelled inlines)
 
--- the content of a paragraph or of a heading
+-- how the content of a paragraph or a heading is spelled
 abbrev pub spelled_content : List Inline → List ℕ
 spelled_content content = spelled_inlines true true content

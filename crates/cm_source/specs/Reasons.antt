@@ -1,8 +1,9 @@
--- What the reasons are called for which a tree can't be spelled.
+-- What the reasons against spelling a tree are called.
 use Rattle.std.specs.Prelude.{ℕ, List, codes}
 use Rattle.cm_source.specs.declared.why.Why.{Why}
 use Rattle.cm_source.specs.declared.why.Why.TheVariants as why
 
+-- the text of a reason
 abbrev pub reason_text : Why → List ℕ
 reason_text why.Definition = codes "a definition"
 reason_text why.Nul = codes "U+0000"

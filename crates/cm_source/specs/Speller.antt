@@ -1,4 +1,4 @@
--- What a speller stands for: the blocks that it has spelled.
+-- What a speller has spelled.
 use Rattle.std.specs.Prelude.{◌≡◌, List, [], ◌∷◌, ◌++◌, map, Option, Some, None, false}
 use Rattle.cm_text.specs.Rules.{Rules}
 use Rattle.cm_tree.specs.declared.tree.Block.{Block}
@@ -10,12 +10,12 @@ use Rattle.cm_source.specs.Spelling.{spelling_of}
 use Rattle.cm_source.specs.steps.BlockFaces.{seen}
 use Rattle.cm_source.specs.steps.WrittenLines.{IsBetween}
 
--- what a block behind these sees of the last of them
+-- what the next block sees of the last of these
 abbrev pub face_behind : (before : Option BlockFace) → List JudgedBlock → Option BlockFace
 face_behind before [] = before
 face_behind before (next ∷ others) = face_behind (Some next.face) others
 
--- The speller goes by these rules. These blocks can be spelled, its text is their spelling, and it knows what is seen of the last of them.
+-- The speller goes by these rules. These blocks can be spelled, and it holds their spelling.
 pub record HasSpelled (rules : Rules) (speller : code.Speller) (blocks : List Block) : Type 0 where
   pub same_rules : speller.rules ≡ rules
   pub spellable : IsSpellable rules blocks
@@ -23,7 +23,8 @@ pub record HasSpelled (rules : Rules) (speller : code.Speller) (blocks : List Bl
   pub last : seen speller.before ≡ face_behind None (map (judged_block rules) blocks)
   pub fine : speller.failed ≡ false
 
--- Why a block isn't spelled behind these: they can't be spelled with it, whatever stands behind it; memory may be refused.
+-- Why a block isn't spelled after these: they can't be spelled with it, whatever follows; memory may be
+-- refused.
 abbrev pub Refuses : SourceFault → Rules → List Block → Block → Type 0
 Refuses (Unspellable why) rules blocks block = (others : List Block) → refusal_of rules (blocks ++ block ∷ others) ≡ Some why
 Refuses NoMemory rules blocks block = IsSpellable rules (blocks ++ block ∷ [])

@@ -11,36 +11,36 @@ use Rattle.cm_source.specs.Texts.{longest_run, spelled_text}
 use Rattle.cm_source.specs.Inlines.{spelled_content}
 use Rattle.cm_text.specs.Bytes.{line_feed, space, number_sign, greater_than, backtick}
 
--- a byte in front of the first of some lines
+-- a byte added to the front of the first of some lines
 abbrev pub in_front : ℕ → List (List ℕ) → List (List ℕ)
 in_front b [] = (b ∷ []) ∷ []
 in_front b (line ∷ lines) = (b ∷ line) ∷ lines
 
--- the lines of a text that line feeds part
+-- the lines of a text, separated by line feeds
 unfoldable pub parted_lines : List ℕ → List (List ℕ)
 parted_lines [] = [] ∷ []
 parted_lines (b ∷ bs) = if b == line_feed then [] ∷ parted_lines bs else in_front b (parted_lines bs)
 
--- the lines of a text that line feeds end
+-- the lines of a text, each followed by a line feed
 unfoldable pub ended_lines : List ℕ → List (List ℕ)
 ended_lines [] = []
 ended_lines (b ∷ bs) = if b == line_feed then [] ∷ ended_lines bs else in_front b (ended_lines bs)
 
--- a space in front of a text, unless it is empty
+-- a space before a text, unless it is empty
 abbrev pub spaced : List ℕ → List ℕ
 spaced [] = []
 spaced (b ∷ bs) = space ∷ b ∷ bs
 
--- a space and the content, if there is any
+-- a space before content, unless it is empty
 abbrev pub after_space : List Inline → List ℕ
 after_space [] = []
 after_space (inline ∷ content) = space ∷ spelled_content (inline ∷ content)
 
--- `##` and the content (4.2 ATX headings)
+-- An ATX heading: `#` as often as its level says, and the content (4.2 ATX headings).
 abbrev pub heading_lines : ℕ → List Inline → List (List ℕ)
 heading_lines level content = parted_lines (replicate level number_sign ++ after_space content)
 
--- a fence of three backticks, or one more than the longest run in the text (4.5 Fenced code blocks)
+-- A code fence has three backticks, or one more than the longest run in the text (4.5 Fenced code blocks).
 abbrev pub fence_around : List ℕ → List ℕ
 fence_around text = replicate (max 3 (suc (longest_run 0 text))) backtick
 
@@ -52,12 +52,13 @@ abbrev pub gap : Bool → List (List ℕ)
 gap true = [] ∷ []
 gap false = []
 
--- the lines of some blocks or items, one after another, with an empty line between two or none
+-- the lines of some blocks or items, with an empty line between two or none
 abbrev pub joined : (apart : Bool) → List (List (List ℕ)) → List (List ℕ)
 joined apart [] = []
 joined apart (first ∷ others) = first ++ flat_map (λ lines. gap apart ++ lines) others
 
--- a line behind `> `, and an empty one behind `>`; a quote without blocks has one empty line (5.1 Block quotes)
+-- Each line of a block quote follows `> `, and an empty one `>`; a block quote without blocks has one empty
+-- line (5.1 Block quotes).
 abbrev pub quoted : List ℕ → List ℕ
 quoted line = greater_than ∷ spaced line
 
@@ -65,7 +66,7 @@ abbrev pub quote_lines : List (List ℕ) → List (List ℕ)
 quote_lines [] = quoted [] ∷ []
 quote_lines (line ∷ lines) = map quoted (line ∷ lines)
 
--- each item of an ordered list has the list's start number (5.2 List items)
+-- Each item of an ordered list has the start number of the list (5.2 List items).
 abbrev pub marker : ListKind → List ℕ
 marker Dash = codes "-"
 marker Plus = codes "+"
@@ -73,21 +74,24 @@ marker Star = codes "*"
 marker (Dot start) = decimal start ++ codes "."
 marker (Paren start) = decimal start ++ codes ")"
 
--- so many spaces in front of a line, unless it is empty
+-- the given number of spaces before a line, unless it is empty
 abbrev pub indented : ℕ → List ℕ → List ℕ
 indented columns [] = []
 indented columns (b ∷ bs) = replicate columns space ++ b ∷ bs
 
--- the first line behind the marker and a space, and the others as far indented; an item without blocks is its marker
+-- The first line of an item follows its marker and a space, and the others are indented as far; an item
+-- without blocks is its marker (5.2 List items).
 abbrev pub item_lines : List ℕ → List (List ℕ) → List (List ℕ)
 item_lines mark [] = mark ∷ []
 item_lines mark (line ∷ lines) = (mark ++ spaced line) ∷ map (indented (length mark + 1)) lines
 
--- the items of a tight list stand together, and so do the blocks of each (5.3 Lists)
+-- An empty line is between the items of a loose list, and between the blocks of each; in a tight list there
+-- is none (5.3 Lists).
 abbrev pub list_lines : ListKind → (tight : Bool) → List (List (List (List ℕ))) → List (List ℕ)
 list_lines kind tight items = joined (not tight) (map (λ blocks. item_lines (marker kind) (joined (not tight) blocks)) items)
 
--- one block, with the lines of each block inside in its place; a definition is never spelled
+-- One block, given the lines of each block inside. A thematic break is `___`, and a definition is never
+-- spelled.
 abbrev pub block_step : Block-F (List (List ℕ)) → List (List ℕ)
 block_step (block.Paragraph content) = parted_lines (spelled_content content)
 block_step (block.Heading level content) = heading_lines level content
@@ -98,6 +102,7 @@ block_step (block.Definition label dest title) = []
 block_step (block.Quote blocks) = quote_lines (joined true blocks)
 block_step (block.List kind tight items) = list_lines kind tight items
 
+-- the lines of a block
 abbrev pub lines_of_block : Block → List (List ℕ)
 lines_of_block = fold-Block (List (List ℕ)) block_step
 
@@ -105,6 +110,6 @@ lines_of_block = fold-Block (List (List ℕ)) block_step
 abbrev pub lines_of_blocks : (apart : Bool) → List Block → List (List ℕ)
 lines_of_blocks apart blocks = joined apart (map lines_of_block blocks)
 
--- a document: its blocks stand apart, and each line is ended by a line feed
+-- the source of a document: an empty line between two blocks, and a line feed after each line
 abbrev pub spelling_of : List Block → List ℕ
 spelling_of blocks = flat_map (λ line. line ++ line_feed ∷ []) (lines_of_blocks true blocks)

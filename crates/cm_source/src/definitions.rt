@@ -19,8 +19,8 @@ fn retain_others(blocks: &mut Vec<Block>)
     blocks.retain(|block| !is_definition(block));
 }
 
-/// The blocks without the link reference definitions among and inside of them, at every depth
-/// (4.7 Link reference definitions). It takes no memory.
+/// The blocks without the link reference definitions among them and inside, at every depth (CommonMark
+/// 0.31.2, 4.7 Link reference definitions). It takes no memory.
 #[cycle(definitions)]
 pub fn without_definitions(alloc: Global, blocks: Items<Block>) -> Items<Block>
     ensures { result ≡ without_definitions blocks }
@@ -33,8 +33,8 @@ pub fn without_definitions(alloc: Global, blocks: Items<Block>) -> Items<Block>
     Items::from(blocks)
 }
 
-/// A block without the link reference definitions inside of it, at every depth, or nothing
-/// where it is one itself. It takes no memory.
+/// A block without the link reference definitions inside it, at every depth, or nothing if it is one itself.
+/// It takes no memory.
 pub fn block_without_definitions(alloc: Global, mut block: Block) -> Option<Block>
     ensures kept { IfSome result (λ kept. without_definitions (block ∷ []) ≡ kept ∷ []) }
     ensures gone { IfNone result (without_definitions (block ∷ []) ≡ []) }

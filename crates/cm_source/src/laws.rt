@@ -12,14 +12,14 @@ pub fn worked_examples()
     ensures blocks { BlockExamples }
 {}
 
-/// The same of which trees can't be spelled, and why not.
+/// Worked examples of trees that can't be spelled, and why not, by computation.
 pub fn refusal_examples()
     ensures inlines { InlineRefusalExamples }
     ensures blocks { RefusalExamples }
 {}
 
-/// The same of whole trees that read back, and of some that wouldn't, by the definitions of reading; of the
-/// blocks of their lines; and of a tree that no program has, which shows why a law speaks of UTF-8.
+/// Worked examples of whole trees that read back, and of some that wouldn't, by the definitions of reading;
+/// of the blocks of their lines; and of a tree that no program has, which shows why a law needs UTF-8.
 pub fn reading_back_examples()
     ensures leaves { LeafBlockExamples }
     ensures containers { ContainerExamples }

@@ -2,14 +2,14 @@
 ghost use Rattle.cm_source.specs.ReadingBack.{ParagraphsReadBack, HeadingsReadBack};
 ghost use Rattle.cm_source.specs.ReadingBack.{BlocksReadBack, SpellingIsText, TreesReadBack};
 
-/// A content that isn't refused is what its spelling is read as, whatever is defined.
+/// A content that isn't refused is read from its spelling, whatever is defined.
 #[tactic(auto, using(crate::proofs::lemmas::ContentsBack::contents_read_back))]
 pub fn contents_read_back()
     ensures paragraphs { ParagraphsReadBack }
     ensures headings { HeadingsReadBack }
 {}
 
-/// The blocks of a spelling are those that were spelled, with the spellings of their contents as sources.
+/// The blocks of a spelling are those that were spelled, with the spelling of each content as its source.
 #[tactic(auto, using(crate::proofs::lemmas::BlocksBack::blocks_read_back))]
 pub fn blocks_read_back()
     ensures { BlocksReadBack }

@@ -81,7 +81,7 @@ impl fmt::Debug for Speller {
 }
 
 impl Speller {
-    /// A speller of no blocks so far, by these rules. It takes no memory.
+    /// A speller that has been given no blocks, by these rules. It takes no memory.
     pub fn new(alloc: Global, rules: Rules) -> Speller
         ensures { HasSpelled rules result [] }
     {

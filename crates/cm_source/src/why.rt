@@ -52,7 +52,7 @@ pub enum Why {
 }
 
 impl Why {
-    /// What it is called in the line of a fault.
+    /// Its text in the line of a fault.
     pub fn text(&self) -> &'static str
         ensures text { result.now ≡ reason_text self.now }
         ensures short { length result.now ≤ 46 }

@@ -6,7 +6,7 @@ use Rattle.cm_source.specs.Refusals as refusals
 use Rattle.cm_source.specs.declared.refusals.Face.{Face}
 use Rattle.cm_source.specs.declared.refusals.Face.TheVariants.{Paragraph, Code, Quote, List, Other}
 
--- the face of the definitions
+-- what the definitions call a face of the code
 abbrev pub shown : Face → refusals.BlockFace
 shown Paragraph = refusals.ParagraphFace
 shown Code = refusals.CodeBlockFace
@@ -14,7 +14,7 @@ shown Quote = refusals.QuoteFace
 shown (List kind filled) = refusals.ListFace kind filled
 shown Other = refusals.OtherBlockFace
 
--- that of what stands there, if anything does
+-- the same of the block before, if there is one
 abbrev pub seen : Option Face → Option refusals.BlockFace
 seen beside = option_map shown beside
 

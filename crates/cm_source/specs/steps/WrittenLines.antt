@@ -1,5 +1,5 @@
--- Source that is written line by line. What stands in front of a line, as markers and indentation, is written
--- with it.
+-- Source that is written line by line: what comes before a line, as markers and indentation, is written with
+-- it.
 use Rattle.std.specs.Prelude.{◌≡◌, ℕ, ◌==◌, if◌then◌else◌, List, [], ◌∷◌, ◌++◌, length, flat_map, string_bytes, Bool, true, false}
 use Rattle.cm_scan.specs.Words.{trim_end_spaces}
 use Rattle.cm_source.specs.declared.source_lines.SourceLines.{SourceLines}
@@ -23,16 +23,17 @@ abbrev pub next_front : (first front : List ℕ) → List (List ℕ) → List �
 next_front first front [] = first
 next_front first front (line ∷ lines) = front
 
--- a text behind which the spaces of another can be stripped by themselves
+-- a text after which the spaces of another can be stripped by themselves
 abbrev pub IsEnded : List ℕ → Type 0
 IsEnded done = (text : List ℕ) → trim_end_spaces (done ++ text) ≡ done ++ trim_end_spaces text
 
--- no line has begun, or one of which only what stands in front of it is written
+-- no line has been started, or only what comes before it has been written
 abbrev pub StandsAt : (begun : Bool) → (line : ℕ) → (text done first front : List ℕ) → Type 0
 StandsAt false line text done first front = (text ≡ done) × (first ≡ front)
 StandsAt true line text done first front = (text ≡ done ++ first) × (line ≡ length text)
 
--- Between two lines, of which the next one has begun or not: these are done, this stands in front of the next one, and this in front of those that follow it.
+-- Between two lines, the next of which has been started or not: these lines are done, this comes before the
+-- next one, and this before those that follow it.
 pub record IsBetween (source : SourceLines) (begun : Bool) (done first front : List ℕ) : Type 0 where
   pub begun_is : source.begun ≡ begun
   pub stands : StandsAt begun source.line (string_bytes source.text) done first front
