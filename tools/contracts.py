@@ -19,6 +19,7 @@ USE = re.compile(r"^\s*(?:ghost |pub |unfoldable )*use Rattle\.([\w.]+?)(?:\.\{(
 OPENER = re.compile(r"module |(?:unfoldable )?mutual$")
 HEADER = re.compile(r"^\s*(?:abbrev |unfoldable )?pub (?:data |record )?(\S+)")
 DECLARED = re.compile(r"(?:^(?:///|#\[)[^\n]*\n)*^pub(?:\(crate\))? (?:enum|struct|trait) (\w+)[^\n]*(?:;|\}|\{\n(?:(?:[ ][^\n]*)?\n)*\})$", re.MULTILINE)
+CLAUSES = ("requires ", "ensures ")
 FUNCTION = re.compile(r'^ {0,4}(pub )?(?:const |unsafe |extern "C" )*fn (\w+)')
 BLOCK = re.compile(r"^(?:impl(?:<[^>]*>)?|pub trait) (\w+)(?:<[^>]*>)?(?:: \w+)? \{$")
 TRAIT = re.compile(r"^impl(?:<[^>]*>)? (.+) for &?(?:'\w+ )?(\w+)(?:<.*>)? \{\}?$")
@@ -216,9 +217,9 @@ def end_of(lines, at):
     """The line behind the signature and the clauses that begin at a line, or None where there are no clauses."""
     has_clauses = False
     for number in range(at, len(lines)):
-        line = lines[number].strip()
-        has_clauses = has_clauses or line.startswith(("requires", "ensures"))
-        if not line or (number > at and line.startswith("{")):
+        line, following = lines[number].strip(), "".join(lines[number + 1 : number + 2]).strip()
+        has_clauses = has_clauses or line.startswith(CLAUSES)
+        if number > at and line.startswith("{") or not line and not following.startswith((*CLAUSES, "// ")):
             return number if has_clauses else None
         if not has_clauses and line.endswith(("{", "{}", ";")):
             return None

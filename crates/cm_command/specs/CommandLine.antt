@@ -1,5 +1,5 @@
--- What the words of a command line ask for. How clap reads the words is said in clap's own terms, by the
--- command line of cmk.
+-- What the words of a command line ask for. How `clap` reads the words is said in its own terms, by the
+-- command line of `cmk`: a version, and a subcommand for each job.
 use Rattle.std.specs.Prelude.{◌≡◌, ◌≢◌, ◌⊎◌, ◌==◌, ◌^◌, ◌&&◌, ◌||◌, ⊤, ℕ, Bool, true, false, not, List, [], ◌∷◌, ◌++◌, Option, Some, Result, Ok, Err, codes, flat_map, fold, string_bytes, find, option_map, option_and_then, unwrap_or}
 use Rattle.std.specs.List.{list_all, list_any}
 use Rattle.std.specs.Option.{option_map_or}
@@ -23,11 +23,11 @@ use Rattle.cm_command.specs.declared.job.Stop.TheVariants.{Help, Wrong, NoMemory
 abbrev pub file_rule : Rule
 file_rule = record (new_rule (codes "file")) { value_names = 1 }
 
--- the same where it can't be left out
+-- the same, required
 abbrev pub needed_file_rule : Rule
 needed_file_rule = record file_rule { required = true }
 
--- the option --name N, a number from 1 to 500, and 100 where it is left out
+-- the option `--name N`, a number from 1 to 500, and 100 by default
 abbrev pub limit_rule : Text → Rule
 limit_rule name = record (new_rule name) {
   long = Some name;
@@ -36,15 +36,15 @@ limit_rule name = record (new_rule name) {
   defaults = codes "100" ∷ [];
 }
 
--- the option --blocks N
+-- the option `--blocks N`
 abbrev pub blocks_rule : Rule
 blocks_rule = limit_rule (codes "blocks")
 
--- the option --inlines N
+-- the option `--inlines N`
 abbrev pub inlines_rule : Rule
 inlines_rule = limit_rule (codes "inlines")
 
--- the flag --name, which takes no value
+-- the flag `--name`, which takes no value
 abbrev pub flag_rule : Text → Rule
 flag_rule name = record (new_rule name) { long = Some name; action = Some SetTrue }
 
@@ -67,14 +67,16 @@ flag_name Safe = codes "safe"
 abbrev pub with_flags : App → App
 with_flags app = fold (λ (a : App) flag. with_rule a (flag_rule (flag_name flag))) app (Older ∷ Strike ∷ NoHtml ∷ WebLinks ∷ Safe ∷ [])
 
--- the subcommand of this name, which reads a text
+-- A subcommand that reads a text has FILE, `--blocks N`, `--inlines N` and the flags.
 abbrev pub job_app : Text → App
 job_app name = with_flags (with_rule (with_rule (with_rule (new_app name) file_rule) blocks_rule) inlines_rule)
 
--- the subcommand that reads a file of examples, under the standard limits
+-- The subcommand that reads a file of examples, under the standard limits, needs FILE, and has the flags
+-- alone.
 abbrev pub examples_app : App
 examples_app = with_flags (with_rule (new_app (codes "examples")) needed_file_rule)
 
+-- the name of the subcommand for a job
 abbrev pub name_of : Job → Text
 name_of Render = codes "render"
 name_of Tree = codes "tree"
@@ -86,10 +88,11 @@ abbrev pub reads_a_text : Job → Bool
 reads_a_text Examples = false
 reads_a_text _ = true
 
--- the command line of cmk, which needs a subcommand, and has a version
+-- the command line of `cmk`, which requires a subcommand and has a version
 abbrev pub cmk_top : App
 cmk_top = let a = new_app (codes "cmk") in record a { top = record a.top { has_version = true; subcommand_required = true } }
 
+-- the same with its subcommands
 abbrev pub cmk_app : App
 cmk_app = with_subcommand (with_subcommand (with_subcommand (with_subcommand cmk_top (job_app (name_of Render)).top) (job_app (name_of Tree)).top) (job_app (name_of Rewrite)).top) examples_app.top
 
@@ -97,7 +100,7 @@ cmk_app = with_subcommand (with_subcommand (with_subcommand (with_subcommand cmk
 abbrev pub Found : Type 0
 Found = Text × List Row
 
--- what the words name
+-- what the words name: a subcommand, and its arguments
 abbrev pub found_for : List Text → Option Found
 found_for words = subcommand_of cmk_app words
 
@@ -105,13 +108,15 @@ found_for words = subcommand_of cmk_app words
 abbrev pub job_of : Text → Option Job
 job_of name = find (λ job. bytes_eq (name_of job) name) (Render ∷ Tree ∷ Rewrite ∷ Examples ∷ [])
 
+-- the job that is named
 abbrev pub job_in : Option Found → Option Job
 job_in found = option_and_then (λ f. job_of f.0) found
 
+-- the file that is named
 abbrev pub file_in : Option Found → Option Text
 file_in found = option_and_then (λ f. first_of (codes "file") f.1) found
 
--- the standard limits, with so many blocks and inlines, by these rules
+-- the standard limits with these numbers of blocks and inlines, and these rules
 abbrev pub limits_with : Rules → (blocks inlines : ℕ) → Option LimitsView
 limits_with rules blocks inlines = option_map (λ (limits : LimitsView). record limits { rules = rules }) (limits_for (2 ^ 28) blocks inlines)
 
@@ -127,7 +132,7 @@ limits_of rules blocks inlines = limits_with rules (as_number blocks) (as_number
 abbrev pub is_set : Text → List Row → Bool
 is_set name rows = option_map_or (λ value. bytes_eq value (codes "true")) (first_of name rows) false
 
--- The rules that the flags ask for which are on. `--safe` is `--no-html` and `--web-links`.
+-- The rules of these flags. `--safe` is `--no-html` and `--web-links`.
 abbrev pub rules_for : (Flag → Bool) → Rules
 rules_for is_on = record {
   older = is_on Older;
@@ -136,23 +141,25 @@ rules_for is_on = record {
   any_address = not (is_on WebLinks || is_on Safe);
 }
 
+-- the rules of the flags that are set
 abbrev pub rules_in : List Row → Rules
 rules_in rows = rules_for (λ flag. is_set (flag_name flag) rows)
 
--- the limits that the options of a subcommand ask for
+-- the limits of the options of a subcommand
 abbrev pub limits_at : List Row → Option LimitsView
 limits_at rows =
     option_and_then (λ blocks. option_and_then (limits_of (rules_in rows) blocks) (first_of (codes "inlines") rows)) (first_of (codes "blocks") rows)
 
--- the limits of a job: examples are read under the standard ones
+-- the limits of a job; examples are read under the standard ones
 abbrev pub limits_for_job : Job → List Row → Option LimitsView
 limits_for_job Examples rows = limits_with (rules_in rows) 100 100
 limits_for_job _ rows = limits_at rows
 
+-- the limits of what is named
 abbrev pub limits_in : Option Found → Option LimitsView
 limits_in found = option_and_then (λ f. option_and_then (λ job. limits_for_job job f.1) (job_of f.0)) found
 
--- the task is the one that the words name
+-- the task has the job, the file and the limits that the words name
 pub record IsTaskOf (found : Option Found) (task : Task) : Type 0 where
   pub job : job_in found ≡ Some task.job
   pub file : file_in found ≡ option_map string_bytes task.file
@@ -176,7 +183,8 @@ words_of (Blocks number) = codes "--blocks" ∷ number ∷ []
 words_of (Inlines number) = codes "--inlines" ∷ number ∷ []
 words_of (Set flag) = (codes "--" ++ flag_name flag) ∷ []
 
--- The words that ask for a job on a text with these options, in their order, on this file, behind the program's name. The file may be left out.
+-- The words after the program's name that ask for a job on a text with these options, in their order, and
+-- with this file or none.
 abbrev pub words_for : Job → List Choice → Option Text → List Text
 words_for job choices file = name_of job ∷ flat_map words_of choices ++ option_map_or (λ f. f ∷ []) file []
 
@@ -196,7 +204,7 @@ numbers_in (Blocks number ∷ choices) = number ∷ numbers_in choices
 numbers_in (Inlines number ∷ choices) = number ∷ numbers_in choices
 numbers_in (Set flag ∷ choices) = numbers_in choices
 
--- the value of an option, where that of a flag is `true`
+-- the value of an option; that of a flag is `true`
 abbrev pub value_of : Choice → Text
 value_of (Blocks number) = number
 value_of (Inlines number) = number
@@ -210,15 +218,15 @@ given_for name choices = option_map value_of (find (λ choice. bytes_eq (option_
 abbrev pub number_for : Text → List Choice → Text
 number_for name choices = unwrap_or (given_for name choices) (codes "100")
 
--- the rules that these options ask for
+-- the rules of these options
 abbrev pub rules_by : List Choice → Rules
 rules_by choices = rules_for (λ flag. is_given (flag_name flag) choices)
 
--- the limits that these options ask for: each number that is given, or 100, and the rules that are given
+-- The limits of these options: each number that is given, or else 100, and the rules of the flags.
 abbrev pub limits_by : List Choice → Option LimitsView
 limits_by choices = limits_of (rules_by choices) (number_for (codes "blocks") choices) (number_for (codes "inlines") choices)
 
--- the word begins with a hyphen
+-- the word starts with a hyphen
 abbrev pub is_option : Text → Bool
 is_option [] = false
 is_option (byte ∷ bytes) = byte == 45
@@ -231,21 +239,21 @@ is_limit = is_unsigned_in 1 500
 abbrev pub are_limits : List Choice → Bool
 are_limits choices = list_all is_limit (numbers_in choices)
 
--- a number that is given begins with a hyphen
+-- a number that is given starts with a hyphen
 abbrev pub hold_an_option : List Choice → Bool
 hold_an_option choices = list_any is_option (numbers_in choices)
 
--- the kinds of stop that the words call for: none, a mistake, or a request for help or for the version
+-- the kinds of stop that the words ask for: none, a mistake, or a request for help or the version
 abbrev pub stops_of : List Text → Kinds
 stops_of words = fault_of cmk_app words
 
--- help is for a request, of help or of the version, and a wrong command line is one with a mistake
+-- help is for a request for help or the version, and a wrong command line has a mistake
 abbrev pub StopsBy : ErrorKind → Stop → Type 0
 StopsBy kind (Help text) = (kind ≡ DisplayHelp) ⊎ (kind ≡ DisplayVersion)
 StopsBy kind (Wrong text) = (kind ≢ OutOfMemory) × (kind ≢ DisplayHelp) × (kind ≢ DisplayVersion)
 StopsBy kind NoMemory = ⊤
 
--- memory ran out, or the words call for this stop
+-- memory ran out, or the words ask for this stop
 abbrev pub StopsFor : Kinds → Stop → Type 0
 StopsFor kinds stop = (stop ≡ NoMemory) ⊎ ((kind : ErrorKind) × IsAmong kind kinds × StopsBy kind stop)
 

@@ -1,4 +1,6 @@
--- The rules of a reading, where readers of CommonMark differ.
+-- The rules of a reading, where readers of CommonMark differ. A definition that depends on them takes them as
+-- its first argument. Of the block structure they decide only whether a line starts an HTML block, which
+-- names start one of the sixth kind, and the info string of a code block.
 use Rattle.std.specs.Prelude.{Bool, true, false}
 
 -- Four independent marks.

@@ -1,4 +1,5 @@
--- What has been written to a sink.
+-- What has been written to a sink. `Keeps` and `Appends` are the kit's, and so are `Consumes` and `IsAtEnd`
+-- of sources (`Rattle.std.specs.Io.KnownBytes`): if the bytes aren't known, each holds.
 use Rattle.std.specs.Prelude.{◌≡◌, ℕ, ◌+◌, ◌≤◌, List, length, take, Option}
 use Rattle.std.specs.Io.KnownBytes.{Appends, Keeps}
 

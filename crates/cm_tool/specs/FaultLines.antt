@@ -1,10 +1,11 @@
--- The lines by which faults are told.
+-- The lines that report faults.
 use Rattle.std.specs.Prelude.{ℕ, List, codes, ◌++◌}
 use Rattle.std.specs.Fmt.{decimal}
 use Rattle.cm_source.specs.Reasons.{reason_text}
 use Rattle.cm_tool.specs.declared.fault.Fault.{Fault}
 use Rattle.cm_tool.specs.declared.fault.Fault.TheVariants.{NotUtf8, TooLong, BlocksTooDeep, InlinesTooDeep, NoMemory, ReadFailed, WriteFailed, Unspellable, BadExampleFile, ExampleDiffers}
 
+-- the text of a fault: its number, what is wrong, and where
 abbrev pub fault_text : Fault → List ℕ
 fault_text (NotUtf8 at) = codes "F1 not UTF-8 at byte " ++ decimal at
 fault_text (TooLong at) = codes "F2 input too long at byte " ++ decimal at

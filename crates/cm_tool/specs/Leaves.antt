@@ -11,7 +11,8 @@ abbrev pub concat_items : List (List (List ℕ)) → List ℕ
 concat_items [] = []
 concat_items (item ∷ items) = concat item ++ concat_items items
 
--- how deep the inlines of each leaf of a block nest, with those of each block inside in its place; 0 for a leaf without inlines
+-- how deep the inlines of each leaf of a block nest, given those of each block inside; 0 for a leaf without
+-- inlines
 abbrev pub depths_step : Block-F (List ℕ) → List ℕ
 depths_step (block.Paragraph content) = inlines_depth content ∷ []
 depths_step (block.Heading level content) = inlines_depth content ∷ []
@@ -26,7 +27,7 @@ depths_in = fold-Block (List ℕ) depths_step
 abbrev pub leaf_depths : List Block → List ℕ
 leaf_depths blocks = concat (map depths_in blocks)
 
--- the number of the first leaf whose inlines nest deeper than the limit, where the first leaf of all has this number
+-- the number of the first leaf whose inlines nest deeper than the limit, counted from this number
 abbrev pub first_past : (limit first : ℕ) → (depths : List ℕ) → Option ℕ
 first_past limit first depths = position_from (λ depth. nat_lt limit depth) first depths
 

@@ -5,10 +5,11 @@ use Rattle.cm_text.specs.Lines.{text_of, lines_of}
 use Rattle.cm_scan.specs.laws.PartLaws.{leaves_named, leaves_in}
 use Rattle.cm_tool.specs.Document.{doc_of}
 
--- each line of the text has one owner
+-- Each line of a text has one owner in its document.
 abbrev pub OneOwnerALine : Type 0
 OneOwnerALine = (rules : Rules) (bytes : List ℕ) → length (doc_of rules bytes).owners ≡ length (lines_of (text_of bytes))
 
--- The leaves of the tree are those that the lines have: one nonempty run of lines each, in the order of their numbers.
+-- The leaves of a document's tree are those that its lines name: each leaf has one nonempty run of lines, and
+-- the runs are in order.
 abbrev pub RunsInOrder : Type 0
 RunsInOrder = (rules : Rules) (bytes : List ℕ) → leaves_named (doc_of rules bytes).owners ≡ Some (leaves_in (doc_of rules bytes).blocks)

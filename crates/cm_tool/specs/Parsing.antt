@@ -1,4 +1,4 @@
--- What a parser has taken in: the bytes so far, whose ended lines have been handed on.
+-- What a parser has been given: the bytes so far, whose lines have gone to the blocks once they ended.
 use Rattle.std.specs.Prelude.{◌≡◌, ℕ, false, List, length, Option, Some, None, Result, Ok, Err, ⊤}
 use Rattle.cm_text.specs.Limits.{LimitsView}
 use Rattle.cm_text.specs.Feed.{Feed, Goes as FeedGoes, cut_bytes}
@@ -10,13 +10,13 @@ use Rattle.cm_tool.specs.declared.fault.Fault.TheVariants.{NotUtf8, TooLong, Blo
 use Rattle.cm_tool.specs.Document.{doc_of}
 use Rattle.cm_tool.specs.Faults.{fault_of}
 
--- a parser without where it lies in memory
+-- a parser, without where it lies in memory
 pub record ParserView : Type 0 where
   pub feed : Feed
   pub blocks : BlockParser
   pub fault : Option Fault
 
--- the feed holds what the bytes leave in it, and the blocks have taken in the lines that have ended
+-- the feed holds what the bytes leave in it, and the blocks have been given the lines that have ended
 pub record Goes (limits : LimitsView) (feed : Feed) (blocks : BlockParser) (bytes : List ℕ) : Type 0 where
   pub limit : feed.limit ≡ limits.bytes
   pub same_limits : blocks.limits ≡ limits
@@ -25,12 +25,12 @@ pub record Goes (limits : LimitsView) (feed : Feed) (blocks : BlockParser) (byte
   pub feeds : FeedGoes feed bytes (length (cut_bytes limits.bytes bytes).ended)
   pub handed : HasTaken blocks (cut_bytes limits.bytes bytes).ended
 
--- A parser with these limits has taken in these bytes, which settle no fault, and can take in more.
+-- A parser with these limits has been given these bytes, which settle no fault, and can be given more.
 pub record HasTakenIn (limits : LimitsView) (parser : ParserView) (bytes : List ℕ) : Type 0 where
   pub no_fault : parser.fault ≡ None
   pub goes : Goes limits parser.feed parser.blocks bytes
 
--- a call answers this fault where the input has the other, or none; memory may be refused
+-- a call returns this fault if the input has the other one; memory may be refused
 abbrev pub TellsFault : Fault → Option Fault → Type 0
 TellsFault (NotUtf8 at) told = told ≡ Some (NotUtf8 at)
 TellsFault (TooLong at) told = told ≡ Some (TooLong at)
@@ -39,16 +39,17 @@ TellsFault (InlinesTooDeep leaf) told = told ≡ Some (InlinesTooDeep leaf)
 TellsFault NoMemory told = ⊤
 TellsFault _ told = ⊥
 
+-- what a call returns if the input has this fault, or none
 abbrev pub Answers : Result (Unit {0}) Fault → Option Fault → Type 0
 Answers (Ok _) told = told ≡ None
 Answers (Err fault) told = TellsFault fault told
 
--- the end of the input: its document, or its fault
+-- at the end of the input: its document, or its fault
 abbrev pub Finishes : Result Doc Fault → LimitsView → List ℕ → Type 0
 Finishes (Ok doc) limits bytes = (fault_of limits bytes ≡ None) × (doc ≡ doc_of limits.rules bytes)
 Finishes (Err fault) limits bytes = TellsFault fault (fault_of limits bytes)
 
--- the end of the input: what is made of bytes that have no fault, or their fault
+-- at the end of the input: what is made of bytes without a fault, or their fault
 abbrev pub Makes : {A : Type 0} → (Made : A → Type 0) → Result A Fault → LimitsView → List ℕ → Type 0
 Makes Made (Ok made) limits bytes = (fault_of limits bytes ≡ None) × Made made
 Makes Made (Err fault) limits bytes = TellsFault fault (fault_of limits bytes)

@@ -9,32 +9,32 @@ use Rattle.cm_tool.specs.declared.fault.Fault.TheVariants.{NoMemory, WriteFailed
 use Rattle.cm_tool.specs.ExampleFiles.{DifferenceView, ReportView, report_on, verdict_of}
 use Rattle.cm_tool.specs.Reading.{SourceView, IsWhole, RefusesBy, fault_of_text, settled_of_text}
 
--- what is written of an example that differs
+-- the lines about an example that differs
 abbrev pub difference_text : DifferenceView → List ℕ
 difference_text d = codes "example " ++ decimal d.number ++ codes "\nexpected:\n" ++ d.expected ++ codes "got:\n" ++ d.got
 
--- and of all examples
+-- the report of a file of examples, as it is written
 abbrev pub report_text : ReportView → List ℕ
 report_text report = flat_map difference_text report.differ ++ decimal report.agree ++ codes " of " ++ decimal report.total ++ codes " agree\n"
 
--- the text has been read whole, and this is the report of its examples
+-- the text has been read to its end, and this is the report of its examples
 pub record IsReported (limits : LimitsView) (bytes : List ℕ) (from left : SourceView) (report : ReportView) : Type 0 where
   pub whole : IsWhole (fault_of_text limits bytes) from left
   pub is : report_on limits.rules (text_of bytes) ≡ Ok report
 
--- the report has been written whole, and its verdict is this answer
+-- all of the report was written, and this is its verdict
 abbrev pub Judges : Result ℕ Fault → LimitsView → List ℕ → SourceView → SourceView → SinkView → SinkView → Type 0
 Judges answer limits bytes from left old new =
     (report : ReportView) × IsReported limits bytes from left report × Wrote old new (report_text report) 0 × (answer ≡ verdict_of report)
 
--- there is no text, or there is, and no report of it
+-- there is no text, or there is no report of it
 abbrev pub Unreported : Fault → LimitsView → List ℕ → SourceView → SourceView → Type 0
 Unreported fault limits bytes from left =
     RefusesBy (settled_of_text limits bytes) (fault_of_text limits bytes) fault from left
     ⊎ (IsWhole (fault_of_text limits bytes) from left × (report_on limits.rules (text_of bytes) ≡ Err fault))
 
--- What writing the report of a source's examples answers, and what has gone out then: the verdict, once the report has been written; or why
--- a write failed or there is no report.
+-- What writing the report of a source's examples returns, and what has been written then: the verdict, once
+-- all of the report has been written; or why a write failed or there is no report.
 abbrev pub WritesReport : Result ℕ Fault → LimitsView → List ℕ → SourceView → SourceView → SinkView → SinkView → Type 0
 WritesReport (Ok total) limits bytes from left old new = Judges (Ok total) limits bytes from left old new
 WritesReport (Err (ExampleDiffers number)) limits bytes from left old new = Judges (Err (ExampleDiffers number)) limits bytes from left old new

@@ -1,4 +1,4 @@
--- What a run of a task, or of what stands in place of a task, writes and answers.
+-- What running a task, or reporting why there is none, writes and returns.
 use Rattle.std.specs.Prelude.{◌≡◌, ℕ, List, Result, Ok, Err, string_bytes, ◌⊎◌}
 use Rattle.cm_tool.specs.Reading.{SourceView}
 use Rattle.cm_text.specs.Limits.{LimitsView}
@@ -16,42 +16,43 @@ use Rattle.cm_command.specs.declared.job.Job.TheVariants.{Render, Tree, Rewrite,
 use Rattle.cm_command.specs.declared.job.Stop.{Stop}
 use Rattle.cm_command.specs.declared.job.Stop.TheVariants.{Help, Wrong, NoMemory}
 
--- some front of the text was written, up to a failure
+-- a front of the text was written, up to a failed write
 abbrev pub WroteSome : SinkView → SinkView → List ℕ → Type 0
 WroteSome old new text = (written : ℕ) × WroteFront old new text written
 
--- the text was written, or a front of it up to a failure
+-- the text was written, or a front of it up to a failed write
 abbrev pub Offered : SinkView → SinkView → List ℕ → Type 0
 Offered old new text = Wrote old new text 0 ⊎ WroteSome old new text
 
--- the same of a fault's line
+-- the same of the line of a fault
 abbrev pub OfferedLine : Fault → SinkView → SinkView → Type 0
 OfferedLine fault old new = Offered old new (line_of (fault_text fault))
 
--- the exit status after an answer
+-- the exit status: 0 after success, 1 after a fault
 abbrev pub status_of : Result ℕ Fault → ℕ
 status_of (Ok _) = 0
 status_of (Err _) = 1
 
--- the errors get the line of a fault, and else nothing
+-- the error writer gets the line of a fault, or nothing if there is none
 abbrev pub Reports : Result ℕ Fault → SinkView → SinkView → Type 0
 Reports (Ok _) old new = IsUnwritten old new
 Reports (Err fault) old new = OfferedLine fault old new
 
--- what doing a job answers once these bytes have been read, and what it has written then
+-- what doing a job returns once these bytes have been read, and what has been written then
 abbrev pub Does : Job → Result ℕ Fault → LimitsView → List ℕ → SourceView → SourceView → SinkView → SinkView → Type 0
 Does Render answer limits bytes from left old new = Converts answer limits bytes from left old new
 Does Tree answer limits bytes from left old new = Lists answer limits bytes from left old new
 Does Rewrite answer limits bytes from left old new = Rewrites answer limits bytes from left old new
 Does Examples answer limits bytes from left old new = WritesReport answer limits bytes from left old new
 
--- the job has this answer, and the status and the errors tell it
+-- the job returns this, and the exit status and the error writer report it
 pub record RunsTo (answer : Result ℕ Fault) (status : ℕ) (job : Job) (limits : LimitsView) (bytes : List ℕ) (from left : SourceView) (old new old-errors new-errors : SinkView) : Type 0 where
   pub does : Does job answer limits bytes from left old new
   pub told : status ≡ status_of answer
   pub reports : Reports answer old-errors new-errors
 
--- help is written, or the failure is told; a wrong command line is told; want of memory has its line
+-- Help is written, with status 0, or the failure to write it is reported, with 1. A wrong command line is
+-- reported with 2, and exhausted memory with 1.
 abbrev pub Tells : Stop → ℕ → SinkView → SinkView → SinkView → SinkView → Type 0
 Tells (Help text) status old new old-errors new-errors =
     ((status ≡ 0) × Wrote old new (string_bytes text) 0 × IsUnwritten old-errors new-errors)

@@ -1,4 +1,4 @@
--- The calls that read a text and write an output of it: what they answer, and what they have written then.
+-- What calls that read a text and write an output of it return, and what has been written then.
 use Rattle.std.specs.Prelude.{◌≡◌, ℕ, List, length, Result, Ok, Err, ◌⊎◌}
 use Rattle.cm_text.specs.Rules.{Rules}
 use Rattle.cm_text.specs.Limits.{LimitsView}
@@ -11,21 +11,23 @@ use Rattle.cm_tool.specs.Document.{owners_of_bytes}
 use Rattle.cm_scan.specs.Documents.{tree_of}
 use Rattle.cm_tool.specs.Reading.{SourceView, ReadWhole, Refuses}
 
--- the HTML of a text's bytes, by these rules
+-- the HTML of the text of these bytes
 abbrev pub converted : Rules → List ℕ → List ℕ
 converted rules bytes = html_of (tree_of rules bytes)
 
--- the listing of the tree of a text's bytes, and of the owners of its lines
+-- the listing of the tree of these bytes' text, and of the owners of its lines
 abbrev pub listed : Rules → List ℕ → List ℕ
 listed rules bytes = listing_of (tree_of rules bytes) (owners_of_bytes rules bytes)
 
--- what has gone out of the output where it isn't written whole: nothing, unless memory ran out once the text had been read whole
+-- What has been written if the text isn't written to its end: nothing, unless memory ran out after all of the
+-- text had been read.
 abbrev pub WentOut : Fault → (Lost : SinkView → SinkView → List ℕ → Type 0) → (Read : Type 0) → SinkView → SinkView → List ℕ → Type 0
 WentOut NoMemory Lost Read old new output = IsUnwritten old new ⊎ (Read × Lost old new output)
 WentOut fault Lost Read old new output = IsUnwritten old new
 
--- The output went out whole, and its length is the answer; or one write failed, and the first `written` bytes of it went out; or the
--- text was refused. Nothing goes out before the text has been read whole. `Lost` says what may have gone out where memory ran out then.
+-- All of the output was written, and its length is returned; or one write failed, and the first `written`
+-- bytes were written; or the text was refused. Nothing is written before the text has been read to its end.
+-- `Lost` says what may have been written if memory ran out after that.
 abbrev pub Writes : (Lost : SinkView → SinkView → List ℕ → Type 0) → (output : Rules → List ℕ → List ℕ) → Result ℕ Fault
     → LimitsView → List ℕ → SourceView → SourceView → SinkView → SinkView → Type 0
 Writes Lost output (Ok n) limits bytes from left old new =
@@ -35,10 +37,10 @@ Writes Lost output (Err (WriteFailed written)) limits bytes from left old new =
 Writes Lost output (Err fault) limits bytes from left old new =
     Refuses fault limits bytes from left × WentOut fault Lost (ReadWhole limits bytes from left) old new (output limits.rules bytes)
 
--- a beginning of the HTML may have gone out
+-- the same of the HTML; if memory ran out, a front of it may have been written
 abbrev pub Converts : Result ℕ Fault → LimitsView → List ℕ → SourceView → SourceView → SinkView → SinkView → Type 0
 Converts = Writes WroteBeginning converted
 
--- nothing of the listing has gone out
+-- the same of the listing; if memory ran out, nothing of it has been written
 abbrev pub Lists : Result ℕ Fault → LimitsView → List ℕ → SourceView → SourceView → SinkView → SinkView → Type 0
 Lists = Writes (λ old new text. IsUnwritten old new) listed

@@ -9,7 +9,7 @@ use Rattle.cm_tool.specs.FaultLines.{fault_text, line_of}
 use Rattle.cmk_c.specs.declared.message.Message.{Message}
 use Rattle.cmk_c.specs.declared.message.Message.TheVariants.{Refused, OutOfRange, NoRoom}
 
--- the number of a fault, as its line has it behind its F
+-- the number of a fault, which its line has after `F`
 abbrev pub number_of : Fault → ℕ
 number_of (NotUtf8 at) = 1
 number_of (TooLong at) = 2
@@ -96,7 +96,7 @@ fault_numbered number place =
     else if number == 10 then Some (ExampleDiffers place)
     else None
 
--- what a call tells by this number and this place: a fault, a number out of its range, or want of room
+-- what a number and a place report: a fault, a number out of its range, or too little room
 abbrev pub message_of : (number place : ℕ) → Option Message
 message_of number place =
     if number == 11 then Some OutOfRange
@@ -113,6 +113,6 @@ message_line NoRoom = line_of (codes "the room is too small")
 abbrev pub IsLine : List ℕ → Type 0
 IsLine bytes = (text : List ℕ) × ((bytes ≡ text ++ codes "\n") × (list_all (λ b. not (b == 0) && not (b == 10)) text ≡ true))
 
--- So each fault has a message.
+-- The number and the place of a fault report just this fault.
 abbrev pub FaultsHaveMessages : Type 0
 FaultsHaveMessages = (fault : Fault) → message_of (number_of fault) (place_of fault) ≡ Some (Refused fault)
