@@ -1,5 +1,5 @@
--- How many block quotes and list items each line is in (CommonMark 0.31.2, chapter 5), which is known as soon
--- as the stack takes the line.
+-- How many block quotes and list items each line is in (CommonMark 0.31.2, chapter 5), which is known as soon as the
+-- stack takes the line.
 use Rattle.std.specs.Prelude.{◌≡◌, ℕ, suc, List, [], ◌∷◌, ◌++◌, length, Some, None, nat_lt, if◌then◌else◌}
 use Rattle.std.specs.List.{position}
 use Rattle.std.specs.Option.{option_map}

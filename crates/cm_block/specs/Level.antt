@@ -1,5 +1,5 @@
--- One level read from the left: the blocks so far, the list that an item may go on with, and what decides
--- whether a list is loose (CommonMark 0.31.2, 5.3 Lists).
+-- One level read from the left: the blocks so far, the list that an item may go on with, and what decides whether a list is loose
+-- (CommonMark 0.31.2, 5.3 Lists).
 use Rattle.std.specs.Prelude.{◌≡◌, Bool, true, false, not, ◌&&◌, ◌||◌, List, [], ◌∷◌, ◌++◌, Option, Some, None}
 use Rattle.cm_tree.specs.declared.tree.ListKind.{ListKind}
 use Rattle.cm_tree.specs.declared.tree.Block.{Block}
@@ -14,8 +14,8 @@ pub record OpenList : Type 0 where
   pub loose : Bool
   pub items : List (List Block)
 
--- The closed blocks, the open list after them, whether there is a block, whether the last line is blank as
--- seen at this level, and whether a blank line comes directly before the second or a later block.
+-- The closed blocks, the open list after them, whether there is a block, whether the last line is blank as seen at this level, and
+-- whether a blank line comes directly before the second or a later block.
 pub record Level : Type 0 where
   pub blocks : List Block
   pub open_list : Option OpenList
@@ -81,8 +81,7 @@ item_opens level kind = item_opens_in level level.open_list kind
 abbrev pub block_closes : Level → Block → Level
 block_closes level block = record { blocks = level.blocks ++ block ∷ []; open_list = level.open_list; has_block = true; ends_blank = false; separated = level.separated }
 
--- what a list needs of one of its items: its blocks, whether its last line is blank, and whether a blank line
--- separates two blocks
+-- what a list needs of one of its items: its blocks, whether its last line is blank, and whether a blank line separates two blocks
 pub record Item : Type 0 where
   pub blocks : List Block
   pub ends_blank : Bool

@@ -1,5 +1,4 @@
--- One pass over the lines: what is open, what one more line closes and opens, and what closing gives. No line
--- is kept.
+-- One pass over the lines: what is open, what one more line closes and opens, and what closing gives. No line is kept.
 use Rattle.std.specs.Prelude.{ℕ, zero, suc, Bool, false, List, [], ◌∷◌, ◌++◌, replicate, Option, Some, None}
 use Rattle.cm_text.specs.Rules.{Rules}
 use Rattle.cm_text.specs.Lines.{LineView}
@@ -29,9 +28,8 @@ unfoldable pub put_all : List Piece → Parts → Parts
 put_all [] rest = rest
 put_all (piece ∷ pieces) rest = put piece (put_all pieces rest)
 
--- What is open at one level: a leaf, or a container with what is closed in it and what is open in it. An item
--- also has the column at which its content starts, and whether it is only a marker so far, with nothing on
--- its line.
+-- What is open at one level: a leaf, or a container with what is closed in it and what is open in it. An item also has the column
+-- at which its content starts, and whether it is only a marker so far, with nothing on its line.
 pub data Open (A : Type 0) : Type 0 where
   in_leaf : OpenLeaf → Open A
   in_quote : A → Open A → Open A

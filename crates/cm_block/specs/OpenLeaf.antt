@@ -1,5 +1,5 @@
--- The leaf block that is open while lines are read one at a time, and what one more line does to it
--- (CommonMark 0.31.2, chapter 4). It is held as its text so far, and its number of lines.
+-- The leaf block that is open while lines are read one at a time, and what one more line does to it (CommonMark 0.31.2, chapter 4).
+-- It is held as its text so far, and its number of lines.
 use Rattle.std.specs.Prelude.{ℕ, suc, ◌+◌, Bool, true, false, ◌&&◌, List, [], ◌∷◌, ◌++◌, Option, Some, None, nat_le}
 use Rattle.cm_text.specs.Rules.{Rules}
 use Rattle.cm_text.specs.Lines.{LineView}
@@ -12,9 +12,8 @@ use Rattle.cm_scan.specs.blocks.Starts.{Start, IndentedCode, QuoteMarker, AtxHea
 use Rattle.cm_scan.specs.blocks.Parts.{info_of, LeafPart, heading, code, html, thematic_break}
 use Rattle.cm_scan.specs.blocks.Blocks.{add_text, NextLine, GoesOn, Ends, Underlines, next_line, leaves_of_run, closes_fence, code_line}
 
--- What is open: nothing; a run of text, by its source; indented code, with the text and number of the blank
--- lines that need another line of code after them; a fenced code block, with the columns removed from each
--- line; an HTML block.
+-- What is open: nothing; a run of text, by its source; indented code, with the text and number of the blank lines that need another
+-- line of code after them; a fenced code block, with the columns removed from each line; an HTML block.
 pub data OpenLeaf : Type 0 where
   no_leaf : OpenLeaf
   open_text : (source : List ℕ) → OpenLeaf
@@ -83,9 +82,8 @@ line_of_leaf rules (open_html kind text lines) line = elim (ends_at_blank_line k
   | false ↦ Some (line_of_html kind text lines line (is_html_end kind line.text))
 ]
 
--- What a line starts if no leaf is open: nothing, since it is blank; a leaf block; a block quote, with what
--- is left of the line after its marker; a list item, with the column at which its content starts and what is
--- left of the line after its marker.
+-- What a line starts if no leaf is open: nothing, since it is blank; a leaf block; a block quote, with what is left of the line
+-- after its marker; a list item, with the column at which its content starts and what is left of the line after its marker.
 pub data LineOpens : Type 0 where
   begins_nothing : LineOpens
   begins_leaf : LeafLine → LineOpens

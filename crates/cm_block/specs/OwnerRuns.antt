@@ -1,5 +1,5 @@
--- Adjacent lines with the same owner, kept as runs. A run says whether its lines belong to the next leaf, the
--- last one or none, so the leaves are counted from run to run.
+-- Adjacent lines with the same owner, kept as runs. A run says whether its lines belong to the next leaf, the last one or none, so the
+-- leaves are counted from run to run.
 use Rattle.std.specs.Prelude.{ℕ, suc, List, [], ◌∷◌, ◌++◌, replicate}
 use Rattle.cm_tree.specs.declared.tree.Owner.{Owner}
 use Rattle.cm_tree.specs.declared.tree.Owner.TheVariants as owner

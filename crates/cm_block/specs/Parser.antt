@@ -23,8 +23,8 @@ stack_of parser = stack_with parser.stack.bare parser.stack.frames parser.stack.
 abbrev pub is_in_text : code.BlockParser → Bool
 is_in_text parser = not (is_some parser.fault) && is_open_text (leaf_of parser.leaf)
 
--- The parser has been given these lines, none of which is too deep by its limits and rules, and can be given
--- more. It has read them as often as `TestsOf` says.
+-- The parser has been given these lines, none of which is too deep by its limits and rules, and can be given more. It has read them as
+-- often as `TestsOf` says.
 pub record HasTaken (parser : code.BlockParser) (lines : List LineView) : Type 0 where
   pub going : parser.fault ≡ None
   pub are_lines : AreLines lines
@@ -45,8 +45,8 @@ pub record OutlineOf (outline : Outline) (rules : Rules) (lines : List LineView)
   pub owners : outline.owners ≡ owners_of rules lines
   pub definitions : outline.definitions ≡ reference_table rules lines
 
--- How often the lines were read: at least once for each block quote and item in the outline, and for each
--- line at most the limit of blocks and five times more.
+-- How often the lines were read: at least once for each block quote and item in the outline, and for each line at most the limit of
+-- blocks and five times more.
 pub record TestsOf (outline : Outline) (blocks : ℕ) (lines : List LineView) : Type 0 where
   pub enough : container_count outline.blocks ≤ outline.tests
   pub few : outline.tests ≤ (blocks + 5) * length lines

@@ -1,7 +1,6 @@
--- The stack that a parser holds, in which no line is kept: the open block quotes, lists and items from the
--- outside in, each with what is closed in it; the open leaf; the owners of the lines so far; and the link
--- reference definitions so far. How a line is added to it (`push_line`) needn't be believed, since laws tie
--- that to the definition of blocks by cases.
+-- The stack that a parser holds, in which no line is kept: the open block quotes, lists and items from the outside in, each with what
+-- is closed in it; the open leaf; the owners of the lines so far; and the link reference definitions so far. How a line is added to
+-- it (`push_line`) needn't be believed, since laws tie that to the definition of blocks by cases.
 use Rattle.std.specs.FinMap.{empty}
 use Rattle.std.specs.Prelude.{ℕ, zero, suc, Bool, true, false, List, [], ◌∷◌, ◌++◌, replicate, Option, Some, None}
 use Rattle.cm_text.specs.Rules.{Rules}
@@ -21,8 +20,8 @@ use Rattle.cm_block.specs.OpenLeaf.{OpenLeaf, no_leaf, closed_leaves, blank_line
 use Rattle.cm_block.specs.Machine.{Open, in_leaf, in_quote, in_item, has_open_text}
 use Rattle.cm_block.specs.Level.{Level, empty_level, closed_blocks, push_blank, block_opens, item_opens, block_closes, Item, item_closes}
 
--- the owners of the lines so far, except those of the open leaf; how many leaves they have; and the table of
--- the definitions among these leaves
+-- the owners of the lines so far, except those of the open leaf; how many leaves they have; and the table of the definitions among
+-- these leaves
 pub record Owned : Type 0 where
   pub owners : List Owner
   pub leaves : ℕ
@@ -62,8 +61,7 @@ close_open level (in_leaf x) = push_blanks (blank_lines_behind x) (close_leaves 
 close_open level (in_quote inside now) = block_closes level (Quote (closed_blocks (close_open inside now)))
 close_open level (in_item kind column bare inside now) = item_closes level (item_of (close_open inside now))
 
--- a table after one more leaf: the first of definitions with matching labels counts (4.7 Link reference
--- definitions)
+-- a table after one more leaf: the first of definitions with matching labels counts (4.7 Link reference definitions)
 abbrev pub table_with : Targets → LeafPart → Targets
 table_with table (definition label dest title) = add_first table (fold_label label) (unescape dest, unescape title)
 table_with table _ = table

@@ -1,5 +1,5 @@
--- What the words of a command line ask for. How `clap` reads the words is said in its own terms, by the
--- command line of `cmk`: a version, and a subcommand for each job.
+-- What the words of a command line ask for. How `clap` reads the words is said in its own terms, by the command line of `cmk`: a version,
+-- and a subcommand for each job.
 use Rattle.std.specs.Prelude.{◌≡◌, ◌≢◌, ◌⊎◌, ◌==◌, ◌^◌, ◌&&◌, ◌||◌, ⊤, ℕ, Bool, true, false, not, List, [], ◌∷◌, ◌++◌, Option, Some, Result, Ok, Err, codes, flat_map, fold, string_bytes, find, option_map, option_and_then, unwrap_or}
 use Rattle.std.specs.List.{list_all, list_any}
 use Rattle.std.specs.Option.{option_map_or}
@@ -71,8 +71,7 @@ with_flags app = fold (λ (a : App) flag. with_rule a (flag_rule (flag_name flag
 abbrev pub job_app : Text → App
 job_app name = with_flags (with_rule (with_rule (with_rule (new_app name) file_rule) blocks_rule) inlines_rule)
 
--- The subcommand that reads a file of examples, under the standard limits, needs FILE, and has the flags
--- alone.
+-- The subcommand that reads a file of examples, under the standard limits, needs FILE, and has the flags alone.
 abbrev pub examples_app : App
 examples_app = with_flags (with_rule (new_app (codes "examples")) needed_file_rule)
 
@@ -183,8 +182,7 @@ words_of (Blocks number) = codes "--blocks" ∷ number ∷ []
 words_of (Inlines number) = codes "--inlines" ∷ number ∷ []
 words_of (Set flag) = (codes "--" ++ flag_name flag) ∷ []
 
--- The words after the program's name that ask for a job on a text with these options, in their order, and
--- with this file or none.
+-- The words after the program's name that ask for a job on a text with these options, in their order, and with this file or none.
 abbrev pub words_for : Job → List Choice → Option Text → List Text
 words_for job choices file = name_of job ∷ flat_map words_of choices ++ option_map_or (λ f. f ∷ []) file []
 

@@ -60,8 +60,8 @@ image_start dest = codes "<img src=\"" ++ destination_html dest ++ codes "\" alt
 abbrev pub image_html : List ℕ → List ℕ → List ℕ → List ℕ
 image_html dest title plain = image_start dest ++ escape plain ++ codes "\"" ++ title_html title ++ codes " />"
 
--- One inline, given what each inline of its content writes. The alternative text of an image is the text and
--- code in its content, with a space for each line break, and raw HTML as it is.
+-- One inline, given what each inline of its content writes. The alternative text of an image is the text and code in its content, with a
+-- space for each line break, and raw HTML as it is.
 abbrev pub inline_step : Inline-F Rendered → Rendered
 inline_step (inline.Text text) = record { html = escape text; plain = text }
 inline_step (inline.Code text) = record { html = code_span_html text; plain = text }
@@ -134,14 +134,14 @@ shown [] = []
 shown (Nothing ∷ ws) = shown ws
 shown (w ∷ ws) = w ∷ shown ws
 
--- what comes before these blocks of an item of a tight list, if they are its first or directly follow a
--- paragraph: a line feed, if a block other than a paragraph is next
+-- what comes before these blocks of an item of a tight list, if they are its first or directly follow a paragraph: a line feed, if a block
+-- other than a paragraph is next
 abbrev pub line_feed_before : List Written → List ℕ
 line_feed_before (Whole html ∷ ws) = codes "\n"
 line_feed_before _ = []
 
--- The blocks of an item of a tight list: a paragraph is written as its inlines alone. Any other block that is
--- the first, or directly follows such a paragraph, has a line feed before it.
+-- The blocks of an item of a tight list: a paragraph is written as its inlines alone. Any other block that is the first, or directly
+-- follows such a paragraph, has a line feed before it.
 abbrev pub tight_blocks : List Written → List ℕ
 tight_blocks [] = []
 tight_blocks (Inlines html ∷ ws) = html ++ line_feed_before ws ++ tight_blocks ws

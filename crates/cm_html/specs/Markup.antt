@@ -1,6 +1,5 @@
--- What markup is: text, and tags of a fixed list, each closed in its place. The tags in some bytes are found
--- from the left, with the names of the open elements. The rules decide which addresses and classes can be in
--- it.
+-- What markup is: text, and tags of a fixed list, each closed in its place. The tags in some bytes are found from the left, with the
+-- names of the open elements. The rules decide which addresses and classes can be in it.
 use Rattle.std.specs.Prelude.{ℕ, ◌==◌, Bool, true, false, not, ◌&&◌, ◌||◌, Option, Some, None, List, [], ◌∷◌, ◌++◌, codes, drop, if◌then◌else◌}
 use Rattle.std.specs.Option.{is_some}
 use Rattle.std.specs.Char.{is_ascii_digit}
@@ -22,8 +21,7 @@ begins (c ∷ cs) (b ∷ bs) = c == b && begins cs bs
 abbrev pub references : List (List ℕ)
 references = codes "amp;" ∷ codes "lt;" ∷ codes "gt;" ∷ codes "quot;" ∷ []
 
--- A byte of a text, given what follows it: no `<`, `>` or `"`, and a `&` only at the front of one of the four
--- references.
+-- A byte of a text, given what follows it: no `<`, `>` or `"`, and a `&` only at the front of one of the four references.
 abbrev pub may_stand : ℕ → List ℕ → Bool
 may_stand b next = if b == ampersand then list_any (λ reference. begins reference next) references else not (b == less_than || b == greater_than || b == quotation_mark)
 
@@ -55,8 +53,8 @@ is_html_space b = is_space_or_tab b || is_line_space b
 abbrev pub is_class : Rules → List ℕ → Bool
 is_class rules value = begins (codes "language-") value && (rules.raw_html || not (list_any is_html_space value))
 
--- What can be in quotes after this part of a tag: a text; for a class the name of a language, for a start a
--- number, and for a link or an image an address that the rules follow.
+-- What can be in quotes after this part of a tag: a text; for a class the name of a language, for a start a number, and for a link or an
+-- image an address that the rules follow.
 abbrev pub may_be_value : Rules → List ℕ → List ℕ → Bool
 may_be_value rules tag value =
     is_text value
@@ -64,9 +62,8 @@ may_be_value rules tag value =
     else (if bytes_eq tag (codes "ol start=") then list_all is_ascii_digit value
     else (if bytes_eq tag (codes "a href=") || bytes_eq tag (codes "img src=") then is_followed rules value else true)))
 
--- Where a reader is, with the names of the open elements, the innermost first: in text; in a tag, with what
--- was read of it; in a value, with the tag before it and what was read of the value; or after what is no
--- markup.
+-- Where a reader is, with the names of the open elements, the innermost first: in text; in a tag, with what was read of it; in a value,
+-- with the tag before it and what was read of the value; or after what is no markup.
 pub data Place : Type 0 where
   InText : List (List ℕ) → Place
   InTag : List ℕ → List (List ℕ) → Place
@@ -123,7 +120,7 @@ tags_from rules place (b ∷ bs) = and_tags (ended place b) (tags_from rules (be
 abbrev pub tags_in : Rules → List ℕ → Option (List (List ℕ))
 tags_in rules bytes = tags_from rules (InText []) bytes
 
--- The bytes are markup: text without `<`, `>` and `"`, in which `&` starts one of four references, and tags
--- of a fixed list, each closed in its place, whose values are such text.
+-- The bytes are markup: text without `<`, `>` and `"`, in which `&` starts one of four references, and tags of a fixed list, each closed
+-- in its place, whose values are such text.
 abbrev pub is_markup : Rules → List ℕ → Bool
 is_markup rules bytes = is_some (tags_in rules bytes)

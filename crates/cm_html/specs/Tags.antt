@@ -1,5 +1,5 @@
--- The tags of a tree, each without what is in its quotes. Of the texts in the tree only whether a title or a
--- class word is empty matters.
+-- The tags of a tree, each without what is in its quotes. Of the texts in the tree only whether a title or a class word is empty
+-- matters.
 use Rattle.std.specs.Prelude.{◌≡◌, ℕ, ◌==◌, Bool, true, false, Some, List, [], ◌∷◌, ◌++◌, codes, map, cond}
 use Rattle.std.specs.Fmt.{decimal}
 use Rattle.cm_tree.specs.declared.tree.Inline.{Inline, Inline-F}
@@ -100,13 +100,13 @@ tags_of_block = fold-Block (Bool → Tags) block_tags
 abbrev pub tags_of : List Block → Tags
 tags_of blocks = join_blocks false (map tags_of_block blocks)
 
--- If a tree has no raw HTML, and its headings have levels from 1 to 6, then its HTML is markup whose tags are
--- those of the tree: no text adds, changes or ends a tag.
+-- If a tree has no raw HTML, and its headings have levels from 1 to 6, then its HTML is markup whose tags are those of the tree: no text
+-- adds, changes or ends a tag.
 abbrev pub TextIsNoMarkup : Type 0
 TextIsNoMarkup = (blocks : List Block) → blocks_have_raw blocks ≡ false → have_levels blocks ≡ true → tags_in profile (html_of blocks) ≡ Some (tags_of blocks)
 
--- If such a tree also contains only what the rules read, then so does its HTML: the address of each link and
--- image, as it is written, is one that they follow, and with rules without raw HTML each class is one word.
+-- If such a tree also contains only what the rules read, then so does its HTML: the address of each link and image, as it is written, is
+-- one that they follow, and with rules without raw HTML each class is one word.
 abbrev pub AddressesStay : Type 0
 AddressesStay = (rules : Rules) (blocks : List Block) → blocks_have_raw blocks ≡ false → have_levels blocks ≡ true → blocks_are_followed rules blocks ≡ true
     → tags_in rules (html_of blocks) ≡ Some (tags_of blocks)

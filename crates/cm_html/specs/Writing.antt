@@ -4,8 +4,8 @@ use Rattle.cm_text.specs.Writing.{SinkView, IsUnwritten, Wrote, WroteFront}
 use Rattle.cm_html.specs.declared.fault.HtmlFault.{HtmlFault}
 use Rattle.cm_html.specs.declared.fault.HtmlFault.TheVariants.{NoMemory, WriteFailed}
 
--- All of the text was written, and its length is returned; or one write failed, and the first `written` bytes
--- were written; or memory ran out, and nothing was written.
+-- All of the text was written, and its length is returned; or one write failed, and the first `written` bytes were written; or
+-- memory ran out, and nothing was written.
 abbrev pub WritesText : Result ℕ HtmlFault → List ℕ → SinkView → SinkView → Type 0
 WritesText (Ok n) text old new = Wrote old new text 0 × (n ≡ length text)
 WritesText (Err (WriteFailed written)) text old new = WroteFront old new text written

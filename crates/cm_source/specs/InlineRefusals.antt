@@ -1,5 +1,5 @@
--- Which inlines can't be spelled so that they read back, and why not (CommonMark 0.31.2, chapter 6). The
--- reason is the first in document order, parents first.
+-- Which inlines can't be spelled so that they read back, and why not (CommonMark 0.31.2, chapter 6). The reason is the first in
+-- document order, parents first.
 use Rattle.std.specs.Prelude.{ℕ, Bool, true, false, not, ◌==◌, ◌&&◌, ◌||◌, if◌then◌else◌, List, [], ◌∷◌, map, reverse, Option, Some, None, codes}
 use Rattle.std.specs.List.{list_any}
 use Rattle.std.specs.Char.{is_ascii_control}
@@ -80,8 +80,8 @@ pub record Place : Type 0 where
   pub opens_paragraph : Bool
   pub in_opening_link : Bool
 
--- An inline as it is judged: what others see of it, whether it is or contains emphasis or a link, and why it
--- is refused, at a place and between its neighbours.
+-- An inline as it is judged: what others see of it, whether it is or contains emphasis or a link, and why it is refused, at a place
+-- and between its neighbours.
 pub record Judged : Type 0 where
   pub face : Face
   pub has_emphasis : Bool
@@ -115,8 +115,8 @@ abbrev pub refusal_of_all : Place → (before : Option Face) → List Judged →
 refusal_of_all place before [] = None
 refusal_of_all place before (next ∷ others) = next.refusal place before (first_face others) <|> refusal_of_all (further_in place) (Some next.face) others
 
--- An edge of emphasis is wrong if it has no content, if that starts with whitespace, or if a plain character
--- comes before it and it doesn't start with one; and so at its end.
+-- An edge of emphasis is wrong if it has no content, if that starts with whitespace, or if a plain character comes before it and it
+-- doesn't start with one; and so at its end.
 abbrev pub has_wrong_edge : Rules → (before : Option Face) → List Judged → (after : Option Face) → Bool
 has_wrong_edge rules before content after =
     is_none (first_face content)
@@ -148,13 +148,13 @@ ends_a_label place text = place.in_opening_link && holds_word (codes "]:") text
 abbrev pub is_one_tag : Rules → List ℕ → Bool
 is_one_tag rules text = elim (at_angle rules text) [ Some (Tagged tag) ↦ is_empty tag.rest | Some (Addressed link) ↦ false | None ↦ false ]
 
--- A code span is refused if it has U+0000 or a line ending, is empty, directly follows another, or would end
--- the label of a definition.
+-- A code span is refused if it has U+0000 or a line ending, is empty, directly follows another, or would end the label of a
+-- definition.
 abbrev pub code_reasons : Place → List ℕ → Option Face → List (Bool × Why)
 code_reasons place text before = (has_nul text, Nul) ∷ (is_empty text || has_line_ending text || is_code before || ends_a_label place text, CodeSpan) ∷ []
 
--- Raw HTML is refused if it has U+0000 or a line ending, isn't one tag, starts a paragraph, directly follows
--- a line break, or would end the label of a definition.
+-- Raw HTML is refused if it has U+0000 or a line ending, isn't one tag, starts a paragraph, directly follows a line break, or would
+-- end the label of a definition.
 abbrev pub html_reasons : Rules → Place → List ℕ → Option Face → List (Bool × Why)
 html_reasons rules place text before =
     (has_nul text, Nul) ∷ (has_line_ending text || not (is_one_tag rules text) || place.opens_paragraph || is_break before || ends_a_label place text, RawHtml) ∷ []
@@ -163,8 +163,7 @@ html_reasons rules place text before =
 abbrev pub break_reasons : Place → (before after : Option Face) → List (Bool × Why)
 break_reasons place before after = (place.heading || is_none before || is_none after || is_break before, LineBreak) ∷ []
 
--- A link is refused if its destination or title has U+0000, if it contains a link, or if the rules don't
--- follow its address.
+-- A link is refused if its destination or title has U+0000, if it contains a link, or if the rules don't follow its address.
 abbrev pub link_reasons : Rules → (dest title : List ℕ) → List Judged → List (Bool × Why)
 link_reasons rules dest title content =
     (has_nul dest || has_nul title, Nul) ∷ (hold_link content, LinkInLink) ∷ (not (is_followed rules dest), AddressOff) ∷ []
@@ -177,8 +176,8 @@ image_reasons rules dest title = (has_nul dest || has_nul title, Nul) ∷ (not (
 abbrev pub leaf : Face → (Place → (before after : Option Face) → List (Bool × Why)) → Judged
 leaf face reasons = record { face = face; has_emphasis = false; has_link = false; refusal = λ place before after. refused (reasons place before after) }
 
--- One inline, given how each inline of its content is judged. A text is refused if it has U+0000, is empty,
--- or directly follows another.
+-- One inline, given how each inline of its content is judged. A text is refused if it has U+0000, is empty, or directly follows
+-- another.
 abbrev pub inline_step : Rules → Inline-F Judged → Judged
 inline_step rules (inline.Text text) =
     leaf (TextFace (first_character text) (last_character (reverse text))) (λ place before after. (has_nul text, Nul) ∷ (is_empty text || is_text before, Text) ∷ [])

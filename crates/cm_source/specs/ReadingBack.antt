@@ -15,8 +15,8 @@ use Rattle.cm_source.specs.Inlines.{spelled_content}
 use Rattle.cm_source.specs.Refusals.{IsSpellable}
 use Rattle.cm_source.specs.Spelling.{spelling_of}
 
--- The content of a paragraph that isn't refused is read from its spelling, with any rules and definitions, if
--- the spelling is UTF-8. It is if the strings of the content are, as they are in every tree of a program.
+-- The content of a paragraph that isn't refused is read from its spelling, with any rules and definitions, if the spelling is UTF-8.
+-- It is if the strings of the content are, as they are in every tree of a program.
 abbrev pub ParagraphsReadBack : Type 0
 ParagraphsReadBack = (rules : Rules) (defined : Defined) (content : List Inline) → paragraph_refusal rules content ≡ None → IsUtf8 (spelled_content content)
     → inlines_of rules defined (spelled_content content) ≡ content
@@ -37,8 +37,7 @@ sourced = fold-Block Block source_step
 abbrev pub all_sourced : List Block → List Block
 all_sourced blocks = map sourced blocks
 
--- The blocks of the lines of a spelling are the blocks that were spelled, with the spelling of each content
--- as its source.
+-- The blocks of the lines of a spelling are the blocks that were spelled, with the spelling of each content as its source.
 abbrev pub BlocksReadBack : Type 0
 BlocksReadBack = (rules : Rules) (blocks : List Block) → IsSpellable rules blocks → blocks_of rules (plain_lines_of (spelling_of blocks)) ≡ all_sourced blocks
 

@@ -1,5 +1,5 @@
--- Which trees can't be spelled so that they read back, and why not (CommonMark 0.31.2, chapters 4 and 5). The
--- reason is the first in document order, parents first.
+-- Which trees can't be spelled so that they read back, and why not (CommonMark 0.31.2, chapters 4 and 5). The reason is the
+-- first in document order, parents first.
 use Rattle.std.specs.Prelude.{◌≡◌, ℕ, ◌^◌, Bool, true, false, not, ◌==◌, ◌&&◌, ◌||◌, nat_le, List, [], ◌∷◌, map, Option, Some, None}
 use Rattle.std.specs.List.{list_any, list_all}
 use Rattle.cm_text.specs.Bytes.{line_feed, carriage_return, less_than}
@@ -21,8 +21,7 @@ use Rattle.cm_source.specs.declared.why.Why.{Why}
 use Rattle.cm_source.specs.declared.why.Why.TheVariants.{Definition, Nul, Shape, CodeText, HtmlBlock, AdjacentLists, ItemBeginsWithList, Looseness, InfoOff}
 use Rattle.cm_source.specs.InlineRefusals.{refused, has_nul, paragraph_refusal, heading_refusal}
 
--- What the blocks around a block see of it: what it is, and of a list its kind and whether its first item has
--- a block.
+-- What the blocks around a block see of it: what it is, and of a list its kind and whether its first item has a block.
 pub data BlockFace : Type 0 where
   ParagraphFace : BlockFace
   CodeBlockFace : BlockFace
@@ -41,16 +40,15 @@ begins_late (Dot start) = not (start == 1)
 begins_late (Paren start) = not (start == 1)
 begins_late kind = false
 
--- A code block can follow a paragraph without an empty line, and so can a block quote, and a list whose first
--- item has a block and which starts at 1 if it is ordered.
+-- A code block can follow a paragraph without an empty line, and so can a block quote, and a list whose first item has a block
+-- and which starts at 1 if it is ordered.
 abbrev pub can_follow : BlockFace → Bool
 can_follow CodeBlockFace = true
 can_follow QuoteFace = true
 can_follow (ListFace kind filled) = filled && not (begins_late kind)
 can_follow face = false
 
--- An item of a tight list has at most one block, or a paragraph and a block that can follow it without an
--- empty line.
+-- An item of a tight list has at most one block, or a paragraph and a block that can follow it without an empty line.
 abbrev pub is_tight_item : List BlockFace → Bool
 is_tight_item [] = true
 is_tight_item (one ∷ []) = true
@@ -100,8 +98,8 @@ abbrev pub is_html_part : List ℕ → Parts → Bool
 is_html_part text (leaf (html read) lines none) = same_bytes read text
 is_html_part text parts = false
 
--- The text of an HTML block starts with `<`. Read alone it is this one block, and its last line contains the
--- end of its kind, if its kind has one.
+-- The text of an HTML block starts with `<`. Read alone it is this one block, and its last line contains the end of its kind,
+-- if its kind has one.
 abbrev pub is_html_block : Rules → List ℕ → Bool
 is_html_block rules text = begins_with less_than text && is_html_part text (parts_of rules (plain_lines_of text)) && is_html_ended rules text
 
@@ -127,8 +125,8 @@ abbrev pub is_behind_same : ListKind → Option BlockFace → Bool
 is_behind_same kind (Some (ListFace other filled)) = is_same_kind kind other
 is_behind_same kind _ = false
 
--- A list is refused if it has no items or starts at 10^9 or higher, if it directly follows a list of its
--- kind, if an item starts with a list, or if it isn't as tight or loose as it says.
+-- A list is refused if it has no items or starts at 10^9 or higher, if it directly follows a list of its kind, if an item
+-- starts with a list, or if it isn't as tight or loose as it says.
 abbrev pub list_reasons : ListKind → (tight : Bool) → List (List BlockFace) → Option BlockFace → List (Bool × Why)
 list_reasons kind tight items before =
     (not (list_any (λ item. true) items) || begins_too_high kind, Shape) ∷ (is_behind_same kind before, AdjacentLists)
@@ -142,15 +140,14 @@ is_filled _ = false
 abbrev pub leaf_block : BlockFace → Option Why → JudgedBlock
 leaf_block face refusal = record { face = face; refusal = λ before. refusal }
 
--- A code block is refused if it has U+0000, if its text isn't that of a code block, or if its info string has
--- a line feed, form feed or carriage return and the rules have no raw HTML.
+-- A code block is refused if it has U+0000, if its text isn't that of a code block, or if its info string has a line feed,
+-- form feed or carriage return and the rules have no raw HTML.
 abbrev pub code_reasons : Rules → (info text : List ℕ) → List (Bool × Why)
 code_reasons rules info text =
     (has_nul info || has_nul text, Nul) ∷ (not (is_code_text text), CodeText) ∷ (not (is_read_info rules info), InfoOff) ∷ []
 
--- One block, given how each block inside is judged. A paragraph without content, a heading of a level other
--- than 1 to 6, and each definition is refused, and an HTML block if it has U+0000 or isn't one HTML block by
--- itself.
+-- One block, given how each block inside is judged. A paragraph without content, a heading of a level other than 1 to 6, and
+-- each definition is refused, and an HTML block if it has U+0000 or isn't one HTML block by itself.
 abbrev pub block_step : Rules → Block-F JudgedBlock → JudgedBlock
 block_step rules (block.Paragraph content) = leaf_block ParagraphFace (refused ((not (list_any (λ i. true) content), Shape) ∷ []) <|> paragraph_refusal rules content)
 block_step rules (block.Heading level content) = leaf_block OtherBlockFace (refused ((not (nat_le 1 level && nat_le level 6), Shape) ∷ []) <|> heading_refusal rules content)

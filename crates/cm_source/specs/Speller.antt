@@ -23,8 +23,7 @@ pub record HasSpelled (rules : Rules) (speller : code.Speller) (blocks : List Bl
   pub last : seen speller.before ≡ face_behind None (map (judged_block rules) blocks)
   pub fine : speller.failed ≡ false
 
--- Why a block isn't spelled after these: they can't be spelled with it, whatever follows; memory may be
--- refused.
+-- Why a block isn't spelled after these: they can't be spelled with it, whatever follows; memory may be refused.
 abbrev pub Refuses : SourceFault → Rules → List Block → Block → Type 0
 Refuses (Unspellable why) rules blocks block = (others : List Block) → refusal_of rules (blocks ++ block ∷ others) ≡ Some why
 Refuses NoMemory rules blocks block = IsSpellable rules (blocks ++ block ∷ [])

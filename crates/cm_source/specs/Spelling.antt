@@ -57,8 +57,8 @@ abbrev pub joined : (apart : Bool) → List (List (List ℕ)) → List (List ℕ
 joined apart [] = []
 joined apart (first ∷ others) = first ++ flat_map (λ lines. gap apart ++ lines) others
 
--- Each line of a block quote follows `> `, and an empty one `>`; a block quote without blocks has one empty
--- line (5.1 Block quotes).
+-- Each line of a block quote follows `> `, and an empty one `>`; a block quote without blocks has one empty line
+-- (5.1 Block quotes).
 abbrev pub quoted : List ℕ → List ℕ
 quoted line = greater_than ∷ spaced line
 
@@ -79,19 +79,18 @@ abbrev pub indented : ℕ → List ℕ → List ℕ
 indented columns [] = []
 indented columns (b ∷ bs) = replicate columns space ++ b ∷ bs
 
--- The first line of an item follows its marker and a space, and the others are indented as far; an item
--- without blocks is its marker (5.2 List items).
+-- The first line of an item follows its marker and a space, and the others are indented as far; an item without
+-- blocks is its marker (5.2 List items).
 abbrev pub item_lines : List ℕ → List (List ℕ) → List (List ℕ)
 item_lines mark [] = mark ∷ []
 item_lines mark (line ∷ lines) = (mark ++ spaced line) ∷ map (indented (length mark + 1)) lines
 
--- An empty line is between the items of a loose list, and between the blocks of each; in a tight list there
--- is none (5.3 Lists).
+-- An empty line is between the items of a loose list, and between the blocks of each; in a tight list there is none
+-- (5.3 Lists).
 abbrev pub list_lines : ListKind → (tight : Bool) → List (List (List (List ℕ))) → List (List ℕ)
 list_lines kind tight items = joined (not tight) (map (λ blocks. item_lines (marker kind) (joined (not tight) blocks)) items)
 
--- One block, given the lines of each block inside. A thematic break is `___`, and a definition is never
--- spelled.
+-- One block, given the lines of each block inside. A thematic break is `___`, and a definition is never spelled.
 abbrev pub block_step : Block-F (List (List ℕ)) → List (List ℕ)
 block_step (block.Paragraph content) = parted_lines (spelled_content content)
 block_step (block.Heading level content) = heading_lines level content

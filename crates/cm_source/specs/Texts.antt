@@ -12,9 +12,9 @@ use Rattle.cm_scan.specs.spans.Autolinks.{ends_with}
 abbrev pub numbered : ℕ → List ℕ
 numbered c = codes "&#" ++ decimal c ++ codes ";"
 
--- A backtick and each ASCII control character is a decimal numeric character reference (2.5 Entity and
--- numeric character references), each other ASCII punctuation character is backslash-escaped (2.4 Backslash
--- escapes), and every other character is as it is.
+-- A backtick and each ASCII control character is a decimal numeric character reference (2.5 Entity and numeric character
+-- references), each other ASCII punctuation character is backslash-escaped (2.4 Backslash escapes), and every other character is as
+-- it is.
 unfoldable pub spelled_byte : ℕ → List ℕ
 spelled_byte b = if b == backtick || is_ascii_control b then numbered b else (if is_ascii_punct b then backslash ∷ b ∷ [] else b ∷ [])
 
@@ -22,8 +22,7 @@ spelled_byte b = if b == backtick || is_ascii_control b then numbered b else (if
 abbrev pub spelled_bytes : List ℕ → List ℕ
 spelled_bytes text = flat_map spelled_byte text
 
--- A space at the beginning or the end of a line is a decimal numeric character reference, since it would be
--- stripped there.
+-- A space at the beginning or the end of a line is a decimal numeric character reference, since it would be stripped there.
 abbrev pub edge_byte : (at_edge : Bool) → ℕ → List ℕ
 edge_byte at_edge b = if at_edge && b == space then numbered space else spelled_byte b
 
@@ -37,8 +36,8 @@ unfoldable pub longest_run : (before : ℕ) → List ℕ → ℕ
 longest_run before [] = before
 longest_run before (b ∷ bs) = if b == backtick then longest_run (suc before) bs else max before (longest_run 0 bs)
 
--- A code span has a space at both ends if its text starts or ends with a backtick, or starts and ends with a
--- space and has another character, since reading strips these spaces (6.1 Code spans).
+-- A code span has a space at both ends if its text starts or ends with a backtick, or starts and ends with a space and has another
+-- character, since reading strips these spaces (6.1 Code spans).
 abbrev pub is_padded : List ℕ → Bool
 is_padded text = begins_with backtick text || ends_with backtick text || begins_with space text && ends_with space text && not (list_all (λ b. b == space) text)
 
@@ -46,8 +45,7 @@ is_padded text = begins_with backtick text || ends_with backtick text || begins_
 abbrev pub padding : List ℕ → List ℕ
 padding text = if is_padded text then space ∷ [] else []
 
--- A code span has one backtick more in its backtick strings than the longest run of backticks in its text
--- (6.1 Code spans).
+-- A code span has one backtick more in its backtick strings than the longest run of backticks in its text (6.1 Code spans).
 unfoldable pub spelled_code : List ℕ → List ℕ
 spelled_code text = let marks = replicate (suc (longest_run 0 text)) backtick in marks ++ padding text ++ text ++ padding text ++ marks
 
@@ -56,7 +54,6 @@ abbrev pub spelled_title : List ℕ → List ℕ
 spelled_title [] = []
 spelled_title (b ∷ bs) = codes " \"" ++ spelled_bytes (b ∷ bs) ++ codes "\""
 
--- what follows the content of a link or an image: the destination between `<` and `>`, and the title (6.3
--- Links)
+-- what follows the content of a link or an image: the destination between `<` and `>`, and the title (6.3 Links)
 unfoldable pub spelled_target : (dest title : List ℕ) → List ℕ
 spelled_target dest title = codes "](<" ++ spelled_bytes dest ++ codes ">" ++ spelled_title title ++ codes ")"

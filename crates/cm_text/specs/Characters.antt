@@ -15,14 +15,14 @@ within low high c = nat_le low c && nat_le c high
 abbrev pub is_space_or_tab : ℕ → Bool
 is_space_or_tab c = c == space || c == tab
 
--- An ASCII punctuation character is `!`, `"`, `#`, `$`, `%`, `&`, `'`, `(`, `)`, `*`, `+`, `,`, `-`, `.`, `/`
--- (U+0021-2F), `:`, `;`, `<`, `=`, `>`, `?`, `@` (U+003A-0040), `[`, `\`, `]`, `^`, `_`, a backtick
--- (U+005B-0060), `{`, `|`, `}`, or `~` (U+007B-007E).
+-- An ASCII punctuation character is `!`, `"`, `#`, `$`, `%`, `&`, `'`, `(`, `)`, `*`, `+`, `,`, `-`, `.`, `/` (U+0021-2F),
+-- `:`, `;`, `<`, `=`, `>`, `?`, `@` (U+003A-0040), `[`, `\`, `]`, `^`, `_`, a backtick (U+005B-0060), `{`, `|`, `}`, or `~`
+-- (U+007B-007E).
 abbrev pub is_ascii_punct : ℕ → Bool
 is_ascii_punct c = within 0x21 0x2F c || within 0x3A 0x40 c || within 0x5B 0x60 c || within 0x7B 0x7E c
 
--- A Unicode punctuation character is a character in the Unicode P (punctuation) or S (symbol) general
--- categories. With the older rules it is a character in P, or ASCII punctuation.
+-- A Unicode punctuation character is a character in the Unicode P (punctuation) or S (symbol) general categories. With the
+-- older rules it is a character in P, or ASCII punctuation.
 unfoldable pub is_punct_by : Rules → ℕ → Bool
 is_punct_by rules c = in_group Punctuation (general_category c) || (if rules.older then is_ascii_punct c else in_group Symbol (general_category c))
 

@@ -26,8 +26,8 @@ indent_of line = indent_from line.column line.text
 abbrev pub blank_width : ℕ → ℕ → ℕ
 blank_width column b = if b == space then 1 else (if b == tab then tab_width column else 0)
 
--- A text without the given number of columns, or without its indentation if that is less, and the column at
--- which the rest starts. If only some columns of a tab are taken, the others are left as spaces.
+-- A text without the given number of columns, or without its indentation if that is less, and the column at which the
+-- rest starts. If only some columns of a tab are taken, the others are left as spaces.
 abbrev pub strip_from : ℕ → ℕ → List ℕ → ℕ × List ℕ
 strip_from n column [] = (column, [])
 strip_from n column (b ∷ bs) = elim (n == 0 || blank_width column b == 0) [
@@ -38,8 +38,8 @@ strip_from n column (b ∷ bs) = elim (n == 0 || blank_width column b == 0) [
   ]
 ]
 
--- A line without the given number of columns, or without its indentation if that is less. If only some
--- columns of a tab are taken, the others are left as spaces.
+-- A line without the given number of columns, or without its indentation if that is less. If only some columns of a
+-- tab are taken, the others are left as spaces.
 abbrev pub strip_columns : ℕ → LineView → LineView
 strip_columns n line =
     let left = strip_from n line.column line.text in
@@ -50,8 +50,8 @@ abbrev pub after_indent : List ℕ → List ℕ
 after_indent [] = []
 after_indent (b ∷ bs) = elim (b == space || b == tab) [ true ↦ after_indent bs | false ↦ b ∷ bs ]
 
--- Stripping adds the columns that it takes to the start column, and leaves the rest of the indentation and
--- what follows it.
+-- Stripping adds the columns that it takes to the start column, and leaves the rest of the indentation and what
+-- follows it.
 abbrev pub StripTakesColumns : Type 0
 StripTakesColumns = (n : ℕ) (line : LineView) →
     ((strip_columns n line).column ≡ line.column + min n (indent_of line))

@@ -26,16 +26,16 @@ abbrev pub begins_with_line_feed : List ℕ → Bool
 begins_with_line_feed [] = false
 begins_with_line_feed (b ∷ bs) = b == line_feed
 
--- The text is this line, its ending and this rest. No line feed follows a carriage return that is an ending
--- by itself, and a line that the end of the text ends isn't empty.
+-- The text is this line, its ending and this rest. No line feed follows a carriage return that is an ending by
+-- itself, and a line that the end of the text ends isn't empty.
 abbrev pub Ends : Ending → List ℕ → List ℕ → List ℕ → Type 0
 Ends LineFeed line rest text = text ≡ line ++ line_feed ∷ rest
 Ends CarriageReturnLineFeed line rest text = text ≡ line ++ carriage_return ∷ line_feed ∷ rest
 Ends CarriageReturn line rest text = (text ≡ line ++ carriage_return ∷ rest) × (begins_with_line_feed rest ≡ false)
 Ends EndOfText line rest text = (text ≡ line) × (line ≢ []) × (rest ≡ [])
 
--- These are the lines of the text: each is without line endings, and each followed by its ending they give
--- the text. Only the last may lack an ending, and then it isn't empty.
+-- These are the lines of the text: each is without line endings, and each followed by its ending they give the text.
+-- Only the last may lack an ending, and then it isn't empty.
 abbrev pub AreLinesOf : List ℕ → List (List ℕ) → Type 0
 AreLinesOf text [] = text ≡ []
 AreLinesOf text (line ∷ lines) =

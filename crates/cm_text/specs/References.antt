@@ -1,5 +1,5 @@
--- Entity and numeric character references (CommonMark 0.31.2, 2.5 Entity and numeric character references). A
--- text is its UTF-8 bytes, and a reference is read as code points.
+-- Entity and numeric character references (CommonMark 0.31.2, 2.5 Entity and numeric character references). A text is
+-- its UTF-8 bytes, and a reference is read as code points.
 use Rattle.std.specs.Prelude.{ℕ, ◌+◌, Bool, true, false, ◌==◌, ◌||◌, nat_lt, if◌then◌else◌, List, [], ◌∷◌, take, drop, length, Option, Some, None, codes}
 use Rattle.std.specs.Char.{is_ascii_digit, is_ascii_hexdigit, is_ascii_alphanumeric}
 use Rattle.std.specs.List.{prefix_len}
@@ -35,8 +35,8 @@ between front passes text = elim (after_word front text) [ None ↦ None | Some 
 abbrev pub numbered_character : ℕ → ℕ
 numbered_character n = if n == 0 || within 0xD800 0xDFFF n || nat_lt 0x10FFFF n then 0xFFFD else n
 
--- The character of a number in a radix that has from one digit to the given number of them, and how many
--- bytes are read: the digits, and the given number around them.
+-- The character of a number in a radix that has from one digit to the given number of them, and how many bytes are
+-- read: the digits, and the given number around them.
 abbrev pub numbered : (radix most round : ℕ) → Option (List ℕ) → Option (List ℕ × ℕ)
 numbered radix most round None = None
 numbered radix most round (Some digits) =

@@ -41,8 +41,8 @@ tab_for_arrow c = if c == 0x2192 then 9 else c
 abbrev pub example_line : List ℕ → List ℕ
 example_line line = encode_utf8_all (map tab_for_arrow (chars line)) ++ 10 ∷ []
 
--- where the next line is: outside of examples, in a source, or in HTML, with the number of the example's
--- opening line and what there is of it so far
+-- where the next line is: outside of examples, in a source, or in HTML, with the number of the example's opening line and what
+-- there is of it so far
 pub data Place : Type 0 where
   Outside : Place
   InSource : (opened : ℕ) (source : List ℕ) → Place
@@ -53,8 +53,8 @@ abbrev pub put_example : Example → Result (List Example) ℕ → Result (List 
 put_example example (Ok examples) = Ok (example ∷ examples)
 put_example example (Err line) = Err line
 
--- The examples of lines, the first of which has this number and is at this place; or the number of the first
--- opening line whose example isn't closed, or has no middle line before it is.
+-- The examples of lines, the first of which has this number and is at this place; or the number of the first opening line whose
+-- example isn't closed, or has no middle line before it is.
 abbrev pub examples_from : Place → ℕ → List (List ℕ) → Result (List Example) ℕ
 examples_from Outside number [] = Ok []
 examples_from (InSource opened source) number [] = Err opened
@@ -136,8 +136,8 @@ abbrev pub reported : Rules → Result (List Example) ℕ → Result ReportView 
 reported rules (Err line) = Err (BadExampleFile line)
 reported rules (Ok examples) = sound_report (first_fault rules examples) rules examples
 
--- the report of a text, or why there is none: an example that isn't closed, or else the fault of the first
--- source that has one under the standard limits
+-- the report of a text, or why there is none: an example that isn't closed, or else the fault of the first source that has one
+-- under the standard limits
 abbrev pub report_on : Rules → List ℕ → Result ReportView Fault
 report_on rules text = reported rules (examples_of text)
 

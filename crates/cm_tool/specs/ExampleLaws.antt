@@ -26,8 +26,8 @@ pub record TellsExamples (told : Telling) : Type 0 where
   -- such lines before others are skipped
   pub passed_over : (number : ℕ) (outside lines : List (List ℕ)) → NoneIs opening_line outside
       → told number (outside ++ lines) ≡ told (number + length outside) lines
-  -- an opening line, the lines of a source, the line `.`, those of its HTML and a closing line are an
-  -- example, before those of the lines after it
+  -- an opening line, the lines of a source, the line `.`, those of its HTML and a closing line are an example, before those of the
+  -- lines after it
   pub example_in_front : (number : ℕ) (source html lines : List (List ℕ)) → NoneIs middle_line source → NoneIs closing_line source → NoneIs closing_line html
       → told number (example_lines source html ++ lines)
       ≡ put_example (example_with source html) (told (number + length (example_lines source html)) lines)

@@ -1,5 +1,4 @@
--- The fault of an input: a line that is too deep, what is wrong with its text, or a leaf whose inlines nest
--- too deep.
+-- The fault of an input: a line that is too deep, what is wrong with its text, or a leaf whose inlines nest too deep.
 use Rattle.std.specs.Prelude.{◌≡◌, ◌↔◌, ℕ, List, ◌++◌, take, Option, Some, None}
 use Rattle.std.specs.Option.{option_map, option_or}
 use Rattle.cm_text.specs.declared.fault.TextFault.{TextFault}
@@ -30,9 +29,8 @@ ended_too_deep limits bytes = too_deep limits (ended_lines_of (text_of (sound_fr
 abbrev pub leaf_too_deep : LimitsView → List ℕ → Option Fault
 leaf_too_deep limits bytes = option_map InlinesTooDeep (first_leaf_past limits.inlines (tree_of limits.rules bytes))
 
--- If something is wrong with the text, the fault is the first line too deep of those that have ended before
--- it, or else that; a line that it cuts isn't judged. If nothing is, it is the first line too deep of all, or
--- else the first leaf too deep.
+-- If something is wrong with the text, the fault is the first line too deep of those that have ended before it, or else that; a
+-- line that it cuts isn't judged. If nothing is, it is the first line too deep of all, or else the first leaf too deep.
 abbrev pub fault_by : Option TextFault → LimitsView → List ℕ → Option Fault
 fault_by (Some fault) limits bytes = option_or (ended_too_deep limits bytes) (Some (told fault))
 fault_by None limits bytes = option_or (too_deep limits (plain_lines_of (text_of bytes))) (leaf_too_deep limits bytes)
@@ -41,8 +39,8 @@ fault_by None limits bytes = option_or (too_deep limits (plain_lines_of (text_of
 abbrev pub fault_of : LimitsView → List ℕ → Option Fault
 fault_of limits bytes = fault_by (text_fault limits.bytes bytes) limits bytes
 
--- The fault of the bytes however they go on. The last line, which hasn't ended, isn't judged, and no leaf is,
--- since a definition after it may count.
+-- The fault of the bytes however they go on. The last line, which hasn't ended, isn't judged, and no leaf is, since a definition
+-- after it may count.
 abbrev pub settled_fault_of : LimitsView → List ℕ → Option Fault
 settled_fault_of limits bytes = option_or (ended_too_deep limits bytes) (option_map told (settled_fault limits.bytes bytes))
 

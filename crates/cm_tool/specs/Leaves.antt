@@ -11,8 +11,7 @@ abbrev pub concat_items : List (List (List ℕ)) → List ℕ
 concat_items [] = []
 concat_items (item ∷ items) = concat item ++ concat_items items
 
--- how deep the inlines of each leaf of a block nest, given those of each block inside; 0 for a leaf without
--- inlines
+-- how deep the inlines of each leaf of a block nest, given those of each block inside; 0 for a leaf without inlines
 abbrev pub depths_step : Block-F (List ℕ) → List ℕ
 depths_step (block.Paragraph content) = inlines_depth content ∷ []
 depths_step (block.Heading level content) = inlines_depth content ∷ []

@@ -9,7 +9,7 @@ use Rattle.cm_tool.specs.Document.{doc_of}
 abbrev pub OneOwnerALine : Type 0
 OneOwnerALine = (rules : Rules) (bytes : List ℕ) → length (doc_of rules bytes).owners ≡ length (lines_of (text_of bytes))
 
--- The leaves of a document's tree are those that its lines name: each leaf has one nonempty run of lines, and
--- the runs are in order.
+-- The leaves of a document's tree are those that its lines name: each leaf has one nonempty run of lines, and the runs
+-- are in order.
 abbrev pub RunsInOrder : Type 0
 RunsInOrder = (rules : Rules) (bytes : List ℕ) → leaves_named (doc_of rules bytes).owners ≡ Some (leaves_in (doc_of rules bytes).blocks)

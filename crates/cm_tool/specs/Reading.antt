@@ -33,8 +33,8 @@ pub record HasFailed (settled : Option Fault) (old new : SourceView) : Type 0 wh
   pub failed : new.failed ≡ old.failed + 1
   pub sound : settled ≡ None
 
--- Why there is no document or text: the fault that what was read settles; or a failed read, if it settles
--- none; or, at the end, the fault of the whole. If memory runs out nothing is said of these.
+-- Why there is no document or text: the fault that what was read settles; or a failed read, if it settles none; or, at the end, the
+-- fault of the whole. If memory runs out nothing is said of these.
 abbrev pub RefusesBy : (settled whole : Option Fault) → Fault → SourceView → SourceView → Type 0
 RefusesBy settled whole (NotUtf8 at) old new = HasFault settled whole old new (NotUtf8 at)
 RefusesBy settled whole (TooLong at) old new = HasFault settled whole old new (TooLong at)
@@ -48,8 +48,7 @@ RefusesBy settled whole _ old new = ⊥
 abbrev pub ReadWhole : LimitsView → List ℕ → SourceView → SourceView → Type 0
 ReadWhole limits bytes old new = IsWhole (fault_of limits bytes) old new
 
--- why these bytes have no document: the fault that they settle, a failed read, or their fault at the end, in
--- this order
+-- why these bytes have no document: the fault that they settle, a failed read, or their fault at the end, in this order
 abbrev pub Refuses : Fault → LimitsView → List ℕ → SourceView → SourceView → Type 0
 Refuses fault limits bytes old new = RefusesBy (settled_fault_of limits bytes) (fault_of limits bytes) fault old new
 

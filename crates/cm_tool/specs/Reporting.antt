@@ -33,8 +33,8 @@ Unreported fault limits bytes from left =
     RefusesBy (settled_of_text limits bytes) (fault_of_text limits bytes) fault from left
     ⊎ (IsWhole (fault_of_text limits bytes) from left × (report_on limits.rules (text_of bytes) ≡ Err fault))
 
--- What writing the report of a source's examples returns, and what has been written then: the verdict, once
--- all of the report has been written; or why a write failed or there is no report.
+-- What writing the report of a source's examples returns, and what has been written then: the verdict, once all of the report has been
+-- written; or why a write failed or there is no report.
 abbrev pub WritesReport : Result ℕ Fault → LimitsView → List ℕ → SourceView → SourceView → SinkView → SinkView → Type 0
 WritesReport (Ok total) limits bytes from left old new = Judges (Ok total) limits bytes from left old new
 WritesReport (Err (ExampleDiffers number)) limits bytes from left old new = Judges (Err (ExampleDiffers number)) limits bytes from left old new

@@ -24,8 +24,8 @@ kept_tree rules bytes = without_definitions (tree_of rules bytes)
 abbrev pub rewritten : Rules → List ℕ → List ℕ
 rewritten rules bytes = spelling_of (kept_tree rules bytes)
 
--- The tree can be spelled, its spelling reads back as that tree, and rewriting the spelling gives the same
--- bytes. The spelling has no fault, unless it is longer than the limit.
+-- The tree can be spelled, its spelling reads back as that tree, and rewriting the spelling gives the same bytes. The spelling has no
+-- fault, unless it is longer than the limit.
 abbrev pub IsLasting : LimitsView → List ℕ → Type 0
 IsLasting limits bytes =
     IsSpellable limits.rules (kept_tree limits.rules bytes)
@@ -39,16 +39,15 @@ LastingIfWritten (Ok n) limits bytes = IsLasting limits bytes
 LastingIfWritten (Err (WriteFailed written)) limits bytes = IsLasting limits bytes
 LastingIfWritten (Err fault) limits bytes = ⊤
 
--- The spelling of the text's tree without its definitions was written, or a front of it up to a failed write;
--- or the text was refused, or its tree. Nothing is written before the spelling is complete.
+-- The spelling of the text's tree without its definitions was written, or a front of it up to a failed write; or the text was refused, or
+-- its tree. Nothing is written before the spelling is complete.
 abbrev pub Rewrites : Result ℕ Fault → LimitsView → List ℕ → SourceView → SourceView → SinkView → SinkView → Type 0
 Rewrites (Err (Unspellable why)) limits bytes from left old new =
     ReadWhole limits bytes from left × (refusal_of limits.rules (kept_tree limits.rules bytes) ≡ Some why) × IsUnwritten old new
 Rewrites answer limits bytes from left old new =
     Writes (λ old new text. IsUnwritten old new) rewritten answer limits bytes from left old new × LastingIfWritten answer limits bytes
 
--- At the end of the input: the spelling of its tree without definitions, or the input's fault, or why the
--- tree can't be spelled.
+-- At the end of the input: the spelling of its tree without definitions, or the input's fault, or why the tree can't be spelled.
 abbrev pub MakesPlainSource : Result (String Global) Fault → LimitsView → List ℕ → Type 0
 MakesPlainSource (Ok text) limits bytes =
     (fault_of limits bytes ≡ None) × IsLasting limits bytes × (string_bytes text ≡ rewritten limits.rules bytes)

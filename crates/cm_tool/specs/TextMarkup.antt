@@ -12,8 +12,8 @@ use Rattle.cm_tool.specs.Writing.{converted}
 abbrev pub HeadingLevels : Type 0
 HeadingLevels = (rules : Rules) (bytes : List ℕ) → have_levels (tree_of rules bytes) ≡ true
 
--- If the tree of a text has no raw HTML, then its HTML is markup whose tags are those of the tree, and each
--- address there is one that the rules follow.
+-- If the tree of a text has no raw HTML, then its HTML is markup whose tags are those of the tree, and each address there is one
+-- that the rules follow.
 abbrev pub TextIsNoMarkup : Type 0
 TextIsNoMarkup = (rules : Rules) (bytes : List ℕ) → blocks_have_raw (tree_of rules bytes) ≡ false → tags_in rules (converted rules bytes) ≡ Some (tags_of (tree_of rules bytes))
 

@@ -18,8 +18,8 @@ abbrev pub NoFaultJustWithin : Type 0
 NoFaultJustWithin = (limits : LimitsView) (bytes : List ℕ)
     → (fault_of limits bytes ≡ None) ↔ (IsUtf8 bytes × (length bytes ≤ limits.bytes) × IsWithin limits (tree_of limits.rules bytes))
 
--- The spelling of a tree has no fault if it is UTF-8, as it is if the texts in the tree are, and short
--- enough, and the tree is within the limits.
+-- The spelling of a tree has no fault if it is UTF-8, as it is if the texts in the tree are, and short enough, and the tree is within the
+-- limits.
 abbrev pub SpelledWithoutFault : Type 0
 SpelledWithoutFault = (limits : LimitsView) (blocks : List Block) → IsSpellable limits.rules blocks → IsUtf8 (spelling_of blocks)
     → length (spelling_of blocks) ≤ limits.bytes → IsWithin limits blocks → fault_of limits (spelling_of blocks) ≡ None

@@ -19,15 +19,14 @@ converted rules bytes = html_of (tree_of rules bytes)
 abbrev pub listed : Rules → List ℕ → List ℕ
 listed rules bytes = listing_of (tree_of rules bytes) (owners_of_bytes rules bytes)
 
--- What has been written if the text isn't written to its end: nothing, unless memory ran out after all of the
--- text had been read.
+-- What has been written if the text isn't written to its end: nothing, unless memory ran out after all of the text had been read.
 abbrev pub WentOut : Fault → (Lost : SinkView → SinkView → List ℕ → Type 0) → (Read : Type 0) → SinkView → SinkView → List ℕ → Type 0
 WentOut NoMemory Lost Read old new output = IsUnwritten old new ⊎ (Read × Lost old new output)
 WentOut fault Lost Read old new output = IsUnwritten old new
 
--- All of the output was written, and its length is returned; or one write failed, and the first `written`
--- bytes were written; or the text was refused. Nothing is written before the text has been read to its end.
--- `Lost` says what may have been written if memory ran out after that.
+-- All of the output was written, and its length is returned; or one write failed, and the first `written` bytes were written; or the
+-- text was refused. Nothing is written before the text has been read to its end. `Lost` says what may have been written if memory ran
+-- out after that.
 abbrev pub Writes : (Lost : SinkView → SinkView → List ℕ → Type 0) → (output : Rules → List ℕ → List ℕ) → Result ℕ Fault
     → LimitsView → List ℕ → SourceView → SourceView → SinkView → SinkView → Type 0
 Writes Lost output (Ok n) limits bytes from left old new =

@@ -1,5 +1,4 @@
--- Link reference definitions by their folded labels (CommonMark 0.31.2, 4.7 Link reference definitions, 6.3
--- Links).
+-- Link reference definitions by their folded labels (CommonMark 0.31.2, 4.7 Link reference definitions, 6.3 Links).
 use Rattle.std.specs.Prelude.{◌≡◌, ℕ, true, false, List, [], ◌∷◌, Option, Some, None, if◌then◌else◌}
 use Rattle.std.specs.Ordering.{nat_cmp}
 use Rattle.std.specs.Cmp.Lexicographic.{slice_cmp}
@@ -40,8 +39,8 @@ abbrev pub first_under : List ℕ → List (List ℕ × Target) → Option Targe
 first_under folded [] = None
 first_under folded (d ∷ ds) = if bytes_eq (fold_label d.0) folded then Some d.1 else first_under folded ds
 
--- In a table to which definitions were added in order, a label has the target of the first definition with an
--- equal folded label.
+-- In a table to which definitions were added in order, a label has the target of the first definition with an equal folded
+-- label.
 abbrev pub FirstCounts : Type 0
 FirstCounts = (definitions : List (List ℕ × Target)) (label : List ℕ)
     → get (add_all empty definitions) (fold_label label) ≡ first_under (fold_label label) definitions

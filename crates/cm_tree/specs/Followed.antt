@@ -1,6 +1,5 @@
--- Trees that contain only what the rules read: each link and image has an address that they follow, and the
--- info string of each code block is one that they leave as it is (CommonMark 0.31.2, 4.5 Fenced code blocks,
--- 6.3 Links, 6.4 Images).
+-- Trees that contain only what the rules read: each link and image has an address that they follow, and the info string of each code
+-- block is one that they leave as it is (CommonMark 0.31.2, 4.5 Fenced code blocks, 6.3 Links, 6.4 Images).
 use Rattle.std.specs.Prelude.{ℕ, ◌==◌, Bool, true, not, ◌&&◌, ◌||◌, List, map}
 use Rattle.std.specs.List.{list_any}
 use Rattle.cm_text.specs.Rules.{Rules}
@@ -13,8 +12,7 @@ use Rattle.cm_tree.specs.declared.tree.Block.TheOpen as block
 use Rattle.cm_tree.specs.declared.tree.Block.TheFolds.{fold-Block}
 use Rattle.cm_tree.specs.HeadingLevels.{all_of, all_of_items}
 
--- One inline, given the answer for each inline of its content. The content of an image is its alternative
--- text, which has no address.
+-- One inline, given the answer for each inline of its content. The content of an image is its alternative text, which has no address.
 abbrev pub followed_inline_step : Rules → Inline-F Bool → Bool
 followed_inline_step rules (inline.Emph content) = all_of content
 followed_inline_step rules (inline.Strong content) = all_of content
@@ -52,7 +50,7 @@ followed_block_step rules _ = true
 abbrev pub block_is_followed : Rules → Block → Bool
 block_is_followed rules = fold-Block Bool (followed_block_step rules)
 
--- Each link and image in the blocks, at any depth but in an image, has an address that the rules follow; and
--- without raw HTML no info string has a line feed, form feed or carriage return.
+-- Each link and image in the blocks, at any depth but in an image, has an address that the rules follow; and without raw HTML no info
+-- string has a line feed, form feed or carriage return.
 abbrev pub blocks_are_followed : Rules → List Block → Bool
 blocks_are_followed rules blocks = all_of (map (block_is_followed rules) blocks)

@@ -12,8 +12,8 @@ abbrev pub any_of : List Bool → Bool
 any_of [] = false
 any_of (answer ∷ answers) = answer || any_of answers
 
--- One inline, given the answer for each inline of its content. The content of an image is its alternative
--- text, and raw HTML in that is text.
+-- One inline, given the answer for each inline of its content. The content of an image is its alternative text, and raw HTML in
+-- that is text.
 abbrev pub raw_inline_step : Inline-F Bool → Bool
 raw_inline_step (inline.Html text) = true
 raw_inline_step (inline.Emph content) = any_of content

@@ -45,8 +45,7 @@ Gives fault output (Ok made) = (fault ≡ None) × (made.items ≡ ended output)
 Gives fault output (Err NoMemory) = ⊤
 Gives fault output (Err told) = fault ≡ Some told
 
--- What a call returns: its number, the place of a fault, the length of the output, and its bytes, or those in
--- the caller's room.
+-- What a call returns: its number, the place of a fault, the length of the output, and its bytes, or those in the caller's room.
 pub record Answer : Type 0 where
   pub number : ℕ
   pub place : ℕ
@@ -81,8 +80,8 @@ pub record IsEmpty (cause : ℕ) (left : List ℕ) (answer : Answer) : Type 0 wh
 abbrev pub AnswersBy : Option Fault → List ℕ → Answer → Type 0
 AnswersBy fault output answer = IsDone fault output answer ⊎ (IsRefused fault [] answer ⊎ IsEmpty 5 [] answer)
 
--- What a call returns for a text: all bytes of the output and a NUL, with 0; or the text's fault and no
--- bytes; or 5 if memory ran out; or 11 if the options are out of their range.
+-- What a call returns for a text: all bytes of the output and a NUL, with 0; or the text's fault and no bytes; or 5 if memory ran
+-- out; or 11 if the options are out of their range.
 abbrev pub Answers : (fault : LimitsView → List ℕ → Option Fault) → (output : Rules → List ℕ → List ℕ) → Option LimitsView → List ℕ → Answer → Type 0
 Answers fault output None text answer = IsEmpty 11 [] answer
 Answers fault output (Some limits) text answer = AnswersBy (fault limits text) (output limits.rules text) answer
@@ -112,15 +111,14 @@ abbrev pub FillsBy : Option Fault → List ℕ → (room : List ℕ) → Answer 
 FillsBy fault output room answer =
     ((fault ≡ None) × IsPut output room answer) ⊎ (IsRefused fault room answer ⊎ IsEmpty 5 room answer)
 
--- What a call returns that puts its output into the caller's room: the output and a NUL, with 0; or its
--- length and 12 if the room is too small; or the text's fault; or 5 if memory ran out; or 11 if the options
--- are out of their range. The rest of the room is as it was.
+-- What a call returns that puts its output into the caller's room: the output and a NUL, with 0; or its length and 12 if the room
+-- is too small; or the text's fault; or 5 if memory ran out; or 11 if the options are out of their range. The rest of the room is
+-- as it was.
 abbrev pub Fills : (fault : LimitsView → List ℕ → Option Fault) → (output : Rules → List ℕ → List ℕ) → Option LimitsView → List ℕ → (room : List ℕ) → Answer → Type 0
 Fills fault output None text room answer = IsEmpty 11 room answer
 Fills fault output (Some limits) text room answer = FillsBy (fault limits text) (output limits.rules text) room answer
 
--- The line of a message, which is one line, is in the room, or its length is reported. If there is no message
--- the number is 11.
+-- The line of a message, which is one line, is in the room, or its length is reported. If there is no message the number is 11.
 abbrev pub TellsLine : Option Message → (room : List ℕ) → Answer → Type 0
 TellsLine None room answer = IsEmpty 11 room answer
 TellsLine (Some message) room answer = IsPut (message_line message) room answer × IsLine (message_line message)

@@ -1,5 +1,5 @@
--- The block structure of a list of lines (CommonMark 0.31.2, chapters 3 to 5), by cases on what the first
--- line starts, and then on the lines that are left.
+-- The block structure of a list of lines (CommonMark 0.31.2, chapters 3 to 5), by cases on what the first line starts, and then on
+-- the lines that are left.
 use Rattle.std.specs.Prelude.{ℕ, zero, suc, ◌+◌, ◌-◌, Bool, true, false, not, ◌&&◌, List, [], ◌∷◌, ◌++◌, length, Option, Some, None, ◌==◌, nat_lt, nat_le, if◌then◌else◌}
 use Rattle.std.specs.List.{flat_map, position}
 use Rattle.std.specs.Option.{option_map}
@@ -23,8 +23,7 @@ abbrev pub add_text : List ℕ → LineView → List ℕ
 add_text [] line = content_of line
 add_text (b ∷ bs) line = (b ∷ bs) ++ line_feed ∷ content_of line
 
--- what is left of a run of text after the definitions at its front; the spaces and tabs at its end are
--- removed
+-- what is left of a run of text after the definitions at its front; the spaces and tabs at its end are removed
 unfoldable pub rest_of : List ℕ → List ℕ
 rest_of source = (definitions_of (trim_end source)).left
 
@@ -45,8 +44,8 @@ by_underline (Some level) true interrupts = Underlines level
 by_underline (Some level) false interrupts = by_interruption interrupts
 by_underline None something_left interrupts = by_interruption interrupts
 
--- What the next line is to a run of text. An underline takes precedence over a thematic break and an item,
--- and it needs text above it that is no definition (4.3 Setext headings, 4.8 Paragraphs).
+-- What the next line is to a run of text. An underline takes precedence over a thematic break and an item, and it needs text above
+-- it that is no definition (4.3 Setext headings, 4.8 Paragraphs).
 unfoldable pub next_line : Rules → List ℕ → LineView → NextLine
 next_line rules source line = elim (is_blank line) [
   | true ↦ Ends
@@ -110,8 +109,8 @@ taken text lines following = record { text = text; lines = lines; following = fo
 abbrev pub closes_fence : Fence → LineView → Bool
 closes_fence fence line = nat_le (indent_of line) 3 && is_closing_fence fence (content_of line)
 
--- The lines after an opening code fence, up to the closing fence or the end. The indentation of the opening
--- fence is removed from each (4.5 Fenced code blocks). The text and the number of lines so far are given.
+-- The lines after an opening code fence, up to the closing fence or the end. The indentation of the opening fence is removed from
+-- each (4.5 Fenced code blocks). The text and the number of lines so far are given.
 unfoldable pub fenced : Fence → (columns : ℕ) → List ℕ → ℕ → List LineView → Taken
 fenced fence columns text n [] = taken text n []
 fenced fence columns text n (line ∷ lines) = elim (closes_fence fence line) [
@@ -135,8 +134,7 @@ html_to_blank text n (line ∷ lines) = elim (is_blank line) [
   | false ↦ html_to_blank (text ++ with_ending line) (suc n) lines
 ]
 
--- the lines of an HTML block: up to the one that meets its end condition, or up to a blank line, or to the
--- end (4.6 HTML blocks)
+-- the lines of an HTML block: up to the one that meets its end condition, or up to a blank line, or to the end (4.6 HTML blocks)
 unfoldable pub html_lines : HtmlKind → List LineView → Taken
 html_lines kind lines = if ends_at_blank_line kind then html_to_blank [] 0 lines else html_to_end kind [] 0 lines
 
@@ -144,8 +142,8 @@ html_lines kind lines = if ends_at_blank_line kind then html_to_blank [] 0 lines
 abbrev pub code_line : LineView → List ℕ
 code_line line = with_ending (strip_columns 4 line)
 
--- The lines of indented code. Blank lines belong to it only if a line of code follows them: those since the
--- last one are given too (4.4 Indented code blocks).
+-- The lines of indented code. Blank lines belong to it only if a line of code follows them: those since the last one are given too
+-- (4.4 Indented code blocks).
 unfoldable pub indented : List ℕ → ℕ → (blanks : List LineView) → List LineView → Taken
 indented text n blanks [] = taken text n blanks
 indented text n blanks (line ∷ lines) = elim (is_blank line) [
@@ -168,8 +166,8 @@ is_bare _ = false
 
 -- The cases; `parts` gives the parts of fewer lines, or of lines from which a marker was taken.
 module _ (rules : Rules) (parts : List LineView → Parts) where
-  -- The lines of a container, as long as each is inside it; those so far are given. A line without the marker
-  -- or the indentation is inside if those so far leave a paragraph open: it is a lazy continuation line.
+  -- The lines of a container, as long as each is inside it; those so far are given. A line without the marker or the indentation
+  -- is inside if those so far leave a paragraph open: it is a lazy continuation line.
   unfoldable pub inside : (Bool → LineView → Place) → List LineView → List LineView → Inside
   inside place so_far [] = record { inner = so_far; following = [] }
   inside place so_far (line ∷ lines) = elim (place (is_bare so_far) line) [
@@ -228,8 +226,8 @@ module _ (rules : Rules) (parts : List LineView → Parts) where
   parts_by_start (ItemStart marker) line lines = item_parts marker line lines
   parts_by_start TextLine line lines = text_parts line lines
 
-  -- The parts of lines by what the first line starts, given the parts of fewer lines. A blank line separates
-  -- blocks and is otherwise ignored (4.9 Blank lines).
+  -- The parts of lines by what the first line starts, given the parts of fewer lines. A blank line separates blocks and is
+  -- otherwise ignored (4.9 Blank lines).
   unfoldable pub parts_by_cases : List LineView → Parts
   parts_by_cases [] = none
   parts_by_cases (line ∷ lines) = elim (is_blank line) [ true ↦ blank (parts lines) | false ↦ parts_by_start (start_of rules line) line lines ]

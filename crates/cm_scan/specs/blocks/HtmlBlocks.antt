@@ -1,5 +1,5 @@
--- HTML blocks: the seven start conditions, and what ends each (CommonMark 0.31.2, 4.6 HTML blocks). A start
--- is read after the indentation of the line.
+-- HTML blocks: the seven start conditions, and what ends each (CommonMark 0.31.2, 4.6 HTML blocks). A start is read after the
+-- indentation of the line.
 use Rattle.std.specs.Prelude.{ℕ, Bool, true, false, not, ◌&&◌, ◌||◌, List, [], ◌∷◌, ◌++◌, Option, Some, None, ◌==◌, map, codes, if◌then◌else◌}
 use Rattle.std.specs.List.{list_any}
 use Rattle.cm_text.specs.Bytes.{less_than, greater_than}
@@ -93,8 +93,8 @@ is_any_tag_start text = elim (closing_tag text) [
   ]
 ]
 
--- The first start condition that the line meets. Each needs a `<`; without raw HTML in the rules there is
--- none. Condition 6 has `search` among its names, or `source` with the older rules.
+-- The first start condition that the line meets. Each needs a `<`; without raw HTML in the rules there is none. Condition 6
+-- has `search` among its names, or `source` with the older rules.
 unfoldable pub html_start : Rules → List ℕ → Option HtmlKind
 html_start rules [] = None
 html_start rules (b ∷ bs) = elim (b == less_than && rules.raw_html) [

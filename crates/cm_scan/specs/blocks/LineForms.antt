@@ -10,8 +10,7 @@ use Rattle.cm_text.specs.Bytes.{number_sign, right_parenthesis, asterisk, plus_s
 abbrev pub is_break_of : ℕ → List ℕ → Bool
 is_break_of marker text = list_all (λ b. b == marker || is_space_or_tab b) text && nat_le 3 (count_by (λ b. b == marker) text)
 
--- a thematic break: three or more `-`, `_` or `*`, with spaces and tabs between and after them (4.1 Thematic
--- breaks)
+-- a thematic break: three or more `-`, `_` or `*`, with spaces and tabs between and after them (4.1 Thematic breaks)
 unfoldable pub is_thematic_break : List ℕ → Bool
 is_thematic_break text = is_break_of hyphen text || is_break_of underscore text || is_break_of asterisk text
 
@@ -20,8 +19,8 @@ pub record Heading : Type 0 where
   pub level : ℕ
   pub content : List ℕ
 
--- A text without a closing run of `#`, if a space, a tab or nothing comes before that. The text ends in
--- neither space nor tab; the mark says that a space, a tab or nothing comes before it.
+-- A text without a closing run of `#`, if a space, a tab or nothing comes before that. The text ends in neither space nor
+-- tab; the mark says that a space, a tab or nothing comes before it.
 unfoldable pub without_closing : (after_gap : Bool) → List ℕ → List ℕ
 without_closing after_gap [] = []
 without_closing after_gap (b ∷ bs) =
@@ -59,18 +58,16 @@ abbrev pub backticks_or : Option Fence → Option Fence → Option Fence
 backticks_or (Some fence) other = given (not (list_any (λ b. b == backtick) fence.info)) fence
 backticks_or None other = other
 
--- an opening code fence: three or more backticks or tildes; after backticks the info string has no backtick
--- (4.5 Fenced code blocks)
+-- an opening code fence: three or more backticks or tildes; after backticks the info string has no backtick (4.5 Fenced code
+-- blocks)
 unfoldable pub opening_fence : List ℕ → Option Fence
 opening_fence text = backticks_or (fence_of backtick text) (fence_of tilde text)
 
--- a closing code fence: at least as many of the same character, followed only by spaces and tabs (4.5 Fenced
--- code blocks)
+-- a closing code fence: at least as many of the same character, followed only by spaces and tabs (4.5 Fenced code blocks)
 unfoldable pub is_closing_fence : Fence → List ℕ → Bool
 is_closing_fence fence text = nat_le fence.count (run_length fence.marker text) && is_blank_text (after_run fence.marker text)
 
--- a list marker: the kind of its list with the value of its number, and how many digits that has (5.2 List
--- items)
+-- a list marker: the kind of its list with the value of its number, and how many digits that has (5.2 List items)
 pub record ItemMarker : Type 0 where
   pub kind : ListKind
   pub digits : ℕ
@@ -121,8 +118,7 @@ ordered_marker text = marker_behind (front_of is_digit text) (skip is_digit text
 unfoldable pub item_marker : List ℕ → Option ItemMarker
 item_marker text = bullet_marker text <|> ordered_marker text
 
--- Two items are in one list if they have the same bullet, or the same delimiter after their numbers (5.3
--- Lists).
+-- Two items are in one list if they have the same bullet, or the same delimiter after their numbers (5.3 Lists).
 abbrev pub is_same_kind : ListKind → ListKind → Bool
 is_same_kind Dash Dash = true
 is_same_kind Plus Plus = true

@@ -1,6 +1,5 @@
--- The parts that the lines of a document form, in order (CommonMark 0.31.2, chapters 3 and 5). They determine
--- the tree of blocks, the owner of each line, whether a paragraph is left open, and how deep each line is
--- nested.
+-- The parts that the lines of a document form, in order (CommonMark 0.31.2, chapters 3 and 5). They determine the tree of blocks, the
+-- owner of each line, whether a paragraph is left open, and how deep each line is nested.
 use Rattle.std.specs.Prelude.{ℕ, suc, ◌+◌, Bool, true, false, not, ◌&&◌, ◌||◌, List, [], ◌∷◌, ◌++◌, nat_lt, Option, Some, None, map, replicate, if◌then◌else◌}
 use Rattle.cm_text.specs.Bytes.{space}
 use Rattle.cm_text.specs.Rules.{Rules}
@@ -21,10 +20,9 @@ use Rattle.cm_scan.specs.blocks.LineForms.{is_same_kind}
 abbrev pub as_space : ℕ → ℕ
 as_space b = if is_line_space b then space else b
 
--- The info string of a code block, given its source: backslash escapes and references are resolved (2.4
--- Backslash escapes, 2.5 Entity and numeric character references). Without raw HTML in the rules each line
--- feed, form feed and carriage return in it is a space, so it is one line with the same words for a reader of
--- HTML.
+-- The info string of a code block, given its source: backslash escapes and references are resolved (2.4 Backslash escapes, 2.5 Entity
+-- and numeric character references). Without raw HTML in the rules each line feed, form feed and carriage return in it is a space, so
+-- it is one line with the same words for a reader of HTML.
 unfoldable pub info_of : Rules → List ℕ → List ℕ
 info_of rules source = if rules.raw_html then unescape source else map as_space (unescape source)
 
@@ -37,8 +35,7 @@ pub data LeafPart : Type 0 where
   thematic_break : LeafPart
   definition : List ℕ → List ℕ → List ℕ → LeafPart
 
--- The parts of a list of lines: a blank line; a leaf block, with its number of lines; a block quote or a
--- list, with the parts inside.
+-- The parts of a list of lines: a blank line; a leaf block, with its number of lines; a block quote or a list, with the parts inside.
 mutual
   pub data Parts : Type 0 where
     none : Parts
@@ -52,8 +49,8 @@ mutual
     last_item : Parts → ItemParts
     item : Parts → ℕ → ItemParts → ItemParts
 
--- a leaf block of the tree; in a destination and a title backslash escapes and references are resolved (2.4
--- Backslash escapes, 2.5 Entity and numeric character references), and a label is its source
+-- a leaf block of the tree; in a destination and a title backslash escapes and references are resolved (2.4 Backslash escapes, 2.5
+-- Entity and numeric character references), and a label is its source
 abbrev pub leaf_block : LeafPart → Block
 leaf_block (paragraph source) = Paragraph (raw_inlines source)
 leaf_block (heading level source) = Heading level (raw_inlines source)
@@ -68,8 +65,7 @@ is_open_leaf (paragraph source) = true
 is_open_leaf (definition label dest title) = true
 is_open_leaf _ = false
 
--- Whether the last line is a paragraph's or a definition's, at any depth; the mark is the answer for the
--- lines before.
+-- Whether the last line is a paragraph's or a definition's, at any depth; the mark is the answer for the lines before.
 unfoldable mutual
   pub leaves_open_after : (before : Bool) → Parts → Bool
   leaves_open_after before none = before
@@ -82,8 +78,7 @@ unfoldable mutual
   items_leave_open (last_item inside) = leaves_open_after false inside
   items_leave_open (item inside blanks items) = items_leave_open items
 
--- the last line is a paragraph's or a definition's, at any depth, so a lazy continuation line can follow (5.1
--- Block quotes)
+-- the last line is a paragraph's or a definition's, at any depth, so a lazy continuation line can follow (5.1 Block quotes)
 unfoldable pub leaves_paragraph_open : Parts → Bool
 leaves_paragraph_open parts = leaves_open_after false parts
 
@@ -107,8 +102,8 @@ unfoldable pub put_leaves : List (LeafPart × ℕ) → Parts → Parts
 put_leaves [] rest = rest
 put_leaves (x ∷ xs) rest = leaf x.0 x.1 (put_leaves xs rest)
 
--- Whether the last line is blank as seen at this level: the first line of an item and each line of a block
--- quote has a marker. The mark is the answer for the lines before.
+-- Whether the last line is blank as seen at this level: the first line of an item and each line of a block quote has a marker. The
+-- mark is the answer for the lines before.
 unfoldable mutual
   pub ends_blank_after : (before : Bool) → Parts → Bool
   ends_blank_after before none = before
@@ -122,8 +117,8 @@ unfoldable mutual
   items_end_blank (last_item inside) = ends_blank_after false inside
   items_end_blank (item inside blanks items) = items_end_blank items
 
--- A blank line comes directly before the second or a later block. The marks are of the lines before: whether
--- there is a block, and whether the last one is blank.
+-- A blank line comes directly before the second or a later block. The marks are of the lines before: whether there is a block, and
+-- whether the last one is blank.
 unfoldable pub is_separated : (block_before blank_before : Bool) → Parts → Bool
 is_separated block_before blank_before none = false
 is_separated block_before blank_before (blank rest) = is_separated block_before true rest
@@ -131,8 +126,8 @@ is_separated block_before blank_before (leaf x lines rest) = block_before && bla
 is_separated block_before blank_before (quote inside rest) = block_before && blank_before || is_separated true false rest
 is_separated block_before blank_before (list kind items rest) = block_before && blank_before || is_separated true (items_end_blank items) rest
 
--- A list is loose if a blank line comes directly before its second or a later item, or directly before the
--- second or a later block of an item. Otherwise it is tight (5.3 Lists).
+-- A list is loose if a blank line comes directly before its second or a later item, or directly before the second or a later block of
+-- an item. Otherwise it is tight (5.3 Lists).
 unfoldable pub is_loose : ItemParts → Bool
 is_loose (last_item inside) = is_separated false false inside
 is_loose (item inside blanks items) = is_separated false false inside || nat_lt 0 blanks || items_end_blank (last_item inside) || is_loose items
@@ -179,8 +174,8 @@ abbrev pub marked_first : Parts → List Owner → List Owner
 marked_first (blank rest) owners = marked_head owners
 marked_first _ owners = owners
 
--- The owner of each line, after the given number of leaves: the number of its leaf, or none if only a
--- container's marker was removed from it, or it is blank.
+-- The owner of each line, after the given number of leaves: the number of its leaf, or none if only a container's marker was removed
+-- from it, or it is blank.
 unfoldable mutual
   pub owners_after : ℕ → Parts → List Owner
   owners_after before none = []
@@ -194,8 +189,7 @@ unfoldable mutual
   item_owners_after before (item inside blanks items) =
       marked_first inside (owners_after before inside) ++ replicate blanks Blank ++ item_owners_after (before + leaf_count inside) items
 
--- The owner of each line: the number of its leaf, or none if only a container's marker was removed from it,
--- or it is blank.
+-- The owner of each line: the number of its leaf, or none if only a container's marker was removed from it, or it is blank.
 unfoldable pub line_owners : Parts → List Owner
 line_owners parts = owners_after 0 parts
 
@@ -212,8 +206,8 @@ unfoldable mutual
   item_depths_of (last_item inside) = map suc (depths_of inside)
   item_depths_of (item inside blanks items) = map suc (depths_of inside) ++ replicate blanks 0 ++ item_depths_of items
 
--- the link reference definitions in the order of the document, each with its label, destination and title
--- (4.7 Link reference definitions)
+-- the link reference definitions in the order of the document, each with its label, destination and title (4.7 Link reference
+-- definitions)
 unfoldable mutual
   pub definitions_in : Parts → List (List ℕ × Target)
   definitions_in none = []

@@ -48,8 +48,8 @@ start_by true indented start = TextLine
 start_by false true start = IndentedCode
 start_by false false start = start
 
--- What a line starts: indented code if it has four columns of indentation or more, and text if it is a lazy
--- continuation line; else the first that fits.
+-- What a line starts: indented code if it has four columns of indentation or more, and text if it is a lazy continuation line; else
+-- the first that fits.
 unfoldable pub start_of : Rules → LineView → Start
 start_of rules line = start_by line.lazy (nat_le 4 (indent_of line)) (start_of_content rules (content_of line))
 
@@ -77,8 +77,8 @@ can_interrupt (ItemStart marker) line = starts_at_one marker.kind && not (is_bla
 can_interrupt IndentedCode line = false
 can_interrupt TextLine line = false
 
--- The line can interrupt a paragraph: indented code and HTML of the last kind can't (4.4 Indented code
--- blocks, 4.6 HTML blocks), and an item can only if it isn't empty and its number is 1 (5.2 List items).
+-- The line can interrupt a paragraph: indented code and HTML of the last kind can't (4.4 Indented code blocks, 4.6 HTML blocks),
+-- and an item can only if it isn't empty and its number is 1 (5.2 List items).
 unfoldable pub interrupts_paragraph : Rules → LineView → Bool
 interrupts_paragraph rules line = can_interrupt (start_of rules line) line
 
@@ -87,13 +87,13 @@ abbrev pub underline_if : Bool → List ℕ → Option ℕ
 underline_if true text = underline text
 underline_if false text = None
 
--- the level that the line gives to the text above it as a setext heading underline; a lazy continuation line
--- is none (4.3 Setext headings)
+-- the level that the line gives to the text above it as a setext heading underline; a lazy continuation line is none (4.3 Setext
+-- headings)
 unfoldable pub underline_of : LineView → Option ℕ
 underline_of line = underline_if (not line.lazy && nat_le (indent_of line) 3) (content_of line)
 
--- Where a line that follows those of an open container is: in it, given as what is left of the line; in it
--- only if they leave a paragraph open; or after it.
+-- Where a line that follows those of an open container is: in it, given as what is left of the line; in it only if they leave a
+-- paragraph open; or after it.
 pub data Place : Type 0 where
   Stays : LineView → Place
   StaysIfOpen : LineView → Place
@@ -110,8 +110,7 @@ may_be_lazy _ = false
 unfoldable pub place_if_lazy : Rules → LineView → Place
 place_if_lazy rules line = elim (not (is_blank line) && may_be_lazy (start_of rules line)) [ true ↦ StaysIfOpen (as_lazy line) | false ↦ Leaves ]
 
--- what is left of a line after the marker of a block quote, and one column of space if there is one (5.1
--- Block quotes)
+-- what is left of a line after the marker of a block quote, and one column of space if there is one (5.1 Block quotes)
 unfoldable pub behind_quote_marker : LineView → LineView
 behind_quote_marker line = strip_columns 1 (past 1 line)
 
@@ -120,13 +119,12 @@ abbrev pub quote_place : Rules → Start → LineView → Place
 quote_place rules QuoteMarker line = Stays (behind_quote_marker line)
 quote_place rules _ line = place_if_lazy rules line
 
--- Where a line that follows those of an open block quote is: inside if it has the marker again, else inside
--- only as a lazy continuation line (5.1 Block quotes).
+-- Where a line that follows those of an open block quote is: inside if it has the marker again, else inside only as a lazy
+-- continuation line (5.1 Block quotes).
 unfoldable pub place_in_quote : Rules → LineView → Place
 place_in_quote rules line = quote_place rules (start_of rules line) line
 
--- the columns of space between a list marker and the content: 1 to 4, or 1 if there are more or the rest is
--- blank
+-- the columns of space between a list marker and the content: 1 to 4, or 1 if there are more or the rest is blank
 unfoldable pub content_offset : LineView → ℕ
 content_offset behind = if is_blank behind || nat_lt 4 (indent_of behind) then 1 else indent_of behind
 
@@ -138,17 +136,16 @@ content_column marker line = indent_of line + marker_width marker + content_offs
 unfoldable pub first_content : ItemMarker → LineView → LineView
 first_content marker line = let behind = behind_marker marker line in strip_columns (content_offset behind) behind
 
--- the same, given whether the line is blank, whether there is only a marker so far, and whether it reaches
--- the column
+-- the same, given whether the line is blank, whether there is only a marker so far, and whether it reaches the column
 abbrev pub item_place : (blank bare reaches : Bool) → (inner : LineView) → (otherwise : Place) → Place
 item_place true true reaches inner otherwise = Leaves
 item_place true false reaches inner otherwise = Stays inner
 item_place false bare true inner otherwise = Stays inner
 item_place false bare false inner otherwise = otherwise
 
--- Where a line that follows those of an open item is: inside if it is blank or reaches the content column,
--- else inside only as a lazy continuation line. After a marker with nothing on its line a blank line ends the
--- item: the mark says that there is only such a marker so far (5.2 List items).
+-- Where a line that follows those of an open item is: inside if it is blank or reaches the content column, else inside only as a
+-- lazy continuation line. After a marker with nothing on its line a blank line ends the item: the mark says that there is only such
+-- a marker so far (5.2 List items).
 unfoldable pub place_in_item : Rules → (column : ℕ) → (bare : Bool) → LineView → Place
 place_in_item rules column bare line = elim line.lazy [
   | true ↦ place_if_lazy rules line

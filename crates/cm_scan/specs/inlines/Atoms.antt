@@ -1,5 +1,5 @@
--- The atoms of a leaf's source (CommonMark 0.31.2, chapter 6). Its lines are separated by line feeds. The
--- byte at a place says what is tried there. If nothing fits, that byte is text.
+-- The atoms of a leaf's source (CommonMark 0.31.2, chapter 6). Its lines are separated by line feeds. The byte at a place says
+-- what is tried there. If nothing fits, that byte is text.
 use Rattle.std.specs.Prelude.{ℕ, Bool, true, false, ◌&&◌, ◌||◌, ◌==◌, nat_le, if◌then◌else◌, List, [], ◌∷◌, drop, reverse, replicate, slice_get, Option, Some, None, codes, chars, encode_utf8_all}
 use Rattle.cm_text.specs.Bytes.{line_feed, space, exclamation_mark, ampersand, asterisk, less_than, left_bracket, backslash, right_bracket, underscore, backtick, tilde}
 use Rattle.cm_text.specs.Rules.{Rules}
@@ -58,8 +58,8 @@ backslash_atom text = elim (after_word (codes "\\\n") text) [
 unfoldable pub reference_atom : List ℕ → Option AtomRead
 reference_atom text = elim (reference text) [ Some found ↦ read (Plain (encode_utf8_all found.0)) (drop found.1 text) | None ↦ None ]
 
--- A line ending with the spaces before it: a hard line break after two spaces or more, or else a soft one
--- (6.7 Hard line breaks, 6.8 Soft line breaks).
+-- A line ending with the spaces before it: a hard line break after two spaces or more, or else a soft one (6.7 Hard line breaks,
+-- 6.8 Soft line breaks).
 unfoldable pub break_atom : List ℕ → Option AtomRead
 break_atom text = elim (after_word (codes "\n") (after_run space text)) [
   | Some rest ↦ read (Whole (if nat_le 2 (run_length space text) then Hard else Soft)) rest
@@ -99,8 +99,8 @@ tilde_atom rules before text = elim (rules.strike && run_length tilde text == 2)
 unfoldable pub bang_atom : List ℕ → Option AtomRead
 bang_atom text = elim (after_word (codes "![") text) [ Some rest ↦ read (OpenBracket true) rest | None ↦ None ]
 
--- the bytes with which an atom other than one byte of text can start: those of markup, a line feed, and a
--- space, since a line ending may follow
+-- the bytes with which an atom other than one byte of text can start: those of markup, a line feed, and a space, since a line
+-- ending may follow
 abbrev pub is_markup : ℕ → Bool
 is_markup b =
     b == line_feed || b == space || b == exclamation_mark || b == ampersand || b == asterisk || b == less_than || b == left_bracket
@@ -128,7 +128,7 @@ abbrev pub or_byte : ℕ → List ℕ → Option AtomRead → AtomRead
 or_byte b bs None = byte_atom b bs
 or_byte b bs (Some a) = a
 
--- The atom with which a source starts, by its first byte: characters of text, a whole inline, a delimiter
--- run, `[`, `![` or `]`. The bytes before it are in reverse.
+-- The atom with which a source starts, by its first byte: characters of text, a whole inline, a delimiter run, `[`, `![` or `]`.
+-- The bytes before it are in reverse.
 unfoldable pub atom_at : Rules → (before : List ℕ) → ℕ → List ℕ → AtomRead
 atom_at rules before b bs = elim (is_markup b) [ true ↦ or_byte b bs (markup_atom rules before b bs) | false ↦ byte_atom b bs ]

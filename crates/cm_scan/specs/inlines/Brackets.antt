@@ -1,5 +1,4 @@
--- Links and images by their brackets (CommonMark 0.31.2, 6.3 Links, 6.4 Images). The items so far are in
--- reverse.
+-- Links and images by their brackets (CommonMark 0.31.2, 6.3 Links, 6.4 Images). The items so far are in reverse.
 use Rattle.std.specs.Prelude.{ℕ, ◌-◌, Bool, true, false, not, ◌&&◌, ◌||◌, List, [], ◌∷◌, ◌++◌, length, take, reverse, Option, Some, None, codes, if◌then◌else◌}
 use Rattle.std.specs.FinMap.{get}
 use Rattle.cm_text.specs.Bytes.{right_bracket}
@@ -86,8 +85,8 @@ abbrev pub end_if_followed : Rules → Option LinkEnd → Option LinkEnd
 end_if_followed rules None = None
 end_if_followed rules (Some end) = elim (is_followed rules end.dest) [ true ↦ Some end | false ↦ None ]
 
--- What follows a `]` with this source between it and its opener: the end of an inline link, or else a
--- reference, if the rules follow its address (6.3 Links, 6.4 Images).
+-- What follows a `]` with this source between it and its opener: the end of an inline link, or else a reference, if the rules follow its
+-- address (6.3 Links, 6.4 Images).
 unfoldable pub end_at : Rules → Defined → (between : List ℕ) → List ℕ → Option LinkEnd
 end_at rules defined between text = elim (end_if_followed rules (inline_end text)) [
   | Some end ↦ Some end
@@ -137,8 +136,8 @@ brackets_are_text found = bracket_is_text (reverse found.inside ++ Characters (b
 unfoldable pub source_up_to : (source left : List ℕ) → List ℕ
 source_up_to source left = take (length source - length left) source
 
--- A `]` with an opener, and what follows it. Links may not contain other links, at any level of nesting: a
--- `[` with a link after it is text.
+-- A `]` with an opener, and what follows it. Links may not contain other links, at any level of nesting: a `[` with a link after it is
+-- text.
 unfoldable pub closed_by_bracket : Rules → Defined → OpenerFound → List ℕ → Bracketed
 closed_by_bracket rules defined found rest = elim (not found.image && holds_link found.inside) [
   | true ↦ record { items = brackets_are_text found; rest = rest }
@@ -148,9 +147,8 @@ closed_by_bracket rules defined found rest = elim (not found.image && holds_link
   ]
 ]
 
--- A `]` makes a link or an image with the nearest `[` or `![` that is still open, if what follows is the end
--- of one; otherwise both brackets are text. Links may not contain other links, at any level of nesting (6.3
--- Links, 6.4 Images).
+-- A `]` makes a link or an image with the nearest `[` or `![` that is still open, if what follows is the end of one; otherwise both
+-- brackets are text. Links may not contain other links, at any level of nesting (6.3 Links, 6.4 Images).
 unfoldable pub close_bracket : Rules → Defined → List Item → List ℕ → Bracketed
 close_bracket rules defined items rest = elim (last_opener items []) [
   | Some found ↦ closed_by_bracket rules defined found rest

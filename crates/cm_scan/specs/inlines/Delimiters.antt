@@ -34,9 +34,8 @@ is_left_flanking before other = true
 abbrev pub is_right_flanking : Neighbour → Neighbour → Bool
 is_right_flanking before after = is_left_flanking after before
 
--- A run can open emphasis. Rules 1 and 5: a run of `*` can if it is left-flanking, and so can a run of `~`.
--- Rules 2 and 6: a run of `_` can if it is left-flanking, and either not right-flanking or preceded by a
--- Unicode punctuation character.
+-- A run can open emphasis. Rules 1 and 5: a run of `*` can if it is left-flanking, and so can a run of `~`. Rules 2 and 6: a run
+-- of `_` can if it is left-flanking, and either not right-flanking or preceded by a Unicode punctuation character.
 abbrev pub may_open : ℕ → Neighbour → Neighbour → Bool
 may_open c before after = is_left_flanking before after && (not (c == underscore) || not (is_right_flanking before after) || is_punctuation before)
 
@@ -44,8 +43,8 @@ may_open c before after = is_left_flanking before after && (not (c == underscore
 abbrev pub may_close : ℕ → Neighbour → Neighbour → Bool
 may_close c before after = may_open c after before
 
--- A delimiter run: its character, its length, how many of its characters are left, and whether it can open
--- and can close emphasis.
+-- A delimiter run: its character, its length, how many of its characters are left, and whether it can open and can close
+-- emphasis.
 pub record Run : Type 0 where
   pub character : ℕ
   pub whole : ℕ
@@ -59,10 +58,9 @@ is_multiple_of_3 n = n % 3 == 0
 abbrev pub is_both : Run → Bool
 is_both run = run.opens && run.closes
 
--- Rules 9 and 10: an opener and a closer have the same character. If one of the delimiters can both open and
--- close emphasis, then the sum of the lengths of the delimiter runs containing the opening and closing
--- delimiters must not be a multiple of 3 unless both lengths are multiples of 3. Runs of tildes have no such
--- rule.
+-- Rules 9 and 10: an opener and a closer have the same character. If one of the delimiters can both open and close emphasis, then
+-- the sum of the lengths of the delimiter runs containing the opening and closing delimiters must not be a multiple of 3 unless
+-- both lengths are multiples of 3. Runs of tildes have no such rule.
 unfoldable pub delimiters_match : Run → Run → Bool
 delimiters_match closer opener =
     closer.character == opener.character

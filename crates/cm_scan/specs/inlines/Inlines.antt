@@ -23,8 +23,8 @@ add_atom rules defined items CloseBracket rest = close_bracket rules defined ite
 unfoldable pub item_step : Rules → Defined → (before : List ℕ) → ℕ → List ℕ → List Item → Bracketed
 item_step rules defined before b bs items = let a = atom_at rules before b bs in add_atom rules defined items a.atom a.rest
 
--- The items after all of the source from a place on. The bytes before that place and the items so far are in
--- reverse; the given number of bytes from there on belong to what was read last.
+-- The items after all of the source from a place on. The bytes before that place and the items so far are in reverse; the given
+-- number of bytes from there on belong to what was read last.
 unfoldable pub items_after : Rules → Defined → ℕ → (before : List ℕ) → List ℕ → List Item → List Item
 items_after rules defined n before [] items = items
 items_after rules defined (suc n) before (b ∷ bs) items = items_after rules defined n (b ∷ before) bs items
@@ -36,8 +36,8 @@ items_after rules defined zero before (b ∷ bs) items =
 unfoldable pub items_of : Rules → Defined → List ℕ → List Item
 items_of rules defined source = reverse (items_after rules defined zero [] source [])
 
--- The inlines of a leaf with this source, given the link reference definitions: its items, read from the left
--- with links and images made, and then its emphasis.
+-- The inlines of a leaf with this source, given the link reference definitions: its items, read from the left with links and
+-- images made, and then its emphasis.
 unfoldable pub inlines_of : Rules → Defined → List ℕ → List Inline
 inlines_of rules defined source = emphasis_of (items_of rules defined source)
 

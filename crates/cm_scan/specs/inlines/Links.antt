@@ -1,5 +1,5 @@
--- Link labels, destinations, titles and link reference definitions (CommonMark 0.31.2, 6.3 Links, 4.7 Link
--- reference definitions). A text is a leaf's source: its lines are separated by line feeds.
+-- Link labels, destinations, titles and link reference definitions (CommonMark 0.31.2, 6.3 Links, 4.7 Link reference
+-- definitions). A text is a leaf's source: its lines are separated by line feeds.
 use Rattle.std.specs.Prelude.{ℕ, zero, suc, ◌-◌, Bool, true, false, not, ◌&&◌, ◌||◌, List, [], ◌∷◌, length, Option, Some, None, ◌==◌, nat_le, if◌then◌else◌, count_by, codes}
 use Rattle.std.specs.List.{list_all}
 use Rattle.cm_text.specs.Bytes.{line_feed, space, quotation_mark, apostrophe, left_parenthesis, right_parenthesis, less_than, greater_than, left_bracket, backslash, right_bracket}
@@ -27,8 +27,8 @@ abbrev pub escapes_next : ℕ → List ℕ → Bool
 escapes_next b [] = false
 escapes_next b (c ∷ cs) = b == backslash && is_ascii_punct c
 
--- Up to the first byte that closes, which is removed; none if a forbidden byte comes before it. The mark says
--- that the first byte is escaped: it neither closes nor is forbidden.
+-- Up to the first byte that closes, which is removed; none if a forbidden byte comes before it. The mark says that the first byte
+-- is escaped: it neither closes nor is forbidden.
 unfoldable pub up_to_closing : (ℕ → Bool) → (ℕ → Bool) → (escaped : Bool) → List ℕ → Option Reading
 up_to_closing closes forbidden escaped [] = None
 up_to_closing closes forbidden true (b ∷ bs) = behind b (up_to_closing closes forbidden false bs)
@@ -59,9 +59,8 @@ label (b ∷ bs) = elim (b == left_bracket) [
 abbrev pub opened_by : ℕ → ℕ → ℕ
 opened_by opened b = if b == left_parenthesis then suc opened else (if b == right_parenthesis then opened - 1 else opened)
 
--- Up to the first space, ASCII control character, or right parenthesis without a left one. None if a
--- parenthesis is still open then, or more than 32 are open at once. The mark says that the first byte is
--- escaped.
+-- Up to the first space, ASCII control character, or right parenthesis without a left one. None if a parenthesis is still open
+-- then, or more than 32 are open at once. The mark says that the first byte is escaped.
 unfoldable pub bare_run : ℕ → (escaped : Bool) → List ℕ → Option Reading
 bare_run opened escaped [] = given (opened == 0) (record { text = []; rest = [] })
 bare_run opened true (b ∷ bs) = behind b (bare_run opened false bs)
@@ -73,10 +72,9 @@ bare_run opened false (b ∷ bs) = elim (b == space || is_control b || (b == rig
 abbrev pub is_filled : Reading → Bool
 is_filled r = not (is_empty r.text)
 
--- A link destination is zero or more characters between `<` and `>` without line endings or unescaped `<` or
--- `>`; or a nonempty sequence of characters that does not start with `<`, does not include ASCII control
--- characters or space character, and includes parentheses only if they are escaped or balanced, at most 32
--- deep.
+-- A link destination is zero or more characters between `<` and `>` without line endings or unescaped `<` or `>`; or a nonempty
+-- sequence of characters that does not start with `<`, does not include ASCII control characters or space character, and includes
+-- parentheses only if they are escaped or balanced, at most 32 deep.
 unfoldable pub destination : List ℕ → Option Reading
 destination [] = None
 destination (b ∷ bs) = elim (b == less_than) [
@@ -100,8 +98,8 @@ title_in b text =
     else (if b == left_parenthesis then up_to_closing (λ c. c == right_parenthesis) (λ c. c == left_parenthesis) false text
     else None))
 
--- A link title is between `"`, between `'`, or between `(` and `)`. Although link titles may span multiple
--- lines, they may not contain a blank line.
+-- A link title is between `"`, between `'`, or between `(` and `)`. Although link titles may span multiple lines, they may not
+-- contain a blank line.
 unfoldable pub title : List ℕ → Option Reading
 title [] = None
 title (b ∷ bs) = keep_if has_no_blank_line (title_in b bs)
@@ -164,7 +162,6 @@ definitions_within (suc n) text = elim (link_definition text) [
   | None ↦ record { taken = []; left = text }
 ]
 
--- the link reference definitions at the front of a text, and what is left of it (4.7 Link reference
--- definitions)
+-- the link reference definitions at the front of a text, and what is left of it (4.7 Link reference definitions)
 unfoldable pub definitions_of : List ℕ → Definitions
 definitions_of text = definitions_within (length text) text

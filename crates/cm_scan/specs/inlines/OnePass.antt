@@ -1,5 +1,5 @@
--- Emphasis in one pass from the left (CommonMark 0.31.2, Appendix: A parsing strategy). Each run that can
--- close emphasis looks for its nearest opener.
+-- Emphasis in one pass from the left (CommonMark 0.31.2, Appendix: A parsing strategy). Each run that can close emphasis looks for
+-- its nearest opener.
 use Rattle.std.specs.Prelude.{◌≡◌, ℕ, zero, suc, ◌-◌, true, false, List, [], ◌∷◌, ◌++◌, reverse, Some, None, codes, nat_le}
 use Rattle.cm_tree.specs.declared.tree.Inline.TheVariants.{Text, Emph, Strong}
 use Rattle.cm_scan.specs.inlines.Delimiters.{Run}

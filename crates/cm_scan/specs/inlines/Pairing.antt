@@ -1,12 +1,11 @@
--- The items of a leaf while it is read, and emphasis by repeated pairing (CommonMark 0.31.2, 6.2 Emphasis and
--- strong emphasis).
+-- The items of a leaf while it is read, and emphasis by repeated pairing (CommonMark 0.31.2, 6.2 Emphasis and strong emphasis).
 use Rattle.std.specs.Prelude.{ℕ, zero, suc, ◌-◌, Bool, true, false, ◌&&◌, ◌==◌, nat_le, List, [], ◌∷◌, ◌++◌, reverse, replicate, sum_by, Option, Some, None, codes, if◌then◌else◌}
 use Rattle.cm_tree.specs.declared.tree.Inline.{Inline}
 use Rattle.cm_tree.specs.declared.tree.Inline.TheVariants.{Text, Emph, Strong, Strike}
 use Rattle.cm_scan.specs.inlines.Delimiters.{Run, delimiters_match}
 
--- Characters of text; an inline that is finished; a finished link that a `]` made, or an image that contains
--- one; a delimiter run; and `[` or `![` with the source after it.
+-- Characters of text; an inline that is finished; a finished link that a `]` made, or an image that contains one; a delimiter run;
+-- and `[` or `![` with the source after it.
 pub data Item : Type 0 where
   Characters : List ℕ → Item
   Finished : Inline → Item
@@ -70,8 +69,8 @@ nearest_opener closer (Delimiters run ∷ before) inside = elim (run.opens && de
 ]
 nearest_opener closer (item ∷ before) inside = nearest_opener closer before (item ∷ inside)
 
--- The pair of the leftmost run that can close emphasis and has an opener, with the nearest one. The items
--- before are given in reverse, and none of them is such a run.
+-- The pair of the leftmost run that can close emphasis and has an opener, with the nearest one. The items before are given in
+-- reverse, and none of them is such a run.
 unfoldable pub pair_leftmost : List Item → List Item → Option (List Item)
 pair_leftmost before [] = None
 pair_leftmost before (Delimiters run ∷ after) = elim run.closes [
@@ -97,8 +96,8 @@ abbrev pub room : Item → ℕ
 room (Delimiters run) = suc run.left
 room _ = zero
 
--- The items once no run can close emphasis with a matching opener before it: as long as there are such runs,
--- the leftmost and its nearest opener make a pair.
+-- The items once no run can close emphasis with a matching opener before it: as long as there are such runs, the leftmost and its
+-- nearest opener make a pair.
 unfoldable pub pair_all : List Item → List Item
 pair_all items = pairs_within (sum_by room items) items
 

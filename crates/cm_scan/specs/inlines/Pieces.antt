@@ -23,8 +23,7 @@ in_pieces items = flat_map pieces_of items
 abbrev pub TextsInPieces : Type 0
 TextsInPieces = (items : List Item) → emphasis_of (in_pieces items) ≡ emphasis_of items
 
--- Items that differ only in how their texts are cut still differ only in that after more of the source is
--- read.
+-- Items that differ only in how their texts are cut still differ only in that after more of the source is read.
 abbrev pub ReadingInPieces : Type 0
 ReadingInPieces = (rules : Rules) (defined : Defined) (n : ℕ) (before source : List ℕ) (items others : List Item)
     → in_pieces (reverse items) ≡ in_pieces (reverse others)

@@ -1,5 +1,5 @@
--- The parts of lines, case by case. The definition computes up to a bound; these laws don't mention it, and
--- what is built on the block structure uses them.
+-- The parts of lines, case by case. The definition computes up to a bound; these laws don't mention it, and what is built on the
+-- block structure uses them.
 use Rattle.std.specs.Prelude.{◌≡◌, ℕ, suc, ◌+◌, ◌==◌, Bool, true, false, ◌&&◌, if◌then◌else◌, List, [], ◌∷◌, ◌++◌, length, map, Option, Some, None, ⊤}
 use Rattle.std.specs.List.{list_all}
 use Rattle.std.specs.Option.{option_map}
@@ -61,14 +61,13 @@ abbrev pub CodeCase : Type 0
 CodeCase = (rules : Rules) (line : LineView) (lines : List LineView) → Begins rules line IndentedCode
     → let t = indented (code_line line) 1 [] lines in parts_of rules (line ∷ lines) ≡ leaf (code [] t.text) t.lines (parts_of rules t.following)
 
--- Text starts a run, whose leaves are definitions and then a paragraph or a heading (4.7 Link reference
--- definitions, 4.8 Paragraphs, 4.3 Setext headings).
+-- Text starts a run, whose leaves are definitions and then a paragraph or a heading (4.7 Link reference definitions, 4.8 Paragraphs,
+-- 4.3 Setext headings).
 abbrev pub TextCase : Type 0
 TextCase = (rules : Rules) (line : LineView) (lines : List LineView) → Begins rules line TextLine
     → let run = text_run rules (content_of line) lines in parts_of rules (line ∷ lines) ≡ put_leaves (leaves_of_run run) (parts_of rules run.following)
 
--- what is left of a line in a container, if it is inside; the mark says whether the lines so far leave a
--- paragraph open
+-- what is left of a line in a container, if it is inside; the mark says whether the lines so far leave a paragraph open
 abbrev pub goes_inward : Place → Bool → Option LineView
 goes_inward (Stays inner) left_open = Some inner
 goes_inward (StaysIfOpen inner) true = Some inner
@@ -79,8 +78,7 @@ goes_inward Leaves left_open = None
 abbrev pub next_inward : Rules → (Bool → LineView → Place) → List LineView → LineView → Option LineView
 next_inward rules place so_far line = goes_inward (place (is_bare so_far) line) (leaves_paragraph_open (parts_of rules so_far))
 
--- The lines are all in the container, one after another, after those so far; together they are the inner
--- ones.
+-- The lines are all in the container, one after another, after those so far; together they are the inner ones.
 pub data AllStay (rules : Rules) (place : Bool → LineView → Place) : List LineView → List LineView → List LineView → Type 0 where
   no_more : {so_far : List LineView} → AllStay rules place so_far [] so_far
   one_stays : {so_far lines inner : List LineView} {line i : LineView} → next_inward rules place so_far line ≡ Some i
@@ -126,8 +124,7 @@ pub record LeavesNamed : Type 0 where
   pub in_leaf : Bool
   pub count : ℕ
 
--- One more line: it starts the next leaf, goes on with the last one, or belongs to none; anything else is out
--- of order.
+-- One more line: it starts the next leaf, goes on with the last one, or belongs to none; anything else is out of order.
 abbrev pub name_line : LeavesNamed → Owner → Option LeavesNamed
 name_line so_far (Leaf number) =
     if number == suc so_far.count then Some (record { in_leaf = true; count = suc so_far.count })
@@ -143,8 +140,8 @@ abbrev pub name_lines : Option LeavesNamed → List Owner → Option LeavesNamed
 name_lines so_far [] = so_far
 name_lines so_far (owner ∷ owners) = name_lines (name_next so_far owner) owners
 
--- How many leaves the lines have, if the lines of each leaf are one unbroken run, and the runs are in the
--- order of the leaves' numbers.
+-- How many leaves the lines have, if the lines of each leaf are one unbroken run, and the runs are in the order of the leaves'
+-- numbers.
 abbrev pub leaves_named : List Owner → Option ℕ
 leaves_named owners = option_map (λ (named : LeavesNamed). named.count) (name_lines (Some (record { in_leaf = false; count = 0 })) owners)
 
@@ -166,8 +163,8 @@ leaves_step _ = 1
 abbrev pub leaves_in : List Block → ℕ
 leaves_in blocks = total (map (fold-Block ℕ leaves_step) blocks)
 
--- The leaves of the tree are those that the lines name: each leaf has one nonempty run of lines, and the runs
--- are in order. Every other line belongs to a marker or is blank.
+-- The leaves of the tree are those that the lines name: each leaf has one nonempty run of lines, and the runs are in order. Every
+-- other line belongs to a marker or is blank.
 abbrev pub RunsInOrder : Type 0
 RunsInOrder = (rules : Rules) (lines : List LineView) → AreLines lines → leaves_named (owners_of rules lines) ≡ Some (leaves_in (blocks_of rules lines))
 

@@ -6,8 +6,8 @@ use Rattle.cm_scan.specs.inlines.Links.{Reading, behind}
 use Rattle.cm_scan.specs.spans.Autolinks.{ends_with}
 use Rattle.cm_text.specs.Bytes.{line_feed, space, backtick}
 
--- What comes before the next run of exactly the given number of backticks, and what is left after that run.
--- The mark says that a backtick comes before the text, so that no run starts here.
+-- What comes before the next run of exactly the given number of backticks, and what is left after that run. The mark says that
+-- a backtick comes before the text, so that no run starts here.
 unfoldable pub up_to_run : ℕ → (in_run : Bool) → List ℕ → Option Reading
 up_to_run n in_run [] = None
 up_to_run n in_run (b ∷ bs) = elim (b == backtick && not in_run && run_length backtick (b ∷ bs) == n) [
@@ -32,9 +32,8 @@ but_ends (b ∷ bs) = but_last bs
 unfoldable pub stripped : List ℕ → List ℕ
 stripped text = if begins_with space text && ends_with space text && not (list_all (λ b. b == space) text) then but_ends text else text
 
--- The content of a code span: line endings are converted to spaces, and if the result both begins and ends
--- with a space character, but does not consist entirely of space characters, one is removed from the front
--- and the back.
+-- The content of a code span: line endings are converted to spaces, and if the result both begins and ends with a space
+-- character, but does not consist entirely of space characters, one is removed from the front and the back.
 abbrev pub span_content : Option Reading → Option Reading
 span_content None = None
 span_content (Some r) = Some (record { text = stripped (one_line r.text); rest = r.rest })
@@ -47,8 +46,8 @@ as_written (suc n) text = up_to_run (suc n) false text
 abbrev pub spanned : ℕ → List ℕ → Option Reading
 spanned n text = span_content (as_written n text)
 
--- A code span begins with a backtick string and ends with a backtick string of equal length: its content, and
--- what is left after it.
+-- A code span begins with a backtick string and ends with a backtick string of equal length: its content, and what is left
+-- after it.
 unfoldable pub code_span : List ℕ → Option Reading
 code_span text = spanned (run_length backtick text) (after_run backtick text)
 

@@ -1,6 +1,5 @@
--- Raw HTML (CommonMark 0.31.2, 6.6 Raw HTML). Each reading gives what is left of the text after it. With the
--- older rules the text of a comment doesn't start with `>` or `->`, doesn't end with `-`, and contains no
--- `--`.
+-- Raw HTML (CommonMark 0.31.2, 6.6 Raw HTML). Each reading gives what is left of the text after it. With the older rules the text
+-- of a comment doesn't start with `>` or `->`, doesn't end with `-`, and contains no `--`.
 use Rattle.std.specs.Prelude.{ℕ, Bool, true, false, List, [], ◌∷◌, Option, Some, None, codes}
 use Rattle.cm_text.specs.Rules.{Rules}
 use Rattle.cm_scan.specs.Words.{is_letter, after_word, ◌<|>◌}
@@ -24,9 +23,8 @@ from_to start end text = elim (after_word start text) [ Some inside ↦ behind_w
 unfoldable pub short_end : List ℕ → Option (List ℕ)
 short_end inside = after_word (codes ">") inside <|> after_word (codes "->") inside
 
--- After `<!--`. A comment consists of `<!-->`, `<!--->`, or `<!--`, a string of characters not including the
--- string `-->`, and `-->`. With the older rules the first `--` belongs to the `-->` at the end, and neither
--- `>` nor `->` comes next.
+-- After `<!--`. A comment consists of `<!-->`, `<!--->`, or `<!--`, a string of characters not including the string `-->`, and
+-- `-->`. With the older rules the first `--` belongs to the `-->` at the end, and neither `>` nor `->` comes next.
 unfoldable pub after_comment : Bool → List ℕ → Option (List ℕ)
 after_comment false inside = short_end inside <|> behind_word (codes "-->") inside
 after_comment true inside = elim (short_end inside) [
@@ -55,13 +53,13 @@ declaration text = elim (after_word (codes "<!") text) [ Some inside ↦ after_d
 abbrev pub character_data : List ℕ → Option (List ℕ)
 character_data text = from_to (codes "<![CDATA[") (codes "]]>") text
 
--- An HTML tag consists of an open tag, a closing tag, an HTML comment, a processing instruction, a
--- declaration, or a CDATA section. No text starts with two of them.
+-- An HTML tag consists of an open tag, a closing tag, an HTML comment, a processing instruction, a declaration, or a CDATA
+-- section. No text starts with two of them.
 unfoldable pub html_tag : Rules → List ℕ → Option (List ℕ)
 html_tag rules text = behind_tag (open_tag text) <|> behind_tag (closing_tag text) <|> comment rules.older text <|> instruction text
     <|> declaration text <|> character_data text
 
--- what is left after an HTML tag: an open tag, a closing tag, a comment, a processing instruction, a
--- declaration, or a CDATA section; with rules without raw HTML there is none
+-- what is left after an HTML tag: an open tag, a closing tag, a comment, a processing instruction, a declaration, or a CDATA
+-- section; with rules without raw HTML there is none
 unfoldable pub raw_html : Rules → List ℕ → Option (List ℕ)
 raw_html rules text = elim rules.raw_html [ true ↦ html_tag rules text | false ↦ None ]

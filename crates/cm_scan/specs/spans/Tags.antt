@@ -63,8 +63,7 @@ after_value (b ∷ bs) = elim (b == quotation_mark) [
   ]
 ]
 
--- An attribute value specification after a name: a gap, `=`, a gap and a value. If no `=` comes next, there
--- is none.
+-- An attribute value specification after a name: a gap, `=`, a gap and a value. If no `=` comes next, there is none.
 unfoldable pub after_specification : List ℕ → Option (List ℕ)
 after_specification text = elim (after_word (codes "=") (after_gap text)) [
   | Some behind ↦ after_value (after_gap behind)
@@ -80,8 +79,7 @@ after_attribute (b ∷ bs) = elim (begins_attribute b) [ true ↦ after_specific
 unfoldable pub after_tag_end : List ℕ → Option (List ℕ)
 after_tag_end text = elim (after_word (codes "/>") text) [ Some rest ↦ Some rest | None ↦ after_word (codes ">") text ]
 
--- After the name of an open tag: attributes, each after a gap, a gap or none, and the end. There are no more
--- attributes than bytes.
+-- After the name of an open tag: attributes, each after a gap, a gap or none, and the end. There are no more attributes than bytes.
 unfoldable pub after_attributes : ℕ → List ℕ → Option (List ℕ)
 after_attributes zero text = None
 after_attributes (suc n) text = elim (after_tag_end (after_gap text)) [

@@ -1,5 +1,4 @@
--- Source that is written line by line: what comes before a line, as markers and indentation, is written with
--- it.
+-- Source that is written line by line: what comes before a line, as markers and indentation, is written with it.
 use Rattle.std.specs.Prelude.{◌≡◌, ℕ, ◌==◌, if◌then◌else◌, List, [], ◌∷◌, ◌++◌, length, flat_map, string_bytes, Bool, true, false}
 use Rattle.cm_scan.specs.Words.{trim_end_spaces}
 use Rattle.cm_source.specs.declared.source_lines.SourceLines.{SourceLines}
@@ -32,8 +31,8 @@ abbrev pub StandsAt : (begun : Bool) → (line : ℕ) → (text done first front
 StandsAt false line text done first front = (text ≡ done) × (first ≡ front)
 StandsAt true line text done first front = (text ≡ done ++ first) × (line ≡ length text)
 
--- Between two lines, the next of which has been started or not: these lines are done, this comes before the
--- next one, and this before those that follow it.
+-- Between two lines, the next of which has been started or not: these lines are done, this comes before the next one, and this before those
+-- that follow it.
 pub record IsBetween (source : SourceLines) (begun : Bool) (done first front : List ℕ) : Type 0 where
   pub begun_is : source.begun ≡ begun
   pub stands : StandsAt begun source.line (string_bytes source.text) done first front
