@@ -1,7 +1,7 @@
 """Reads the definitions and the contracts of the crates, and follows the names that they have.
 
-The clauses of a contract name definitions of specs/, types and traits of src/, and words of the kit's library; so do these, and so on. Names
-are followed by the `use` lines of each file.
+The clauses of a contract name definitions of specs/, types and traits of src/, and words of the kit's library; so do these, and so on.
+Names are followed by the `use` lines of each file.
 """
 
 import dataclasses
@@ -18,7 +18,8 @@ WORD = re.compile(r"[^\s(){}\[\],;.:|]+(?:\|>)?")
 USE = re.compile(r"^\s*(?:ghost |pub |unfoldable )*use Rattle\.([\w.]+?)(?:\.\{([^}]*)\}| as (\w+))", re.MULTILINE)
 OPENER = re.compile(r"module |(?:unfoldable )?mutual$")
 HEADER = re.compile(r"^\s*(?:abbrev |unfoldable )?pub (?:data |record )?(\S+)")
-DECLARED = re.compile(r"(?:^(?:///|#\[)[^\n]*\n)*^pub(?:\(crate\))? (?:enum|struct|trait) (\w+)[^\n]*(?:;|\}|\{\n(?:(?:[ ][^\n]*)?\n)*\})$", re.MULTILINE)
+DECLARED = re.compile(
+    r"(?:^(?:///|#\[)[^\n]*\n)*^pub(?:\(crate\))? (?:enum|struct|trait) (\w+)[^\n]*(?:;|\}|\{\n(?:(?:[ ][^\n]*)?\n)*\})$", re.MULTILINE)
 CLAUSES = ("requires ", "ensures ")
 FUNCTION = re.compile(r'^ {0,4}(pub )?(?:const |unsafe |extern "C" )*fn (\w+)')
 BLOCK = re.compile(r"^(?:impl(?:<[^>]*>)?|pub trait) (\w+)(?:<[^>]*>)?(?:: \w+)? \{$")
@@ -248,8 +249,9 @@ def call_at(file, lines, at, owner, in_trait):
 @functools.cache
 def is_private(file, trait):
     """Whether a trait belongs to the crate of a file alone."""
-    crate = CRATES / file.relative_to(CRATES).parts[0] / "src"
-    return any(re.search(rf"^(?:pub\(crate\) )?trait {re.escape(trait)}\b", other.read_text(), re.MULTILINE) for other in crate.rglob("*.rt"))
+    declared = re.compile(rf"^(?:pub\(crate\) )?trait {re.escape(trait)}\b", re.MULTILINE)
+    files = (CRATES / file.relative_to(CRATES).parts[0] / "src").rglob("*.rt")
+    return any(declared.search(other.read_text()) for other in files)
 
 
 def promise_at(file, lines, at, end):
@@ -268,7 +270,8 @@ def calls(file):
     lines, found, at = file.read_text().splitlines(), [], 0
     while at < len(lines):
         block, promise = BLOCK.match(lines[at]), TRAIT.match(lines[at])
-        end = next(number for number in range(at, len(lines)) if re.match(r"\}|impl.*\{\}$", lines[number])) + 1 if block or promise else at + 1
+        last = (number for number in range(at, len(lines)) if re.match(r"\}|impl.*\{\}$", lines[number]))
+        end = next(last) + 1 if block or promise else at + 1
         if promise and not is_private(file, promise[1]):
             found.append(promise_at(file, lines, at, end))
         inside = [] if promise else [number for number in range(at, end) if FUNCTION.match(lines[number])]
