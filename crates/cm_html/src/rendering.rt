@@ -50,7 +50,7 @@ fn listing_pages(alloc: Global, doc: &Doc) -> Result<Pages, NoMemory>
     Ok(out)
 }
 
-/// Writes the HTML of a document, and answers its length in bytes.
+/// Writes the HTML of a document, and returns its length in bytes.
 ///
 /// On `HtmlFault::WriteFailed` what went out is the first `written` bytes of the HTML, and on
 /// `HtmlFault::NoMemory` nothing.
@@ -63,7 +63,7 @@ pub fn write_html<W: Sink>(alloc: Global, doc: &Doc, sink: &mut W) -> Result<usi
     html_pages(alloc, doc)?.write(sink)
 }
 
-/// Writes the listing of a document, and answers its length in bytes.
+/// Writes the listing of a document, and returns its length in bytes.
 ///
 /// On `HtmlFault::WriteFailed` what went out is the first `written` bytes of the listing, and on
 /// `HtmlFault::NoMemory` nothing.

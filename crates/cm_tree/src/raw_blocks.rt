@@ -296,8 +296,8 @@ impl RawBlocks {
         Ok(RawBlock::Html { from, to })
     }
 
-    /// Makes a definition with this label, as it stands in the source, and this resolved destination and
-    /// title (4.7 Link reference definitions).
+    /// Makes a definition with this label, as it is in the source, and this resolved destination and title
+    /// (4.7 Link reference definitions).
     ///
     /// # Errors
     ///

@@ -5,7 +5,7 @@ use Rattle.cm_tree.specs.declared.tree.Inline.TheVariants.{Text, Emph, Strong}
 use Rattle.cm_scan.specs.inlines.Delimiters.{Run}
 use Rattle.cm_scan.specs.inlines.Pairing.{Item, Characters, Finished, Delimiters, Opened, nearest_opener, settled, used, emphasised, without, pair_all}
 
--- The items up to the emphasis of a new pair: what stands before the opener, what is left of the opener, and the emphasis.
+-- The items up to the emphasis of a new pair: those before the opener, what is left of the opener, and the emphasis.
 abbrev pub up_to_pair : Opened → Run → List Item
 up_to_pair found closer =
     let count = used found.opener closer in
@@ -15,8 +15,8 @@ up_to_pair found closer =
 abbrev pub closer_left : Opened → Run → Run
 closer_left found closer = record closer { left = closer.left - used found.opener closer }
 
--- What comes of the items before a run that may close, the last first, and of the run: it makes a pair with its nearest opener, and
--- what is left of it, if anything is, goes on in the same way, for so many pairs at most. Where it has no opener it stays.
+-- The items up to a run that can close emphasis, in reverse: it makes a pair with its nearest opener, and what is left of it goes
+-- on in the same way, for at most the given number of pairs. If it has no opener it is left as it is.
 unfoldable pub closed_within : ℕ → List Item → Run → List Item
 closed_within zero before closer = Delimiters closer ∷ before
 closed_within (suc n) before closer = elim (nearest_opener closer before []) [
@@ -27,16 +27,17 @@ closed_within (suc n) before closer = elim (nearest_opener closer before []) [
   | None ↦ Delimiters closer ∷ before
 ]
 
--- Each pair takes one or more of the run's characters, so this many are enough (a run with none left can make one pair).
+-- The same with as many pairs as the run can make: each takes at least one of its characters, and a run with none left can make one
+-- pair.
 abbrev pub closed_by : List Item → Run → List Item
 closed_by before closer = closed_within (suc closer.left) before closer
 
--- What comes of the items before an item, the last first, and of the item: only a run that may close makes pairs.
+-- The items up to an item, in reverse, after that item: only a run that can close emphasis makes pairs.
 abbrev pub passed : List Item → Item → List Item
 passed before (Delimiters run) = elim run.closes [ true ↦ closed_by before run | false ↦ Delimiters run ∷ before ]
 passed before item = item ∷ before
 
--- The items that follow, one after another; those before them have the last first.
+-- The items after one pass over those that follow, given those before them in reverse.
 unfoldable pub pass_from : List Item → List Item → List Item
 pass_from before [] = reverse before
 pass_from before (item ∷ after) = pass_from (passed before item) after
