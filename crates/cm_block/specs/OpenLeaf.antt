@@ -48,24 +48,24 @@ pub data LeafLine : Type 0 where
   stays_open : OpenLeaf → LeafLine
   is_last : List (LeafPart × ℕ) → LeafLine
 
--- 4.8 Paragraphs, 4.3 Setext headings: by what the line is to the run
+-- what a line is to an open run of text (4.8 Paragraphs, 4.3 Setext headings)
 abbrev pub line_of_text : (source : List ℕ) → LineView → NextLine → Option LeafLine
 line_of_text source line GoesOn = Some (stays_open (open_text (add_text source line)))
 line_of_text source line (Underlines level) = Some (is_last (run_leaves (Some level) source))
 line_of_text source line Ends = None
 
--- 4.4 Indented code blocks: by whether the line is blank and whether it has 4 columns of indentation
+-- what a line is to open indented code, given whether it is blank and has 4 columns of indentation (4.4 Indented code blocks)
 abbrev pub line_of_code : (text : List ℕ) → (lines : ℕ) → (blank_text : List ℕ) → (blank_lines : ℕ) → LineView → (blank indented : Bool) → Option LeafLine
 line_of_code text lines blank_text blank_lines line true indented = Some (stays_open (open_code text lines (blank_text ++ code_line line) (suc blank_lines)))
 line_of_code text lines blank_text blank_lines line false true = Some (stays_open (open_code (text ++ blank_text ++ code_line line) (lines + blank_lines + 1) [] 0))
 line_of_code text lines blank_text blank_lines line false false = None
 
--- 4.5 Fenced code blocks: by whether the line is the closing fence
+-- what a line is to open fenced code, given whether it is the closing fence (4.5 Fenced code blocks)
 abbrev pub line_of_fence : Fence → (columns : ℕ) → (text : List ℕ) → (lines : ℕ) → LineView → (closes : Bool) → LeafLine
 line_of_fence fence columns text lines line true = is_last ((code fence.info text, suc lines) ∷ [])
 line_of_fence fence columns text lines line false = stays_open (open_fence fence columns (text ++ with_ending (strip_columns columns line)) (suc lines))
 
--- 4.6 HTML blocks: by whether the line meets the end condition, be it the first or a later one
+-- what a line, the first or a later one, is to an HTML block, given whether it meets the end condition (4.6 HTML blocks)
 abbrev pub line_of_html : HtmlKind → (text : List ℕ) → (lines : ℕ) → LineView → (ends : Bool) → LeafLine
 line_of_html kind text lines line true = is_last ((html (text ++ with_ending line), suc lines) ∷ [])
 line_of_html kind text lines line false = stays_open (open_html kind (text ++ with_ending line) (suc lines))

@@ -152,7 +152,7 @@ abbrev pub loose_blocks : List Written → List ℕ
 loose_blocks [] = []
 loose_blocks (w ∷ ws) = codes "\n" ++ all_alone (w ∷ ws)
 
--- the inside of an item: its blocks in order, without its definitions
+-- The inside of an item: its blocks in order, without its definitions.
 abbrev pub inside : (tight : Bool) → List Written → List ℕ
 inside true ws = line_feed_before (shown ws) ++ tight_blocks (shown ws)
 inside false ws = loose_blocks (shown ws)

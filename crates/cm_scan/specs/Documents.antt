@@ -13,7 +13,7 @@ use Rattle.cm_scan.specs.blocks.Blocks.{blocks_of, reference_table}
 use Rattle.cm_scan.specs.inlines.Brackets.{Defined, defined_in}
 use Rattle.cm_scan.specs.inlines.Inlines.{inlines_of}
 
--- the inlines of a paragraph or heading, whose content in an outline is one text, its source, or nothing
+-- The inlines of a paragraph or heading, whose content in an outline is one text, its source, or nothing.
 abbrev pub content_read : Rules → Defined → List Inline → List Inline
 content_read rules defined (Text source ∷ []) = inlines_of rules defined source
 content_read rules defined content = content
@@ -37,15 +37,15 @@ read_step rules defined = change_step (content_read rules defined)
 abbrev pub block_read : Rules → Defined → Block → Block
 block_read rules defined = fold-Block Block (read_step rules defined)
 
--- the blocks with the inlines of their leaves, at every depth, given the link reference definitions
+-- The blocks with the inlines of their leaves, at every depth, given the link reference definitions.
 abbrev pub with_inlines : Rules → Defined → List Block → List Block
 with_inlines rules defined blocks = map (block_read rules defined) blocks
 
--- the link reference definitions of these lines, wherever they are
+-- The link reference definitions of these lines, wherever they are (4.7 Link reference definitions).
 abbrev pub defined_by : Rules → List LineView → Defined
 defined_by rules lines = defined_in (reference_table rules lines)
 
--- the tree of these lines: their blocks, with the inlines of the leaves
+-- The tree of these lines: their blocks, with the inlines of the leaves.
 abbrev pub tree_of_lines : Rules → List LineView → List Block
 tree_of_lines rules lines = with_inlines rules (defined_by rules lines) (blocks_of rules lines)
 

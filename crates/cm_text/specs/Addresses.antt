@@ -14,7 +14,7 @@ abbrev pub onto_scheme : ℕ → Option (List ℕ) → Option (List ℕ)
 onto_scheme b None = None
 onto_scheme b (Some scheme) = Some (b ∷ scheme)
 
--- what comes before the first `:` of an address, if no `/`, `?` or `#` comes before that
+-- The scheme of an address is what comes before the first `:`, if no `/`, `?` or `#` comes before that.
 unfoldable pub address_scheme : List ℕ → Option (List ℕ)
 address_scheme [] = None
 address_scheme (b ∷ bs) = elim (b == colon) [

@@ -13,7 +13,7 @@ use Rattle.cm_tool.specs.Reading.{SourceView, IsWhole, RefusesBy, fault_of_text,
 abbrev pub difference_text : DifferenceView → List ℕ
 difference_text d = codes "example " ++ decimal d.number ++ codes "\nexpected:\n" ++ d.expected ++ codes "got:\n" ++ d.got
 
--- the report of a file of examples, as it is written
+-- The report of a file of examples, as it is written: each example that differs, and how many agree.
 abbrev pub report_text : ReportView → List ℕ
 report_text report = flat_map difference_text report.differ ++ decimal report.agree ++ codes " of " ++ decimal report.total ++ codes " agree\n"
 

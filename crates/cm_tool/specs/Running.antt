@@ -28,12 +28,12 @@ Offered old new text = Wrote old new text 0 ⊎ WroteSome old new text
 abbrev pub OfferedLine : Fault → SinkView → SinkView → Type 0
 OfferedLine fault old new = Offered old new (line_of (fault_text fault))
 
--- the exit status: 0 after success, 1 after a fault
+-- The exit status is 0 after success, and 1 after a fault.
 abbrev pub status_of : Result ℕ Fault → ℕ
 status_of (Ok _) = 0
 status_of (Err _) = 1
 
--- the error writer gets the line of a fault, or nothing if there is none
+-- The error writer gets the line of a fault, or nothing if there is none.
 abbrev pub Reports : Result ℕ Fault → SinkView → SinkView → Type 0
 Reports (Ok _) old new = IsUnwritten old new
 Reports (Err fault) old new = OfferedLine fault old new

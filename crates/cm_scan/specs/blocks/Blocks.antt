@@ -179,37 +179,37 @@ module _ (rules : Rules) (parts : List LineView → Parts) where
     | Leaves ↦ record { inner = so_far; following = line ∷ lines }
   ]
 
-  -- 5.1 Block quotes
+  -- a block quote, and what follows it (5.1 Block quotes)
   unfoldable pub quote_parts : LineView → List LineView → Parts
   quote_parts line lines =
       let i = inside (λ bare l. place_in_quote rules l) (behind_quote_marker line ∷ []) lines in
       quote (parts i.inner) (parts i.following)
 
-  -- 5.2 List items, 5.3 Lists
+  -- a list item, and what follows it (5.2 List items, 5.3 Lists)
   unfoldable pub item_parts : ItemMarker → LineView → List LineView → Parts
   item_parts marker line lines =
       let i = inside (place_in_item rules (content_column marker line)) (first_content marker line ∷ []) lines in
       put_item marker.kind (parts i.inner) (parts i.following)
 
-  -- 4.5 Fenced code blocks
+  -- a fenced code block, and what follows it (4.5 Fenced code blocks)
   unfoldable pub fence_parts : Fence → LineView → List LineView → Parts
   fence_parts fence line lines =
       let t = fenced fence (indent_of line) [] 1 lines in
       leaf (code (info_of rules fence.info) t.text) t.lines (parts t.following)
 
-  -- 4.6 HTML blocks: the first line may be the last
+  -- an HTML block, whose first line may be its last, and what follows it (4.6 HTML blocks)
   unfoldable pub html_parts : HtmlKind → LineView → List LineView → Parts
   html_parts kind line lines =
       let t = html_lines kind (line ∷ lines) in
       leaf (html t.text) t.lines (parts t.following)
 
-  -- 4.4 Indented code blocks
+  -- an indented code block, and what follows it (4.4 Indented code blocks)
   unfoldable pub code_parts : LineView → List LineView → Parts
   code_parts line lines =
       let t = indented (code_line line) 1 [] lines in
       leaf (code [] t.text) t.lines (parts t.following)
 
-  -- 4.7 Link reference definitions, 4.8 Paragraphs, 4.3 Setext headings
+  -- the leaves of a run of text, and what follows them (4.7 Link reference definitions, 4.8 Paragraphs, 4.3 Setext headings)
   unfoldable pub text_parts : LineView → List LineView → Parts
   text_parts line lines =
       let run = text_run rules (content_of line) lines in

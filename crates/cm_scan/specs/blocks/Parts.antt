@@ -65,7 +65,7 @@ is_open_leaf (paragraph source) = true
 is_open_leaf (definition label dest title) = true
 is_open_leaf _ = false
 
--- Whether the last line is a paragraph's or a definition's, at any depth; the mark is the answer for the lines before.
+-- whether the last line is a paragraph's or a definition's, at any depth, after lines for which the mark is the answer
 unfoldable mutual
   pub leaves_open_after : (before : Bool) → Parts → Bool
   leaves_open_after before none = before
@@ -174,8 +174,7 @@ abbrev pub marked_first : Parts → List Owner → List Owner
 marked_first (blank rest) owners = marked_head owners
 marked_first _ owners = owners
 
--- The owner of each line, after the given number of leaves: the number of its leaf, or none if only a container's marker was removed
--- from it, or it is blank.
+-- the owner of each line, after the given number of leaves
 unfoldable mutual
   pub owners_after : ℕ → Parts → List Owner
   owners_after before none = []
@@ -221,6 +220,6 @@ unfoldable mutual
   item_definitions_in (last_item inside) = definitions_in inside
   item_definitions_in (item inside blanks items) = definitions_in inside ++ item_definitions_in items
 
--- their table, in which the first of matching labels counts (4.7 Link reference definitions)
+-- the table of these definitions, in which the first of matching labels counts (4.7 Link reference definitions)
 unfoldable pub table_of : Parts → Targets
 table_of parts = add_all empty (definitions_in parts)

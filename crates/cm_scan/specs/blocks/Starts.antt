@@ -32,7 +32,8 @@ abbrev pub or_text : Option Start → Start
 or_text None = TextLine
 or_text (Some start) = start
 
--- the first that fits, of a line with at most 3 columns of indentation
+-- What a line with at most 3 columns of indentation starts: the first that fits of a block quote marker, an ATX heading, a code
+-- fence, an HTML block, a thematic break and a list marker, or else text.
 unfoldable pub start_of_content : Rules → List ℕ → Start
 start_of_content rules text = or_text (
     given (begins_with greater_than text) QuoteMarker

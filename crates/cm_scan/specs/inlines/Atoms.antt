@@ -95,7 +95,7 @@ tilde_atom rules before text = elim (rules.strike && run_length tilde text == 2)
   | false ↦ read (Plain (replicate (run_length tilde text) tilde)) (after_run tilde text)
 ]
 
--- `[`, `![` or `]` (6.3 Links, 6.4 Images)
+-- `![`, the opener of an image (6.4 Images)
 unfoldable pub bang_atom : List ℕ → Option AtomRead
 bang_atom text = elim (after_word (codes "![") text) [ Some rest ↦ read (OpenBracket true) rest | None ↦ None ]
 

@@ -15,7 +15,7 @@ up_to_run n in_run (b ∷ bs) = elim (b == backtick && not in_run && run_length 
   | false ↦ behind b (up_to_run n (b == backtick) bs)
 ]
 
--- First, line endings are converted to spaces.
+-- line endings converted to spaces
 abbrev pub one_line : List ℕ → List ℕ
 one_line text = map (λ b. if b == line_feed then space else b) text
 
@@ -27,13 +27,12 @@ abbrev pub but_ends : List ℕ → List ℕ
 but_ends [] = []
 but_ends (b ∷ bs) = but_last bs
 
--- If the resulting string both begins and ends with a space character, but does not consist entirely of space characters, a
--- single space character is removed from the front and back.
+-- a space removed from both ends, if both have one and not all characters are spaces
 unfoldable pub stripped : List ℕ → List ℕ
 stripped text = if begins_with space text && ends_with space text && not (list_all (λ b. b == space) text) then but_ends text else text
 
 -- The content of a code span: line endings are converted to spaces, and if the result both begins and ends with a space
--- character, but does not consist entirely of space characters, one is removed from the front and the back.
+-- character, but does not consist entirely of space characters, a single space character is removed from the front and back.
 abbrev pub span_content : Option Reading → Option Reading
 span_content None = None
 span_content (Some r) = Some (record { text = stripped (one_line r.text); rest = r.rest })

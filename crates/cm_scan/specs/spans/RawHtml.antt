@@ -59,7 +59,6 @@ unfoldable pub html_tag : Rules → List ℕ → Option (List ℕ)
 html_tag rules text = behind_tag (open_tag text) <|> behind_tag (closing_tag text) <|> comment rules.older text <|> instruction text
     <|> declaration text <|> character_data text
 
--- what is left after an HTML tag: an open tag, a closing tag, a comment, a processing instruction, a declaration, or a CDATA
--- section; with rules without raw HTML there is none
+-- what is left after an HTML tag; with rules without raw HTML there is none
 unfoldable pub raw_html : Rules → List ℕ → Option (List ℕ)
 raw_html rules text = elim rules.raw_html [ true ↦ html_tag rules text | false ↦ None ]
