@@ -41,7 +41,7 @@ stack level now owned = record { level = level; now = now; owned = owned }
 abbrev pub empty_stack : Stack
 empty_stack = stack empty_level (in_leaf no_leaf) (record { owners = []; leaves = 0; table = empty })
 
--- Closing: this uses neither what a line begins nor which lines stay in a container.
+-- Closing
 
 unfoldable pub close_leaves : Level → List (LeafPart × ℕ) → Level
 close_leaves level [] = level
@@ -99,7 +99,8 @@ pub record Closed : Type 0 where
   pub owners : List Owner
   pub definitions : Targets
 
--- the blocks, the owners and the table of definitions once all that is open is closed
+-- The blocks, the owners and the table of definitions once all that is open is closed. This uses neither what a line starts nor which
+-- lines stay in a container.
 unfoldable pub close_stack : Stack → Closed
 close_stack before =
     let owned = own_open false before.owned before.now in

@@ -35,7 +35,7 @@ abbrev pub is_web : Option (List ℕ) → Bool
 is_web None = true
 is_web (Some scheme) = is_web_scheme scheme
 
--- an address without a scheme, or with `http`, `https` or `mailto` in any case
+-- An address of the web has no scheme, or `http`, `https` or `mailto` in any case.
 abbrev pub is_web_address : List ℕ → Bool
 is_web_address address = is_web (address_scheme address)
 
