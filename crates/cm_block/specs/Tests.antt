@@ -8,7 +8,8 @@ use Rattle.cm_block.specs.Machine.{Open, in_leaf, in_quote, in_item}
 use Rattle.cm_block.specs.Level.{Level, closed_blocks}
 use Rattle.cm_block.specs.Stack.{Stack}
 
--- Lines were read at least and at most this often between two counts. The greatest count isn't exceeded.
+-- Between two counts lines were read at least and at most this often; a count that has reached the greatest
+-- stays there.
 abbrev pub Counted : (greatest least most before after : ℕ) → Type 0
 Counted greatest least most before after = (after < greatest → before + least ≤ after) × (after ≤ before + most)
 

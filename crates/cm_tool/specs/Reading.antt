@@ -34,7 +34,7 @@ pub record HasFailed (settled : Option Fault) (old new : SourceView) : Type 0 wh
   pub sound : settled ≡ None
 
 -- Why there is no document or text: the fault that what was read settles; or a failed read, if it settles none; or, at the end, the
--- fault of the whole. If memory runs out nothing is said of these.
+-- fault of the whole. If memory runs out, no read has failed, and nothing else is said.
 abbrev pub RefusesBy : (settled whole : Option Fault) → Fault → SourceView → SourceView → Type 0
 RefusesBy settled whole (NotUtf8 at) old new = HasFault settled whole old new (NotUtf8 at)
 RefusesBy settled whole (TooLong at) old new = HasFault settled whole old new (TooLong at)

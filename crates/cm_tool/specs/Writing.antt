@@ -19,7 +19,7 @@ converted rules bytes = html_of (tree_of rules bytes)
 abbrev pub listed : Rules → List ℕ → List ℕ
 listed rules bytes = listing_of (tree_of rules bytes) (owners_of_bytes rules bytes)
 
--- What has been written if the text isn't written to its end: nothing, unless memory ran out after all of the text had been read.
+-- What has been written if all of the output isn't: nothing, unless memory ran out after all of the text had been read.
 abbrev pub WentOut : Fault → (Lost : SinkView → SinkView → List ℕ → Type 0) → (Read : Type 0) → SinkView → SinkView → List ℕ → Type 0
 WentOut NoMemory Lost Read old new output = IsUnwritten old new ⊎ (Read × Lost old new output)
 WentOut fault Lost Read old new output = IsUnwritten old new

@@ -109,8 +109,8 @@ taken text lines following = record { text = text; lines = lines; following = fo
 abbrev pub closes_fence : Fence → LineView → Bool
 closes_fence fence line = nat_le (indent_of line) 3 && is_closing_fence fence (content_of line)
 
--- The lines after an opening code fence, up to the closing fence or the end. The indentation of the opening fence is removed from
--- each (4.5 Fenced code blocks). The text and the number of lines so far are given.
+-- The lines after an opening code fence, up to the closing fence or the end. Each loses its indentation up to that of the opening
+-- fence (4.5 Fenced code blocks). The text and the number of lines so far are given.
 unfoldable pub fenced : Fence → (columns : ℕ) → List ℕ → ℕ → List LineView → Taken
 fenced fence columns text n [] = taken text n []
 fenced fence columns text n (line ∷ lines) = elim (closes_fence fence line) [

@@ -49,8 +49,8 @@ start_by true indented start = TextLine
 start_by false true start = IndentedCode
 start_by false false start = start
 
--- What a line starts: indented code if it has four columns of indentation or more, and text if it is a lazy continuation line; else
--- the first that fits.
+-- What a line starts: text if it is a lazy continuation line, indented code if it has four columns of indentation or more (4.4
+-- Indented code blocks), and else the first that fits.
 unfoldable pub start_of : Rules → LineView → Start
 start_of rules line = start_by line.lazy (nat_le 4 (indent_of line)) (start_of_content rules (content_of line))
 
