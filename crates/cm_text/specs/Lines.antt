@@ -109,6 +109,6 @@ LinesAreLines = (text : List ℕ) (lines : List (List ℕ)) → AreLinesOf text 
 abbrev pub with_line_feed : List ℕ → List ℕ
 with_line_feed line = line ++ line_feed ∷ []
 
--- a text made of lines, each followed by a line feed, has these lines
+-- a text made of lines without endings, each followed by a line feed, has these lines
 abbrev pub LinesWithLineFeeds : Type 0
 LinesWithLineFeeds = (lines : List (List ℕ)) → list_all is_line lines ≡ true → lines_of (flat_map with_line_feed lines) ≡ lines

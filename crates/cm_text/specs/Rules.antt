@@ -14,7 +14,8 @@ pub record Rules : Type 0 where
   -- without it an address is followed only if it has no scheme, or `http`, `https` or `mailto`
   pub any_address : Bool
 
--- CommonMark 0.31.2 as this project reads it: raw HTML, addresses of any scheme, and neither of the other two
+-- CommonMark 0.31.2 as this project reads it: raw HTML, addresses of any scheme, and neither strikethrough
+-- nor the older rules
 abbrev pub profile : Rules
 profile = record { older = false; strike = false; raw_html = true; any_address = true }
 

@@ -10,13 +10,13 @@ use Rattle.cm_text.specs.Lines.{lines_of, with_line_feed}
 abbrev pub begins_text : ℕ → Bool
 begins_text b = within 65 90 b || within 97 122 b || nat_le 128 b
 
--- a line that starts with such a byte after the given number of spaces
+-- a line that starts with an ASCII letter or a character beyond ASCII, after the given number of spaces
 abbrev pub is_text_behind : ℕ → List ℕ → Bool
 is_text_behind spaces [] = false
 is_text_behind zero (b ∷ bs) = begins_text b
 is_text_behind (suc n) (b ∷ bs) = b == space && is_text_behind n bs
 
--- lines that start with such a byte, the first after the given number of spaces
+-- such lines, the first after the given number of spaces, and each other after none
 abbrev pub are_text : ℕ → List (List ℕ) → Bool
 are_text spaces [] = true
 are_text spaces (line ∷ lines) = is_text_behind spaces line && are_text 0 lines
