@@ -1,3 +1,8 @@
+-- How the proof of cm_text goes. A line buffer stands for bytes of whose lines some have been passed
+-- (`StandsFor`), and so does a line feed. Each call's clause holds for all bytes that it stood for, so it
+-- doesn't matter how the bytes were cut. The lines are those of the cut of the text that hasn't been passed
+-- (`cut_of`); UnreadLemmas finds the first of them by its end. A `LineFeed` is a buffer whose finished lines
+-- are moved after those that are ready (ReadyLemmas), which changes nothing that is seen.
 pub mod PiecesLemmas
 pub mod ReplacedLemmas
 pub mod CutLemmas
