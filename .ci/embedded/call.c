@@ -5,9 +5,11 @@
  *   call rooms        the HTML of a text into rooms of every size, and a line into each
  *   call lines        the line of each number at each place up to 20, behind both
  *   call nothing      a null text of no bytes, with an output that isn't set
+ *   call blocks       the size of the block of malloc that HTML comes in
  *   call threads      four threads at once
  */
 #include <cmk.h>
+#include <malloc.h>
 #include <pthread.h>
 #include <stdio.h>
 #include <string.h>
@@ -117,6 +119,37 @@ static int nothing(void) {
     return is_empty ? 0 : 3;
 }
 
+/* Returns how many bytes the block of a text's HTML has, for the text so many times. */
+static size_t block_of(const char *text, size_t times, size_t *length) {
+    cmk_options options = CMK_OPTIONS;
+    cmk_output output = CMK_OUTPUT;
+    size_t count = strlen(text), at, size;
+    char *whole = (char *)malloc(count * times);
+    for (at = 0; at < times; at++) {
+        memcpy(whole + at * count, text, count);
+    }
+    cmk_html(whole, count * times, &options, &output);
+    *length = output.length;
+    size = malloc_usable_size((void *)output.bytes);
+    cmk_free(&output);
+    free(whole);
+    return size;
+}
+
+/* A short output has little more than its bytes, and a long one no more. */
+static int blocks(void) {
+    static const size_t times[] = {1, 10, 1000, 30000};
+    size_t at;
+    for (at = 0; at < sizeof times / sizeof times[0]; at++) {
+        size_t length, size = block_of("a *b* c\n\n", times[at], &length);
+        if (size > (length < 40960 ? 2 * length + 80 : length + 5000)) {
+            printf("%zu bytes in a block of %zu\n", length, size);
+            return 3;
+        }
+    }
+    return 0;
+}
+
 static const char *const texts[] = {"# a\n\n*b*\n", "> - [c]\n\n[c]: /d\n", "```\n&\n```\n", "a\xff"};
 static const char *const wanted[] = {"<h1>a</h1>\n<p><em>b</em></p>\n", "<blockquote>\n<ul>\n<li><a href=\"/d\">c</a></li>\n</ul>\n</blockquote>\n",
                                      "<pre><code>&amp;\n</code></pre>\n", ""};
@@ -163,6 +196,7 @@ int main(int count, char **words) {
         return strcmp(name, "rooms") == 0 ? rooms()
                : strcmp(name, "lines") == 0 ? lines()
                : strcmp(name, "nothing") == 0 ? nothing()
+               : strcmp(name, "blocks") == 0 ? blocks()
                : strcmp(name, "threads") == 0 ? threads() : 2;
     }
     options.bytes = strtoul(words[2], NULL, 10);
