@@ -1,5 +1,6 @@
 """The programs that are measured, and what a run of one takes."""
 
+import json
 import pathlib
 import shutil
 import subprocess
@@ -8,6 +9,7 @@ import typing
 HERE = pathlib.Path(__file__).resolve().parent
 OUT = HERE / "out"
 NEWER = OUT / "newer"
+NODE = pathlib.Path("/usr/share/nodejs")
 MARKDOWN_IT = "import sys, markdown_it; sys.stdout.write(markdown_it.MarkdownIt('commonmark').render(sys.stdin.read()))"
 # Each by the package that has it, and its words.
 PEERS = {
@@ -17,6 +19,8 @@ PEERS = {
     "pulldown-cmark": ("pulldown-cmark", ["pulldown-cmark"]),
     "pulldown-cmark-newer": (NEWER / "pulldown-cmark_*.deb", [str(NEWER / "pulldown-cmark/usr/bin/pulldown-cmark")]),
     "comrak": (NEWER / "librust-comrak-dev_*.deb", [str(OUT / "comrak")]),
+    "goldmark": ("golang-github-yuin-goldmark-dev", [str(OUT / "goldmark")]),
+    "markdown-it": (NODE / "markdown-it/package.json", ["/usr/bin/env", f"NODE_PATH={NODE}", "node", str(HERE / "markdown_it_driver.js")]),
     "lowdown": ("lowdown", ["lowdown", "-thtml"]),
     "discount": ("discount", ["markdown", "-f", "+fencedcode"]),
     "markdown-it-py": ("python3-markdown-it", ["/usr/bin/python3", "-X", "utf8", "-c", MARKDOWN_IT]),
@@ -43,6 +47,8 @@ def programs(cmk, with_slow=False):
 def version_of(name):
     """The version of a peer, without what its packager adds to it, or nothing."""
     package = PEERS.get(name, ("", []))[0]
+    if isinstance(package, pathlib.Path) and package.suffix == ".json":
+        return json.loads(package.read_text())["version"] if package.exists() else ""
     if isinstance(package, pathlib.Path):
         version = max((file.name.split("_")[1] for file in package.parent.glob(package.name)), default="")
     else:
