@@ -1,6 +1,6 @@
 -- What the words of a command line ask for. How `clap` reads the words is said in its own terms, by the command line of `cmk`: a version,
 -- and a subcommand for each job.
-use Rattle.std.specs.Prelude.{◌≡◌, ◌≢◌, ◌⊎◌, ◌==◌, ◌^◌, ◌&&◌, ◌||◌, ⊤, ℕ, Bool, true, false, not, List, [], ◌∷◌, ◌++◌, Option, Some, Result, Ok, Err, codes, flat_map, fold, string_bytes, find, option_map, option_and_then, unwrap_or}
+use Rattle.std.specs.Prelude.{◌≡◌, ◌≢◌, ◌⊎◌, ◌==◌, ◌^◌, ◌&&◌, ◌||◌, ⊤, ℕ, Bool, true, false, not, List, [], ◌∷◌, ◌++◌, if◌then◌else◌, Option, Some, None, Result, Ok, Err, codes, flat_map, fold, string_bytes, find, option_map, option_and_then, unwrap_or}
 use Rattle.std.specs.List.{list_all, list_any}
 use Rattle.std.specs.Option.{option_map_or}
 use Rattle.std.specs.Str.{bytes_eq}
@@ -111,9 +111,16 @@ job_of name = find (λ job. bytes_eq (name_of job) name) (Render ∷ Tree ∷ Re
 abbrev pub job_in : Option Found → Option Job
 job_in found = option_and_then (λ f. job_of f.0) found
 
--- the file that is named
+-- the file that the word FILE names; `-` is standard input
+abbrev pub file_named : Text → Option Text
+file_named word = if bytes_eq word (codes "-") then None else Some word
+
+-- the file of a subcommand, or none for standard input
+abbrev pub file_at : List Row → Option Text
+file_at rows = option_and_then file_named (first_of (codes "file") rows)
+
 abbrev pub file_in : Option Found → Option Text
-file_in found = option_and_then (λ f. first_of (codes "file") f.1) found
+file_in found = option_and_then (λ f. file_at f.1) found
 
 -- the standard limits with these numbers of blocks and inlines, and these rules
 abbrev pub limits_with : Rules → (blocks inlines : ℕ) → Option LimitsView
@@ -224,10 +231,11 @@ rules_by choices = rules_for (λ flag. is_given (flag_name flag) choices)
 abbrev pub limits_by : List Choice → Option LimitsView
 limits_by choices = limits_of (rules_by choices) (number_for (codes "blocks") choices) (number_for (codes "inlines") choices)
 
--- the word starts with a hyphen
+-- the word is a hyphen followed by more
 abbrev pub is_option : Text → Bool
 is_option [] = false
-is_option (byte ∷ bytes) = byte == 45
+is_option (byte ∷ []) = false
+is_option (byte ∷ next ∷ bytes) = byte == 45
 
 -- the word is a number from 1 to 500
 abbrev pub is_limit : Text → Bool
@@ -237,7 +245,7 @@ is_limit = is_unsigned_in 1 500
 abbrev pub are_limits : List Choice → Bool
 are_limits choices = list_all is_limit (numbers_in choices)
 
--- a number that is given starts with a hyphen
+-- a number that is given is a hyphen followed by more
 abbrev pub hold_an_option : List Choice → Bool
 hold_an_option choices = list_any is_option (numbers_in choices)
 

@@ -1,5 +1,5 @@
 -- Worked examples: what the words of `cmk examples`, and those for the version, ask for, as clap reads them.
-use Rattle.std.specs.Prelude.{◌≡◌, ◌^◌, false, true, List, [], ◌∷◌, Some, codes}
+use Rattle.std.specs.Prelude.{◌≡◌, ◌^◌, false, true, List, [], ◌∷◌, Some, None, codes}
 use Rattle.clap.specs.Words.{Text}
 use Rattle.clap.specs.declared.error.kind.ErrorKind.TheVariants.{DisplayVersion, MissingRequiredArgument, UnknownArgument}
 use Rattle.cm_text.specs.Rules.{older_rules, profile}
@@ -13,6 +13,8 @@ examples_with words = codes "cmk" ∷ codes "examples" ∷ words
 pub record WordExamples : Type 0 where
   pub job : job_in (found_for (examples_with (codes "f" ∷ []))) ≡ Some Examples
   pub file : file_in (found_for (examples_with (codes "f" ∷ codes "--older" ∷ []))) ≡ Some (codes "f")
+  pub standard_input : file_in (found_for (examples_with (codes "-" ∷ []))) ≡ None
+  pub file_called_hyphen : file_in (found_for (examples_with (codes "./-" ∷ []))) ≡ Some (codes "./-")
   pub limits : limits_in (found_for (examples_with (codes "f" ∷ []))) ≡ Some (record { bytes = 2 ^ 28; blocks = 100; inlines = 100; rules = profile })
   pub older : limits_in (found_for (examples_with (codes "--older" ∷ codes "f" ∷ []))) ≡ Some (record { bytes = 2 ^ 28; blocks = 100; inlines = 100; rules = older_rules })
   pub strike : limits_in (found_for (examples_with (codes "f" ∷ codes "--strike" ∷ [])))

@@ -1,10 +1,11 @@
 //! What the words of a command line ask for.
 ghost use Rattle.std.specs.Prelude.{◌≡◌, ◌∷◌, [], ℕ, List, Option, Some, true, false, IfOk, IfErr, IfSome};
-ghost use Rattle.std.specs.Prelude.{IsSomeAnd, codes, map, option_map, string_bytes};
+ghost use Rattle.std.specs.Prelude.{IsSomeAnd, map, option_and_then, option_map, string_bytes};
 ghost use Rattle.clap.specs.declared.builder.command.Command.TheViews.{out-Command};
-ghost use Rattle.clap.specs.Words.{app_of, first_of, found_of, kind_of, rows_of, rule_of, subcommand_rows_of};
-ghost use Rattle.cm_command.specs.CommandLine.{are_limits, cmk_app, each_once, examples_app, file_rule};
-ghost use Rattle.cm_command.specs.CommandLine.{flag_rule, found_for, hold_an_option, is_option, job_app};
+ghost use Rattle.clap.specs.Words.{app_of, found_of, kind_of, rows_of, rule_of, subcommand_rows_of};
+ghost use Rattle.cm_command.specs.CommandLine.{are_limits, cmk_app, each_once, examples_app, file_at};
+ghost use Rattle.cm_command.specs.CommandLine.{file_named, file_rule, flag_rule, found_for};
+ghost use Rattle.cm_command.specs.CommandLine.{hold_an_option, is_option, job_app};
 ghost use Rattle.cm_command.specs.CommandLine.{job_of, limit_rule, limits_at, limits_by, limits_for_job};
 ghost use Rattle.cm_command.specs.CommandLine.{reads_a_text, rules_in, stops_of, with_flags, words_for};
 ghost use Rattle.cm_command.specs.CommandLine.{Choice, IsMistake, IsTaskFor, IsTaskOf, StopsBy, StopsFor};
@@ -88,7 +89,7 @@ fn job_command<'a>(alloc: Global, name: &'a str, about: &'a str) -> Result<Comma
 {
     let blocks = "How many quotes and list items may stand round a line, 1 to 500";
     let inlines = "How deep emphasis, links and images may nest, 1 to 500";
-    let file = "The file to read; standard input if it is left out";
+    let file = "The file to read; standard input if it is - or left out";
     let command = Command::new(alloc, name)
         .about(about)
         .arg(file_arg(alloc, file))?
@@ -103,7 +104,8 @@ fn examples_command<'a>(alloc: Global) -> Result<Command<'a>, AllocError>
     ensures local { IfOk result (λ c. (out-Command c).has_globals ≡ false) }
 {
     let about = "Runs a file of CommonMark examples, and tells which of them differ";
-    let file = "The file of examples, in the form of the CommonMark specification";
+    let file =
+        "The file of examples, in the form of the CommonMark specification; standard input if it is -";
     let command = Command::new(alloc, "examples")
         .about(about)
         .arg(file_arg(alloc, file).required(true))?;
@@ -158,12 +160,12 @@ fn stop_of(alloc: Global, error: &Error) -> Stop
     }
 }
 
-/// The file that the words of a subcommand name.
+/// The file that the words of a subcommand name; None for standard input.
 fn file_of(alloc: Global, found: &ArgMatches<'_>) -> Result<Option<String>, AllocError>
-    ensures { IfOk result (λ file. option_map string_bytes file
-        ≡ first_of (codes "file") (rows_of (found_of found.now))) }
+    ensures { IfOk result (λ file. option_map string_bytes file ≡ file_at (rows_of (found_of found.now))) }
 {
     match found.get_str("file") {
+        Some("-") => Ok(None),
         Some(name) => Ok(Some(String::from_str(alloc, name)?)),
         None => Ok(None),
     }
@@ -231,11 +233,12 @@ fn task_of(alloc: Global, matches: &ArgMatches<'_>) -> Result<Task, AllocError>
 /// `Stop`, whose text is `clap`'s. Memory may run out in any call.
 pub fn task(alloc: Global, words: &[String]) -> Result<Task, Stop>
     // A job on a text by its name, with each option at most once, in any order, and a file or none.
-    // Neither a number nor the file begins with a hyphen.
+    // Neither a number nor the file is a hyphen followed by more; a file `-` is standard input.
     ensures asked { (name : List ℕ) (job : Job) (choices : List Choice) (file : Option (List ℕ))
         → reads_a_text job ≡ true → map string_bytes words.now ≡ name ∷ words_for job choices file
         → each_once choices ≡ true → are_limits choices ≡ true
-        → IfSome file (λ f. is_option f ≡ false) → IsTaskFor job file (limits_by choices) result }
+        → IfSome file (λ f. is_option f ≡ false)
+        → IsTaskFor job (option_and_then file_named file) (limits_by choices) result }
     ensures out_of_range { (name : List ℕ) (job : Job) (choices : List Choice) (file : Option (List ℕ))
         → reads_a_text job ≡ true → map string_bytes words.now ≡ name ∷ words_for job choices file
         → each_once choices ≡ true → are_limits choices ≡ false → hold_an_option choices ≡ false

@@ -20,7 +20,7 @@ pub enum Job {
 #[derive(Debug, PartialEq, Eq, Drop)]
 pub struct Task {
     pub job: Job,
-    /// The file that is read; standard input if it is left out.
+    /// The file to read; `None` for standard input, where the words leave it out or say `-`.
     pub file: Option<String>,
     pub limits: Limits,
 }

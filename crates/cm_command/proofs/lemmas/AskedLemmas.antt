@@ -17,7 +17,7 @@ use Rattle.cm_text.specs.Limits.{LimitsView}
 use Rattle.cm_command.specs.declared.job.Job.{Job}
 use Rattle.cm_command.specs.declared.job.Job.TheVariants.{Render, Tree, Rewrite, Examples}
 use Rattle.cm_command.specs.declared.job.Task.{Task}
-use Rattle.cm_command.specs.CommandLine.{are_limits, each_once, file_in, file_rule, found_for, given_for, hold_an_option, is_given, is_limit, is_option, is_set, job_in, job_of, limits_at, limits_by, limits_in, limits_of, name_of, number_for, numbers_in, option_of, reads_a_text, rules_in, stops_of, value_of, words_for, words_of, Blocks, Choice, Inlines, IsTaskOf, Set, Flag, Older, Strike, NoHtml, WebLinks, Safe, flag_name, flag_rule, rules_for}
+use Rattle.cm_command.specs.CommandLine.{are_limits, each_once, file_in, file_named, file_rule, found_for, given_for, hold_an_option, is_given, is_limit, is_option, is_set, job_in, job_of, limits_at, limits_by, limits_in, limits_of, name_of, number_for, numbers_in, option_of, reads_a_text, rules_in, stops_of, value_of, words_for, words_of, Blocks, Choice, Inlines, IsTaskOf, Set, Flag, Older, Strike, NoHtml, WebLinks, Safe, flag_name, flag_rule, rules_for}
 use Rattle.cm_command.proofs.lemmas.CommandLineLemmas.{no_dashes, no_long, no_short, plain_limit}
 use Rattle.cm_command.proofs.lemmas.RowLemmas.{first_default, or_assoc, row_by, used_new, with_defaults}
 use Rattle.cm_command.proofs.lemmas.WalkedLemmas.{cmk_built, job_rules}
@@ -85,7 +85,7 @@ or_else_assoc (k ∷ ks) b c = refl
 
 -- ---- one option
 
--- the number does not begin with a hyphen
+-- the number is no option
 abbrev pub IsPlainChoice : Choice → Type 0
 IsPlainChoice (Blocks number) = is_option number ≡ false
 IsPlainChoice (Inlines number) = is_option number ≡ false
@@ -366,7 +366,7 @@ level_right name words =
 
 -- ---- the words that ask for a job
 
--- where no number begins with a hyphen, the options are plain
+-- where no number is an option, the options are plain
 plain_numbers : (choices : List Choice) → hold_an_option choices ≡ false → ArePlain choices
 plain_numbers [] plain = tt
 plain_numbers (Blocks number ∷ choices) plain = let apart = either_false _ _ plain in (apart.0, plain_numbers choices apart.1)
@@ -549,11 +549,11 @@ end_limits choices file =
 pub asked_task : (name : Text) (job : Job) (choices : List Choice) (file : Option Text) (task : Task) → reads_a_text job ≡ true → each_once choices ≡ true
     → are_limits choices ≡ true → IfSome file (λ f. is_option f ≡ false)
     → IsTaskOf (found_for (name ∷ words_for job choices file)) task
-    → (task.job ≡ job) × (option_map string_bytes task.file ≡ file) × (Some task.limits ≡ limits_by choices)
+    → (task.job ≡ job) × (option_map string_bytes task.file ≡ option_and_then file_named file) × (Some task.limits ≡ limits_by choices)
 asked_task name job choices file task text once numbers plain is =
     let found = asked_found name job choices file text once (plain_numbers choices (limits_plain (numbers_in choices) numbers)) plain in (
       ap (λ (o : Option Job). unwrap_or o job) (sym is.job ∙ ap job_in found ∙ by_name job),
-      sym is.file ∙ ap file_in found ∙ end_file choices file,
+      sym is.file ∙ ap file_in found ∙ ap (option_and_then file_named) (end_file choices file),
       sym is.limits ∙ ap limits_in found ∙ of_text job text ∙ end_limits choices file,
     )
   where

@@ -1,6 +1,6 @@
 -- How clap reads the command line of cmk.
 use Rattle.std.proofs.Common.{◌≡◌, ◌∙◌, ◌≤◌, ◌^◌, ℕ, List, [], ◌∷◌, Some, None, refl, ap, ap₂, sym, subst, inl, inr, bytes_eq, arith, Option, true, false, ◌||◌}
-use Rattle.std.specs.Prelude.{◌⊎◌, ⊤, Result, Err, ◌==◌, codes, option_and_then, option_map, unwrap_or, Bool}
+use Rattle.std.specs.Prelude.{◌⊎◌, ⊤, Result, Err, ◌==◌, ◌&&◌, codes, cond, option_and_then, option_map, unwrap_or, Bool}
 use Rattle.std.specs.Option.{option_map_or}
 use Rattle.std.proofs.lemmas.Bool.{eqb-true, le-leb}
 use Rattle.std.specs.Str.Parse.{ParsesUnsigned, ExplainsUnsignedError, HasUnsignedDigitsIfOk, digits_value, without_leading_plus}
@@ -12,7 +12,7 @@ use Rattle.clap.proofs.ValueTestLemmas.{accepts-Accepts}
 use Rattle.clap.specs.declared.error.kind.ErrorKind.TheVariants.{ValueValidation}
 use Rattle.cm_text.specs.Limits.{LimitsView, limits_for}
 use Rattle.cm_text.specs.Rules.{profile}
-use Rattle.clap.specs.Lexer.{long_of, short_of}
+use Rattle.clap.specs.Lexer.{long_of, long_of_rest, short_of, short_of_rest, strip_byte}
 use Rattle.clap.specs.declared.parser.matches.ArgMatches.{ArgMatches}
 use Rattle.clap.specs.declared.parser.matches.ArgMatches.TheViews.{out-ArgMatches, out-SubCommand}
 use Rattle.clap.specs.Words.{Row, found_of, rows_of, subcommand_name_of, subcommand_rows_of}
@@ -23,7 +23,7 @@ use Rattle.clap.specs.declared.error.kind.ErrorKind.TheVariants.{DisplayHelp, Di
 use Rattle.cm_command.specs.declared.job.Job.{Job}
 use Rattle.cm_command.specs.declared.job.Stop.{Stop}
 use Rattle.cm_command.specs.declared.job.Stop.TheVariants.{Help, Wrong, NoMemory}
-use Rattle.cm_command.specs.CommandLine.{Found, IsMistake, StopsBy, as_number, cmk_app, is_limit, is_option, is_set, limits_for_job}
+use Rattle.cm_command.specs.CommandLine.{Found, IsMistake, StopsBy, as_number, cmk_app, file_named, is_limit, is_option, is_set, limits_for_job}
 use Rattle.cm_command.specs.steps.Arguments.{IsRead, fits}
 use Rattle.std.proofs.lemmas.Slice.Eq.{bytes_eq-Decides}
 
@@ -110,29 +110,55 @@ flag_read name rows result r is_flag reads =
         rw (r.is_first, is_true) (reads.1 (r.is_read ∙ ap Some text_is))
     either false false is_true is_false fit = cc
 
+-- ---- the file
+
+-- a word other than `-` names the file of its name
+pub other_file : (word : Text) → (word ≡ codes "-" → ⊥) → file_named word ≡ Some word
+other_file word other = either (bytes_eq word (codes "-")) refl
+  where
+    either : (is : Bool) → bytes_eq word (codes "-") ≡ is → cond is None (Some word) ≡ Some word
+    either true same = absurd (other ((bytes_eq-Decides word (codes "-")).0 same))
+    either false same = refl
+
 -- ---- the words for a job
 
--- a word that begins with no hyphen is neither `--` nor a flag
+-- a word that is no option, as a hyphen alone, is neither `--` nor a flag
 pub no_dashes : (word : Text) → is_option word ≡ false → bytes_eq word (45 ∷ 45 ∷ []) ≡ false
 no_dashes [] plain = refl
-no_dashes (b ∷ bs) plain = rw (plain) refl
+no_dashes (b ∷ []) plain = alone (b == 45)
+  where
+    alone : (is : Bool) → (is && false) ≡ false
+    alone true = refl
+    alone false = refl
+no_dashes (b ∷ next ∷ bs) plain = rw (plain) refl
 
 pub no_long : (word : Text) → is_option word ≡ false → long_of word ≡ None
 no_long [] plain = refl
-no_long (b ∷ bs) plain = rw (plain) refl
+no_long (b ∷ []) plain = alone (b == 45)
+  where
+    alone : (is : Bool) → option_and_then long_of_rest (option_and_then (strip_byte 45) (cond is (Some []) None)) ≡ None
+    alone true = refl
+    alone false = refl
+no_long (b ∷ next ∷ bs) plain = rw (plain) refl
 
 pub no_short : (word : Text) → is_option word ≡ false → short_of word ≡ None
 no_short [] plain = refl
-no_short (b ∷ bs) plain = rw (plain) refl
+no_short (b ∷ []) plain = alone (b == 45)
+  where
+    alone : (is : Bool) → option_and_then short_of_rest (cond is (Some []) None) ≡ None
+    alone true = refl
+    alone false = refl
+no_short (b ∷ next ∷ bs) plain = rw (plain) refl
 
--- a number begins with no hyphen
+-- a number is no option
 pub plain_limit : (word : Text) → is_limit word ≡ true → is_option word ≡ false
 plain_limit [] in_range = refl
-plain_limit (b ∷ bs) in_range = first (b == 45) refl
+plain_limit (b ∷ []) in_range = refl
+plain_limit (b ∷ next ∷ bs) in_range = first (b == 45) refl
   where
     first : (is : Bool) → (b == 45) ≡ is → (b == 45) ≡ false
     first true same =
-        let passed : IsUnsignedIn 1 500 (45 ∷ bs) = accepts-Accepts false (Unsigned 1 500) (45 ∷ bs) (rw (eqb-true b 45 same) at in_range) in
+        let passed : IsUnsignedIn 1 500 (45 ∷ next ∷ bs) = accepts-Accepts false (Unsigned 1 500) (45 ∷ next ∷ bs) (rw (eqb-true b 45 same) at in_range) in
         let digit = passed.0.1.0 in
         absurd (omega arith)
     first false same = same

@@ -7,6 +7,8 @@ unfolding clap_on_literals
 returns c = record {
   job = refl;
   file = refl;
+  standard_input = refl;
+  file_called_hyphen = refl;
   limits = refl;
   older = refl;
   strike = refl;
