@@ -32,6 +32,7 @@ pub mod ReadLemmas
 pub mod ReportingLemmas
 pub mod RewritingLemmas
 pub mod SettledLemmas
+pub mod ShownLemmas
 pub mod PlainSourceLemmas
 pub mod TellingLemmas
 pub mod TextLemmas

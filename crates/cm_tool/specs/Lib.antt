@@ -15,6 +15,8 @@ pub mod ReportExamples
 pub mod Reporting
 pub mod Rewriting
 pub mod Running
+pub mod Shown
+pub mod ShownExamples
 pub mod TextMarkup
 pub mod Within
 pub mod steps

@@ -1,5 +1,5 @@
 -- What running a task, or reporting why there is none, writes and returns.
-use Rattle.std.specs.Prelude.{◌≡◌, ℕ, List, Result, Ok, Err, string_bytes, ◌⊎◌}
+use Rattle.std.specs.Prelude.{◌≡◌, ℕ, List, ◌++◌, Result, Ok, Err, codes, string_bytes, ◌⊎◌}
 use Rattle.cm_tool.specs.Reading.{SourceView}
 use Rattle.cm_text.specs.Limits.{LimitsView}
 use Rattle.cm_text.specs.Writing.{SinkView, IsUnwritten, Wrote, WroteFront}
@@ -9,8 +9,9 @@ use Rattle.cm_tool.specs.Reporting.{WritesReport}
 use Rattle.cm_tool.specs.Rewriting.{Rewrites}
 use Rattle.cm_tool.specs.declared.fault.Fault.{Fault}
 use Rattle.cm_tool.specs.declared.fault.Fault.TheVariants as faults
-use Rattle.cm_tool.specs.declared.fault.Fault.TheVariants.{WriteFailed}
+use Rattle.cm_tool.specs.declared.fault.Fault.TheVariants.{ReadFailed, WriteFailed}
 use Rattle.cm_tool.specs.FaultLines.{fault_text, line_of}
+use Rattle.cm_tool.specs.Shown.{shown}
 use Rattle.cm_command.specs.declared.job.Job.{Job}
 use Rattle.cm_command.specs.declared.job.Job.TheVariants.{Render, Tree, Rewrite, Examples}
 use Rattle.cm_command.specs.declared.job.Stop.{Stop}
@@ -61,3 +62,11 @@ Tells (Wrong text) status old new old-errors new-errors =
     (status ≡ 2) × IsUnwritten old new × Offered old-errors new-errors (string_bytes text)
 Tells NoMemory status old new old-errors new-errors =
     (status ≡ 1) × IsUnwritten old new × OfferedLine faults.NoMemory old-errors new-errors
+
+-- the lines about a file that can't be opened: the fault, and then its name and the reason
+abbrev pub unopened_lines : (name reason : List ℕ) → List ℕ
+unopened_lines name reason = line_of (fault_text ReadFailed) ++ line_of (codes "cannot open " ++ shown name ++ codes ": " ++ shown reason)
+
+-- the errors get these lines, or that of want of memory
+abbrev pub TellsUnopened : (name reason : List ℕ) → SinkView → SinkView → Type 0
+TellsUnopened name reason old new = Offered old new (unopened_lines name reason) ⊎ OfferedLine faults.NoMemory old new

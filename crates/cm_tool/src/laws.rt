@@ -3,6 +3,8 @@ ghost use Rattle.cm_tool.specs.ExampleLaws.{ExamplesAreDetermined, ExamplesAreTo
 ghost use Rattle.cm_tool.specs.HtmlExamples.{HtmlExamples};
 ghost use Rattle.cm_tool.specs.Faults.{SettledIsTold};
 ghost use Rattle.cm_tool.specs.ReportExamples.{ReportExamples};
+ghost use Rattle.cm_tool.specs.Shown.{ShownIsPrintable};
+ghost use Rattle.cm_tool.specs.ShownExamples.{ShownExamples};
 ghost use Rattle.cm_tool.specs.Owners.{OneOwnerALine, RunsInOrder};
 ghost use Rattle.cm_tool.specs.FaultExamples.{FaultExamples};
 ghost use Rattle.cm_tool.specs.TextMarkup.{HeadingLevels, TextIsNoMarkup, TextsFromStrangers};
@@ -17,6 +19,8 @@ pub fn worked_examples()
     ensures html { HtmlExamples }
     // From a file of examples to their report.
     ensures files { ReportExamples }
+    // Of texts as they are written to a terminal.
+    ensures shown { ShownExamples }
 {}
 
 /// A parser meets faults in an order that gives the fault of the input: first a line that has ended and
@@ -67,4 +71,10 @@ pub fn examples_by_lines()
     ensures text { ExamplesOfText }
     ensures told { ExamplesAreTold }
     ensures determined { ExamplesAreDetermined }
+{}
+
+/// A text as it is written to a terminal has no control or format character, and no separator of lines or
+/// paragraphs. So it is one line.
+pub fn shown_is_printable()
+    ensures { ShownIsPrintable }
 {}

@@ -8,7 +8,7 @@
 //! - For files of examples: [`examples`] and [`examples_by`], whose [`Report`] tells its verdict.
 //! - [`Fault`] has each fault, with the line that the program prints.
 //!
-//! The program itself is made of [`task`], [`run`] and [`tell`].
+//! The program itself is made of [`task`], [`run`], [`tell`] and [`tell_unopened`].
 //!
 //! ```
 //! use cm_text::Limits;
@@ -35,10 +35,11 @@ pub mod laws;
 mod outputs;
 mod reading;
 mod running;
+mod shown;
 
 pub use cm_command::{Job, Stop, Task, task};
 pub use example_files::{Difference, Report, examples, examples_by};
 pub use fault::Fault;
 pub use outputs::{convert, rewrite};
 pub use reading::{Parser, doc_of, html_of, read, read_text, source_of};
-pub use running::{run, tell};
+pub use running::{run, tell, tell_unopened};

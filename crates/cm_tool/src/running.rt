@@ -1,15 +1,17 @@
 //! Doing a task, and telling what goes wrong.
-ghost use Rattle.std.specs.Prelude.{◌≡◌, ℕ, ◌-◌, ◌^◌, ◌<◌, List, Result, IfOk};
+ghost use Rattle.std.specs.Prelude.{◌≡◌, ℕ, ◌-◌, ◌^◌, ◌<◌, List, Result, IfOk, string_bytes};
 ghost use Rattle.std.specs.Io.KnownBytes.{Consumes};
 ghost use Rattle.cm_tool.specs.declared.fault.Fault as faults;
-ghost use Rattle.cm_tool.specs.Running.{Does, Offered, OfferedLine, Tells, RunsTo};
+ghost use Rattle.cm_tool.specs.Running.{Does, Offered, OfferedLine, RunsTo, Tells};
+ghost use Rattle.cm_tool.specs.Running.{TellsUnopened, unopened_lines};
 
 use crate::example_files::report;
 use crate::fault::Fault;
 use crate::outputs::{convert, list, rewrite};
+use crate::shown::push_shown;
 use cm_command::{Job, Stop, Task};
 use cm_text::{Sink, Source, WriteFailed, write_all};
-use std::alloc::Global;
+use std::alloc::{AllocError, Global};
 
 /// Writes the text, and passes over a failure.
 fn offer<E: Sink>(errors: &mut E, text: &[u8])
@@ -107,5 +109,37 @@ pub fn tell<W: Sink, E: Sink>(stop: &Stop, writer: &mut W, errors: &mut E) -> u8
             2
         }
         Stop::NoMemory => tell_fault(Fault::NoMemory, errors),
+    }
+}
+
+/// The lines about a file that can't be opened.
+fn unopened_lines(alloc: Global, name: &str, reason: &str) -> Result<String, AllocError>
+    ensures { IfOk result (λ lines. string_bytes lines ≡ unopened_lines name.now reason.now) }
+{
+    let mut lines = String::from_str(alloc, Fault::ReadFailed.line().as_str())?;
+    lines.push_str("cmk: cannot open ")?;
+    push_shown(&mut lines, name)?;
+    lines.push_str(": ")?;
+    push_shown(&mut lines, reason)?;
+    lines.push_str("\n")?;
+    Ok(lines)
+}
+
+/// Reports that the file of this name can't be opened, with the reason, and answers the exit status 1.
+/// Control and format characters of both are written as `\u{..}`, so they stay on one line. If memory runs
+/// out, that is reported instead. A failure of `errors` is passed over.
+pub fn tell_unopened<E: Sink>(alloc: Global, name: &str, reason: &str, errors: &mut E) -> u8
+    requires { E.failed errors.old < 2 ^ 64 - 1 }
+    ensures status { result ≡ 1 }
+    ensures lines { TellsUnopened name.now reason.now
+        (record { taken = E.taken errors.old; failed = E.failed errors.old })
+        (record { taken = E.taken errors.new; failed = E.failed errors.new }) }
+{
+    match unopened_lines(alloc, name, reason) {
+        Ok(lines) => {
+            offer(errors, lines.as_bytes());
+            1
+        }
+        Err(_) => tell_fault(Fault::NoMemory, errors),
     }
 }

@@ -4,37 +4,12 @@
 //! program.
 #![tactic(auto)]
 
-ghost use Rattle.std.specs.Prelude.{◌≡◌, ◌+◌, ◌-◌, ◌^◌, ◌<◌, None, is_ok, if◌then◌else◌};
-ghost use Rattle.std.specs.Io.{ReadsAtMost};
-ghost use Rattle.std.specs.Io.KnownBytes.{ReadConsumes};
-
-use cm_text::{DeviceFailed, FromRead, FromWrite, Source};
-use cm_tool::{Stop, Task, run, task, tell};
+use cm_text::{FromRead, FromWrite};
+use cm_tool::{Stop, Task, run, task, tell, tell_unopened};
 use std::env::{self, Env};
 use std::fs::File;
 use std::io::ErrorKind;
 use std::process::ExitCode;
-
-/// A file that couldn't be opened: each read of it fails.
-#[derive(Drop)]
-struct UnopenedFile {
-    failures: u64,
-}
-
-impl Source for UnopenedFile {
-    ghost remaining = { λ _. None };
-
-    ghost failed = { λ file. file.failures };
-
-    fn read(&mut self, _buf: &mut [u8]) -> Result<usize, DeviceFailed> {
-        self.failures += 1;
-        Err(DeviceFailed)
-    }
-
-    fn failures(&self) -> u64 {
-        self.failures
-    }
-}
 
 /// The task that the program's words ask for.
 fn asked<R: Env + AllocGlobal>(rt: &R) -> Result<Task, Stop> {
@@ -70,10 +45,10 @@ fn main(rt: HostRuntime) -> ExitCode {
                 let mut input = FromRead::new(file);
                 run(alloc, &task, &mut input, &mut output, &mut errors)
             }
-            Err(_) => {
-                let mut input = UnopenedFile { failures: 0 };
-                run(alloc, &task, &mut input, &mut output, &mut errors)
-            }
+            Err(error) => match format!(in alloc; "{error}") {
+                Ok(reason) => tell_unopened(alloc, name, &reason, &mut errors),
+                Err(_) => tell(&Stop::NoMemory, &mut output, &mut errors),
+            },
         },
     };
     ExitCode::from(status)

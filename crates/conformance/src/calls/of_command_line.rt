@@ -1,10 +1,11 @@
-//! Calls of `cm_tool`: `task`, `tell`, the lines of faults, and `examples`.
+//! Calls of `cm_tool`: `task`, `tell`, `tell_unopened`, the lines of faults, and `examples`.
 
 use crate::runs::{Space, told};
 use case_tables::calls::Answer;
 use case_tables::trouble::Trouble;
 use case_tables::words::{Word, number};
-use cm_tool::{Fault, Job, Report, Stop, Task, examples, task};
+use cm_text::Room;
+use cm_tool::{Fault, Job, Report, Stop, Task, examples, task, tell_unopened};
 use std::alloc::Global;
 
 /// The job, the file, the limits and the marks of their rules.
@@ -68,6 +69,15 @@ fn told_of(answer: &mut Answer, stop: &Stop, capacity: usize) -> Result<bool, Tr
     Ok(true)
 }
 
+/// The exit status, and the errors, where the file of this name can't be opened for this reason.
+fn unopened(answer: &mut Answer, file: &str, reason: &str) -> Result<bool, Trouble> {
+    let mut errors = Room::new(answer.alloc, 999, 999)?;
+    let status = tell_unopened(answer.alloc, file, reason, &mut errors);
+    answer.number(usize::from(status))?;
+    answer.bytes(errors.taken())?;
+    Ok(true)
+}
+
 /// The line of the fault that a text is too long at this place.
 fn too_long(answer: &mut Answer, at: usize) -> Result<bool, Trouble> {
     let line = format!(in answer.alloc; "{}", Fault::TooLong { at })?;
@@ -100,6 +110,9 @@ pub(super) fn answers(answer: &mut Answer, name: &str, given: &[Word]) -> Result
             let stop = stop(answer.alloc, kind.as_str(), text.as_str())?;
             let room = number(answer.alloc, room.as_str())?;
             told_of(answer, &stop, room)
+        }
+        [Word::Text(file), Word::Text(reason)] if name == "unopened" => {
+            unopened(answer, file.as_str(), reason.as_str())
         }
         [Word::Plain(at)] if name == "too_long" => {
             let at = number(answer.alloc, at.as_str())?;

@@ -1,4 +1,5 @@
 use Rattle.std.proofs.Common.{◌≡◌, ℕ, List, [], ◌∷◌, Option, Some, ap, codes, refl}
+use Rattle.ucd_category.proofs.Computing.{ucd_category}
 use Rattle.cm_text.specs.Rules.{profile}
 use Rattle.cm_text.specs.Addresses.{address_scheme}
 use Rattle.cm_text.specs.Lines.{text_of, plain_lines_of}
@@ -9,6 +10,7 @@ use Rattle.cm_tree.proofs.lemmas.Targets.{first_counts}
 use Rattle.cm_scan.specs.inlines.Brackets.{Defined}
 use Rattle.cm_scan.specs.inlines.Inlines.{inlines_of}
 use Rattle.cm_scan.specs.Documents.{defined_by}
+use Rattle.cm_tool.specs.Shown.{is_nonprinting}
 use Rattle.cm_tool.specs.Writing.{converted}
 use Rattle.std.specs.Fmt.{digits}
 use Rattle.std.specs.Str.{is_utf8, chars}
@@ -105,4 +107,19 @@ returns-clause-files c = record {
   no_closing_line = refl;
   all_agree = refl;
   first_that_differs = refl;
+}
+
+pub returns-clause-shown : goal.returns-clause-shown
+unfolding ucd_category is_nonprinting chars encode
+returns-clause-shown c = record {
+  name = refl;
+  letter_beyond_ascii = refl;
+  backslash = refl;
+  escape = refl;
+  line_feed = refl;
+  delete = refl;
+  next_line = refl;
+  line_separator = refl;
+  override_of_direction = refl;
+  tag = refl;
 }
