@@ -1,5 +1,5 @@
 -- What running a task, or reporting why there is none, writes and returns.
-use Rattle.std.specs.Prelude.{◌≡◌, ℕ, List, ◌++◌, Result, Ok, Err, codes, string_bytes, ◌⊎◌}
+use Rattle.std.specs.Prelude.{◌≡◌, ℕ, zero, List, ◌++◌, Result, Ok, Err, codes, string_bytes, ◌⊎◌}
 use Rattle.cm_tool.specs.Reading.{SourceView}
 use Rattle.cm_text.specs.Limits.{LimitsView}
 use Rattle.cm_text.specs.Writing.{SinkView, IsUnwritten, Wrote, WroteFront}
@@ -10,6 +10,7 @@ use Rattle.cm_tool.specs.Rewriting.{Rewrites}
 use Rattle.cm_tool.specs.declared.fault.Fault.{Fault}
 use Rattle.cm_tool.specs.declared.fault.Fault.TheVariants as faults
 use Rattle.cm_tool.specs.declared.fault.Fault.TheVariants.{ReadFailed, WriteFailed}
+use Rattle.cm_tool.specs.ExampleFiles.{opening_line}
 use Rattle.cm_tool.specs.FaultLines.{fault_text, line_of}
 use Rattle.cm_tool.specs.Shown.{shown}
 use Rattle.cm_command.specs.declared.job.Job.{Job}
@@ -34,10 +35,19 @@ abbrev pub status_of : Result ℕ Fault → ℕ
 status_of (Ok _) = 0
 status_of (Err _) = 1
 
--- The error writer gets the line of a fault, or nothing if there is none.
-abbrev pub Reports : Result ℕ Fault → SinkView → SinkView → Type 0
-Reports (Ok _) old new = IsUnwritten old new
-Reports (Err fault) old new = OfferedLine fault old new
+-- the line about a file without examples
+abbrev pub no_example_line : List ℕ
+no_example_line = line_of (codes "no example found; an example starts with the line " ++ opening_line)
+
+-- The error writer gets that line if no example was found, and otherwise nothing.
+abbrev pub ReportsDone : Job → (count : ℕ) → SinkView → SinkView → Type 0
+ReportsDone Examples zero old new = Offered old new no_example_line
+ReportsDone _ _ old new = IsUnwritten old new
+
+-- The error writer gets the line of a fault, or what there is to report of a job that is done.
+abbrev pub Reports : Job → Result ℕ Fault → SinkView → SinkView → Type 0
+Reports job (Ok count) old new = ReportsDone job count old new
+Reports job (Err fault) old new = OfferedLine fault old new
 
 -- what doing a job returns once these bytes have been read, and what has been written then
 abbrev pub Does : Job → Result ℕ Fault → LimitsView → List ℕ → SourceView → SourceView → SinkView → SinkView → Type 0
@@ -50,7 +60,7 @@ Does Examples answer limits bytes from left old new = WritesReport answer limits
 pub record RunsTo (answer : Result ℕ Fault) (status : ℕ) (job : Job) (limits : LimitsView) (bytes : List ℕ) (from left : SourceView) (old new old-errors new-errors : SinkView) : Type 0 where
   pub does : Does job answer limits bytes from left old new
   pub told : status ≡ status_of answer
-  pub reports : Reports answer old-errors new-errors
+  pub reports : Reports job answer old-errors new-errors
 
 -- Help is written, with status 0, or the failure to write it is reported, with 1. A wrong command line is
 -- reported with 2, and exhausted memory with 1.

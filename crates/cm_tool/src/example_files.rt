@@ -18,7 +18,7 @@ pub(crate) use reporting::report;
 use std::alloc::{AllocError, Global};
 
 /// The line that opens an example.
-const OPENING: &str = "```````````````````````````````` example";
+pub(crate) const OPENING: &str = "```````````````````````````````` example";
 
 /// The line that closes an example.
 const CLOSING: &str = "````````````````````````````````";

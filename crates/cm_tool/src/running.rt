@@ -2,13 +2,14 @@
 ghost use Rattle.std.specs.Prelude.{◌≡◌, ℕ, ◌-◌, ◌^◌, ◌<◌, List, Result, IfOk, string_bytes};
 ghost use Rattle.std.specs.Io.KnownBytes.{Consumes};
 ghost use Rattle.cm_tool.specs.declared.fault.Fault as faults;
-ghost use Rattle.cm_tool.specs.Running.{Does, Offered, OfferedLine, RunsTo, Tells};
-ghost use Rattle.cm_tool.specs.Running.{TellsUnopened, unopened_lines};
+ghost use Rattle.cm_tool.specs.Running.{Does, Offered, OfferedLine, ReportsDone, RunsTo, Tells};
+ghost use Rattle.cm_tool.specs.Running.{TellsUnopened, no_example_line, unopened_lines};
 
-use crate::example_files::report;
-use crate::fault::Fault;
+use crate::example_files::{OPENING, report};
+use crate::fault::{Fault, LINE};
 use crate::outputs::{convert, list, rewrite};
 use crate::shown::push_shown;
+use arrayvec::ArrayString;
 use cm_command::{Job, Stop, Task};
 use cm_text::{Sink, Source, WriteFailed, write_all};
 use std::alloc::{AllocError, Global};
@@ -36,6 +37,31 @@ fn tell_fault<E: Sink>(fault: Fault, errors: &mut E) -> u8
     1
 }
 
+/// The line about a file without examples. It takes no memory.
+fn no_example_line() -> ArrayString<LINE>
+    ensures { result.bytes ≡ no_example_line }
+{
+    let mut line = ArrayString::new();
+    line.push_str("cmk: no example found; an example starts with the line ");
+    line.push_str(OPENING);
+    line.push_str("\n");
+    line
+}
+
+/// Reports a file of examples that has none, and answers the exit status of a job that is done.
+fn tell_done<E: Sink>(job: Job, count: usize, errors: &mut E) -> u8
+    requires { E.failed errors.old < 2 ^ 64 - 1 }
+    ensures status { result ≡ 0 }
+    ensures line { ReportsDone job count
+        (record { taken = E.taken errors.old; failed = E.failed errors.old })
+        (record { taken = E.taken errors.new; failed = E.failed errors.new }) }
+{
+    if matches!(job, Job::Examples) && count == 0 {
+        offer(errors, no_example_line().as_str().as_bytes());
+    }
+    0
+}
+
 /// Does the job of the task.
 fn work<R: Source, W: Sink>(
     alloc: Global,
@@ -60,8 +86,8 @@ fn work<R: Source, W: Sink>(
     }
 }
 
-/// Does the task and answers the exit status: 0, or 1 after a fault, whose line goes to `errors`. A
-/// failure of `errors` is passed over.
+/// Does the task and answers the exit status: 0, or 1 after a fault, whose line goes to `errors`. A line
+/// goes there too where a file of examples has none. A failure of `errors` is passed over.
 pub fn run<R: Source, W: Sink, E: Sink>(
     alloc: Global,
     task: &Task,
@@ -82,7 +108,7 @@ pub fn run<R: Source, W: Sink, E: Sink>(
         (record { taken = E.taken errors.new; failed = E.failed errors.new }) }
 {
     match work(alloc, task, reader, writer) {
-        Ok(_) => 0,
+        Ok(count) => tell_done(task.job, count, errors),
         Err(fault) => tell_fault(fault, errors),
     }
 }

@@ -16,6 +16,9 @@ use std::alloc::{AllocError, Global};
 /// The report of a file without examples.
 const NO_EXAMPLES: &[u8] = b"0 of 0 agree\n";
 
+/// What the line about it begins with.
+const NONE_FOUND: &str = "cmk: no example found; an example starts with the line ";
+
 /// How a text is tried.
 #[derive(Clone, Copy, Debug)]
 pub(crate) enum Tries {
@@ -102,6 +105,15 @@ impl Text<'_> {
         }
     }
 
+    /// What is to be written to the errors: the line of the fault, or that there is no example.
+    fn errors(&self, job: Job, told: &str) -> Result<String, AllocError> {
+        match job {
+            _ if !told.is_empty() => format!(in self.alloc; "cmk: {told}\n"),
+            Job::Examples => format!(in self.alloc; "{NONE_FOUND}{FENCE} example\n"),
+            _ => Ok(String::new(self.alloc)),
+        }
+    }
+
     /// That the job, as the program runs it, gives what is wanted, and makes as many reads.
     fn runs(&self, job: Job, cut: Cut, space: Space) -> Result<(), Trouble> {
         let Some(whole) = self.whole(job) else {
@@ -118,12 +130,8 @@ impl Text<'_> {
         let input = (pieces(alloc, self.input, cut)?, self.fails);
         let ran = ran(alloc, &task, input, (space, ample(0)))?;
         let is_well = told.is_empty();
-        let line = if is_well {
-            told
-        } else {
-            format!(in alloc; "cmk: {told}\n")?
-        };
-        same(alloc, "fault", line.as_bytes(), ran.errors.taken())?;
+        let line = self.errors(job, &told)?;
+        same(alloc, "errors", line.as_bytes(), ran.errors.taken())?;
         let front = whole.get(..taken).unwrap_or(whole);
         same(alloc, "output", front, ran.output.taken())?;
         if (ran.status == 0) != is_well || ran.status > 1 {
