@@ -1,4 +1,7 @@
 //! The lines of a text that comes in pieces, as values of their own.
+//!
+//! A `LineBuffer` lends its lines instead. Both promise the same of what they hold, and their proofs share
+//! lemmas.
 ghost use Rattle.std.specs.Prelude.{◌≡◌, ◌≢◌, ◌+◌, ◌<◌, ◌≤◌, [], ◌∷◌, ◌++◌, if◌then◌else◌, ℕ, List, length};
 ghost use Rattle.std.specs.Prelude.{map, OnOk, is_some, is_ok, IfOk, IfSome, IfNone, None, false, OnErr};
 ghost use Rattle.cm_text.specs.Answers.{answer_after};

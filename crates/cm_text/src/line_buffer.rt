@@ -1,4 +1,6 @@
 //! The lines of a text that comes in pieces, lent from where they are held.
+//!
+//! Contracts see a buffer as what it holds, so that none mentions a pointer or a capacity.
 ghost use Rattle.std.specs.Prelude.{◌≡◌, ◌≢◌, ◌+◌, ◌<◌, ◌≤◌, [], ◌∷◌, ◌++◌};
 ghost use Rattle.std.specs.Prelude.{ℕ, List, length, drop, OnOk, is_ok, IfSome, IfNone, None, false};
 ghost use Rattle.cm_text.specs.Answers.{answer_after};

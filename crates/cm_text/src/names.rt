@@ -1,4 +1,7 @@
 //! The names of references, in the order of their bytes.
+//!
+//! They are one packed table, in which a name is found by binary search. It is proved by computation to have
+//! the names of the definition and no others.
 ghost use Rattle.std.specs.Prelude.{◌≡◌, ◌≢◌, ℕ, ◌<◌, IfSome, IfNone, option_map};
 ghost use Rattle.cm_text.specs.steps.NameTable.{names_joined, start_at, first_at, name_at, characters_at};
 ghost use Rattle.cm_text.specs.NamedReferences.{names};

@@ -1,4 +1,4 @@
-//! Rules of a reading.
+//! Rules of a reading: four options in one value that the limits carry. Everything is proved for all sixteen.
 ghost use Rattle.std.specs.Prelude.{◌≡◌};
 ghost use Rattle.cm_text.specs.Rules.{profile, older_rules};
 

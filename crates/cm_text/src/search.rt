@@ -1,4 +1,10 @@
 //! The search for bytes of a kind, many at a time, each in a lane of a wide register.
+//!
+//! One proved loop serves for the bytes that end a line, those of inline markup and those that HTML escapes.
+//! The search of `memchr` for three bytes took some 300 instructions a line, a tenth of all on plain text. A
+//! single byte is looked up in the table of its kind too: comparing it with each byte takes a branch between
+//! letters and spaces that a processor often predicts wrongly. On `lists.md` the lookup avoids 5.5 of a
+//! hundred wrong predictions, on `prose.md` 6.8.
 ghost use Rattle.std.specs.Prelude.{◌≡◌, ◌+◌, ◌<◌, ◌≤◌};
 ghost use Rattle.std.specs.Prelude.{ℕ, Bool, false, not, length, get_or, map, None, IfSome};
 ghost use Rattle.std.specs.List.{position_or_len, prefix_len};

@@ -1,4 +1,8 @@
-//! Lines of text, which go on with a paragraph as a look at the first byte of each tells.
+//! Lines of text, which continue an open paragraph, as the first byte of each shows.
+//!
+//! A line that starts, after any spaces, with an ASCII letter or a character beyond ASCII can start no block
+//! but a paragraph. So it continues the paragraph that is open, within the same quotes and items or as a lazy
+//! continuation line.
 ghost use Rattle.std.specs.Prelude.{◌≡◌, ℕ, ◌<◌, true, length, get_or, drop, [], ◌∷◌, ◌++◌};
 ghost use Rattle.cm_text.specs.TextLines.{begins_text, AreTextLines};
 ghost use Rattle.cm_text.specs.steps.FirstLine.{IsFirstLine};

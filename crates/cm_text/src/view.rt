@@ -1,4 +1,7 @@
 //! Lines seen without a copy.
+//!
+//! `Line::view` makes a `View`. It is a method, because in Rattle two names of a module can't differ only in
+//! case.
 ghost use Rattle.std.specs.Prelude.{◌≡◌, ◌+◌, ◌*◌, ◌^◌, ◌<◌, length, true};
 ghost use Rattle.cm_text.specs.LineText.{is_line, tabs};
 
