@@ -1,4 +1,8 @@
 //! A text that takes little room in a node.
+//!
+//! With destinations and titles on the heap an inline takes 64 bytes instead of 80, and most inlines are
+//! texts. The count is that of `Arc`, not `Rc`, so that a tree may go to another thread. It costs an atomic
+//! step whenever a text is shared or freed.
 ghost use Rattle.std.specs.Cmp.{partial_equiv_from_equiv};
 ghost use Rattle.std.specs.Cmp.Lexicographic.{pointwise, slice_cmp, nat_list_eq_equiv};
 ghost use Rattle.std.specs.Cmp.Lexicographic.{nat_list_cmp_total, texts_po, texts_ties};

@@ -1,4 +1,7 @@
-//! The table of link reference definitions.
+//! The table of link reference definitions: an array in the order of the text, and an index by label.
+//!
+//! No step sorts it once all definitions are known, so a caller may add and find in turn. It is searched
+//! before a definition is copied, so a second definition of a label leaves nothing in it.
 ghost use Rattle.std.specs.Prelude.{◌≡◌, ◌++◌, [], ◌∷◌};
 ghost use Rattle.std.specs.Prelude.{None, length, OnOk, OnErr, IfOk, option_map, string_bytes};
 ghost use Rattle.std.specs.FinMap as map;

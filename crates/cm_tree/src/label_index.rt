@@ -1,4 +1,9 @@
-//! Where an entry of the table of definitions stands, by its label.
+//! Where an entry of the table of definitions is, by its label.
+//!
+//! With a hash table alone, the author of a text could choose labels with equal numbers, so that searches
+//! take quadratic time; two such labels of 512 characters were found at once. Here a search looks at eight
+//! slots, and then descends a tree ordered by label. If there would be fewer than four slots for each entry
+//! in one, their number is doubled and the index made anew, while the entries stay where they are.
 ghost use Rattle.std.specs.Prelude.{◌≡◌, ◌≤◌, [], length, IfOk, IfSome, OnOk, OnErr};
 ghost use Rattle.cm_tree.specs.steps.LabelNumbers.{number_of};
 ghost use Rattle.cm_tree.specs.steps.LabelIndex.{home, IsFree, IsIndex, IsSame, GoesIn};

@@ -1,5 +1,12 @@
-//! Blocks whose inlines haven't been read. They own no memory: their texts lie behind one another in one
-//! text, and the blocks in them in one list.
+//! Blocks whose inlines haven't been read. They own no memory: their texts follow one another in one text,
+//! and the blocks in them in one list.
+//!
+//! A tree of owned blocks would allocate three times for each leaf: for its text, the list of its one inline
+//! and its item's blocks. It would free them much later, which is when an allocator is slowest. The content
+//! of a quote or item is moved to the end when that closes, so each block is moved twice at most.
+//!
+//! A place has 32 bits, which halves a block. A document that needs more is `TooLarge`; none within the
+//! limits does, because a text has at most 2^30 bytes, each of which becomes at most three.
 ghost use Rattle.std.specs.Prelude.{◌≡◌, ◌<◌, ◌≤◌, ◌+◌, ◌^◌, [], ◌++◌, length, get_or, nat_le, IfOk, IfErr, OnOk};
 ghost use Rattle.std.specs.List.{slice_range};
 ghost use Rattle.cm_tree.specs.RawBlocks.{raw_inlines, block_in, blocks_in, item_in, items_in};

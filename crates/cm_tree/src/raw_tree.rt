@@ -1,4 +1,11 @@
 //! The blocks of a document whose inlines haven't been read, in parts that may be freed one by one.
+//!
+//! A part has texts of 32 KiB or somewhat more, and the HTML goes into the memory of freed parts. A part ends
+//! at the top level, where nothing is open, so a quote, list or leaf is never divided. The first part starts
+//! without memory, so that a short text takes only what it needs.
+//!
+//! The price is that a leaf's text is copied once more, into the texts of its part. Parts of one growing text
+//! would need places made of a part and a distance, and a proof that no block lies in a part that was freed.
 ghost use Rattle.std.specs.Prelude.{◌≡◌, [], ◌++◌, OnOk, OnErr};
 ghost use Rattle.cm_tree.specs.RawBlocks.{blocks_in, ArePlaced};
 ghost use Rattle.cm_tree.specs.RawTrees.{all_blocks};
