@@ -1,4 +1,7 @@
 //! HTML blocks: what starts one and what ends it (4.6 HTML blocks).
+//!
+//! `html_start` returns the kind alone. A line that meets a start condition belongs to the block as a whole,
+//! so there is no end to return.
 ghost use Rattle.std.specs.Prelude.{◌≡◌, ◌+◌, ◌<◌, ◌≤◌, ◌∷◌, ◌++◌};
 ghost use Rattle.std.specs.Prelude.{false, length, drop, slice_index, codes, Some, option_map};
 ghost use Rattle.std.specs.List.{list_any};

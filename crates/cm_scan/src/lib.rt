@@ -1,5 +1,6 @@
 //! The definitions of CommonMark's block structure and inlines (`specs/`), and the scanners of their forms.
-//! Each scanner takes a text and a place in it. It answers what it read there and where that ends, or None.
+//! Each scanner takes a text and a place in it. It returns what it read there and where that ends, or None.
+//! Only line feeds end lines in such a text: a carriage return is a control character like any other.
 //!
 //! Begin with the scanner of the form that you look for.
 //!

@@ -1,4 +1,7 @@
 //! What one line is by itself, after its indentation (CommonMark 0.31.2, chapters 4 and 5).
+//!
+//! `atx` and `fence` return an `AtxHeading` and an `OpeningFence`, because in Rattle the names of a module
+//! can't differ only in case.
 ghost use Rattle.std.specs.Prelude.{◌≡◌, ◌+◌, ◌==◌, ◌<◌, ◌≤◌};
 ghost use Rattle.std.specs.Prelude.{ℕ, List, Some, None, length, drop, true, MatchOption, IfSome};
 ghost use Rattle.std.specs.List.{list_any};

@@ -1,5 +1,8 @@
-//! Tags of HTML (CommonMark 0.31.2, 6.6 Raw HTML). Each call reads a part of a tag, and answers what is left
-//! of the text behind it.
+//! Tags of HTML (CommonMark 0.31.2, 6.6 Raw HTML). Each call reads a part of a tag, and returns the rest of
+//! the text.
+//!
+//! The grammar of tags is unambiguous, and where a value fails the whole tag does. So the next byte decides,
+//! and nothing is read twice.
 ghost use Rattle.std.specs.Prelude.{◌≡◌, suc, [], ◌∷◌, Some, None, length, codes, MatchOption};
 ghost use Rattle.cm_scan.specs.Words.{is_letter, skip, after_word};
 ghost use Rattle.cm_scan.specs.spans.Tags.{begins_attribute, continues_attribute, is_unquoted, after_gap};
