@@ -1,4 +1,5 @@
-//! Memory that is kept for the next container. It holds nothing until then.
+//! Memory that is kept for the next container, so that most items allocate nothing. It holds no blocks until
+//! then.
 ghost use Rattle.std.specs.Prelude.{◌≡◌, []};
 
 use cm_tree::RawBlock;

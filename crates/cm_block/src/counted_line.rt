@@ -1,4 +1,9 @@
 //! A line that can only be read by calls that count. So a contract can say how often a line is read.
+//!
+//! Copying a line counts as one reading although nothing is examined, so the count is at least the number of
+//! checks and searches. Each of several lines of text counts as two: a look at its first byte, and the copy.
+//! The count stops at the greatest number of its type, which the lines that memory has room for are proved
+//! not to reach.
 ghost use Rattle.std.specs.Prelude.{◌≡◌, ◌+◌, ◌++◌, ◌∷◌, ◌&&◌, ℕ};
 ghost use Rattle.std.specs.Prelude.{List, suc, true, false, string_bytes, IfOk, IfSome, IfNone, OnOk};
 ghost use Rattle.cm_block.specs.Prelude.{strip_columns, seen_view, given, is_blank, with_ending};

@@ -1,4 +1,7 @@
-//! The text of a leaf block, of which the line feeds are counted while it grows.
+//! The text of a leaf block, whose line feeds are counted while it grows, so that no text is searched for
+//! them again.
+//!
+//! The count can't overflow, because a text has no more line feeds than bytes.
 ghost use Rattle.std.specs.Prelude.{◌≡◌, ◌++◌, [], ◌∷◌, true, OnOk};
 ghost use Rattle.cm_block.specs.Prelude.{is_line, plain_lines_of, line_feeds};
 ghost use Rattle.cm_block.specs.steps.TextRuns.{add_lines, with_line};

@@ -1,4 +1,8 @@
 //! The leaf block that is open, and what one more line does to it (chapter 4).
+//!
+//! Its text is a field of its own, not part of the kind of leaf: a text inside an enum is moved when the enum
+//! is made, and again when it is taken apart. The next leaf reuses the memory of a closed one, so most leaves
+//! allocate nothing.
 ghost use Rattle.std.specs.Prelude.{◌≡◌, ◌&&◌, []};
 ghost use Rattle.cm_block.specs.Prelude.{seen_view, is_blank, ends_at_blank_line, kind_of};
 ghost use Rattle.cm_block.specs.declared.leaf_kind.LeafKind.TheVariants.{Nothing};

@@ -1,4 +1,6 @@
 //! An outline as values of the tree: its blocks, and the owners of its lines.
+//!
+//! These are what can be compared. Different places can represent the same blocks, so an outline has no `==`.
 ghost use Rattle.std.specs.Prelude.{◌≡◌, ◌++◌, length, IfOk, OnOk};
 ghost use Rattle.std.specs.List.{slice_range};
 ghost use Rattle.cm_block.specs.Prelude.{raw_inlines, block_in, IsPlaced, IsRange};

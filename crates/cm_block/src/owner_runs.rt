@@ -1,4 +1,11 @@
-//! The owner of each line, kept in runs: lines one after another that have the same owner are one run.
+//! The owner of each line, kept in runs: consecutive lines with the same owner are one run.
+//!
+//! So 2^28 line feeds take the memory of one run. A run takes 8 bytes, because it says whether it has one
+//! more leaf, the last one or none, and holds no number. It has fewer than 2^32 lines, and each leaf starts a
+//! run, so neither the lines, counted in a `u128`, nor the leaves, counted in a `usize`, can overflow.
+//!
+//! Runs are kept even if no caller asks for owners, so that each contract has one form. Without them an
+//! unproved program took 0.5 to 1.5 instructions fewer out of a hundred.
 ghost use Rattle.std.specs.Prelude.{◌≡◌, ◌≤◌, ◌<◌, ◌^◌, ◌++◌, ℕ, [], suc, length, replicate, IfOk, OnOk};
 ghost use Rattle.cm_block.specs.OwnerRuns.{leaves_with, owner_of};
 ghost use Rattle.cm_block.specs.Stack.{blank_owner};

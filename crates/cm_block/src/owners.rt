@@ -1,5 +1,7 @@
-//! What is kept of the lines so far: the owner of each, how many leaves they have, and the definitions among
+//! What is kept of the lines so far: the owner of each, the number of leaves, and the definitions among
 //! these.
+//!
+//! A definition goes into the table when it goes into the tree, so finishing walks no tree.
 ghost use Rattle.std.specs.Prelude.{◌≡◌, ◌≤◌, ◌^◌, ◌++◌, [], ◌∷◌, suc, length, OnOk};
 ghost use Rattle.std.specs.FinMap as map;
 ghost use Rattle.cm_block.specs.Stack.{own_lines, own_blanks, blank_owner};

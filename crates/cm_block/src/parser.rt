@@ -1,4 +1,11 @@
 //! The block structure of a document, line by line.
+//!
+//! Several lines of text are taken in one call while a paragraph is open. A line that is marked lazy while no
+//! container is open starts nothing but text: it joins or starts a paragraph, is no underline and interrupts
+//! nothing. Code blocks and HTML blocks ignore the mark, and so does a blank line.
+//!
+//! Contracts see a `BlockParser` by its fields (`stack_of`). Its stack holds data inside itself, and the
+//! checker could tell values of such a type apart only by code written by hand.
 ghost use Rattle.std.specs.Prelude.{◌≡◌, ◌≢◌, ◌+◌, ◌-◌, ◌<◌, ◌≤◌, ◌∷◌, ◌++◌, []};
 ghost use Rattle.std.specs.Prelude.{List, None, true, false, length, suc, Some, Err, IfOk, IfErr, OnOk};
 ghost use Rattle.cm_block.specs.Prelude.{answer_after, LineView, plain_lines_of, seen_line, seen_view};

@@ -1,4 +1,11 @@
 //! The open quotes and items.
+//!
+//! A line is read no further than each container needs. An item takes its columns and looks at nothing else,
+//! a lazy line enters all remaining containers at once, and items that follow one another are passed in one
+//! loop over columns. So the indentation of a line is read once, not once for each container.
+//!
+//! Only the innermost container can be an item of which there is only the marker. So one mark on the stack
+//! suffices, and no open container changes when a line enters it.
 ghost use Rattle.std.specs.Prelude.{◌≡◌, ◌<◌, ◌≤◌, ◌∷◌, ◌++◌, ◌+◌, ◌&&◌, []};
 ghost use Rattle.std.specs.Prelude.{Bool, true, false, suc, List, length, take, drop, None, OnOk, IfOk};
 ghost use Rattle.cm_text.specs.Rules as all;
