@@ -1,4 +1,7 @@
-//! Texts in the form in which they are written. Each is made once, however often it stands in the output.
+//! Texts in the form in which they are written. Each is made once, however often the output has it, and
+//! before any of it is written.
+//!
+//! So writing takes no memory, and the length of the output is known before its first byte.
 ghost use Rattle.std.specs.Prelude.{◌≡◌, ◌++◌, string_bytes, IfOk, OnOk};
 ghost use Rattle.cm_html.specs.Forms.{formed};
 ghost use Rattle.cm_html.specs.steps.FormedTexts.{number_of};

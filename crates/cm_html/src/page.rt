@@ -1,4 +1,11 @@
-//! A text with insertions: other texts that stand at places of it, and that it holds no copy of.
+//! A text with insertions: other texts at places of it, of which it holds no copy.
+//!
+//! A text of 250 KB can refer 50,000 times to a destination of 50,000 bytes, and its HTML has 2.5 GB. So a
+//! long text with other owners is inserted by a counted reference of 24 bytes; a shorter text, or one without
+//! other owners, is copied.
+//!
+//! If memory runs out while something is added, all insertions are removed, because it isn't known whether
+//! their places are still within the page's own text.
 ghost use Rattle.std.specs.Prelude.{◌≡◌, [], ◌++◌, ◌<◌, ◌^◌};
 ghost use Rattle.std.specs.Prelude.{length, string_bytes, IfOk, OnOk, OnErr, IfSome, MatchResult};
 ghost use Rattle.std.specs.Fmt.{decimal};

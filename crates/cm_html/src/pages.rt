@@ -1,4 +1,6 @@
 //! A text in pages, each of which is a piece of memory by itself.
+//!
+//! A page is as long as a part of a raw tree, so that the HTML can go into memory that the parts had.
 ghost use Rattle.std.specs.Prelude.{◌≡◌, ◌+◌, ◌-◌, ◌^◌, ◌<◌, [], ◌++◌};
 ghost use Rattle.std.specs.Prelude.{ℕ, length, string_bytes, IfOk, OnOk, IfSome};
 ghost use Rattle.std.specs.List.{concat};
