@@ -1,5 +1,8 @@
-//! The groups of a leaf: its emphasis, links and images. A group has the places of what stands in it, and
-//! where it leads.
+//! The groups of a leaf: its emphasis, links and images. A group has the places of its content, and where it
+//! leads.
+//!
+//! Destinations and titles are places in one text of the leaf, except for long ones that a definition shares.
+//! So a link that is only rendered makes no text of its own.
 ghost use Rattle.std.specs.Prelude.{◌≡◌, ◌++◌, ◌<◌, ◌≤◌, [], ◌∷◌};
 ghost use Rattle.std.specs.Prelude.{length, take, string_bytes, IfOk, OnOk, OnErr};
 ghost use Rattle.cm_tree.specs.LinkTargets.{led_to, Keeps};

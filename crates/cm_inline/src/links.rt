@@ -1,4 +1,7 @@
 //! Where links and images lead, and where they end (CommonMark 0.31.2, 6.3 Links).
+//!
+//! A destination or title in which nothing is escaped is lent from the source (`unescape_or_lend`), and a
+//! definition's from the table.
 ghost use Rattle.std.specs.Prelude.{◌≡◌, ◌+◌, ◌-◌, ◌<◌, ◌≤◌, ℕ, List, length, drop, IfOk, IfSome};
 ghost use Rattle.std.specs.List.{slice_range};
 ghost use Rattle.std.specs.Str.{IsCharBoundary};

@@ -1,4 +1,9 @@
-//! What is known to stand nowhere in the rest of a leaf's source, so that no search is made twice.
+//! What is known to be missing in the rest of a leaf's source, so that no search is made twice.
+//!
+//! For comments, instructions, CDATA sections and declarations that is the place from which on their end is
+//! missing. For code spans it is where the last backtick string of each length ends, found in one pass the
+//! first time that one is missing. Open tags need no memory: at most three of them are open at any place,
+//! whatever `<` and quotation marks a text has, so all their scans together take linear time.
 ghost use Rattle.std.specs.Prelude.{◌≡◌, ℕ, ◌≤◌, ◌++◌, true, List, length, drop, IfOk, OnOk, IfSome};
 ghost use Rattle.cm_inline.specs.steps.Missing.{start_of, end_of, missing_from, AreLast, Knows, NoneFrom};
 

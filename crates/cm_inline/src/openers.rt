@@ -1,5 +1,10 @@
 //! The delimiter runs that may open. Each kind of closer has a bottom: below it no run opens for such a
 //! closer.
+//!
+//! So an entry is looked at in vain at most once for each of the twelve kinds of closers, and once more if it
+//! is removed between a pair. A pair takes one look, and at least a character of each of its runs. That makes
+//! at most fourteen looks for each character of the runs, or fifteen with strikethrough, since tildes are a
+//! thirteenth kind.
 ghost use Rattle.std.specs.Prelude.{◌≡◌, ◌+◌, ◌<◌, ◌^◌, []};
 ghost use Rattle.std.specs.Prelude.{ℕ, true, length, Some, get_or, set, Option, IfOk, IfSome, MatchOption};
 ghost use Rattle.cm_inline.specs.steps.Entries.{after_place, first_place, between_gone, is_listed, Falling};

@@ -1,4 +1,9 @@
-//! Spare memory: that of inlines which a caller let go of. It serves for the next ones.
+//! Spare memory: that of inlines which a caller no longer needs. It serves for the next ones.
+//!
+//! Without it, 18 in 100 instructions of a rewriting were `malloc` and `free`, where one word in eight is
+//! marked. A kept string or list has the greatest size that it ever had, all are freed with the reader, and
+//! nothing limits how much is kept: for 10 MB of such a text a rewriting held 30 MB. Contracts don't see what
+//! is kept; a string or list that is reused is proved to be empty.
 ghost use Rattle.std.specs.Prelude.{◌≡◌, [], ◌∷◌, string_bytes, IfOk, IfSome};
 ghost use Rattle.cm_tree.specs.declared.tree.Inline.TheVariants.{Text as text_inline};
 

@@ -1,4 +1,12 @@
 //! The tokens into which a leaf's source is read.
+//!
+//! A token holds places in the source, not slices of it. To the checker a value with a reference is two
+//! values, one at entry and one at exit, and every contract of a reader would mention both. So a text is
+//! copied once, when its length with its neighbours is known. A line feed is a token of its own, so that
+//! brackets, runs and pairs name nodes by the numbers that inlines have.
+//!
+//! A place has 32 bits, so that a token takes 16 bytes. A source of 2^32 bytes or more is `SourceTooLong`,
+//! and more than 2^32 pairs, links and images are `NoMemory`.
 ghost use Rattle.std.specs.Prelude.{◌≡◌, ◌++◌, ◌≤◌, [], ◌∷◌, length};
 ghost use Rattle.std.specs.Prelude.{string_bytes, encode_utf8_all, replicate, drop, false, IfOk, OnOk};
 ghost use Rattle.std.specs.List.{list_any};
