@@ -1,4 +1,7 @@
 //! Blocks, spelled line by line.
+//!
+//! The definition is total: a tree that is refused has a spelling too, which no caller gets. A paragraph's
+//! content is split at each line feed, even at one in a code span, so that no case is left open.
 ghost use Rattle.std.specs.Prelude.{not, true, [], ◌∷◌, ◌++◌, replicate, OnOk};
 ghost use Rattle.cm_source.specs.Texts.{spelled_text};
 ghost use Rattle.cm_source.specs.Inlines.{spelled_content};

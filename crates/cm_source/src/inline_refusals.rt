@@ -1,4 +1,7 @@
 //! Which inlines can't be spelled so that they read back, and why not.
+//!
+//! The definition is one fold over the tree. Of each inline it keeps what its neighbours see, whether it is
+//! or contains emphasis or a link, and why it is refused at a place between neighbours.
 ghost use Rattle.std.specs.Prelude.{◌≡◌, ◌==◌, [], ◌∷◌, None, not, ◌&&◌, ◌||◌, map};
 ghost use Rattle.cm_text.specs.Rules as text_rules;
 ghost use Rattle.cm_scan.specs.Words.{is_empty, ◌<|>◌};

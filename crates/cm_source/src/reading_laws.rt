@@ -1,4 +1,8 @@
 //! Laws of reading back what is spelled. Each is the contract of a public function with an empty body.
+//!
+//! The laws on contents and on trees require that the spelling is UTF-8, because the bytes of a tree's texts
+//! are any numbers here. Emphasis of a text of the one byte E3 isn't refused, is spelled as that byte between
+//! two `*`, and is read as one text. `spell` requires nothing, because a `String` is UTF-8.
 ghost use Rattle.cm_source.specs.ReadingBack.{ParagraphsReadBack, HeadingsReadBack};
 ghost use Rattle.cm_source.specs.ReadingBack.{BlocksReadBack, SpellingIsText, TreesReadBack};
 

@@ -1,4 +1,8 @@
 //! The source that is spelled so far, line by line.
+//!
+//! Each line is written once, after what precedes it in its containers. That is a string to which a quote or
+//! an item appends, and which is cut back at its end. It is ASCII, which a ghost field says, so it can be cut
+//! anywhere.
 ghost use Rattle.std.specs.Prelude.{◌≡◌, ◌≢◌, ◌==◌, ◌<◌, [], ◌∷◌, ◌+◌, ◌++◌};
 ghost use Rattle.std.specs.Prelude.{false, length, replicate, codes, string_bytes, IfOk, OnOk};
 ghost use Rattle.std.specs.List.{list_any};

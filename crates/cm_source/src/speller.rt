@@ -1,4 +1,7 @@
 //! The source that is spelled for a tree.
+//!
+//! A block is judged, given the block before it, before it is spelled, so that nothing has to be removed
+//! again.
 ghost use Rattle.std.specs.Prelude.{◌≡◌, ◌≢◌, ◌↔◌, [], ◌∷◌, ◌++◌, List, Some, Err, true};
 ghost use Rattle.std.specs.Prelude.{IsErr, IfOk, IfErr, OnOk, string_bytes};
 ghost use Rattle.std.specs.Option.{is_some};
