@@ -8,7 +8,8 @@
 //! - For files of examples: [`examples`] and [`examples_by`], whose [`Report`] tells its verdict.
 //! - [`Fault`] has each fault, with the line that the program prints.
 //!
-//! The program itself is made of [`task`], [`run`], [`tell`] and [`tell_unopened`].
+//! The program itself is made of [`task`], [`run`], [`tell`] and [`tell_unopened`]. The command line is read by
+//! `cm_command`, so that no other crate is checked together with `clap`.
 //!
 //! ```
 //! use cm_text::Limits;

@@ -1,4 +1,8 @@
 //! The HTML of an outline's blocks, whose inlines are read as it is written.
+//!
+//! No tree is made: a leaf's text is copied from its source to the page. No page goes out before the last
+//! leaf has been read, because that one may nest too deep. The layout of blocks in an item is in code twice,
+//! here and in `cm_html` for trees, and once in the definition.
 ghost use Rattle.std.specs.Prelude.{◌≡◌, List, ◌∷◌, ◌++◌, length, map, option_map, true, IfOk, IfErr, OnOk};
 ghost use Rattle.std.specs.Prelude.{None};
 ghost use Rattle.cm_tree.specs.RawBlocks.{IsItem, IsPlaced, IsRange, item_in};

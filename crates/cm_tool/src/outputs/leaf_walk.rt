@@ -1,4 +1,8 @@
 //! A walk over the blocks of an outline, whose leaves are read on the way.
+//!
+//! The walk owns the blocks that are left, the definitions and the memory in which leaves are read, so that a
+//! contract mentions one value. It goes by places, because a slice of its blocks would be borrowed from the
+//! walk itself.
 ghost use Rattle.std.specs.Prelude.{◌≡◌, ◌≢◌, ◌≤◌, ◌<◌, ◌+◌, ◌++◌, ℕ, [], ◌∷◌, length};
 ghost use Rattle.std.specs.Prelude.{true, false, IfOk, IfErr, IfSome, OnOk, None};
 ghost use Rattle.cm_tree.specs.Depth.{inlines_depth};

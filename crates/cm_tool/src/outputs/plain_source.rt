@@ -1,4 +1,11 @@
-//! The plain source of an outline. Each block is let go of once it is spelled.
+//! The plain source of an outline. Each block is freed once it is spelled.
+//!
+//! After a refusal nothing more is spelled, but all leaves are read: one that nests too deep is a fault of
+//! the text, and takes precedence. Definitions count among the leaves, so they are removed from a block only
+//! after its leaves have their numbers.
+//!
+//! Blocks are judged and spelled from inlines. From nodes no inlines would be made, but the refusals and the
+//! spelling would be needed a second time.
 ghost use Rattle.std.specs.Prelude.{◌≡◌, List, [], ◌∷◌, ◌++◌, IfOk, IfErr, OnOk, None, option_map};
 ghost use Rattle.cm_text.specs.Rules as text_rules;
 ghost use Rattle.cm_tree.specs.declared.tree.Block as trees;

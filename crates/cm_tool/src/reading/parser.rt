@@ -1,4 +1,6 @@
 //! A document that comes in pieces.
+//!
+//! A long piece is taken in by parts of 8 KiB, so that what the parser holds doesn't grow with the piece.
 ghost use Rattle.std.specs.Prelude.{◌≡◌, ◌≢◌, ◌+◌, ◌-◌, ◌≤◌, [], ◌++◌};
 ghost use Rattle.std.specs.Prelude.{ℕ, List, length, IfOk, IfErr, OnOk, Some, None, Err, false};
 ghost use Rattle.cm_text.specs.Answers.{answer_after};

@@ -1,4 +1,7 @@
 //! Reading a source to its end as a text.
+//!
+//! The bytes also go through a feed, so that the same proved code finds their faults, and as early. The cost
+//! is lines that nobody takes.
 ghost use Rattle.std.specs.Prelude.{◌≡◌, ℕ, ◌-◌, ◌^◌, ◌<◌, ◌≤◌, List, IfOk, IfErr, None, string_bytes};
 ghost use Rattle.std.specs.Io.KnownBytes.{Consumes};
 ghost use Rattle.cm_text.specs.Feed.{count};
