@@ -1,4 +1,7 @@
 //! Faults as numbers.
+//!
+//! A line has 64 bits here and 128 in `Fault`, since a source may have any number of bytes. A text within the
+//! limits is proved to have few enough lines.
 ghost use Rattle.std.specs.Prelude.{◌≡◌, option_map};
 ghost use Rattle.cm_tool.specs.declared.fault.Fault.TheVariants.{Unspellable};
 ghost use Rattle.cmk_c.specs.steps.Places.{HasPlace};
