@@ -1,4 +1,6 @@
 //! Documents that are made from their listings. A listing can also have a tree that no text gives.
+//!
+//! What is read is listed again and has to be the same, so the reading of listings needs no trust.
 
 use crate::trouble::{Trouble, wrong};
 use crate::words::{Word, number, words};

@@ -1,4 +1,7 @@
-//! What `cm_tool` writes to a writer that takes only so much.
+//! What `cm_tool` writes to a writer that takes only a given number of bytes.
+//!
+//! Each call with a rich contract is in a function of its own without a contract. Otherwise the checker
+//! carries what the contract says through every path after the call, and nothing there needs it.
 
 use case_tables::cuts::Counted;
 use cm_html::listing;
