@@ -5,7 +5,10 @@
 
 It proves each crate from nothing, and builds it for the crates above without its proofs. A proved crate is kept in ~/.cache/cmk, or in
 $XDG_CACHE_HOME/cmk, under a checksum of everything it was made from. So an interrupted build resumes at the last finished crate, and
-another copy of the same sources proves nothing again. Messages go to standard error.
+another copy of the same sources proves nothing again. Anyone who can write to that folder is trusted. Messages go to standard error.
+
+Where `rt check` has left its work in each library, `rt run` builds over that: a developer's next program takes what has changed, and no
+library is kept for each edit. A kit without the options that are needed here has `rt run` prove the crates one after another.
 """
 import argparse
 import contextlib
