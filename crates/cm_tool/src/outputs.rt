@@ -1,5 +1,7 @@
 //! Outputs: the document, its HTML, or its plain source, which are made of an outline; and the calls that
 //! read a source and write one of them to a sink.
+//!
+//! Each output goes out by `cm_text::write_all`, and one definition, `Writes`, says what such a call returns.
 ghost use Rattle.std.specs.Prelude.{◌≡◌, ℕ, List};
 ghost use Rattle.cm_tool.specs.Parsing.{Finishes, Makes};
 ghost use Rattle.cm_tool.specs.Rewriting.{kept_tree};
