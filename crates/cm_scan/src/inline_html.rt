@@ -1,6 +1,6 @@
 //! Raw HTML in a text (CommonMark 0.31.2, 6.6 Raw HTML).
 //!
-//! The module isn't named `raw_html`, because Rattle asks for a name that no function of the crate has.
+//! The module isn't named `raw_html`, because Rattle refuses a module and a function of the same name.
 ghost use Rattle.std.specs.Prelude.{◌≡◌, ◌∷◌, ◌≤◌, ◌<◌, ℕ, false, length, drop, IfSome, IsUtf8};
 ghost use Rattle.std.specs.Str.{IsCharBoundary};
 ghost use Rattle.cm_text.specs.Rules.{profile};

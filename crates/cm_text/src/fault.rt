@@ -1,4 +1,7 @@
 //! Why a text is refused.
+//!
+//! Each crate writes the texts and conversions of its own faults, because `rt verdict` refuses an `impl` that
+//! a macro of the repository wrote.
 
 use thiserror::Error;
 
