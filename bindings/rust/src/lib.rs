@@ -28,9 +28,9 @@ use std::ops::Deref;
 pub struct Options {
     /// How many bytes a text may have, 1 to 2^30; 0 stands for 2^28.
     pub bytes: usize,
-    /// How many quotes and list items may stand round a line, 1 to 500; 0 stands for 100.
+    /// The most quotes and list items that may enclose a line, 1 to 500; 0 stands for 100.
     pub blocks: usize,
-    /// How deep emphasis, links and images may nest, 1 to 500; 0 stands for 100.
+    /// How deeply emphasis, links and images may nest, 1 to 500; 0 stands for 100.
     pub inlines: usize,
     /// Whether the older rules hold, as by `cmk --older`.
     pub older: bool,

@@ -22,19 +22,19 @@ use std::alloc::{AllocError, Global};
 const VERSION: &str = "0.1.0";
 
 /// What `--older` does.
-const OLDER: &str = "Reads by older rules: <source> begins an HTML block, <search> does not";
+const OLDER: &str = "Uses older rules: <source> starts an HTML block, <search> does not";
 
 /// What `--strike` does.
-const STRIKE: &str = "Reads text between two tildes as struck through";
+const STRIKE: &str = "Strikes through text between two tildes";
 
 /// What `--no-html` does.
-const NO_HTML: &str = "Reads raw HTML as text";
+const NO_HTML: &str = "Treats raw HTML as text";
 
 /// What `--web-links` does.
-const WEB_LINKS: &str = "Reads links with a scheme other than http, https or mailto as text";
+const WEB_LINKS: &str = "Treats links with a scheme other than http, https or mailto as text";
 
 /// What `--safe` does.
-const SAFE: &str = "For texts from strangers: --no-html and --web-links";
+const SAFE: &str = "For untrusted text: --no-html and --web-links";
 
 /// The argument FILE.
 fn file_arg<'a>(alloc: Global, help: &'a str) -> Arg<'a>
@@ -87,9 +87,9 @@ fn job_command<'a>(alloc: Global, name: &'a str, about: &'a str) -> Result<Comma
     ensures app { IfOk result (λ c. app_of c ≡ job_app name.now) }
     ensures local { IfOk result (λ c. (out-Command c).has_globals ≡ false) }
 {
-    let blocks = "How many quotes and list items may stand round a line, 1 to 500";
-    let inlines = "How deep emphasis, links and images may nest, 1 to 500";
-    let file = "The file to read; standard input if it is - or left out";
+    let blocks = "The most quotes and list items that may enclose a line, 1 to 500";
+    let inlines = "How deeply emphasis, links and images may nest, 1 to 500";
+    let file = "The file to read; standard input if it is - or omitted";
     let command = Command::new(alloc, name)
         .about(about)
         .arg(file_arg(alloc, file))?
@@ -103,7 +103,7 @@ fn examples_command<'a>(alloc: Global) -> Result<Command<'a>, AllocError>
     ensures app { IfOk result (λ c. app_of c ≡ examples_app) }
     ensures local { IfOk result (λ c. (out-Command c).has_globals ≡ false) }
 {
-    let about = "Runs a file of CommonMark examples, and tells which of them differ";
+    let about = "Runs a file of CommonMark examples and reports mismatches";
     let file =
         "The file of examples, in the form of the CommonMark specification; standard input if it is -";
     let command = Command::new(alloc, "examples")
@@ -116,11 +116,13 @@ fn examples_command<'a>(alloc: Global) -> Result<Command<'a>, AllocError>
 fn command<'a>(alloc: Global) -> Result<Command<'a>, AllocError>
     ensures { IfOk result (λ c. app_of c ≡ cmk_app) }
 {
-    let render = "Writes a CommonMark text as HTML to standard output";
-    let tree = "Lists the tree of a CommonMark text, and the owner of each line";
-    let rewrite = "Writes a CommonMark text as plain source, without its definitions";
+    let render = "Renders a text as HTML";
+    let tree = "Lists the tree of a text and the owner of each line";
+    let rewrite = "Rewrites a text as CommonMark source with inline links";
     Command::new(alloc, "cmk")
-        .about("CommonMark 0.31.2: to HTML, to a listing of its tree, to plain source")
+        .about(
+            "Converts CommonMark 0.31.2 to HTML, to a listing of its tree, or to CommonMark source",
+        )
         .version(VERSION)
         .subcommand_required(true)
         .subcommand(job_command(alloc, "render", render)?)?

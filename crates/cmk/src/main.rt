@@ -1,4 +1,4 @@
-//! The program `cmk`: from CommonMark to HTML, to a listing of its tree, or to plain source.
+//! The program `cmk`: converts CommonMark to HTML, to a listing of its tree, or to CommonMark source.
 //!
 //! `main` asks `cm_tool` for the task that the words name, and has it done. docs/cmk.md describes the
 //! program.
