@@ -15,7 +15,7 @@ pub enum BlockFault {
     /// A request for memory was refused.
     #[error("out of memory")]
     NoMemory,
-    /// The texts of one part of the document would have 2^32 bytes or more, or it would have as many blocks
+    /// The texts of one chunk of the document would have 2^32 bytes or more, or it would have as many blocks
     /// or items. No document of less than 2^32 bytes has.
     #[error("document too large")]
     TooLarge,

@@ -7,7 +7,7 @@ ghost use Rattle.cm_block.specs.Prelude.{raw_inlines, block_in, IsPlaced, IsRang
 
 use crate::parser::Outline;
 use cm_text::NoMemory;
-use cm_tree::{Block, Inline, Items, Owner, RawBlock, RawBlocks, RawPart, Text};
+use cm_tree::{Block, Inline, Items, Owner, RawBlock, RawBlocks, RawChunk, Text};
 use std::alloc::{AllocError, Global};
 
 /// The content of a leaf with this source: one text, or nothing if the source is empty.
@@ -104,11 +104,11 @@ fn made_items(
     Ok(made)
 }
 
-/// Puts the blocks of a part behind others.
-fn push_part(alloc: Global, made: &mut Items<Block>, part: &RawPart) -> Result<(), AllocError>
-    ensures { OnOk result (made.new ≡ made.old ++ part.now) }
+/// Puts the blocks of a chunk behind others.
+fn push_chunk(alloc: Global, made: &mut Items<Block>, chunk: &RawChunk) -> Result<(), AllocError>
+    ensures { OnOk result (made.new ≡ made.old ++ chunk.now) }
 {
-    let (top, inside) = part.contents();
+    let (top, inside) = chunk.contents();
     for block in top {
         made.push(made_block(alloc, inside, *block)?)?;
     }
@@ -125,10 +125,10 @@ impl Outline {
     pub fn to_blocks(&self, alloc: Global) -> Result<Items<Block>, NoMemory>
         ensures { IfOk result (λ blocks. blocks ≡ self.now.blocks) }
     {
-        let parts = self.blocks.parts();
+        let chunks = self.blocks.chunks();
         let mut made = Items::new(alloc);
-        for part in parts {
-            push_part(alloc, &mut made, part)?;
+        for chunk in chunks {
+            push_chunk(alloc, &mut made, chunk)?;
         }
         Ok(made)
     }

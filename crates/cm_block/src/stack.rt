@@ -27,7 +27,7 @@ use crate::counted_line::{CountedLine, LineInItems};
 use crate::leaf_block::LeafBlock;
 use crate::level::Level;
 use cm_text::Rules;
-use cm_tree::{Items, ListKind, RawBlock, RawBlocks, RawFault, RawPart, RawTree};
+use cm_tree::{Items, ListKind, RawBlock, RawBlocks, RawFault, RawChunk, RawTree};
 use std::alloc::{AllocError, Global};
 use std::marker::Model;
 use std::mem;
@@ -263,8 +263,8 @@ fn has_quote(frames: &[Frame]) -> bool
 #[derive(Debug, Drop)]
 pub(crate) struct Stack {
     alloc: Global,
-    /// The parts that are finished.
-    parts: RawTree,
+    /// The chunks that are finished.
+    chunks: RawTree,
     frames: Items<Frame>,
     bare: bool,
     level: Level,
@@ -287,9 +287,9 @@ impl Model for Stack {
     ghost coded = { Prim.hlevel (codes, block.the_row.coded, list_kind.the_row.coded) };
 
     ghost view = { λ s. record {
-      frames = frames_behind s.parts (frames_in s.raw s.frames);
+      frames = frames_behind s.chunks (frames_in s.raw s.frames);
       bare = s.bare;
-      level = innermost s.parts (frames_in s.raw s.frames) (level_in s.raw s.level);
+      level = innermost s.chunks (frames_in s.raw s.frames) (level_in s.raw s.level);
     } };
 
     ghost invariant = { λ s. AreFramesPlaced s.raw s.frames × IsLevelPlaced s.raw s.level };
@@ -304,7 +304,7 @@ impl Stack {
     {
         Stack {
             alloc,
-            parts: RawTree::new(alloc),
+            chunks: RawTree::new(alloc),
             frames: Items::new(alloc),
             bare: false,
             level: Level::new(Vec::new(alloc)),
@@ -358,11 +358,11 @@ impl Stack {
         ensures bare { self.new.bare ≡ self.old.bare }
     {
         self.level.open_block(&mut self.raw)?;
-        self.finish_part()?;
+        self.finish_chunk()?;
         self.open(alloc, Container::Quote)
     }
 
-    /// Closes the list with which an item of this kind doesn't go on, and finishes a part there.
+    /// Closes the list with which an item of this kind doesn't go on, and finishes a chunk there.
     fn begin_list(&mut self, kind: ListKind) -> Result<(), RawFault>
         ensures level { OnOk result (item_opens self.new.level kind ≡ item_opens self.old.level kind) }
         ensures frames { self.new.frames ≡ self.old.frames }
@@ -474,7 +474,7 @@ impl Stack {
         ensures bare { self.new.bare ≡ self.old.bare }
     {
         self.level.open_block(&mut self.raw)?;
-        self.finish_part()?;
+        self.finish_chunk()?;
         Ok(())
     }
 
@@ -486,9 +486,9 @@ impl Stack {
         self.frames.is_empty() && self.level.open_list.is_none()
     }
 
-    /// Finishes a part of the document, where its texts are enough for one and no container and no list
+    /// Finishes a chunk of the document, where its texts are enough for one and no container and no list
     /// is open. All blocks stay what they are.
-    fn finish_part(&mut self) -> Result<(), AllocError>
+    fn finish_chunk(&mut self) -> Result<(), AllocError>
         ensures same { OnOk result (self.new ≡ self.old) }
         ensures frames { self.new.frames ≡ self.old.frames }
         ensures bare { self.new.bare ≡ self.old.bare }
@@ -499,7 +499,7 @@ impl Stack {
         let room = RawBlocks::with_room(self.alloc)?;
         let raw = mem::replace(&mut self.raw, room);
         let blocks = mem::replace(&mut self.level.blocks, Vec::new(self.alloc));
-        self.parts.push(RawPart::new(blocks, raw))
+        self.chunks.push(RawChunk::new(blocks, raw))
     }
 
     /// Puts a leaf block that was opened.
@@ -519,13 +519,13 @@ impl Stack {
         ensures { IfOk result (λ blocks. blocks ≡ closed_blocks self.level) }
     {
         let Stack {
-            mut parts,
+            mut chunks,
             level,
             mut raw,
             ..
         } = self;
         let blocks = level.into_blocks(&mut raw)?;
-        parts.push(RawPart::new(blocks, raw))?;
-        Ok(parts)
+        chunks.push(RawChunk::new(blocks, raw))?;
+        Ok(chunks)
     }
 }

@@ -6,7 +6,7 @@
 --
 -- - While HTML is made, the HTML so far followed by that of the blocks that are left is that of the whole,
 --   and so it is with the numbers of their leaves (LeafWalkLemmas). The blocks that are left are those of the
---   present part and of the parts after it (`all_left` in specs/steps/LeafWalks.antt); `Unread::next_block`
+--   present chunk and of the chunks after it (`all_left` in specs/steps/LeafWalks.antt); `Unread::next_block`
 --   takes the first, so one loop goes over a whole document.
 -- - While a text is rewritten, a speller stands for the blocks so far without their definitions. Together
 --   with those that are left they are all that is to be spelled (specs/steps/PlainSources.antt,
@@ -27,7 +27,7 @@ pub mod OrderLemmas
 pub mod OwnerLemmas
 pub mod ConversionLemmas
 pub mod ParserLemmas
-pub mod PartLemmas
+pub mod SliceLemmas
 pub mod ReadLemmas
 pub mod ReportingLemmas
 pub mod RewritingLemmas

@@ -16,7 +16,7 @@ use cm_block::Outline;
 use cm_text::{Limits, Source};
 use cm_tree::Doc;
 pub use in_memory::{doc_of, html_of, source_of};
-use parser::PART;
+use parser::SLICE;
 pub use parser::Parser;
 use std::alloc::{AllocError, Global};
 use taking_in::take_all;
@@ -40,7 +40,7 @@ pub(crate) fn outline_of<R: Source>(
         (record { remaining = R.remaining source.old; failed = R.failed source.old })
         (record { remaining = R.remaining source.new; failed = R.failed source.new }) }
 {
-    let mut buffer = zeros(alloc, PART)?;
+    let mut buffer = zeros(alloc, SLICE)?;
     let mut parser = Parser::new(alloc, limits);
     take_all(source, &mut parser, buffer.as_mut_slice())?;
     parser.outline()

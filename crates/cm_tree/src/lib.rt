@@ -79,7 +79,7 @@ pub use items::Items;
 pub use link_target::{KeptTarget, LinkTarget};
 pub use raw_blocks::{RawBlock, RawBlocks, RawFault, RawItem};
 pub use raw_html::has_raw_html;
-pub use raw_tree::{RawPart, RawTree};
+pub use raw_tree::{RawChunk, RawTree};
 pub use target_places::TargetPlaces;
 pub use text::Text;
 pub use tree::{Block, Doc, Inline, ListKind, Owner};

@@ -20,7 +20,7 @@ use std::alloc::{AllocError, AllocFailed, Global};
 use std::marker::Model;
 use thiserror::Error;
 
-/// How many bytes of texts fill a part of a document.
+/// How many bytes of texts fill a chunk of a document.
 const FULL: usize = 32_768;
 
 /// How many bytes of texts there is room for at first, where more than a few are to come.
@@ -179,7 +179,7 @@ impl RawBlocks {
         }
     }
 
-    /// Nothing yet, with room for texts that fill a part of a document.
+    /// Nothing yet, with room for texts that fill a chunk of a document.
     ///
     /// # Errors
     ///
@@ -196,7 +196,7 @@ impl RawBlocks {
         })
     }
 
-    /// Whether the texts are long enough to fill a part of a document: 32 KiB.
+    /// Whether the texts are long enough to fill a chunk of a document: 32 KiB.
     pub fn is_full(&self) -> bool
         ensures { result ≡ nat_le 32768 (length self.now.text) }
     {

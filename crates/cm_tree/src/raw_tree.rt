@@ -1,11 +1,11 @@
-//! The blocks of a document whose inlines haven't been read, in parts that may be freed one by one.
+//! The blocks of a document whose inlines haven't been read, in chunks that may be freed one by one.
 //!
-//! A part has texts of 32 KiB or somewhat more, and the HTML goes into the memory of freed parts. A part ends
-//! at the top level, where nothing is open, so a quote, list or leaf is never divided. The first part starts
+//! A chunk has texts of 32 KiB or somewhat more, and the HTML goes into the memory of freed chunks. A chunk ends
+//! at the top level, where nothing is open, so a quote, list or leaf is never divided. The first chunk starts
 //! without memory, so that a short text takes only what it needs.
 //!
-//! The price is that a leaf's text is copied once more, into the texts of its part. Parts of one growing text
-//! would need places made of a part and a distance, and a proof that no block lies in a part that was freed.
+//! The price is that a leaf's text is copied once more, into the texts of its chunk. Chunks of one growing text
+//! would need places made of a chunk and a distance, and a proof that no block lies in a chunk that was freed.
 ghost use Rattle.std.specs.Prelude.{◌≡◌, [], ◌++◌, OnOk, OnErr};
 ghost use Rattle.cm_tree.specs.RawBlocks.{blocks_in, ArePlaced};
 ghost use Rattle.cm_tree.specs.RawTrees.{all_blocks};
@@ -14,14 +14,14 @@ use crate::raw_blocks::{RawBlock, RawBlocks};
 use std::alloc::{AllocError, Global};
 use std::marker::Model;
 
-/// A part of a document: blocks at the top level that follow one another, with all that they are made of.
+/// A chunk of a document: blocks at the top level that follow one another, with all that they are made of.
 #[derive(Debug, Drop)]
-pub struct RawPart {
+pub struct RawChunk {
     blocks: Vec<RawBlock>,
     inside: RawBlocks,
 }
 
-impl Model for RawPart {
+impl Model for RawChunk {
     ghost use Rattle.std.specs.Prelude.{List};
     ghost use Rattle.std.specs.Coded.{coded_list};
     ghost use Rattle.cm_tree.specs.contracts.tree.Block as block;
@@ -37,13 +37,13 @@ impl Model for RawPart {
     ghost invariant = { λ p. ArePlaced p.inside p.blocks.items };
 }
 
-impl RawPart {
+impl RawChunk {
     /// Blocks, and all that they are made of.
-    pub fn new(blocks: Vec<RawBlock>, inside: RawBlocks) -> RawPart
+    pub fn new(blocks: Vec<RawBlock>, inside: RawBlocks) -> RawChunk
         requires { ArePlaced inside blocks.items }
         ensures { result ≡ blocks_in inside blocks.items }
     {
-        RawPart { blocks, inside }
+        RawChunk { blocks, inside }
     }
 
     /// The blocks at the top level, and what they are made of, without a copy.
@@ -59,16 +59,16 @@ impl RawPart {
         ensures blocks { blocks_in result.1 result.0.items ≡ self }
         ensures placed { ArePlaced result.1 result.0.items }
     {
-        let RawPart { blocks, inside } = self;
+        let RawChunk { blocks, inside } = self;
         (blocks, inside)
     }
 }
 
-/// The blocks of a document whose inlines haven't been read: those of its parts, one after another. The
+/// The blocks of a document whose inlines haven't been read: those of its chunks, one after another. The
 /// source of a paragraph or heading stands as one text.
 #[derive(Debug, Drop)]
 pub struct RawTree {
-    parts: Vec<RawPart>,
+    chunks: Vec<RawChunk>,
 }
 
 impl Model for RawTree {
@@ -82,7 +82,7 @@ impl Model for RawTree {
 
     ghost coded = { coded_list block.the_row.coded };
 
-    ghost view = { λ t. all_blocks t.parts.items };
+    ghost view = { λ t. all_blocks t.chunks.items };
 }
 
 impl RawTree {
@@ -91,35 +91,35 @@ impl RawTree {
         ensures { result ≡ [] }
     {
         RawTree {
-            parts: Vec::new(alloc),
+            chunks: Vec::new(alloc),
         }
     }
 
-    /// Puts the blocks of a part after the others.
+    /// Puts the blocks of a chunk after the others.
     ///
     /// # Errors
     ///
-    /// `AllocError` where a request for memory was refused; the part is let go of then.
-    pub fn push(&mut self, part: RawPart) -> Result<(), AllocError>
-        ensures ok { OnOk result (self.new ≡ self.old ++ part) }
+    /// `AllocError` where a request for memory was refused; the chunk is let go of then.
+    pub fn push(&mut self, chunk: RawChunk) -> Result<(), AllocError>
+        ensures ok { OnOk result (self.new ≡ self.old ++ chunk) }
         ensures err { OnErr result (self.new ≡ self.old) }
     {
-        self.parts.push(part)?;
+        self.chunks.push(chunk)?;
         Ok(())
     }
 
-    /// The parts, without a copy.
-    pub fn parts(&self) -> &[RawPart]
+    /// The chunks, without a copy.
+    pub fn chunks(&self) -> &[RawChunk]
         ensures { all_blocks result.now ≡ self.now }
     {
-        &self.parts
+        &self.chunks
     }
 
-    /// The parts, each of which may be freed by itself.
-    pub fn into_parts(self) -> Vec<RawPart>
+    /// The chunks, each of which may be freed by itself.
+    pub fn into_chunks(self) -> Vec<RawChunk>
         ensures { all_blocks result.items ≡ self }
     {
-        let RawTree { parts } = self;
-        parts
+        let RawTree { chunks } = self;
+        chunks
     }
 }

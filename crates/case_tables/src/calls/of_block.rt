@@ -52,19 +52,19 @@ fn show_owners(answer: &mut Answer, outline: &Outline) -> Result<(), Trouble> {
     answer.shown(&outline.to_owners(answer.alloc)?)
 }
 
-/// Adds to the answer the top-level blocks of an outline, part by part, followed by the owners of its lines.
-fn show_parts(answer: &mut Answer, outline: &Outline) -> Result<(), Trouble> {
-    for part in outline.blocks.parts() {
-        let (top, _inside) = part.contents();
+/// Adds to the answer the top-level blocks of an outline, chunk by chunk, followed by the owners of its lines.
+fn show_chunks(answer: &mut Answer, outline: &Outline) -> Result<(), Trouble> {
+    for chunk in outline.blocks.chunks() {
+        let (top, _inside) = chunk.contents();
         answer.shown(&top)?;
     }
     show_owners(answer, outline)
 }
 
-/// The blocks at the top level of a text, part by part, and the owners of its lines.
+/// The blocks at the top level of a text, chunk by chunk, and the owners of its lines.
 fn blocks(answer: &mut Answer, text: &str) -> Result<(), Trouble> {
     let outline = outline(answer, text)?;
-    show_parts(answer, &outline)
+    show_chunks(answer, &outline)
 }
 
 /// Adds to the answer the blocks of an outline as blocks of the tree, followed by the owners of its lines.

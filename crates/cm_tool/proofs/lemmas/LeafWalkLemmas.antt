@@ -1,4 +1,4 @@
--- A walk over blocks by places, and over those of parts: what is left, and how deep its leaves nest.
+-- A walk over blocks by places, and over those of chunks: what is left, and how deep its leaves nest.
 use Rattle.std.proofs.Common.{◌≡◌, ◌∙◌, ◌≤◌, ◌<◌, ◌+◌, ◌-◌, ℕ, Bool, List, [], ◌∷◌, ◌++◌, length, get_or, take, drop, sym, ap, subst, arith}
 use Rattle.std.specs.List.{slice_range}
 use Rattle.cm_tree.specs.Depth.{blocks_depth, depth_of_block}
@@ -148,11 +148,11 @@ module _ (unread : Unread) (block : RawBlock) where
 
 -- ---- the blocks at the top level
 
--- a part is let go of, and the next one taken
-pub next_part : (raw now : Raw) (top held : List RawBlock) (parts later : List (List Block)) (part : List Block) → top ≡ [] → parts ≡ part ∷ later → blocks_in now held ≡ part
-    → blocks_in now held ++ all_blocks later ≡ blocks_in raw top ++ all_blocks parts
-next_part raw now top held parts later part none taken is =
-    ap (λ blocks. blocks ++ all_blocks later) is ∙ sym (ap (λ blocks. blocks_in raw blocks ++ all_blocks parts) none ∙ ap all_blocks taken)
+-- a chunk is let go of, and the next one taken
+pub next_chunk : (raw now : Raw) (top held : List RawBlock) (chunks later : List (List Block)) (chunk : List Block) → top ≡ [] → chunks ≡ chunk ∷ later → blocks_in now held ≡ chunk
+    → blocks_in now held ++ all_blocks later ≡ blocks_in raw top ++ all_blocks chunks
+next_chunk raw now top held chunks later chunk none taken is =
+    ap (λ blocks. blocks ++ all_blocks later) is ∙ sym (ap (λ blocks. blocks_in raw blocks ++ all_blocks chunks) none ∙ ap all_blocks taken)
 
 -- a walk that has read some of the blocks that were left
 pub record Goes (first now : LeafWalk) : Type 0 where

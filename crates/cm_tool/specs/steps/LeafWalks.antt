@@ -44,9 +44,9 @@ items_read_at unread from to = items_read unread.limits.rules (defined_in unread
 
 -- all blocks at the top level that are left, with the inlines of their leaves
 abbrev pub all_left : Unread → List Block
-all_left unread = all_read unread (blocks_in unread.raw (drop unread.at unread.top.items) ++ all_blocks (into_iter_items unread.parts))
+all_left unread = all_read unread (blocks_in unread.raw (drop unread.at unread.top.items) ++ all_blocks (into_iter_items unread.chunks))
 
--- what those of the part at hand are made of is there
+-- what those of the chunk at hand are made of is there
 abbrev pub ArePlacedLeft : Unread → Type 0
 ArePlacedLeft unread = (unread.at ≤ length unread.top.items) × ArePlaced unread.raw (drop unread.at unread.top.items)
 

@@ -135,7 +135,7 @@ impl LeafWalk {
     }
 }
 
-/// The blocks with the inlines of their leaves, at every depth. Each part of the document is let go of
+/// The blocks with the inlines of their leaves, at every depth. Each chunk of the document is let go of
 /// before the next one is read.
 ///
 /// # Errors

@@ -139,7 +139,7 @@ impl HtmlWalk {
         let mut fresh = true;
         for at in item.from..item.to {
             let block = self.walk.unread.raw.block_at(at);
-            fresh = self.push_part(tight, fresh, block)?;
+            fresh = self.push_inside(tight, fresh, block)?;
         }
         self.html.push_str("</li>\n")?;
         Ok(())
@@ -148,7 +148,7 @@ impl HtmlWalk {
     /// Adds the HTML of a block that stands in an item. The mark says that it begins on a new line, unless
     /// it is a paragraph of a tight list; answers the mark for the next block.
     #[cycle(html)]
-    fn push_part(&mut self, tight: bool, fresh: bool, block: RawBlock) -> Result<bool, Fault>
+    fn push_inside(&mut self, tight: bool, fresh: bool, block: RawBlock) -> Result<bool, Fault>
         requires { IsPlaced self.old.walk.unread.raw block }
         ensures pushed { IfOk result (λ mark. (others : List Written)
             → self.new.html ++ inside_from tight mark others
@@ -217,7 +217,7 @@ impl HtmlWalk {
 }
 
 /// The HTML of the blocks with the inlines of their leaves, in pages, the first with room for this many bytes.
-/// The inlines of a leaf are freed before those of the next one are read, and so is each part of the document.
+/// The inlines of a leaf are freed before those of the next one are read, and so is each chunk of the document.
 ///
 /// # Errors
 ///

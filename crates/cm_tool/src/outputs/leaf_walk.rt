@@ -17,12 +17,12 @@ use crate::fault::Fault;
 use cm_html::Pages;
 use cm_inline::{InlineFault, InlineReader, is_one_text};
 use cm_text::Limits;
-use cm_tree::{Definitions, Inline, Items, RawBlock, RawBlocks, RawPart, RawTree};
+use cm_tree::{Definitions, Inline, Items, RawBlock, RawBlocks, RawChunk, RawTree};
 use std::alloc::Global;
 use std::vec::IntoIter;
 
-/// What of an outline hasn't been read: the blocks at the top level that are left in a part of the document,
-/// all that the blocks of this part are made of, and the parts behind it. And what their leaves are read by.
+/// What of an outline hasn't been read: the blocks at the top level that are left in a chunk of the document,
+/// all that the blocks of this chunk are made of, and the chunks behind it. And what their leaves are read by.
 #[derive(Drop)]
 pub(crate) struct Unread {
     pub(crate) alloc: Global,
@@ -32,13 +32,13 @@ pub(crate) struct Unread {
     top: Vec<RawBlock>,
     // The place of the next block in `top`.
     at: usize,
-    parts: IntoIter<RawPart, Global>,
+    chunks: IntoIter<RawChunk, Global>,
 }
 
 impl Unread {
-    /// Takes the next part that has blocks, where none of the part at hand is left. This part is let go of.
+    /// Takes the next chunk that has blocks, where none of the chunk at hand is left. This chunk is let go of.
     #[cold]
-    fn next_part(&mut self) -> bool
+    fn next_chunk(&mut self) -> bool
         requires { ArePlacedLeft self.old }
         ensures there { result ≡ true → self.new.at < length self.new.top.items }
         ensures none { result ≡ false → all_left self.old ≡ [] }
@@ -47,10 +47,10 @@ impl Unread {
         ensures limits { self.new.limits ≡ self.old.limits }
     {
         while self.at == self.top.len() {
-            let Some(part) = self.parts.next() else {
+            let Some(chunk) = self.chunks.next() else {
                 return false;
             };
-            let (top, raw) = part.into_contents();
+            let (top, raw) = chunk.into_contents();
             self.top = top;
             self.raw = raw;
             self.at = 0;
@@ -58,7 +58,7 @@ impl Unread {
         true
     }
 
-    /// Takes the next block at the top level. A part is let go of before the first block of the next one.
+    /// Takes the next block at the top level. A chunk is let go of before the first block of the next one.
     #[inline(always)]
     pub(crate) fn next_block(&mut self) -> Option<RawBlock>
         requires { ArePlacedLeft self.old }
@@ -69,7 +69,7 @@ impl Unread {
         ensures left { ArePlacedLeft self.new }
         ensures limits { self.new.limits ≡ self.old.limits }
     {
-        if self.at == self.top.len() && !self.next_part() {
+        if self.at == self.top.len() && !self.next_chunk() {
             return None;
         }
         let block = self.top[self.at];
@@ -190,7 +190,7 @@ impl LeafWalk {
                 raw: RawBlocks::new(alloc),
                 top: Vec::new(alloc),
                 at: 0,
-                parts: blocks.into_parts().into_iter(),
+                chunks: blocks.into_chunks().into_iter(),
             },
             reader: InlineReader::new(alloc),
             next: 1,

@@ -1,6 +1,6 @@
 //! A document that comes in pieces.
 //!
-//! A long piece is taken in by parts of 8 KiB, so that what the parser holds doesn't grow with the piece.
+//! A long piece is taken in by slices of 8 KiB, so that what the parser holds doesn't grow with the piece.
 ghost use Rattle.std.specs.Prelude.{◌≡◌, ◌≢◌, ◌+◌, ◌-◌, ◌≤◌, [], ◌++◌};
 ghost use Rattle.std.specs.Prelude.{ℕ, List, length, IfOk, IfErr, OnOk, Some, None, Err, false};
 ghost use Rattle.cm_text.specs.Answers.{answer_after};
@@ -29,7 +29,7 @@ use std::alloc::Global;
 use std::marker::Model;
 
 /// How many bytes are taken in at once.
-pub(crate) const PART: usize = 8192;
+pub(crate) const SLICE: usize = 8192;
 
 /// Reads a document that comes in pieces. Each line is taken in once, as soon as it has ended.
 ///
@@ -158,23 +158,23 @@ impl TakesBytes for Parser {
     }
 }
 
-/// Goes on with one more piece, part by part, as far as it goes.
+/// Goes on with one more piece, slice by slice, as far as it goes.
 fn push(feed: &mut LineBuffer, blocks: &mut BlockParser, piece: &[u8]) -> Result<(), Fault>
     requires { feed.old.ended ≡ false }
     ensures pushes { Pushes result piece.now feed.old blocks.old feed.new blocks.new }
     ensures counts { Counts result piece.now feed.old feed.new }
 {
     let mut rest = piece;
-    while let Some((part, behind)) = rest.split_at_checked(PART) {
-        push_part(feed, blocks, part)?;
+    while let Some((slice, behind)) = rest.split_at_checked(SLICE) {
+        push_slice(feed, blocks, slice)?;
         rest = behind;
     }
-    push_part(feed, blocks, rest)
+    push_slice(feed, blocks, rest)
 }
 
-/// Goes on with one more part of a piece, as far as it goes. The lines that end before a fault of the text
+/// Goes on with one more slice of a piece, as far as it goes. The lines that end before a fault of the text
 /// are taken in first, since one that is too deep goes before it.
-fn push_part(feed: &mut LineBuffer, blocks: &mut BlockParser, piece: &[u8]) -> Result<(), Fault>
+fn push_slice(feed: &mut LineBuffer, blocks: &mut BlockParser, piece: &[u8]) -> Result<(), Fault>
     requires { feed.old.ended ≡ false }
     ensures pushes { Pushes result piece.now feed.old blocks.old feed.new blocks.new }
     ensures counts { Counts result piece.now feed.old feed.new }

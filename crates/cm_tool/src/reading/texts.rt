@@ -12,7 +12,7 @@ ghost use Rattle.cm_tool.specs.Reading.{ReadsText, settled_of_text, fault_of_tex
 ghost use Rattle.cm_tool.specs.steps.Texts.{HasGathered};
 
 use crate::fault::Fault;
-use crate::reading::parser::PART;
+use crate::reading::parser::SLICE;
 use crate::reading::taking_in::{TakesBytes, take_all};
 use crate::reading::zeros;
 use cm_text::{Limits, LineBuffer, Source, text_of};
@@ -79,7 +79,7 @@ pub fn read_text<R: Source>(alloc: Global, source: &mut R, limits: Limits) -> Re
         (record { remaining = R.remaining source.old; failed = R.failed source.old })
         (record { remaining = R.remaining source.new; failed = R.failed source.new }) }
 {
-    let mut buffer = zeros(alloc, PART)?;
+    let mut buffer = zeros(alloc, SLICE)?;
     let mut text = TextBytes {
         feed: LineBuffer::new(alloc, limits),
         bytes: Vec::new(alloc),

@@ -11,7 +11,7 @@ returns c =
     let inside = c.self.inside in
     let level = level_in inside.raw inside.level in
     c.in_ok-push.ensures.ok
-    ∙ ap (λ bs. inside.parts ++ bs) (c.new.ensures ∙ c.in_ok-blocks.ensures.blocks)
-    ∙ sym (closed-behind inside.parts level.blocks level.open_list)
-    ∙ ap closed_blocks (sym (none-inside inside.parts (frames_in inside.raw inside.frames) level (ap (λ (r : Row). r.frames) c.self.view_is ∙ c.requires)))
+    ∙ ap (λ bs. inside.chunks ++ bs) (c.new.ensures ∙ c.in_ok-blocks.ensures.blocks)
+    ∙ sym (closed-behind inside.chunks level.blocks level.open_list)
+    ∙ ap closed_blocks (sym (none-inside inside.chunks (frames_in inside.raw inside.frames) level (ap (λ (r : Row). r.frames) c.self.view_is ∙ c.requires)))
     ∙ ap (λ (r : Row). closed_blocks r.level) c.self.view_is

@@ -9,5 +9,5 @@ pub returns : goal.returns
 returns c =
     c.has_quote.ensures c.self.inside.raw
     ∙ ap (λ fs. quoted_by false (frames_in c.self.inside.raw fs)) c.as_slice.ensures
-    ∙ sym (quoted-behind c.self.inside.parts false (frames_in c.self.inside.raw c.self.inside.frames))
+    ∙ sym (quoted-behind c.self.inside.chunks false (frames_in c.self.inside.raw c.self.inside.frames))
     ∙ ap (λ (r : Row). quoted_by false r.frames) c.self.view_is

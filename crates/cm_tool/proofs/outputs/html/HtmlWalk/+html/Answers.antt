@@ -223,8 +223,8 @@ push_blocks-loop-at-preserved t c =
           c.push_block.new.self.walk c.in_ok-push_block.ensures.passes;
     }
 
-pub push_item-push_part-requires : goal.push_item-push_part-requires
-push_item-push_part-requires t c =
+pub push_item-push_inside-requires : goal.push_item-push_inside-requires
+push_item-push_inside-requires t c =
     let deep = less_deep c.args.self.now.walk c.loop-at.self.walk c.args.item.from c.loop-at.at c.args.item.to c.loop-at.invariant.leaves.0 c.loop-at.auto.at c.loop-at-test.true c.block_at-block.result c.requires.1 c.block_at-block.ensures.block in
     (omega (arith, c.decreases, deep), c.block_at-block.ensures.placed)
 
@@ -248,7 +248,7 @@ push_item-loop-at-preserved t c =
     record {
       html = c.in_ok-fresh.ensures.pushed (map written rest) ∙ subst (λ blocks. html ++ inside_from tight c.loop-at.fresh (map written blocks) ≡ all) step c.loop-at.invariant.html;
       leaves = block_next first now c.args.item.from c.loop-at.at c.args.item.to c.loop-at.auto.at c.loop-at-test.true c.loop-at.invariant.leaves block c.requires.1 c.block_at-block.ensures.block
-          c.push_part.new.self.walk c.in_ok-fresh.ensures.passes;
+          c.push_inside.new.self.walk c.in_ok-fresh.ensures.passes;
     }
 
 pub push_item-returns-clause-pushed : goal.push_item-returns-clause-pushed
@@ -296,53 +296,53 @@ push_items-loop-at-preserved t c =
           c.push_item.new.self.walk c.in_ok-push_item.ensures.passes;
     }
 
-pub push_part-returns-in_err-pass-in-Definition-clause-told : goal.push_part-returns-in_err-pass-in-Definition-clause-told
-push_part-returns-in_err-pass-in-Definition-clause-told t c =
+pub push_inside-returns-in_err-pass-in-Definition-clause-told : goal.push_inside-returns-in_err-pass-in-Definition-clause-told
+push_inside-returns-in_err-pass-in-Definition-clause-told t c =
     let p = err_from_is_err_and c.from_residual.result c.from_residual.ensures.1 in
     let unread = c.args.self.now.walk.unread in
     let depths = leaves unread c.in-Definition.is ∙ definition_depths unread.limits.rules (defined_in unread.definitions) _ _ _ in
     rw (p.1, p.2) (subst (TellsOf c.args.self.now.walk c.in_err-pass-in-Definition.field-0.0) (sym depths) c.in_err-pass-in-Definition.ensures.told)
 
-pub push_part-returns-in_err-push_leaf-in-Paragraph-clause-told : goal.push_part-returns-in_err-push_leaf-in-Paragraph-clause-told
-push_part-returns-in_err-push_leaf-in-Paragraph-clause-told t c =
+pub push_inside-returns-in_err-push_leaf-in-Paragraph-clause-told : goal.push_inside-returns-in_err-push_leaf-in-Paragraph-clause-told
+push_inside-returns-in_err-push_leaf-in-Paragraph-clause-told t c =
     let p = err_from_is_err_and c.from_residual-in_err-push_leaf-in-Paragraph.result c.from_residual-in_err-push_leaf-in-Paragraph.ensures.1 in
     let unread = c.args.self.now.walk.unread in
     let depths = leaves unread c.in-Paragraph.is ∙ paragraph_depths unread.limits.rules (defined_in unread.definitions) _ in
     rw (p.1, p.2) (subst (TellsOf c.args.self.now.walk c.in_err-push_leaf-in-Paragraph.field-0.0) (sym depths) c.in_err-push_leaf-in-Paragraph.ensures.told)
 
-pub push_part-returns-in_ok-pass-in-Definition-clause-pushed : goal.push_part-returns-in_ok-pass-in-Definition-clause-pushed
-push_part-returns-in_ok-pass-in-Definition-clause-pushed t c =
+pub push_inside-returns-in_ok-pass-in-Definition-clause-pushed : goal.push_inside-returns-in_ok-pass-in-Definition-clause-pushed
+push_inside-returns-in_ok-pass-in-Definition-clause-pushed t c =
     let unread = c.args.self.now.walk.unread in
     let same = shows unread c.in-Definition.is ∙ definition_written unread.limits.rules (defined_in unread.definitions) _ _ _ in
     λ others. nothing_inside c.args.tight c.args.fresh (written (block_read_of unread c.args.block)) others c.args.self.now.html same
 
-pub push_part-returns-in_ok-pass-in-Definition-clause-passes : goal.push_part-returns-in_ok-pass-in-Definition-clause-passes
-push_part-returns-in_ok-pass-in-Definition-clause-passes t c =
+pub push_inside-returns-in_ok-pass-in-Definition-clause-passes : goal.push_inside-returns-in_ok-pass-in-Definition-clause-passes
+push_inside-returns-in_ok-pass-in-Definition-clause-passes t c =
     let unread = c.args.self.now.walk.unread in
     let depths = leaves unread c.in-Definition.is ∙ definition_depths unread.limits.rules (defined_in unread.definitions) _ _ _ in
     subst (HasRead c.args.self.now.walk c.pass.new.self) (sym depths) c.in_ok-pass-in-Definition.ensures.passes
 
-pub push_part-returns-in_ok-push_leaf-in-Paragraph-clause-pushed : goal.push_part-returns-in_ok-push_leaf-in-Paragraph-clause-pushed
-push_part-returns-in_ok-push_leaf-in-Paragraph-clause-pushed t c =
+pub push_inside-returns-in_ok-push_leaf-in-Paragraph-clause-pushed : goal.push_inside-returns-in_ok-push_leaf-in-Paragraph-clause-pushed
+push_inside-returns-in_ok-push_leaf-in-Paragraph-clause-pushed t c =
     let unread = c.args.self.now.walk.unread in
     let same = shows unread c.in-Paragraph.is ∙ paragraph_written unread.limits.rules (defined_in unread.definitions) _ in
     λ others. inlines_inside c.args.tight c.args.fresh (written (block_read_of unread c.args.block)) others _ c.args.self.now.html c.push_leaf.new.html c.if-tight.true same c.in_ok-push_leaf-in-Paragraph.ensures.pushed
 
-pub push_part-returns-in_ok-push_leaf-in-Paragraph-clause-passes : goal.push_part-returns-in_ok-push_leaf-in-Paragraph-clause-passes
-push_part-returns-in_ok-push_leaf-in-Paragraph-clause-passes t c =
+pub push_inside-returns-in_ok-push_leaf-in-Paragraph-clause-passes : goal.push_inside-returns-in_ok-push_leaf-in-Paragraph-clause-passes
+push_inside-returns-in_ok-push_leaf-in-Paragraph-clause-passes t c =
     let unread = c.args.self.now.walk.unread in
     let depths = leaves unread c.in-Paragraph.is ∙ paragraph_depths unread.limits.rules (defined_in unread.definitions) _ in
     subst (HasRead c.args.self.now.walk c.push_leaf.new.self) (sym depths) c.in_ok-push_leaf-in-Paragraph.ensures.passes
 
-pub push_part-returns-in_ok-push_apart-in-Paragraph-clause-pushed : goal.push_part-returns-in_ok-push_apart-in-Paragraph-clause-pushed
-push_part-returns-in_ok-push_apart-in-Paragraph-clause-pushed t c =
+pub push_inside-returns-in_ok-push_apart-in-Paragraph-clause-pushed : goal.push_inside-returns-in_ok-push_apart-in-Paragraph-clause-pushed
+push_inside-returns-in_ok-push_apart-in-Paragraph-clause-pushed t c =
     let unread = c.args.self.now.walk.unread in
     let same = shows unread c.in-Paragraph.is ∙ paragraph_written unread.limits.rules (defined_in unread.definitions) _ in
     λ others. loose_inlines_inside c.args.tight c.args.fresh (written (block_read_of unread c.args.block)) others _ c.args.self.now.html c.push_apart.new.self.html c.if-tight.false same
     (subst (λ b. c.push_apart.new.self.html ≡ c.args.self.now.html ++ (line_feed c.args.fresh ++ alone (written (block_read_of unread b)))) (sym c.in-Paragraph.is) c.in_ok-push_apart-in-Paragraph.ensures.pushed)
 
-pub push_part-returns-in_ok-push_apart-in_default-clause-pushed : goal.push_part-returns-in_ok-push_apart-in_default-clause-pushed
-push_part-returns-in_ok-push_apart-in_default-clause-pushed t c =
+pub push_inside-returns-in_ok-push_apart-in_default-clause-pushed : goal.push_inside-returns-in_ok-push_apart-in_default-clause-pushed
+push_inside-returns-in_ok-push_apart-in_default-clause-pushed t c =
     let unread = c.args.self.now.walk.unread in
     let whole = whole_written unread.limits.rules (defined_in unread.definitions) unread.raw c.args.block c.in_default.not-Paragraph c.in_default.not-Definition in
     λ others. whole_inside c.args.tight c.args.fresh (written (block_read_of unread c.args.block)) others whole.0 c.args.self.now.html c.push_apart-in_default.new.self.html whole.1 c.in_ok-push_apart-in_default.ensures.pushed

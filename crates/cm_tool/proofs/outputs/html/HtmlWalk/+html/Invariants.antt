@@ -22,8 +22,8 @@ decreases-push_block l = 5 * depth_of_block (block_in l.self.now.walk.unread.raw
 abbrev pub decreases-push_apart : goal.decreases-push_apart
 decreases-push_apart l = 5 * depth_of_block (block_in l.self.now.walk.unread.raw l.block) + 2
 
-abbrev pub decreases-push_part : goal.decreases-push_part
-decreases-push_part l = 5 * depth_of_block (block_in l.self.now.walk.unread.raw l.block) + 3
+abbrev pub decreases-push_inside : goal.decreases-push_inside
+decreases-push_inside l = 5 * depth_of_block (block_in l.self.now.walk.unread.raw l.block) + 3
 
 abbrev pub decreases-push_blocks : goal.decreases-push_blocks
 decreases-push_blocks l = 5 * blocks_depth (slice_range l.self.now.walk.unread.raw.blocks l.from l.to) + 4

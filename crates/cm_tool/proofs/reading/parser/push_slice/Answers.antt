@@ -4,7 +4,7 @@ use Rattle.cm_text.specs.Limits.{LimitsView}
 use Rattle.std.proofs.lemmas.Result.{err_from_is_err_and}
 use Rattle.cm_tool.specs.Parsing.{Goes}
 use Rattle.cm_tool.proofs.lemmas.ParserLemmas.{no_fault, stands, push_goes, nothing_settled, text_told, line_told, count_of, ended_of}
-use Rattle.cm_tool.proofs.reading.parser.push_part.Goals as goal
+use Rattle.cm_tool.proofs.reading.parser.push_slice.Goals as goal
 
 pub returns-in_err-hand_over-clause-pushes : goal.returns-in_err-hand_over-clause-pushes
 returns-in_err-hand_over-clause-pushes c =

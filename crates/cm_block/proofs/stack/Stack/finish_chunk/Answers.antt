@@ -8,14 +8,14 @@ use Rattle.cm_block.specs.Frames.{Row}
 use Rattle.cm_block.specs.steps.FrameViews.{frames_in}
 use Rattle.cm_block.specs.steps.FrontViews.{frames_behind}
 use Rattle.cm_block.proofs.lemmas.RowLemmas.{no-frames, no-list, none-placed, finished}
-use Rattle.cm_block.proofs.stack.Stack.finish_part.Goals as goal
+use Rattle.cm_block.proofs.stack.Stack.finish_chunk.Goals as goal
 
 no-frame : (c : goal.After-push) → c.self.inside.frames ≡ []
-no-frame c = no-frames c.self.inside.raw c.self.inside.parts c.self.inside.frames (ap (λ (r : Row). r.frames) c.self.view_is ∙ c.is_closed.ensures.frames c.if-not-is_closed.false)
+no-frame c = no-frames c.self.inside.raw c.self.inside.chunks c.self.inside.frames (ap (λ (r : Row). r.frames) c.self.view_is ∙ c.is_closed.ensures.frames c.if-not-is_closed.false)
 
 none-open : (c : goal.After-push) → c.self.inside.level.open_list ≡ None
 none-open c =
-    no-list c.self.inside.raw c.self.inside.parts c.self.inside.frames c.self.inside.level (ap (λ (r : Row). r.level.open_list) c.self.view_is ∙ c.is_closed.ensures.list c.if-not-is_closed.false)
+    no-list c.self.inside.raw c.self.inside.chunks c.self.inside.frames c.self.inside.level (ap (λ (r : Row). r.level.open_list) c.self.view_is ∙ c.is_closed.ensures.list c.if-not-is_closed.false)
 
 pub invariant_of-self : goal.invariant_of-self
 invariant_of-self c =
@@ -24,13 +24,13 @@ invariant_of-self c =
 pub returns-clause-same : goal.returns-clause-same
 returns-clause-same c = on_ok_weaker c.push.result (λ h.
     let inside = c.self.inside in
-    finished inside.raw c.replace-raw.new.dest inside.parts c.push.new.self inside.frames inside.bare inside.level (record c.self.inside.level { blocks = c.replace-blocks.new.dest }) (no-frame c) (none-open c)
+    finished inside.raw c.replace-raw.new.dest inside.chunks c.push.new.self inside.frames inside.bare inside.level (record c.self.inside.level { blocks = c.replace-blocks.new.dest }) (no-frame c) (none-open c)
     refl refl refl refl
     (rw c.replace-blocks.ensures.after c.new.ensures.items)
-    (h ∙ ap (λ bs. inside.parts ++ bs) (c.new-2.ensures ∙ ap₂ (λ raw (level : Vec RawBlock Global). blocks_in raw level.items) c.replace-raw.ensures.value c.replace-blocks.ensures.value)) ∙ c.self.view_is) c.push.ensures.ok
+    (h ∙ ap (λ bs. inside.chunks ++ bs) (c.new-2.ensures ∙ ap₂ (λ raw (level : Vec RawBlock Global). blocks_in raw level.items) c.replace-raw.ensures.value c.replace-blocks.ensures.value)) ∙ c.self.view_is) c.push.ensures.ok
 
 pub returns-clause-frames : goal.returns-clause-frames
 returns-clause-frames c =
     ap (λ fs. frames_behind c.push.new.self (frames_in c.replace-raw.new.dest fs)) (no-frame c)
-    ∙ sym (ap (λ fs. frames_behind c.self.inside.parts (frames_in c.self.inside.raw fs)) (no-frame c))
+    ∙ sym (ap (λ fs. frames_behind c.self.inside.chunks (frames_in c.self.inside.raw fs)) (no-frame c))
     ∙ ap (λ (r : Row). r.frames) c.self.view_is

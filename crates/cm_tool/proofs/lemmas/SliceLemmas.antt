@@ -1,4 +1,4 @@
--- A piece that is taken in part by part.
+-- A piece that is taken in slice by slice.
 use Rattle.std.proofs.Common.{◌≡◌, ◌<◌, ℕ, List, [], ◌∷◌, ◌++◌, refl, sym, ap, subst, ◌∙◌, append_assoc, append-nil, Some}
 use Rattle.std.specs.Prelude.{Result, Ok, Err, OnOk}
 use Rattle.std.proofs.lemmas.List.Elements.{All-append, All-tail}
@@ -21,20 +21,20 @@ PushedSoFar feed blocks piece rest later now =
 pub none_pushed : (feed : Feed) (blocks : BlockParser) (piece : List ℕ) → PushedSoFar feed blocks piece piece feed blocks
 none_pushed feed blocks piece = ([], (refl, λ limits bytes g. subst (Goes limits feed blocks) (sym (append-nil bytes)) g))
 
--- one part more
-pub part_pushed : (feed : Feed) (blocks : BlockParser) (piece rest front back : List ℕ) (later next : Feed) (now then_now : BlockParser)
+-- one slice more
+pub slice_pushed : (feed : Feed) (blocks : BlockParser) (piece rest front back : List ℕ) (later next : Feed) (now then_now : BlockParser)
     → PushedSoFar feed blocks piece rest later now → rest ≡ front ++ back
     → ((limits : LimitsView) (bytes : List ℕ) → Goes limits later now bytes → Goes limits next then_now (bytes ++ front))
     → PushedSoFar feed blocks piece back next then_now
-part_pushed feed blocks piece rest front back later next now then_now so_far parts more = (
+slice_pushed feed blocks piece rest front back later next now then_now so_far slices more = (
   so_far.0 ++ front,
   (
-    so_far.1.0 ∙ ap (λ t. so_far.0 ++ t) parts ∙ sym (append_assoc so_far.0 front back),
+    so_far.1.0 ∙ ap (λ t. so_far.0 ++ t) slices ∙ sym (append_assoc so_far.0 front back),
     λ limits bytes g. subst (Goes limits next then_now) (append_assoc bytes so_far.0 front) (more limits (bytes ++ so_far.0) (so_far.1.1 limits bytes g)),
   ),
 )
 
--- the last part
+-- the last slice
 pub last_pushed : (answer : Result (Unit {0}) Fault) (feed : Feed) (blocks : BlockParser) (piece rest : List ℕ) (later next : Feed) (now then_now : BlockParser)
     → PushedSoFar feed blocks piece rest later now → Pushes answer rest later now next then_now → Pushes answer piece feed blocks next then_now
 last_pushed answer feed blocks piece rest later next now then_now so_far pushed = record {
@@ -76,16 +76,16 @@ bytes_behind : (front back : List ℕ) → AreBytes (front ++ back) → AreBytes
 bytes_behind [] back are = are
 bytes_behind (x ∷ xs) back are = bytes_behind xs back (All-tail (λ b. b < 256) x (xs ++ back) are)
 
--- a part has a fault: so has the piece
-pub part_told : (feed : Feed) (blocks : BlockParser) (piece rest front back : List ℕ) (later : Feed) (now : BlockParser) (fault : Fault)
+-- a slice has a fault: so has the piece
+pub slice_told : (feed : Feed) (blocks : BlockParser) (piece rest front back : List ℕ) (later : Feed) (now : BlockParser) (fault : Fault)
     → PushedSoFar feed blocks piece rest later now → rest ≡ front ++ back → AreBytes piece
     → ((limits : LimitsView) (bytes : List ℕ) → Goes limits later now bytes → TellsFault fault (settled_fault_of limits (bytes ++ front)))
     → (limits : LimitsView) (bytes : List ℕ) → Goes limits feed blocks bytes → TellsFault fault (settled_fault_of limits (bytes ++ piece))
-part_told feed blocks piece rest front back later now fault so_far parts are told limits bytes g =
+slice_told feed blocks piece rest front back later now fault so_far slices are told limits bytes g =
     let first = told limits (bytes ++ so_far.0) (so_far.1.1 limits bytes g) in
-    let inside : piece ≡ (so_far.0 ++ front) ++ back = so_far.1.0 ∙ ap (λ t. so_far.0 ++ t) parts ∙ sym (append_assoc so_far.0 front back) in
+    let inside : piece ≡ (so_far.0 ++ front) ++ back = so_far.1.0 ∙ ap (λ t. so_far.0 ++ t) slices ∙ sym (append_assoc so_far.0 front back) in
     let are_back : AreBytes back = bytes_behind (so_far.0 ++ front) back (subst AreBytes inside are) in
     let whole : (((bytes ++ so_far.0) ++ front) ++ back) ≡ bytes ++ piece =
     append_assoc (bytes ++ so_far.0) front back ∙ append_assoc bytes so_far.0 (front ++ back)
-    ∙ ap (λ t. bytes ++ t) (ap (λ t. so_far.0 ++ t) (sym parts) ∙ sym so_far.1.0) in
+    ∙ ap (λ t. bytes ++ t) (ap (λ t. so_far.0 ++ t) (sym slices) ∙ sym so_far.1.0) in
     subst (λ t. TellsFault fault (settled_fault_of limits t)) whole (told_stays limits ((bytes ++ so_far.0) ++ front) back fault are_back first)

@@ -4,7 +4,7 @@ use Rattle.cm_tree.specs.declared.tree.Block.{Block}
 use Rattle.cm_tree.specs.declared.raw_blocks.RawBlock.TheVariants as raw_block
 use Rattle.cm_tree.specs.RawBlocks.{blocks_in, ArePlaced}
 use Rattle.cm_tree.proofs.lemmas.RawWalks.{joined}
-use Rattle.cm_block.proofs.outline.push_part.Goals as goal
+use Rattle.cm_block.proofs.outline.push_chunk.Goals as goal
 
 pub loop-block-init : goal.loop-block-init
 loop-block-init c = record {
@@ -20,7 +20,7 @@ pub loop-block-preserved : goal.loop-block-preserved
 loop-block-preserved c =
     let inside = c.contents.result.1.now in
     let step = drop_more c.contents.result.0.now c.loop-block.block-index (raw_block.Paragraph 0 0) c.loop-block-test.true in
-    let all = c.args.made.now ++ c.args.part.now in
+    let all = c.args.made.now ++ c.args.chunk.now in
     record {
       made = joined c.loop-block.made c.push.new.self _ _ all (subst (λ left. c.loop-block.made ++ blocks_in inside left ≡ all) step c.loop-block.invariant.made)
           (c.in_ok-push.ensures.ok ∙ ap (λ (b : Block). c.loop-block.made ++ b ∷ []) c.in_ok-made_block.ensures);
