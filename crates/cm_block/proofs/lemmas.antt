@@ -37,7 +37,7 @@ pub mod Lazy
 pub mod Depths
 pub mod StartLemmas
 pub mod MarkerPlaces
-pub mod PlaceLemmas
+pub mod ContinuationLemmas
 pub mod RunLemmas
 pub mod PutLemmas
 pub mod LineOwnerLemmas
@@ -47,4 +47,4 @@ pub mod NextLineLemmas
 pub mod OwnerRunLemmas
 pub mod FrontLemmas
 pub mod InfoLemmas
-pub mod ItemPlaces
+pub mod ItemContinuations

@@ -5,7 +5,7 @@ use Rattle.cm_text.specs.Lines.{LineView}
 use Rattle.cm_tree.specs.declared.tree.ListKind.{ListKind}
 use Rattle.cm_scan.specs.blocks.Lines.{is_blank, marks}
 use Rattle.cm_scan.specs.blocks.Parts.{LeafPart, Parts, none, blank, leaf, quote, put_item}
-use Rattle.cm_scan.specs.blocks.Starts.{place_in_quote, place_in_item}
+use Rattle.cm_scan.specs.blocks.Starts.{continuation_in_quote, continuation_in_item}
 use Rattle.cm_scan.specs.laws.PartLaws.{goes_inward}
 use Rattle.cm_block.specs.OpenLeaf.{OpenLeaf, no_leaf, closed_leaves, blank_lines_behind, is_open_text, LeafLine, stays_open, is_last, line_of_leaf, LineOpens, begins_nothing, begins_leaf, begins_quote, begins_item, begin_of}
 
@@ -90,11 +90,11 @@ leaf_step rules x line None = after_closing rules (closing (in_leaf x)) line
 -- one more line
 unfoldable pub step : Rules → Open (List Piece) → LineView → Change
 step rules (in_leaf x) line = leaf_step rules x line (line_of_leaf rules x line)
-step rules (in_quote closed now) line = elim (goes_inward (place_in_quote rules line) (has_open_text now)) [
+step rules (in_quote closed now) line = elim (goes_inward (continuation_in_quote rules line) (has_open_text now)) [
   | Some inner ↦ let c = step rules now inner in change [] (in_quote (closed ++ c.closed) c.now)
   | None ↦ after_closing rules (closing (in_quote closed now)) line
 ]
-step rules (in_item kind column bare closed now) line = elim (goes_inward (place_in_item rules column bare line) (has_open_text now)) [
+step rules (in_item kind column bare closed now) line = elim (goes_inward (continuation_in_item rules column bare line) (has_open_text now)) [
   | Some inner ↦ let c = step rules now inner in change [] (in_item kind column false (closed ++ c.closed) c.now)
   | None ↦ after_closing rules (closing (in_item kind column bare closed now)) line
 ]

@@ -14,7 +14,7 @@ use Rattle.cm_tree.specs.declared.tree.Owner.TheVariants.{Leaf, Marker, Blank}
 use Rattle.cm_tree.specs.Definitions.{Targets, add_first}
 use Rattle.cm_scan.specs.blocks.Lines.{is_blank, marks}
 use Rattle.cm_scan.specs.blocks.Parts.{LeafPart, definition, leaf_block}
-use Rattle.cm_scan.specs.blocks.Starts.{place_in_quote, place_in_item}
+use Rattle.cm_scan.specs.blocks.Starts.{continuation_in_quote, continuation_in_item}
 use Rattle.cm_scan.specs.laws.PartLaws.{goes_inward}
 use Rattle.cm_block.specs.OpenLeaf.{OpenLeaf, no_leaf, closed_leaves, blank_lines_behind, LeafLine, stays_open, is_last, line_of_leaf, LineOpens, begins_nothing, begins_leaf, begins_quote, begins_item, begin_of}
 use Rattle.cm_block.specs.Machine.{Open, in_leaf, in_quote, in_item, has_open_text}
@@ -144,11 +144,11 @@ push_to_leaf rules in_a_quote owned level x line None = push_after rules in_a_qu
 -- one more line, at one level
 unfoldable pub push_in : Rules → (in_a_quote : Bool) → Owned → Level → Open Level → LineView → Stack
 push_in rules in_a_quote owned level (in_leaf x) line = push_to_leaf rules in_a_quote owned level x line (line_of_leaf rules x line)
-push_in rules in_a_quote owned level (in_quote inside now) line = elim (goes_inward (place_in_quote rules line) (has_open_text now)) [
+push_in rules in_a_quote owned level (in_quote inside now) line = elim (goes_inward (continuation_in_quote rules line) (has_open_text now)) [
   | Some inner ↦ let c = push_in rules true owned inside now inner in stack level (in_quote c.level c.now) c.owned
   | None ↦ push_after rules in_a_quote owned level (in_quote inside now) line
 ]
-push_in rules in_a_quote owned level (in_item kind column bare inside now) line = elim (goes_inward (place_in_item rules column bare line) (has_open_text now)) [
+push_in rules in_a_quote owned level (in_item kind column bare inside now) line = elim (goes_inward (continuation_in_item rules column bare line) (has_open_text now)) [
   | Some inner ↦ let c = push_in rules in_a_quote owned inside now inner in stack level (in_item kind column false c.level c.now) c.owned
   | None ↦ push_after rules in_a_quote owned level (in_item kind column bare inside now) line
 ]

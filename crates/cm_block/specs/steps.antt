@@ -2,7 +2,7 @@ pub mod LevelViews
 pub mod FrameViews
 pub mod FrontViews
 pub mod FirstLines
-pub mod PlaceViews
+pub mod ContinuationViews
 pub mod StartViews
 pub mod LevelSteps
 pub mod FrameSteps

@@ -7,8 +7,8 @@
 ghost use Rattle.std.specs.Prelude.{◌≡◌, ◌+◌, ◌++◌, ◌∷◌, ◌&&◌, ℕ};
 ghost use Rattle.std.specs.Prelude.{List, suc, true, false, string_bytes, IfOk, IfSome, IfNone, OnOk};
 ghost use Rattle.cm_block.specs.Prelude.{strip_columns, seen_view, given, is_blank, with_ending};
-ghost use Rattle.cm_block.specs.Prelude.{is_html_end, kind_of, place_if_lazy, place_in_quote};
-ghost use Rattle.cm_block.specs.Prelude.{place_in_item, interrupts_paragraph, underline_of, goes_inward};
+ghost use Rattle.cm_block.specs.Prelude.{is_html_end, kind_of, continuation_if_lazy, continuation_in_quote};
+ghost use Rattle.cm_block.specs.Prelude.{continuation_in_item, interrupts_paragraph, underline_of, goes_inward};
 ghost use Rattle.cm_block.specs.Prelude.{line_feeds, add_text, closes_fence, plain_lines_of};
 ghost use Rattle.cm_text.specs.Rules as all;
 ghost use Rattle.cm_block.specs.OpenLeaf.{no_leaf, stays_open, line_of_leaf, begins_leaf, begin_of_start};
@@ -16,7 +16,7 @@ ghost use Rattle.cm_block.specs.LeafViews.{code_of, leaf_of};
 ghost use Rattle.cm_block.specs.steps.LineTests.{Tested};
 ghost use Rattle.cm_block.specs.steps.TextRuns.{add_lines};
 ghost use Rattle.cm_block.specs.steps.StartViews.{seen};
-ghost use Rattle.cm_block.specs.steps.PlaceViews.{IsInside};
+ghost use Rattle.cm_block.specs.steps.ContinuationViews.{IsInside};
 ghost use Rattle.cm_block.specs.steps.FirstLines.{first_of, StaysClosed, begins_container};
 
 mod copies;
@@ -24,7 +24,7 @@ mod ends;
 mod first_line;
 mod interruptions;
 mod items;
-mod places;
+mod continuations;
 mod starts;
 
 use crate::leaf_text::LeafText;
@@ -39,7 +39,7 @@ use first_line::begin_leaf;
 use interruptions::{interrupts_paragraph, underline_of};
 pub(crate) use items::LineInItems;
 use items::inside_item;
-use places::{ends_bare_item, if_lazy, is_blank, item_content, quote_content, with_columns};
+use continuations::{ends_bare_item, if_lazy, is_blank, item_content, quote_content, with_columns};
 use starts::{Start, begins_with_letter, start_of};
 use std::alloc::{AllocError, Global};
 
@@ -152,8 +152,8 @@ impl<'a> CountedLine<'a> {
     /// Whether the line stays in an open quote by its marker, behind which it then goes on (5.1 Block
     /// quotes).
     pub(crate) fn stays_in_quote(&mut self) -> bool
-        ensures place { (by : all.Rules) → IsInside result (place_in_quote by (seen_view self.old.rest))
-            (place_if_lazy by (seen_view self.old.rest)) (seen_view self.new.rest) }
+        ensures continuation { (by : all.Rules) → IsInside result (continuation_in_quote by (seen_view self.old.rest))
+            (continuation_if_lazy by (seen_view self.old.rest)) (seen_view self.new.rest) }
         ensures same { result ≡ false → self.new.rest ≡ self.old.rest }
         ensures tests { Tested 1 1 self.old.tests self.new.tests }
     {
@@ -168,8 +168,8 @@ impl<'a> CountedLine<'a> {
     /// reaches the column, or is blank. A blank line ends an item of which there is only the marker (5.2 List
     /// items).
     pub(crate) fn stays_in_item(&mut self, column: usize, bare: bool) -> bool
-        ensures place { (by : all.Rules) → IsInside result (place_in_item by column bare
-            (seen_view self.old.rest)) (place_if_lazy by (seen_view self.old.rest))
+        ensures continuation { (by : all.Rules) → IsInside result (continuation_in_item by column bare
+            (seen_view self.old.rest)) (continuation_if_lazy by (seen_view self.old.rest))
             (seen_view self.new.rest) }
         ensures same { result ≡ false → self.new.rest ≡ self.old.rest }
         ensures tests { Tested 1 1 self.old.tests self.new.tests }
@@ -218,7 +218,7 @@ impl<'a> CountedLine<'a> {
     /// items).
     pub(crate) fn goes_on_lazily(&mut self, rules: Rules, open_text: bool) -> bool
         ensures line { given result (seen_view self.new.rest)
-            ≡ goes_inward (place_if_lazy rules (seen_view self.old.rest)) open_text }
+            ≡ goes_inward (continuation_if_lazy rules (seen_view self.old.rest)) open_text }
         ensures same { result ≡ false → self.new.rest ≡ self.old.rest }
         ensures lazy { result ≡ true → self.new.rest.lazy ≡ true }
         ensures tests { Tested 1 1 self.old.tests self.new.tests }

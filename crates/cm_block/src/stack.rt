@@ -9,16 +9,16 @@
 ghost use Rattle.std.specs.Prelude.{◌≡◌, ◌<◌, ◌≤◌, ◌∷◌, ◌++◌, ◌+◌, ◌&&◌, []};
 ghost use Rattle.std.specs.Prelude.{Bool, true, false, suc, List, length, take, drop, None, OnOk, IfOk};
 ghost use Rattle.cm_text.specs.Rules as all;
-ghost use Rattle.cm_block.specs.Prelude.{seen_view, given, place_if_lazy, Raw};
+ghost use Rattle.cm_block.specs.Prelude.{seen_view, given, continuation_if_lazy, Raw};
 ghost use Rattle.cm_block.specs.steps.LineTests.{Tested};
 ghost use Rattle.cm_block.specs.Level.{empty_level, block_opens, block_closes};
 ghost use Rattle.cm_block.specs.Level.{closed_blocks, item_opens, push_blank};
 ghost use Rattle.cm_block.specs.steps.LeafBlocks.{block_of};
 ghost use Rattle.cm_block.specs.steps.LevelViews.{level_in, IsLevelPlaced};
 ghost use Rattle.cm_block.specs.Frames.{a_quote, an_item, is_last, Frame as open_frame};
-ghost use Rattle.cm_block.specs.steps.FrameSteps.{place_in, inward, matching, behind, LeavesNext};
+ghost use Rattle.cm_block.specs.steps.FrameSteps.{continuation_in, inward, matching, behind, LeavesNext};
 ghost use Rattle.cm_block.specs.steps.FrameSteps.{quoted_by, close_container, close_frames};
-ghost use Rattle.cm_block.specs.steps.PlaceViews.{IsInside, stays};
+ghost use Rattle.cm_block.specs.steps.ContinuationViews.{IsInside, stays};
 ghost use Rattle.cm_block.specs.declared.stack.Stays.TheVariants.{Inside, Lazily, Leaves};
 ghost use Rattle.cm_block.specs.steps.FrameViews.{container_of, frames_in, AreFramesPlaced};
 
@@ -54,8 +54,8 @@ impl Container {
     /// Takes a line in, if it stays in the container by itself, and answers whether it does. `bare` says of
     /// an item that there is only its marker so far, with nothing on its line.
     fn has_inside(&self, bare: bool, line: &mut CountedLine<'_>) -> bool
-        ensures place { (by : all.Rules) → IsInside result (place_in by (container_of self.now) bare
-            (seen_view line.old.rest)) (place_if_lazy by (seen_view line.old.rest))
+        ensures continuation { (by : all.Rules) → IsInside result (continuation_in by (container_of self.now) bare
+            (seen_view line.old.rest)) (continuation_if_lazy by (seen_view line.old.rest))
             (seen_view line.new.rest) }
         ensures same { result ≡ false → line.new.rest ≡ line.old.rest }
         ensures tests { Tested 1 1 line.old.tests line.new.tests }

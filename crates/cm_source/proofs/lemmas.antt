@@ -8,7 +8,7 @@
 -- (specs/Speller.antt, SpellerLemmas).
 --
 -- - Blocks. The lines of a tree, seen as an outline (specs/steps/Outlines.antt), are read level by level,
---   with any blocks after each, as just its parts (OutlineParts, OutlineBack). PlacesBack and MarkersBack
+--   with any blocks after each, as just its parts (OutlineParts, OutlineBack). ContinuationsBack and MarkersBack
 --   have what stays in quotes and items, LeavesBack, FencesBack and HtmlBack the leaves. That a tree isn't
 --   refused gives what this asks of the outline (SpellableBlocks).
 -- - Sources. No definition is at the front of a spelled content (ContentLabels), each of its lines starts

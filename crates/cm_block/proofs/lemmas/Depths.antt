@@ -11,7 +11,7 @@ use Rattle.cm_text.specs.Lines.{LineView}
 use Rattle.cm_tree.specs.declared.tree.ListKind.{ListKind}
 use Rattle.cm_scan.specs.blocks.Lines.{marks}
 use Rattle.cm_scan.specs.blocks.LineForms.{is_same_kind}
-use Rattle.cm_scan.specs.blocks.Starts.{place_in_quote, place_in_item}
+use Rattle.cm_scan.specs.blocks.Starts.{continuation_in_quote, continuation_in_item}
 use Rattle.cm_scan.specs.blocks.Parts.{LeafPart, Parts, none, blank, leaf, quote, list, ItemParts, last_item, item, next_items, put_before, put_item, line_owners, depths_of, item_depths_of}
 use Rattle.cm_scan.specs.blocks.Blocks.{parts_of, owners_of, first_too_deep}
 use Rattle.cm_scan.specs.laws.PartLaws.{goes_inward, AreLines}
@@ -194,7 +194,7 @@ grows-step rules (in_leaf x) line = go (line_of_leaf rules x line)
     go : (l : Option LeafLine) → Grows (pieces_depths (closing (in_leaf x))) (leaf_step rules x line l)
     go None = grows-after rules (closing (in_leaf x)) line
     go (Some l) = grows-leaf _ (pieces_depths (closing (in_leaf x))) (closing-zeros x) l
-grows-step rules (in_quote qs o) line = go (goes_inward (place_in_quote rules line) (has_open_text o)) (λ inner. grows-step rules o inner)
+grows-step rules (in_quote qs o) line = go (goes_inward (continuation_in_quote rules line) (has_open_text o)) (λ inner. grows-step rules o inner)
   where
     go : (l : Option LineView) → ((inner : LineView) → Grows (pieces_depths (closing o)) (step rules o inner))
         → Grows (pieces_depths (closing (in_quote qs o))) (elim l as (λ _. Change) [
@@ -203,7 +203,7 @@ grows-step rules (in_quote qs o) line = go (goes_inward (place_in_quote rules li
         ])
     go None f = grows-after rules (closing (in_quote qs o)) line
     go (Some inner) f = grows-inside qs o (step rules o inner) (in_quote (qs ++ (step rules o inner).closed) (step rules o inner).now) refl refl (f inner)
-grows-step rules (in_item kind column bare qs o) line = go (goes_inward (place_in_item rules column bare line) (has_open_text o)) (λ inner. grows-step rules o inner)
+grows-step rules (in_item kind column bare qs o) line = go (goes_inward (continuation_in_item rules column bare line) (has_open_text o)) (λ inner. grows-step rules o inner)
   where
     go : (l : Option LineView) → ((inner : LineView) → Grows (pieces_depths (closing o)) (step rules o inner))
         → Grows (pieces_depths (closing (in_item kind column bare qs o))) (elim l as (λ _. Change) [

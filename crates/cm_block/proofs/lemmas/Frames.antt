@@ -3,7 +3,7 @@ use Rattle.std.specs.Prelude.{length, take, drop, ◌==◌}
 use Rattle.std.proofs.Common.{◌≡◌, ℕ, suc, Bool, true, false, ◌&&◌, List, [], ◌∷◌, refl, ◌∙◌, sym, ap, ap₂, arith, Option, Some, None}
 use Rattle.cm_text.specs.Rules.{Rules}
 use Rattle.cm_text.specs.Lines.{LineView}
-use Rattle.cm_scan.specs.blocks.Starts.{place_in_quote, place_in_item}
+use Rattle.cm_scan.specs.blocks.Starts.{continuation_in_quote, continuation_in_item}
 use Rattle.cm_scan.specs.laws.PartLaws.{goes_inward}
 use Rattle.cm_block.specs.OpenLeaf.{OpenLeaf, is_open_text, LeafLine, line_of_leaf}
 use Rattle.cm_block.specs.Machine.{Open, in_leaf, has_open_text}
@@ -143,12 +143,12 @@ pushes rules bare q (f ∷ fs) v x s line =
     found : Option LineView → ℕ × LineView
     found o = elim o [ Some inner ↦ let i = matching rules bare (is_open_text x) fs inner in (suc i.0, i.1) | None ↦ (0, line) ]
 
-    by_place : (lev : Level) (c : Container) (o : Option LineView)
+    by_continuation : (lev : Level) (c : Container) (o : Option LineView)
         → ((p : Bool) (inner : LineView) → push_in rules p s inside.0 inside.1 inner ≡ pushed rules p fs v x s (matching rules bare (is_open_text x) fs inner))
         → push_after rules q s lev (opened c b inside.0 inside.1) line ≡ pushed_after rules q (frame lev c ∷ fs) v x s (0, line)
         → into lev c o ≡ pushed rules q (frame lev c ∷ fs) v x s (found o)
-    by_place lev c None inner closed = closed ∙ sym (pushed-left rules q (frame lev c ∷ fs) v x s (0, line) (not-more (length fs)))
-    by_place lev c (Some l) inner closed =
+    by_continuation lev c None inner closed = closed ∙ sym (pushed-left rules q (frame lev c ∷ fs) v x s (0, line) (not-more (length fs)))
+    by_continuation lev c (Some l) inner closed =
         ap (round (frame lev c)) (inner (quoted_in c q) l) ∙ pushed-inside rules q (frame lev c) fs v x s (matching rules bare (is_open_text x) fs l)
 
     go : (lev : Level) (c : Container) → has_open_text inside.1 ≡ is_open_text x
@@ -157,8 +157,8 @@ pushes rules bare q (f ∷ fs) v x s line =
         → own_open q s (opened c b inside.0 inside.1) ≡ own_open (quoted_by q (frame lev c ∷ fs)) s (in_leaf x)
         → push_in rules q s lev (opened c b inside.0 inside.1) line ≡ pushed rules q (frame lev c ∷ fs) v x s (found (inward rules c b (is_open_text x) line))
     go lev a_quote same inner closed owned =
-        ap (λ o. into lev a_quote (goes_inward (place_in_quote rules line) o)) same
-        ∙ by_place lev a_quote (inward rules a_quote b (is_open_text x) line) inner (after lev a_quote closed owned)
+        ap (λ o. into lev a_quote (goes_inward (continuation_in_quote rules line) o)) same
+        ∙ by_continuation lev a_quote (inward rules a_quote b (is_open_text x) line) inner (after lev a_quote closed owned)
     go lev (an_item kind column) same inner closed owned =
-        ap (λ o. into lev (an_item kind column) (goes_inward (place_in_item rules column b line) o)) same
-        ∙ by_place lev (an_item kind column) (inward rules (an_item kind column) b (is_open_text x) line) inner (after lev (an_item kind column) closed owned)
+        ap (λ o. into lev (an_item kind column) (goes_inward (continuation_in_item rules column b line) o)) same
+        ∙ by_continuation lev (an_item kind column) (inward rules (an_item kind column) b (is_open_text x) line) inner (after lev (an_item kind column) closed owned)

@@ -3,7 +3,7 @@ use Rattle.std.proofs.Common.{◌≡◌, ℕ, Bool, true, false, List, ◌∙◌
 use Rattle.cm_text.specs.Rules.{Rules}
 use Rattle.cm_text.specs.Lines.{LineView}
 use Rattle.cm_scan.specs.blocks.Lines.{is_blank, as_lazy}
-use Rattle.cm_scan.specs.blocks.Starts.{TextLine, start_of, interrupts_paragraph, underline_of, Place, StaysIfOpen, place_if_lazy, place_in_quote, place_in_item, quote_place}
+use Rattle.cm_scan.specs.blocks.Starts.{TextLine, start_of, interrupts_paragraph, underline_of, Continuation, StaysIfOpen, continuation_if_lazy, continuation_in_quote, continuation_in_item, quote_continuation}
 use Rattle.cm_scan.specs.blocks.Blocks.{GoesOn, next_line}
 use Rattle.cm_scan.specs.laws.PartLaws.{goes_inward}
 use Rattle.cm_block.specs.OpenLeaf.{no_leaf, open_text, open_code, open_fence, open_html, line_of_text, line_of_leaf}
@@ -35,22 +35,22 @@ module _ (rules : Rules) (line : LineView) (lazy : line.lazy ≡ true) (some : i
       let k : interrupts_paragraph rules line ≡ false = interrupts-nothing in
       grind (arith, h, k, some)
 
-  place-lazy : place_if_lazy rules line ≡ StaysIfOpen line
-  unfolding place_if_lazy
-  place-lazy =
+  continuation-lazy : continuation_if_lazy rules line ≡ StaysIfOpen line
+  unfolding continuation_if_lazy
+  continuation-lazy =
       let h : start_of rules line ≡ TextLine = starts-text in
-      (let k : place_if_lazy rules line ≡ StaysIfOpen (as_lazy line) = grind (arith, h, some) in k)
+      (let k : continuation_if_lazy rules line ≡ StaysIfOpen (as_lazy line) = grind (arith, h, some) in k)
       ∙ ap (λ b. StaysIfOpen (record { column = line.column; text = line.text; lazy = b })) (sym lazy)
 
-  pub place-quote : place_in_quote rules line ≡ StaysIfOpen line
-  unfolding place_in_quote
-  place-quote = ap (λ start. quote_place rules start line) starts-text ∙ place-lazy
+  pub continuation-quote : continuation_in_quote rules line ≡ StaysIfOpen line
+  unfolding continuation_in_quote
+  continuation-quote = ap (λ start. quote_continuation rules start line) starts-text ∙ continuation-lazy
 
-  pub place-item : (column : ℕ) (bare : Bool) → place_in_item rules column bare line ≡ StaysIfOpen line
-  unfolding place_in_item
-  place-item column bare = let h : place_if_lazy rules line ≡ StaysIfOpen line = place-lazy in grind (arith, lazy, h)
+  pub continuation-item : (column : ℕ) (bare : Bool) → continuation_in_item rules column bare line ≡ StaysIfOpen line
+  unfolding continuation_in_item
+  continuation-item column bare = let h : continuation_if_lazy rules line ≡ StaysIfOpen line = continuation-lazy in grind (arith, lazy, h)
 
-  inward : (p : Place) (b : Bool) → p ≡ StaysIfOpen line → b ≡ true → goes_inward p b ≡ Some line
+  inward : (p : Continuation) (b : Bool) → p ≡ StaysIfOpen line → b ≡ true → goes_inward p b ≡ Some line
   inward p b e o = ap₂ goes_inward e o
 
   push-lazy : (now : Open Level) (q : Bool) (s : Owned) (v : Level) → has_open_text now ≡ true → push_in rules q s v now line ≡ stack v (with_text now line) s
@@ -61,7 +61,7 @@ module _ (rules : Rules) (line : LineView) (lazy : line.lazy ≡ true) (some : i
   push-lazy (in_leaf (open_fence fence columns text lines)) q s v e = grind (arith, e)
   push-lazy (in_leaf (open_html kind text lines)) q s v e = grind (arith, e)
   push-lazy (in_quote w now) q s v e =
-      ap pushed (inward (place_in_quote rules line) (has_open_text now) place-quote e)
+      ap pushed (inward (continuation_in_quote rules line) (has_open_text now) continuation-quote e)
       ∙ ap (λ (c : Stack). stack v (in_quote c.level c.now) c.owned) (push-lazy now true s w e)
     where
       pushed : Option LineView → Stack
@@ -70,7 +70,7 @@ module _ (rules : Rules) (line : LineView) (lazy : line.lazy ≡ true) (some : i
         | None ↦ push_after rules q s v (in_quote w now) line
       ]
   push-lazy (in_item kind column bare w now) q s v e =
-      ap pushed (inward (place_in_item rules column bare line) (has_open_text now) (place-item column bare) e)
+      ap pushed (inward (continuation_in_item rules column bare line) (has_open_text now) (continuation-item column bare) e)
       ∙ ap (λ (c : Stack). stack v (in_item kind column false c.level c.now) c.owned) (push-lazy now q s w e)
     where
       pushed : Option LineView → Stack

@@ -13,7 +13,7 @@ use Rattle.cm_scan.specs.blocks.LineForms.{Heading, Fence, ItemMarker, is_themat
 use Rattle.cm_tree.specs.declared.tree.ListKind.{ListKind}
 use Rattle.cm_scan.specs.blocks.HtmlBlocks.{HtmlKind, html_start}
 use Rattle.cm_scan.specs.blocks.Starts.{Start, QuoteMarker, ItemStart, start_of_content, start_by, start_of}
-use Rattle.cm_block.specs.steps.PlaceViews.{begins_quote}
+use Rattle.cm_block.specs.steps.ContinuationViews.{begins_quote}
 use Rattle.cm_block.proofs.lemmas.StartLemmas.{first}
 
 -- a marker at the front of a text

@@ -5,7 +5,7 @@ use Rattle.cm_text.specs.Lines.{LineView}
 use Rattle.cm_text.specs.Indentation.{indent_of, strip_columns}
 use Rattle.cm_scan.specs.blocks.Lines.{is_blank, past, as_lazy}
 use Rattle.cm_scan.specs.laws.PartLaws.{goes_inward}
-use Rattle.cm_scan.specs.blocks.Starts.{Start, IndentedCode, QuoteMarker, AtxHeading, OpeningFence, HtmlStart, BreakLine, ItemStart, TextLine, start_of, Place, Stays, StaysIfOpen, Leaves, may_be_lazy, place_if_lazy, behind_quote_marker, quote_place, place_in_quote, item_place, place_in_item}
+use Rattle.cm_scan.specs.blocks.Starts.{Start, IndentedCode, QuoteMarker, AtxHeading, OpeningFence, HtmlStart, BreakLine, ItemStart, TextLine, start_of, Continuation, Stays, StaysIfOpen, Leaves, may_be_lazy, continuation_if_lazy, behind_quote_marker, quote_continuation, continuation_in_quote, item_continuation, continuation_in_item}
 use Rattle.std.specs.Prelude.{nat_le}
 use Rattle.std.specs.List.{slice_index_or}
 use Rattle.cm_block.specs.declared.stack.Frame as code
@@ -14,10 +14,10 @@ use Rattle.cm_block.specs.declared.stack.Container.TheVariants as variants
 use Rattle.cm_tree.specs.declared.tree.ListKind.{ListKind}
 use Rattle.cm_block.specs.steps.FrameViews.{container_of, frame_in, frames_in}
 use Rattle.cm_block.specs.Level.{Level}
-use Rattle.cm_block.proofs.lemmas.Lazy.{starts_text, place-quote, place-item}
+use Rattle.cm_block.proofs.lemmas.Lazy.{starts_text, continuation-quote, continuation-item}
 use Rattle.std.proofs.lemmas.List.{length_push}
 use Rattle.cm_block.specs.Frames.{Container, a_quote, an_item, Frame, Row, is_last}
-use Rattle.cm_block.specs.steps.FrameSteps.{place_in, inward, matching, behind, LeavesNext, quoted_in, quoted_by, close_container, close_frames}
+use Rattle.cm_block.specs.steps.FrameSteps.{continuation_in, inward, matching, behind, LeavesNext, quoted_in, quoted_by, close_container, close_frames}
 
 -- closing from the inside out
 pub close_last : (fs : List Frame) (f : Frame) (level : Level) → close_frames (fs ++ f ∷ []) level ≡ close_frames fs (close_container f.container f.level level)
@@ -66,11 +66,11 @@ module _ (rules : Rules) (bare open_text : Bool) (i : ℕ) (f : Frame) (rest : L
   unfolding matching
   match_next from is_bare inner at is stays =
       ap (λ fs. behind i (matching rules bare open_text fs line)) at
-      ∙ ap by_place (sym (stays ∙ ap (λ b. inward rules f.container b open_text line) is))
+      ∙ ap by_continuation (sym (stays ∙ ap (λ b. inward rules f.container b open_text line) is))
       ∙ ap (λ n. (n, (matching rules bare open_text rest inner).1)) (sum (matching rules bare open_text rest inner).0)
     where
-      by_place : Option LineView → ℕ × LineView
-      by_place o = behind i (elim o [ Some inner ↦ let inside = matching rules bare open_text rest inner in (suc inside.0, inside.1) | None ↦ (0, line) ])
+      by_continuation : Option LineView → ℕ × LineView
+      by_continuation o = behind i (elim o [ Some inner ↦ let inside = matching rules bare open_text rest inner in (suc inside.0, inside.1) | None ↦ (0, line) ])
 
       sum : (n : ℕ) → i + suc n ≡ suc i + n
       sum n = omega arith
@@ -82,11 +82,11 @@ module _ (rules : Rules) (bare open_text : Bool) (i : ℕ) (f : Frame) (rest : L
   unfolding matching
   match_stop from is_bare at is leaves =
       ap (λ fs. behind i (matching rules bare open_text fs line)) at
-      ∙ ap by_place (sym (leaves ∙ ap (λ b. inward rules f.container b open_text line) is))
+      ∙ ap by_continuation (sym (leaves ∙ ap (λ b. inward rules f.container b open_text line) is))
       ∙ ap (λ n. (n, line)) none
     where
-      by_place : Option LineView → ℕ × LineView
-      by_place o = behind i (elim o [ Some inner ↦ let inside = matching rules bare open_text rest inner in (suc inside.0, inside.1) | None ↦ (0, line) ])
+      by_continuation : Option LineView → ℕ × LineView
+      by_continuation o = behind i (elim o [ Some inner ↦ let inside = matching rules bare open_text rest inner in (suc inside.0, inside.1) | None ↦ (0, line) ])
 
       none : i + 0 ≡ i
       none = omega arith
@@ -109,20 +109,20 @@ frames_from raw (g ∷ gs) (suc i) other less = frames_from raw gs i other (omeg
 
 module _ (raw : Raw) (frames : List code.Frame) (i : ℕ) (other : code.Frame) (kind : ListKind) (column : ℕ) (line : LineView)
     (less : i < length frames) (is : (get_or frames i other).container ≡ variants.Item kind column) where
-  pub leaves_item : ((rules : Rules) → place_in_item rules column false line ≡ place_if_lazy rules line) → LeavesNext (frames_in raw frames) i line
-  leaves_item place = (
+  pub leaves_item : ((rules : Rules) → continuation_in_item rules column false line ≡ continuation_if_lazy rules line) → LeavesNext (frames_in raw frames) i line
+  leaves_item continuation = (
     frame_in raw (get_or frames i other),
-    (frames_from raw frames i other less, λ rules. ap (λ c. place_in rules (container_of c) false line) is ∙ place rules),
+    (frames_from raw frames i other less, λ rules. ap (λ c. continuation_in rules (container_of c) false line) is ∙ continuation rules),
   )
 
-  pub goes_into_item : (rules : Rules) (open_text : Bool) (inner : LineView) → place_in_item rules column false line ≡ Stays inner
+  pub goes_into_item : (rules : Rules) (open_text : Bool) (inner : LineView) → continuation_in_item rules column false line ≡ Stays inner
       → behind i (matching rules false open_text (drop i (frames_in raw frames)) line)
       ≡ behind (suc i) (matching rules false open_text (drop (suc i) (frames_in raw frames)) inner)
   unfolding inward
   goes_into_item rules open_text inner stays =
       match_next rules false open_text i (frame_in raw (get_or frames i other)) (drop (suc i) (frames_in raw frames)) line
       (drop i (frames_in raw frames)) false inner (frames_from raw frames i other less) refl
-      (ap (λ p. goes_inward p open_text) (sym stays) ∙ ap (λ c. goes_inward (place_in rules (container_of c) false line) open_text) (sym is))
+      (ap (λ p. goes_inward p open_text) (sym stays) ∙ ap (λ c. goes_inward (continuation_in rules (container_of c) false line) open_text) (sym is))
 
 -- a line that has gone into a container as a lazy continuation line
 
@@ -132,18 +132,18 @@ held other (Some line) = line
 held other None = other
 
 module _ (rules : Rules) (open_text : Bool) (line inner : LineView) where
-  from-lazy : Some inner ≡ goes_inward (place_if_lazy rules line) open_text → (open_text ≡ true) × (is_blank inner ≡ false)
-  unfolding place_if_lazy held
+  from-lazy : Some inner ≡ goes_inward (continuation_if_lazy rules line) open_text → (open_text ≡ true) × (is_blank inner ≡ false)
+  unfolding continuation_if_lazy held
   from-lazy = go (is_blank line) (may_be_lazy (start_of rules line)) open_text refl
     where
       go : (blank may o : Bool) → is_blank line ≡ blank
-          → Some inner ≡ goes_inward (elim (not blank && may) as (λ _. Place) [ true ↦ StaysIfOpen (as_lazy line) | false ↦ Leaves ]) o → (o ≡ true) × (is_blank inner ≡ false)
+          → Some inner ≡ goes_inward (elim (not blank && may) as (λ _. Continuation) [ true ↦ StaysIfOpen (as_lazy line) | false ↦ Leaves ]) o → (o ≡ true) × (is_blank inner ≡ false)
       go true may o blank e = absurd (cc e)
       go false false o blank e = absurd (cc e)
       go false true false blank e = absurd (cc e)
       go false true true blank e = (refl, ap (λ l. is_blank (held inner l)) e ∙ blank)
 
-  from-quote : (start : Start) → start_of rules line ≡ start → Some inner ≡ goes_inward (quote_place rules start line) open_text → inner.lazy ≡ true
+  from-quote : (start : Start) → start_of rules line ≡ start → Some inner ≡ goes_inward (quote_continuation rules start line) open_text → inner.lazy ≡ true
       → (open_text ≡ true) × (is_blank inner ≡ false)
   unfolding behind_quote_marker past held
   from-quote QuoteMarker is e lazy =
@@ -158,9 +158,9 @@ module _ (rules : Rules) (open_text : Bool) (line inner : LineView) where
   from-quote (ItemStart m) is e lazy = from-lazy e
   from-quote TextLine is e lazy = from-lazy e
 
-  from-item : (column : ℕ) (bare : Bool) → Some inner ≡ goes_inward (place_in_item rules column bare line) open_text → inner.lazy ≡ true
+  from-item : (column : ℕ) (bare : Bool) → Some inner ≡ goes_inward (continuation_in_item rules column bare line) open_text → inner.lazy ≡ true
       → (open_text ≡ true) × (is_blank inner ≡ false)
-  unfolding place_in_item held
+  unfolding continuation_in_item held
   from-item column bare = go line.lazy (is_blank line) bare (nat_le column (indent_of line)) refl
     where
       stays : line.lazy ≡ false → Some inner ≡ Some (strip_columns column line) → inner.lazy ≡ true → (open_text ≡ true) × (is_blank inner ≡ false)
@@ -169,9 +169,9 @@ module _ (rules : Rules) (open_text : Bool) (line inner : LineView) where
           absurd (cc (marked, same, lazy))
 
       go : (l blank b reaches : Bool) → line.lazy ≡ l
-          → Some inner ≡ goes_inward (elim l as (λ _. Place) [
-            | true ↦ place_if_lazy rules line
-            | false ↦ item_place blank b reaches (strip_columns column line) (place_if_lazy rules line)
+          → Some inner ≡ goes_inward (elim l as (λ _. Continuation) [
+            | true ↦ continuation_if_lazy rules line
+            | false ↦ item_continuation blank b reaches (strip_columns column line) (continuation_if_lazy rules line)
           ]) open_text → inner.lazy ≡ true → (open_text ≡ true) × (is_blank inner ≡ false)
       go true blank b reaches marked e lazy = from-lazy e
       go false true true reaches marked e lazy = absurd (cc e)
@@ -180,23 +180,23 @@ module _ (rules : Rules) (open_text : Bool) (line inner : LineView) where
       go false false b false marked e lazy = from-lazy e
 
   from-container : (c : Container) (bare : Bool) → Some inner ≡ inward rules c bare open_text line → inner.lazy ≡ true → (open_text ≡ true) × (is_blank inner ≡ false)
-  unfolding inward place_in_quote
+  unfolding inward continuation_in_quote
   from-container a_quote bare e lazy = from-quote (start_of rules line) refl e lazy
   from-container (an_item kind column) bare e lazy = from-item column bare e lazy
 
 module _ (rules : Rules) (bare open_text : Bool) (line : LineView) (lazy : line.lazy ≡ true) (some : is_blank line ≡ false) (left_open : open_text ≡ true) where
   goes-in : (c : Container) (b : Bool) → inward rules c b open_text line ≡ Some line
   unfolding inward
-  goes-in a_quote b = ap₂ goes_inward (place-quote rules line lazy some) left_open
-  goes-in (an_item kind column) b = ap₂ goes_inward (place-item rules line lazy some column b) left_open
+  goes-in a_quote b = ap₂ goes_inward (continuation-quote rules line lazy some) left_open
+  goes-in (an_item kind column) b = ap₂ goes_inward (continuation-item rules line lazy some column b) left_open
 
   goes-into-all : (fs : List Frame) → matching rules bare open_text fs line ≡ (length fs, line)
   unfolding matching
   goes-into-all [] = refl
-  goes-into-all (f ∷ fs) = ap by_place (goes-in f.container (bare && is_last fs)) ∙ ap (λ (m : ℕ × LineView). (suc m.0, m.1)) (goes-into-all fs)
+  goes-into-all (f ∷ fs) = ap by_continuation (goes-in f.container (bare && is_last fs)) ∙ ap (λ (m : ℕ × LineView). (suc m.0, m.1)) (goes-into-all fs)
     where
-      by_place : Option LineView → ℕ × LineView
-      by_place o = elim o [ Some inner ↦ let inside = matching rules bare open_text fs inner in (suc inside.0, inside.1) | None ↦ (0, line) ]
+      by_continuation : Option LineView → ℕ × LineView
+      by_continuation o = elim o [ Some inner ↦ let inside = matching rules bare open_text fs inner in (suc inside.0, inside.1) | None ↦ (0, line) ]
 
 rest-length : (raw : Raw) (frames : List code.Frame) (i : ℕ) → i < length frames → suc i + length (drop (suc i) (frames_in raw frames)) ≡ length frames
 rest-length raw [] i less = absurd (omega arith)
@@ -292,7 +292,7 @@ nothing_left (f ∷ fs) (suc depth) level few = nothing_left fs depth level (ome
 
 module _ (rules : Rules) (open_text : Bool) (raw : Raw) (frames : List code.Frame) (i : ℕ) (line : LineView)
     (next : LeavesNext (frames_in raw frames) i line) where
-  pub all_lazily : (inner : LineView) → i < length frames → Some inner ≡ goes_inward (place_if_lazy rules line) open_text → inner.lazy ≡ true
+  pub all_lazily : (inner : LineView) → i < length frames → Some inner ≡ goes_inward (continuation_if_lazy rules line) open_text → inner.lazy ≡ true
       → (length frames, inner) ≡ behind i (matching rules false open_text (drop i (frames_in raw frames)) line)
   unfolding inward
   all_lazily inner less goes lazy =
@@ -301,7 +301,7 @@ module _ (rules : Rules) (open_text : Bool) (raw : Raw) (frames : List code.Fram
       behind_all raw frames i (matching rules false open_text rest inner) inner less (match_lazy rules false open_text next.0.container false line inner rest stays lazy)
       ∙ sym (match_next rules false open_text i next.0 rest line (drop i (frames_in raw frames)) false inner next.1.0 refl stays)
 
-  pub none_lazily : None ≡ goes_inward (place_if_lazy rules line) open_text
+  pub none_lazily : None ≡ goes_inward (continuation_if_lazy rules line) open_text
       → (i, line) ≡ behind i (matching rules false open_text (drop i (frames_in raw frames)) line)
   unfolding inward
   none_lazily leaves =

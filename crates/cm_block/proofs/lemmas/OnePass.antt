@@ -11,7 +11,7 @@ use Rattle.cm_tree.specs.declared.tree.ListKind.{ListKind}
 use Rattle.cm_scan.specs.blocks.Lines.{is_blank, content_of, with_ending, marks, size}
 use Rattle.cm_scan.specs.blocks.LineForms.{Fence, is_closing_fence}
 use Rattle.cm_scan.specs.blocks.HtmlBlocks.{HtmlKind, RawText, Comment, Instruction, Declaration, CharacterData, BlockTag, AnyTag, is_html_end, ends_at_blank_line}
-use Rattle.cm_scan.specs.blocks.Starts.{Start, IndentedCode, QuoteMarker, AtxHeading, OpeningFence, HtmlStart, BreakLine, ItemStart, TextLine, start_of, Place, Stays, StaysIfOpen, Leaves, behind_quote_marker, place_in_quote, content_column, first_content, place_in_item}
+use Rattle.cm_scan.specs.blocks.Starts.{Start, IndentedCode, QuoteMarker, AtxHeading, OpeningFence, HtmlStart, BreakLine, ItemStart, TextLine, start_of, Continuation, Stays, StaysIfOpen, Leaves, behind_quote_marker, continuation_in_quote, content_column, first_content, continuation_in_item}
 use Rattle.cm_scan.specs.blocks.Parts.{LeafPart, heading, code, html, thematic_break, Parts, none, blank, leaf, leaves_paragraph_open, put_leaves, info_of}
 use Rattle.cm_scan.specs.blocks.Blocks.{add_text, NextLine, GoesOn, Ends, Underlines, next_line, TextRun, text_run, leaves_of_run, Taken, taken, closes_fence, fenced, html_to_end, html_to_blank, html_lines, code_line, indented, Inside, inside, is_bare, quote_parts, item_parts, fence_parts, html_parts, code_parts, text_parts, parts_by_start, parts_of}
 use Rattle.cm_scan.specs.laws.PartLaws.{goes_inward, next_inward}
@@ -67,14 +67,14 @@ put-closing x p =
     ∙ put-leaves (closed_leaves x) _
     ∙ ap (put_leaves (closed_leaves x)) (put-blanks (blank_lines_behind x) p)
 
--- the lines of a container, by the place of the next
+-- the lines of a container, by the continuation of the next
 
 bare-more : (s : LineView) (ss : List LineView) (i : LineView) → is_bare (s ∷ ss ++ i ∷ []) ≡ false
 bare-more s [] i = refl
 bare-more s (t ∷ ts) i = refl
 
 -- what goes inward has no more marks
-keeps-inward : (line i : LineView) (p : Place) (b : Bool) → Keeps line p → goes_inward p b ≡ Some i → marks i.text ≤ marks line.text
+keeps-inward : (line i : LineView) (p : Continuation) (b : Bool) → Keeps line p → goes_inward p b ≡ Some i → marks i.text ≤ marks line.text
 keeps-inward line i (Stays inner) b k e = subst (λ (v : Option LineView). elim v as (λ _. Type 0) [ Some i ↦ marks i.text ≤ marks line.text | None ↦ ⊥ ]) e k
 keeps-inward line i (StaysIfOpen inner) true k e = subst (λ (v : Option LineView). elim v as (λ _. Type 0) [ Some i ↦ marks i.text ≤ marks line.text | None ↦ ⊥ ]) e k
 keeps-inward line i (StaysIfOpen inner) false k e = grind (arith, e)
@@ -355,14 +355,14 @@ module _ (rules : Rules) where
             ∙ ap (leaf (html (text ++ with_ending line)) (suc m)) (pass-less lines (omega (arith, size-cons line lines)))
         go false e more = leaf-stays x (open_html kind (text ++ with_ending line) (suc m)) line lines (html-line kind text m line false (is_blank line) false h refl e) ∙ more
 
-    -- a quote or an item, by the piece that it gives and the places of further lines in it
-    module _ (container : Bool → List Piece → Open (List Piece) → Open (List Piece)) (piece : Parts → Piece) (place : Bool → LineView → Place)
+    -- a quote or an item, by the piece that it gives and the continuations of further lines in it
+    module _ (container : Bool → List Piece → Open (List Piece) → Open (List Piece)) (piece : Parts → Piece) (continuation : Bool → LineView → Continuation)
         (closes : (bare : Bool) (ps : List Piece) (o : Open (List Piece)) → closing (container bare ps o) ≡ piece (put_all (ps ++ closing o) none) ∷ [])
-        (stays : (bare : Bool) (ps : List Piece) (o : Open (List Piece)) (line i : LineView) → goes_inward (place bare line) (has_open_text o) ≡ Some i
+        (stays : (bare : Bool) (ps : List Piece) (o : Open (List Piece)) (line i : LineView) → goes_inward (continuation bare line) (has_open_text o) ≡ Some i
         → step rules (container bare ps o) line ≡ change [] (container false (ps ++ (step rules o i).closed) (step rules o i).now))
-        (goes : (bare : Bool) (ps : List Piece) (o : Open (List Piece)) (line : LineView) → goes_inward (place bare line) (has_open_text o) ≡ None
+        (goes : (bare : Bool) (ps : List Piece) (o : Open (List Piece)) (line : LineView) → goes_inward (continuation bare line) (has_open_text o) ≡ None
         → step rules (container bare ps o) line ≡ after_closing rules (closing (container bare ps o)) line)
-        (keeps : (bare : Bool) (line : LineView) → Keeps line (place bare line)) where
+        (keeps : (bare : Bool) (line : LineView) → Keeps line (continuation bare line)) where
       abbrev put_inside : Inside → Parts
       put_inside i = put (piece (parts_of rules i.inner)) (parts_of rules i.following)
 
@@ -375,38 +375,38 @@ module _ (rules : Rules) where
 
       container-pass : (first : LineView) (so_far lines : List LineView) (ps : List Piece) (o : Open (List Piece)) → take_lines rules new_machine (first ∷ so_far) ≡ change ps o
           → size (first ∷ so_far) + size lines < n
-          → put_all (finish (container (is_bare (first ∷ so_far)) ps o) lines) none ≡ put_inside (inside rules (parts_of rules) place (first ∷ so_far) lines)
+          → put_all (finish (container (is_bare (first ∷ so_far)) ps o) lines) none ≡ put_inside (inside rules (parts_of rules) continuation (first ∷ so_far) lines)
       unfolding finish inside
       container-pass first so_far [] ps o e less =
           closed-inside (first ∷ so_far) (is_bare (first ∷ so_far)) ps o none e (omega arith)
           ∙ ap (put (piece (parts_of rules (first ∷ so_far)))) (sym (no_lines rules))
       container-pass first so_far (line ∷ lines) ps o e less =
-          go (goes_inward (place bare line) (has_open_text o)) refl
-          (ap (goes_inward (place bare line)) (open-reached (first ∷ so_far) ps o e (shorter (first ∷ so_far) (omega arith))))
+          go (goes_inward (continuation bare line) (has_open_text o)) refl
+          (ap (goes_inward (continuation bare line)) (open-reached (first ∷ so_far) ps o e (shorter (first ∷ so_far) (omega arith))))
           (λ i h. container-pass first (so_far ++ i ∷ []) lines (ps ++ (step rules o i).closed) (step rules o i).now (reached-more (first ∷ so_far) ps o i e) h)
         where
           bare : Bool
           bare = is_bare (first ∷ so_far)
 
-          go : (v : Option LineView) → goes_inward (place bare line) (has_open_text o) ≡ v → next_inward rules place (first ∷ so_far) line ≡ goes_inward (place bare line) (has_open_text o)
+          go : (v : Option LineView) → goes_inward (continuation bare line) (has_open_text o) ≡ v → next_inward rules continuation (first ∷ so_far) line ≡ goes_inward (continuation bare line) (has_open_text o)
               → ((i : LineView) → size (first ∷ so_far ++ i ∷ []) + size lines < n
               → put_all (finish (container (is_bare (first ∷ so_far ++ i ∷ [])) (ps ++ (step rules o i).closed) (step rules o i).now) lines) none
-              ≡ put_inside (inside rules (parts_of rules) place (first ∷ so_far ++ i ∷ []) lines))
-              → put_all (finish (container bare ps o) (line ∷ lines)) none ≡ put_inside (inside rules (parts_of rules) place (first ∷ so_far) (line ∷ lines))
+              ≡ put_inside (inside rules (parts_of rules) continuation (first ∷ so_far ++ i ∷ []) lines))
+              → put_all (finish (container bare ps o) (line ∷ lines)) none ≡ put_inside (inside rules (parts_of rules) continuation (first ∷ so_far) (line ∷ lines))
           go None a b more =
               finish-closing (container bare ps o) line lines (closing (container bare ps o)) (goes bare ps o line a)
               ∙ closed-inside (first ∷ so_far) bare ps o (pass (line ∷ lines)) e (omega arith)
               ∙ ap (put (piece (parts_of rules (first ∷ so_far)))) (pass-less (line ∷ lines) (omega arith))
-              ∙ ap put_inside (sym (inside-out rules place (first ∷ so_far) line lines (b ∙ a)))
+              ∙ ap put_inside (sym (inside-out rules continuation (first ∷ so_far) line lines (b ∙ a)))
           go (Some i) a b more =
               ap (λ ps. put_all ps none) (finish-step (container bare ps o) line lines _ (stays bare ps o line i a))
               ∙ ap (λ b. put_all (finish (container b (ps ++ (step rules o i).closed) (step rules o i).now) lines) none) (sym (bare-more first so_far i))
-              ∙ more i (omega (arith, size-append (first ∷ so_far) (i ∷ []), keeps-inward line i (place bare line) (has_open_text o) (keeps bare line) a, size-cons line lines, size-cons i [], size-nil))
-              ∙ ap put_inside (sym (inside-in rules place (first ∷ so_far) line i lines (b ∙ a)))
+              ∙ more i (omega (arith, size-append (first ∷ so_far) (i ∷ []), keeps-inward line i (continuation bare line) (has_open_text o) (keeps bare line) a, size-cons line lines, size-cons i [], size-nil))
+              ∙ ap put_inside (sym (inside-in rules continuation (first ∷ so_far) line i lines (b ∙ a)))
 
   -- the two containers
 
-  quote-stays : (ps : List Piece) (o : Open (List Piece)) (line i : LineView) → goes_inward (place_in_quote rules line) (has_open_text o) ≡ Some i
+  quote-stays : (ps : List Piece) (o : Open (List Piece)) (line i : LineView) → goes_inward (continuation_in_quote rules line) (has_open_text o) ≡ Some i
       → step rules (in_quote ps o) line ≡ change [] (in_quote (ps ++ (step rules o i).closed) (step rules o i).now)
   unfolding step
   quote-stays ps o line i e = ap (λ (v : Option LineView). elim v as (λ _. Change) [
@@ -414,7 +414,7 @@ module _ (rules : Rules) where
     | None ↦ after_closing rules (closing (in_quote ps o)) line
   ]) e
 
-  quote-goes : (ps : List Piece) (o : Open (List Piece)) (line : LineView) → goes_inward (place_in_quote rules line) (has_open_text o) ≡ None
+  quote-goes : (ps : List Piece) (o : Open (List Piece)) (line : LineView) → goes_inward (continuation_in_quote rules line) (has_open_text o) ≡ None
       → step rules (in_quote ps o) line ≡ after_closing rules (closing (in_quote ps o)) line
   unfolding step
   quote-goes ps o line e = ap (λ (v : Option LineView). elim v as (λ _. Change) [
@@ -426,7 +426,7 @@ module _ (rules : Rules) where
   unfolding closing
   quote-closes ps o = refl
 
-  item-stays : (kind : ListKind) (column : ℕ) (bare : Bool) (ps : List Piece) (o : Open (List Piece)) (line i : LineView) → goes_inward (place_in_item rules column bare line) (has_open_text o) ≡ Some i
+  item-stays : (kind : ListKind) (column : ℕ) (bare : Bool) (ps : List Piece) (o : Open (List Piece)) (line i : LineView) → goes_inward (continuation_in_item rules column bare line) (has_open_text o) ≡ Some i
       → step rules (in_item kind column bare ps o) line ≡ change [] (in_item kind column false (ps ++ (step rules o i).closed) (step rules o i).now)
   unfolding step
   item-stays kind column bare ps o line i e = ap (λ (v : Option LineView). elim v as (λ _. Change) [
@@ -434,7 +434,7 @@ module _ (rules : Rules) where
     | None ↦ after_closing rules (closing (in_item kind column bare ps o)) line
   ]) e
 
-  item-goes : (kind : ListKind) (column : ℕ) (bare : Bool) (ps : List Piece) (o : Open (List Piece)) (line : LineView) → goes_inward (place_in_item rules column bare line) (has_open_text o) ≡ None
+  item-goes : (kind : ListKind) (column : ℕ) (bare : Bool) (ps : List Piece) (o : Open (List Piece)) (line : LineView) → goes_inward (continuation_in_item rules column bare line) (has_open_text o) ≡ None
       → step rules (in_item kind column bare ps o) line ≡ after_closing rules (closing (in_item kind column bare ps o)) line
   unfolding step
   item-goes kind column bare ps o line e = ap (λ (v : Option LineView). elim v as (λ _. Change) [
@@ -480,7 +480,7 @@ module _ (rules : Rules) where
     unfolding parts_by_start code_parts fence_parts text_parts quote_parts item_parts
     by-start IndentedCode e = code-pass _ shorter (code_line line) 1 [] lines refl less
     by-start QuoteMarker e =
-        container-pass _ shorter (λ bare ps o. in_quote ps o) quote_piece (λ bare l. place_in_quote rules l) (λ bare. quote-closes) (λ bare. quote-stays) (λ bare. quote-goes) (λ bare l. keeps-quote rules l)
+        container-pass _ shorter (λ bare ps o. in_quote ps o) quote_piece (λ bare l. continuation_in_quote rules l) (λ bare. quote-closes) (λ bare. quote-stays) (λ bare. quote-goes) (λ bare l. keeps-quote rules l)
         (behind_quote_marker line) [] lines _ _ (begun (behind_quote_marker line))
         (omega (arith, marks-behind_quote_marker line e, size-cons line lines, size-cons (behind_quote_marker line) [], size-nil))
     by-start (AtxHeading h) e = begins-leaf (heading h.level h.content)
@@ -491,7 +491,7 @@ module _ (rules : Rules) where
     by-start BreakLine e = begins-leaf thematic_break
     by-start (ItemStart marker) e =
         let column = content_column marker line in
-        container-pass _ shorter (in_item marker.kind column) (item_piece marker.kind) (place_in_item rules column) (item-closes marker.kind column) (item-stays marker.kind column) (item-goes marker.kind column) (keeps-item rules column)
+        container-pass _ shorter (in_item marker.kind column) (item_piece marker.kind) (continuation_in_item rules column) (item-closes marker.kind column) (item-stays marker.kind column) (item-goes marker.kind column) (keeps-item rules column)
         (first_content marker line) [] lines _ _ (begun (first_content marker line))
         (omega (arith, marks-first_content marker line e, size-cons line lines, size-cons (first_content marker line) [], size-nil))
     by-start TextLine e = text-pass _ shorter (content_of line) lines less

@@ -11,7 +11,7 @@ use Rattle.cm_scan.specs.blocks.Lines.{is_blank, marks}
 use Rattle.cm_scan.specs.blocks.LineForms.{is_same_kind}
 use Rattle.cm_scan.specs.blocks.HtmlBlocks.{HtmlKind, is_html_end, ends_at_blank_line}
 use Rattle.cm_scan.specs.inlines.Links.{LinkDefinition, Definitions, link_definition, definitions_within, definitions_of}
-use Rattle.cm_scan.specs.blocks.Starts.{Start, IndentedCode, QuoteMarker, AtxHeading, OpeningFence, HtmlStart, BreakLine, ItemStart, TextLine, start_of, place_in_quote, place_in_item}
+use Rattle.cm_scan.specs.blocks.Starts.{Start, IndentedCode, QuoteMarker, AtxHeading, OpeningFence, HtmlStart, BreakLine, ItemStart, TextLine, start_of, continuation_in_quote, continuation_in_item}
 use Rattle.cm_scan.specs.blocks.Parts.{LeafPart, is_open_leaf, Parts, none, blank, leaf, quote, list, ItemParts, leaves_open_after, items_leave_open, leaves_paragraph_open, next_items, put_before, put_item}
 use Rattle.cm_scan.specs.blocks.Blocks.{rest_of, NextLine, GoesOn, Ends, Underlines, next_line, definition_leaves, content_leaf, leaves_of_run, closes_fence}
 use Rattle.cm_scan.specs.laws.PartLaws.{goes_inward}
@@ -321,7 +321,7 @@ fits-step rules (in_leaf x) line pieces h = go (line_of_leaf rules x line) (soun
     go : (v : Option LeafLine) → SoundLineOf v → Fits pieces (leaf_step rules x line v)
     go None s = fits-after rules pieces (closing (in_leaf x)) line
     go (Some l) s = fits-leaf pieces l s
-fits-step rules (in_quote closed now) line pieces h = go (goes_inward (place_in_quote rules line) (has_open_text now)) (λ inner. fits-step rules now inner closed h)
+fits-step rules (in_quote closed now) line pieces h = go (goes_inward (continuation_in_quote rules line) (has_open_text now)) (λ inner. fits-step rules now inner closed h)
   where
     go : (v : Option LineView) → ((inner : LineView) → Fits closed (step rules now inner)) → Fits pieces (elim v as (λ _. Change) [
       | Some inner ↦ let c = step rules now inner in change [] (in_quote (closed ++ c.closed) c.now)
@@ -330,7 +330,7 @@ fits-step rules (in_quote closed now) line pieces h = go (goes_inward (place_in_
     go None f = fits-after rules pieces (closing (in_quote closed now)) line
     go (Some inner) f = ((f inner).0, tt)
 fits-step rules (in_item kind column bare closed now) line pieces h =
-    go (goes_inward (place_in_item rules column bare line) (has_open_text now)) (λ inner. fits-step rules now inner closed h.1)
+    go (goes_inward (continuation_in_item rules column bare line) (has_open_text now)) (λ inner. fits-step rules now inner closed h.1)
   where
     go : (v : Option LineView) → ((inner : LineView) → Fits closed (step rules now inner)) → Fits pieces (elim v as (λ _. Change) [
       | Some inner ↦ let c = step rules now inner in change [] (in_item kind column false (closed ++ c.closed) c.now)

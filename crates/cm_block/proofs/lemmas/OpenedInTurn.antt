@@ -16,7 +16,7 @@ use Rattle.cm_scan.specs.declared.markers.ItemMarker as code_marker
 use Rattle.cm_block.specs.declared.counted_line.starts.Start as code_start
 use Rattle.cm_block.specs.declared.counted_line.starts.Start.TheVariants as variants
 use Rattle.cm_block.specs.steps.StartViews.{seen}
-use Rattle.cm_block.specs.steps.PlaceViews.{begins_quote as begins_quote_marker}
+use Rattle.cm_block.specs.steps.ContinuationViews.{begins_quote as begins_quote_marker}
 use Rattle.cm_block.specs.steps.FirstLines.{begins_container}
 use Rattle.cm_block.specs.steps.FrameStarts.{begun_in, blank_in, left_in}
 use Rattle.cm_block.proofs.lemmas.FrameStartLemmas.{frame, push-cases, not-nothing, IsBegin, blank-begins, begins-nothing, begins-leaf, begins-quote, begins-item, begins-bare-item, within-append, within-nesting, nest-nesting, nest-within, nest-last}

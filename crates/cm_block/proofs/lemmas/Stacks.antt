@@ -10,7 +10,7 @@ use Rattle.cm_tree.specs.declared.tree.Block.{Block}
 use Rattle.cm_tree.specs.declared.tree.Block.TheVariants.{Quote}
 use Rattle.cm_tree.specs.declared.tree.Owner.TheVariants.{Marker}
 use Rattle.cm_scan.specs.blocks.Lines.{is_blank, marks}
-use Rattle.cm_scan.specs.blocks.Starts.{place_in_quote, place_in_item}
+use Rattle.cm_scan.specs.blocks.Starts.{continuation_in_quote, continuation_in_item}
 use Rattle.cm_scan.specs.blocks.Parts.{LeafPart, Parts, none, blank, leaf, quote, list, ItemParts, last_item, next_items, put_before, put_item, leaf_block, is_separated, items_end_blank, ends_blank_after, blocks_of_parts, line_owners, table_of}
 use Rattle.cm_scan.specs.blocks.Blocks.{blocks_of, owners_of, reference_table}
 use Rattle.cm_scan.specs.laws.PartLaws.{goes_inward}
@@ -344,7 +344,7 @@ module _ (rules : Rules) where
       go None = past-closed (in_leaf x) line n h
       go (Some (stays_open y)) = refl
       go (Some (is_last leaves)) = past-leaves leaves
-  step-past (in_quote ps o) line n h = go (goes_inward (place_in_quote rules line) (has_open_text o))
+  step-past (in_quote ps o) line n h = go (goes_inward (continuation_in_quote rules line) (has_open_text o))
     where
       go : (l : Option LineView) → (λ (c : Change). past_blank c.closed ≡ c.closed) (elim l as (λ _. Change) [
         | Some inner ↦ let c = step rules o inner in change [] (in_quote (ps ++ c.closed) c.now)
@@ -352,7 +352,7 @@ module _ (rules : Rules) where
       ])
       go None = past-closed (in_quote ps o) line n h
       go (Some inner) = refl
-  step-past (in_item kind column bare ps o) line n h = go (goes_inward (place_in_item rules column bare line) (has_open_text o))
+  step-past (in_item kind column bare ps o) line n h = go (goes_inward (continuation_in_item rules column bare line) (has_open_text o))
     where
       go : (l : Option LineView) → (λ (c : Change). past_blank c.closed ≡ c.closed) (elim l as (λ _. Change) [
         | Some inner ↦ let c = step rules o inner in change [] (in_item kind column false (ps ++ c.closed) c.now)
@@ -382,8 +382,8 @@ module _ (rules : Rules) where
       go (open_fence fence columns text lines) h (Some l) e sound = follows-leaf q s v l sound
       go (open_html kind text lines) h (Some l) e sound = follows-leaf q s v l sound
   follows-step (in_quote qs o) q s v ps line h =
-      subst (λ b. Follows q s v (step rules (in_quote qs o) line) (pushed (goes_inward (place_in_quote rules line) b))) (sym (held-open o))
-      (go (goes_inward (place_in_quote rules line) (has_open_text o)) (λ inner. follows-step o true (own_pieces true s qs) (add_all empty_level qs) qs inner h))
+      subst (λ b. Follows q s v (step rules (in_quote qs o) line) (pushed (goes_inward (continuation_in_quote rules line) b))) (sym (held-open o))
+      (go (goes_inward (continuation_in_quote rules line) (has_open_text o)) (λ inner. follows-step o true (own_pieces true s qs) (add_all empty_level qs) qs inner h))
     where
       now : Owned
       now = owned_in true (own_pieces true s qs) o
@@ -405,8 +405,8 @@ module _ (rules : Rules) where
       go None f = follows-after q s v ps (in_quote qs o) line h
       go (Some inner) f = follows-quote q s v (change (qs ++ (step rules o inner).closed) (step rules o inner).now) _ (follows-behind true s empty_level qs (step rules o inner) _ (f inner))
   follows-step (in_item kind column bare qs o) q s v ps line h =
-      subst (λ b. Follows q s v (step rules (in_item kind column bare qs o) line) (pushed (goes_inward (place_in_item rules column bare line) b))) (sym (held-open o))
-      (go (goes_inward (place_in_item rules column bare line) (has_open_text o)) (λ inner. follows-step o q (own_item q s qs) (add_all empty_level (past_blank qs)) qs inner h.1))
+      subst (λ b. Follows q s v (step rules (in_item kind column bare qs o) line) (pushed (goes_inward (continuation_in_item rules column bare line) b))) (sym (held-open o))
+      (go (goes_inward (continuation_in_item rules column bare line) (has_open_text o)) (λ inner. follows-step o q (own_item q s qs) (add_all empty_level (past_blank qs)) qs inner h.1))
     where
       w : Level
       w = opened o (add_all empty_level (past_blank qs))

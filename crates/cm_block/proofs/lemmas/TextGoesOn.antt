@@ -10,7 +10,7 @@ use Rattle.cm_text.proofs.lemmas.StripLemmas.{strip_takes_columns}
 use Rattle.cm_scan.specs.Words.{is_digit, is_space_or_tab, is_blank_text, trim_start, skip}
 use Rattle.cm_scan.specs.blocks.Lines.{is_blank, content_of, as_lazy}
 use Rattle.cm_scan.specs.blocks.LineForms.{underline}
-use Rattle.cm_scan.specs.blocks.Starts.{Start, TextLine, start_of_content, start_of, start_by, may_be_lazy, can_interrupt, interrupts_paragraph, underline_of, underline_if, Place, StaysIfOpen, place_if_lazy, quote_place, place_in_quote, item_place, place_in_item}
+use Rattle.cm_scan.specs.blocks.Starts.{Start, TextLine, start_of_content, start_of, start_by, may_be_lazy, can_interrupt, interrupts_paragraph, underline_of, underline_if, Continuation, StaysIfOpen, continuation_if_lazy, quote_continuation, continuation_in_quote, item_continuation, continuation_in_item}
 use Rattle.cm_scan.specs.blocks.Blocks.{add_text, GoesOn, next_line}
 use Rattle.cm_scan.specs.laws.PartLaws.{goes_inward}
 use Rattle.cm_scan.proofs.lemmas.texts.ToldApart.{differs, none-passes}
@@ -54,7 +54,7 @@ shows (b ∷ bs) h = go (is_space_or_tab b) refl h (λ k. shows bs k)
 -- begins code or text, which can't interrupt a paragraph and may be lazy
 
 abbrev IsText : Start → Type 0
-IsText start = (may_be_lazy start ≡ true) × (((line : LineView) → can_interrupt start line ≡ false) × ((rules : Rules) (line : LineView) → quote_place rules start line ≡ place_if_lazy rules line))
+IsText start = (may_be_lazy start ≡ true) × (((line : LineView) → can_interrupt start line ≡ false) × ((rules : Rules) (line : LineView) → quote_continuation rules start line ≡ continuation_if_lazy rules line))
 
 module _ (rules : Rules) (line : LineView) (text : is_text_behind 0 (content_of line) ≡ true) where
   some : is_blank line ≡ false
@@ -89,15 +89,15 @@ module _ (rules : Rules) (line : LineView) (text : is_text_behind 0 (content_of 
       let s : is_blank line ≡ false = some in
       grind (arith, u, i, s)
 
-  lazily : place_if_lazy rules line ≡ StaysIfOpen (as_lazy line)
-  unfolding place_if_lazy
+  lazily : continuation_if_lazy rules line ≡ StaysIfOpen (as_lazy line)
+  unfolding continuation_if_lazy
   lazily =
       let m : may_be_lazy (start_of rules line) ≡ true = starts.0 in
       let s : is_blank line ≡ false = some in
       grind (arith, m, s)
 
-  in-quote : place_in_quote rules line ≡ StaysIfOpen (as_lazy line)
-  unfolding place_in_quote
+  in-quote : continuation_in_quote rules line ≡ StaysIfOpen (as_lazy line)
+  unfolding continuation_in_quote
   in-quote = starts.1.1 rules line ∙ lazily
 
 -- what a line adds is its content
@@ -129,7 +129,7 @@ module _ (rules : Rules) where
 
   push-text : (now : Open Level) (line : LineView) (q : Bool) (s : Owned) (v : Level) → is_text_behind 0 (content_of line) ≡ true → has_open_text now ≡ true
       → push_in rules q s v now line ≡ stack v (with_text now line) s
-  unfolding has_open_text push_in with_text line_of_leaf place_in_item
+  unfolding has_open_text push_in with_text line_of_leaf continuation_in_item
   push-text (in_leaf (open_text source)) line q s v text e =
       ap (λ n. push_to_leaf rules q s v (open_text source) line (line_of_text source line n)) (goes-on rules line text source)
   push-text (in_leaf no_leaf) line q s v text e = grind (arith, e)
@@ -148,7 +148,7 @@ module _ (rules : Rules) where
   push-text (in_item kind column bare w now) line q s v text e =
       let inner = strip_columns column line in
       let same = content-stripped column line in
-      by-place line.lazy (is_blank line) (nat_le column (indent_of line)) (some rules line text)
+      by-continuation line.lazy (is_blank line) (nat_le column (indent_of line)) (some rules line text)
       (push-text now inner q s w (ap (is_text_behind 0) same ∙ text) e ∙ ap (λ n. stack w n s) (with-same now inner line same))
     where
       pushed : Option LineView → Stack
@@ -160,18 +160,18 @@ module _ (rules : Rules) where
       into : Stack → Stack
       into c = stack v (in_item kind column false c.level c.now) c.owned
 
-      if-lazy : pushed (goes_inward (place_if_lazy rules line) (has_open_text now)) ≡ stack v (in_item kind column false w (with_text now line)) s
+      if-lazy : pushed (goes_inward (continuation_if_lazy rules line) (has_open_text now)) ≡ stack v (in_item kind column false w (with_text now line)) s
       if-lazy = ap pushed (ap₂ goes_inward (lazily rules line text) e) ∙ ap into (behind-lazy line q s w now text e)
 
-      by-place : (lazy blank reaches : Bool) → blank ≡ false → push_in rules q s w now (strip_columns column line) ≡ stack w (with_text now line) s
-          → pushed (goes_inward (elim lazy as (λ _. Place) [
-            | true ↦ place_if_lazy rules line
-            | false ↦ item_place blank bare reaches (strip_columns column line) (place_if_lazy rules line)
+      by-continuation : (lazy blank reaches : Bool) → blank ≡ false → push_in rules q s w now (strip_columns column line) ≡ stack w (with_text now line) s
+          → pushed (goes_inward (elim lazy as (λ _. Continuation) [
+            | true ↦ continuation_if_lazy rules line
+            | false ↦ item_continuation blank bare reaches (strip_columns column line) (continuation_if_lazy rules line)
           ]) (has_open_text now)) ≡ stack v (in_item kind column false w (with_text now line)) s
-      by-place true blank reaches h reached = if-lazy
-      by-place false true reaches h reached = absurd (cc (h))
-      by-place false false true h reached = ap into reached
-      by-place false false false h reached = if-lazy
+      by-continuation true blank reaches h reached = if-lazy
+      by-continuation false true reaches h reached = absurd (cc (h))
+      by-continuation false false true h reached = ap into reached
+      by-continuation false false false h reached = if-lazy
 
 pub text_goes_on : TextGoesOn
 text_goes_on rules line q s v now text open_now = push-text rules now line q s v text open_now

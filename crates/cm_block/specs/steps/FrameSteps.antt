@@ -3,19 +3,19 @@ use Rattle.std.specs.Prelude.{◌≡◌, ℕ, suc, ◌+◌, Bool, true, false, �
 use Rattle.cm_text.specs.Rules.{Rules}
 use Rattle.cm_text.specs.Lines.{LineView}
 use Rattle.cm_tree.specs.declared.tree.Block.TheVariants.{Quote}
-use Rattle.cm_scan.specs.blocks.Starts.{Place, place_if_lazy, place_in_quote, place_in_item}
+use Rattle.cm_scan.specs.blocks.Starts.{Continuation, continuation_if_lazy, continuation_in_quote, continuation_in_item}
 use Rattle.cm_scan.specs.laws.PartLaws.{goes_inward}
 use Rattle.cm_block.specs.Level.{Level, closed_blocks, block_closes, item_closes}
 use Rattle.cm_block.specs.Stack.{Stack, item_of, stack}
 use Rattle.cm_block.specs.Frames.{a_quote, an_item, Container, Frame, is_last, opened}
 
-abbrev pub place_in : Rules → Container → (bare : Bool) → LineView → Place
-place_in rules a_quote bare line = place_in_quote rules line
-place_in rules (an_item kind column) bare line = place_in_item rules column bare line
+abbrev pub continuation_in : Rules → Container → (bare : Bool) → LineView → Continuation
+continuation_in rules a_quote bare line = continuation_in_quote rules line
+continuation_in rules (an_item kind column) bare line = continuation_in_item rules column bare line
 
 -- the line as it goes into the container, if it stays there
 unfoldable pub inward : Rules → Container → (bare open_text : Bool) → LineView → Option LineView
-inward rules container bare open_text line = goes_inward (place_in rules container bare line) open_text
+inward rules container bare open_text line = goes_inward (continuation_in rules container bare line) open_text
 
 -- how many of the containers the line stays in, and the line as it goes into the last of these
 unfoldable pub matching : Rules → (bare open_text : Bool) → List Frame → LineView → ℕ × LineView
@@ -32,7 +32,7 @@ behind n m = (n + m.0, m.1)
 -- behind so many of these containers there is one in which the line doesn't stay by itself
 abbrev pub LeavesNext : List Frame → ℕ → LineView → Type 0
 LeavesNext frames n line =
-    (f : Frame) × ((drop n frames ≡ f ∷ drop (suc n) frames) × ((rules : Rules) → place_in rules f.container false line ≡ place_if_lazy rules line))
+    (f : Frame) × ((drop n frames ≡ f ∷ drop (suc n) frames) × ((rules : Rules) → continuation_in rules f.container false line ≡ continuation_if_lazy rules line))
 
 abbrev pub quoted_in : Container → Bool → Bool
 quoted_in a_quote quoted = true

@@ -5,7 +5,7 @@ ghost use Rattle.cm_block.specs.Prelude.{seen_view, given, with_ending, line_fee
 ghost use Rattle.cm_block.specs.OpenLeaf.{stays_open, line_of_leaf};
 ghost use Rattle.cm_block.specs.LeafViews.{code_of};
 
-use crate::counted_line::places::is_blank;
+use crate::counted_line::continuations::is_blank;
 use crate::counted_line::starts::content;
 use crate::leaf_text::LeafText;
 use cm_text::View;

@@ -2,10 +2,10 @@
 ghost use Rattle.std.specs.Prelude.{◌≡◌, ◌<◌, ◌≤◌, ◌+◌, ◌-◌, ◌^◌, false, IfSome, MatchOption};
 ghost use Rattle.cm_text.specs.Rules as all;
 ghost use Rattle.cm_scan.specs.blocks.Starts.{Stays};
-ghost use Rattle.cm_block.specs.Prelude.{seen_view, strip_columns, place_if_lazy, place_in_item};
-ghost use Rattle.cm_block.specs.steps.PlaceViews.{begins_plain, IsInside};
+ghost use Rattle.cm_block.specs.Prelude.{seen_view, strip_columns, continuation_if_lazy, continuation_in_item};
+ghost use Rattle.cm_block.specs.steps.ContinuationViews.{begins_plain, IsInside};
 
-use crate::counted_line::places::{reaches_or_is_blank, with_columns};
+use crate::counted_line::continuations::{reaches_or_is_blank, with_columns};
 use cm_text::View;
 
 /// The line without so many of the spaces in front of its rest.
@@ -39,9 +39,9 @@ fn begins_plain(text: &str) -> bool
 #[inline(always)]
 pub(crate) fn inside_item<'a>(line: &View<'a>, column: usize) -> Option<View<'a>>
     requires { line.now.lazy ≡ false }
-    ensures place { (by : all.Rules) → MatchOption result
-        (place_in_item by column false (seen_view line.now) ≡ place_if_lazy by (seen_view line.now))
-        (λ inner. place_in_item by column false (seen_view line.now) ≡ Stays (seen_view inner)) }
+    ensures continuation { (by : all.Rules) → MatchOption result
+        (continuation_in_item by column false (seen_view line.now) ≡ continuation_if_lazy by (seen_view line.now))
+        (λ inner. continuation_in_item by column false (seen_view line.now) ≡ Stays (seen_view inner)) }
     ensures lazy { IfSome result (λ inner. inner.lazy ≡ false) }
 {
     if column <= line.spaces {
@@ -97,9 +97,9 @@ impl<'a> LineInItems<'a> {
     pub(crate) fn stays_in(&mut self, column: usize) -> bool
         requires plain { self.old.inner.lazy ≡ false }
         requires few { self.old.tests < 2 ^ 64 - 1 }
-        ensures place { (by : all.Rules) → IsInside result
-            (place_in_item by column false (seen_view self.old.inner))
-            (place_if_lazy by (seen_view self.old.inner)) (seen_view self.new.inner) }
+        ensures continuation { (by : all.Rules) → IsInside result
+            (continuation_in_item by column false (seen_view self.old.inner))
+            (continuation_if_lazy by (seen_view self.old.inner)) (seen_view self.new.inner) }
         ensures same { result ≡ false → self.new.inner ≡ self.old.inner }
         ensures lazy { self.new.inner.lazy ≡ false }
         ensures tests { self.new.tests ≡ self.old.tests + 1 }

@@ -15,7 +15,7 @@ use Rattle.cm_scan.specs.blocks.Lines.{is_blank, content_of, with_ending, size}
 use Rattle.cm_scan.specs.blocks.LineForms.{Fence, is_closing_fence, ItemMarker}
 use Rattle.cm_scan.specs.blocks.HtmlBlocks.{HtmlKind, is_html_end, ends_at_blank_line}
 use Rattle.cm_scan.specs.inlines.Links.{LinkDefinition, definitions_of}
-use Rattle.cm_scan.specs.blocks.Starts.{Start, IndentedCode, QuoteMarker, AtxHeading, OpeningFence, HtmlStart, BreakLine, ItemStart, TextLine, start_of, interrupts_paragraph, underline_of, Place, Stays, StaysIfOpen, Leaves, behind_quote_marker, place_in_quote, content_column, first_content, place_in_item}
+use Rattle.cm_scan.specs.blocks.Starts.{Start, IndentedCode, QuoteMarker, AtxHeading, OpeningFence, HtmlStart, BreakLine, ItemStart, TextLine, start_of, interrupts_paragraph, underline_of, Continuation, Stays, StaysIfOpen, Leaves, behind_quote_marker, continuation_in_quote, content_column, first_content, continuation_in_item}
 use Rattle.cm_scan.specs.blocks.Parts.{info_of, LeafPart, paragraph, heading, code, html, thematic_break, definition, Parts, none, blank, leaf, quote, leaves_paragraph_open, put_item, put_leaves, blocks_of_parts, line_owners, depths_of, table_of}
 
 -- the source of a run of text with one more line, without its leading spaces and tabs (4.8 Paragraphs)
@@ -168,12 +168,12 @@ is_bare _ = false
 module _ (rules : Rules) (parts : List LineView → Parts) where
   -- The lines of a container, as long as each is inside it; those so far are given. A line without the marker or the indentation
   -- is inside if those so far leave a paragraph open: it is a lazy continuation line.
-  unfoldable pub inside : (Bool → LineView → Place) → List LineView → List LineView → Inside
-  inside place so_far [] = record { inner = so_far; following = [] }
-  inside place so_far (line ∷ lines) = elim (place (is_bare so_far) line) [
-    | Stays inner ↦ inside place (so_far ++ inner ∷ []) lines
+  unfoldable pub inside : (Bool → LineView → Continuation) → List LineView → List LineView → Inside
+  inside continuation so_far [] = record { inner = so_far; following = [] }
+  inside continuation so_far (line ∷ lines) = elim (continuation (is_bare so_far) line) [
+    | Stays inner ↦ inside continuation (so_far ++ inner ∷ []) lines
     | StaysIfOpen inner ↦ elim (leaves_paragraph_open (parts so_far)) [
-      | true ↦ inside place (so_far ++ inner ∷ []) lines
+      | true ↦ inside continuation (so_far ++ inner ∷ []) lines
       | false ↦ record { inner = so_far; following = line ∷ lines }
     ]
     | Leaves ↦ record { inner = so_far; following = line ∷ lines }
@@ -182,13 +182,13 @@ module _ (rules : Rules) (parts : List LineView → Parts) where
   -- a block quote, and what follows it (5.1 Block quotes)
   unfoldable pub quote_parts : LineView → List LineView → Parts
   quote_parts line lines =
-      let i = inside (λ bare l. place_in_quote rules l) (behind_quote_marker line ∷ []) lines in
+      let i = inside (λ bare l. continuation_in_quote rules l) (behind_quote_marker line ∷ []) lines in
       quote (parts i.inner) (parts i.following)
 
   -- a list item, and what follows it (5.2 List items, 5.3 Lists)
   unfoldable pub item_parts : ItemMarker → LineView → List LineView → Parts
   item_parts marker line lines =
-      let i = inside (place_in_item rules (content_column marker line)) (first_content marker line ∷ []) lines in
+      let i = inside (continuation_in_item rules (content_column marker line)) (first_content marker line ∷ []) lines in
       put_item marker.kind (parts i.inner) (parts i.following)
 
   -- a fenced code block, and what follows it (4.5 Fenced code blocks)

@@ -95,10 +95,10 @@ underline_of line = underline_if (not line.lazy && nat_le (indent_of line) 3) (c
 
 -- Where a line that follows those of an open container is: in it, given as what is left of the line; in it only if they leave a
 -- paragraph open; or after it.
-pub data Place : Type 0 where
-  Stays : LineView → Place
-  StaysIfOpen : LineView → Place
-  Leaves : Place
+pub data Continuation : Type 0 where
+  Stays : LineView → Continuation
+  StaysIfOpen : LineView → Continuation
+  Leaves : Continuation
 
 -- what a lazy continuation line can look like, though it is read as text (5.1 Block quotes, 5.2 List items)
 abbrev pub may_be_lazy : Start → Bool
@@ -108,22 +108,22 @@ may_be_lazy (HtmlStart AnyTag) = true
 may_be_lazy _ = false
 
 -- where a line without the container's marker or indentation is
-unfoldable pub place_if_lazy : Rules → LineView → Place
-place_if_lazy rules line = elim (not (is_blank line) && may_be_lazy (start_of rules line)) [ true ↦ StaysIfOpen (as_lazy line) | false ↦ Leaves ]
+unfoldable pub continuation_if_lazy : Rules → LineView → Continuation
+continuation_if_lazy rules line = elim (not (is_blank line) && may_be_lazy (start_of rules line)) [ true ↦ StaysIfOpen (as_lazy line) | false ↦ Leaves ]
 
 -- what is left of a line after the marker of a block quote, and one column of space if there is one (5.1 Block quotes)
 unfoldable pub behind_quote_marker : LineView → LineView
 behind_quote_marker line = strip_columns 1 (past 1 line)
 
 -- where a line is, given what it starts
-abbrev pub quote_place : Rules → Start → LineView → Place
-quote_place rules QuoteMarker line = Stays (behind_quote_marker line)
-quote_place rules _ line = place_if_lazy rules line
+abbrev pub quote_continuation : Rules → Start → LineView → Continuation
+quote_continuation rules QuoteMarker line = Stays (behind_quote_marker line)
+quote_continuation rules _ line = continuation_if_lazy rules line
 
 -- Where a line that follows those of an open block quote is: inside if it has the marker again, else inside only as a lazy
 -- continuation line (5.1 Block quotes).
-unfoldable pub place_in_quote : Rules → LineView → Place
-place_in_quote rules line = quote_place rules (start_of rules line) line
+unfoldable pub continuation_in_quote : Rules → LineView → Continuation
+continuation_in_quote rules line = quote_continuation rules (start_of rules line) line
 
 -- the columns of space between a list marker and the content: 1 to 4, or 1 if there are more or the rest is blank
 unfoldable pub content_offset : LineView → ℕ
@@ -138,17 +138,17 @@ unfoldable pub first_content : ItemMarker → LineView → LineView
 first_content marker line = let behind = behind_marker marker line in strip_columns (content_offset behind) behind
 
 -- the same, given whether the line is blank, whether there is only a marker so far, and whether it reaches the column
-abbrev pub item_place : (blank bare reaches : Bool) → (inner : LineView) → (otherwise : Place) → Place
-item_place true true reaches inner otherwise = Leaves
-item_place true false reaches inner otherwise = Stays inner
-item_place false bare true inner otherwise = Stays inner
-item_place false bare false inner otherwise = otherwise
+abbrev pub item_continuation : (blank bare reaches : Bool) → (inner : LineView) → (otherwise : Continuation) → Continuation
+item_continuation true true reaches inner otherwise = Leaves
+item_continuation true false reaches inner otherwise = Stays inner
+item_continuation false bare true inner otherwise = Stays inner
+item_continuation false bare false inner otherwise = otherwise
 
 -- Where a line that follows those of an open item is: inside if it is blank or reaches the content column, else inside only as a
 -- lazy continuation line. After a marker with nothing on its line a blank line ends the item: the mark says that there is only such
 -- a marker so far (5.2 List items).
-unfoldable pub place_in_item : Rules → (column : ℕ) → (bare : Bool) → LineView → Place
-place_in_item rules column bare line = elim line.lazy [
-  | true ↦ place_if_lazy rules line
-  | false ↦ item_place (is_blank line) bare (nat_le column (indent_of line)) (strip_columns column line) (place_if_lazy rules line)
+unfoldable pub continuation_in_item : Rules → (column : ℕ) → (bare : Bool) → LineView → Continuation
+continuation_in_item rules column bare line = elim line.lazy [
+  | true ↦ continuation_if_lazy rules line
+  | false ↦ item_continuation (is_blank line) bare (nat_le column (indent_of line)) (strip_columns column line) (continuation_if_lazy rules line)
 ]

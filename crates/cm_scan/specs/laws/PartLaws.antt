@@ -17,7 +17,7 @@ use Rattle.cm_scan.specs.blocks.Lines.{is_blank, content_of}
 use Rattle.cm_scan.specs.blocks.LineForms.{Heading, Fence, ItemMarker}
 use Rattle.cm_scan.specs.blocks.HtmlBlocks.{HtmlKind}
 use Rattle.cm_scan.specs.blocks.Parts.{info_of, code, html, heading, thematic_break, none, blank, leaf, quote, put_item, put_leaves, leaves_paragraph_open}
-use Rattle.cm_scan.specs.blocks.Starts.{Start, IndentedCode, QuoteMarker, AtxHeading, OpeningFence, HtmlStart, BreakLine, ItemStart, TextLine, start_of, Place, Stays, StaysIfOpen, Leaves, behind_quote_marker, place_in_quote, content_column, first_content, place_in_item}
+use Rattle.cm_scan.specs.blocks.Starts.{Start, IndentedCode, QuoteMarker, AtxHeading, OpeningFence, HtmlStart, BreakLine, ItemStart, TextLine, start_of, Continuation, Stays, StaysIfOpen, Leaves, behind_quote_marker, continuation_in_quote, content_column, first_content, continuation_in_item}
 use Rattle.cm_scan.specs.blocks.Blocks.{text_run, leaves_of_run, fenced, html_lines, indented, code_line, inside, is_bare, parts_by_cases, parts_of, blocks_of, owners_of}
 
 -- No lines have no parts.
@@ -68,45 +68,45 @@ TextCase = (rules : Rules) (line : LineView) (lines : List LineView) → Begins 
     → let run = text_run rules (content_of line) lines in parts_of rules (line ∷ lines) ≡ put_leaves (leaves_of_run run) (parts_of rules run.following)
 
 -- what is left of a line in a container, if it is inside; the mark says whether the lines so far leave a paragraph open
-abbrev pub goes_inward : Place → Bool → Option LineView
+abbrev pub goes_inward : Continuation → Bool → Option LineView
 goes_inward (Stays inner) left_open = Some inner
 goes_inward (StaysIfOpen inner) true = Some inner
 goes_inward (StaysIfOpen inner) false = None
 goes_inward Leaves left_open = None
 
 -- what is left of the line in the container with these lines so far, if it is inside
-abbrev pub next_inward : Rules → (Bool → LineView → Place) → List LineView → LineView → Option LineView
-next_inward rules place so_far line = goes_inward (place (is_bare so_far) line) (leaves_paragraph_open (parts_of rules so_far))
+abbrev pub next_inward : Rules → (Bool → LineView → Continuation) → List LineView → LineView → Option LineView
+next_inward rules continuation so_far line = goes_inward (continuation (is_bare so_far) line) (leaves_paragraph_open (parts_of rules so_far))
 
 -- The lines are all in the container, one after another, after those so far; together they are the inner ones.
-pub data AllStay (rules : Rules) (place : Bool → LineView → Place) : List LineView → List LineView → List LineView → Type 0 where
-  no_more : {so_far : List LineView} → AllStay rules place so_far [] so_far
-  one_stays : {so_far lines inner : List LineView} {line i : LineView} → next_inward rules place so_far line ≡ Some i
-      → AllStay rules place (so_far ++ i ∷ []) lines inner → AllStay rules place so_far (line ∷ lines) inner
+pub data AllStay (rules : Rules) (continuation : Bool → LineView → Continuation) : List LineView → List LineView → List LineView → Type 0 where
+  no_more : {so_far : List LineView} → AllStay rules continuation so_far [] so_far
+  one_stays : {so_far lines inner : List LineView} {line i : LineView} → next_inward rules continuation so_far line ≡ Some i
+      → AllStay rules continuation (so_far ++ i ∷ []) lines inner → AllStay rules continuation so_far (line ∷ lines) inner
 
 -- the first of the lines, if there is one, isn't in the container
-abbrev pub FirstLeaves : Rules → (Bool → LineView → Place) → List LineView → List LineView → Type 0
-FirstLeaves rules place inner [] = ⊤
-FirstLeaves rules place inner (line ∷ lines) = next_inward rules place inner line ≡ None
+abbrev pub FirstLeaves : Rules → (Bool → LineView → Continuation) → List LineView → List LineView → Type 0
+FirstLeaves rules continuation inner [] = ⊤
+FirstLeaves rules continuation inner (line ∷ lines) = next_inward rules continuation inner line ≡ None
 
 -- One more line that is inside can be added to them.
 abbrev pub OneMoreStays : Type 0
-OneMoreStays = (rules : Rules) (place : Bool → LineView → Place) (so_far lines inner : List LineView) (line i : LineView)
-    → AllStay rules place so_far lines inner → next_inward rules place inner line ≡ Some i
-    → AllStay rules place so_far (lines ++ line ∷ []) (inner ++ i ∷ [])
+OneMoreStays = (rules : Rules) (continuation : Bool → LineView → Continuation) (so_far lines inner : List LineView) (line i : LineView)
+    → AllStay rules continuation so_far lines inner → next_inward rules continuation inner line ≡ Some i
+    → AllStay rules continuation so_far (lines ++ line ∷ []) (inner ++ i ∷ [])
 
 -- A block quote has the lines that stay in it; the others follow it (5.1 Block quotes).
 abbrev pub QuoteCase : Type 0
 QuoteCase = (rules : Rules) (line : LineView) (lines inner rest : List LineView) → Begins rules line QuoteMarker
-    → AllStay rules (λ bare l. place_in_quote rules l) (behind_quote_marker line ∷ []) lines inner
-    → FirstLeaves rules (λ bare l. place_in_quote rules l) inner rest
+    → AllStay rules (λ bare l. continuation_in_quote rules l) (behind_quote_marker line ∷ []) lines inner
+    → FirstLeaves rules (λ bare l. continuation_in_quote rules l) inner rest
     → parts_of rules (line ∷ lines ++ rest) ≡ quote (parts_of rules inner) (parts_of rules rest)
 
 -- A list item has the lines that stay in it; the others follow it (5.2 List items).
 abbrev pub ItemCase : Type 0
 ItemCase = (rules : Rules) (marker : ItemMarker) (line : LineView) (lines inner rest : List LineView) → Begins rules line (ItemStart marker)
-    → AllStay rules (place_in_item rules (content_column marker line)) (first_content marker line ∷ []) lines inner
-    → FirstLeaves rules (place_in_item rules (content_column marker line)) inner rest
+    → AllStay rules (continuation_in_item rules (content_column marker line)) (first_content marker line ∷ []) lines inner
+    → FirstLeaves rules (continuation_in_item rules (content_column marker line)) inner rest
     → parts_of rules (line ∷ lines ++ rest) ≡ put_item marker.kind (parts_of rules inner) (parts_of rules rest)
 
 -- Owners of lines

@@ -4,7 +4,7 @@ pub mod OutlineFits
 pub mod OutlineLines
 pub mod OutlineFaces
 pub mod CleanLines
-pub mod PlacesBack
+pub mod ContinuationsBack
 pub mod MarkersBack
 pub mod NumbersBack
 pub mod LeavesBack

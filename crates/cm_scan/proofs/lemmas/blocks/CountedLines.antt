@@ -12,7 +12,7 @@ use Rattle.cm_scan.specs.blocks.Lines.{is_blank, content_of, marks}
 use Rattle.cm_scan.specs.blocks.LineForms.{Fence, ItemMarker}
 use Rattle.cm_scan.specs.blocks.HtmlBlocks.{HtmlKind}
 use Rattle.cm_scan.specs.inlines.Links.{LinkDefinition, label, link_definition, Definitions, definitions_within, definitions_of}
-use Rattle.cm_scan.specs.blocks.Starts.{Start, QuoteMarker, start_of, Place, Stays, StaysIfOpen, Leaves, behind_quote_marker, place_in_quote, first_content, place_in_item}
+use Rattle.cm_scan.specs.blocks.Starts.{Start, QuoteMarker, start_of, Continuation, Stays, StaysIfOpen, Leaves, behind_quote_marker, continuation_in_quote, first_content, continuation_in_item}
 use Rattle.cm_scan.specs.blocks.Parts.{LeafPart, Parts, none, blank, leaf, quote, list, ItemParts, leaves_paragraph_open, next_items, put_before, put_item, put_leaves}
 use Rattle.cm_scan.specs.blocks.Blocks.{add_text, rest_of, NextLine, GoesOn, Ends, Underlines, next_line, TextRun, text_run, line_feeds, line_count, definition_leaves, content_leaf, leaves_of_run, fenced, html_to_end, html_to_blank, html_lines, indented, Inside, inside, is_bare}
 use Rattle.cm_scan.specs.blocks.Starts.{IndentedCode, AtxHeading, OpeningFence, HtmlStart, BreakLine, ItemStart, TextLine, content_column}
@@ -21,7 +21,7 @@ use Rattle.cm_scan.specs.blocks.Parts.{line_owners}
 use Rattle.cm_scan.specs.blocks.Lines.{size}
 use Rattle.cm_scan.specs.laws.PartLaws.{OneOwnerALine, RunsInOrder}
 use Rattle.cm_scan.proofs.lemmas.texts.ByteSums.{AddsUp, NoMore, sum-append, sum-behind_quote_marker, sum-first_content, no_more-quote, no_more-item}
-use Rattle.cm_scan.proofs.lemmas.blocks.LineSizes.{by_place, marks-behind_quote_marker, marks-first_content, keeps-quote, keeps-item, size-fenced, size-html_lines, size-indented, size-text_run, size-following, size-inner, some-inner}
+use Rattle.cm_scan.proofs.lemmas.blocks.LineSizes.{by_continuation, marks-behind_quote_marker, marks-first_content, keeps-quote, keeps-item, size-fenced, size-html_lines, size-indented, size-text_run, size-following, size-inner, some-inner}
 use Rattle.cm_scan.proofs.lemmas.blocks.PartsByCases.{no_lines, blank_case, starting}
 use Rattle.cm_scan.proofs.lemmas.links.LineFeedsLeft.{feeds-skip, takes_a_line}
 use Rattle.cm_scan.specs.laws.Looseness.{line_total, items_total, HaveLines, ItemsHaveLines, PartsHaveLines}
@@ -59,8 +59,8 @@ feeds-adds = record { of_byte = λ b. if b == 10 then 1 else 0; of_nothing = ref
 
 -- the lines of a container and those that follow are all
 
-abbrev LetsIn : (Bool → LineView → Place) → Type 0
-LetsIn place = (bare : Bool) (line : LineView) → NoMore line_feeds line (place bare line)
+abbrev LetsIn : (Bool → LineView → Continuation) → Type 0
+LetsIn continuation = (bare : Bool) (line : LineView) → NoMore line_feeds line (continuation bare line)
 
 -- so many lines, without line feeds
 abbrev Whole : ℕ → Inside → Type 0
@@ -69,31 +69,31 @@ Whole n i = (length i.inner + length i.following ≡ n) × Plain i.inner × Plai
 zero-le : (n m : ℕ) → n ≤ m → m ≡ 0 → n ≡ 0
 zero-le n m h e = omega (arith, h, e)
 
-pub inside-whole : (rules : Rules) (parts : List LineView → Parts) (place : Bool → LineView → Place) → LetsIn place → (so_far lines : List LineView)
-    → Plain so_far → Plain lines → Whole (length so_far + length lines) (inside rules parts place so_far lines)
+pub inside-whole : (rules : Rules) (parts : List LineView → Parts) (continuation : Bool → LineView → Continuation) → LetsIn continuation → (so_far lines : List LineView)
+    → Plain so_far → Plain lines → Whole (length so_far + length lines) (inside rules parts continuation so_far lines)
 unfolding inside
-inside-whole rules parts place lets so_far [] h k = (refl, h, k)
-inside-whole rules parts place lets so_far (line ∷ lines) h k =
-    go (place (is_bare so_far) line) (lets (is_bare so_far) line) (λ inner. inside-whole rules parts place lets (so_far ++ inner ∷ []) lines)
+inside-whole rules parts continuation lets so_far [] h k = (refl, h, k)
+inside-whole rules parts continuation lets so_far (line ∷ lines) h k =
+    go (continuation (is_bare so_far) line) (lets (is_bare so_far) line) (λ inner. inside-whole rules parts continuation lets (so_far ++ inner ∷ []) lines)
   where
     n : ℕ
     n = length so_far + suc (length lines)
 
     longer : (inner : LineView) → line_feeds inner.text ≤ line_feeds line.text
-        → ((inner : LineView) → Plain (so_far ++ inner ∷ []) → Plain lines → Whole (length (so_far ++ inner ∷ []) + length lines) (inside rules parts place (so_far ++ inner ∷ []) lines))
-        → Whole n (inside rules parts place (so_far ++ inner ∷ []) lines)
+        → ((inner : LineView) → Plain (so_far ++ inner ∷ []) → Plain lines → Whole (length (so_far ++ inner ∷ []) + length lines) (inside rules parts continuation (so_far ++ inner ∷ []) lines))
+        → Whole n (inside rules parts continuation (so_far ++ inner ∷ []) lines)
     longer inner le more =
         let w = more inner (plain-append so_far (inner ∷ []) h (zero-le _ _ le k.0, tt)) k.1 in
         (omega (arith, w.0, length-append so_far (inner ∷ [])), w.1, w.2)
 
-    go : (p : Place) → NoMore line_feeds line p
-        → ((inner : LineView) → Plain (so_far ++ inner ∷ []) → Plain lines → Whole (length (so_far ++ inner ∷ []) + length lines) (inside rules parts place (so_far ++ inner ∷ []) lines))
-        → Whole n (by_place rules parts place so_far line lines p)
+    go : (p : Continuation) → NoMore line_feeds line p
+        → ((inner : LineView) → Plain (so_far ++ inner ∷ []) → Plain lines → Whole (length (so_far ++ inner ∷ []) + length lines) (inside rules parts continuation (so_far ++ inner ∷ []) lines))
+        → Whole n (by_continuation rules parts continuation so_far line lines p)
     go (Stays inner) le more = longer inner le more
     go (StaysIfOpen inner) le more = by_open (leaves_paragraph_open (parts so_far))
       where
         by_open : (v : Bool) → Whole n (elim v as (λ _. Inside) [
-          | true ↦ inside rules parts place (so_far ++ inner ∷ []) lines
+          | true ↦ inside rules parts continuation (so_far ++ inner ∷ []) lines
           | false ↦ record { inner = so_far; following = line ∷ lines }
         ])
         by_open true = longer inner le more
@@ -523,29 +523,29 @@ module _ (rules : Rules) (line : LineView) (lines : List LineView) (plain : Plai
   good-quote : Good (quote_parts rules (parts_of rules) line lines) (suc (length lines))
   unfolding quote_parts size line_total HaveLines
   good-quote =
-      let place : Bool → LineView → Place = λ bare l. place_in_quote rules l in
+      let continuation : Bool → LineView → Continuation = λ bare l. continuation_in_quote rules l in
       let first = behind_quote_marker line in
       let less : marks first.text < marks line.text = marks-behind_quote_marker line firm in
-      let i = inside rules (parts_of rules) place (first ∷ []) lines in
-      let w = inside-whole rules (parts_of rules) place (λ bare l. no_more-quote line_feeds feeds-adds rules l) (first ∷ []) lines
+      let i = inside rules (parts_of rules) continuation (first ∷ []) lines in
+      let w = inside-whole rules (parts_of rules) continuation (λ bare l. no_more-quote line_feeds feeds-adds rules l) (first ∷ []) lines
       (zero-le _ _ (sum-behind_quote_marker line_feeds feeds-adds line) plain.0, tt) plain.1 in
-      let g = good i.inner (omega (arith, size-inner rules (parts_of rules) place (λ bare l. keeps-quote rules l) (first ∷ []) lines)) w.1 in
-      let h = good i.following (omega (arith, size-following rules (parts_of rules) place (first ∷ []) lines)) w.2 in
-      let some : 0 < length i.inner = some-inner rules (parts_of rules) place (first ∷ []) lines (omega arith) in
+      let g = good i.inner (omega (arith, size-inner rules (parts_of rules) continuation (λ bare l. keeps-quote rules l) (first ∷ []) lines)) w.1 in
+      let h = good i.following (omega (arith, size-following rules (parts_of rules) continuation (first ∷ []) lines)) w.2 in
+      let some : 0 < length i.inner = some-inner rules (parts_of rules) continuation (first ∷ []) lines (omega arith) in
       (omega (arith, w.0, g.0, h.0), (omega (arith, g.0, some), g.1, h.1))
 
   good-item : (marker : ItemMarker) → Good (item_parts rules (parts_of rules) marker line lines) (suc (length lines))
   unfolding item_parts size
   good-item marker =
-      let place = place_in_item rules (content_column marker line) in
+      let continuation = continuation_in_item rules (content_column marker line) in
       let first = first_content marker line in
       let less : marks first.text < marks line.text = marks-first_content marker line firm in
-      let i = inside rules (parts_of rules) place (first ∷ []) lines in
-      let w = inside-whole rules (parts_of rules) place (no_more-item line_feeds feeds-adds rules (content_column marker line)) (first ∷ []) lines
+      let i = inside rules (parts_of rules) continuation (first ∷ []) lines in
+      let w = inside-whole rules (parts_of rules) continuation (no_more-item line_feeds feeds-adds rules (content_column marker line)) (first ∷ []) lines
       (zero-le _ _ (sum-first_content line_feeds feeds-adds marker line) plain.0, tt) plain.1 in
-      let g = good i.inner (omega (arith, size-inner rules (parts_of rules) place (keeps-item rules (content_column marker line)) (first ∷ []) lines)) w.1 in
-      let h = good i.following (omega (arith, size-following rules (parts_of rules) place (first ∷ []) lines)) w.2 in
-      let some : 0 < length i.inner = some-inner rules (parts_of rules) place (first ∷ []) lines (omega arith) in (
+      let g = good i.inner (omega (arith, size-inner rules (parts_of rules) continuation (keeps-item rules (content_column marker line)) (first ∷ []) lines)) w.1 in
+      let h = good i.following (omega (arith, size-following rules (parts_of rules) continuation (first ∷ []) lines)) w.2 in
+      let some : 0 < length i.inner = some-inner rules (parts_of rules) continuation (first ∷ []) lines (omega arith) in (
         omega (arith, item-count marker.kind (parts_of rules i.inner) (parts_of rules i.following), w.0, g.0, h.0),
         item-have marker.kind (parts_of rules i.inner) (parts_of rules i.following) (omega (arith, g.0, some)) g.1 h.1,
       )

@@ -14,7 +14,7 @@ use Rattle.cm_scan.specs.blocks.Lines.{size, is_blank, content_of}
 use Rattle.cm_scan.specs.inlines.Links.{LinkDefinition, definitions_of}
 use Rattle.cm_scan.specs.blocks.LineForms.{Heading, without_closing, atx_heading, underline, is_underline_of, opening_fence, is_thematic_break, item_marker, Fence, ItemMarker}
 use Rattle.cm_scan.specs.blocks.HtmlBlocks.{HtmlKind, html_start}
-use Rattle.cm_scan.specs.blocks.Starts.{Start, IndentedCode, QuoteMarker, AtxHeading, OpeningFence, HtmlStart, BreakLine, ItemStart, TextLine, start_of, start_by, start_of_content, seen_as, or_text, underline_if, underline_of, interrupts_paragraph, content_column, first_content, place_in_item}
+use Rattle.cm_scan.specs.blocks.Starts.{Start, IndentedCode, QuoteMarker, AtxHeading, OpeningFence, HtmlStart, BreakLine, ItemStart, TextLine, start_of, start_by, start_of_content, seen_as, or_text, underline_if, underline_of, interrupts_paragraph, content_column, first_content, continuation_in_item}
 use Rattle.cm_scan.specs.blocks.Parts.{LeafPart, paragraph, heading, code, html, thematic_break, definition, Parts, none, blank, leaf, quote, list, ItemParts, last_item, item, leaf_block, is_loose, blocks_of_parts, blocks_of_items, next_items, put_before, put_item, put_leaves}
 use Rattle.cm_scan.specs.blocks.Blocks.{NextLine, GoesOn, Ends, Underlines, by_underline, next_line, TextRun, text_run, definition_leaves, content_leaf, leaves_of_run, quote_parts, item_parts, fence_parts, html_parts, code_parts, text_parts, parts_by_start, parts_by_cases, parts_within, parts_of, blocks_of, inside, add_text, rest_of}
 use Rattle.cm_scan.specs.laws.PartLaws.{HeadingLevels}
@@ -251,7 +251,7 @@ module _ (rules : Rules) (parts : List LineView → Parts) (levels : (lines : Li
   by-start (HtmlStart kind) line lines h = (tt, levels _)
   by-start BreakLine line lines h = (tt, levels lines)
   by-start (ItemStart marker) line lines h =
-      let i = inside rules parts (place_in_item rules (content_column marker line)) (first_content marker line ∷ []) lines in
+      let i = inside rules parts (continuation_in_item rules (content_column marker line)) (first_content marker line ∷ []) lines in
       put-levels marker.kind (parts i.inner) (parts i.following) (levels i.inner) (levels i.following)
   by-start TextLine line lines h =
       let run = text_run rules (content_of line) lines in

@@ -8,7 +8,7 @@ use Rattle.cm_scan.specs.blocks.Lines.{is_blank, past, marks, size}
 use Rattle.cm_scan.specs.blocks.LineForms.{Fence, ItemMarker}
 use Rattle.cm_scan.specs.blocks.HtmlBlocks.{HtmlKind}
 use Rattle.cm_scan.specs.blocks.Parts.{Parts, leaves_paragraph_open}
-use Rattle.cm_scan.specs.blocks.Starts.{Place, Stays, StaysIfOpen, Leaves, behind_quote_marker, place_in_quote, content_offset, behind_marker, first_content, place_in_item}
+use Rattle.cm_scan.specs.blocks.Starts.{Continuation, Stays, StaysIfOpen, Leaves, behind_quote_marker, continuation_in_quote, content_offset, behind_marker, first_content, continuation_in_item}
 use Rattle.cm_scan.specs.blocks.Blocks.{text_run, fenced, html_to_end, html_to_blank, html_lines, indented, Inside, inside, is_bare}
 use Rattle.cm_scan.proofs.lemmas.texts.ByteSums.{AddsUp, NoMore, sum-drop, sum-strip, no_more-quote, no_more-item}
 
@@ -48,13 +48,13 @@ marks-first_content marker line e =
     omega (arith, h, k)
 
 -- what stays goes inward with no more
-abbrev pub Keeps : LineView → Place → Type 0
-Keeps line place = NoMore marks line place
+abbrev pub Keeps : LineView → Continuation → Type 0
+Keeps line continuation = NoMore marks line continuation
 
-pub keeps-quote : (rules : Rules) (line : LineView) → Keeps line (place_in_quote rules line)
+pub keeps-quote : (rules : Rules) (line : LineView) → Keeps line (continuation_in_quote rules line)
 keeps-quote = no_more-quote marks marks-adds
 
-pub keeps-item : (rules : Rules) (column : ℕ) (bare : Bool) (line : LineView) → Keeps line (place_in_item rules column bare line)
+pub keeps-item : (rules : Rules) (column : ℕ) (bare : Bool) (line : LineView) → Keeps line (continuation_in_item rules column bare line)
 keeps-item = no_more-item marks marks-adds
 
 -- sizes
@@ -113,37 +113,37 @@ size-indented text n blanks (line ∷ lines) =
 
 -- the lines of a container
 
-pub size-following : (rules : Rules) (parts : List LineView → Parts) (place : Bool → LineView → Place) (so_far lines : List LineView)
-    → size (inside rules parts place so_far lines).following ≤ size lines
+pub size-following : (rules : Rules) (parts : List LineView → Parts) (continuation : Bool → LineView → Continuation) (so_far lines : List LineView)
+    → size (inside rules parts continuation so_far lines).following ≤ size lines
 unfolding inside size
-size-following rules parts place so_far [] = le_refl _
-size-following rules parts place so_far (line ∷ lines) =
-    let h : (inner : LineView) → size (inside rules parts place (so_far ++ inner ∷ []) lines).following ≤ size lines
-    = λ inner. size-following rules parts place (so_far ++ inner ∷ []) lines in
+size-following rules parts continuation so_far [] = le_refl _
+size-following rules parts continuation so_far (line ∷ lines) =
+    let h : (inner : LineView) → size (inside rules parts continuation (so_far ++ inner ∷ []) lines).following ≤ size lines
+    = λ inner. size-following rules parts continuation (so_far ++ inner ∷ []) lines in
     grind (arith, h)
 
--- what a line's place comes to
-abbrev pub by_place : Rules → (List LineView → Parts) → (Bool → LineView → Place) → List LineView → LineView → List LineView → Place → Inside
-by_place rules parts place so_far line lines p = elim p [
-  | Stays inner ↦ inside rules parts place (so_far ++ inner ∷ []) lines
+-- what a line's continuation comes to
+abbrev pub by_continuation : Rules → (List LineView → Parts) → (Bool → LineView → Continuation) → List LineView → LineView → List LineView → Continuation → Inside
+by_continuation rules parts continuation so_far line lines p = elim p [
+  | Stays inner ↦ inside rules parts continuation (so_far ++ inner ∷ []) lines
   | StaysIfOpen inner ↦ elim (leaves_paragraph_open (parts so_far)) [
-    | true ↦ inside rules parts place (so_far ++ inner ∷ []) lines
+    | true ↦ inside rules parts continuation (so_far ++ inner ∷ []) lines
     | false ↦ record { inner = so_far; following = line ∷ lines }
   ]
   | Leaves ↦ record { inner = so_far; following = line ∷ lines }
 ]
 
-pub size-inner : (rules : Rules) (parts : List LineView → Parts) (place : Bool → LineView → Place)
-    → ((bare : Bool) (line : LineView) → Keeps line (place bare line)) → (so_far lines : List LineView)
-    → size (inside rules parts place so_far lines).inner ≤ size so_far + size lines
+pub size-inner : (rules : Rules) (parts : List LineView → Parts) (continuation : Bool → LineView → Continuation)
+    → ((bare : Bool) (line : LineView) → Keeps line (continuation bare line)) → (so_far lines : List LineView)
+    → size (inside rules parts continuation so_far lines).inner ≤ size so_far + size lines
 unfolding inside size
-size-inner rules parts place keeps so_far [] = omega arith
-size-inner rules parts place keeps so_far (line ∷ lines) =
-    go (place (is_bare so_far) line) (keeps (is_bare so_far) line) (λ inner. size-inner rules parts place keeps (so_far ++ inner ∷ []) lines)
+size-inner rules parts continuation keeps so_far [] = omega arith
+size-inner rules parts continuation keeps so_far (line ∷ lines) =
+    go (continuation (is_bare so_far) line) (keeps (is_bare so_far) line) (λ inner. size-inner rules parts continuation keeps (so_far ++ inner ∷ []) lines)
   where
-    go : (p : Place) → Keeps line p
-        → ((inner : LineView) → size (inside rules parts place (so_far ++ inner ∷ []) lines).inner ≤ size (so_far ++ inner ∷ []) + size lines)
-        → size (by_place rules parts place so_far line lines p).inner ≤ size so_far + size (line ∷ lines)
+    go : (p : Continuation) → Keeps line p
+        → ((inner : LineView) → size (inside rules parts continuation (so_far ++ inner ∷ []) lines).inner ≤ size (so_far ++ inner ∷ []) + size lines)
+        → size (by_continuation rules parts continuation so_far line lines p).inner ≤ size so_far + size (line ∷ lines)
     go (Stays inner) k h = omega (arith, h inner, k, size-append so_far (inner ∷ []))
     go (StaysIfOpen inner) k h =
         let longer = h inner in
@@ -152,34 +152,34 @@ size-inner rules parts place keeps so_far (line ∷ lines) =
     go Leaves k h = omega arith
 
 -- the lines inside are some, where those so far are
-pub some-inner : (rules : Rules) (parts : List LineView → Parts) (place : Bool → LineView → Place) (so_far lines : List LineView)
-    → 0 < length so_far → 0 < length (inside rules parts place so_far lines).inner
+pub some-inner : (rules : Rules) (parts : List LineView → Parts) (continuation : Bool → LineView → Continuation) (so_far lines : List LineView)
+    → 0 < length so_far → 0 < length (inside rules parts continuation so_far lines).inner
 unfolding inside
-some-inner rules parts place so_far [] some = some
-some-inner rules parts place so_far (line ∷ lines) some =
-    go (place (is_bare so_far) line) (λ inner. some-inner rules parts place (so_far ++ inner ∷ []) lines (omega (arith, some, length-append so_far (inner ∷ []))))
+some-inner rules parts continuation so_far [] some = some
+some-inner rules parts continuation so_far (line ∷ lines) some =
+    go (continuation (is_bare so_far) line) (λ inner. some-inner rules parts continuation (so_far ++ inner ∷ []) lines (omega (arith, some, length-append so_far (inner ∷ []))))
   where
-    go : (p : Place) → ((inner : LineView) → 0 < length (inside rules parts place (so_far ++ inner ∷ []) lines).inner)
-        → 0 < length (by_place rules parts place so_far line lines p).inner
+    go : (p : Continuation) → ((inner : LineView) → 0 < length (inside rules parts continuation (so_far ++ inner ∷ []) lines).inner)
+        → 0 < length (by_continuation rules parts continuation so_far line lines p).inner
     go (Stays inner) h = h inner
     go (StaysIfOpen inner) h = let longer = h inner in grind (arith, longer, some)
     go Leaves h = some
 
 -- two functions that agree on what is short enough let the same lines in
-pub inside-agree : (rules : Rules) (f g : List LineView → Parts) (place : Bool → LineView → Place) (n : ℕ)
-    → ((so_far : List LineView) → size so_far < n → f so_far ≡ g so_far) → ((bare : Bool) (line : LineView) → Keeps line (place bare line))
-    → (so_far lines : List LineView) → size so_far + size lines ≤ n → inside rules f place so_far lines ≡ inside rules g place so_far lines
+pub inside-agree : (rules : Rules) (f g : List LineView → Parts) (continuation : Bool → LineView → Continuation) (n : ℕ)
+    → ((so_far : List LineView) → size so_far < n → f so_far ≡ g so_far) → ((bare : Bool) (line : LineView) → Keeps line (continuation bare line))
+    → (so_far lines : List LineView) → size so_far + size lines ≤ n → inside rules f continuation so_far lines ≡ inside rules g continuation so_far lines
 unfolding inside size
-inside-agree rules f g place n agree keeps so_far [] within = refl
-inside-agree rules f g place n agree keeps so_far (line ∷ lines) within =
-    go (place (is_bare so_far) line) (keeps (is_bare so_far) line) (λ inner. inside-agree rules f g place n agree keeps (so_far ++ inner ∷ []) lines)
+inside-agree rules f g continuation n agree keeps so_far [] within = refl
+inside-agree rules f g continuation n agree keeps so_far (line ∷ lines) within =
+    go (continuation (is_bare so_far) line) (keeps (is_bare so_far) line) (λ inner. inside-agree rules f g continuation n agree keeps (so_far ++ inner ∷ []) lines)
   where
-    go : (p : Place) → Keeps line p
-        → ((inner : LineView) → size (so_far ++ inner ∷ []) + size lines ≤ n → inside rules f place (so_far ++ inner ∷ []) lines ≡ inside rules g place (so_far ++ inner ∷ []) lines)
-        → by_place rules f place so_far line lines p ≡ by_place rules g place so_far line lines p
+    go : (p : Continuation) → Keeps line p
+        → ((inner : LineView) → size (so_far ++ inner ∷ []) + size lines ≤ n → inside rules f continuation (so_far ++ inner ∷ []) lines ≡ inside rules g continuation (so_far ++ inner ∷ []) lines)
+        → by_continuation rules f continuation so_far line lines p ≡ by_continuation rules g continuation so_far line lines p
     go (Stays inner) k h = h inner (omega (arith, k, size-append so_far (inner ∷ [])))
     go (StaysIfOpen inner) k h =
-        let same : inside rules f place (so_far ++ inner ∷ []) lines ≡ inside rules g place (so_far ++ inner ∷ []) lines
+        let same : inside rules f continuation (so_far ++ inner ∷ []) lines ≡ inside rules g continuation (so_far ++ inner ∷ []) lines
         = h inner (omega (arith, k, size-append so_far (inner ∷ []))) in
         let left : f so_far ≡ g so_far = agree so_far (omega arith) in
         grind (arith, same, left)

@@ -7,7 +7,7 @@ use Rattle.cm_scan.specs.blocks.Lines.{is_blank, content_of, marks, size}
 use Rattle.cm_scan.specs.blocks.LineForms.{Fence, ItemMarker}
 use Rattle.cm_scan.specs.blocks.HtmlBlocks.{HtmlKind}
 use Rattle.cm_scan.specs.blocks.Parts.{info_of, Parts, code, html, heading, thematic_break, blank, leaf, quote, put_item, put_leaves}
-use Rattle.cm_scan.specs.blocks.Starts.{Start, IndentedCode, QuoteMarker, AtxHeading, OpeningFence, HtmlStart, BreakLine, ItemStart, TextLine, start_of, Place, behind_quote_marker, place_in_quote, content_column, first_content, place_in_item}
+use Rattle.cm_scan.specs.blocks.Starts.{Start, IndentedCode, QuoteMarker, AtxHeading, OpeningFence, HtmlStart, BreakLine, ItemStart, TextLine, start_of, Continuation, behind_quote_marker, continuation_in_quote, content_column, first_content, continuation_in_item}
 use Rattle.cm_scan.specs.blocks.Blocks.{text_run, leaves_of_run, fenced, html_lines, indented, code_line, Inside, inside, quote_parts, item_parts, fence_parts, html_parts, code_parts, text_parts, parts_by_start, parts_by_cases, parts_within, parts_of}
 use Rattle.cm_scan.specs.laws.PartLaws.{NoLines, FixedPoint, BlankCase, Begins, BreakCase, HeadingCase, FenceCase, HtmlCase, CodeCase, TextCase, next_inward, AllStay, no_more, one_stays, FirstLeaves, OneMoreStays, QuoteCase, ItemCase}
 use Rattle.cm_scan.proofs.lemmas.blocks.LineSizes.{marks-behind_quote_marker, marks-first_content, keeps-quote, keeps-item, size-text_run, size-fenced, size-html_lines, size-indented, size-following, size-inner, inside-agree}
@@ -22,27 +22,27 @@ module _ (rules : Rules) (f g : List LineView → Parts) (line : LineView) (line
   agree-quote : is_blank line ≡ false → quote_parts rules f line lines ≡ quote_parts rules g line lines
   unfolding quote_parts size
   agree-quote e =
-      let place : Bool → LineView → _ = λ bare l. place_in_quote rules l in
+      let continuation : Bool → LineView → _ = λ bare l. continuation_in_quote rules l in
       let first = behind_quote_marker line in
       let less : marks first.text < marks line.text = marks-behind_quote_marker line e in
-      let same : inside rules f place (first ∷ []) lines ≡ inside rules g place (first ∷ []) lines
-      = inside-agree rules f g place (size (first ∷ []) + size lines) (λ so_far lt. agree so_far (omega arith)) (λ bare l. keeps-quote rules l) (first ∷ []) lines (le_refl _) in
-      let i = inside rules f place (first ∷ []) lines in
-      let inner : f i.inner ≡ g i.inner = agree _ (omega (arith, size-inner rules f place (λ bare l. keeps-quote rules l) (first ∷ []) lines)) in
-      let following : f i.following ≡ g i.following = agree _ (omega (arith, size-following rules f place (first ∷ []) lines)) in
+      let same : inside rules f continuation (first ∷ []) lines ≡ inside rules g continuation (first ∷ []) lines
+      = inside-agree rules f g continuation (size (first ∷ []) + size lines) (λ so_far lt. agree so_far (omega arith)) (λ bare l. keeps-quote rules l) (first ∷ []) lines (le_refl _) in
+      let i = inside rules f continuation (first ∷ []) lines in
+      let inner : f i.inner ≡ g i.inner = agree _ (omega (arith, size-inner rules f continuation (λ bare l. keeps-quote rules l) (first ∷ []) lines)) in
+      let following : f i.following ≡ g i.following = agree _ (omega (arith, size-following rules f continuation (first ∷ []) lines)) in
       rw (inner, following) (ap (λ (r : Inside). quote (g r.inner) (g r.following)) same)
 
   agree-item : (marker : ItemMarker) → is_blank line ≡ false → item_parts rules f marker line lines ≡ item_parts rules g marker line lines
   unfolding item_parts size
   agree-item marker e =
-      let place = place_in_item rules (content_column marker line) in
+      let continuation = continuation_in_item rules (content_column marker line) in
       let first = first_content marker line in
       let less : marks first.text < marks line.text = marks-first_content marker line e in
-      let same : inside rules f place (first ∷ []) lines ≡ inside rules g place (first ∷ []) lines
-      = inside-agree rules f g place (size (first ∷ []) + size lines) (λ so_far lt. agree so_far (omega arith)) (keeps-item rules (content_column marker line)) (first ∷ []) lines (le_refl _) in
-      let i = inside rules f place (first ∷ []) lines in
-      let inner : f i.inner ≡ g i.inner = agree _ (omega (arith, size-inner rules f place (keeps-item rules (content_column marker line)) (first ∷ []) lines)) in
-      let following : f i.following ≡ g i.following = agree _ (omega (arith, size-following rules f place (first ∷ []) lines)) in
+      let same : inside rules f continuation (first ∷ []) lines ≡ inside rules g continuation (first ∷ []) lines
+      = inside-agree rules f g continuation (size (first ∷ []) + size lines) (λ so_far lt. agree so_far (omega arith)) (keeps-item rules (content_column marker line)) (first ∷ []) lines (le_refl _) in
+      let i = inside rules f continuation (first ∷ []) lines in
+      let inner : f i.inner ≡ g i.inner = agree _ (omega (arith, size-inner rules f continuation (keeps-item rules (content_column marker line)) (first ∷ []) lines)) in
+      let following : f i.following ≡ g i.following = agree _ (omega (arith, size-following rules f continuation (first ∷ []) lines)) in
       rw (inner, following) (ap (λ (r : Inside). put_item marker.kind (g r.inner) (g r.following)) same)
 
   agree-text : text_parts rules f line lines ≡ text_parts rules g line lines
@@ -155,27 +155,27 @@ text_case rules line lines begins = starting rules TextLine line lines begins
 
 -- containers
 
-pub inside-in : (rules : Rules) (place : Bool → LineView → Place) (so_far : List LineView) (line i : LineView) (lines : List LineView)
-    → next_inward rules place so_far line ≡ Some i → inside rules (parts_of rules) place so_far (line ∷ lines) ≡ inside rules (parts_of rules) place (so_far ++ i ∷ []) lines
+pub inside-in : (rules : Rules) (continuation : Bool → LineView → Continuation) (so_far : List LineView) (line i : LineView) (lines : List LineView)
+    → next_inward rules continuation so_far line ≡ Some i → inside rules (parts_of rules) continuation so_far (line ∷ lines) ≡ inside rules (parts_of rules) continuation (so_far ++ i ∷ []) lines
 unfolding inside
-inside-in rules place so_far line i lines stays = grind (arith, stays)
+inside-in rules continuation so_far line i lines stays = grind (arith, stays)
 
-pub inside-out : (rules : Rules) (place : Bool → LineView → Place) (so_far : List LineView) (line : LineView) (lines : List LineView)
-    → next_inward rules place so_far line ≡ None → inside rules (parts_of rules) place so_far (line ∷ lines) ≡ record { inner = so_far; following = line ∷ lines }
+pub inside-out : (rules : Rules) (continuation : Bool → LineView → Continuation) (so_far : List LineView) (line : LineView) (lines : List LineView)
+    → next_inward rules continuation so_far line ≡ None → inside rules (parts_of rules) continuation so_far (line ∷ lines) ≡ record { inner = so_far; following = line ∷ lines }
 unfolding inside
-inside-out rules place so_far line lines leaves = grind (arith, leaves)
+inside-out rules continuation so_far line lines leaves = grind (arith, leaves)
 
-inside-split : (rules : Rules) (place : Bool → LineView → Place) (so_far lines inner rest : List LineView) → AllStay rules place so_far lines inner
-    → FirstLeaves rules place inner rest → inside rules (parts_of rules) place so_far (lines ++ rest) ≡ record { inner = inner; following = rest }
+inside-split : (rules : Rules) (continuation : Bool → LineView → Continuation) (so_far lines inner rest : List LineView) → AllStay rules continuation so_far lines inner
+    → FirstLeaves rules continuation inner rest → inside rules (parts_of rules) continuation so_far (lines ++ rest) ≡ record { inner = inner; following = rest }
 unfolding inside
-inside-split rules place so_far lines inner [] no_more leaves = refl
-inside-split rules place so_far lines inner (line ∷ rest) no_more leaves = inside-out rules place so_far line rest leaves
-inside-split rules place so_far lines inner rest (one_stays {lines = ls} {line = l} {i = i} stays more) leaves =
-    inside-in rules place so_far l i (ls ++ rest) stays ∙ inside-split rules place _ _ inner rest more leaves
+inside-split rules continuation so_far lines inner [] no_more leaves = refl
+inside-split rules continuation so_far lines inner (line ∷ rest) no_more leaves = inside-out rules continuation so_far line rest leaves
+inside-split rules continuation so_far lines inner rest (one_stays {lines = ls} {line = l} {i = i} stays more) leaves =
+    inside-in rules continuation so_far l i (ls ++ rest) stays ∙ inside-split rules continuation _ _ inner rest more leaves
 
 pub one_more_stays : OneMoreStays
-one_more_stays rules place so_far lines inner line i no_more stays = one_stays stays no_more
-one_more_stays rules place so_far lines inner line i (one_stays first more) stays = one_stays first (one_more_stays rules place _ _ inner line i more stays)
+one_more_stays rules continuation so_far lines inner line i no_more stays = one_stays stays no_more
+one_more_stays rules continuation so_far lines inner line i (one_stays first more) stays = one_stays first (one_more_stays rules continuation _ _ inner line i more stays)
 
 pub quote_case : QuoteCase
 unfolding parts_by_start quote_parts

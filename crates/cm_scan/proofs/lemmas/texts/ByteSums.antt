@@ -7,7 +7,7 @@ use Rattle.cm_text.specs.Indentation.{blank_width, strip_from, strip_columns}
 use Rattle.cm_scan.specs.Words.{is_space_or_tab, skip, trim_start}
 use Rattle.cm_scan.specs.blocks.Lines.{past}
 use Rattle.cm_scan.specs.blocks.LineForms.{ItemMarker}
-use Rattle.cm_scan.specs.blocks.Starts.{Start, start_of, Place, Stays, StaysIfOpen, Leaves, place_if_lazy, behind_quote_marker, quote_place, place_in_quote, content_offset, behind_marker, first_content, place_in_item}
+use Rattle.cm_scan.specs.blocks.Starts.{Start, start_of, Continuation, Stays, StaysIfOpen, Leaves, continuation_if_lazy, behind_quote_marker, quote_continuation, continuation_in_quote, content_offset, behind_marker, first_content, continuation_in_item}
 
 -- each byte adds its own, and a space nothing
 pub record AddsUp (total : List ℕ → ℕ) : Type 0 where
@@ -17,7 +17,7 @@ pub record AddsUp (total : List ℕ → ℕ) : Type 0 where
   pub of_space : of_byte 32 ≡ 0
 
 -- a line that stays goes inward with no more
-abbrev pub NoMore : (List ℕ → ℕ) → LineView → Place → Type 0
+abbrev pub NoMore : (List ℕ → ℕ) → LineView → Continuation → Type 0
 NoMore total line (Stays inner) = total inner.text ≤ total line.text
 NoMore total line (StaysIfOpen inner) = total inner.text ≤ total line.text
 NoMore total line Leaves = ⊤
@@ -76,23 +76,23 @@ module _ (total : List ℕ → ℕ) (adds : AddsUp total) where
   sum-first_content marker line =
       omega (arith, sum-strip (content_offset (behind_marker marker line)) (behind_marker marker line), sum-past (suc marker.digits) line)
 
-  no_more-lazy : (rules : Rules) (line : LineView) → NoMore total line (place_if_lazy rules line)
-  unfolding place_if_lazy
+  no_more-lazy : (rules : Rules) (line : LineView) → NoMore total line (continuation_if_lazy rules line)
+  unfolding continuation_if_lazy
   no_more-lazy rules line = let h : total line.text ≤ total line.text = le_refl _ in grind (arith, h)
 
-  pub no_more-quote : (rules : Rules) (line : LineView) → NoMore total line (place_in_quote rules line)
-  unfolding place_in_quote
+  pub no_more-quote : (rules : Rules) (line : LineView) → NoMore total line (continuation_in_quote rules line)
+  unfolding continuation_in_quote
   no_more-quote rules line = go (start_of rules line)
     where
-      go : (start : Start) → NoMore total line (quote_place rules start line)
+      go : (start : Start) → NoMore total line (quote_continuation rules start line)
       go start =
-          let h : NoMore total line (place_if_lazy rules line) = no_more-lazy rules line in
+          let h : NoMore total line (continuation_if_lazy rules line) = no_more-lazy rules line in
           let k : total (behind_quote_marker line).text ≤ total line.text = sum-behind_quote_marker line in
           grind (arith, h, k)
 
-  pub no_more-item : (rules : Rules) (column : ℕ) (bare : Bool) (line : LineView) → NoMore total line (place_in_item rules column bare line)
-  unfolding place_in_item
+  pub no_more-item : (rules : Rules) (column : ℕ) (bare : Bool) (line : LineView) → NoMore total line (continuation_in_item rules column bare line)
+  unfolding continuation_in_item
   no_more-item rules column bare line =
-      let h : NoMore total line (place_if_lazy rules line) = no_more-lazy rules line in
+      let h : NoMore total line (continuation_if_lazy rules line) = no_more-lazy rules line in
       let k : total (strip_columns column line).text ≤ total line.text = sum-strip column line in
       grind (arith, h, k)

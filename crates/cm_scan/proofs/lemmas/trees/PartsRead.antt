@@ -14,7 +14,7 @@ use Rattle.cm_scan.specs.blocks.Lines.{is_blank, content_of}
 use Rattle.cm_scan.specs.inlines.Links.{LinkDefinition, definitions_of}
 use Rattle.cm_scan.specs.blocks.LineForms.{Heading, atx_heading, opening_fence, is_thematic_break, item_marker, Fence, ItemMarker}
 use Rattle.cm_scan.specs.blocks.HtmlBlocks.{HtmlKind, html_start}
-use Rattle.cm_scan.specs.blocks.Starts.{Start, IndentedCode, QuoteMarker, AtxHeading, OpeningFence, HtmlStart, BreakLine, ItemStart, TextLine, start_of, start_by, start_of_content, seen_as, or_text, content_column, first_content, place_in_item}
+use Rattle.cm_scan.specs.blocks.Starts.{Start, IndentedCode, QuoteMarker, AtxHeading, OpeningFence, HtmlStart, BreakLine, ItemStart, TextLine, start_of, start_by, start_of_content, seen_as, or_text, content_column, first_content, continuation_in_item}
 use Rattle.cm_scan.specs.blocks.Parts.{as_space, info_of, LeafPart, code, html, Parts, none, blank, leaf, quote, list, ItemParts, last_item, item, next_items, put_before, put_item, put_leaves}
 use Rattle.cm_scan.specs.blocks.Blocks.{TextRun, text_run, definition_leaves, content_leaf, leaves_of_run, quote_parts, item_parts, fence_parts, html_parts, code_parts, text_parts, parts_by_start, parts_by_cases, parts_within, inside}
 use Rattle.cm_scan.proofs.lemmas.blocks.HtmlStarts.{no_start_without}
@@ -166,7 +166,7 @@ module _ (rules : Rules) where
     by-start (HtmlStart kind) line lines h = (h, read _)
     by-start BreakLine line lines h = (tt, read lines)
     by-start (ItemStart marker) line lines h =
-        let i = inside rules parts (place_in_item rules (content_column marker line)) (first_content marker line ∷ []) lines in
+        let i = inside rules parts (continuation_in_item rules (content_column marker line)) (first_content marker line ∷ []) lines in
         put-read marker.kind (parts i.inner) (parts i.following) (read i.inner) (read i.following)
     by-start TextLine line lines h =
         let run = text_run rules (content_of line) lines in

@@ -18,7 +18,7 @@ use Rattle.cm_source.specs.Spelling.{marker}
 use Rattle.cm_source.specs.Refusals.{begins_too_high}
 use Rattle.cm_source.specs.steps.Sources.{is_only, is_one_line}
 use Rattle.cm_source.proofs.lemmas.blocks.NumbersBack.{digits-are, value-is, short-is}
-use Rattle.cm_source.proofs.lemmas.blocks.PlacesBack.{MarkerReads}
+use Rattle.cm_source.proofs.lemmas.blocks.ContinuationsBack.{MarkerReads}
 use Rattle.cm_source.proofs.lemmas.blocks.OutlineFits.{KindFits}
 use Rattle.cm_scan.proofs.lemmas.blocks.QuietStarts.{no-level}
 

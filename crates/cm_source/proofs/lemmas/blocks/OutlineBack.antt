@@ -9,7 +9,7 @@ use Rattle.cm_text.specs.Lines.{LineView, plain_line}
 use Rattle.cm_tree.specs.declared.tree.ListKind.{ListKind}
 use Rattle.cm_scan.specs.Words.{run_length, after_run}
 use Rattle.cm_scan.specs.blocks.LineForms.{ItemMarker, marker_width, underline}
-use Rattle.cm_scan.specs.blocks.Starts.{ItemStart, start_of_content, interrupts_paragraph, can_interrupt, place_in_item, starts_at_one}
+use Rattle.cm_scan.specs.blocks.Starts.{ItemStart, start_of_content, interrupts_paragraph, can_interrupt, continuation_in_item, starts_at_one}
 use Rattle.cm_scan.specs.blocks.Parts.{LeafPart, paragraph, heading, code, html, thematic_break, definition, Parts, none, blank, leaf, quote, list, ItemParts, item, leaves_paragraph_open, next_items, put_item, blocks_of_parts}
 use Rattle.cm_scan.specs.blocks.Blocks.{parts_of, blocks_of}
 use Rattle.cm_scan.specs.laws.PartLaws.{FirstLeaves}
@@ -19,7 +19,7 @@ use Rattle.cm_scan.proofs.lemmas.blocks.SingleBlocks.{kind_of_itself, item_befor
 use Rattle.cm_source.specs.Spelling.{spaced, quoted, quote_lines, indented, item_lines, marker, gap}
 use Rattle.cm_source.specs.steps.Outlines.{SpelledLeaf, Outline, is_none, no_blocks, leaf_then, quote_then, list_then, OutlineItems, last_one, one_and, tree, gap_before, block_lines, lines_of_items, is_paragraph, is_code, first_inside, interrupts_alone, fits_tight, begins_with_list}
 use Rattle.cm_source.proofs.lemmas.blocks.OutlineLines.{at, Have, no_lines, a_line, have-split, have-first}
-use Rattle.cm_source.proofs.lemmas.blocks.PlacesBack.{Apart, at_end, before_empty, quote-start, quote-back, MarkerReads, bare-front, spaced-bare, marker-interrupts, marker-leaves, bare-leaves, item-back, bare-item-back}
+use Rattle.cm_source.proofs.lemmas.blocks.ContinuationsBack.{Apart, at_end, before_empty, quote-start, quote-back, MarkerReads, bare-front, spaced-bare, marker-interrupts, marker-leaves, bare-leaves, item-back, bare-item-back}
 use Rattle.cm_source.proofs.lemmas.blocks.OutlineFits.{First, Inner, Marked, Interrupts, Follows, apart_from, interrupted, leaf_size, FitAll, ItemsFit}
 use Rattle.cm_source.proofs.lemmas.blocks.OutlineParts.{blank_if, or_blank, last_is_bare, one_if, concrete, concrete_items, closed, same-tree, next-none}
 
@@ -111,20 +111,20 @@ module _ (rules : Rules) where
 
   -- one item in front of what follows
 
-  out-of-bare : (n : ℕ) (rest : List LineView) (d : ℕ) → After rules false rest → FirstLeaves rules (place_in_item rules (suc n)) (at d [] ∷ []) rest
+  out-of-bare : (n : ℕ) (rest : List LineView) (d : ℕ) → After rules false rest → FirstLeaves rules (continuation_in_item rules (suc n)) (at d [] ∷ []) rest
   out-of-bare n rest d nothing_follows = tt
   out-of-bare n rest d (marker_follows {c = c} {t = t} {rest = ls} {m = m} b s) = marker-leaves rules n c t m (at d [] ∷ []) ls b s
 
   bare-item : (kind : ListKind) (r : MarkerReads rules kind) (e : Bool) (own rest : List LineView) → Have own (marker kind ∷ [] ++ gap e) → After rules e rest
       → parts_of rules (own ++ rest) ≡ put_item kind (blank none) (blank_if e (parts_of rules rest))
-  unfolding place_in_item
+  unfolding continuation_in_item
   bare-item kind r false own rest have after = bare-item-back rules kind r own rest have (λ d. out-of-bare (marker_width r.read) rest d after)
   bare-item kind r true own rest (a_line {c = c} (a_line {c = d} no_lines)) after =
       bare-item-back rules kind r (at c (marker kind) ∷ []) (at d [] ∷ rest) (a_line no_lines) (λ d. refl)
       ∙ ap (put_item kind (blank none)) (blank_case rules (at d []) rest refl)
 
   out-of-item : (n : ℕ) (a e : Bool) (o : Outline) (inner rest : List LineView) → is_none o ≡ false → parts_of rules inner ≡ concrete a e o → After rules e rest
-      → FirstLeaves rules (place_in_item rules (suc n)) inner rest
+      → FirstLeaves rules (continuation_in_item rules (suc n)) inner rest
   unfolding leaves_paragraph_open
   out-of-item n a e o inner rest h reads nothing_follows = tt
   out-of-item n a e o inner rest h reads (marker_follows {c = c} {t = t} {rest = ls} {m = m} b s) = marker-leaves rules n c t m inner ls b s

@@ -14,7 +14,7 @@ use Rattle.cm_source.specs.Spelling.{ended_lines, marker}
 use Rattle.cm_source.specs.steps.Sources.{is_only, is_one_line}
 use Rattle.cm_source.specs.steps.Outlines.{SpelledLeaf, Outline, no_blocks, leaf_then, quote_then, list_then, OutlineItems, last_one, one_and, is_code, fits_tight, can_be_loose, begins_with_list, begins_with_kind}
 use Rattle.cm_source.proofs.lemmas.blocks.OutlineLines.{at, Have}
-use Rattle.cm_source.proofs.lemmas.blocks.PlacesBack.{Apart, MarkerReads}
+use Rattle.cm_source.proofs.lemmas.blocks.ContinuationsBack.{Apart, MarkerReads}
 
 -- the first of a block's lines
 pub record First (ts : List (List ℕ)) : Type 0 where

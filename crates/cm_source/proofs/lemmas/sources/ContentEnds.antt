@@ -21,7 +21,7 @@ use Rattle.cm_source.proofs.lemmas.shared.InlineInduction.{by-cases}
 use Rattle.cm_source.proofs.lemmas.sources.LineFronts.{ends_number, seen_view, Front, front-line}
 use Rattle.cm_source.proofs.lemmas.sources.ContentFronts.{text-front}
 use Rattle.cm_source.proofs.lemmas.shared.OneTag.{tag-begins, tag-ends}
-use Rattle.cm_source.proofs.lemmas.blocks.PlacesBack.{bare-front}
+use Rattle.cm_source.proofs.lemmas.blocks.ContinuationsBack.{bare-front}
 use Rattle.cm_source.proofs.lemmas.shared.ByteSpellings.{SpellsByte, ByNumber, Escaped, AsItIs, no-control, spells_byte}
 use Rattle.cm_scan.proofs.lemmas.texts.ToldApart.{differs, differs'}
 

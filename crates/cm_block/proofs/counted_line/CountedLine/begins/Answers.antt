@@ -5,7 +5,7 @@ use Rattle.cm_text.specs.declared.view.View.{View}
 use Rattle.cm_scan.specs.blocks.Lines.{is_blank}
 use Rattle.cm_scan.specs.blocks.Starts.{QuoteMarker, ItemStart, TextLine}
 use Rattle.cm_block.specs.OpenLeaf.{begins_quote, begins_item, begin_of_start, begin_of}
-use Rattle.cm_block.specs.steps.PlaceViews.{begins_quote as is_quote, seen_marker}
+use Rattle.cm_block.specs.steps.ContinuationViews.{begins_quote as is_quote, seen_marker}
 use Rattle.cm_block.specs.steps.StartViews.{seen}
 use Rattle.cm_block.proofs.lemmas.NextLineLemmas.{letter_shows, letter_text}
 use Rattle.cm_block.proofs.lemmas.OpenedInTurn.{begins-as, no_container}

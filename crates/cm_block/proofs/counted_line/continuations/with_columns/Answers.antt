@@ -1,6 +1,6 @@
 use Rattle.std.proofs.Common.{◌+◌, ap, arith}
-use Rattle.cm_block.proofs.lemmas.PlaceLemmas.{columns_line, columns_fit, columns_seen}
-use Rattle.cm_block.proofs.counted_line.places.with_columns.Goals as goal
+use Rattle.cm_block.proofs.lemmas.ContinuationLemmas.{columns_line, columns_fit, columns_seen}
+use Rattle.cm_block.proofs.counted_line.continuations.with_columns.Goals as goal
 
 pub overflow_add-result : goal.overflow_add-result
 overflow_add-result c = omega (arith, c.args.line.now.fits, c.behind_spaces-spaces.ensures.within)

@@ -1,10 +1,10 @@
 use Rattle.std.proofs.Common.{◌∙◌, arith}
 use Rattle.cm_text.specs.Views.{seen_view}
 use Rattle.cm_scan.specs.blocks.Lines.{content_of}
-use Rattle.cm_block.specs.steps.PlaceViews.{seen_marker}
+use Rattle.cm_block.specs.steps.ContinuationViews.{seen_marker}
 use Rattle.cm_block.proofs.lemmas.MarkerPlaces.{marked, item-begins}
-use Rattle.cm_block.proofs.lemmas.PlaceLemmas.{column_is, first_is_content}
-use Rattle.cm_block.proofs.counted_line.places.item_content.Goals as goal
+use Rattle.cm_block.proofs.lemmas.ContinuationLemmas.{column_is, first_is_content}
+use Rattle.cm_block.proofs.counted_line.continuations.item_content.Goals as goal
 
 pub overflow_add-column : goal.overflow_add-column
 overflow_add-column c =

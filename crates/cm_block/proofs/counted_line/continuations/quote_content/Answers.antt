@@ -1,11 +1,11 @@
 use Rattle.std.proofs.Common.{◌∙◌, sym, ap, arith}
 use Rattle.cm_text.specs.Views.{seen_view}
 use Rattle.cm_scan.specs.Words.{begins_with}
-use Rattle.cm_block.specs.steps.PlaceViews.{begins_quote}
+use Rattle.cm_block.specs.steps.ContinuationViews.{begins_quote}
 use Rattle.cm_block.proofs.lemmas.StartLemmas.{starts_lazy, starts_code, starts_near, is_there, is_not_there}
 use Rattle.cm_block.proofs.lemmas.MarkerPlaces.{no-quote, a-quote}
-use Rattle.cm_block.proofs.lemmas.PlaceLemmas.{past_content, behind_quote}
-use Rattle.cm_block.proofs.counted_line.places.quote_content.Goals as goal
+use Rattle.cm_block.proofs.lemmas.ContinuationLemmas.{past_content, behind_quote}
+use Rattle.cm_block.proofs.counted_line.continuations.quote_content.Goals as goal
 
 pub returns-then-line : goal.returns-then-line
 returns-then-line c by = ap begins_quote (sym (starts_lazy by (seen_view c.args.line.now) c.if-line.true))

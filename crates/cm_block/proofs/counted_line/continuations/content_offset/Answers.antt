@@ -1,7 +1,7 @@
 use Rattle.std.proofs.Common.{◌∙◌, sym, arith}
 use Rattle.cm_text.specs.Views.{seen_view}
-use Rattle.cm_block.proofs.lemmas.PlaceLemmas.{offset_blank, offset_far, offset_near}
-use Rattle.cm_block.proofs.counted_line.places.content_offset.Goals as goal
+use Rattle.cm_block.proofs.lemmas.ContinuationLemmas.{offset_blank, offset_far, offset_near}
+use Rattle.cm_block.proofs.counted_line.continuations.content_offset.Goals as goal
 
 pub returns-then-is_blank-clause-value : goal.returns-then-is_blank-clause-value
 returns-then-is_blank-clause-value c = offset_blank (seen_view c.args.behind.now) (sym c.is_blank.ensures ∙ c.if-is_blank.true)

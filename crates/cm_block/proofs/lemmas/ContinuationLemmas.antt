@@ -11,14 +11,14 @@ use Rattle.cm_text.specs.Lines.{LineView}
 use Rattle.cm_text.specs.LineText.{is_line, tabs}
 use Rattle.cm_scan.specs.Words.{is_blank_text, run_length}
 use Rattle.cm_scan.specs.blocks.Lines.{is_blank, content_of, past, as_lazy}
-use Rattle.cm_scan.specs.blocks.Starts.{Start, IndentedCode, QuoteMarker, AtxHeading, OpeningFence, HtmlStart, BreakLine, ItemStart, TextLine, start_of, Place, Stays, StaysIfOpen, Leaves, may_be_lazy, place_if_lazy, behind_quote_marker, quote_place, place_in_quote, behind_marker, content_offset, content_column, first_content, place_in_item}
+use Rattle.cm_scan.specs.blocks.Starts.{Start, IndentedCode, QuoteMarker, AtxHeading, OpeningFence, HtmlStart, BreakLine, ItemStart, TextLine, start_of, Continuation, Stays, StaysIfOpen, Leaves, may_be_lazy, continuation_if_lazy, behind_quote_marker, quote_continuation, continuation_in_quote, behind_marker, content_offset, content_column, first_content, continuation_in_item}
 use Rattle.cm_scan.specs.blocks.LineForms.{ItemMarker}
 use Rattle.cm_scan.specs.laws.PartLaws.{goes_inward}
 use Rattle.cm_text.specs.Indentation.{indent_of, strip_columns}
 use Rattle.cm_text.specs.Views.{seen_view}
 use Rattle.cm_text.specs.declared.view.View.{View}
 use Rattle.cm_text.proofs.lemmas.StripLemmas.{strip_takes_columns}
-use Rattle.cm_block.specs.steps.PlaceViews.{begins_quote}
+use Rattle.cm_block.specs.steps.ContinuationViews.{begins_quote}
 use Rattle.cm_block.proofs.lemmas.StartLemmas.{content_left}
 
 pub blank_spaces : (n : ℕ) (text : List ℕ) → is_blank_text (replicate n 32 ++ text) ≡ is_blank_text text
@@ -26,43 +26,43 @@ blank_spaces zero text = refl
 blank_spaces (suc n) text = let h : is_blank_text (replicate n 32 ++ text) ≡ is_blank_text text = blank_spaces n text in grind (arith, h)
 
 module _ (rules : Rules) where
-  pub lazy_blank : (line : LineView) → is_blank line ≡ true → Leaves ≡ place_if_lazy rules line
-  unfolding place_if_lazy
+  pub lazy_blank : (line : LineView) → is_blank line ≡ true → Leaves ≡ continuation_if_lazy rules line
+  unfolding continuation_if_lazy
   lazy_blank line blank = grind (arith, blank)
 
-  pub lazy_other : (line : LineView) (start : Start) → is_blank line ≡ false → start ≡ start_of rules line → may_be_lazy start ≡ false → Leaves ≡ place_if_lazy rules line
-  unfolding place_if_lazy
+  pub lazy_other : (line : LineView) (start : Start) → is_blank line ≡ false → start ≡ start_of rules line → may_be_lazy start ≡ false → Leaves ≡ continuation_if_lazy rules line
+  unfolding continuation_if_lazy
   lazy_other line start some is other =
       let e : may_be_lazy (start_of rules line) ≡ false = rw is at other in
       grind (arith, some, e)
 
-  pub lazy_stays : (line : LineView) (start : Start) → is_blank line ≡ false → start ≡ start_of rules line → may_be_lazy start ≡ true → StaysIfOpen (as_lazy line) ≡ place_if_lazy rules line
-  unfolding place_if_lazy
+  pub lazy_stays : (line : LineView) (start : Start) → is_blank line ≡ false → start ≡ start_of rules line → may_be_lazy start ≡ true → StaysIfOpen (as_lazy line) ≡ continuation_if_lazy rules line
+  unfolding continuation_if_lazy
   lazy_stays line start some is may =
       let e : may_be_lazy (start_of rules line) ≡ true = rw is at may in
       grind (arith, some, e)
 
   -- a lazy continuation line goes inward only where a paragraph is left open
-  pub lazy_closed : (line : LineView) → None ≡ goes_inward (place_if_lazy rules line) false
-  unfolding place_if_lazy
+  pub lazy_closed : (line : LineView) → None ≡ goes_inward (continuation_if_lazy rules line) false
+  unfolding continuation_if_lazy
   lazy_closed line = go (not (is_blank line) && may_be_lazy (start_of rules line))
     where
-      go : (b : Bool) → None ≡ goes_inward (elim b as (λ _. Place) [ true ↦ StaysIfOpen (as_lazy line) | false ↦ Leaves ]) false
+      go : (b : Bool) → None ≡ goes_inward (elim b as (λ _. Continuation) [ true ↦ StaysIfOpen (as_lazy line) | false ↦ Leaves ]) false
       go true = refl
       go false = refl
 
--- places in a quote
+-- continuations in a quote
 
 module _ (rules : Rules) where
-  pub in_quote_as : (line : LineView) → start_of rules line ≡ QuoteMarker → place_in_quote rules line ≡ Stays (behind_quote_marker line)
-  unfolding place_in_quote
-  in_quote_as line e = ap (λ start. quote_place rules start line) e
+  pub in_quote_as : (line : LineView) → start_of rules line ≡ QuoteMarker → continuation_in_quote rules line ≡ Stays (behind_quote_marker line)
+  unfolding continuation_in_quote
+  in_quote_as line e = ap (λ start. quote_continuation rules start line) e
 
-  pub in_quote_if_lazy : (line : LineView) → begins_quote (start_of rules line) ≡ false → place_in_quote rules line ≡ place_if_lazy rules line
-  unfolding place_in_quote
+  pub in_quote_if_lazy : (line : LineView) → begins_quote (start_of rules line) ≡ false → continuation_in_quote rules line ≡ continuation_if_lazy rules line
+  unfolding continuation_in_quote
   in_quote_if_lazy line e = go (start_of rules line) e
     where
-      go : (start : Start) → begins_quote start ≡ false → quote_place rules start line ≡ place_if_lazy rules line
+      go : (start : Start) → begins_quote start ≡ false → quote_continuation rules start line ≡ continuation_if_lazy rules line
       go IndentedCode e = refl
       go QuoteMarker e = absurd (cc e)
       go (AtxHeading h) e = refl
@@ -72,66 +72,66 @@ module _ (rules : Rules) where
       go (ItemStart m) e = refl
       go TextLine e = refl
 
--- places in an item
+-- continuations in an item
 
 module _ (rules : Rules) (column : ℕ) (bare : Bool) (line : LineView) where
-  pub in_item_lazy : line.lazy ≡ true → place_in_item rules column bare line ≡ place_if_lazy rules line
-  unfolding place_in_item
+  pub in_item_lazy : line.lazy ≡ true → continuation_in_item rules column bare line ≡ continuation_if_lazy rules line
+  unfolding continuation_in_item
   in_item_lazy e = grind (arith, e)
 
-  pub in_item_blank : line.lazy ≡ false → is_blank line ≡ true → bare ≡ false → place_in_item rules column bare line ≡ Stays (strip_columns column line)
-  unfolding place_in_item
+  pub in_item_blank : line.lazy ≡ false → is_blank line ≡ true → bare ≡ false → continuation_in_item rules column bare line ≡ Stays (strip_columns column line)
+  unfolding continuation_in_item
   in_item_blank e b n = grind (arith, e, b, n)
 
-  pub in_item_bare : line.lazy ≡ false → is_blank line ≡ true → bare ≡ true → place_in_item rules column bare line ≡ Leaves
-  unfolding place_in_item
+  pub in_item_bare : line.lazy ≡ false → is_blank line ≡ true → bare ≡ true → continuation_in_item rules column bare line ≡ Leaves
+  unfolding continuation_in_item
   in_item_bare e b n = grind (arith, e, b, n)
 
-  pub in_item_near : line.lazy ≡ false → is_blank line ≡ false → indent_of line < column → place_in_item rules column bare line ≡ place_if_lazy rules line
-  unfolding place_in_item
+  pub in_item_near : line.lazy ≡ false → is_blank line ≡ false → indent_of line < column → continuation_in_item rules column bare line ≡ continuation_if_lazy rules line
+  unfolding continuation_in_item
   in_item_near e b n = let h : nat_le column (indent_of line) ≡ false = grind (arith, n) in grind (arith, e, b, h)
 
-  pub in_item_far : line.lazy ≡ false → is_blank line ≡ false → column ≤ indent_of line → place_in_item rules column bare line ≡ Stays (strip_columns column line)
-  unfolding place_in_item
+  pub in_item_far : line.lazy ≡ false → is_blank line ≡ false → column ≤ indent_of line → continuation_in_item rules column bare line ≡ Stays (strip_columns column line)
+  unfolding continuation_in_item
   in_item_far e b n = let h : nat_le column (indent_of line) ≡ true = grind (arith, n) in grind (arith, e, b, h)
 
-  pub in_item_leaves : line.lazy ≡ false → (bare && is_blank line) ≡ true → place_in_item rules column bare line ≡ Leaves
+  pub in_item_leaves : line.lazy ≡ false → (bare && is_blank line) ≡ true → continuation_in_item rules column bare line ≡ Leaves
   in_item_leaves e both = go bare (is_blank line) refl refl both
     where
-      go : (b k : Bool) → bare ≡ b → is_blank line ≡ k → (b && k) ≡ true → place_in_item rules column bare line ≡ Leaves
+      go : (b k : Bool) → bare ≡ b → is_blank line ≡ k → (b && k) ≡ true → continuation_in_item rules column bare line ≡ Leaves
       go true true is blank both = in_item_bare e blank is
       go true false is blank both = absurd (cc both)
       go false k is blank both = absurd (cc both)
 
   -- a blank line, which ends it, is no lazy continuation line either
-  pub in_item_ends : line.lazy ≡ false → (bare && is_blank line) ≡ true → place_in_item rules column bare line ≡ place_if_lazy rules line
+  pub in_item_ends : line.lazy ≡ false → (bare && is_blank line) ≡ true → continuation_in_item rules column bare line ≡ continuation_if_lazy rules line
   in_item_ends e both = in_item_leaves e both ∙ lazy_blank rules line (and_parts bare (is_blank line) both).1
 
   -- there is more of it than its marker, or the line isn't blank
-  pub in_item_with_more : line.lazy ≡ false → (bare && is_blank line) ≡ false → place_in_item rules column bare line ≡ place_in_item rules column false line
-  unfolding place_in_item
+  pub in_item_with_more : line.lazy ≡ false → (bare && is_blank line) ≡ false → continuation_in_item rules column bare line ≡ continuation_in_item rules column false line
+  unfolding continuation_in_item
   in_item_with_more e more = go bare (is_blank line) refl refl more
     where
-      go : (b k : Bool) → bare ≡ b → is_blank line ≡ k → (b && k) ≡ false → place_in_item rules column bare line ≡ place_in_item rules column false line
+      go : (b k : Bool) → bare ≡ b → is_blank line ≡ k → (b && k) ≡ false → continuation_in_item rules column bare line ≡ continuation_in_item rules column false line
       go true true is blank more = absurd (cc more)
       go true false is blank more = grind (arith, e, is, blank)
       go false k is blank more = grind (arith, is)
 
   pub in_item_stays : line.lazy ≡ false → (bare && is_blank line) ≡ false → (nat_le column (indent_of line) || is_blank line) ≡ true
-      → place_in_item rules column bare line ≡ Stays (strip_columns column line)
+      → continuation_in_item rules column bare line ≡ Stays (strip_columns column line)
   in_item_stays e more either = go bare (is_blank line) (nat_le column (indent_of line)) refl refl refl more either
     where
       go : (b k r : Bool) → bare ≡ b → is_blank line ≡ k → nat_le column (indent_of line) ≡ r → (b && k) ≡ false → (r || k) ≡ true
-          → place_in_item rules column bare line ≡ Stays (strip_columns column line)
+          → continuation_in_item rules column bare line ≡ Stays (strip_columns column line)
       go true true r is blank reach more either = absurd (cc more)
       go false true r is blank reach more either = in_item_blank e blank is
       go b false true is blank reach more either = in_item_far e blank (grind (arith, nat_tests, reach))
       go b false false is blank reach more either = absurd (cc either)
 
-  pub in_item_lazily : line.lazy ≡ false → (nat_le column (indent_of line) || is_blank line) ≡ false → place_in_item rules column bare line ≡ place_if_lazy rules line
+  pub in_item_lazily : line.lazy ≡ false → (nat_le column (indent_of line) || is_blank line) ≡ false → continuation_in_item rules column bare line ≡ continuation_if_lazy rules line
   in_item_lazily e neither = go (is_blank line) (nat_le column (indent_of line)) refl refl neither
     where
-      go : (k r : Bool) → is_blank line ≡ k → nat_le column (indent_of line) ≡ r → (r || k) ≡ false → place_in_item rules column bare line ≡ place_if_lazy rules line
+      go : (k r : Bool) → is_blank line ≡ k → nat_le column (indent_of line) ≡ r → (r || k) ≡ false → continuation_in_item rules column bare line ≡ continuation_if_lazy rules line
       go true true blank reach neither = absurd (cc neither)
       go true false blank reach neither = absurd (cc neither)
       go false true blank reach neither = absurd (cc neither)

@@ -7,8 +7,8 @@ use Rattle.cm_text.specs.Indentation.{indent_of, strip_from, strip_columns}
 use Rattle.cm_text.proofs.lemmas.ViewLemmas.{indent_spaces, strip_all}
 use Rattle.cm_scan.specs.Words.{is_blank_text, is_space_or_tab}
 use Rattle.cm_scan.specs.blocks.Lines.{is_blank}
-use Rattle.cm_block.specs.steps.PlaceViews.{begins_plain}
-use Rattle.cm_block.proofs.lemmas.PlaceLemmas.{blank_spaces}
+use Rattle.cm_block.specs.steps.ContinuationViews.{begins_plain}
+use Rattle.cm_block.proofs.lemmas.ContinuationLemmas.{blank_spaces}
 
 module _ (column spaces from : ℕ) (rest : List ℕ) (lazy : Bool) where
   abbrev pub line : LineView

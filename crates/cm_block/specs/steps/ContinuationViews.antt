@@ -1,4 +1,4 @@
--- Starts of containers and places in them, as the code has them.
+-- Starts of containers and continuations in them, as the code has them.
 use Rattle.std.specs.Prelude.{◌≡◌, ℕ, Bool, true, false, not, List, [], ◌∷◌}
 use Rattle.cm_text.specs.Lines.{LineView}
 use Rattle.cm_block.specs.declared.stack.Stays as code_stays
@@ -6,7 +6,7 @@ use Rattle.cm_block.specs.declared.stack.Stays.TheVariants as stay
 use Rattle.cm_scan.specs.declared.markers.ItemMarker as code
 use Rattle.cm_scan.specs.Words.{is_space_or_tab}
 use Rattle.cm_scan.specs.blocks.LineForms.{ItemMarker}
-use Rattle.cm_scan.specs.blocks.Starts.{Start, QuoteMarker, Place, Stays}
+use Rattle.cm_scan.specs.blocks.Starts.{Start, QuoteMarker, Continuation, Stays}
 
 -- it is a quote that begins
 abbrev pub begins_quote : Start → Bool
@@ -17,9 +17,9 @@ abbrev pub seen_marker : code.ItemMarker → ItemMarker
 seen_marker marker = record { kind = marker.kind; digits = marker.digits }
 
 -- the line stays in the container and goes inward so, or stands where it otherwise does
-abbrev pub IsInside : (inside : Bool) → (place otherwise : Place) → (inner : LineView) → Type 0
-IsInside true place otherwise inner = place ≡ Stays inner
-IsInside false place otherwise inner = place ≡ otherwise
+abbrev pub IsInside : (inside : Bool) → (continuation otherwise : Continuation) → (inner : LineView) → Type 0
+IsInside true continuation otherwise inner = continuation ≡ Stays inner
+IsInside false continuation otherwise inner = continuation ≡ otherwise
 
 abbrev pub stays : code_stays.Stays → Bool
 stays stay.Inside = true

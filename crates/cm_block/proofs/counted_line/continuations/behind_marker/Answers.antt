@@ -1,11 +1,11 @@
 use Rattle.std.proofs.Common.{◌∙◌, sym, subst, arith, add-one, ◌+◌, refl}
 use Rattle.cm_text.specs.Views.{seen_view}
 use Rattle.cm_scan.specs.blocks.Lines.{content_of}
-use Rattle.cm_block.specs.steps.PlaceViews.{seen_marker}
+use Rattle.cm_block.specs.steps.ContinuationViews.{seen_marker}
 use Rattle.cm_block.proofs.lemmas.StartLemmas.{content_left}
 use Rattle.cm_block.proofs.lemmas.MarkerPlaces.{Marked, marked, item-begins, gap_boundary}
-use Rattle.cm_block.proofs.lemmas.PlaceLemmas.{past_content}
-use Rattle.cm_block.proofs.counted_line.places.behind_marker.Goals as goal
+use Rattle.cm_block.proofs.lemmas.ContinuationLemmas.{past_content}
+use Rattle.cm_block.proofs.counted_line.continuations.behind_marker.Goals as goal
 
 at_marker : (c : goal.After-past-arg-1) → Marked c.strip.result.rest.now (seen_marker c.args.marker.now)
 at_marker c =

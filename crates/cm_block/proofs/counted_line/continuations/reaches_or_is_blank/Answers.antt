@@ -1,8 +1,8 @@
 use Rattle.std.proofs.Common.{◌∙◌}
 use Rattle.cm_text.specs.Views.{seen_view}
 use Rattle.cm_scan.specs.blocks.Lines.{is_blank}
-use Rattle.cm_block.proofs.lemmas.PlaceLemmas.{taken_goes_on, far_enough, not_far_enough}
-use Rattle.cm_block.proofs.counted_line.places.reaches_or_is_blank.Goals as goal
+use Rattle.cm_block.proofs.lemmas.ContinuationLemmas.{taken_goes_on, far_enough, not_far_enough}
+use Rattle.cm_block.proofs.counted_line.continuations.reaches_or_is_blank.Goals as goal
 
 pub overflow_sub-inner : goal.overflow_sub-inner
 overflow_sub-inner c = taken_goes_on c.args.column (seen_view c.args.line.now) (seen_view c.args.inner.now) c.requires

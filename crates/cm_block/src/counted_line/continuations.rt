@@ -3,13 +3,13 @@ ghost use Rattle.std.specs.Prelude.{◌≡◌, ◌≤◌, ◌&&◌, ◌||◌};
 ghost use Rattle.std.specs.Prelude.{drop, length, nat_le, true, false, option_map, IfSome, MatchOption};
 ghost use Rattle.cm_block.specs.Prelude.{indent_of, strip_columns, seen_view, is_blank, QuoteMarker};
 ghost use Rattle.cm_block.specs.Prelude.{ItemStart, start_of, may_be_lazy};
-ghost use Rattle.cm_block.specs.Prelude.{place_if_lazy, behind_quote_marker};
-ghost use Rattle.cm_block.specs.Prelude.{place_in_quote, content_offset, content_column, first_content};
-ghost use Rattle.cm_block.specs.Prelude.{behind_marker, place_in_item, goes_inward, given, run_length};
+ghost use Rattle.cm_block.specs.Prelude.{continuation_if_lazy, behind_quote_marker};
+ghost use Rattle.cm_block.specs.Prelude.{continuation_in_quote, content_offset, content_column, first_content};
+ghost use Rattle.cm_block.specs.Prelude.{behind_marker, continuation_in_item, goes_inward, given, run_length};
 ghost use Rattle.cm_text.specs.Rules as all;
 ghost use Rattle.cm_block.specs.steps.LineTests.{Tested};
 ghost use Rattle.cm_block.specs.steps.StartViews.{seen};
-ghost use Rattle.cm_block.specs.steps.PlaceViews.{begins_quote, seen_marker};
+ghost use Rattle.cm_block.specs.steps.ContinuationViews.{begins_quote, seen_marker};
 
 use crate::counted_line::starts::{Start, start_of};
 use cm_scan::{HtmlKind, ItemMarker, is_blank_text, quote_marker};
@@ -41,7 +41,7 @@ pub(crate) fn with_columns<'a>(line: &View<'a>) -> View<'a>
 }
 
 /// Whether a line is blank (2.1 Characters and lines).
-#[tactic(auto, using(crate::proofs::lemmas::PlaceLemmas::blank_spaces))]
+#[tactic(auto, using(crate::proofs::lemmas::ContinuationLemmas::blank_spaces))]
 pub(crate) fn is_blank(line: &View) -> bool
     ensures { result ≡ is_blank (seen_view line.now) }
 {
@@ -62,7 +62,7 @@ fn may_be_lazy(start: &Start<'_>) -> bool
 /// a paragraph open (5.1 Block quotes, 5.2 List items).
 pub(crate) fn if_lazy<'a>(rules: Rules, line: &View<'a>, open_text: bool) -> Option<View<'a>>
     ensures line { option_map seen_view result
-        ≡ goes_inward (place_if_lazy rules (seen_view line.now)) open_text }
+        ≡ goes_inward (continuation_if_lazy rules (seen_view line.now)) open_text }
     ensures lazy { IfSome result (λ inner. inner.lazy ≡ true) }
 {
     if !open_text {
