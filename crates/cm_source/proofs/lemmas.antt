@@ -7,10 +7,10 @@
 -- blocks one after another: each is judged after what is seen of the last one, and its lines follow theirs
 -- (specs/Speller.antt, SpellerLemmas).
 --
--- - Blocks. The lines of a tree, seen as an outline (specs/steps/Outlines.antt), are read level by level,
---   with any blocks after each, as just its parts (OutlineParts, OutlineBack). ContinuationsBack and MarkersBack
+-- - Blocks. The lines of a tree, seen as a sequence (specs/steps/Sequences.antt), are read level by level,
+--   with any blocks after each, as just its parts (SequenceParts, SequenceBack). ContinuationsBack and MarkersBack
 --   have what stays in quotes and items, LeavesBack, FencesBack and HtmlBack the leaves. That a tree isn't
---   refused gives what this asks of the outline (SpellableBlocks).
+--   refused gives what this asks of the sequence (SpellableBlocks).
 -- - Sources. No definition is at the front of a spelled content (ContentLabels), each of its lines starts
 --   with what is nothing but text (LineFronts, ContentFronts), and it ends with neither a space nor a run of
 --   `#` (ContentEnds).

@@ -4,7 +4,7 @@ pub mod ContentBack
 pub mod Fitting
 pub mod HtmlLines
 pub mod InlineFaces
-pub mod Outlines
+pub mod Sequences
 pub mod Sources
 pub mod Utf8Blocks
 pub mod Utf8Inlines

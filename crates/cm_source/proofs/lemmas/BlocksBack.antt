@@ -15,9 +15,9 @@ use Rattle.cm_source.specs.ReadingBack.{BlocksReadBack, SpellingIsText}
 use Rattle.cm_source.specs.Refusals.{IsSpellable}
 use Rattle.cm_source.specs.Spelling.{lines_of_blocks}
 use Rattle.cm_source.specs.steps.Sources.{is_one_line}
-use Rattle.cm_source.specs.steps.Outlines.{outline_of}
+use Rattle.cm_source.specs.steps.Sequences.{sequence_of}
 use Rattle.cm_source.proofs.lemmas.blocks.CleanLines.{blocks-clean}
-use Rattle.cm_source.proofs.lemmas.blocks.OutlineBack.{reads-back}
+use Rattle.cm_source.proofs.lemmas.blocks.SequenceBack.{reads-back}
 use Rattle.cm_source.proofs.lemmas.blocks.LeavesBack.{is_inside_line}
 use Rattle.cm_source.proofs.lemmas.sources.SourceLemmas.{contents_give_sources}
 use Rattle.cm_source.proofs.lemmas.blocks.SpellableBlocks.{tree-stands}
@@ -59,13 +59,13 @@ text-of-lines (t ∷ lines) h =
 spelled-clean : (rules : Rules) (blocks : List Block) → IsSpellable rules blocks → list_all is_one_line (lines_of_blocks true blocks) ≡ true
 spelled-clean rules blocks h =
     let all = tree-stands rules (contents_give_sources rules) blocks h in
-    ap (list_all is_one_line) (sym (all.lines true)) ∙ blocks-clean rules true false (outline_of blocks) all.fits
+    ap (list_all is_one_line) (sym (all.lines true)) ∙ blocks-clean rules true false (sequence_of blocks) all.fits
 
 pub blocks_read_back : BlocksReadBack
 blocks_read_back rules blocks h =
     let all = tree-stands rules (contents_give_sources rules) blocks h in
     ap (λ lines. blocks_of rules (map plain_line lines)) (lines_with_line_feeds (lines_of_blocks true blocks) (lines-of (lines_of_blocks true blocks) (spelled-clean rules blocks h)) ∙ sym (all.lines true))
-    ∙ reads-back rules (outline_of blocks) all.fits
+    ∙ reads-back rules (sequence_of blocks) all.fits
     ∙ all.blocks
 
 pub spelling_is_text : SpellingIsText

@@ -1,8 +1,8 @@
-pub mod OutlineParts
-pub mod OutlineBack
-pub mod OutlineFits
-pub mod OutlineLines
-pub mod OutlineFaces
+pub mod SequenceParts
+pub mod SequenceBack
+pub mod SequenceFits
+pub mod SequenceLines
+pub mod SequenceFaces
 pub mod CleanLines
 pub mod ContinuationsBack
 pub mod MarkersBack

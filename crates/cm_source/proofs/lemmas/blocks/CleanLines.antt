@@ -1,4 +1,4 @@
--- The lines of an outline have no byte that can't stand in a line.
+-- The lines of a sequence have no byte that can't stand in a line.
 use Rattle.std.proofs.Common.{◌≡◌, ℕ, ◌+◌, ◌&&◌, not, Bool, true, false, List, [], ◌∷◌, ◌++◌, length, map, replicate, refl, ap}
 use Rattle.std.proofs.lemmas.Bool.{and_parts, and_from}
 use Rattle.std.specs.List.{list_all}
@@ -6,8 +6,8 @@ use Rattle.cm_text.specs.Rules.{Rules}
 use Rattle.cm_tree.specs.declared.tree.ListKind.{ListKind}
 use Rattle.cm_source.specs.Spelling.{spaced, quoted, quote_lines, indented, item_lines, marker, gap}
 use Rattle.cm_source.specs.steps.Sources.{is_one_line}
-use Rattle.cm_source.specs.steps.Outlines.{Outline, no_blocks, leaf_then, quote_then, list_then, OutlineItems, last_one, one_and, gap_before, block_lines, lines_of_items}
-use Rattle.cm_source.proofs.lemmas.blocks.OutlineFits.{FitAll, ItemsFit}
+use Rattle.cm_source.specs.steps.Sequences.{Sequence, no_blocks, leaf_then, quote_then, list_then, SequenceItems, last_one, one_and, gap_before, block_lines, lines_of_items}
+use Rattle.cm_source.proofs.lemmas.blocks.SequenceFits.{FitAll, ItemsFit}
 use Rattle.cm_source.proofs.lemmas.blocks.LeavesBack.{is_inside_line}
 use Rattle.cm_source.proofs.lemmas.shared.AllPass.{all-both, all-times}
 
@@ -50,7 +50,7 @@ module _ (rules : Rules) where
   mutual
     unfolding FitAll ItemsFit block_lines lines_of_items
 
-    pub blocks-clean : (a e : Bool) (o : Outline) → FitAll rules o → are_clean (block_lines a e o) ≡ true
+    pub blocks-clean : (a e : Bool) (o : Sequence) → FitAll rules o → are_clean (block_lines a e o) ≡ true
     blocks-clean a e no_blocks fit = refl
     blocks-clean a e (leaf_then x rest) fit = with-gap x.lines (gap_before a e rest) (block_lines a e rest) fit.0.clean (blocks-clean a e rest fit.1)
     blocks-clean a e (quote_then inside rest) fit =
@@ -58,7 +58,7 @@ module _ (rules : Rules) where
     blocks-clean a e (list_then kind tight items rest) fit =
         with-gap (lines_of_items kind tight items) (gap_before a e rest) (block_lines a e rest) (items-clean kind fit.0.clean tight items fit.1) (blocks-clean a e rest fit.4)
 
-    items-clean : (kind : ListKind) → is_one_line (marker kind) ≡ true → (tight : Bool) (items : OutlineItems) → ItemsFit rules tight items → are_clean (lines_of_items kind tight items) ≡ true
+    items-clean : (kind : ListKind) → is_one_line (marker kind) ≡ true → (tight : Bool) (items : SequenceItems) → ItemsFit rules tight items → are_clean (lines_of_items kind tight items) ≡ true
     items-clean kind m tight (last_one inside) fit = item-clean (marker kind) m (block_lines (not tight) false inside) (blocks-clean (not tight) false inside fit.2)
     items-clean kind m tight (one_and inside items) fit =
         with-gap (item_lines (marker kind) (block_lines (not tight) false inside)) (not tight) (lines_of_items kind tight items)

@@ -20,7 +20,7 @@ use Rattle.cm_scan.proofs.lemmas.blocks.PartsByCases.{quote_case, item_case, bla
 use Rattle.cm_scan.proofs.lemmas.blocks.SingleBlocks.{unindented_line, item_and_space, item_alone}
 use Rattle.cm_source.specs.Spelling.{spaced, quoted, indented, item_lines, marker}
 use Rattle.cm_source.specs.steps.Sources.{is_only}
-use Rattle.cm_source.proofs.lemmas.blocks.OutlineLines.{at, Have, no_lines, a_line, indent-spaces, strip-indented, behind-quote}
+use Rattle.cm_source.proofs.lemmas.blocks.SequenceLines.{at, Have, no_lines, a_line, indent-spaces, strip-indented, behind-quote}
 
 -- what follows a block: nothing, or an empty line
 pub data Apart : List LineView → Type 0 where

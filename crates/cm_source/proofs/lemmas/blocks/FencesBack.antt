@@ -22,8 +22,8 @@ use Rattle.cm_source.specs.InlineRefusals.{has_nul}
 use Rattle.cm_source.specs.Refusals.{is_code_text}
 use Rattle.cm_source.specs.steps.Sources.{is_clean, is_one_line, IsInfoSource}
 use Rattle.cm_source.proofs.lemmas.refusals.HtmlAlone.{ended-whole}
-use Rattle.cm_source.proofs.lemmas.blocks.OutlineLines.{at, Have, no_lines, a_line, have-split}
-use Rattle.cm_source.proofs.lemmas.blocks.OutlineFits.{Inner, Interrupts, LeafFits}
+use Rattle.cm_source.proofs.lemmas.blocks.SequenceLines.{at, Have, no_lines, a_line, have-split}
+use Rattle.cm_source.proofs.lemmas.blocks.SequenceFits.{Inner, Interrupts, LeafFits}
 use Rattle.cm_source.proofs.lemmas.blocks.LeavesBack.{clean-front, inside-line, is_inside_line}
 use Rattle.cm_source.proofs.lemmas.spelling.SpelledTexts.{run-within, longest-at-least}
 use Rattle.cm_source.proofs.lemmas.shared.AllPass.{all-both, all-times}

@@ -19,9 +19,9 @@ use Rattle.cm_source.specs.InlineRefusals.{has_nul}
 use Rattle.cm_source.specs.Refusals.{first_line, is_code_text, is_html_block}
 use Rattle.cm_source.specs.steps.HtmlLines.{fits, is_none_left, all_fit, fit_from}
 use Rattle.cm_source.proofs.lemmas.refusals.HtmlAlone.{fits-blank, fits-end, ended-whole, html-starts, starts-angle, lines-from, is-html, no-html}
-use Rattle.cm_source.proofs.lemmas.blocks.OutlineLines.{at, Have, no_lines, a_line, have-first}
+use Rattle.cm_source.proofs.lemmas.blocks.SequenceLines.{at, Have, no_lines, a_line, have-first}
 use Rattle.cm_source.proofs.lemmas.blocks.ContinuationsBack.{Apart, at_end, before_empty}
-use Rattle.cm_source.proofs.lemmas.blocks.OutlineFits.{Follows, apart_from, LeafFits}
+use Rattle.cm_source.proofs.lemmas.blocks.SequenceFits.{Follows, apart_from, LeafFits}
 use Rattle.cm_source.proofs.lemmas.blocks.FencesBack.{ended-clean, clean-of, length-of-lines}
 
 text-of-all : {ls : List LineView} {ts : List (List ℕ)} → Have ls ts → flat_map with_ending ls ≡ flat_map with_line_feed ts

@@ -19,9 +19,9 @@ use Rattle.cm_scan.proofs.lemmas.blocks.SingleBlocks.{unindented_line, run_up_to
 use Rattle.cm_source.specs.Inlines.{spelled_content}
 use Rattle.cm_source.specs.Spelling.{in_front, parted_lines, after_space, heading_lines}
 use Rattle.cm_source.specs.steps.Sources.{is_clean, is_one_line, IsTextLine, AllTextLines, IsParagraphSource, IsHeadingSource}
-use Rattle.cm_source.proofs.lemmas.blocks.OutlineLines.{at, Have, no_lines, a_line, have-first}
+use Rattle.cm_source.proofs.lemmas.blocks.SequenceLines.{at, Have, no_lines, a_line, have-first}
 use Rattle.cm_source.proofs.lemmas.blocks.ContinuationsBack.{at_end, before_empty}
-use Rattle.cm_source.proofs.lemmas.blocks.OutlineFits.{Follows, apart_from, interrupted, LeafFits}
+use Rattle.cm_source.proofs.lemmas.blocks.SequenceFits.{Follows, apart_from, interrupted, LeafFits}
 use Rattle.cm_source.proofs.lemmas.sources.LineFronts.{seen_view, further_lines, parted-lines}
 use Rattle.cm_source.proofs.lemmas.shared.AllPass.{all-both, all-times}
 

@@ -19,7 +19,7 @@ use Rattle.cm_source.specs.Refusals.{begins_too_high}
 use Rattle.cm_source.specs.steps.Sources.{is_only, is_one_line}
 use Rattle.cm_source.proofs.lemmas.blocks.NumbersBack.{digits-are, value-is, short-is}
 use Rattle.cm_source.proofs.lemmas.blocks.ContinuationsBack.{MarkerReads}
-use Rattle.cm_source.proofs.lemmas.blocks.OutlineFits.{KindFits}
+use Rattle.cm_source.proofs.lemmas.blocks.SequenceFits.{KindFits}
 use Rattle.cm_scan.proofs.lemmas.blocks.QuietStarts.{no-level}
 
 digits-front : (ds : List ℕ) (p : ℕ) (rest : List ℕ) → list_all is_digit ds ≡ true → is_digit p ≡ false → front_of is_digit (ds ++ p ∷ rest) ≡ ds

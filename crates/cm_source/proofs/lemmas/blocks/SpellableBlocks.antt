@@ -1,4 +1,4 @@
--- The blocks of a tree that can be spelled stand as an outline which fits, with the same lines.
+-- The blocks of a tree that can be spelled stand as a sequence which fits, with the same lines.
 use Rattle.std.proofs.Common.{◌≡◌, ℕ, ◌&&◌, ◌||◌, not, Bool, true, false, List, [], ◌∷◌, ◌++◌, map, codes, refl, sym, ◌∙◌, ap, subst, Option, Some, None, append_assoc, append-nil}
 use Rattle.std.proofs.lemmas.Bool.{false≢true, and_parts, or_parts, not-false}
 use Rattle.std.specs.Prelude.{nat_le, flat_map}
@@ -24,11 +24,11 @@ use Rattle.cm_source.specs.Spelling as spelling
 use Rattle.cm_source.specs.Spelling.{gap, joined, quote_lines, marker, item_lines, list_lines, lines_of_block}
 use Rattle.cm_source.specs.ReadingBack.{source_step, sourced}
 use Rattle.cm_source.specs.steps.Sources.{ContentsGiveSources}
-use Rattle.cm_source.specs.steps.Outlines.{SpelledLeaf, Outline, is_none, no_blocks, leaf_then, quote_then, list_then, tree, items_tree, gap_before, block_lines, lines_of_items, first_inside, fits_tight, can_be_loose, begins_with_list, chain, chain_items, outline_step, in_front_of}
+use Rattle.cm_source.specs.steps.Sequences.{SpelledLeaf, Sequence, is_none, no_blocks, leaf_then, quote_then, list_then, tree, items_tree, gap_before, block_lines, lines_of_items, first_inside, fits_tight, can_be_loose, begins_with_list, chain, chain_items, sequence_step, in_front_of}
 use Rattle.cm_source.proofs.lemmas.shared.AcceptedLemmas.{none-holds, or-none}
 use Rattle.cm_source.proofs.lemmas.shared.BlockInduction.{AllHold, ItemsHold, InsideHold, all-by-layers}
-use Rattle.cm_source.proofs.lemmas.blocks.OutlineFits.{LeafFits, FitAll, ItemsFit}
-use Rattle.cm_source.proofs.lemmas.blocks.OutlineFaces.{leaf_face, faces_of, clashes, some-face, has-two, list-first, no-clash, leaf-apart, tight-item}
+use Rattle.cm_source.proofs.lemmas.blocks.SequenceFits.{LeafFits, FitAll, ItemsFit}
+use Rattle.cm_source.proofs.lemmas.blocks.SequenceFaces.{leaf_face, faces_of, clashes, some-face, has-two, list-first, no-clash, leaf-apart, tight-item}
 use Rattle.cm_source.proofs.lemmas.blocks.MarkersBack.{kind-fits}
 use Rattle.cm_source.proofs.lemmas.blocks.LeavesBack.{break-fits, heading-fits, paragraph-fits}
 use Rattle.cm_source.proofs.lemmas.blocks.FencesBack.{code-fits}
@@ -42,43 +42,43 @@ behind apart others = flat_map (λ lines. gap apart ++ lines) others
 joined-more : (apart : Bool) (l m : List (List ℕ)) (ms : List (List (List ℕ))) → (l ++ gap apart) ++ joined apart (m ∷ ms) ≡ joined apart (l ∷ m ∷ ms)
 joined-more apart l m ms = append_assoc l (gap apart) (m ++ behind apart ms) ∙ ap (λ t. l ++ t) (sym (append_assoc (gap apart) m (behind apart ms)))
 
-gap-some : (a e : Bool) (o : Outline) → is_none o ≡ false → gap_before a e o ≡ a
+gap-some : (a e : Bool) (o : Sequence) → is_none o ≡ false → gap_before a e o ≡ a
 gap-some a e no_blocks h = absurd (false≢true (sym h))
 gap-some a e (leaf_then x rest) h = refl
 gap-some a e (quote_then inside rest) h = refl
 gap-some a e (list_then kind tight items rest) h = refl
 
 module _ (rules : Rules) where
-  -- One block: the function that puts it in front of an outline, how it is judged, its tree with sources, and its lines.
+  -- One block: the function that puts it in front of a sequence, how it is judged, its tree with sources, and its lines.
 
-  record Stands (f : Outline → Outline) (s : Block) (l : List (List ℕ)) (rest : Outline) : Type 0 where
+  record Stands (f : Sequence → Sequence) (s : Block) (l : List (List ℕ)) (rest : Sequence) : Type 0 where
     pub fits : FitAll rules (f rest)
     pub blocks : tree (f rest) ≡ s ∷ tree rest
     pub lines : (a e : Bool) → block_lines a e (f rest) ≡ l ++ gap (gap_before a e rest) ++ block_lines a e rest
 
-  record Spelled (f : Outline → Outline) (j : JudgedBlock) (s : Block) (l : List (List ℕ)) : Type 0 where
-    pub faces : (rest : Outline) → faces_of (f rest) ≡ j.face ∷ faces_of rest
+  record Spelled (f : Sequence → Sequence) (j : JudgedBlock) (s : Block) (l : List (List ℕ)) : Type 0 where
+    pub faces : (rest : Sequence) → faces_of (f rest) ≡ j.face ∷ faces_of rest
     pub apart : (before : Option BlockFace) (others : List BlockFace) → j.refusal before ≡ None → clashes before (j.face ∷ others) ≡ false
-    pub stands : (before : Option BlockFace) (rest : Outline) → j.refusal before ≡ None → FitAll rules rest → clashes (Some j.face) (faces_of rest) ≡ false → Stands f s l rest
+    pub stands : (before : Option BlockFace) (rest : Sequence) → j.refusal before ≡ None → FitAll rules rest → clashes (Some j.face) (faces_of rest) ≡ false → Stands f s l rest
 
   -- Blocks, one after another
 
-  data AllSpelled : List (Outline → Outline) → List JudgedBlock → List Block → List (List (List ℕ)) → Type 0 where
+  data AllSpelled : List (Sequence → Sequence) → List JudgedBlock → List Block → List (List (List ℕ)) → Type 0 where
     none_spelled : AllSpelled [] [] [] []
-    one_spelled : {f : Outline → Outline} {j : JudgedBlock} {s : Block} {l : List (List ℕ)} {fs : List (Outline → Outline)} {js : List JudgedBlock} {ss : List Block} {ls : List (List (List ℕ))}
+    one_spelled : {f : Sequence → Sequence} {j : JudgedBlock} {s : Block} {l : List (List ℕ)} {fs : List (Sequence → Sequence)} {js : List JudgedBlock} {ss : List Block} {ls : List (List (List ℕ))}
         → Spelled f j s l → AllSpelled fs js ss ls → AllSpelled (f ∷ fs) (j ∷ js) (s ∷ ss) (l ∷ ls)
 
-  chain-faces : {fs : List (Outline → Outline)} {js : List JudgedBlock} {ss : List Block} {ls : List (List (List ℕ))} → AllSpelled fs js ss ls → faces_of (chain fs) ≡ faces js
+  chain-faces : {fs : List (Sequence → Sequence)} {js : List JudgedBlock} {ss : List Block} {ls : List (List (List ℕ))} → AllSpelled fs js ss ls → faces_of (chain fs) ≡ faces js
   chain-faces none_spelled = refl
   chain-faces (one_spelled {j = j} {fs = fs} one more) = one.faces (chain fs) ∙ ap (λ others. j.face ∷ others) (chain-faces more)
 
-  pub record AllStand (before : Option BlockFace) (fs : List (Outline → Outline)) (ss : List Block) (ls : List (List (List ℕ))) : Type 0 where
+  pub record AllStand (before : Option BlockFace) (fs : List (Sequence → Sequence)) (ss : List Block) (ls : List (List (List ℕ))) : Type 0 where
     pub fits : FitAll rules (chain fs)
     pub apart : clashes before (faces_of (chain fs)) ≡ false
     pub blocks : tree (chain fs) ≡ ss
     pub lines : (a : Bool) → block_lines a false (chain fs) ≡ joined a ls
 
-  lines-more : (a : Bool) {f : Outline → Outline} {s : Block} {l : List (List ℕ)} {fs : List (Outline → Outline)} {js : List JudgedBlock} {ss : List Block} {ls : List (List (List ℕ))} → Stands f s l (chain fs) → AllSpelled fs js ss ls
+  lines-more : (a : Bool) {f : Sequence → Sequence} {s : Block} {l : List (List ℕ)} {fs : List (Sequence → Sequence)} {js : List JudgedBlock} {ss : List Block} {ls : List (List (List ℕ))} → Stands f s l (chain fs) → AllSpelled fs js ss ls
       → block_lines a false (chain fs) ≡ joined a ls → block_lines a false (f (chain fs)) ≡ joined a (l ∷ ls)
   unfolding block_lines
   lines-more a {l = l} one none_spelled more = one.lines a false ∙ ap (λ t. t ++ []) (append-nil l)
@@ -88,7 +88,7 @@ module _ (rules : Rules) where
       ∙ ap (λ t. (l ++ gap a) ++ t) more
       ∙ joined-more a l m ls
 
-  all-stand : {fs : List (Outline → Outline)} {js : List JudgedBlock} {ss : List Block} {ls : List (List (List ℕ))} (before : Option BlockFace) → AllSpelled fs js ss ls → refusal_of_all before js ≡ None → AllStand before fs ss ls
+  all-stand : {fs : List (Sequence → Sequence)} {js : List JudgedBlock} {ss : List Block} {ls : List (List (List ℕ))} (before : Option BlockFace) → AllSpelled fs js ss ls → refusal_of_all before js ≡ None → AllStand before fs ss ls
   unfolding FitAll tree block_lines
   all-stand before none_spelled h = record { fits = tt; apart = refl; blocks = refl; lines = λ a. refl }
   all-stand before (one_spelled {f = f} {j = j} {s = s} {fs = fs} {js = js} one more) h =
@@ -104,19 +104,19 @@ module _ (rules : Rules) where
 
   -- Items
 
-  data ItemsSpelled : List (List (Outline → Outline)) → List (List JudgedBlock) → List (List Block) → List (List (List (List ℕ))) → Type 0 where
+  data ItemsSpelled : List (List (Sequence → Sequence)) → List (List JudgedBlock) → List (List Block) → List (List (List (List ℕ))) → Type 0 where
     no_items : ItemsSpelled [] [] [] []
-    one_item : {fs : List (Outline → Outline)} {js : List JudgedBlock} {ss : List Block} {ls : List (List (List ℕ))}
-        {fss : List (List (Outline → Outline))} {jss : List (List JudgedBlock)} {sss : List (List Block)} {lss : List (List (List (List ℕ)))}
+    one_item : {fs : List (Sequence → Sequence)} {js : List JudgedBlock} {ss : List Block} {ls : List (List (List ℕ))}
+        {fss : List (List (Sequence → Sequence))} {jss : List (List JudgedBlock)} {sss : List (List Block)} {lss : List (List (List (List ℕ)))}
         → AllSpelled fs js ss ls → ItemsSpelled fss jss sss lss → ItemsSpelled (fs ∷ fss) (js ∷ jss) (ss ∷ sss) (ls ∷ lss)
 
-  record ItemsStand (kind : ListKind) (tight : Bool) (fss : List (List (Outline → Outline))) (sss : List (List Block)) (lss : List (List (List (List ℕ)))) : Type 0 where
+  record ItemsStand (kind : ListKind) (tight : Bool) (fss : List (List (Sequence → Sequence))) (sss : List (List Block)) (lss : List (List (List (List ℕ)))) : Type 0 where
     pub fits : ItemsFit rules tight (chain_items fss)
     pub blocks : items_tree (chain_items fss) ≡ sss
     pub lines : lines_of_items kind tight (chain_items fss) ≡ list_lines kind tight lss
 
   -- what is asked of one item, and of each further one
-  tight-inside : (tight : Bool) {fs : List (Outline → Outline)} {js : List JudgedBlock} {ss : List Block} {ls : List (List (List ℕ))} → AllSpelled fs js ss ls
+  tight-inside : (tight : Bool) {fs : List (Sequence → Sequence)} {js : List JudgedBlock} {ss : List Block} {ls : List (List (List ℕ))} → AllSpelled fs js ss ls
       → (not tight || is_tight_item (faces js)) ≡ true → (not tight || fits_tight (chain fs)) ≡ true
   tight-inside true {fs = fs} all h = tight-item (chain fs) (ap is_tight_item (chain-faces all) ∙ h)
   tight-inside false all h = refl
@@ -125,11 +125,11 @@ module _ (rules : Rules) where
   parts-tight true v w h = and_parts v w h
   parts-tight false v w h = (refl, refl)
 
-  no-list-first : {fs : List (Outline → Outline)} {js : List JudgedBlock} {ss : List Block} {ls : List (List (List ℕ))} → AllSpelled fs js ss ls → is_list (faces js) ≡ false → begins_with_list (chain fs) ≡ false
+  no-list-first : {fs : List (Sequence → Sequence)} {js : List JudgedBlock} {ss : List Block} {ls : List (List (List ℕ))} → AllSpelled fs js ss ls → is_list (faces js) ≡ false → begins_with_list (chain fs) ≡ false
   no-list-first {fs = fs} all h = sym (list-first (chain fs)) ∙ ap is_list (chain-faces all) ∙ h
 
-  items-stand : (kind : ListKind) (tight : Bool) {fs : List (Outline → Outline)} {js : List JudgedBlock} {ss : List Block} {ls : List (List (List ℕ))}
-      {fss : List (List (Outline → Outline))} {jss : List (List JudgedBlock)} {sss : List (List Block)} {lss : List (List (List (List ℕ)))} → AllSpelled fs js ss ls → ItemsSpelled fss jss sss lss
+  items-stand : (kind : ListKind) (tight : Bool) {fs : List (Sequence → Sequence)} {js : List JudgedBlock} {ss : List Block} {ls : List (List (List ℕ))}
+      {fss : List (List (Sequence → Sequence))} {jss : List (List JudgedBlock)} {sss : List (List Block)} {lss : List (List (List (List ℕ)))} → AllSpelled fs js ss ls → ItemsSpelled fss jss sss lss
       → refusal_of_items (js ∷ jss) ≡ None → list_any is_list (map faces (js ∷ jss)) ≡ false → (not tight || list_all is_tight_item (map faces (js ∷ jss))) ≡ true
       → ItemsStand kind tight (fs ∷ fss) (ss ∷ sss) (ls ∷ lss)
   unfolding ItemsFit items_tree lines_of_items
@@ -157,8 +157,8 @@ module _ (rules : Rules) where
             ∙ joined-more (not tight) (own ls) (own ms) (map own lss);
       }
 
-  loose-inside : (tight : Bool) {fs : List (Outline → Outline)} {js : List JudgedBlock} {ss : List Block} {ls : List (List (List ℕ))}
-      {fss : List (List (Outline → Outline))} {jss : List (List JudgedBlock)} {sss : List (List Block)} {lss : List (List (List (List ℕ)))} → AllSpelled fs js ss ls → ItemsSpelled fss jss sss lss
+  loose-inside : (tight : Bool) {fs : List (Sequence → Sequence)} {js : List JudgedBlock} {ss : List Block} {ls : List (List (List ℕ))}
+      {fss : List (List (Sequence → Sequence))} {jss : List (List JudgedBlock)} {sss : List (List Block)} {lss : List (List (List (List ℕ)))} → AllSpelled fs js ss ls → ItemsSpelled fss jss sss lss
       → is_as_said tight (map faces (js ∷ jss)) ≡ true → (tight || can_be_loose (chain_items (fs ∷ fss))) ≡ true
   loose-inside true one more said = refl
   loose-inside false {fs = fs} {js = js} one no_items said = sym (has-two (chain fs)) ∙ ap has_two (chain-faces one) ∙ or-no (has_two (faces js)) said
@@ -172,8 +172,8 @@ module _ (rules : Rules) where
   tight-as-said true items said = said
   tight-as-said false items said = refl
 
-  filled-first : {fs : List (Outline → Outline)} {js : List JudgedBlock} {ss : List Block} {ls : List (List (List ℕ))}
-      {fss : List (List (Outline → Outline))} {jss : List (List JudgedBlock)} {sss : List (List Block)} {lss : List (List (List (List ℕ)))} → AllSpelled fs js ss ls → ItemsSpelled fss jss sss lss
+  filled-first : {fs : List (Sequence → Sequence)} {js : List JudgedBlock} {ss : List Block} {ls : List (List (List ℕ))}
+      {fss : List (List (Sequence → Sequence))} {jss : List (List JudgedBlock)} {sss : List (List Block)} {lss : List (List (List (List ℕ)))} → AllSpelled fs js ss ls → ItemsSpelled fss jss sss lss
       → not (is_none (first_inside (chain_items (fs ∷ fss)))) ≡ is_filled (js ∷ jss)
   filled-first none_spelled no_items = refl
   filled-first none_spelled (one_item next more) = refl
@@ -193,7 +193,7 @@ module _ (rules : Rules) where
     stands = λ before rest h rest_fits clash. record { fits = ((fits h).0, rest_fits); blocks = ap (λ b. b ∷ tree rest) (fits h).1; lines = λ a e. refl };
   }
 
-  quote-spelled : {fs : List (Outline → Outline)} {js : List JudgedBlock} {ss : List Block} {ls : List (List (List ℕ))} → AllSpelled fs js ss ls
+  quote-spelled : {fs : List (Sequence → Sequence)} {js : List JudgedBlock} {ss : List Block} {ls : List (List (List ℕ))} → AllSpelled fs js ss ls
       → Spelled (quote_then (chain fs)) (refusals.leaf_block refusals.QuoteFace (refusal_of_all None js)) (Quote ss) (quote_lines (joined true ls))
   unfolding FitAll tree block_lines
   quote-spelled all = record {
@@ -237,7 +237,7 @@ module _ (rules : Rules) where
         inside = inside;
       }
 
-  list-spelled : (kind : ListKind) (tight : Bool) {fss : List (List (Outline → Outline))} {jss : List (List JudgedBlock)} {sss : List (List Block)} {lss : List (List (List (List ℕ)))} → ItemsSpelled fss jss sss lss
+  list-spelled : (kind : ListKind) (tight : Bool) {fss : List (List (Sequence → Sequence))} {jss : List (List JudgedBlock)} {sss : List (List Block)} {lss : List (List (List (List ℕ)))} → ItemsSpelled fss jss sss lss
       → Spelled (list_then kind tight (chain_items fss)) (list_judged kind tight jss) (ListBlock kind tight sss) (list_lines kind tight lss)
   unfolding FitAll tree block_lines
   list-spelled kind tight no_items = record {
@@ -275,7 +275,7 @@ module _ (rules : Rules) where
   items-spelled (item ∷ items) hold = one_item (all-spelled item hold.0) (items-spelled items hold.1)
 
   abbrev LayerSpelled : Block-F Block → Type 0
-  LayerSpelled x = Spelled (outline_step (map-Block Block (Outline → Outline) in_front_of x)) (refusals.block_step rules (map-Block Block JudgedBlock (judged_block rules) x))
+  LayerSpelled x = Spelled (sequence_step (map-Block Block (Sequence → Sequence) in_front_of x)) (refusals.block_step rules (map-Block Block JudgedBlock (judged_block rules) x))
       (source_step (map-Block Block Block sourced x)) (spelling.block_step (map-Block Block (List (List ℕ)) lines_of_block x))
 
   module _ (gives : ContentsGiveSources rules) where
@@ -312,10 +312,10 @@ module _ (rules : Rules) where
 
     rolled : (x : Block-F Block) → LayerSpelled x → BlockSpelled (roll-Block x)
     rolled x of_layer =
-        subst (λ f. Spelled f (judged_block rules (roll-Block x)) (sourced (roll-Block x)) (lines_of_block (roll-Block x))) (sym (fold-roll-Block (Outline → Outline) outline_step x))
-        (subst (λ j. Spelled (outline_step (map-Block Block (Outline → Outline) in_front_of x)) j (sourced (roll-Block x)) (lines_of_block (roll-Block x))) (sym (fold-roll-Block JudgedBlock (refusals.block_step rules) x))
-        (subst (λ s. Spelled (outline_step (map-Block Block (Outline → Outline) in_front_of x)) (refusals.block_step rules (map-Block Block JudgedBlock (judged_block rules) x)) s (lines_of_block (roll-Block x))) (sym (fold-roll-Block Block source_step x))
-        (subst (λ l. Spelled (outline_step (map-Block Block (Outline → Outline) in_front_of x)) (refusals.block_step rules (map-Block Block JudgedBlock (judged_block rules) x)) (source_step (map-Block Block Block sourced x)) l)
+        subst (λ f. Spelled f (judged_block rules (roll-Block x)) (sourced (roll-Block x)) (lines_of_block (roll-Block x))) (sym (fold-roll-Block (Sequence → Sequence) sequence_step x))
+        (subst (λ j. Spelled (sequence_step (map-Block Block (Sequence → Sequence) in_front_of x)) j (sourced (roll-Block x)) (lines_of_block (roll-Block x))) (sym (fold-roll-Block JudgedBlock (refusals.block_step rules) x))
+        (subst (λ s. Spelled (sequence_step (map-Block Block (Sequence → Sequence) in_front_of x)) (refusals.block_step rules (map-Block Block JudgedBlock (judged_block rules) x)) s (lines_of_block (roll-Block x))) (sym (fold-roll-Block Block source_step x))
+        (subst (λ l. Spelled (sequence_step (map-Block Block (Sequence → Sequence) in_front_of x)) (refusals.block_step rules (map-Block Block JudgedBlock (judged_block rules) x)) (source_step (map-Block Block Block sourced x)) l)
         (sym (fold-roll-Block (List (List ℕ)) spelling.block_step x)) of_layer)))
 
     -- a tree that can be spelled

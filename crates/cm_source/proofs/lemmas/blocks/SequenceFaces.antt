@@ -1,4 +1,4 @@
--- What the blocks of an outline are to those round them, as it is judged.
+-- What the blocks of a sequence are to those round them, as it is judged.
 use Rattle.std.proofs.Common.{◌≡◌, ◌==◌, ◌&&◌, ◌||◌, not, Bool, true, false, List, [], ◌∷◌, refl, sym, ◌∙◌, Option, Some}
 use Rattle.std.proofs.lemmas.Bool.{false≢true, and_parts, and_from}
 use Rattle.cm_tree.specs.declared.tree.ListKind.{ListKind}
@@ -7,14 +7,14 @@ use Rattle.cm_scan.specs.blocks.LineForms.{is_same_kind}
 use Rattle.cm_scan.specs.blocks.Starts.{starts_at_one}
 use Rattle.cm_scan.specs.blocks.Parts.{LeafPart, paragraph, heading, code, html, thematic_break, definition}
 use Rattle.cm_source.specs.Refusals.{BlockFace, ParagraphFace, CodeBlockFace, QuoteFace, ListFace, OtherBlockFace, is_list, begins_late, can_follow, is_tight_item, has_two, is_behind_same}
-use Rattle.cm_source.specs.steps.Outlines.{Outline, is_none, no_blocks, leaf_then, quote_then, list_then, is_paragraph, is_code, first_inside, interrupts_alone, fits_tight, has_two_blocks, begins_with_list, begins_with_kind}
+use Rattle.cm_source.specs.steps.Sequences.{Sequence, is_none, no_blocks, leaf_then, quote_then, list_then, is_paragraph, is_code, first_inside, interrupts_alone, fits_tight, has_two_blocks, begins_with_list, begins_with_kind}
 
 abbrev pub leaf_face : LeafPart → BlockFace
 leaf_face (paragraph source) = ParagraphFace
 leaf_face (code info text) = CodeBlockFace
 leaf_face _ = OtherBlockFace
 
-abbrev pub faces_of : Outline → List BlockFace
+abbrev pub faces_of : Sequence → List BlockFace
 faces_of no_blocks = []
 faces_of (leaf_then x rest) = leaf_face x.part ∷ faces_of rest
 faces_of (quote_then inside rest) = QuoteFace ∷ faces_of rest
@@ -25,13 +25,13 @@ abbrev pub clashes : (before : Option BlockFace) → List BlockFace → Bool
 clashes before (ListFace kind filled ∷ others) = is_behind_same kind before
 clashes before _ = false
 
-pub no-faces : (o : Outline) → faces_of o ≡ [] → is_none o ≡ true
+pub no-faces : (o : Sequence) → faces_of o ≡ [] → is_none o ≡ true
 no-faces no_blocks h = refl
 no-faces (leaf_then x rest) h = absurd (cc h)
 no-faces (quote_then inside rest) h = absurd (cc h)
 no-faces (list_then kind tight items rest) h = absurd (cc h)
 
-pub some-face : (o : Outline) (face : BlockFace) (others : List BlockFace) → faces_of o ≡ face ∷ others → is_none o ≡ false
+pub some-face : (o : Sequence) (face : BlockFace) (others : List BlockFace) → faces_of o ≡ face ∷ others → is_none o ≡ false
 some-face no_blocks face others h = absurd (cc h)
 some-face (leaf_then x rest) face others h = refl
 some-face (quote_then inside rest) face others h = refl
@@ -39,11 +39,11 @@ some-face (list_then kind tight items rest) face others h = refl
 
 -- a second block, and a list in front
 
-pub has-two : (o : Outline) → has_two (faces_of o) ≡ has_two_blocks o
+pub has-two : (o : Sequence) → has_two (faces_of o) ≡ has_two_blocks o
 has-two no_blocks = refl
 has-two (leaf_then x rest) = behind (leaf_face x.part) rest
   where
-    behind : (face : BlockFace) (rest : Outline) → has_two (face ∷ faces_of rest) ≡ not (is_none rest)
+    behind : (face : BlockFace) (rest : Sequence) → has_two (face ∷ faces_of rest) ≡ not (is_none rest)
     behind face no_blocks = refl
     behind face (leaf_then x rest) = refl
     behind face (quote_then inside rest) = refl
@@ -57,7 +57,7 @@ has-two (list_then kind tight items (leaf_then x rest)) = refl
 has-two (list_then kind tight items (quote_then inside rest)) = refl
 has-two (list_then kind tight items (list_then other loose others rest)) = refl
 
-pub list-first : (o : Outline) → is_list (faces_of o) ≡ begins_with_list o
+pub list-first : (o : Sequence) → is_list (faces_of o) ≡ begins_with_list o
 list-first no_blocks = refl
 list-first (leaf_then x rest) = leaf-first x.part (faces_of rest)
   where
@@ -100,7 +100,7 @@ same-kind (Paren m) Star = refl
 same-kind (Paren m) (Dot n) = refl
 same-kind (Paren m) (Paren n) = refl
 
-pub no-clash : (kind : ListKind) (filled : Bool) (o : Outline) → clashes (Some (ListFace kind filled)) (faces_of o) ≡ false → begins_with_kind kind o ≡ false
+pub no-clash : (kind : ListKind) (filled : Bool) (o : Sequence) → clashes (Some (ListFace kind filled)) (faces_of o) ≡ false → begins_with_kind kind o ≡ false
 no-clash kind filled no_blocks h = refl
 no-clash kind filled (leaf_then x rest) h = refl
 no-clash kind filled (quote_then inside rest) h = refl
@@ -149,7 +149,7 @@ starts-early Star = refl
 starts-early (Dot n) = not-not (n == 1)
 starts-early (Paren n) = not-not (n == 1)
 
-follows-leaf : (x : LeafPart) (o : Outline) → is_tight_item (leaf_face x ∷ faces_of o) ≡ true → (is_none o || is_paragraph x && interrupts_alone o) ≡ true
+follows-leaf : (x : LeafPart) (o : Sequence) → is_tight_item (leaf_face x ∷ faces_of o) ≡ true → (is_none o || is_paragraph x && interrupts_alone o) ≡ true
 follows-leaf x no_blocks h = refl
 follows-leaf x (leaf_then y rest) h =
     let two = are-two x (leaf_face y.part) (faces_of rest) h in
@@ -164,7 +164,7 @@ follows-leaf x (list_then kind tight items rest) h =
     and_from (is_paragraph x) (is_none rest && starts_at_one kind && filled) two.first
     (and_from (is_none rest && starts_at_one kind) filled (and_from (is_none rest) (starts_at_one kind) (no-faces rest two.last) (sym (starts-early kind) ∙ early)) some)
 
-pub tight-item : (o : Outline) → is_tight_item (faces_of o) ≡ true → fits_tight o ≡ true
+pub tight-item : (o : Sequence) → is_tight_item (faces_of o) ≡ true → fits_tight o ≡ true
 tight-item no_blocks h = refl
 tight-item (leaf_then x rest) h = follows-leaf x.part rest h
 tight-item (quote_then inside no_blocks) h = refl

@@ -1,4 +1,4 @@
--- What the leaves and lists of an outline need, so that its lines read back.
+-- What the leaves and lists of a sequence need, so that its lines read back.
 use Rattle.std.proofs.Common.{◌≡◌, ℕ, suc, ◌+◌, Bool, true, false, List, ◌∷◌, ◌++◌, length, None}
 use Rattle.std.specs.Prelude.{⊤, not, ◌||◌}
 use Rattle.std.specs.List.{list_all}
@@ -12,8 +12,8 @@ use Rattle.cm_scan.specs.blocks.Blocks.{line_count, parts_of}
 use Rattle.cm_scan.specs.laws.BlockLaws.{is_unindented}
 use Rattle.cm_source.specs.Spelling.{ended_lines, marker}
 use Rattle.cm_source.specs.steps.Sources.{is_only, is_one_line}
-use Rattle.cm_source.specs.steps.Outlines.{SpelledLeaf, Outline, no_blocks, leaf_then, quote_then, list_then, OutlineItems, last_one, one_and, is_code, fits_tight, can_be_loose, begins_with_list, begins_with_kind}
-use Rattle.cm_source.proofs.lemmas.blocks.OutlineLines.{at, Have}
+use Rattle.cm_source.specs.steps.Sequences.{SpelledLeaf, Sequence, no_blocks, leaf_then, quote_then, list_then, SequenceItems, last_one, one_and, is_code, fits_tight, can_be_loose, begins_with_list, begins_with_kind}
+use Rattle.cm_source.proofs.lemmas.blocks.SequenceLines.{at, Have}
 use Rattle.cm_source.proofs.lemmas.blocks.ContinuationsBack.{Apart, MarkerReads}
 
 -- the first of a block's lines
@@ -68,13 +68,13 @@ pub record KindFits (rules : Rules) (kind : ListKind) : Type 0 where
 -- the blocks read back
 module _ (rules : Rules) where
   unfoldable mutual
-    pub FitAll : Outline → Type 0
+    pub FitAll : Sequence → Type 0
     FitAll no_blocks = ⊤
     FitAll (leaf_then x rest) = LeafFits rules x × FitAll rest
     FitAll (quote_then inside rest) = FitAll inside × FitAll rest
     FitAll (list_then kind tight items rest) =
         KindFits rules kind × ItemsFit tight items × ((tight || can_be_loose items) ≡ true) × (begins_with_kind kind rest ≡ false) × FitAll rest
 
-    pub ItemsFit : (tight : Bool) → OutlineItems → Type 0
+    pub ItemsFit : (tight : Bool) → SequenceItems → Type 0
     ItemsFit tight (last_one inside) = (begins_with_list inside ≡ false) × ((not tight || fits_tight inside) ≡ true) × FitAll inside
     ItemsFit tight (one_and inside items) = (begins_with_list inside ≡ false) × ((not tight || fits_tight inside) ≡ true) × FitAll inside × ItemsFit tight items

@@ -1,4 +1,4 @@
--- The lines of an outline are read as its parts, and so as its blocks.
+-- The lines of a sequence are read as its parts, and so as its blocks.
 use Rattle.std.proofs.Common.{◌≡◌, ℕ, suc, ◌+◌, Bool, true, false, List, [], ◌∷◌, ◌++◌, length, map, refl, sym, ◌∙◌, ap, subst, None, append_assoc, append-nil}
 use Rattle.std.proofs.lemmas.Bool.{false≢true, and_parts, or_left, not-true}
 use Rattle.std.proofs.Math.Bool.{and-false}
@@ -17,14 +17,14 @@ use Rattle.cm_scan.specs.laws.BlockLaws.{is_unindented}
 use Rattle.cm_scan.proofs.lemmas.blocks.PartsByCases.{blank_case, no_lines as no_lines_case}
 use Rattle.cm_scan.proofs.lemmas.blocks.SingleBlocks.{kind_of_itself, item_before_its_list, item_by_itself}
 use Rattle.cm_source.specs.Spelling.{spaced, quoted, quote_lines, indented, item_lines, marker, gap}
-use Rattle.cm_source.specs.steps.Outlines.{SpelledLeaf, Outline, is_none, no_blocks, leaf_then, quote_then, list_then, OutlineItems, last_one, one_and, tree, gap_before, block_lines, lines_of_items, is_paragraph, is_code, first_inside, interrupts_alone, fits_tight, begins_with_list}
-use Rattle.cm_source.proofs.lemmas.blocks.OutlineLines.{at, Have, no_lines, a_line, have-split, have-first}
+use Rattle.cm_source.specs.steps.Sequences.{SpelledLeaf, Sequence, is_none, no_blocks, leaf_then, quote_then, list_then, SequenceItems, last_one, one_and, tree, gap_before, block_lines, lines_of_items, is_paragraph, is_code, first_inside, interrupts_alone, fits_tight, begins_with_list}
+use Rattle.cm_source.proofs.lemmas.blocks.SequenceLines.{at, Have, no_lines, a_line, have-split, have-first}
 use Rattle.cm_source.proofs.lemmas.blocks.ContinuationsBack.{Apart, at_end, before_empty, quote-start, quote-back, MarkerReads, bare-front, spaced-bare, marker-interrupts, marker-leaves, bare-leaves, item-back, bare-item-back}
-use Rattle.cm_source.proofs.lemmas.blocks.OutlineFits.{First, Inner, Marked, Interrupts, Follows, apart_from, interrupted, leaf_size, FitAll, ItemsFit}
-use Rattle.cm_source.proofs.lemmas.blocks.OutlineParts.{blank_if, or_blank, last_is_bare, one_if, concrete, concrete_items, closed, same-tree, next-none}
+use Rattle.cm_source.proofs.lemmas.blocks.SequenceFits.{First, Inner, Marked, Interrupts, Follows, apart_from, interrupted, leaf_size, FitAll, ItemsFit}
+use Rattle.cm_source.proofs.lemmas.blocks.SequenceParts.{blank_if, or_blank, last_is_bare, one_if, concrete, concrete_items, closed, same-tree, next-none}
 
 -- an empty line behind the blocks
-tail-end : (front : List (List ℕ)) (a : Bool) (rest : Outline) → (is_none rest ≡ false → block_lines a true rest ≡ block_lines a false rest ++ [] ∷ [])
+tail-end : (front : List (List ℕ)) (a : Bool) (rest : Sequence) → (is_none rest ≡ false → block_lines a true rest ≡ block_lines a false rest ++ [] ∷ [])
     → front ++ gap (gap_before a true rest) ++ block_lines a true rest ≡ (front ++ gap (gap_before a false rest) ++ block_lines a false rest) ++ [] ∷ []
 unfolding block_lines
 tail-end front a no_blocks ih = append-nil (front ++ [] ∷ []) ∙ ap (λ l. l ++ [] ∷ []) (sym (append-nil front)) ∙ ap (λ l. l ++ [] ∷ []) (sym (append-nil (front ++ [])))
@@ -32,7 +32,7 @@ tail-end front a (leaf_then x rest) ih = ap (λ l. front ++ gap a ++ l) (ih refl
 tail-end front a (quote_then inside rest) ih = ap (λ l. front ++ gap a ++ l) (ih refl) ∙ sym (append_assoc (front ++ gap a) (block_lines a false (quote_then inside rest)) ([] ∷ []))
 tail-end front a (list_then k t is rest) ih = ap (λ l. front ++ gap a ++ l) (ih refl) ∙ sym (append_assoc (front ++ gap a) (block_lines a false (list_then k t is rest)) ([] ∷ []))
 
-lines-end : (a : Bool) (o : Outline) → is_none o ≡ false → block_lines a true o ≡ block_lines a false o ++ [] ∷ []
+lines-end : (a : Bool) (o : Sequence) → is_none o ≡ false → block_lines a true o ≡ block_lines a false o ++ [] ∷ []
 unfolding block_lines
 lines-end a no_blocks h = absurd (false≢true (sym h))
 lines-end a (leaf_then x rest) h = tail-end x.lines a rest (λ n. lines-end a rest n)
@@ -43,7 +43,7 @@ item-lines-end : (mark : List ℕ) (ts : List (List ℕ)) → First ts → item_
 item-lines-end mark [] f = let no_lines = f.lines in absurd (cc no_lines)
 item-lines-end mark (t ∷ ts) f = ap (λ l. (mark ++ spaced t) ∷ l) (map-append (indented (length mark + 1)) ts ([] ∷ []))
 
-lines-of-one : (mark : List ℕ) (a e : Bool) (o : Outline) → is_none o ≡ false → First (block_lines a false o) → item_lines mark (block_lines a false o) ++ gap e ≡ item_lines mark (block_lines a e o)
+lines-of-one : (mark : List ℕ) (a e : Bool) (o : Sequence) → is_none o ≡ false → First (block_lines a false o) → item_lines mark (block_lines a false o) ++ gap e ≡ item_lines mark (block_lines a e o)
 lines-of-one mark a true o h f = sym (item-lines-end mark (block_lines a false o) f) ∙ ap (item_lines mark) (sym (lines-end a o h))
 lines-of-one mark a false o h f = append-nil (item_lines mark (block_lines a false o))
 
@@ -60,30 +60,30 @@ quote-inner : (ts : List (List ℕ)) → Inner (quote_lines ts)
 quote-inner [] = record { first = record { line = quoted []; further = []; lines = refl; bare = refl }; no_dashes = refl; no_stars = refl }
 quote-inner (t ∷ ts) = record { first = record { line = quoted t; further = map quoted ts; lines = refl; bare = refl }; no_dashes = refl; no_stars = refl }
 
-none-tight : (o : Outline) → is_none o ≡ true → fits_tight o ≡ true
+none-tight : (o : Sequence) → is_none o ≡ true → fits_tight o ≡ true
 none-tight no_blocks h = refl
 none-tight (leaf_then x rest) h = absurd (false≢true h)
 none-tight (quote_then inside rest) h = absurd (false≢true h)
 none-tight (list_then k t is rest) h = absurd (false≢true h)
 
-alone-tight : (o : Outline) → interrupts_alone o ≡ true → fits_tight o ≡ true
+alone-tight : (o : Sequence) → interrupts_alone o ≡ true → fits_tight o ≡ true
 alone-tight no_blocks h = refl
 alone-tight (leaf_then x rest) h = or_left (is_none rest) (is_paragraph x.part && interrupts_alone rest) (and_parts (is_none rest) (is_code x.part) h).0
 alone-tight (quote_then inside rest) h = h
 alone-tight (list_then k t is rest) h = (and_parts (is_none rest) (starts_at_one k) (and_parts (is_none rest && starts_at_one k) (not (is_none (first_inside is))) h).0).0
 
-tight-behind : (a : Bool) (rest : Outline) → (a || is_none rest) ≡ true → (a || fits_tight rest) ≡ true
+tight-behind : (a : Bool) (rest : Sequence) → (a || is_none rest) ≡ true → (a || fits_tight rest) ≡ true
 tight-behind true rest h = refl
 tight-behind false rest h = none-tight rest h
 
-tight-behind-leaf : (a : Bool) (x : SpelledLeaf) (rest : Outline) → (a || (is_none rest || is_paragraph x.part && interrupts_alone rest)) ≡ true → (a || fits_tight rest) ≡ true
+tight-behind-leaf : (a : Bool) (x : SpelledLeaf) (rest : Sequence) → (a || (is_none rest || is_paragraph x.part && interrupts_alone rest)) ≡ true → (a || fits_tight rest) ≡ true
 tight-behind-leaf true x rest h = refl
 tight-behind-leaf false x no_blocks h = refl
 tight-behind-leaf false x (leaf_then y rest) h = alone-tight (leaf_then y rest) (and_parts (is_paragraph x.part) (interrupts_alone (leaf_then y rest)) h).1
 tight-behind-leaf false x (quote_then inside rest) h = alone-tight (quote_then inside rest) (and_parts (is_paragraph x.part) (interrupts_alone (quote_then inside rest)) h).1
 tight-behind-leaf false x (list_then k t is rest) h = alone-tight (list_then k t is rest) (and_parts (is_paragraph x.part) (interrupts_alone (list_then k t is rest)) h).1
 
-apart-behind : (a e : Bool) (rest : Outline) (tail : List LineView) → (a || is_none rest) ≡ true → Have tail (gap (gap_before a e rest) ++ block_lines a e rest) → Apart tail
+apart-behind : (a e : Bool) (rest : Sequence) (tail : List LineView) → (a || is_none rest) ≡ true → Have tail (gap (gap_before a e rest) ++ block_lines a e rest) → Apart tail
 unfolding block_lines
 apart-behind a true no_blocks tail h (a_line have) = before_empty
 apart-behind a false no_blocks tail h no_lines = at_end
@@ -123,14 +123,14 @@ module _ (rules : Rules) where
       bare-item-back rules kind r (at c (marker kind) ∷ []) (at d [] ∷ rest) (a_line no_lines) (λ d. refl)
       ∙ ap (put_item kind (blank none)) (blank_case rules (at d []) rest refl)
 
-  out-of-item : (n : ℕ) (a e : Bool) (o : Outline) (inner rest : List LineView) → is_none o ≡ false → parts_of rules inner ≡ concrete a e o → After rules e rest
+  out-of-item : (n : ℕ) (a e : Bool) (o : Sequence) (inner rest : List LineView) → is_none o ≡ false → parts_of rules inner ≡ concrete a e o → After rules e rest
       → FirstLeaves rules (continuation_in_item rules (suc n)) inner rest
   unfolding leaves_paragraph_open
   out-of-item n a e o inner rest h reads nothing_follows = tt
   out-of-item n a e o inner rest h reads (marker_follows {c = c} {t = t} {rest = ls} {m = m} b s) = marker-leaves rules n c t m inner ls b s
   out-of-item n a e o inner rest h reads (block_follows {c = c} {t = t} {rest = ls} b) = bare-leaves rules n c t inner ls b (ap leaves_paragraph_open reads ∙ closed a false o h)
 
-  whole-item : (kind : ListKind) (r : MarkerReads rules kind) (a e : Bool) (o : Outline) (own rest : List LineView) → is_none o ≡ false → Inner (block_lines a e o)
+  whole-item : (kind : ListKind) (r : MarkerReads rules kind) (a e : Bool) (o : Sequence) (own rest : List LineView) → is_none o ≡ false → Inner (block_lines a e o)
       → ((inner : List LineView) → Have inner (block_lines a e o) → parts_of rules inner ≡ concrete a e o)
       → Have own (item_lines (marker kind) (block_lines a e o)) → After rules e rest → parts_of rules (own ++ rest) ≡ put_item kind (concrete a e o) (parts_of rules rest)
   whole-item kind r a e o own rest h i content have after =
@@ -140,7 +140,7 @@ module _ (rules : Rules) where
       (subst (λ ts. Have own (item_lines (marker kind) ts)) f.lines have)
       (λ inner own. out-of-item (marker_width r.read) a e o inner rest h (content inner (subst (Have inner) (sym f.lines) own)) after)
 
-  one-item : (kind : ListKind) (r : MarkerReads rules kind) (a e : Bool) (o : Outline) (own rest : List LineView) → ((e : Bool) → is_none o ≡ false → Inner (block_lines a e o))
+  one-item : (kind : ListKind) (r : MarkerReads rules kind) (a e : Bool) (o : Sequence) (own rest : List LineView) → ((e : Bool) → is_none o ≡ false → Inner (block_lines a e o))
       → ((inner : List LineView) → Have inner (block_lines a e o) → parts_of rules inner ≡ concrete a e o)
       → Have own (item_lines (marker kind) (block_lines a false o) ++ gap e) → After rules e rest
       → parts_of rules (own ++ rest) ≡ put_item kind (or_blank o (concrete a e o)) (blank_if (e && is_none o) (parts_of rules rest))
@@ -193,7 +193,7 @@ module _ (rules : Rules) where
   empty-inside : (inner : List LineView) → Have inner ([] ∷ []) → parts_of rules inner ≡ blank none
   empty-inside inner (a_line {c = c} no_lines) = blank_case rules (at c []) [] refl ∙ ap blank (no_lines_case rules)
 
-  inner-of : (o : Outline) (a e : Bool) → is_none o ≡ false → begins_with_list o ≡ false → FitAll rules o → Inner (block_lines a e o)
+  inner-of : (o : Sequence) (a e : Bool) → is_none o ≡ false → begins_with_list o ≡ false → FitAll rules o → Inner (block_lines a e o)
   unfolding block_lines FitAll
   inner-of no_blocks a e h k fit = absurd (false≢true (sym h))
   inner-of (leaf_then x rest) a e h k fit = inner-append _ (inner-append _ fit.0.inner)
@@ -214,19 +214,19 @@ module _ (rules : Rules) where
         starts = r.starts i.first.line i.no_dashes i.no_stars;
       }
 
-  marked-item : (kind : ListKind) (r : MarkerReads rules kind) (a : Bool) (o : Outline) → begins_with_list o ≡ false → FitAll rules o → Marked rules (item_lines (marker kind) (block_lines a false o))
+  marked-item : (kind : ListKind) (r : MarkerReads rules kind) (a : Bool) (o : Sequence) → begins_with_list o ≡ false → FitAll rules o → Marked rules (item_lines (marker kind) (block_lines a false o))
   unfolding block_lines
   marked-item kind r a no_blocks h fit = record { first = record { line = marker kind; further = []; lines = refl; bare = r.bare }; read = r.read; starts = r.starts_alone }
   marked-item kind r a (leaf_then x rest) h fit = marked-by kind r _ (inner-of (leaf_then x rest) a false refl h fit)
   marked-item kind r a (quote_then inside rest) h fit = marked-by kind r _ (inner-of (quote_then inside rest) a false refl h fit)
   marked-item kind r a (list_then k t is rest) h fit = absurd (false≢true (sym h))
 
-  items-marked : (kind : ListKind) (r : MarkerReads rules kind) (tight : Bool) (items : OutlineItems) → ItemsFit rules tight items → Marked rules (lines_of_items kind tight items)
+  items-marked : (kind : ListKind) (r : MarkerReads rules kind) (tight : Bool) (items : SequenceItems) → ItemsFit rules tight items → Marked rules (lines_of_items kind tight items)
   unfolding lines_of_items ItemsFit
   items-marked kind r tight (last_one inside) fit = marked-item kind r (not tight) inside fit.0 fit.2
   items-marked kind r tight (one_and inside items) fit = marked-append _ (marked-append _ (marked-item kind r (not tight) inside fit.0 fit.2))
 
-  first-of : (o : Outline) (a e : Bool) → is_none o ≡ false → FitAll rules o → First (block_lines a e o)
+  first-of : (o : Sequence) (a e : Bool) → is_none o ≡ false → FitAll rules o → First (block_lines a e o)
   unfolding block_lines FitAll
   first-of no_blocks a e h fit = absurd (false≢true (sym h))
   first-of (leaf_then x rest) a e h fit = first-append _ (first-append _ fit.0.inner.first)
@@ -241,13 +241,13 @@ module _ (rules : Rules) where
     no_underline = r.no_underline i.first.line i.first.bare;
   }
 
-  items-interrupt : (kind : ListKind) (r : MarkerReads rules kind) (tight : Bool) (items : OutlineItems) → starts_at_one kind ≡ true → is_none (first_inside items) ≡ false
+  items-interrupt : (kind : ListKind) (r : MarkerReads rules kind) (tight : Bool) (items : SequenceItems) → starts_at_one kind ≡ true → is_none (first_inside items) ≡ false
       → ItemsFit rules tight items → Interrupts rules (lines_of_items kind tight items)
   unfolding lines_of_items ItemsFit
   items-interrupt kind r tight (last_one inside) one h fit = item-interrupts kind r _ one (inner-of inside (not tight) false h fit.0 fit.2)
   items-interrupt kind r tight (one_and inside items) one h fit = interrupts-append _ (interrupts-append _ (item-interrupts kind r _ one (inner-of inside (not tight) false h fit.0 fit.2)))
 
-  interrupting : (o : Outline) (a e : Bool) → interrupts_alone o ≡ true → FitAll rules o → Interrupts rules (block_lines a e o)
+  interrupting : (o : Sequence) (a e : Bool) → interrupts_alone o ≡ true → FitAll rules o → Interrupts rules (block_lines a e o)
   unfolding block_lines FitAll
   interrupting no_blocks a e h fit = absurd (false≢true h)
   interrupting (leaf_then x rest) a e h fit = interrupts-append _ (interrupts-append _ (fit.0.interrupts (and_parts (is_none rest) (is_code x.part) h).1))
@@ -258,12 +258,12 @@ module _ (rules : Rules) where
       interrupts-append _ (interrupts-append _ (items-interrupt k fit.0.reads t is one some fit.1))
 
   -- a block that follows a paragraph without an empty line
-  right-behind : (x : SpelledLeaf) (e : Bool) (rest : Outline) (tail : List LineView) → (is_paragraph x.part && interrupts_alone rest) ≡ true → FitAll rules rest → Have tail (block_lines false e rest) → Follows rules x.part tail
+  right-behind : (x : SpelledLeaf) (e : Bool) (rest : Sequence) (tail : List LineView) → (is_paragraph x.part && interrupts_alone rest) ≡ true → FitAll rules rest → Have tail (block_lines false e rest) → Follows rules x.part tail
   right-behind x e rest tail h fit have =
       let (first, second) = and_parts (is_paragraph x.part) (interrupts_alone rest) h in
       follow-close x.part (block_lines false e rest) tail first (interrupting rest false e second fit) have
 
-  follow : (x : SpelledLeaf) (a e : Bool) (rest : Outline) (tail : List LineView) → (a || (is_none rest || is_paragraph x.part && interrupts_alone rest)) ≡ true → FitAll rules rest
+  follow : (x : SpelledLeaf) (a e : Bool) (rest : Sequence) (tail : List LineView) → (a || (is_none rest || is_paragraph x.part && interrupts_alone rest)) ≡ true → FitAll rules rest
       → Have tail (gap (gap_before a e rest) ++ block_lines a e rest) → Follows rules x.part tail
   follow x true e rest tail h fit have = apart_from (apart-behind true e rest tail refl have)
   follow x false e no_blocks tail h fit have = apart_from (apart-behind false e no_blocks tail refl have)
@@ -271,7 +271,7 @@ module _ (rules : Rules) where
   follow x false e (quote_then inside rest) tail h fit have = right-behind x e (quote_then inside rest) tail h fit have
   follow x false e (list_then k t is rest) tail h fit have = right-behind x e (list_then k t is rest) tail h fit have
 
-  after-list : (a e : Bool) (rest : Outline) (tail : List LineView) → (a || is_none rest) ≡ true → FitAll rules rest → Have tail (block_lines a e rest) → After rules (gap_before a e rest) tail
+  after-list : (a e : Bool) (rest : Sequence) (tail : List LineView) → (a || is_none rest) ≡ true → FitAll rules rest → Have tail (block_lines a e rest) → After rules (gap_before a e rest) tail
   unfolding block_lines
   after-list a e no_blocks tail h fit no_lines = nothing_follows
   after-list true e (leaf_then x rest) tail h fit have = after-first _ tail (first-of (leaf_then x rest) true e refl fit) have
@@ -286,7 +286,7 @@ module _ (rules : Rules) where
   quote-by ts p own tail f content have apart =
       quote-back rules f.line f.further own tail p (λ inner h. content inner (subst (Have inner) (sym f.lines) h)) (subst (λ ts. Have own (quote_lines ts)) f.lines have) apart
 
-  whole-quote : (o : Outline) (own tail : List LineView) → FitAll rules o → ((inner : List LineView) → Have inner (block_lines true false o) → parts_of rules inner ≡ concrete true false o)
+  whole-quote : (o : Sequence) (own tail : List LineView) → FitAll rules o → ((inner : List LineView) → Have inner (block_lines true false o) → parts_of rules inner ≡ concrete true false o)
       → Have own (quote_lines (block_lines true false o)) → Apart tail → parts_of rules (own ++ tail) ≡ quote (or_blank o (concrete true false o)) (parts_of rules tail)
   unfolding block_lines
   whole-quote no_blocks own tail fit content have apart = quote-back rules [] [] own tail (blank none) empty-inside have apart
@@ -297,7 +297,7 @@ module _ (rules : Rules) where
   mutual
     unfolding FitAll ItemsFit block_lines lines_of_items concrete concrete_items
 
-    pub back : (o : Outline) (a e : Bool) (ls : List LineView) → FitAll rules o → (a || fits_tight o) ≡ true → Have ls (block_lines a e o) → parts_of rules ls ≡ concrete a e o
+    pub back : (o : Sequence) (a e : Bool) (ls : List LineView) → FitAll rules o → (a || fits_tight o) ≡ true → Have ls (block_lines a e o) → parts_of rules ls ≡ concrete a e o
     back no_blocks a e ls fit ok no_lines = no_lines_case rules
     back (leaf_then x rest) a e ls fit ok have =
         let (own, tail, eq, mine, its) = have-split x.lines (gap (gap_before a e rest) ++ block_lines a e rest) ls (subst (Have ls) (append_assoc x.lines (gap (gap_before a e rest)) (block_lines a e rest)) have) in
@@ -319,7 +319,7 @@ module _ (rules : Rules) where
         (ap (λ q. next_items kind 0 (blank_if (g && last_is_bare items) q)) reads ∙ next-none kind (g && last_is_bare items) a e rest fit.3)
         ∙ ap (λ q. list kind (concrete_items tight g items) (blank_if (g && last_is_bare items) q)) reads
 
-    items-back : (items : OutlineItems) (kind : ListKind) (r : MarkerReads rules kind) (tight e : Bool) (ls rest : List LineView) → ItemsFit rules tight items
+    items-back : (items : SequenceItems) (kind : ListKind) (r : MarkerReads rules kind) (tight e : Bool) (ls rest : List LineView) → ItemsFit rules tight items
         → Have ls (lines_of_items kind tight items ++ gap e) → After rules e rest → next_items kind 0 (blank_if (e && last_is_bare items) (parts_of rules rest)) ≡ None
         → parts_of rules (ls ++ rest) ≡ list kind (concrete_items tight e items) (blank_if (e && last_is_bare items) (parts_of rules rest))
     items-back (last_one inside) kind r tight e ls rest fit have after next =
@@ -341,6 +341,6 @@ module _ (rules : Rules) where
   have-lines (t ∷ ts) = a_line (have-lines ts)
 
   -- spelled blocks read back
-  pub reads-back : (o : Outline) → FitAll rules o → blocks_of rules (map plain_line (block_lines true false o)) ≡ tree o
+  pub reads-back : (o : Sequence) → FitAll rules o → blocks_of rules (map plain_line (block_lines true false o)) ≡ tree o
   unfolding blocks_of
   reads-back o fit = ap blocks_of_parts (back o true false (map plain_line (block_lines true false o)) fit refl (have-lines (block_lines true false o))) ∙ same-tree rules true false o fit
