@@ -4,7 +4,7 @@ use Rattle.cm_text.specs.Rules.{Rules}
 use Rattle.cm_text.specs.Lines.{LineView}
 use Rattle.cm_scan.specs.blocks.Blocks.{parts_of, blocks_of, owners_of, reference_table}
 use Rattle.cm_scan.specs.laws.PartLaws.{AreLines}
-use Rattle.cm_block.specs.Machine.{Piece, parts_in_one_pass}
+use Rattle.cm_block.specs.Machine.{ClosedPart, parts_in_one_pass}
 use Rattle.cm_block.specs.Level.{LevelOfParts}
 use Rattle.cm_block.specs.Stack.{empty_stack, push_lines, close_stack}
 
@@ -12,9 +12,9 @@ use Rattle.cm_block.specs.Stack.{empty_stack, push_lines, close_stack}
 abbrev pub OnePass : Type 0
 OnePass = (rules : Rules) (lines : List LineView) → parts_in_one_pass rules lines ≡ parts_of rules lines
 
--- Pieces added one by one make the level of their parts.
+-- Closed parts added one by one make the level of their parts.
 abbrev pub FromTheLeft : Type 0
-FromTheLeft = (pieces : List Piece) → LevelOfParts pieces
+FromTheLeft = (closed_parts : List ClosedPart) → LevelOfParts closed_parts
 
 -- The stack after the lines, once closed, has their blocks.
 abbrev pub StackBlocks : Type 0

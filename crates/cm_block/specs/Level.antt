@@ -6,7 +6,7 @@ use Rattle.cm_tree.specs.declared.tree.Block.{Block}
 use Rattle.cm_tree.specs.declared.tree.Block.TheVariants.{Quote, List as ListBlock}
 use Rattle.cm_scan.specs.blocks.LineForms.{is_same_kind}
 use Rattle.cm_scan.specs.blocks.Parts.{Parts, none, last_item, leaf_block, is_separated, items_end_blank, ends_blank_after, blocks_of_parts}
-use Rattle.cm_block.specs.Machine.{Piece, blank_piece, leaf_piece, quote_piece, item_piece, put_all}
+use Rattle.cm_block.specs.Machine.{ClosedPart, closed_blank, closed_leaf, closed_quote, closed_item, put_all}
 
 -- a list with its closed items, and whether it is loose so far; another item of it may be open
 pub record OpenList : Type 0 where
@@ -96,7 +96,7 @@ with_item (Some list) item = Some (record { kind = list.kind; loose = list.loose
 abbrev pub item_closes : Level → Item → Level
 item_closes level item = record { blocks = level.blocks; open_list = with_item level.open_list item; has_block = true; ends_blank = item.ends_blank; separated = level.separated }
 
--- Both at once, and the same for pieces.
+-- Both at once, and the same for closed parts.
 
 abbrev pub push_block : Level → Block → Level
 push_block level block = block_closes (block_opens level) block
@@ -108,18 +108,18 @@ push_item level kind item = item_closes (item_opens level kind) item
 abbrev pub item_of_parts : Parts → Item
 item_of_parts inside = record { blocks = blocks_of_parts inside; ends_blank = items_end_blank (last_item inside); separated = is_separated false false inside }
 
-unfoldable pub add : Level → Piece → Level
-add level blank_piece = push_blank level
-add level (leaf_piece x lines) = push_block level (leaf_block x)
-add level (quote_piece inside) = push_block level (Quote (blocks_of_parts inside))
-add level (item_piece kind inside) = push_item level kind (item_of_parts inside)
+unfoldable pub add : Level → ClosedPart → Level
+add level closed_blank = push_blank level
+add level (closed_leaf x lines) = push_block level (leaf_block x)
+add level (closed_quote inside) = push_block level (Quote (blocks_of_parts inside))
+add level (closed_item kind inside) = push_item level kind (item_of_parts inside)
 
-unfoldable pub add_all : Level → List Piece → Level
+unfoldable pub add_all : Level → List ClosedPart → Level
 add_all level [] = level
-add_all level (piece ∷ pieces) = add_all (add level piece) pieces
+add_all level (closed_part ∷ closed_parts) = add_all (add level closed_part) closed_parts
 
 -- A level read from the left has the blocks of its parts, and what decides whether a list is loose.
-pub record LevelOfParts (pieces : List Piece) : Type 0 where
-  pub blocks : closed_blocks (add_all empty_level pieces) ≡ blocks_of_parts (put_all pieces none)
-  pub separated : (add_all empty_level pieces).separated ≡ is_separated false false (put_all pieces none)
-  pub ends_blank : (add_all empty_level pieces).ends_blank ≡ ends_blank_after false (put_all pieces none)
+pub record LevelOfParts (closed_parts : List ClosedPart) : Type 0 where
+  pub blocks : closed_blocks (add_all empty_level closed_parts) ≡ blocks_of_parts (put_all closed_parts none)
+  pub separated : (add_all empty_level closed_parts).separated ≡ is_separated false false (put_all closed_parts none)
+  pub ends_blank : (add_all empty_level closed_parts).ends_blank ≡ ends_blank_after false (put_all closed_parts none)

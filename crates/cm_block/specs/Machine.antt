@@ -10,23 +10,23 @@ use Rattle.cm_scan.specs.laws.PartLaws.{goes_inward}
 use Rattle.cm_block.specs.OpenLeaf.{OpenLeaf, no_leaf, closed_leaves, blank_lines_behind, is_open_text, LeafLine, stays_open, is_last, line_of_leaf, LineOpens, begins_nothing, begins_leaf, begins_quote, begins_item, begin_of}
 
 -- What is closed at one level: a blank line, a leaf with its number of lines, a block quote, a list item.
-pub data Piece : Type 0 where
-  blank_piece : Piece
-  leaf_piece : LeafPart → ℕ → Piece
-  quote_piece : Parts → Piece
-  item_piece : ListKind → Parts → Piece
+pub data ClosedPart : Type 0 where
+  closed_blank : ClosedPart
+  closed_leaf : LeafPart → ℕ → ClosedPart
+  closed_quote : Parts → ClosedPart
+  closed_item : ListKind → Parts → ClosedPart
 
--- a piece before the parts that follow it
-abbrev pub put : Piece → Parts → Parts
-put blank_piece rest = blank rest
-put (leaf_piece x lines) rest = leaf x lines rest
-put (quote_piece inside) rest = quote inside rest
-put (item_piece kind inside) rest = put_item kind inside rest
+-- a closed part before the parts that follow it
+abbrev pub put : ClosedPart → Parts → Parts
+put closed_blank rest = blank rest
+put (closed_leaf x lines) rest = leaf x lines rest
+put (closed_quote inside) rest = quote inside rest
+put (closed_item kind inside) rest = put_item kind inside rest
 
--- pieces before the parts that follow them
-unfoldable pub put_all : List Piece → Parts → Parts
+-- closed parts before the parts that follow them
+unfoldable pub put_all : List ClosedPart → Parts → Parts
 put_all [] rest = rest
-put_all (piece ∷ pieces) rest = put piece (put_all pieces rest)
+put_all (closed_part ∷ closed_parts) rest = put closed_part (put_all closed_parts rest)
 
 -- What is open at one level: a leaf, or a container with what is closed in it and what is open in it. An item also has the column
 -- at which its content starts, and whether it is only a marker so far, with nothing on its line.
@@ -41,31 +41,31 @@ has_open_text (in_leaf x) = is_open_text x
 has_open_text (in_quote closed now) = has_open_text now
 has_open_text (in_item kind column bare closed now) = has_open_text now
 
--- What a line does at one level: the pieces that it closes, and what is then open.
+-- What a line does at one level: the closed parts that it closes, and what is then open.
 pub record Change : Type 0 where
-  pub closed : List Piece
-  pub now : Open (List Piece)
+  pub closed : List ClosedPart
+  pub now : Open (List ClosedPart)
 
-abbrev pub change : List Piece → Open (List Piece) → Change
+abbrev pub change : List ClosedPart → Open (List ClosedPart) → Change
 change closed now = record { closed = closed; now = now }
 
-abbrev pub leaf_pieces : List (LeafPart × ℕ) → List Piece
-leaf_pieces [] = []
-leaf_pieces (x ∷ xs) = leaf_piece x.0 x.1 ∷ leaf_pieces xs
+abbrev pub parts_of_leaves : List (LeafPart × ℕ) → List ClosedPart
+parts_of_leaves [] = []
+parts_of_leaves (x ∷ xs) = closed_leaf x.0 x.1 ∷ parts_of_leaves xs
 
 -- what the open block gives when it is closed
-unfoldable pub closing : Open (List Piece) → List Piece
-closing (in_leaf x) = leaf_pieces (closed_leaves x) ++ replicate (blank_lines_behind x) blank_piece
-closing (in_quote closed now) = quote_piece (put_all (closed ++ closing now) none) ∷ []
-closing (in_item kind column bare closed now) = item_piece kind (put_all (closed ++ closing now) none) ∷ []
+unfoldable pub closing : Open (List ClosedPart) → List ClosedPart
+closing (in_leaf x) = parts_of_leaves (closed_leaves x) ++ replicate (blank_lines_behind x) closed_blank
+closing (in_quote closed now) = closed_quote (put_all (closed ++ closing now) none) ∷ []
+closing (in_item kind column bare closed now) = closed_item kind (put_all (closed ++ closing now) none) ∷ []
 
 abbrev pub leaf_change : LeafLine → Change
 leaf_change (stays_open x) = change [] (in_leaf x)
-leaf_change (is_last leaves) = change (leaf_pieces leaves) (in_leaf no_leaf)
+leaf_change (is_last leaves) = change (parts_of_leaves leaves) (in_leaf no_leaf)
 
 -- what a line starts; `begin` gives it for a line after a marker
 abbrev pub begin_by : (LineView → Change) → LineOpens → Change
-begin_by begin begins_nothing = change (blank_piece ∷ []) (in_leaf no_leaf)
+begin_by begin begins_nothing = change (closed_blank ∷ []) (in_leaf no_leaf)
 begin_by begin (begins_leaf x) = leaf_change x
 begin_by begin (begins_quote inner) = let c = begin inner in change [] (in_quote c.closed c.now)
 begin_by begin (begins_item kind column inner) = let c = begin inner in change [] (in_item kind column (is_blank inner) c.closed c.now)
@@ -78,9 +78,9 @@ begin_within rules (suc n) line = begin_by (λ inner. begin_within rules n inner
 unfoldable pub begin : Rules → LineView → Change
 begin rules line = begin_within rules (suc (marks line.text)) line
 
--- the pieces are closed, and the line begins something
-abbrev pub after_closing : Rules → List Piece → LineView → Change
-after_closing rules pieces line = let c = begin rules line in change (pieces ++ c.closed) c.now
+-- the closed parts are closed, and the line begins something
+abbrev pub after_closing : Rules → List ClosedPart → LineView → Change
+after_closing rules closed_parts line = let c = begin rules line in change (closed_parts ++ c.closed) c.now
 
 -- the same for an open leaf, given whether the line belongs to it
 abbrev pub leaf_step : Rules → OpenLeaf → LineView → Option LeafLine → Change
@@ -88,7 +88,7 @@ leaf_step rules x line (Some l) = leaf_change l
 leaf_step rules x line None = after_closing rules (closing (in_leaf x)) line
 
 -- one more line
-unfoldable pub step : Rules → Open (List Piece) → LineView → Change
+unfoldable pub step : Rules → Open (List ClosedPart) → LineView → Change
 step rules (in_leaf x) line = leaf_step rules x line (line_of_leaf rules x line)
 step rules (in_quote closed now) line = elim (goes_inward (continuation_in_quote rules line) (has_open_text now)) [
   | Some inner ↦ let c = step rules now inner in change [] (in_quote (closed ++ c.closed) c.now)
@@ -99,7 +99,7 @@ step rules (in_item kind column bare closed now) line = elim (goes_inward (conti
   | None ↦ after_closing rules (closing (in_item kind column bare closed now)) line
 ]
 
--- the closed pieces of the document, and what is open
+-- the closed parts of the document, and what is open
 abbrev pub Machine : Type 0
 Machine = Change
 

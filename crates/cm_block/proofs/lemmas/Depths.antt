@@ -19,7 +19,7 @@ use Rattle.cm_scan.specs.laws.Looseness.{line_total, items_total}
 use Rattle.cm_scan.proofs.lemmas.blocks.OwnersOfLines.{one_owner_a_line}
 use Rattle.cm_scan.proofs.lemmas.blocks.CountedLines.{one_owner}
 use Rattle.cm_block.specs.OpenLeaf.{OpenLeaf, no_leaf, closed_leaves, blank_lines_behind, LeafLine, stays_open, is_last, line_of_leaf, LineOpens, begins_nothing, begins_leaf, begins_quote, begins_item, begin_of}
-use Rattle.cm_block.specs.Machine.{Piece, blank_piece, leaf_piece, quote_piece, item_piece, put, put_all, Open, in_leaf, in_quote, in_item, has_open_text, Change, change, leaf_pieces, closing, leaf_change, begin_by, begin_within, begin, after_closing, leaf_step, step, Machine, new_machine, take_line, take_lines, close, parts_in_one_pass}
+use Rattle.cm_block.specs.Machine.{ClosedPart, closed_blank, closed_leaf, closed_quote, closed_item, put, put_all, Open, in_leaf, in_quote, in_item, has_open_text, Change, change, parts_of_leaves, closing, leaf_change, begin_by, begin_within, begin, after_closing, leaf_step, step, Machine, new_machine, take_line, take_lines, close, parts_in_one_pass}
 use Rattle.cm_block.specs.Level.{Level, empty_level}
 use Rattle.cm_block.specs.Stack.{Owned, Stack, empty_stack, push_line, push_lines}
 use Rattle.cm_block.specs.Depths.{nesting, line_depths, DepthsOfLines, TooDeepAtOnce, TooDeepStays, TooDeepNext}
@@ -29,21 +29,21 @@ use Rattle.cm_block.proofs.lemmas.OnePass.{one_pass, take_lines-append}
 use Rattle.cm_block.proofs.lemmas.Owners.{replicate-push}
 use Rattle.cm_block.proofs.lemmas.Stacks.{held, Follows, follows-line, follows-new}
 
--- the depths of pieces
+-- the depths of closed parts
 
-abbrev piece_depths : Piece → List ℕ
-piece_depths blank_piece = 0 ∷ []
-piece_depths (leaf_piece x lines) = replicate lines 0
-piece_depths (quote_piece c) = map suc (depths_of c)
-piece_depths (item_piece kind c) = map suc (depths_of c)
+abbrev closed_part_depths : ClosedPart → List ℕ
+closed_part_depths closed_blank = 0 ∷ []
+closed_part_depths (closed_leaf x lines) = replicate lines 0
+closed_part_depths (closed_quote c) = map suc (depths_of c)
+closed_part_depths (closed_item kind c) = map suc (depths_of c)
 
-abbrev pub pieces_depths : List Piece → List ℕ
-pieces_depths [] = []
-pieces_depths (x ∷ ps) = piece_depths x ++ pieces_depths ps
+abbrev pub closed_parts_depths : List ClosedPart → List ℕ
+closed_parts_depths [] = []
+closed_parts_depths (x ∷ ps) = closed_part_depths x ++ closed_parts_depths ps
 
-depths-append : (ps qs : List Piece) → pieces_depths (ps ++ qs) ≡ pieces_depths ps ++ pieces_depths qs
+depths-append : (ps qs : List ClosedPart) → closed_parts_depths (ps ++ qs) ≡ closed_parts_depths ps ++ closed_parts_depths qs
 depths-append [] qs = refl
-depths-append (x ∷ ps) qs = ap (λ ds. piece_depths x ++ ds) (depths-append ps qs) ∙ sym (append_assoc (piece_depths x) (pieces_depths ps) (pieces_depths qs))
+depths-append (x ∷ ps) qs = ap (λ ds. closed_part_depths x ++ ds) (depths-append ps qs) ∙ sym (append_assoc (closed_part_depths x) (closed_parts_depths ps) (closed_parts_depths qs))
 
 abbrev zeros : ℕ → List ℕ
 zeros n = replicate n 0
@@ -59,12 +59,12 @@ next-depths kind b (leaf x n p) f e = grind (arith, e)
 next-depths kind b (quote c p) f e = grind (arith, e)
 next-depths kind b (list other items p) f e = ap depths_on (given-is (is_same_kind kind other) (b, items, p) f e)
 
-put-depths : (x : Piece) (p : Parts) → depths_of (put x p) ≡ piece_depths x ++ depths_of p
+put-depths : (x : ClosedPart) (p : Parts) → depths_of (put x p) ≡ closed_part_depths x ++ depths_of p
 unfolding put_item depths_of
-put-depths blank_piece p = refl
-put-depths (leaf_piece x m) p = refl
-put-depths (quote_piece c) p = refl
-put-depths (item_piece kind c) p = go (next_items kind 0 p) refl
+put-depths closed_blank p = refl
+put-depths (closed_leaf x m) p = refl
+put-depths (closed_quote c) p = refl
+put-depths (closed_item kind c) p = go (next_items kind 0 p) refl
   where
     first : List ℕ
     first = map suc (depths_of c)
@@ -76,10 +76,10 @@ put-depths (item_piece kind c) p = go (next_items kind 0 p) refl
         ∙ append_assoc first (zeros f.0) (item_depths_of f.1 ++ depths_of f.2)
         ∙ ap (λ ds. first ++ ds) (sym (next-depths kind 0 p f e))
 
-depths-law : (ps : List Piece) → depths_of (put_all ps none) ≡ pieces_depths ps
+depths-law : (ps : List ClosedPart) → depths_of (put_all ps none) ≡ closed_parts_depths ps
 unfolding put_all depths_of
 depths-law [] = refl
-depths-law (x ∷ ps) = put-depths x (put_all ps none) ∙ ap (λ ds. piece_depths x ++ ds) (depths-law ps)
+depths-law (x ∷ ps) = put-depths x (put_all ps none) ∙ ap (λ ds. closed_part_depths x ++ ds) (depths-law ps)
 
 -- leaves stand at no depth
 
@@ -87,19 +87,19 @@ leaf_total : List (LeafPart × ℕ) → ℕ
 leaf_total [] = 0
 leaf_total (x ∷ xs) = x.1 + leaf_total xs
 
-leaf-zeros : (xs : List (LeafPart × ℕ)) → pieces_depths (leaf_pieces xs) ≡ zeros (leaf_total xs)
+leaf-zeros : (xs : List (LeafPart × ℕ)) → closed_parts_depths (parts_of_leaves xs) ≡ zeros (leaf_total xs)
 unfolding leaf_total
 leaf-zeros [] = refl
 leaf-zeros (x ∷ xs) = ap (λ ds. zeros x.1 ++ ds) (leaf-zeros xs) ∙ replicate-append-replicate x.1 (leaf_total xs) 0
 
-blank-zeros : (n : ℕ) → pieces_depths (replicate n blank_piece) ≡ zeros n
+blank-zeros : (n : ℕ) → closed_parts_depths (replicate n closed_blank) ≡ zeros n
 blank-zeros zero = refl
 blank-zeros (suc n) = ap (λ ds. 0 ∷ ds) (blank-zeros n)
 
-closing-zeros : (x : OpenLeaf) → pieces_depths (closing (in_leaf x)) ≡ zeros (leaf_total (closed_leaves x) + blank_lines_behind x)
+closing-zeros : (x : OpenLeaf) → closed_parts_depths (closing (in_leaf x)) ≡ zeros (leaf_total (closed_leaves x) + blank_lines_behind x)
 unfolding closing
 closing-zeros x =
-    depths-append (leaf_pieces (closed_leaves x)) (replicate (blank_lines_behind x) blank_piece)
+    depths-append (parts_of_leaves (closed_leaves x)) (replicate (blank_lines_behind x) closed_blank)
     ∙ ap₂ (λ ds es. ds ++ es) (leaf-zeros (closed_leaves x)) (blank-zeros (blank_lines_behind x))
     ∙ replicate-append-replicate (leaf_total (closed_leaves x)) (blank_lines_behind x) 0
 
@@ -109,13 +109,13 @@ map-suc : (k d : ℕ) → map suc (replicate k d) ≡ replicate k (suc d)
 map-suc zero d = refl
 map-suc (suc k) d = ap (λ ds. suc d ∷ ds) (map-suc k d)
 
-around : (qs rs : List Piece) (common : List ℕ) (k d : ℕ) → pieces_depths rs ≡ common ++ replicate k d
-    → map suc (depths_of (put_all (qs ++ rs) none)) ++ [] ≡ map suc (pieces_depths qs ++ common) ++ replicate k (suc d)
+around : (qs rs : List ClosedPart) (common : List ℕ) (k d : ℕ) → closed_parts_depths rs ≡ common ++ replicate k d
+    → map suc (depths_of (put_all (qs ++ rs) none)) ++ [] ≡ map suc (closed_parts_depths qs ++ common) ++ replicate k (suc d)
 around qs rs common k d e =
     append-nil (map suc (depths_of (put_all (qs ++ rs) none)))
-    ∙ ap (map suc) (depths-law (qs ++ rs) ∙ depths-append qs rs ∙ ap (λ ds. pieces_depths qs ++ ds) e ∙ sym (append_assoc (pieces_depths qs) common (replicate k d)))
-    ∙ map-append suc (pieces_depths qs ++ common) (replicate k d)
-    ∙ ap (λ ds. map suc (pieces_depths qs ++ common) ++ ds) (map-suc k d)
+    ∙ ap (map suc) (depths-law (qs ++ rs) ∙ depths-append qs rs ∙ ap (λ ds. closed_parts_depths qs ++ ds) e ∙ sym (append_assoc (closed_parts_depths qs) common (replicate k d)))
+    ∙ map-append suc (closed_parts_depths qs ++ common) (replicate k d)
+    ∙ ap (λ ds. map suc (closed_parts_depths qs ++ common) ++ ds) (map-suc k d)
 
 -- What a line adds to the depths at one level: the last ones, as deep as what is then open, are more or fewer.
 record Grows (before : List ℕ) (c : Change) : Type 0 where
@@ -123,7 +123,7 @@ record Grows (before : List ℕ) (c : Change) : Type 0 where
   old_count : ℕ
   new_count : ℕ
   was : before ≡ common ++ replicate old_count (nesting c.now)
-  became : pieces_depths (c.closed ++ closing c.now) ≡ common ++ replicate new_count (nesting c.now)
+  became : closed_parts_depths (c.closed ++ closing c.now) ≡ common ++ replicate new_count (nesting c.now)
 
 grows-leaf : (m : ℕ) (before : List ℕ) → before ≡ zeros m → (l : LeafLine) → Grows before (leaf_change l)
 unfolding nesting
@@ -133,18 +133,18 @@ grows-leaf m before e (is_last leaves) = record {
   old_count = m;
   new_count = _;
   was = e;
-  became = depths-append (leaf_pieces leaves) (closing (in_leaf no_leaf)) ∙ ap₂ (λ ds es. ds ++ es) (leaf-zeros leaves) (closing-zeros no_leaf) ∙ replicate-append-replicate (leaf_total leaves) _ 0;
+  became = depths-append (parts_of_leaves leaves) (closing (in_leaf no_leaf)) ∙ ap₂ (λ ds es. ds ++ es) (leaf-zeros leaves) (closing-zeros no_leaf) ∙ replicate-append-replicate (leaf_total leaves) _ 0;
 }
 
 -- where nothing stands before
 abbrev Adds : Change → Type 0
-Adds c = (k : ℕ) × (pieces_depths (c.closed ++ closing c.now) ≡ replicate k (nesting c.now))
+Adds c = (k : ℕ) × (closed_parts_depths (c.closed ++ closing c.now) ≡ replicate k (nesting c.now))
 
 adds-by : (begin : LineView → Change) (b : LineOpens) → OfInner (λ inner. Adds (begin inner)) b → Adds (begin_by begin b)
 unfolding nesting closing closed_leaves
 adds-by begin begins_nothing i = (1, refl)
 adds-by begin (begins_leaf (stays_open y)) i = (_, closing-zeros y)
-adds-by begin (begins_leaf (is_last leaves)) i = (_, ap pieces_depths (append-nil (leaf_pieces leaves)) ∙ leaf-zeros leaves)
+adds-by begin (begins_leaf (is_last leaves)) i = (_, ap closed_parts_depths (append-nil (parts_of_leaves leaves)) ∙ leaf-zeros leaves)
 adds-by begin (begins_quote inner) i = (i.0, around [] ((begin inner).closed ++ closing (begin inner).now) [] i.0 (nesting (begin inner).now) i.1)
 adds-by begin (begins_item kind column inner) i = (i.0, around [] ((begin inner).closed ++ closing (begin inner).now) [] i.0 (nesting (begin inner).now) i.1)
 
@@ -159,45 +159,45 @@ adds-begin : (rules : Rules) (line : LineView) → Adds (begin rules line)
 unfolding begin
 adds-begin rules line = adds-within rules (suc (marks line.text)) line (le_refl _)
 
-grows-after : (rules : Rules) (closed : List Piece) (line : LineView) → Grows (pieces_depths closed) (after_closing rules closed line)
+grows-after : (rules : Rules) (closed : List ClosedPart) (line : LineView) → Grows (closed_parts_depths closed) (after_closing rules closed line)
 grows-after rules closed line =
     let c = begin rules line in
     let a : Adds c = adds-begin rules line in
     record {
-      common = pieces_depths closed;
+      common = closed_parts_depths closed;
       old_count = 0;
       new_count = a.0;
-      was = sym (append-nil (pieces_depths closed));
-      became = ap pieces_depths (append_assoc closed c.closed (closing c.now)) ∙ depths-append closed (c.closed ++ closing c.now) ∙ ap (λ ds. pieces_depths closed ++ ds) a.1;
+      was = sym (append-nil (closed_parts_depths closed));
+      became = ap closed_parts_depths (append_assoc closed c.closed (closing c.now)) ∙ depths-append closed (c.closed ++ closing c.now) ∙ ap (λ ds. closed_parts_depths closed ++ ds) a.1;
     }
 
 -- inside a container: what it gave when it was closed, and gives now
-grows-inside : (qs : List Piece) (o : Open (List Piece)) (c : Change) (now : Open (List Piece)) → nesting now ≡ suc (nesting c.now)
-    → pieces_depths (closing now) ≡ map suc (depths_of (put_all (qs ++ c.closed ++ closing c.now) none)) ++ []
-    → Grows (pieces_depths (closing o)) c → Grows (map suc (depths_of (put_all (qs ++ closing o) none)) ++ []) (change [] now)
+grows-inside : (qs : List ClosedPart) (o : Open (List ClosedPart)) (c : Change) (now : Open (List ClosedPart)) → nesting now ≡ suc (nesting c.now)
+    → closed_parts_depths (closing now) ≡ map suc (depths_of (put_all (qs ++ c.closed ++ closing c.now) none)) ++ []
+    → Grows (closed_parts_depths (closing o)) c → Grows (map suc (depths_of (put_all (qs ++ closing o) none)) ++ []) (change [] now)
 grows-inside qs o c now deeper closed g = record {
-  common = map suc (pieces_depths qs ++ g.common);
+  common = map suc (closed_parts_depths qs ++ g.common);
   old_count = g.old_count;
   new_count = g.new_count;
-  was = around qs (closing o) g.common g.old_count (nesting c.now) g.was ∙ ap (λ d. map suc (pieces_depths qs ++ g.common) ++ replicate g.old_count d) (sym deeper);
+  was = around qs (closing o) g.common g.old_count (nesting c.now) g.was ∙ ap (λ d. map suc (closed_parts_depths qs ++ g.common) ++ replicate g.old_count d) (sym deeper);
   became =
       closed
       ∙ ap (λ ps. map suc (depths_of (put_all ps none)) ++ []) (append_assoc qs c.closed (closing c.now))
       ∙ around qs (c.closed ++ closing c.now) g.common g.new_count (nesting c.now) g.became
-      ∙ ap (λ d. map suc (pieces_depths qs ++ g.common) ++ replicate g.new_count d) (sym deeper);
+      ∙ ap (λ d. map suc (closed_parts_depths qs ++ g.common) ++ replicate g.new_count d) (sym deeper);
 }
 
-grows-step : (rules : Rules) (o : Open (List Piece)) (line : LineView) → Grows (pieces_depths (closing o)) (step rules o line)
+grows-step : (rules : Rules) (o : Open (List ClosedPart)) (line : LineView) → Grows (closed_parts_depths (closing o)) (step rules o line)
 unfolding step nesting closing
 grows-step rules (in_leaf x) line = go (line_of_leaf rules x line)
   where
-    go : (l : Option LeafLine) → Grows (pieces_depths (closing (in_leaf x))) (leaf_step rules x line l)
+    go : (l : Option LeafLine) → Grows (closed_parts_depths (closing (in_leaf x))) (leaf_step rules x line l)
     go None = grows-after rules (closing (in_leaf x)) line
-    go (Some l) = grows-leaf _ (pieces_depths (closing (in_leaf x))) (closing-zeros x) l
+    go (Some l) = grows-leaf _ (closed_parts_depths (closing (in_leaf x))) (closing-zeros x) l
 grows-step rules (in_quote qs o) line = go (goes_inward (continuation_in_quote rules line) (has_open_text o)) (λ inner. grows-step rules o inner)
   where
-    go : (l : Option LineView) → ((inner : LineView) → Grows (pieces_depths (closing o)) (step rules o inner))
-        → Grows (pieces_depths (closing (in_quote qs o))) (elim l as (λ _. Change) [
+    go : (l : Option LineView) → ((inner : LineView) → Grows (closed_parts_depths (closing o)) (step rules o inner))
+        → Grows (closed_parts_depths (closing (in_quote qs o))) (elim l as (λ _. Change) [
           | Some inner ↦ let c = step rules o inner in change [] (in_quote (qs ++ c.closed) c.now)
           | None ↦ after_closing rules (closing (in_quote qs o)) line
         ])
@@ -205,8 +205,8 @@ grows-step rules (in_quote qs o) line = go (goes_inward (continuation_in_quote r
     go (Some inner) f = grows-inside qs o (step rules o inner) (in_quote (qs ++ (step rules o inner).closed) (step rules o inner).now) refl refl (f inner)
 grows-step rules (in_item kind column bare qs o) line = go (goes_inward (continuation_in_item rules column bare line) (has_open_text o)) (λ inner. grows-step rules o inner)
   where
-    go : (l : Option LineView) → ((inner : LineView) → Grows (pieces_depths (closing o)) (step rules o inner))
-        → Grows (pieces_depths (closing (in_item kind column bare qs o))) (elim l as (λ _. Change) [
+    go : (l : Option LineView) → ((inner : LineView) → Grows (closed_parts_depths (closing o)) (step rules o inner))
+        → Grows (closed_parts_depths (closing (in_item kind column bare qs o))) (elim l as (λ _. Change) [
           | Some inner ↦ let c = step rules o inner in change [] (in_item kind column false (qs ++ c.closed) c.now)
           | None ↦ after_closing rules (closing (in_item kind column bare qs o)) line
         ])
@@ -216,7 +216,7 @@ grows-step rules (in_item kind column bare qs o) line = go (goes_inward (continu
 -- the depths of all lines so far
 
 abbrev depths_so_far : Machine → List ℕ
-depths_so_far m = pieces_depths (m.closed ++ closing m.now)
+depths_so_far m = closed_parts_depths (m.closed ++ closing m.now)
 
 mutual
   unfolding depths_of line_total
@@ -259,7 +259,7 @@ one-more common m n d k e h =
     the : n ≡ m + 1
     the = omega (arith, e, h, length-append common (replicate m d), length-append common (replicate n d), length-replicate m d, length-replicate n d)
 
-held-nesting : (o : Open (List Piece)) → nesting (held o) ≡ nesting o
+held-nesting : (o : Open (List ClosedPart)) → nesting (held o) ≡ nesting o
 unfolding held nesting
 held-nesting (in_leaf x) = refl
 held-nesting (in_quote ps o) = ap suc (held-nesting o)
@@ -296,18 +296,18 @@ module _ (rules : Rules) where
       c : Change
       c = step rules m.now line
 
-      g : Grows (pieces_depths (closing m.now)) c
+      g : Grows (closed_parts_depths (closing m.now)) c
       g = grows-step rules m.now line
 
       ds : List ℕ
-      ds = pieces_depths m.closed
+      ds = closed_parts_depths m.closed
 
       was : depths_so_far m ≡ (ds ++ g.common) ++ replicate g.old_count (nesting c.now)
       was = depths-append m.closed (closing m.now) ∙ ap (λ es. ds ++ es) g.was ∙ sym (append_assoc ds g.common (replicate g.old_count (nesting c.now)))
 
       became : depths_so_far (change (m.closed ++ c.closed) c.now) ≡ (ds ++ g.common) ++ replicate g.new_count (nesting c.now)
       became =
-          ap pieces_depths (append_assoc m.closed c.closed (closing c.now)) ∙ depths-append m.closed (c.closed ++ closing c.now)
+          ap closed_parts_depths (append_assoc m.closed c.closed (closing c.now)) ∙ depths-append m.closed (c.closed ++ closing c.now)
           ∙ ap (λ es. ds ++ es) g.became ∙ sym (append_assoc ds g.common (replicate g.new_count (nesting c.now)))
 
       count : length (done ++ line ∷ []) ≡ suc (length done)

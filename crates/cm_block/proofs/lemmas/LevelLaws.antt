@@ -9,7 +9,7 @@ use Rattle.cm_tree.specs.declared.tree.Block.TheVariants.{Quote, List as ListBlo
 use Rattle.cm_scan.specs.Words.{given}
 use Rattle.cm_scan.specs.blocks.LineForms.{is_same_kind}
 use Rattle.cm_scan.specs.blocks.Parts.{Parts, none, blank, leaf, quote, list, ItemParts, last_item, item, leaf_block, is_separated, is_loose, items_end_blank, ends_blank_after, next_items, put_before, put_item, blocks_of_parts, blocks_of_items}
-use Rattle.cm_block.specs.Machine.{Piece, blank_piece, leaf_piece, quote_piece, item_piece, put, put_all}
+use Rattle.cm_block.specs.Machine.{ClosedPart, closed_blank, closed_leaf, closed_quote, closed_item, put, put_all}
 use Rattle.cm_block.specs.Level.{OpenList, Item, Level, empty_level, closed_blocks, push_blank, list_opens, list_goes_on, item_opens_in, item_closes, push_block, push_item, item_of_parts, add, add_all, LevelOfParts}
 
 -- an item that begins a list, and one that goes on with it
@@ -183,32 +183,32 @@ item-result v kind c p = go v.open_list
     go None = list-begins v kind c p (next_items kind 0 p)
     go (Some o) = by_kind o (is_same_kind o.kind kind) refl
 
-put-add : (x : Piece) (v : Level) (p : Parts) → result v (put x p) ≡ result (add v x) p
+put-add : (x : ClosedPart) (v : Level) (p : Parts) → result v (put x p) ≡ result (add v x) p
 unfolding add result by_list by_next next_items blocks_of_parts is_separated ends_blank_after
-put-add blank_piece v p = blank-result v p
-put-add (leaf_piece x n) v p = go v.open_list ∙ plain-push v (leaf_block x) p
+put-add closed_blank v p = blank-result v p
+put-add (closed_leaf x n) v p = go v.open_list ∙ plain-push v (leaf_block x) p
   where
     go : (y : Option OpenList) → by_list v (leaf x n p) y ≡ plain v (leaf x n p)
     go None = refl
     go (Some o) = refl
-put-add (quote_piece c) v p = go v.open_list ∙ plain-push v (Quote (blocks_of_parts c)) p
+put-add (closed_quote c) v p = go v.open_list ∙ plain-push v (Quote (blocks_of_parts c)) p
   where
     go : (y : Option OpenList) → by_list v (quote c p) y ≡ plain v (quote c p)
     go None = refl
     go (Some o) = refl
-put-add (item_piece kind c) v p = item-result v kind c p
+put-add (closed_item kind c) v p = item-result v kind c p
 
-put_all-add : (ps : List Piece) (v : Level) → result v (put_all ps none) ≡ result (add_all v ps) none
+put_all-add : (ps : List ClosedPart) (v : Level) → result v (put_all ps none) ≡ result (add_all v ps) none
 unfolding put_all add_all
 put_all-add [] v = refl
 put_all-add (x ∷ ps) v = put-add x v (put_all ps none) ∙ put_all-add ps (add v x)
 
-level-outcome : (ps : List Piece) → outcome (blocks_of_parts (put_all ps none)) (is_separated false false (put_all ps none)) (ends_blank_after false (put_all ps none))
+level-outcome : (ps : List ClosedPart) → outcome (blocks_of_parts (put_all ps none)) (is_separated false false (put_all ps none)) (ends_blank_after false (put_all ps none))
     ≡ (let v = add_all empty_level ps in outcome (closed_blocks v) (v.separated || false) v.ends_blank)
 unfolding result by_list
 level-outcome ps = put_all-add ps empty_level ∙ result-none (add_all empty_level ps)
 
-pub level_of_parts : (ps : List Piece) → LevelOfParts ps
+pub level_of_parts : (ps : List ClosedPart) → LevelOfParts ps
 level_of_parts ps = record {
   blocks = sym (ap (λ (r : Outcome). r.blocks) (level-outcome ps));
   separated = sym (or-false _) ∙ sym (ap (λ (r : Outcome). r.separated) (level-outcome ps));

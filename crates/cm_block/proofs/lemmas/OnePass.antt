@@ -18,19 +18,19 @@ use Rattle.cm_scan.specs.laws.PartLaws.{goes_inward, next_inward}
 use Rattle.cm_scan.proofs.lemmas.blocks.LineSizes.{marks-behind_quote_marker, marks-first_content, Keeps, keeps-quote, keeps-item, size-append}
 use Rattle.cm_scan.proofs.lemmas.blocks.PartsByCases.{no_lines, blank_case, starting, inside-in, inside-out}
 use Rattle.cm_block.specs.OpenLeaf.{OpenLeaf, no_leaf, open_text, open_code, open_fence, open_html, run_leaves, closed_leaves, blank_lines_behind, LeafLine, stays_open, is_last, line_of_text, line_of_code, line_of_fence, line_of_html, line_of_leaf, LineOpens, begins_nothing, begin_of_start, begin_of, open_as}
-use Rattle.cm_block.specs.Machine.{Piece, blank_piece, quote_piece, item_piece, put, put_all, Open, in_leaf, in_quote, in_item, has_open_text, Change, change, leaf_pieces, closing, leaf_change, begin_by, begin, after_closing, leaf_step, step, Machine, new_machine, take_line, take_lines, close, parts_in_one_pass}
+use Rattle.cm_block.specs.Machine.{ClosedPart, closed_blank, closed_quote, closed_item, put, put_all, Open, in_leaf, in_quote, in_item, has_open_text, Change, change, parts_of_leaves, closing, leaf_change, begin_by, begin, after_closing, leaf_step, step, Machine, new_machine, take_line, take_lines, close, parts_in_one_pass}
 use Rattle.cm_block.specs.Laws.{OnePass}
 use Rattle.cm_block.proofs.lemmas.BeginCases.{begin-cases}
 use Rattle.cm_block.proofs.lemmas.OpenEnd.{true-false, Fit, fit-open, fit-lines}
 
--- pieces
+-- closed parts
 
-put_all-append : (ps qs : List Piece) (p : Parts) → put_all (ps ++ qs) p ≡ put_all ps (put_all qs p)
+put_all-append : (ps qs : List ClosedPart) (p : Parts) → put_all (ps ++ qs) p ≡ put_all ps (put_all qs p)
 unfolding put_all
 put_all-append [] qs p = refl
 put_all-append (x ∷ ps) qs p = ap (put x) (put_all-append ps qs p)
 
-put-leaves : (xs : List (LeafPart × ℕ)) (p : Parts) → put_all (leaf_pieces xs) p ≡ put_leaves xs p
+put-leaves : (xs : List (LeafPart × ℕ)) (p : Parts) → put_all (parts_of_leaves xs) p ≡ put_leaves xs p
 unfolding put_all put_leaves
 put-leaves [] p = refl
 put-leaves (x ∷ xs) p = ap (leaf x.0 x.1) (put-leaves xs p)
@@ -40,7 +40,7 @@ put_blanks : ℕ → Parts → Parts
 put_blanks zero p = p
 put_blanks (suc n) p = blank (put_blanks n p)
 
-put-blanks : (n : ℕ) (p : Parts) → put_all (replicate n blank_piece) p ≡ put_blanks n p
+put-blanks : (n : ℕ) (p : Parts) → put_all (replicate n closed_blank) p ≡ put_blanks n p
 unfolding put_all put_blanks
 put-blanks zero p = refl
 put-blanks (suc n) p = ap blank (put-blanks n p)
@@ -63,7 +63,7 @@ fenced-alike rules fence columns text m (line ∷ lines) = go (closes_fence fenc
 put-closing : (x : OpenLeaf) (p : Parts) → put_all (closing (in_leaf x)) p ≡ put_leaves (closed_leaves x) (put_blanks (blank_lines_behind x) p)
 unfolding closing
 put-closing x p =
-    put_all-append (leaf_pieces (closed_leaves x)) (replicate (blank_lines_behind x) blank_piece) p
+    put_all-append (parts_of_leaves (closed_leaves x)) (replicate (blank_lines_behind x) closed_blank) p
     ∙ put-leaves (closed_leaves x) _
     ∙ ap (put_leaves (closed_leaves x)) (put-blanks (blank_lines_behind x) p)
 
@@ -121,8 +121,8 @@ module _ (rules : Rules) where
   parts-blanks [] lines e = refl
   parts-blanks (l ∷ blanks) lines e = blank_case rules l (blanks ++ lines) (all-first l blanks e) ∙ ap blank (parts-blanks blanks lines (all-rest l blanks e))
 
-  -- what is open and the lines that follow come to these pieces
-  unfoldable finish : Open (List Piece) → List LineView → List Piece
+  -- what is open and the lines that follow come to these closed parts
+  unfoldable finish : Open (List ClosedPart) → List LineView → List ClosedPart
   finish now [] = closing now
   finish now (line ∷ lines) = let c = step rules now line in c.closed ++ finish c.now lines
 
@@ -141,7 +141,7 @@ module _ (rules : Rules) where
   unfolding parts_in_one_pass
   pass-close lines = sym (close-lines new_machine lines)
 
-  finish-step : (now : Open (List Piece)) (line : LineView) (lines : List LineView) (c : Change) → step rules now line ≡ c → finish now (line ∷ lines) ≡ c.closed ++ finish c.now lines
+  finish-step : (now : Open (List ClosedPart)) (line : LineView) (lines : List LineView) (c : Change) → step rules now line ≡ c → finish now (line ∷ lines) ≡ c.closed ++ finish c.now lines
   unfolding finish
   finish-step now line lines c e = ap (λ (c : Change). c.closed ++ finish c.now lines) e
 
@@ -150,7 +150,7 @@ module _ (rules : Rules) where
   unfolding finish step line_of_leaf closing closed_leaves
   finish-begin line lines = refl
 
-  finish-closing : (now : Open (List Piece)) (line : LineView) (lines : List LineView) (closed : List Piece) → step rules now line ≡ after_closing rules closed line
+  finish-closing : (now : Open (List ClosedPart)) (line : LineView) (lines : List LineView) (closed : List ClosedPart) → step rules now line ≡ after_closing rules closed line
       → put_all (finish now (line ∷ lines)) none ≡ put_all closed (pass (line ∷ lines))
   finish-closing now line lines closed e =
       ap (λ ps. put_all ps none) (finish-step now line lines _ e ∙ append_assoc closed (begin rules line).closed (finish (begin rules line).now lines) ∙ ap (λ ps. closed ++ ps) (sym (finish-begin line lines)))
@@ -158,7 +158,7 @@ module _ (rules : Rules) where
 
   -- a leaf with the next line
 
-  leaf-goes-on : (l : LeafLine) (lines : List LineView) → List Piece
+  leaf-goes-on : (l : LeafLine) (lines : List LineView) → List ClosedPart
   leaf-goes-on l lines = (leaf_change l).closed ++ finish (leaf_change l).now lines
 
   leaf-line : (x : OpenLeaf) (line : LineView) (lines : List LineView) (v : Option LeafLine) → line_of_leaf rules x line ≡ v → finish (in_leaf x) (line ∷ lines) ≡ (leaf_step rules x line v).closed ++ finish (leaf_step rules x line v).now lines
@@ -171,7 +171,7 @@ module _ (rules : Rules) where
 
   leaf-last : (x : OpenLeaf) (leaves : List (LeafPart × ℕ)) (line : LineView) (lines : List LineView) → line_of_leaf rules x line ≡ Some (is_last leaves)
       → put_all (finish (in_leaf x) (line ∷ lines)) none ≡ put_leaves leaves (pass lines)
-  leaf-last x leaves line lines e = ap (λ ps. put_all ps none) (leaf-line x line lines (Some (is_last leaves)) e) ∙ put_all-append (leaf_pieces leaves) _ none ∙ put-leaves leaves _
+  leaf-last x leaves line lines e = ap (λ ps. put_all ps none) (leaf-line x line lines (Some (is_last leaves)) e) ∙ put_all-append (parts_of_leaves leaves) _ none ∙ put-leaves leaves _
 
   leaf-none : (x : OpenLeaf) (line : LineView) (lines : List LineView) → line_of_leaf rules x line ≡ None
       → put_all (finish (in_leaf x) (line ∷ lines)) none ≡ put_leaves (closed_leaves x) (put_blanks (blank_lines_behind x) (pass (line ∷ lines)))
@@ -190,18 +190,18 @@ module _ (rules : Rules) where
   take_lines-append m (k ∷ ks) ls = take_lines-append (take_line rules m k) ks ls
 
   -- and one line more
-  reached-more : (so_far : List LineView) (ps : List Piece) (o : Open (List Piece)) (i : LineView) → take_lines rules new_machine so_far ≡ change ps o
+  reached-more : (so_far : List LineView) (ps : List ClosedPart) (o : Open (List ClosedPart)) (i : LineView) → take_lines rules new_machine so_far ≡ change ps o
       → take_lines rules new_machine (so_far ++ i ∷ []) ≡ change (ps ++ (step rules o i).closed) (step rules o i).now
   unfolding take_lines take_line
   reached-more so_far ps o i e = take_lines-append new_machine so_far (i ∷ []) ∙ ap (λ m. take_line rules m i) e
 
-  reached-close : (so_far : List LineView) (ps : List Piece) (o : Open (List Piece)) → take_lines rules new_machine so_far ≡ change ps o
+  reached-close : (so_far : List LineView) (ps : List ClosedPart) (o : Open (List ClosedPart)) → take_lines rules new_machine so_far ≡ change ps o
       → parts_in_one_pass rules so_far ≡ put_all (ps ++ closing o) none
   unfolding parts_in_one_pass close
   reached-close so_far ps o e = ap close e
 
   -- it tells whether a lazy continuation line can follow
-  open-reached : (so_far : List LineView) (ps : List Piece) (o : Open (List Piece)) → take_lines rules new_machine so_far ≡ change ps o
+  open-reached : (so_far : List LineView) (ps : List ClosedPart) (o : Open (List ClosedPart)) → take_lines rules new_machine so_far ≡ change ps o
       → parts_in_one_pass rules so_far ≡ parts_of rules so_far → leaves_paragraph_open (parts_of rules so_far) ≡ has_open_text o
   open-reached so_far ps o e same =
       ap leaves_paragraph_open (sym same ∙ reached-close so_far ps o e)
@@ -355,31 +355,31 @@ module _ (rules : Rules) where
             ∙ ap (leaf (html (text ++ with_ending line)) (suc m)) (pass-less lines (omega (arith, size-cons line lines)))
         go false e more = leaf-stays x (open_html kind (text ++ with_ending line) (suc m)) line lines (html-line kind text m line false (is_blank line) false h refl e) ∙ more
 
-    -- a quote or an item, by the piece that it gives and the continuations of further lines in it
-    module _ (container : Bool → List Piece → Open (List Piece) → Open (List Piece)) (piece : Parts → Piece) (continuation : Bool → LineView → Continuation)
-        (closes : (bare : Bool) (ps : List Piece) (o : Open (List Piece)) → closing (container bare ps o) ≡ piece (put_all (ps ++ closing o) none) ∷ [])
-        (stays : (bare : Bool) (ps : List Piece) (o : Open (List Piece)) (line i : LineView) → goes_inward (continuation bare line) (has_open_text o) ≡ Some i
+    -- a quote or an item, by the closed part that it gives and the continuations of further lines in it
+    module _ (container : Bool → List ClosedPart → Open (List ClosedPart) → Open (List ClosedPart)) (closed_part : Parts → ClosedPart) (continuation : Bool → LineView → Continuation)
+        (closes : (bare : Bool) (ps : List ClosedPart) (o : Open (List ClosedPart)) → closing (container bare ps o) ≡ closed_part (put_all (ps ++ closing o) none) ∷ [])
+        (stays : (bare : Bool) (ps : List ClosedPart) (o : Open (List ClosedPart)) (line i : LineView) → goes_inward (continuation bare line) (has_open_text o) ≡ Some i
         → step rules (container bare ps o) line ≡ change [] (container false (ps ++ (step rules o i).closed) (step rules o i).now))
-        (goes : (bare : Bool) (ps : List Piece) (o : Open (List Piece)) (line : LineView) → goes_inward (continuation bare line) (has_open_text o) ≡ None
+        (goes : (bare : Bool) (ps : List ClosedPart) (o : Open (List ClosedPart)) (line : LineView) → goes_inward (continuation bare line) (has_open_text o) ≡ None
         → step rules (container bare ps o) line ≡ after_closing rules (closing (container bare ps o)) line)
         (keeps : (bare : Bool) (line : LineView) → Keeps line (continuation bare line)) where
       abbrev put_inside : Inside → Parts
-      put_inside i = put (piece (parts_of rules i.inner)) (parts_of rules i.following)
+      put_inside i = put (closed_part (parts_of rules i.inner)) (parts_of rules i.following)
 
-      closed-inside : (so_far : List LineView) (bare : Bool) (ps : List Piece) (o : Open (List Piece)) (p : Parts) → take_lines rules new_machine so_far ≡ change ps o → size so_far < n
-          → put_all (closing (container bare ps o)) p ≡ put (piece (parts_of rules so_far)) p
+      closed-inside : (so_far : List LineView) (bare : Bool) (ps : List ClosedPart) (o : Open (List ClosedPart)) (p : Parts) → take_lines rules new_machine so_far ≡ change ps o → size so_far < n
+          → put_all (closing (container bare ps o)) p ≡ put (closed_part (parts_of rules so_far)) p
       unfolding put_all
       closed-inside so_far bare ps o p e less =
           ap (λ xs. put_all xs p) (closes bare ps o)
-          ∙ ap (λ inner. put (piece inner) p) (sym (reached-close so_far ps o e) ∙ shorter so_far less)
+          ∙ ap (λ inner. put (closed_part inner) p) (sym (reached-close so_far ps o e) ∙ shorter so_far less)
 
-      container-pass : (first : LineView) (so_far lines : List LineView) (ps : List Piece) (o : Open (List Piece)) → take_lines rules new_machine (first ∷ so_far) ≡ change ps o
+      container-pass : (first : LineView) (so_far lines : List LineView) (ps : List ClosedPart) (o : Open (List ClosedPart)) → take_lines rules new_machine (first ∷ so_far) ≡ change ps o
           → size (first ∷ so_far) + size lines < n
           → put_all (finish (container (is_bare (first ∷ so_far)) ps o) lines) none ≡ put_inside (inside rules (parts_of rules) continuation (first ∷ so_far) lines)
       unfolding finish inside
       container-pass first so_far [] ps o e less =
           closed-inside (first ∷ so_far) (is_bare (first ∷ so_far)) ps o none e (omega arith)
-          ∙ ap (put (piece (parts_of rules (first ∷ so_far)))) (sym (no_lines rules))
+          ∙ ap (put (closed_part (parts_of rules (first ∷ so_far)))) (sym (no_lines rules))
       container-pass first so_far (line ∷ lines) ps o e less =
           go (goes_inward (continuation bare line) (has_open_text o)) refl
           (ap (goes_inward (continuation bare line)) (open-reached (first ∷ so_far) ps o e (shorter (first ∷ so_far) (omega arith))))
@@ -396,7 +396,7 @@ module _ (rules : Rules) where
           go None a b more =
               finish-closing (container bare ps o) line lines (closing (container bare ps o)) (goes bare ps o line a)
               ∙ closed-inside (first ∷ so_far) bare ps o (pass (line ∷ lines)) e (omega arith)
-              ∙ ap (put (piece (parts_of rules (first ∷ so_far)))) (pass-less (line ∷ lines) (omega arith))
+              ∙ ap (put (closed_part (parts_of rules (first ∷ so_far)))) (pass-less (line ∷ lines) (omega arith))
               ∙ ap put_inside (sym (inside-out rules continuation (first ∷ so_far) line lines (b ∙ a)))
           go (Some i) a b more =
               ap (λ ps. put_all ps none) (finish-step (container bare ps o) line lines _ (stays bare ps o line i a))
@@ -406,7 +406,7 @@ module _ (rules : Rules) where
 
   -- the two containers
 
-  quote-stays : (ps : List Piece) (o : Open (List Piece)) (line i : LineView) → goes_inward (continuation_in_quote rules line) (has_open_text o) ≡ Some i
+  quote-stays : (ps : List ClosedPart) (o : Open (List ClosedPart)) (line i : LineView) → goes_inward (continuation_in_quote rules line) (has_open_text o) ≡ Some i
       → step rules (in_quote ps o) line ≡ change [] (in_quote (ps ++ (step rules o i).closed) (step rules o i).now)
   unfolding step
   quote-stays ps o line i e = ap (λ (v : Option LineView). elim v as (λ _. Change) [
@@ -414,7 +414,7 @@ module _ (rules : Rules) where
     | None ↦ after_closing rules (closing (in_quote ps o)) line
   ]) e
 
-  quote-goes : (ps : List Piece) (o : Open (List Piece)) (line : LineView) → goes_inward (continuation_in_quote rules line) (has_open_text o) ≡ None
+  quote-goes : (ps : List ClosedPart) (o : Open (List ClosedPart)) (line : LineView) → goes_inward (continuation_in_quote rules line) (has_open_text o) ≡ None
       → step rules (in_quote ps o) line ≡ after_closing rules (closing (in_quote ps o)) line
   unfolding step
   quote-goes ps o line e = ap (λ (v : Option LineView). elim v as (λ _. Change) [
@@ -422,11 +422,11 @@ module _ (rules : Rules) where
     | None ↦ after_closing rules (closing (in_quote ps o)) line
   ]) e
 
-  quote-closes : (ps : List Piece) (o : Open (List Piece)) → closing (in_quote ps o) ≡ quote_piece (put_all (ps ++ closing o) none) ∷ []
+  quote-closes : (ps : List ClosedPart) (o : Open (List ClosedPart)) → closing (in_quote ps o) ≡ closed_quote (put_all (ps ++ closing o) none) ∷ []
   unfolding closing
   quote-closes ps o = refl
 
-  item-stays : (kind : ListKind) (column : ℕ) (bare : Bool) (ps : List Piece) (o : Open (List Piece)) (line i : LineView) → goes_inward (continuation_in_item rules column bare line) (has_open_text o) ≡ Some i
+  item-stays : (kind : ListKind) (column : ℕ) (bare : Bool) (ps : List ClosedPart) (o : Open (List ClosedPart)) (line i : LineView) → goes_inward (continuation_in_item rules column bare line) (has_open_text o) ≡ Some i
       → step rules (in_item kind column bare ps o) line ≡ change [] (in_item kind column false (ps ++ (step rules o i).closed) (step rules o i).now)
   unfolding step
   item-stays kind column bare ps o line i e = ap (λ (v : Option LineView). elim v as (λ _. Change) [
@@ -434,7 +434,7 @@ module _ (rules : Rules) where
     | None ↦ after_closing rules (closing (in_item kind column bare ps o)) line
   ]) e
 
-  item-goes : (kind : ListKind) (column : ℕ) (bare : Bool) (ps : List Piece) (o : Open (List Piece)) (line : LineView) → goes_inward (continuation_in_item rules column bare line) (has_open_text o) ≡ None
+  item-goes : (kind : ListKind) (column : ℕ) (bare : Bool) (ps : List ClosedPart) (o : Open (List ClosedPart)) (line : LineView) → goes_inward (continuation_in_item rules column bare line) (has_open_text o) ≡ None
       → step rules (in_item kind column bare ps o) line ≡ after_closing rules (closing (in_item kind column bare ps o)) line
   unfolding step
   item-goes kind column bare ps o line e = ap (λ (v : Option LineView). elim v as (λ _. Change) [
@@ -442,7 +442,7 @@ module _ (rules : Rules) where
     | None ↦ after_closing rules (closing (in_item kind column bare ps o)) line
   ]) e
 
-  item-closes : (kind : ListKind) (column : ℕ) (bare : Bool) (ps : List Piece) (o : Open (List Piece)) → closing (in_item kind column bare ps o) ≡ item_piece kind (put_all (ps ++ closing o) none) ∷ []
+  item-closes : (kind : ListKind) (column : ℕ) (bare : Bool) (ps : List ClosedPart) (o : Open (List ClosedPart)) → closing (in_item kind column bare ps o) ≡ closed_item kind (put_all (ps ++ closing o) none) ∷ []
   unfolding closing
   item-closes kind column bare ps o = refl
 
@@ -480,7 +480,7 @@ module _ (rules : Rules) where
     unfolding parts_by_start code_parts fence_parts text_parts quote_parts item_parts
     by-start IndentedCode e = code-pass _ shorter (code_line line) 1 [] lines refl less
     by-start QuoteMarker e =
-        container-pass _ shorter (λ bare ps o. in_quote ps o) quote_piece (λ bare l. continuation_in_quote rules l) (λ bare. quote-closes) (λ bare. quote-stays) (λ bare. quote-goes) (λ bare l. keeps-quote rules l)
+        container-pass _ shorter (λ bare ps o. in_quote ps o) closed_quote (λ bare l. continuation_in_quote rules l) (λ bare. quote-closes) (λ bare. quote-stays) (λ bare. quote-goes) (λ bare l. keeps-quote rules l)
         (behind_quote_marker line) [] lines _ _ (begun (behind_quote_marker line))
         (omega (arith, marks-behind_quote_marker line e, size-cons line lines, size-cons (behind_quote_marker line) [], size-nil))
     by-start (AtxHeading h) e = begins-leaf (heading h.level h.content)
@@ -491,7 +491,7 @@ module _ (rules : Rules) where
     by-start BreakLine e = begins-leaf thematic_break
     by-start (ItemStart marker) e =
         let column = content_column marker line in
-        container-pass _ shorter (in_item marker.kind column) (item_piece marker.kind) (continuation_in_item rules column) (item-closes marker.kind column) (item-stays marker.kind column) (item-goes marker.kind column) (keeps-item rules column)
+        container-pass _ shorter (in_item marker.kind column) (closed_item marker.kind) (continuation_in_item rules column) (item-closes marker.kind column) (item-stays marker.kind column) (item-goes marker.kind column) (keeps-item rules column)
         (first_content marker line) [] lines _ _ (begun (first_content marker line))
         (omega (arith, marks-first_content marker line e, size-cons line lines, size-cons (first_content marker line) [], size-nil))
     by-start TextLine e = text-pass _ shorter (content_of line) lines less

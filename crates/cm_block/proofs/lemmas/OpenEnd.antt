@@ -17,23 +17,23 @@ use Rattle.cm_scan.specs.blocks.Blocks.{rest_of, NextLine, GoesOn, Ends, Underli
 use Rattle.cm_scan.specs.laws.PartLaws.{goes_inward}
 use Rattle.cm_scan.proofs.lemmas.blocks.CountedLines.{Firm, firm-content, firm-add_text, underlined}
 use Rattle.cm_block.specs.OpenLeaf.{OpenLeaf, no_leaf, open_text, open_code, open_fence, open_html, run_leaves, closed_leaves, is_open_text, LeafLine, stays_open, is_last, line_of_text, line_of_code, line_of_fence, line_of_html, line_of_leaf, LineOpens, begins_nothing, begins_leaf, begins_quote, begins_item, begin_of_start, begin_of}
-use Rattle.cm_block.specs.Machine.{Piece, blank_piece, leaf_piece, quote_piece, item_piece, put, put_all, Open, in_leaf, in_quote, in_item, has_open_text, Change, change, leaf_pieces, closing, leaf_change, begin_by, begin_within, begin, after_closing, leaf_step, step, Machine, new_machine, take_line, take_lines}
+use Rattle.cm_block.specs.Machine.{ClosedPart, closed_blank, closed_leaf, closed_quote, closed_item, put, put_all, Open, in_leaf, in_quote, in_item, has_open_text, Change, change, parts_of_leaves, closing, leaf_change, begin_by, begin_within, begin, after_closing, leaf_step, step, Machine, new_machine, take_line, take_lines}
 use Rattle.cm_block.proofs.lemmas.BeginCases.{OfInner, inner-less, of-less}
 
--- whether the last line of some pieces is a paragraph's or a definition's; the mark is the answer for the lines before
-abbrev pub piece_open : Piece → Bool
-piece_open blank_piece = false
-piece_open (leaf_piece x lines) = is_open_leaf x
-piece_open (quote_piece inside) = leaves_paragraph_open inside
-piece_open (item_piece kind inside) = leaves_paragraph_open inside
+-- whether the last line of some closed parts is a paragraph's or a definition's; the mark is the answer for the lines before
+abbrev pub closed_part_open : ClosedPart → Bool
+closed_part_open closed_blank = false
+closed_part_open (closed_leaf x lines) = is_open_leaf x
+closed_part_open (closed_quote inside) = leaves_paragraph_open inside
+closed_part_open (closed_item kind inside) = leaves_paragraph_open inside
 
-abbrev pub last_open : (before : Bool) → List Piece → Bool
+abbrev pub last_open : (before : Bool) → List ClosedPart → Bool
 last_open before [] = before
-last_open before (piece ∷ pieces) = last_open (piece_open piece) pieces
+last_open before (closed_part ∷ closed_parts) = last_open (closed_part_open closed_part) closed_parts
 
-last_open-append : (before : Bool) (ps qs : List Piece) → last_open before (ps ++ qs) ≡ last_open (last_open before ps) qs
+last_open-append : (before : Bool) (ps qs : List ClosedPart) → last_open before (ps ++ qs) ≡ last_open (last_open before ps) qs
 last_open-append before [] qs = refl
-last_open-append before (x ∷ ps) qs = last_open-append (piece_open x) ps qs
+last_open-append before (x ∷ ps) qs = last_open-append (closed_part_open x) ps qs
 
 -- a reading that there is
 pub given-is : {A : Type 0} (b : Bool) (x y : A) → given b x ≡ Some y → x ≡ y
@@ -51,23 +51,23 @@ next-open kind n before (quote c p) following e = grind (arith, e)
 next-open kind n before (list other items p) following e =
     ap (λ (f : ℕ × ItemParts × Parts). leaves_open_after (items_leave_open f.1) f.2) (given-is (is_same_kind kind other) (n, items, p) following e)
 
-put-open : (x : Piece) (before : Bool) (p : Parts) → leaves_open_after before (put x p) ≡ leaves_open_after (piece_open x) p
+put-open : (x : ClosedPart) (before : Bool) (p : Parts) → leaves_open_after before (put x p) ≡ leaves_open_after (closed_part_open x) p
 unfolding put_item leaves_open_after leaves_paragraph_open
-put-open blank_piece before p = refl
-put-open (leaf_piece x n) before p = refl
-put-open (quote_piece c) before p = refl
-put-open (item_piece kind c) before p = go (next_items kind 0 p) refl
+put-open closed_blank before p = refl
+put-open (closed_leaf x n) before p = refl
+put-open (closed_quote c) before p = refl
+put-open (closed_item kind c) before p = go (next_items kind 0 p) refl
   where
     go : (v : Option (ℕ × ItemParts × Parts)) → next_items kind 0 p ≡ v → leaves_open_after before (put_before kind c p v) ≡ leaves_open_after (leaves_open_after false c) p
     go None e = refl
     go (Some following) e = sym (next-open kind 0 (leaves_open_after false c) p following e)
 
-put_all-open : (ps : List Piece) (before : Bool) (p : Parts) → leaves_open_after before (put_all ps p) ≡ leaves_open_after (last_open before ps) p
+put_all-open : (ps : List ClosedPart) (before : Bool) (p : Parts) → leaves_open_after before (put_all ps p) ≡ leaves_open_after (last_open before ps) p
 unfolding put_all
 put_all-open [] before p = refl
-put_all-open (x ∷ ps) before p = put-open x before (put_all ps p) ∙ put_all-open ps (piece_open x) p
+put_all-open (x ∷ ps) before p = put-open x before (put_all ps p) ∙ put_all-open ps (closed_part_open x) p
 
-ends-open : (ps : List Piece) → leaves_paragraph_open (put_all ps none) ≡ last_open false ps
+ends-open : (ps : List ClosedPart) → leaves_paragraph_open (put_all ps none) ≡ last_open false ps
 unfolding leaves_paragraph_open leaves_open_after
 ends-open ps = put_all-open ps false none
 
@@ -84,11 +84,11 @@ some-trim_end (b ∷ bs) h = some-keep_byte b (trim_end bs) h
 
 -- its leaves
 
-leaf_pieces-append : (xs ys : List (LeafPart × ℕ)) → leaf_pieces (xs ++ ys) ≡ leaf_pieces xs ++ leaf_pieces ys
-leaf_pieces-append [] ys = refl
-leaf_pieces-append (x ∷ xs) ys = ap (λ ps. leaf_piece x.0 x.1 ∷ ps) (leaf_pieces-append xs ys)
+parts_of_leaves-append : (xs ys : List (LeafPart × ℕ)) → parts_of_leaves (xs ++ ys) ≡ parts_of_leaves xs ++ parts_of_leaves ys
+parts_of_leaves-append [] ys = refl
+parts_of_leaves-append (x ∷ xs) ys = ap (λ ps. closed_leaf x.0 x.1 ∷ ps) (parts_of_leaves-append xs ys)
 
-definitions-open : (text : List ℕ) (ds : List LinkDefinition) → last_open true (leaf_pieces (definition_leaves text ds)) ≡ true
+definitions-open : (text : List ℕ) (ds : List LinkDefinition) → last_open true (parts_of_leaves (definition_leaves text ds)) ≡ true
 unfolding definition_leaves
 definitions-open text [] = refl
 definitions-open text (d ∷ ds) = definitions-open d.rest ds
@@ -113,19 +113,19 @@ pub true-false : true ≡ false → ⊥
 true-false e = grind (arith, e)
 
 leaves-open : (source left : List ℕ) (taken : List LinkDefinition) (before : Bool) → (taken ≡ [] → left ≡ source) → is_empty source ≡ false
-    → last_open before (leaf_pieces (definition_leaves source taken ++ content_leaf None left)) ≡ true
+    → last_open before (parts_of_leaves (definition_leaves source taken ++ content_leaf None left)) ≡ true
 unfolding definition_leaves
 leaves-open source (b ∷ t) taken before same h =
-    ap (λ ps. last_open before ps) (leaf_pieces-append (definition_leaves source taken) (content_leaf None (b ∷ t)))
-    ∙ last_open-append before (leaf_pieces (definition_leaves source taken)) (leaf_pieces (content_leaf None (b ∷ t)))
+    ap (λ ps. last_open before ps) (parts_of_leaves-append (definition_leaves source taken) (content_leaf None (b ∷ t)))
+    ∙ last_open-append before (parts_of_leaves (definition_leaves source taken)) (parts_of_leaves (content_leaf None (b ∷ t)))
 leaves-open source [] (d ∷ ds) before same h =
-    ap (λ ps. last_open before ps) (leaf_pieces-append (definition_leaves source (d ∷ ds)) [])
-    ∙ last_open-append before (leaf_pieces (definition_leaves source (d ∷ ds))) []
+    ap (λ ps. last_open before ps) (parts_of_leaves-append (definition_leaves source (d ∷ ds)) [])
+    ∙ last_open-append before (parts_of_leaves (definition_leaves source (d ∷ ds))) []
     ∙ definitions-open d.rest ds
 leaves-open source [] [] before same h = absurd (true-false (ap is_empty (same refl) ∙ h))
 
 -- a run that is closed ends in a paragraph or a definition
-pub run-open : (source : List ℕ) (before : Bool) → Firm source → last_open before (leaf_pieces (run_leaves None source)) ≡ true
+pub run-open : (source : List ℕ) (before : Bool) → Firm source → last_open before (parts_of_leaves (run_leaves None source)) ≡ true
 unfolding leaves_of_run definitions_of
 run-open source before h =
     let text = trim_end source in
@@ -133,17 +133,17 @@ run-open source before h =
     leaves-open text found.left found.taken before (definitions-left (length text) text) (some-trim_end source h)
 
 -- one that is underlined doesn't
-content-closed : (before : Bool) (level : ℕ) (text : List ℕ) → is_empty text ≡ false → last_open before (leaf_pieces (content_leaf (Some level) text)) ≡ false
+content-closed : (before : Bool) (level : ℕ) (text : List ℕ) → is_empty text ≡ false → last_open before (parts_of_leaves (content_leaf (Some level) text)) ≡ false
 content-closed before level [] e = grind (arith, e)
 content-closed before level (b ∷ t) e = refl
 
-heading-closed : (source : List ℕ) (level : ℕ) (before : Bool) → is_empty (rest_of source) ≡ false → last_open before (leaf_pieces (run_leaves (Some level) source)) ≡ false
+heading-closed : (source : List ℕ) (level : ℕ) (before : Bool) → is_empty (rest_of source) ≡ false → last_open before (parts_of_leaves (run_leaves (Some level) source)) ≡ false
 unfolding leaves_of_run rest_of
 heading-closed source level before h =
     let text = trim_end source in
     let found = definitions_of text in
-    ap (λ ps. last_open before ps) (leaf_pieces-append (definition_leaves text found.taken) (content_leaf (Some level) found.left))
-    ∙ last_open-append before (leaf_pieces (definition_leaves text found.taken)) (leaf_pieces (content_leaf (Some level) found.left))
+    ap (λ ps. last_open before ps) (parts_of_leaves-append (definition_leaves text found.taken) (content_leaf (Some level) found.left))
+    ∙ last_open-append before (parts_of_leaves (definition_leaves text found.taken)) (parts_of_leaves (content_leaf (Some level) found.left))
     ∙ content-closed _ level found.left h
 
 -- what the states that lines lead to keep: a run of text is firm; where nothing is open, the last line is no paragraph's; an item isn't
@@ -155,46 +155,46 @@ SoundLeaf no_leaf = ⊥
 SoundLeaf (open_text source) = Firm source
 SoundLeaf _ = ⊤
 
-abbrev pub FitLeaf : List Piece → OpenLeaf → Type 0
-FitLeaf pieces no_leaf = last_open false pieces ≡ false
-FitLeaf pieces (open_text source) = Firm source
-FitLeaf pieces _ = ⊤
+abbrev pub FitLeaf : List ClosedPart → OpenLeaf → Type 0
+FitLeaf closed_parts no_leaf = last_open false closed_parts ≡ false
+FitLeaf closed_parts (open_text source) = Firm source
+FitLeaf closed_parts _ = ⊤
 
-abbrev pub NotFresh : List Piece → Open (List Piece) → Type 0
+abbrev pub NotFresh : List ClosedPart → Open (List ClosedPart) → Type 0
 NotFresh [] (in_leaf no_leaf) = ⊥
 NotFresh _ _ = ⊤
 
-unfoldable pub Fit : List Piece → Open (List Piece) → Type 0
-Fit pieces (in_leaf x) = FitLeaf pieces x
-Fit pieces (in_quote closed now) = Fit closed now
-Fit pieces (in_item kind column bare closed now) = NotFresh closed now × Fit closed now
+unfoldable pub Fit : List ClosedPart → Open (List ClosedPart) → Type 0
+Fit closed_parts (in_leaf x) = FitLeaf closed_parts x
+Fit closed_parts (in_quote closed now) = Fit closed now
+Fit closed_parts (in_item kind column bare closed now) = NotFresh closed now × Fit closed now
 
-blanks-closed : (n : ℕ) → last_open false (replicate n blank_piece) ≡ false
+blanks-closed : (n : ℕ) → last_open false (replicate n closed_blank) ≡ false
 blanks-closed zero = refl
 blanks-closed (suc n) = blanks-closed n
 
-leaf-open : (x : OpenLeaf) (pieces : List Piece) → FitLeaf pieces x → is_open_text x ≡ last_open (last_open false pieces) (closing (in_leaf x))
+leaf-open : (x : OpenLeaf) (closed_parts : List ClosedPart) → FitLeaf closed_parts x → is_open_text x ≡ last_open (last_open false closed_parts) (closing (in_leaf x))
 unfolding closing closed_leaves
-leaf-open no_leaf pieces h = sym h
-leaf-open (open_text source) pieces h = sym (ap (λ ps. last_open (last_open false pieces) ps) (append-nil (leaf_pieces (run_leaves None source))) ∙ run-open source _ h)
-leaf-open (open_code text lines blank_text blank_lines) pieces h = sym (blanks-closed blank_lines)
-leaf-open (open_fence fence columns text lines) pieces h = refl
-leaf-open (open_html kind text lines) pieces h = refl
+leaf-open no_leaf closed_parts h = sym h
+leaf-open (open_text source) closed_parts h = sym (ap (λ ps. last_open (last_open false closed_parts) ps) (append-nil (parts_of_leaves (run_leaves None source))) ∙ run-open source _ h)
+leaf-open (open_code text lines blank_text blank_lines) closed_parts h = sym (blanks-closed blank_lines)
+leaf-open (open_fence fence columns text lines) closed_parts h = refl
+leaf-open (open_html kind text lines) closed_parts h = refl
 
-open-last : (now : Open (List Piece)) (pieces : List Piece) → Fit pieces now → has_open_text now ≡ last_open (last_open false pieces) (closing now)
+open-last : (now : Open (List ClosedPart)) (closed_parts : List ClosedPart) → Fit closed_parts now → has_open_text now ≡ last_open (last_open false closed_parts) (closing now)
 unfolding Fit has_open_text closing
-open-last (in_leaf x) pieces h = leaf-open x pieces h
-open-last (in_quote closed now) pieces h = open-last now closed h ∙ sym (last_open-append false closed (closing now)) ∙ sym (ends-open (closed ++ closing now))
-open-last (in_item kind column bare closed now) pieces h = open-last now closed h.1 ∙ sym (last_open-append false closed (closing now)) ∙ sym (ends-open (closed ++ closing now))
+open-last (in_leaf x) closed_parts h = leaf-open x closed_parts h
+open-last (in_quote closed now) closed_parts h = open-last now closed h ∙ sym (last_open-append false closed (closing now)) ∙ sym (ends-open (closed ++ closing now))
+open-last (in_item kind column bare closed now) closed_parts h = open-last now closed h.1 ∙ sym (last_open-append false closed (closing now)) ∙ sym (ends-open (closed ++ closing now))
 
-pub fit-open : (now : Open (List Piece)) (pieces : List Piece) → Fit pieces now → has_open_text now ≡ leaves_paragraph_open (put_all (pieces ++ closing now) none)
-fit-open now pieces h = open-last now pieces h ∙ sym (last_open-append false pieces (closing now)) ∙ sym (ends-open (pieces ++ closing now))
+pub fit-open : (now : Open (List ClosedPart)) (closed_parts : List ClosedPart) → Fit closed_parts now → has_open_text now ≡ leaves_paragraph_open (put_all (closed_parts ++ closing now) none)
+fit-open now closed_parts h = open-last now closed_parts h ∙ sym (last_open-append false closed_parts (closing now)) ∙ sym (ends-open (closed_parts ++ closing now))
 
 -- each line of a leaf, and what a line begins, is sound
 
 abbrev pub SoundLine : LeafLine → Type 0
 SoundLine (stays_open x) = SoundLeaf x
-SoundLine (is_last leaves) = (before : Bool) → last_open before (leaf_pieces leaves) ≡ false
+SoundLine (is_last leaves) = (before : Bool) → last_open before (parts_of_leaves leaves) ≡ false
 
 html-sound : (kind : HtmlKind) (text : List ℕ) (lines : ℕ) (line : LineView) (ends : Bool) → SoundLine (line_of_html kind text lines line ends)
 html-sound kind text lines line true = λ before. refl
@@ -204,27 +204,27 @@ abbrev pub SoundLineOf : Option LeafLine → Type 0
 SoundLineOf None = ⊤
 SoundLineOf (Some l) = SoundLine l
 
-pub sound-line : (rules : Rules) (x : OpenLeaf) (pieces : List Piece) (line : LineView) → FitLeaf pieces x → SoundLineOf (line_of_leaf rules x line)
+pub sound-line : (rules : Rules) (x : OpenLeaf) (closed_parts : List ClosedPart) (line : LineView) → FitLeaf closed_parts x → SoundLineOf (line_of_leaf rules x line)
 unfolding line_of_leaf
-sound-line rules no_leaf pieces line h = tt
-sound-line rules (open_text source) pieces line h = go (next_line rules source line) refl
+sound-line rules no_leaf closed_parts line h = tt
+sound-line rules (open_text source) closed_parts line h = go (next_line rules source line) refl
   where
     go : (v : NextLine) → next_line rules source line ≡ v → SoundLineOf (line_of_text source line v)
     go GoesOn e = firm-add_text source line h
     go Ends e = tt
     go (Underlines level) e = λ before. heading-closed source level before (underlined rules source line level e)
-sound-line rules (open_code text lines blank_text blank_lines) pieces line h = go (is_blank line) (nat_le 4 (indent_of line))
+sound-line rules (open_code text lines blank_text blank_lines) closed_parts line h = go (is_blank line) (nat_le 4 (indent_of line))
   where
     go : (a b : Bool) → SoundLineOf (line_of_code text lines blank_text blank_lines line a b)
     go true b = tt
     go false true = tt
     go false false = tt
-sound-line rules (open_fence fence columns text lines) pieces line h = go (closes_fence fence line)
+sound-line rules (open_fence fence columns text lines) closed_parts line h = go (closes_fence fence line)
   where
     go : (b : Bool) → SoundLine (line_of_fence fence columns text lines line b)
     go true = λ before. refl
     go false = tt
-sound-line rules (open_html kind text lines) pieces line h = go (ends_at_blank_line kind && is_blank line)
+sound-line rules (open_html kind text lines) closed_parts line h = go (ends_at_blank_line kind && is_blank line)
   where
     go : (a : Bool) → SoundLineOf (elim a as (λ _. Option LeafLine) [ true ↦ None | false ↦ Some (line_of_html kind text lines line (is_html_end kind line.text)) ])
     go true = tt
@@ -252,12 +252,12 @@ begin-sound rules line = go (is_blank line) refl
     go true e = tt
     go false e = start-sound rules line e (start_of rules line)
 
--- a change behind any pieces keeps it
+-- a change behind any closed parts keeps it
 
-abbrev pub Fits : List Piece → Change → Type 0
-Fits pieces c = Fit (pieces ++ c.closed) c.now × NotFresh c.closed c.now
+abbrev pub Fits : List ClosedPart → Change → Type 0
+Fits closed_parts c = Fit (closed_parts ++ c.closed) c.now × NotFresh c.closed c.now
 
-pub not-fresh-behind : (ps qs : List Piece) (now : Open (List Piece)) → NotFresh qs now → NotFresh (ps ++ qs) now
+pub not-fresh-behind : (ps qs : List ClosedPart) (now : Open (List ClosedPart)) → NotFresh qs now → NotFresh (ps ++ qs) now
 not-fresh-behind [] qs now h = h
 not-fresh-behind (x ∷ ps) qs now h = tt
 
@@ -267,76 +267,76 @@ HasLeaves [] = ⊥
 HasLeaves (x ∷ xs) = ⊤
 
 -- leaves that tell whether a paragraph is left open are some
-pub some-closed : (leaves : List (LeafPart × ℕ)) → ((before : Bool) → last_open before (leaf_pieces leaves) ≡ false) → HasLeaves leaves
+pub some-closed : (leaves : List (LeafPart × ℕ)) → ((before : Bool) → last_open before (parts_of_leaves leaves) ≡ false) → HasLeaves leaves
 some-closed [] h = absurd (true-false (h true))
 some-closed (x ∷ xs) h = tt
 
-pub some-open : (leaves : List (LeafPart × ℕ)) → last_open false (leaf_pieces leaves) ≡ true → HasLeaves leaves
+pub some-open : (leaves : List (LeafPart × ℕ)) → last_open false (parts_of_leaves leaves) ≡ true → HasLeaves leaves
 some-open [] h = absurd (true-false (sym h))
 some-open (x ∷ xs) h = tt
 
-not-fresh-leaves : (leaves : List (LeafPart × ℕ)) → HasLeaves leaves → NotFresh (leaf_pieces leaves) (in_leaf no_leaf)
+not-fresh-leaves : (leaves : List (LeafPart × ℕ)) → HasLeaves leaves → NotFresh (parts_of_leaves leaves) (in_leaf no_leaf)
 not-fresh-leaves [] h = absurd h
 not-fresh-leaves (x ∷ xs) h = tt
 
-last-push : (ps : List Piece) (x : Piece) → piece_open x ≡ false → last_open false (ps ++ x ∷ []) ≡ false
+last-push : (ps : List ClosedPart) (x : ClosedPart) → closed_part_open x ≡ false → last_open false (ps ++ x ∷ []) ≡ false
 last-push ps x e = last_open-append false ps (x ∷ []) ∙ e
 
-fits-leaf : (pieces : List Piece) (l : LeafLine) → SoundLine l → Fits pieces (leaf_change l)
+fits-leaf : (closed_parts : List ClosedPart) (l : LeafLine) → SoundLine l → Fits closed_parts (leaf_change l)
 unfolding Fit
-fits-leaf pieces (is_last leaves) h = (last_open-append false pieces (leaf_pieces leaves) ∙ h _, not-fresh-leaves leaves (some-closed leaves h))
-fits-leaf pieces (stays_open no_leaf) h = absurd h
-fits-leaf pieces (stays_open (open_text source)) h = (h, tt)
-fits-leaf pieces (stays_open (open_code text lines blank_text blank_lines)) h = (tt, tt)
-fits-leaf pieces (stays_open (open_fence fence columns text lines)) h = (tt, tt)
-fits-leaf pieces (stays_open (open_html kind text lines)) h = (tt, tt)
+fits-leaf closed_parts (is_last leaves) h = (last_open-append false closed_parts (parts_of_leaves leaves) ∙ h _, not-fresh-leaves leaves (some-closed leaves h))
+fits-leaf closed_parts (stays_open no_leaf) h = absurd h
+fits-leaf closed_parts (stays_open (open_text source)) h = (h, tt)
+fits-leaf closed_parts (stays_open (open_code text lines blank_text blank_lines)) h = (tt, tt)
+fits-leaf closed_parts (stays_open (open_fence fence columns text lines)) h = (tt, tt)
+fits-leaf closed_parts (stays_open (open_html kind text lines)) h = (tt, tt)
 
-fits-by : (begin : LineView → Change) (pieces : List Piece) (b : LineOpens) → SoundBegin b → OfInner (λ inner. Fits [] (begin inner)) b → Fits pieces (begin_by begin b)
+fits-by : (begin : LineView → Change) (closed_parts : List ClosedPart) (b : LineOpens) → SoundBegin b → OfInner (λ inner. Fits [] (begin inner)) b → Fits closed_parts (begin_by begin b)
 unfolding Fit
-fits-by begin pieces begins_nothing h i = (last-push pieces blank_piece refl, tt)
-fits-by begin pieces (begins_leaf l) h i = fits-leaf pieces l h
-fits-by begin pieces (begins_quote inner) h i = (i.0, tt)
-fits-by begin pieces (begins_item kind column inner) h i = ((i.1, i.0), tt)
+fits-by begin closed_parts begins_nothing h i = (last-push closed_parts closed_blank refl, tt)
+fits-by begin closed_parts (begins_leaf l) h i = fits-leaf closed_parts l h
+fits-by begin closed_parts (begins_quote inner) h i = (i.0, tt)
+fits-by begin closed_parts (begins_item kind column inner) h i = ((i.1, i.0), tt)
 
-fits-within : (rules : Rules) (n : ℕ) (line : LineView) → marks line.text < n → (pieces : List Piece) → Fits pieces (begin_within rules n line)
+fits-within : (rules : Rules) (n : ℕ) (line : LineView) → marks line.text < n → (closed_parts : List ClosedPart) → Fits closed_parts (begin_within rules n line)
 unfolding begin_within
-fits-within rules zero line less pieces = absurd (omega arith)
-fits-within rules (suc n) line less pieces =
-    fits-by (λ l. begin_within rules n l) pieces (begin_of rules line) (begin-sound rules line)
+fits-within rules zero line less closed_parts = absurd (omega arith)
+fits-within rules (suc n) line less closed_parts =
+    fits-by (λ l. begin_within rules n l) closed_parts (begin_of rules line) (begin-sound rules line)
     (of-less (λ l. marks l.text < marks line.text) _ (λ l fewer. fits-within rules n l (omega arith) []) (begin_of rules line) (inner-less rules line))
 
-fits-begin : (rules : Rules) (line : LineView) (pieces : List Piece) → Fits pieces (begin rules line)
+fits-begin : (rules : Rules) (line : LineView) (closed_parts : List ClosedPart) → Fits closed_parts (begin rules line)
 unfolding begin
-fits-begin rules line pieces = fits-within rules (suc (marks line.text)) line (le_refl _) pieces
+fits-begin rules line closed_parts = fits-within rules (suc (marks line.text)) line (le_refl _) closed_parts
 
-fits-after : (rules : Rules) (pieces closed : List Piece) (line : LineView) → Fits pieces (after_closing rules closed line)
-fits-after rules pieces closed line =
-    let h : Fits (pieces ++ closed) (begin rules line) = fits-begin rules line (pieces ++ closed) in
-    (subst (λ ps. Fit ps (begin rules line).now) (append_assoc pieces closed (begin rules line).closed) h.0, not-fresh-behind closed (begin rules line).closed (begin rules line).now h.1)
+fits-after : (rules : Rules) (closed_parts closed : List ClosedPart) (line : LineView) → Fits closed_parts (after_closing rules closed line)
+fits-after rules closed_parts closed line =
+    let h : Fits (closed_parts ++ closed) (begin rules line) = fits-begin rules line (closed_parts ++ closed) in
+    (subst (λ ps. Fit ps (begin rules line).now) (append_assoc closed_parts closed (begin rules line).closed) h.0, not-fresh-behind closed (begin rules line).closed (begin rules line).now h.1)
 
-pub fits-step : (rules : Rules) (now : Open (List Piece)) (line : LineView) (pieces : List Piece) → Fit pieces now → Fits pieces (step rules now line)
+pub fits-step : (rules : Rules) (now : Open (List ClosedPart)) (line : LineView) (closed_parts : List ClosedPart) → Fit closed_parts now → Fits closed_parts (step rules now line)
 unfolding Fit step
-fits-step rules (in_leaf x) line pieces h = go (line_of_leaf rules x line) (sound-line rules x pieces line h)
+fits-step rules (in_leaf x) line closed_parts h = go (line_of_leaf rules x line) (sound-line rules x closed_parts line h)
   where
-    go : (v : Option LeafLine) → SoundLineOf v → Fits pieces (leaf_step rules x line v)
-    go None s = fits-after rules pieces (closing (in_leaf x)) line
-    go (Some l) s = fits-leaf pieces l s
-fits-step rules (in_quote closed now) line pieces h = go (goes_inward (continuation_in_quote rules line) (has_open_text now)) (λ inner. fits-step rules now inner closed h)
+    go : (v : Option LeafLine) → SoundLineOf v → Fits closed_parts (leaf_step rules x line v)
+    go None s = fits-after rules closed_parts (closing (in_leaf x)) line
+    go (Some l) s = fits-leaf closed_parts l s
+fits-step rules (in_quote closed now) line closed_parts h = go (goes_inward (continuation_in_quote rules line) (has_open_text now)) (λ inner. fits-step rules now inner closed h)
   where
-    go : (v : Option LineView) → ((inner : LineView) → Fits closed (step rules now inner)) → Fits pieces (elim v as (λ _. Change) [
+    go : (v : Option LineView) → ((inner : LineView) → Fits closed (step rules now inner)) → Fits closed_parts (elim v as (λ _. Change) [
       | Some inner ↦ let c = step rules now inner in change [] (in_quote (closed ++ c.closed) c.now)
       | None ↦ after_closing rules (closing (in_quote closed now)) line
     ])
-    go None f = fits-after rules pieces (closing (in_quote closed now)) line
+    go None f = fits-after rules closed_parts (closing (in_quote closed now)) line
     go (Some inner) f = ((f inner).0, tt)
-fits-step rules (in_item kind column bare closed now) line pieces h =
+fits-step rules (in_item kind column bare closed now) line closed_parts h =
     go (goes_inward (continuation_in_item rules column bare line) (has_open_text now)) (λ inner. fits-step rules now inner closed h.1)
   where
-    go : (v : Option LineView) → ((inner : LineView) → Fits closed (step rules now inner)) → Fits pieces (elim v as (λ _. Change) [
+    go : (v : Option LineView) → ((inner : LineView) → Fits closed (step rules now inner)) → Fits closed_parts (elim v as (λ _. Change) [
       | Some inner ↦ let c = step rules now inner in change [] (in_item kind column false (closed ++ c.closed) c.now)
       | None ↦ after_closing rules (closing (in_item kind column bare closed now)) line
     ])
-    go None f = fits-after rules pieces (closing (in_item kind column bare closed now)) line
+    go None f = fits-after rules closed_parts (closing (in_item kind column bare closed now)) line
     go (Some inner) f = ((not-fresh-behind closed (step rules now inner).closed (step rules now inner).now (f inner).1, (f inner).0), tt)
 
 fit-take : (rules : Rules) (m : Machine) (lines : List LineView) → Fit m.closed m.now → Fit (take_lines rules m lines).closed (take_lines rules m lines).now

@@ -1,4 +1,4 @@
--- The owners of the lines of pieces, and the table of the definitions in them, from the left.
+-- The owners of the lines of closed parts, and the table of the definitions in them, from the left.
 use Rattle.std.specs.Prelude.{replicate}
 use Rattle.std.proofs.Common.{◌≡◌, ℕ, zero, suc, ◌+◌, Bool, true, false, List, [], ◌∷◌, ◌++◌, map, refl, ◌∙◌, sym, ap, ap₂, arith, Option, Some, None}
 use Rattle.std.proofs.lemmas.List.{append_assoc, append-nil}
@@ -10,25 +10,25 @@ use Rattle.cm_text.specs.Labels.{fold_label}
 use Rattle.cm_text.specs.Unescaping.{unescape}
 use Rattle.cm_scan.specs.blocks.LineForms.{is_same_kind}
 use Rattle.cm_scan.specs.blocks.Parts.{LeafPart, paragraph, heading, code, html, thematic_break, definition, Parts, none, blank, leaf, quote, list, ItemParts, next_items, put_before, put_item, leaf_count, item_leaf_count, marked, marked_first, owners_after, item_owners_after, definitions_in, item_definitions_in}
-use Rattle.cm_block.specs.Machine.{Piece, blank_piece, leaf_piece, quote_piece, item_piece, put, put_all, leaf_pieces}
+use Rattle.cm_block.specs.Machine.{ClosedPart, closed_blank, closed_leaf, closed_quote, closed_item, put, put_all, parts_of_leaves}
 use Rattle.cm_block.proofs.lemmas.OpenEnd.{given-is}
 use Rattle.cm_block.specs.Stack.{Owned, table_with, own_leaf, own_lines, own_leaves, own_blanks}
 
--- the owners of a piece's lines, where so many leaves stand before
-abbrev pub piece_owners : ℕ → Piece → List Owner
-piece_owners n blank_piece = Blank ∷ []
-piece_owners n (leaf_piece x lines) = replicate lines (Leaf (suc n))
-piece_owners n (quote_piece c) = map marked (owners_after n c)
-piece_owners n (item_piece kind c) = marked_first c (owners_after n c)
+-- the owners of a closed part's lines, where so many leaves stand before
+abbrev pub closed_part_owners : ℕ → ClosedPart → List Owner
+closed_part_owners n closed_blank = Blank ∷ []
+closed_part_owners n (closed_leaf x lines) = replicate lines (Leaf (suc n))
+closed_part_owners n (closed_quote c) = map marked (owners_after n c)
+closed_part_owners n (closed_item kind c) = marked_first c (owners_after n c)
 
 -- how many leaves stand before what follows it
-abbrev pub leaves_behind : ℕ → Piece → ℕ
-leaves_behind n blank_piece = n
-leaves_behind n (leaf_piece x lines) = suc n
-leaves_behind n (quote_piece c) = n + leaf_count c
-leaves_behind n (item_piece kind c) = n + leaf_count c
+abbrev pub leaves_behind : ℕ → ClosedPart → ℕ
+leaves_behind n closed_blank = n
+leaves_behind n (closed_leaf x lines) = suc n
+leaves_behind n (closed_quote c) = n + leaf_count c
+leaves_behind n (closed_item kind c) = n + leaf_count c
 
--- parts behind a piece
+-- parts behind a closed part
 
 abbrev blanks : ℕ → List Owner
 blanks n = replicate n Blank
@@ -57,12 +57,12 @@ next-leaves kind b (leaf x n p) f e = grind (arith, e)
 next-leaves kind b (quote c p) f e = grind (arith, e)
 next-leaves kind b (list other items p) f e = grind (arith, e)
 
-put-owners : (x : Piece) (n : ℕ) (p : Parts) → owners_after n (put x p) ≡ piece_owners n x ++ owners_after (leaves_behind n x) p
+put-owners : (x : ClosedPart) (n : ℕ) (p : Parts) → owners_after n (put x p) ≡ closed_part_owners n x ++ owners_after (leaves_behind n x) p
 unfolding put_item owners_after leaf_count
-put-owners blank_piece n p = refl
-put-owners (leaf_piece x m) n p = refl
-put-owners (quote_piece c) n p = refl
-put-owners (item_piece kind c) n p = go (next_items kind 0 p) refl
+put-owners closed_blank n p = refl
+put-owners (closed_leaf x m) n p = refl
+put-owners (closed_quote c) n p = refl
+put-owners (closed_item kind c) n p = go (next_items kind 0 p) refl
   where
     first : List Owner
     first = marked_first c (owners_after n c)
@@ -78,28 +78,28 @@ put-owners (item_piece kind c) n p = go (next_items kind 0 p) refl
         plus : (a b : ℕ) → n + (a + b) ≡ n + a + b
         plus a b = omega arith
 
-put-leaves : (x : Piece) (n : ℕ) (p : Parts) → n + leaf_count (put x p) ≡ leaves_behind n x + leaf_count p
+put-leaves : (x : ClosedPart) (n : ℕ) (p : Parts) → n + leaf_count (put x p) ≡ leaves_behind n x + leaf_count p
 unfolding put_item leaf_count
-put-leaves blank_piece n p = refl
-put-leaves (leaf_piece x m) n p = omega arith
-put-leaves (quote_piece c) n p = omega arith
-put-leaves (item_piece kind c) n p = go (next_items kind 0 p) refl
+put-leaves closed_blank n p = refl
+put-leaves (closed_leaf x m) n p = omega arith
+put-leaves (closed_quote c) n p = omega arith
+put-leaves (closed_item kind c) n p = go (next_items kind 0 p) refl
   where
     go : (v : Option (ℕ × ItemParts × Parts)) → next_items kind 0 p ≡ v → n + leaf_count (put_before kind c p v) ≡ n + leaf_count c + leaf_count p
     go None e = omega arith
     go (Some f) e = omega (arith, next-leaves kind 0 p f e)
 
--- the definitions in a piece
+-- the definitions in a closed part
 
 abbrev pub leaf_definitions : LeafPart → List (List ℕ × Target)
 leaf_definitions (definition label dest title) = (label, (unescape dest, unescape title)) ∷ []
 leaf_definitions _ = []
 
-abbrev pub piece_definitions : Piece → List (List ℕ × Target)
-piece_definitions blank_piece = []
-piece_definitions (leaf_piece x lines) = leaf_definitions x
-piece_definitions (quote_piece c) = definitions_in c
-piece_definitions (item_piece kind c) = definitions_in c
+abbrev pub closed_part_definitions : ClosedPart → List (List ℕ × Target)
+closed_part_definitions closed_blank = []
+closed_part_definitions (closed_leaf x lines) = leaf_definitions x
+closed_part_definitions (closed_quote c) = definitions_in c
+closed_part_definitions (closed_item kind c) = definitions_in c
 
 leaf-table : (t : Targets) (x : LeafPart) → table_with t x ≡ add_all t (leaf_definitions x)
 leaf-table t (paragraph source) = refl
@@ -121,17 +121,17 @@ next-definitions kind b (leaf x n p) f e = grind (arith, e)
 next-definitions kind b (quote c p) f e = grind (arith, e)
 next-definitions kind b (list other items p) f e = ap (λ (f : ℕ × ItemParts × Parts). item_definitions_in f.1 ++ definitions_in f.2) (given-is (is_same_kind kind other) (b, items, p) f e)
 
-put-definitions : (x : Piece) (p : Parts) → definitions_in (put x p) ≡ piece_definitions x ++ definitions_in p
+put-definitions : (x : ClosedPart) (p : Parts) → definitions_in (put x p) ≡ closed_part_definitions x ++ definitions_in p
 unfolding put_item definitions_in
-put-definitions blank_piece p = refl
-put-definitions (leaf_piece (paragraph source) m) p = refl
-put-definitions (leaf_piece (heading level source) m) p = refl
-put-definitions (leaf_piece (code info text) m) p = refl
-put-definitions (leaf_piece (html text) m) p = refl
-put-definitions (leaf_piece thematic_break m) p = refl
-put-definitions (leaf_piece (definition label dest title) m) p = refl
-put-definitions (quote_piece c) p = refl
-put-definitions (item_piece kind c) p = go (next_items kind 0 p) refl
+put-definitions closed_blank p = refl
+put-definitions (closed_leaf (paragraph source) m) p = refl
+put-definitions (closed_leaf (heading level source) m) p = refl
+put-definitions (closed_leaf (code info text) m) p = refl
+put-definitions (closed_leaf (html text) m) p = refl
+put-definitions (closed_leaf thematic_break m) p = refl
+put-definitions (closed_leaf (definition label dest title) m) p = refl
+put-definitions (closed_quote c) p = refl
+put-definitions (closed_item kind c) p = go (next_items kind 0 p) refl
   where
     go : (v : Option (ℕ × ItemParts × Parts)) → next_items kind 0 p ≡ v → definitions_in (put_before kind c p v) ≡ definitions_in c ++ definitions_in p
     go None e = refl
@@ -174,7 +174,7 @@ pub mark-none : (os : List Owner) → mark_all false os ≡ os
 mark-none [] = refl
 mark-none (o ∷ os) = ap (λ ps. o ∷ ps) (mark-none os)
 
--- pieces one by one
+-- closed parts one by one
 
 abbrev pub owned : List Owner → ℕ → Targets → Owned
 owned os n t = record { owners = os; leaves = n; table = t }
@@ -182,56 +182,56 @@ owned os n t = record { owners = os; leaves = n; table = t }
 same-owned : {os ps : List Owner} {m n : ℕ} {t u : Targets} → os ≡ ps → m ≡ n → t ≡ u → owned os m t ≡ owned ps n u
 same-owned {ps = ps} {n = n} {t = t} e f g = ap₂ (λ os m. owned os m t) e f ∙ ap (owned ps n) g
 
-abbrev pub own_piece : (in_a_quote : Bool) → Owned → Piece → Owned
-own_piece q s x = owned (s.owners ++ mark_all q (piece_owners s.leaves x)) (leaves_behind s.leaves x) (add_all s.table (piece_definitions x))
+abbrev pub own_closed_part : (in_a_quote : Bool) → Owned → ClosedPart → Owned
+own_closed_part q s x = owned (s.owners ++ mark_all q (closed_part_owners s.leaves x)) (leaves_behind s.leaves x) (add_all s.table (closed_part_definitions x))
 
-unfoldable pub own_pieces : (in_a_quote : Bool) → Owned → List Piece → Owned
-own_pieces q s [] = s
-own_pieces q s (x ∷ ps) = own_pieces q (own_piece q s x) ps
+unfoldable pub own_closed_parts : (in_a_quote : Bool) → Owned → List ClosedPart → Owned
+own_closed_parts q s [] = s
+own_closed_parts q s (x ∷ ps) = own_closed_parts q (own_closed_part q s x) ps
 
-pub own-append : (q : Bool) (s : Owned) (ps qs : List Piece) → own_pieces q s (ps ++ qs) ≡ own_pieces q (own_pieces q s ps) qs
-unfolding own_pieces
+pub own-append : (q : Bool) (s : Owned) (ps qs : List ClosedPart) → own_closed_parts q s (ps ++ qs) ≡ own_closed_parts q (own_closed_parts q s ps) qs
+unfolding own_closed_parts
 own-append q s [] qs = refl
-own-append q s (x ∷ ps) qs = own-append q (own_piece q s x) ps qs
+own-append q s (x ∷ ps) qs = own-append q (own_closed_part q s x) ps qs
 
 -- the owners and the definitions that parts add
 abbrev pub own_parts : (in_a_quote : Bool) → Owned → Parts → Owned
 own_parts q s p = owned (s.owners ++ mark_all q (owners_after s.leaves p)) (s.leaves + leaf_count p) (add_all s.table (definitions_in p))
 
-pub own-law : (q : Bool) (s : Owned) (ps : List Piece) → own_pieces q s ps ≡ own_parts q s (put_all ps none)
-unfolding own_pieces put_all owners_after leaf_count definitions_in
+pub own-law : (q : Bool) (s : Owned) (ps : List ClosedPart) → own_closed_parts q s ps ≡ own_parts q s (put_all ps none)
+unfolding own_closed_parts put_all owners_after leaf_count definitions_in
 own-law q s [] = same-owned (sym (append-nil s.owners)) (omega arith) refl
 own-law q s (x ∷ ps) =
-    own-law q (own_piece q s x) ps
+    own-law q (own_closed_part q s x) ps
     ∙ same-owned
-    (append_assoc s.owners (mark_all q (piece_owners s.leaves x)) (mark_all q (owners_after (leaves_behind s.leaves x) (put_all ps none)))
+    (append_assoc s.owners (mark_all q (closed_part_owners s.leaves x)) (mark_all q (owners_after (leaves_behind s.leaves x) (put_all ps none)))
     ∙ ap (λ os. s.owners ++ os)
-    (sym (mark-append q (piece_owners s.leaves x) (owners_after (leaves_behind s.leaves x) (put_all ps none))) ∙ ap (mark_all q) (sym (put-owners x s.leaves (put_all ps none)))))
+    (sym (mark-append q (closed_part_owners s.leaves x) (owners_after (leaves_behind s.leaves x) (put_all ps none))) ∙ ap (mark_all q) (sym (put-owners x s.leaves (put_all ps none)))))
     (sym (put-leaves x s.leaves (put_all ps none)))
-    (sym (table-append s.table (piece_definitions x) (definitions_in (put_all ps none))) ∙ ap (add_all s.table) (sym (put-definitions x (put_all ps none))))
+    (sym (table-append s.table (closed_part_definitions x) (definitions_in (put_all ps none))) ∙ ap (add_all s.table) (sym (put-definitions x (put_all ps none))))
 
-pub own-leaves : (q : Bool) (s : Owned) (xs : List (LeafPart × ℕ)) → own_leaves s xs ≡ own_pieces q s (leaf_pieces xs)
-unfolding own_leaves own_pieces
+pub own-leaves : (q : Bool) (s : Owned) (xs : List (LeafPart × ℕ)) → own_leaves s xs ≡ own_closed_parts q s (parts_of_leaves xs)
+unfolding own_leaves own_closed_parts
 own-leaves q s [] = refl
 own-leaves q s (x ∷ xs) =
     own-leaves q (own_leaf s x.0 x.1) xs
-    ∙ ap₂ (λ os t. own_pieces q (owned (s.owners ++ os) (suc s.leaves) t) (leaf_pieces xs)) (sym (mark-leaf q x.1 (suc s.leaves))) (leaf-table s.table x.0)
+    ∙ ap₂ (λ os t. own_closed_parts q (owned (s.owners ++ os) (suc s.leaves) t) (parts_of_leaves xs)) (sym (mark-leaf q x.1 (suc s.leaves))) (leaf-table s.table x.0)
 
-pub own-blanks : (q : Bool) (n : ℕ) (s : Owned) → own_blanks q n s ≡ own_pieces q s (replicate n blank_piece)
-unfolding own_blanks own_pieces
+pub own-blanks : (q : Bool) (n : ℕ) (s : Owned) → own_blanks q n s ≡ own_closed_parts q s (replicate n closed_blank)
+unfolding own_blanks own_closed_parts
 own-blanks q zero s = refl
-own-blanks true (suc n) s = own-blanks true n (own_piece true s blank_piece)
-own-blanks false (suc n) s = own-blanks false n (own_piece false s blank_piece)
+own-blanks true (suc n) s = own-blanks true n (own_closed_part true s closed_blank)
+own-blanks false (suc n) s = own-blanks false n (own_closed_part false s closed_blank)
 
-pub quote-owned : (q : Bool) (s : Owned) (ps : List Piece) → own_pieces true s ps ≡ own_pieces q s (quote_piece (put_all ps none) ∷ [])
-unfolding own_pieces
+pub quote-owned : (q : Bool) (s : Owned) (ps : List ClosedPart) → own_closed_parts true s ps ≡ own_closed_parts q s (closed_quote (put_all ps none) ∷ [])
+unfolding own_closed_parts
 quote-owned q s ps = own-law true s ps ∙ same-owned (ap (λ os. s.owners ++ os) (sym (mark-twice q (owners_after s.leaves (put_all ps none))))) refl refl
 
--- the pieces of an item: its own line, where that is blank, is a marker's
+-- the closed parts of an item: its own line, where that is blank, is a marker's
 
-abbrev pub own_item : (in_a_quote : Bool) → Owned → List Piece → Owned
-own_item q s (blank_piece ∷ ps) = own_pieces q (own_lines s (Marker ∷ [])) ps
-own_item q s ps = own_pieces q s ps
+abbrev pub own_item : (in_a_quote : Bool) → Owned → List ClosedPart → Owned
+own_item q s (closed_blank ∷ ps) = own_closed_parts q (own_lines s (Marker ∷ [])) ps
+own_item q s ps = own_closed_parts q s ps
 
 list-first : (kind : ListKind) (c p : Parts) (os : List Owner) → marked_first (put_item kind c p) os ≡ os
 unfolding put_item
@@ -241,16 +241,16 @@ list-first kind c p os = go (next_items kind 0 p)
     go None = refl
     go (Some f) = refl
 
-pub item-owned : (q : Bool) (s : Owned) (kind : ListKind) (ps : List Piece) → own_item q s ps ≡ own_pieces q s (item_piece kind (put_all ps none) ∷ [])
-unfolding own_pieces put_all owners_after leaf_count definitions_in
+pub item-owned : (q : Bool) (s : Owned) (kind : ListKind) (ps : List ClosedPart) → own_item q s ps ≡ own_closed_parts q s (closed_item kind (put_all ps none) ∷ [])
+unfolding own_closed_parts put_all owners_after leaf_count definitions_in
 item-owned q s kind [] = own-law q s []
-item-owned q s kind (blank_piece ∷ ps) =
+item-owned q s kind (closed_blank ∷ ps) =
     own-law q (own_lines s (Marker ∷ [])) ps
     ∙ same-owned
     (append_assoc s.owners (Marker ∷ []) (mark_all q (owners_after s.leaves (put_all ps none))) ∙ ap (λ o. s.owners ++ o ∷ mark_all q (owners_after s.leaves (put_all ps none))) (sym (mark-marker q)))
     refl refl
-item-owned q s kind (leaf_piece x m ∷ ps) = own-law q s (leaf_piece x m ∷ ps)
-item-owned q s kind (quote_piece c ∷ ps) = own-law q s (quote_piece c ∷ ps)
-item-owned q s kind (item_piece k c ∷ ps) =
-    own-law q s (item_piece k c ∷ ps)
+item-owned q s kind (closed_leaf x m ∷ ps) = own-law q s (closed_leaf x m ∷ ps)
+item-owned q s kind (closed_quote c ∷ ps) = own-law q s (closed_quote c ∷ ps)
+item-owned q s kind (closed_item k c ∷ ps) =
+    own-law q s (closed_item k c ∷ ps)
     ∙ same-owned (ap (λ os. s.owners ++ mark_all q os) (sym (list-first k c (put_all ps none) (owners_after s.leaves (put_item k c (put_all ps none)))))) refl refl
