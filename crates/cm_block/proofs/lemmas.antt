@@ -1,6 +1,6 @@
 -- How the proof of cm_block goes, from the recursion on lines to the code:
 --
--- 1. A machine that keeps closed parts of what is closed and one open block comes, line by line, to the parts of
+-- 1. A machine that keeps the closed parts and one open block comes, line by line, to the parts of
 --    the recursion (OnePass).
 -- 2. The stack, which keeps tree, text and owners, follows that machine (Stacks).
 -- 3. The code has the open containers in a row (specs/Frames.antt, specs/steps/FrameSteps.antt). Frames ties

@@ -9,21 +9,21 @@ use Rattle.cm_scan.specs.blocks.Starts.{continuation_in_quote, continuation_in_i
 use Rattle.cm_scan.specs.laws.PartLaws.{goes_inward}
 use Rattle.cm_block.specs.OpenLeaf.{OpenLeaf, no_leaf, closed_leaves, blank_lines_behind, is_open_text, LeafLine, stays_open, is_last, line_of_leaf, LineOpens, begins_nothing, begins_leaf, begins_quote, begins_item, begin_of}
 
--- What is closed at one level: a blank line, a leaf with its number of lines, a block quote, a list item.
+-- A part that is closed at one level: a blank line, a leaf with its number of lines, a block quote, a list item.
 pub data ClosedPart : Type 0 where
   closed_blank : ClosedPart
   closed_leaf : LeafPart → ℕ → ClosedPart
   closed_quote : Parts → ClosedPart
   closed_item : ListKind → Parts → ClosedPart
 
--- a closed part before the parts that follow it
+-- a closed part, followed by others
 abbrev pub put : ClosedPart → Parts → Parts
 put closed_blank rest = blank rest
 put (closed_leaf x lines) rest = leaf x lines rest
 put (closed_quote inside) rest = quote inside rest
 put (closed_item kind inside) rest = put_item kind inside rest
 
--- closed parts before the parts that follow them
+-- closed parts, followed by others
 unfoldable pub put_all : List ClosedPart → Parts → Parts
 put_all [] rest = rest
 put_all (closed_part ∷ closed_parts) rest = put closed_part (put_all closed_parts rest)
@@ -41,7 +41,7 @@ has_open_text (in_leaf x) = is_open_text x
 has_open_text (in_quote closed now) = has_open_text now
 has_open_text (in_item kind column bare closed now) = has_open_text now
 
--- What a line does at one level: the closed parts that it closes, and what is then open.
+-- What a line does at one level: the parts that it closes, and what is then open.
 pub record Change : Type 0 where
   pub closed : List ClosedPart
   pub now : Open (List ClosedPart)
@@ -78,7 +78,7 @@ begin_within rules (suc n) line = begin_by (λ inner. begin_within rules n inner
 unfoldable pub begin : Rules → LineView → Change
 begin rules line = begin_within rules (suc (marks line.text)) line
 
--- the closed parts are closed, and the line begins something
+-- the parts are closed, and the line begins something
 abbrev pub after_closing : Rules → List ClosedPart → LineView → Change
 after_closing rules closed_parts line = let c = begin rules line in change (closed_parts ++ c.closed) c.now
 

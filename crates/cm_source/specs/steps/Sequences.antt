@@ -1,5 +1,5 @@
--- The blocks of a tree as a sequence, in which each block stands in front of those that follow it. This is a
--- step of the proof that blocks read back: nobody has to believe it.
+-- The blocks of a tree as a sequence, in which each block is followed by the rest. It is a step of the proof that blocks
+-- read back: nobody has to believe it.
 use Rattle.std.specs.Prelude.{ℕ, Bool, true, false, not, ◌&&◌, ◌||◌, List, [], ◌∷◌, ◌++◌, map, codes}
 use Rattle.cm_tree.specs.declared.tree.Block.{Block, Block-F}
 use Rattle.cm_tree.specs.declared.tree.Block.TheOpen as block
@@ -17,7 +17,7 @@ pub record SpelledLeaf : Type 0 where
   pub part : LeafPart
   pub lines : List (List ℕ)
 
--- blocks, each in front of those that follow it; and items, of which a list has at least one
+-- blocks, each followed by the rest; and items, of which a list has at least one
 mutual
   pub data Sequence : Type 0 where
     no_blocks : Sequence
