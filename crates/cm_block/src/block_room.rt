@@ -1,12 +1,11 @@
-//! Memory that is kept for the next container, so that most items allocate nothing. It holds no blocks until
-//! then.
+//! Memory that is kept for the next container, so that most items allocate nothing.
 ghost use Rattle.std.specs.Prelude.{◌≡◌, []};
 
 use cm_tree::RawBlock;
 use std::alloc::Global;
 use std::mem;
 
-/// Memory for the blocks of a container to come. It holds no blocks.
+/// Memory for the blocks of the next container. It holds no blocks.
 #[derive(Debug, Drop)]
 pub(crate) struct BlockRoom {
     blocks: Vec<RawBlock>,
@@ -21,7 +20,7 @@ impl BlockRoom {
         }
     }
 
-    /// A list of no blocks yet, in this memory, of which none is left.
+    /// Takes the memory as an empty list of blocks, and keeps none.
     pub(crate) fn take(&mut self, alloc: Global) -> Vec<RawBlock>
         ensures { result.items ≡ [] }
     {
@@ -29,7 +28,7 @@ impl BlockRoom {
         blocks
     }
 
-    /// Keeps the memory of blocks that are done with, and none of them.
+    /// Keeps the memory of these blocks, and frees the blocks.
     pub(crate) fn keep(&mut self, mut blocks: Vec<RawBlock>) {
         blocks.clear();
         *self = BlockRoom { blocks };

@@ -1,4 +1,4 @@
-//! Leaf blocks that are closed, and how they are put into the level in which they stand.
+//! Closed leaf blocks, and how they are added to their level.
 ghost use Rattle.std.specs.Prelude.{◌≡◌, ◌+◌, ◌<◌, ◌≤◌, ◌^◌, [], suc, length, drop, IfOk, OnOk};
 ghost use Rattle.cm_block.specs.Prelude.{trim_end, definitions_of, leaf_block, definition, code, html};
 ghost use Rattle.cm_block.specs.Prelude.{line_feeds, line_count, definition_leaves, content_leaf};
@@ -20,7 +20,7 @@ use cm_text::unescape_or_lend;
 use cm_tree::RawFault;
 use std::alloc::Global;
 
-/// A leaf block of one line, which further lines never go on with.
+/// A leaf block of one line.
 #[derive(Debug, Drop)]
 pub(crate) enum WholeLeaf {
     /// An ATX heading (4.2 ATX headings).
@@ -29,7 +29,7 @@ pub(crate) enum WholeLeaf {
     Break,
 }
 
-/// How many lines a leaf has with so many line feeds in its text, and so many more.
+/// The number of lines of a leaf with `feeds` line feeds in its text and `more` lines besides.
 fn count_lines(feeds: usize, more: usize) -> Result<usize, RawFault>
     ensures { IfOk result (λ lines. lines ≡ feeds + more) }
 {
@@ -37,7 +37,7 @@ fn count_lines(feeds: usize, more: usize) -> Result<usize, RawFault>
     feeds.checked_add(more).ok_or(RawFault::TooLarge)
 }
 
-/// Puts a definition. Its destination and title are resolved, and its label is its source (4.7).
+/// Adds a definition. Its destination and title are resolved, and its label is its source (4.7).
 fn put_definition(
     alloc: Global,
     found: LinkDefinition<'_>,
@@ -65,7 +65,7 @@ fn put_definition(
     Ok(())
 }
 
-/// How many lines a definition has that takes so many bytes of a text, with so many line feeds.
+/// The number of lines of a definition that takes the first `end` bytes of a text with `feeds` line feeds.
 fn lines_taken(text: &str, end: usize, feeds: usize) -> usize
     requires some { 1 ≤ length text.now }
     requires within { end ≤ length text.now }
@@ -79,8 +79,8 @@ fn lines_taken(text: &str, end: usize, feeds: usize) -> usize
     feeds
 }
 
-/// Puts the definitions at the front of a text with so many line feeds, and answers what is left of it, and
-/// how many line feeds that has.
+/// Adds the definitions at the start of a text with `feeds` line feeds. Returns the rest of the text, and the
+/// number of its line feeds.
 fn put_definitions<'a>(
     alloc: Global,
     text: &'a str,
@@ -110,7 +110,7 @@ fn put_definitions<'a>(
     Ok((rest, left))
 }
 
-/// Puts what is left of a run, with so many line feeds: a paragraph, or with an underline a heading.
+/// Adds the rest of a run, which has `feeds` line feeds: a paragraph, or with an underline a heading.
 fn put_content(
     source: &str,
     feeds: usize,
@@ -143,7 +143,7 @@ fn put_content(
     }
 }
 
-/// Puts the leaves of a run: the definitions at its front, and what is left.
+/// Adds the leaves of a run: the definitions at its start, and the rest.
 #[inline(always)]
 fn put_run(
     alloc: Global,
@@ -168,7 +168,7 @@ fn put_run(
     put_content(left, feeds, heading, stack, owners)
 }
 
-/// Puts a code block, whose info is resolved.
+/// Adds a code block, whose info is resolved.
 fn put_code(
     info: &str,
     text: &str,
@@ -186,14 +186,14 @@ fn put_code(
     stack.put(&LeafBlock::Code { info, text })
 }
 
-/// How many lines a fenced code block has with these lines, and with a closing fence or not.
+/// The number of lines of a fenced code block with this text. `ended` says whether it has a closing fence.
 fn fence_lines(ended: bool, text: &LeafText) -> Result<usize, RawFault>
     ensures { IfOk result (λ lines. lines ≡ fence_lines ended text.now) }
 {
     count_lines(text.feeds(), if ended { 2 } else { 1 })
 }
 
-/// Puts indented code, whose lines line feeds part (4.4 Indented code blocks).
+/// Adds indented code, whose lines are separated by line feeds (4.4 Indented code blocks).
 fn put_indented(text: &mut LeafText, stack: &mut Stack, owners: &mut Owners) -> Result<(), RawFault>
     ensures level { OnOk result (stack.new.level
         ≡ block_closes stack.old.level (leaf_block (code [] (ended text.old)))) }
@@ -206,7 +206,7 @@ fn put_indented(text: &mut LeafText, stack: &mut Stack, owners: &mut Owners) -> 
     put_code("", text.as_str(), lines, stack, owners)
 }
 
-/// Puts HTML, whose lines line feeds part (4.6 HTML blocks).
+/// Adds HTML, whose lines are separated by line feeds (4.6 HTML blocks).
 fn put_html(text: &mut LeafText, stack: &mut Stack, owners: &mut Owners) -> Result<(), RawFault>
     ensures level { OnOk result (stack.new.level
         ≡ block_closes stack.old.level (leaf_block (html (ended text.old)))) }
@@ -225,9 +225,9 @@ fn put_html(text: &mut LeafText, stack: &mut Stack, owners: &mut Owners) -> Resu
 impl OpenLeaf {
     ghost use Rattle.cm_block.specs.steps.LeafSteps.{leaves_with};
 
-    /// Puts the leaf at the end of the innermost level, closed by an underline of this level or by none, and
-    /// by a closing fence or by none, and its lines at the end of the owners. It is left
-    /// open, and `clear` has to follow.
+    /// Adds the leaf to the innermost level, and its lines to the owners. `heading` is the level of the
+    /// underline that closes it, `ended` whether a closing fence does. The leaf stays open: call `clear`
+    /// next.
     #[inline(always)]
     pub(crate) fn put(
         &mut self,
@@ -258,7 +258,7 @@ impl OpenLeaf {
 }
 
 impl WholeLeaf {
-    /// Puts the leaf at the end of the innermost level, and its line at the end of the owners.
+    /// Adds the leaf to the innermost level, and its line to the owners.
     pub(crate) fn put(self, stack: &mut Stack, owners: &mut Owners) -> Result<(), RawFault>
         ensures level { OnOk result (stack.new.level ≡ close_leaves stack.old.level (whole_leaves self)) }
         ensures frames { stack.new.frames ≡ stack.old.frames }

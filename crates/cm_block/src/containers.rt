@@ -1,4 +1,4 @@
-//! The quotes and items that a line begins.
+//! The quotes and items that a line starts.
 ghost use Rattle.std.specs.Prelude.{◌≡◌, ◌-◌, ◌≤◌, false, suc, length, IfOk, OnOk};
 ghost use Rattle.cm_block.specs.Prelude.{seen_view};
 ghost use Rattle.cm_block.specs.steps.LineTests.{Tested};
@@ -10,20 +10,19 @@ use cm_text::Rules;
 use cm_tree::RawFault;
 use std::alloc::Global;
 
-/// What stands in the innermost of the quotes and items that a line begins.
+/// What the innermost of the quotes and items that a line starts contains.
 #[derive(Clone, Copy, Debug)]
 pub(crate) enum Innermost<'a> {
-    /// Nothing is known of it, since there is one quote or item too many.
+    /// Unknown, because there is one quote or item too many.
     TooDeep,
     /// A blank line.
     Blank,
-    /// The first line of a leaf block, which begins so.
+    /// The first line of a leaf block, which starts like this.
     Leaf(LeafStart<'a>),
 }
 
 impl Stack {
-    /// Opens the quotes and items that a line begins, where no leaf is open, up to a limit of those that are
-    /// open at once.
+    /// Opens the quotes and items that a line starts, up to the limit of open ones. No leaf is open.
     pub(crate) fn open_containers<'a>(
         &mut self,
         alloc: Global,

@@ -1,9 +1,9 @@
-//! A line that can only be read by calls that count. So a contract can say how often a line is read.
+//! A line that can only be read by calls that count, so that a contract can bound how often a line is read.
 //!
 //! Copying a line counts as one reading although nothing is examined, so the count is at least the number of
 //! checks and searches. Each of several lines of text counts as two: a look at its first byte, and the copy.
-//! The count stops at the greatest number of its type, which the lines that memory has room for are proved
-//! not to reach.
+//! The count stops at the greatest number of its type. It is proved that the lines that fit in memory don't
+//! reach it.
 ghost use Rattle.std.specs.Prelude.{◌≡◌, ◌+◌, ◌++◌, ◌∷◌, ◌&&◌, ℕ};
 ghost use Rattle.std.specs.Prelude.{List, suc, true, false, string_bytes, IfOk, IfSome, IfNone, OnOk};
 ghost use Rattle.cm_block.specs.Prelude.{strip_columns, seen_view, given, is_blank, with_ending};
@@ -43,39 +43,38 @@ use continuations::{ends_bare_item, if_lazy, is_blank, item_content, quote_conte
 use starts::{Start, begins_with_letter, start_of};
 use std::alloc::{AllocError, Global};
 
-/// What is left of a line inside the containers in which it stays, and how often it has been read so far.
+/// The rest of a line inside the containers in which it stays, and how often it has been read.
 ///
-/// Nothing that shows the line leaves this type. Each of its calls is one reading: it counts one, and answers
-/// what was found, or copies what is left of the line. The count is told by the call that lets the line go,
-/// and by no other.
+/// Nothing that shows the line leaves this type. Each of its calls is one reading: it counts one, and returns
+/// what was found, or copies the rest of the line. Only the call that consumes the line returns the count.
 pub(crate) struct CountedLine<'a> {
     rest: View<'a>,
     tests: u64,
 }
 
-/// Lines of text that follow one another, and how often they have been read so far. As of a `CountedLine`,
-/// nothing that shows them leaves this type.
+/// Consecutive lines of text, and how often they have been read. As with a `CountedLine`, nothing that shows
+/// them leaves this type.
 pub(crate) struct CountedLines<'a> {
     lines: TextLines<'a>,
     tests: u128,
 }
 
-/// What a leaf block begins with, as it was found in a line. It shows nothing of that: only the line's own
-/// call takes it over.
+/// How a leaf block starts, as it was found in a line. It doesn't show what was found: only a call of the
+/// line uses it.
 #[derive(Clone, Copy, Debug)]
 pub(crate) struct LeafStart<'a> {
     found: Start<'a>,
 }
 
-/// What a line begins in the innermost container, where no leaf is open.
+/// What a line starts in the innermost container, where no leaf is open.
 #[derive(Clone, Copy, Debug)]
 pub(crate) enum Begins<'a> {
     /// Nothing: it is blank.
     Nothing,
-    /// A quote, into which the line has gone.
+    /// A quote, which the line has entered.
     Quote,
-    /// An item, into which the line has gone: the kind of its list, the column at which its content begins,
-    /// and whether nothing stands behind its marker.
+    /// An item, which the line has entered: the kind of its list, the column at which its content starts, and
+    /// whether nothing follows its marker.
     Item {
         kind: ListKind,
         column: usize,
@@ -85,12 +84,12 @@ pub(crate) enum Begins<'a> {
     Leaf(LeafStart<'a>),
 }
 
-/// What a line is, as far as one look tells.
+/// What a line is, as far as one look shows.
 #[derive(Clone, Copy, Debug)]
 pub(crate) enum Look {
     /// It is blank.
     Blank,
-    /// It begins with a letter, without indentation: behind a paragraph it goes on with that.
+    /// It starts with a letter, without indentation: after a paragraph it continues that.
     Letter,
     /// Neither.
     Other,
@@ -101,7 +100,7 @@ impl<'a> CountedLine<'a> {
     ghost use Rattle.cm_block.specs.steps.FirstLines.{Found};
     ghost use Rattle.cm_block.specs.steps.Looks.{LooksLike};
 
-    /// A whole line, which hasn't been read.
+    /// A whole line, not read yet.
     pub(crate) fn new(line: View<'a>) -> CountedLine<'a>
         ensures line { result.rest ≡ line.entry }
         ensures tests { result.tests ≡ 0 }
@@ -112,7 +111,7 @@ impl<'a> CountedLine<'a> {
         }
     }
 
-    /// The end of the line: how often it was read.
+    /// Consumes the line, and returns how often it was read.
     pub(crate) fn into_tests(self) -> u64
         ensures { result ≡ self.entry.tests }
     {
@@ -120,7 +119,7 @@ impl<'a> CountedLine<'a> {
         tests
     }
 
-    /// What is left of the line, for one reading, which it counts.
+    /// The rest of the line, for one reading, which it counts.
     #[inline(always)]
     fn read(&mut self) -> View<'a>
         ensures line { result ≡ self.old.rest }
@@ -130,8 +129,7 @@ impl<'a> CountedLine<'a> {
         self.rest
     }
 
-    /// What is left of the line, for one reading, which it counts. The spaces at its front are seen as
-    /// columns.
+    /// The rest of the line, for one reading, which it counts. Its leading spaces are counted as columns.
     #[inline(always)]
     fn read_columns(&mut self) -> View<'a>
         ensures line { seen_view result ≡ seen_view self.old.rest }
@@ -140,7 +138,7 @@ impl<'a> CountedLine<'a> {
         with_columns(&self.read())
     }
 
-    /// The line goes into a container, where this is left of it.
+    /// Enters a container, in which this is the rest of the line.
     #[inline(always)]
     fn enter(&mut self, inner: View<'a>)
         ensures line { self.new.rest ≡ inner.entry }
@@ -149,7 +147,7 @@ impl<'a> CountedLine<'a> {
         self.rest = inner;
     }
 
-    /// Whether the line stays in an open quote by its marker, behind which it then goes on (5.1 Block
+    /// Whether the line stays in an open quote by its marker. If so, it continues after the marker (5.1 Block
     /// quotes).
     pub(crate) fn stays_in_quote(&mut self) -> bool
         ensures continuation { (by : all.Rules) → IsInside result (continuation_in_quote by (seen_view self.old.rest))
@@ -164,7 +162,7 @@ impl<'a> CountedLine<'a> {
         true
     }
 
-    /// Whether the line stays in an open item whose content begins at a column, into which it then goes: it
+    /// Whether the line stays in an open item whose content starts at a column, and if so enters it: it
     /// reaches the column, or is blank. A blank line ends an item of which there is only the marker (5.2 List
     /// items).
     pub(crate) fn stays_in_item(&mut self, column: usize, bare: bool) -> bool
@@ -188,8 +186,8 @@ impl<'a> CountedLine<'a> {
         true
     }
 
-    /// The line on its way into open items, unless it is marked as a lazy continuation line, which stays in
-    /// none by itself. It isn't read yet.
+    /// The line as it enters open items, unless it is marked as a lazy continuation line, which stays in none
+    /// by itself. It isn't read yet.
     #[inline(always)]
     pub(crate) fn to_items(&self) -> Option<LineInItems<'a>>
         ensures line { IfSome result (λ line. seen_view line.inner ≡ seen_view self.now.rest) }
@@ -202,7 +200,7 @@ impl<'a> CountedLine<'a> {
         Some(LineInItems::new(&self.rest))
     }
 
-    /// The end of that way: the line has gone into the items, and was read as often as is counted there.
+    /// Takes over the line as it has entered the items, and how often it was read there.
     #[inline(always)]
     pub(crate) fn enter_items(&mut self, line: LineInItems<'a>)
         ensures line { self.new.rest ≡ line.entry.inner }
@@ -213,8 +211,8 @@ impl<'a> CountedLine<'a> {
         self.enter(inner);
     }
 
-    /// Whether the line goes on a paragraph without the markers of its containers, as which it is then
-    /// marked: `open_text` says that the lines so far leave a paragraph open (5.1 Block quotes, 5.2 List
+    /// Whether the line continues a paragraph without the markers of its containers. If so, it is marked as
+    /// lazy. `open_text` says whether the lines so far leave a paragraph open (5.1 Block quotes, 5.2 List
     /// items).
     pub(crate) fn goes_on_lazily(&mut self, rules: Rules, open_text: bool) -> bool
         ensures line { given result (seen_view self.new.rest)
@@ -230,8 +228,8 @@ impl<'a> CountedLine<'a> {
         true
     }
 
-    /// What the line begins in the innermost container, where no leaf is open. It goes into the quote or the
-    /// item that it begins.
+    /// What the line starts in the innermost container, where no leaf is open. The line enters a quote or an
+    /// item that it starts.
     pub(crate) fn begins(&mut self, rules: Rules) -> Begins<'a>
         ensures found { Found rules (seen_view self.old.rest) result (seen_view self.new.rest) }
         ensures tests { Tested 1 1 self.old.tests self.new.tests }
@@ -270,7 +268,7 @@ impl<'a> CountedLine<'a> {
         is_blank(&self.read())
     }
 
-    /// What the line is, as far as one look tells.
+    /// What the line is, as far as one look shows.
     #[inline(always)]
     pub(crate) fn look(&mut self) -> Look
         ensures look { LooksLike result (seen_view self.old.rest) }
@@ -286,7 +284,7 @@ impl<'a> CountedLine<'a> {
         Look::Other
     }
 
-    /// The level that the line gives to the text above it, as an underline (4.3 Setext headings).
+    /// The heading level that the line gives, as an underline, to the text above it (4.3 Setext headings).
     pub(crate) fn underline(&mut self) -> Option<u8>
         ensures level { result ≡ underline_of (seen_view self.old.rest) }
         ensures read { ReadOnce self.old self.new }
@@ -302,7 +300,7 @@ impl<'a> CountedLine<'a> {
         interrupts_paragraph(rules, &self.read())
     }
 
-    /// Whether the line is the closing fence of a fence of this kind (4.5 Fenced code blocks).
+    /// Whether the line is the closing fence for this fence (4.5 Fenced code blocks).
     pub(crate) fn closes_fence(&mut self, kind: FenceKind) -> bool
         ensures closes { (info : List ℕ) → result
             ≡ closes_fence (record { marker = kind.marker; count = kind.count; info = info })
@@ -320,7 +318,7 @@ impl<'a> CountedLine<'a> {
         ends_html(kind, &self.read())
     }
 
-    /// Goes on with a run of text by the line, whose leading spaces and tabs go (4.8 Paragraphs).
+    /// Appends the line to a run of text, without its leading spaces and tabs (4.8 Paragraphs).
     pub(crate) fn add_text(&mut self, source: &mut LeafText) -> Result<(), AllocError>
         ensures text { OnOk result (source.new ≡ add_text source.old (seen_view self.old.rest)) }
         ensures read { ReadOnce self.old self.new }
@@ -328,8 +326,8 @@ impl<'a> CountedLine<'a> {
         add_text(source, &self.read())
     }
 
-    /// Goes on with indented code by the line, if it is one of the block, and answers whether it is. A blank
-    /// line waits for a further line of code (4.4 Indented code blocks).
+    /// Appends the line to indented code if it belongs to the block. Returns whether it does. A blank line
+    /// waits for a further line of code (4.4 Indented code blocks).
     pub(crate) fn add_code(
         &mut self,
         text: &mut LeafText,
@@ -345,7 +343,8 @@ impl<'a> CountedLine<'a> {
         take_code_line(text, blank_lines, &self.read())
     }
 
-    /// Goes on with fenced code by the line, which loses so many columns (4.5 Fenced code blocks).
+    /// Appends the line to fenced code, without the first `columns` columns of its indentation (4.5 Fenced
+    /// code blocks).
     pub(crate) fn add_fenced(
         &mut self,
         columns: usize,
@@ -359,7 +358,7 @@ impl<'a> CountedLine<'a> {
         push_whole_line(text, &self.read().strip(columns))
     }
 
-    /// Goes on with HTML by the line (4.6 HTML blocks).
+    /// Appends the line to HTML (4.6 HTML blocks).
     pub(crate) fn add_html(&mut self, text: &mut LeafText) -> Result<(), AllocError>
         ensures text { OnOk result (text.new ≡ text.old ++ 10 ∷ (seen_view self.old.rest).text) }
         ensures feeds { OnOk result (line_feeds text.new ≡ suc (line_feeds text.old)) }
@@ -368,8 +367,8 @@ impl<'a> CountedLine<'a> {
         push_next_line(text, &self.read())
     }
 
-    /// Begins the leaf block that was found to begin with the line. A quote's or an item's marker begins
-    /// none. No leaf is open so far.
+    /// Opens the leaf block that was found to start with the line. A quote's or an item's marker opens none.
+    /// No leaf is open so far.
     #[inline(always)]
     pub(crate) fn begin_leaf(
         &mut self,
@@ -391,7 +390,7 @@ impl<'a> CountedLine<'a> {
 }
 
 impl<'a> CountedLines<'a> {
-    /// Lines of text, each of which was read once to find that it is one.
+    /// Lines of text. Each was read once to find that it is one.
     #[inline(always)]
     pub(crate) fn new(lines: TextLines<'a>) -> CountedLines<'a>
         ensures lines { result.lines ≡ lines.entry }
@@ -403,7 +402,7 @@ impl<'a> CountedLines<'a> {
         }
     }
 
-    /// The end of the lines: how often they were read.
+    /// Consumes the lines, and returns how often they were read.
     #[inline(always)]
     pub(crate) fn into_tests(self) -> u128
         ensures { result ≡ self.entry.tests }
@@ -412,7 +411,7 @@ impl<'a> CountedLines<'a> {
         tests
     }
 
-    /// Goes on with a run of text by the lines (4.8 Paragraphs). Each is read once.
+    /// Appends the lines to a run of text (4.8 Paragraphs). Each is read once.
     #[inline(always)]
     pub(crate) fn add_text(&mut self, source: &mut LeafText) -> Result<(), AllocError>
         requires { self.old.tests ≡ self.old.lines.count }

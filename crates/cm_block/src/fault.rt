@@ -9,7 +9,7 @@ use thiserror::Error;
 /// Why lines are refused. Lines count from 1.
 #[derive(Clone, Copy, Debug, PartialEq, Eq, Drop, Error)]
 pub enum BlockFault {
-    /// This line is the first with more quotes and items round it than the limit.
+    /// This line is the first inside more quotes and items than the limit.
     #[error("blocks too deep on line {line}")]
     BlocksTooDeep { line: u128 },
     /// A request for memory was refused.

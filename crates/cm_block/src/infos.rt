@@ -6,7 +6,7 @@ use cm_text::{ByteKind, NoMemory, Replaced, Rules, push_replaced, unescape};
 use std::alloc::{AllocError, Global};
 use std::simd::prelude::*;
 
-/// HTML's spaces that are neither a space nor a tab.
+/// HTML's whitespace other than spaces and tabs.
 struct LineSpace;
 
 impl ByteKind for LineSpace {
@@ -32,7 +32,7 @@ impl Replaced for LineSpace {
     }
 }
 
-/// The info of a code block, from its source: escapes and references are resolved, and by rules without raw
+/// The info of a code block, from its source. Escapes and references are resolved. With rules without raw
 /// HTML it is one line.
 pub(crate) fn info_of(alloc: Global, rules: Rules, source: &str) -> Result<String, NoMemory>
     ensures { IfOk result (λ info. string_bytes info ≡ info_of rules source.now) }

@@ -5,19 +5,19 @@ ghost use Rattle.cm_block.specs.Depths.{DepthsOfLines, TooDeepAtOnce, TooDeepSta
 ghost use Rattle.cm_block.specs.Lazy.{LazyLine, TextGoesOn};
 ghost use Rattle.cm_block.specs.WorkedExamples.{StackExamples};
 
-/// One pass over the lines, with what is open and no line kept, gives the parts of the lines.
+/// One pass over the lines, which keeps what is open and no line, gives the parts of the lines.
 #[tactic(auto, using(crate::proofs::lemmas::OnePass::one_pass))]
 pub fn parts_in_one_pass()
     ensures { OnePass }
 {}
 
-/// Closed blocks taken in one by one make the tree that their parts have, with what tells whether a list
-/// round them is loose.
+/// Closed blocks added one by one make the tree of their parts, with the marks from which it follows whether
+/// a list that contains them is loose.
 pub fn levels()
     ensures { FromTheLeft }
 {}
 
-/// The stack that a parser holds, closed behind the lines, gives their blocks, the owner of each line and the
+/// The stack that a parser holds, closed after the lines, gives their blocks, the owner of each line and the
 /// table of the link reference definitions.
 #[tactic(auto, using(crate::proofs::lemmas::Stacks::of_stacks))]
 pub fn stack()
@@ -26,7 +26,7 @@ pub fn stack()
     ensures definitions { StackTable }
 {}
 
-/// The stack, closed behind the lines, gives as many owners as there are lines.
+/// The stack, closed after the lines, gives one owner for each line.
 #[tactic(auto, using(crate::proofs::lemmas::Stacks::one_owner_each))]
 pub fn one_owner_each()
     ensures { OneOwnerEach }
@@ -38,14 +38,14 @@ pub fn lazy_lines()
     ensures { LazyLine }
 {}
 
-/// A line of text goes on with the open run of text, through every level, whatever its indentation.
+/// A line of text continues the open run of text, through every level, whatever its indentation.
 #[tactic(auto, using(crate::proofs::lemmas::TextGoesOn::text_goes_on))]
 pub fn text_lines()
     ensures { TextGoesOn }
 {}
 
-/// So many quotes and items as are open behind a line stand round it: so the first line that is too deep
-/// is told as soon as it is taken in, and stays the first whatever follows.
+/// The number of open quotes and items after a line is the number of those that enclose it. So the first line
+/// that is too deep is reported when it is read, and stays the first whatever follows.
 #[tactic(auto, using(crate::proofs::lemmas::Depths::of_depths))]
 pub fn depths()
     ensures of_lines { DepthsOfLines }

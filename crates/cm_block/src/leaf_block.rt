@@ -1,4 +1,4 @@
-//! A leaf block that is put into a level, with its texts lent.
+//! A leaf block that is added to a level, with its texts lent.
 ghost use Rattle.std.specs.Prelude.{◌≡◌, IfOk};
 ghost use Rattle.cm_block.specs.Prelude.{Grows, block_in, IsPlaced};
 ghost use Rattle.cm_block.specs.steps.LeafBlocks.{block_of};
@@ -33,7 +33,7 @@ pub(crate) enum LeafBlock<'a> {
 }
 
 impl<'a> LeafBlock<'a> {
-    /// The block, whose texts stand among those of the others.
+    /// Stores the texts of the block. Returns the block.
     #[inline(always)]
     pub(crate) fn place(&self, raw: &mut RawBlocks) -> Result<RawBlock, RawFault>
         ensures block { IfOk result (λ block. block_in raw.new block ≡ block_of self.now) }

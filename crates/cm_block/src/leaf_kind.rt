@@ -1,9 +1,9 @@
-//! The kinds of leaf blocks that lines go on with (CommonMark 0.31.2, chapter 4).
+//! The kinds of leaf blocks that lines continue (CommonMark 0.31.2, chapter 4).
 
 use crate::leaf_text::LeafText;
 use cm_scan::{FenceKind, HtmlKind};
 
-/// Which leaf block is open. Its text stands beside it.
+/// Which leaf block is open. Its text is stored separately.
 #[derive(Debug, Drop)]
 pub(crate) enum LeafKind {
     /// No leaf is open.
@@ -11,7 +11,7 @@ pub(crate) enum LeafKind {
     /// A run of text: definitions, and then a paragraph or a heading. Its text is its source.
     Run,
     /// Indented code: the blank lines that wait for a further line of code, each with a line feed. Its text
-    /// is its lines, parted by line feeds.
+    /// is its lines, separated by line feeds.
     Code {
         blank_lines: LeafText,
     },
@@ -22,7 +22,7 @@ pub(crate) enum LeafKind {
         info: String,
         columns: usize,
     },
-    /// HTML. Its text is its lines, parted by line feeds.
+    /// HTML. Its text is its lines, separated by line feeds.
     Html {
         kind: HtmlKind,
     },

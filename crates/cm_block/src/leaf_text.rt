@@ -1,5 +1,5 @@
-//! The text of a leaf block, whose line feeds are counted while it grows, so that no text is searched for
-//! them again.
+//! The text of a leaf block, whose line feeds are counted while it grows, so no text is searched for them
+//! again.
 //!
 //! The count can't overflow, because a text has no more line feeds than bytes.
 ghost use Rattle.std.specs.Prelude.{◌≡◌, ◌++◌, [], ◌∷◌, true, OnOk};
@@ -53,7 +53,7 @@ impl LeafText {
         self.feeds
     }
 
-    /// Lets go of the text, and keeps its memory.
+    /// Clears the text, and keeps its memory.
     pub(crate) fn clear(&mut self)
         ensures { self.new ≡ [] }
     {
@@ -61,7 +61,7 @@ impl LeafText {
         self.feeds = 0;
     }
 
-    /// Goes on with a part of a line.
+    /// Appends a part of a line.
     pub(crate) fn push(&mut self, part: &str) -> Result<(), AllocError>
         requires { is_line part.now ≡ true }
         ensures { OnOk result (self.new ≡ self.old ++ part.now) }
@@ -81,7 +81,7 @@ impl LeafText {
         Ok(())
     }
 
-    /// Goes on with another text.
+    /// Appends another text.
     pub(crate) fn push_text(&mut self, more: &LeafText) -> Result<(), AllocError>
         ensures { OnOk result (self.new ≡ self.old ++ more.now) }
     {
@@ -93,7 +93,7 @@ impl LeafText {
         Ok(())
     }
 
-    /// Goes on with a new line, unless there is no text.
+    /// Starts a new line, unless there is no text.
     #[inline(always)]
     pub(crate) fn begin_line(&mut self) -> Result<(), AllocError>
         ensures { OnOk result (self.new ≡ with_line self.old) }
@@ -104,7 +104,7 @@ impl LeafText {
         self.end_line()
     }
 
-    /// Goes on with lines of text, as with one after another.
+    /// Appends lines of text, one after another.
     #[inline(always)]
     pub(crate) fn add_lines(&mut self, lines: &TextLines<'_>) -> Result<(), AllocError>
         ensures { OnOk result (self.new ≡ add_lines self.old (plain_lines_of lines.now.text.now)) }

@@ -1,4 +1,4 @@
-//! One level of the stack: what stands closed in the document, in a quote or in an item.
+//! One level of the stack: what is closed in the document, in a quote or in an item.
 ghost use Rattle.std.specs.Prelude.{◌≡◌, [], OnOk, IfOk};
 ghost use Rattle.cm_block.specs.Prelude.{Raw, Grows, block_in, blocks_in, item_in};
 ghost use Rattle.cm_block.specs.Prelude.{IsPlaced, ArePlaced, IsItem};
@@ -11,7 +11,7 @@ use cm_scan::is_same_kind;
 use cm_tree::{ListKind, RawBlock, RawBlocks, RawFault, RawItem};
 use std::alloc::Global;
 
-/// A list with its closed items and its mark of looseness. A further item of it may be open.
+/// A list with its closed items and its mark of looseness. Another item of it may be open.
 #[derive(Debug, Drop)]
 pub(crate) struct OpenList {
     pub(crate) kind: ListKind,
@@ -19,8 +19,8 @@ pub(crate) struct OpenList {
     pub(crate) items: Vec<RawItem>,
 }
 
-/// The closed blocks, the list behind them, whether there is a block, whether the last line is blank as
-/// seen at this level, and whether a blank line stands right before the second or a later block.
+/// The closed blocks, the list after them, whether there is a block, whether the last line is blank as seen
+/// at this level, and whether a blank line is right before the second or a later block.
 #[derive(Debug, Drop)]
 pub(crate) struct Level {
     pub(crate) blocks: Vec<RawBlock>,
@@ -31,7 +31,7 @@ pub(crate) struct Level {
 }
 
 impl Level {
-    /// A level in which nothing stands yet, with memory for its blocks.
+    /// An empty level, with memory for its blocks.
     pub(crate) fn new(room: Vec<RawBlock>) -> Level
         requires { room.items ≡ [] }
         ensures level { (raw : Raw) → level_in raw result ≡ empty_level }
@@ -46,7 +46,7 @@ impl Level {
         }
     }
 
-    /// A blank line.
+    /// Adds a blank line.
     pub(crate) fn push_blank(&mut self)
         ensures level { (raw : Raw) → level_in raw self.new ≡ push_blank (level_in raw self.old) }
         ensures placed { (raw : Raw) → IsLevelPlaced raw self.old → IsLevelPlaced raw self.new }
@@ -54,7 +54,7 @@ impl Level {
         self.ends_blank = true;
     }
 
-    /// Puts the list at the end of the blocks, if there is one. Mostly there is none.
+    /// Appends the list to the blocks, if there is one. Mostly there is none.
     #[inline(always)]
     fn close_list(&mut self, raw: &mut RawBlocks) -> Result<(), RawFault>
         requires { IsLevelPlaced raw.old self.old }
@@ -68,7 +68,7 @@ impl Level {
         self.put_list(raw)
     }
 
-    /// Puts the list at the end of the blocks, if there is one.
+    /// Appends the list to the blocks, if there is one.
     #[inline(never)]
     fn put_list(&mut self, raw: &mut RawBlocks) -> Result<(), RawFault>
         requires { IsLevelPlaced raw.old self.old }
@@ -96,7 +96,7 @@ impl Level {
         Ok(())
     }
 
-    /// Puts a block that was opened at the end.
+    /// Appends a block that was opened.
     pub(crate) fn close_block(&mut self, block: RawBlock) -> Result<(), RawFault>
         ensures level { OnOk result ((raw : Raw) → level_in raw self.new
             ≡ block_closes (level_in raw self.old) (block_in raw block)) }
@@ -109,7 +109,7 @@ impl Level {
         Ok(())
     }
 
-    /// Whether an item of this kind goes on with the list.
+    /// Whether an item of this kind continues the list.
     pub(crate) fn has_list_of(&self, kind: ListKind) -> bool
         ensures { (raw : Raw) → result ≡ has_list_of (level_in raw self.now) kind }
     {
@@ -119,7 +119,7 @@ impl Level {
         }
     }
 
-    /// Goes on with the list, which a blank line right before makes loose.
+    /// Continues the list, which a blank line right before makes loose.
     fn go_on(&mut self)
         ensures level { (raw : Raw) → level_in raw self.new ≡ goes_on (level_in raw self.old) }
         ensures placed { (raw : Raw) → IsLevelPlaced raw self.old → IsLevelPlaced raw self.new }
@@ -131,7 +131,7 @@ impl Level {
         self.ends_blank = false;
     }
 
-    /// Opens a list without items yet.
+    /// Opens a list without items.
     fn open_list(
         &mut self,
         alloc: Global,
@@ -154,7 +154,7 @@ impl Level {
         Ok(())
     }
 
-    /// Opens an item, which goes on with the list or begins one.
+    /// Opens an item, which continues the list or starts one.
     pub(crate) fn open_item(
         &mut self,
         alloc: Global,
@@ -174,8 +174,8 @@ impl Level {
         self.open_list(alloc, raw, kind)
     }
 
-    /// Puts an item that was opened at the end of its list: its blocks, whether it ends in a blank line, and
-    /// whether a blank line stands right before its second or a later block, which makes the list loose.
+    /// Appends an item that was opened to its list: its blocks, whether it ends with a blank line, and
+    /// whether a blank line is right before its second or a later block, which makes the list loose.
     pub(crate) fn close_item(
         &mut self,
         item: RawItem,

@@ -1,8 +1,8 @@
-//! One pass over the lines of a document, by a stack of open blocks. It comes to the blocks, the owner of
-//! each line and the definitions, and reads no inlines.
+//! One pass over the lines of a document, with a stack of open blocks. It makes the blocks, the owner of each
+//! line and the definitions, and reads no inlines.
 //!
-//! Begin with [`BlockParser`]: give it each line, and `finish` it. What an [`Outline`] has as values of the
-//! tree it gives by `to_blocks` and `to_owners`. The crates above use its fields.
+//! Start with [`BlockParser`]: pass it each line, then call `finish`. `to_blocks` and `to_owners` of
+//! [`Outline`] return values of the tree. The crates above use its fields.
 //!
 //! ```
 //! use cm_block::{BlockFault, BlockParser};

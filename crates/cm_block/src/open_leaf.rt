@@ -16,8 +16,8 @@ use cm_scan::HtmlKind;
 use cm_text::Rules;
 use std::alloc::{AllocError, Global};
 
-/// The leaf block that is open. Its lines are counted by the line feeds of its texts. Where no leaf is open,
-/// it has the memory of a text for the next one, and no bytes.
+/// The leaf block that is open. Its lines are counted by the line feeds of its texts. If no leaf is open, it
+/// keeps the memory of a text for the next one.
 #[derive(Debug, Drop)]
 pub(crate) struct OpenLeaf {
     pub(crate) kind: LeafKind,
@@ -30,10 +30,10 @@ pub(crate) struct OpenLeaf {
 pub(crate) enum LeafLine {
     /// It is one of its lines, and the leaf stays open.
     Stays,
-    /// It is its last line: an underline, which makes a heading of this level of a run, or a closing fence,
-    /// or the end of HTML.
+    /// It is its last line: an underline, which makes a run a heading of this level, or a closing fence, or
+    /// the end of HTML.
     Last { heading: Option<u8>, ended: bool },
-    /// It is none of its lines.
+    /// It doesn't belong to the leaf.
     Leaves,
 }
 
@@ -44,7 +44,7 @@ fn ends_at_blank_line(kind: HtmlKind) -> bool
     matches!(kind, HtmlKind::BlockTag | HtmlKind::AnyTag)
 }
 
-/// Whether the line is none of an HTML block of this kind: it is blank and ends that.
+/// Whether the line doesn't belong to an HTML block of this kind: it is blank and ends that.
 fn leaves_html(kind: HtmlKind, line: &mut CountedLine<'_>) -> bool
     ensures leaves { result ≡ (ends_at_blank_line (kind_of kind) && is_blank (seen_view line.old.rest)) }
     ensures same { line.new.rest ≡ line.old.rest }
@@ -73,7 +73,7 @@ impl OpenLeaf {
         }
     }
 
-    /// Lets go of the leaf, and keeps the memory of its text.
+    /// Closes the leaf, and keeps the memory of its text.
     #[inline(always)]
     pub(crate) fn clear(&mut self)
         ensures { leaf_of self.new ≡ no_leaf }
@@ -89,7 +89,7 @@ impl OpenLeaf {
         matches!(self.kind, LeafKind::Run)
     }
 
-    /// Lines of text, which go on with a run.
+    /// Appends lines of text, which continue a run.
     #[inline(always)]
     pub(crate) fn add_lines(&mut self, lines: &mut CountedLines<'_>) -> Result<(), AllocError>
         requires run { is_open_text (leaf_of self.old) ≡ true }
@@ -104,7 +104,7 @@ impl OpenLeaf {
         Ok(())
     }
 
-    /// How many blank lines stand behind the leaf, if no further line of it follows.
+    /// The number of blank lines after the leaf, if no further line of it follows.
     #[inline(always)]
     pub(crate) fn blank_lines(&self) -> usize
         ensures { result ≡ blank_lines_behind (leaf_of self.now) }
@@ -115,7 +115,7 @@ impl OpenLeaf {
         }
     }
 
-    /// One more line. The leaf is left open by its last one.
+    /// Appends one more line, if it belongs to the leaf. The last one leaves the leaf open.
     pub(crate) fn take_line(
         &mut self,
         rules: Rules,

@@ -1,6 +1,6 @@
 //! An outline as values of the tree: its blocks, and the owners of its lines.
 //!
-//! These are what can be compared. Different places can represent the same blocks, so an outline has no `==`.
+//! Only these can be compared. Different places can represent the same blocks, so an outline has no `==`.
 ghost use Rattle.std.specs.Prelude.{◌≡◌, ◌++◌, length, IfOk, OnOk};
 ghost use Rattle.std.specs.List.{slice_range};
 ghost use Rattle.cm_block.specs.Prelude.{raw_inlines, block_in, IsPlaced, IsRange};
@@ -21,7 +21,7 @@ fn content(alloc: Global, source: &str) -> Result<Items<Inline>, AllocError>
     Ok(content)
 }
 
-/// The blocks between two places as blocks of the tree.
+/// The blocks in a range of positions as blocks of the tree.
 #[cycle(blocks)]
 fn made_blocks(
     alloc: Global,
@@ -85,7 +85,7 @@ fn made_block(alloc: Global, raw: &RawBlocks, block: RawBlock) -> Result<Block, 
     }
 }
 
-/// The items between two places as items of the tree.
+/// The items in a range of positions as items of the tree.
 #[cycle(blocks)]
 fn made_items(
     alloc: Global,
@@ -104,7 +104,7 @@ fn made_items(
     Ok(made)
 }
 
-/// Puts the blocks of a chunk behind others.
+/// Appends the blocks of a chunk to others.
 fn push_chunk(alloc: Global, made: &mut Items<Block>, chunk: &RawChunk) -> Result<(), AllocError>
     ensures { OnOk result (made.new ≡ made.old ++ chunk.now) }
 {

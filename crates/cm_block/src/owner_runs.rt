@@ -5,7 +5,7 @@
 //! run, so neither the lines, counted in a `u128`, nor the leaves, counted in a `usize`, can overflow.
 //!
 //! Runs are kept even if no caller asks for owners, so that each contract has one form. Without them an
-//! unproved program took 0.5 to 1.5 instructions fewer out of a hundred.
+//! unproved program took 0.5 to 1.5 percent fewer instructions.
 ghost use Rattle.std.specs.Prelude.{◌≡◌, ◌≤◌, ◌<◌, ◌^◌, ◌++◌, ℕ, [], suc, length, replicate, IfOk, OnOk};
 ghost use Rattle.cm_block.specs.OwnerRuns.{leaves_with, owner_of};
 ghost use Rattle.cm_block.specs.Stack.{blank_owner};
@@ -16,7 +16,7 @@ use cm_tree::{Items, Owner};
 use std::alloc::{AllocError, Global};
 use std::marker::Model;
 
-/// How many lines a run has at most.
+/// The greatest number of lines of a run.
 const MOST: usize = u32::MAX as usize;
 
 /// Whose lines a run has. Leaves are counted in the order of the runs, so that no run holds a number.
@@ -32,15 +32,15 @@ pub(crate) enum RunOwner {
     SameLeaf,
 }
 
-/// Lines one after another that have the same owner, `MOST` of them at most.
+/// Consecutive lines with the same owner, up to `MOST` of them.
 #[derive(Clone, Copy, Debug)]
 pub(crate) struct OwnerRun {
     pub(crate) owner: RunOwner,
     pub(crate) lines: u32,
 }
 
-/// The owner of each line so far, and how many leaves they have. Lines one after another that have the same
-/// owner take the room of one. Each leaf begins a run, so there are no more leaves than runs.
+/// The owner of each line so far, and the number of leaves. Consecutive lines with the same owner take the
+/// memory of one. Each leaf starts a run, so there are no more leaves than runs.
 #[derive(Debug, Drop)]
 pub(crate) struct OwnerRuns {
     closed: Vec<OwnerRun>,
@@ -64,7 +64,7 @@ impl Model for OwnerRuns {
         × (o.last.lines < 2 ^ 32) };
 }
 
-/// How many leaves there are with a run of this owner, behind so many.
+/// The number of leaves up to and including a run of this owner, after `leaves` leaves.
 fn leaves_with(leaves: usize, owner: RunOwner) -> usize
     requires { leaves < 2 ^ 63 }
     ensures { result ≡ leaves_with leaves owner }
@@ -75,7 +75,7 @@ fn leaves_with(leaves: usize, owner: RunOwner) -> usize
     }
 }
 
-/// The owner of a run of blank lines, from which markers were taken or not.
+/// The owner of a run of blank lines. `marked` says whether markers were taken from them.
 fn blank_run(marked: bool) -> RunOwner
     ensures owner { (leaves : ℕ) → owner_of leaves result ≡ blank_owner marked }
     ensures leaves { (leaves : ℕ) → leaves_with leaves result ≡ leaves }
@@ -87,7 +87,7 @@ fn blank_run(marked: bool) -> RunOwner
     }
 }
 
-/// The owner of a run's lines, with which there are so many leaves.
+/// The owner of a run's lines, up to and including which there are `leaves` leaves.
 fn owner_of(leaves: usize, owner: RunOwner) -> Owner
     ensures { result ≡ owner_of leaves owner }
 {
@@ -98,7 +98,7 @@ fn owner_of(leaves: usize, owner: RunOwner) -> Owner
     }
 }
 
-/// Puts so many lines of an owner at the end.
+/// Appends an owner `lines` times.
 fn push_run(owners: &mut Vec<Owner>, owner: Owner, lines: u32) -> Result<(), AllocError>
     ensures { OnOk result (owners.new.items ≡ owners.old.items ++ replicate lines owner) }
 {
@@ -124,17 +124,17 @@ impl OwnerRuns {
         }
     }
 
-    /// How many lines there are.
+    /// The number of lines.
     pub(crate) fn len(&self) -> u128
         ensures len { result ≡ length self.now.owners }
         ensures bound { result ≤ 2 ^ 96 }
     {
-        // How many runs there are bounds the lines.
+        // The number of runs bounds that of the lines.
         let _runs = self.closed.len();
         self.count
     }
 
-    /// Begins a run of so many lines, `MOST` at most.
+    /// Starts a run of `lines` lines, up to `MOST`.
     fn begin(&mut self, owner: RunOwner, lines: usize) -> Result<(), AllocError>
         requires { lines < 2 ^ 32 }
         ensures { OnOk result (self.new ≡ record {
@@ -143,7 +143,7 @@ impl OwnerRuns {
         }) }
     {
         self.closed.push(self.last)?;
-        // How many runs there are bounds the lines and the leaves.
+        // The number of runs bounds those of the lines and of the leaves.
         let _runs = self.closed.len();
         self.leaves = leaves_with(self.leaves, owner);
         self.last = OwnerRun {
@@ -154,7 +154,7 @@ impl OwnerRuns {
         Ok(())
     }
 
-    /// Adds runs of so many lines in all, which have no leaf or the last one.
+    /// Adds runs with `times` lines in all, which have no leaf or the last one.
     fn push_times(&mut self, owner: RunOwner, times: usize) -> Result<(), AllocError>
         requires { leaves_with self.old.leaves owner ≡ self.old.leaves }
         ensures { OnOk result (self.new ≡ record {
@@ -171,7 +171,7 @@ impl OwnerRuns {
         Ok(())
     }
 
-    /// Adds so many blank lines, from which markers were taken or not.
+    /// Adds `lines` blank lines. `marked` says whether markers were taken from them.
     pub(crate) fn push_blank(&mut self, marked: bool, lines: usize) -> Result<(), AllocError>
         ensures { OnOk result (self.new ≡ record {
           owners = self.old.owners ++ replicate lines (blank_owner marked);
@@ -179,7 +179,7 @@ impl OwnerRuns {
         }) }
     {
         let owner = blank_run(marked);
-        // How many runs there are bounds the lines.
+        // The number of runs bounds that of the lines.
         let _runs = self.closed.len();
         if owner == self.last.owner && lines <= MOST - self.last.lines as usize {
             self.last.lines += lines as u32;
@@ -205,7 +205,7 @@ impl OwnerRuns {
     fn to_items(&self, alloc: Global) -> Result<Items<Owner>, NoMemory>
         ensures { IfOk result (λ owners. owners ≡ self.now.owners) }
     {
-        // There is no room for so many as a `usize` can't count: it is asked for, and refused.
+        // A count that doesn't fit in a `usize` is requested as the greatest one, and refused.
         let count = usize::try_from(self.count).unwrap_or(usize::MAX);
         let mut owners = Vec::with_capacity(alloc, count)?;
         let mut leaves: usize = 0;
@@ -222,8 +222,7 @@ impl OwnerRuns {
     }
 }
 
-/// The owner of each line of a document. Lines one after another that have the same owner take the room of
-/// one.
+/// The owner of each line of a document. Consecutive lines with the same owner take the memory of one.
 #[derive(Debug, Drop)]
 pub struct LineOwners {
     runs: OwnerRuns,

@@ -1,5 +1,4 @@
-//! What is kept of the lines so far: the owner of each, the number of leaves, and the definitions among
-//! these.
+//! What is kept of the lines so far: the owner of each, the number of leaves, and the definitions.
 //!
 //! A definition goes into the table when it goes into the tree, so finishing walks no tree.
 ghost use Rattle.std.specs.Prelude.{◌≡◌, ◌≤◌, ◌^◌, ◌++◌, [], ◌∷◌, suc, length, OnOk};
@@ -13,7 +12,7 @@ use cm_tree::Definitions;
 use std::alloc::{AllocError, Global};
 use std::marker::Model;
 
-/// The owners of the lines so far, how many leaves they have, and the definitions among these.
+/// The owners of the lines so far, the number of leaves, and the definitions.
 #[derive(Debug, Drop)]
 pub(crate) struct Owners {
     runs: OwnerRuns,
@@ -42,7 +41,7 @@ impl Owners {
         }
     }
 
-    /// How many lines there are.
+    /// The number of lines.
     pub(crate) fn len(&self) -> u128
         ensures len { result ≡ length self.now.owners }
         ensures bound { result ≤ 2 ^ 96 }
@@ -57,14 +56,14 @@ impl Owners {
         self.runs.len() + 1
     }
 
-    /// The lines of one more leaf, which is no definition.
+    /// Adds the lines of one more leaf, which is no definition.
     pub(crate) fn leaf(&mut self, lines: usize) -> Result<(), AllocError>
         ensures { OnOk result (self.new ≡ own_plain_leaf self.old lines) }
     {
         self.runs.push_leaf(lines)
     }
 
-    /// The lines of a definition. The first of matching labels counts.
+    /// Adds the lines of a definition. The first of matching labels counts.
     pub(crate) fn definition(
         &mut self,
         label: &str,
@@ -86,14 +85,14 @@ impl Owners {
         (LineOwners::new(self.runs), self.definitions)
     }
 
-    /// A blank line, from which markers were taken or not.
+    /// Adds a blank line. `marked` says whether markers were taken from it.
     pub(crate) fn blank_line(&mut self, marked: bool) -> Result<(), AllocError>
         ensures { OnOk result (self.new ≡ own_lines self.old (blank_owner marked ∷ [])) }
     {
         self.runs.push_blank(marked, 1)
     }
 
-    /// So many blank lines, inside a quote or not.
+    /// Adds `lines` blank lines, inside a quote or not.
     pub(crate) fn blank_lines(&mut self, in_a_quote: bool, lines: usize) -> Result<(), AllocError>
         ensures { OnOk result (self.new ≡ own_blanks in_a_quote lines self.old) }
     {

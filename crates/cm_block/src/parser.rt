@@ -1,11 +1,11 @@
 //! The block structure of a document, line by line.
 //!
-//! Several lines of text are taken in one call while a paragraph is open. A line that is marked lazy while no
-//! container is open starts nothing but text: it joins or starts a paragraph, is no underline and interrupts
-//! nothing. Code blocks and HTML blocks ignore the mark, and so does a blank line.
+//! While a paragraph is open, one call takes several lines of text. A line that is marked lazy while no
+//! container is open starts nothing but text: it continues or starts a paragraph, is no underline and
+//! interrupts nothing. The mark changes nothing for code blocks, HTML blocks and blank lines.
 //!
 //! Contracts see a `BlockParser` by its fields (`stack_of`). Its stack holds data inside itself, and the
-//! checker could tell values of such a type apart only by code written by hand.
+//! checker could only distinguish values of such a type with hand-written code.
 ghost use Rattle.std.specs.Prelude.{◌≡◌, ◌≢◌, ◌+◌, ◌-◌, ◌<◌, ◌≤◌, ◌∷◌, ◌++◌, []};
 ghost use Rattle.std.specs.Prelude.{List, None, true, false, length, suc, Some, Err, IfOk, IfErr, OnOk};
 ghost use Rattle.cm_block.specs.Prelude.{answer_after, LineView, plain_lines_of, seen_line, seen_view};
@@ -38,25 +38,24 @@ use cm_text::{Limits, Line, NoMemory, TextLines, View};
 use cm_tree::{Definitions, RawFault, RawTree};
 use std::alloc::Global;
 
-/// The block structure of a document: its tree, in which the source of a paragraph or heading stands as one
-/// text, the owner of each line, and its link reference definitions; and how often its lines were read.
+/// The block structure of a document: its tree, in which the source of a paragraph or heading is one text,
+/// the owner of each line, and its link reference definitions; and how often its lines were read.
 #[derive(Debug, Drop)]
 pub struct Outline {
     pub blocks: RawTree,
     pub owners: LineOwners,
     pub definitions: Definitions,
-    /// How often a line was read, to see whether it stays in one open block or ends that, or what it begins,
-    /// or to take its text over: at least once for each quote and item, and for each line at most five times
-    /// more than the limit of blocks.
+    /// How often lines were read: to see whether one stays in an open block, ends it, or starts another, or
+    /// to copy its text. At least once for each quote and item. For each line at most the limit of blocks
+    /// plus five times.
     pub tests: u128,
 }
 
-/// Reads the block structure of a document from its lines, by the rules of its limits (CommonMark 0.31.2,
+/// Reads the block structure of a document from its lines, with the rules of its limits (CommonMark 0.31.2,
 /// chapters 3 to 5).
 ///
-/// Hand over each line once, by `line` or `line_view`, and take the outline by `finish`. Each line is done
-/// with when the call returns: what is open is held, and no line is kept. After a fault each further call
-/// answers that fault.
+/// Pass each line once to `line` or `line_view`, then call `finish` for the outline. What is open is kept,
+/// and no line is. After a fault, each further call returns that fault.
 #[derive(Debug, Drop)]
 pub struct BlockParser {
     alloc: Global,
@@ -69,7 +68,7 @@ pub struct BlockParser {
 }
 
 impl BlockParser {
-    /// The limits with which it was made.
+    /// The limits that it was made with.
     pub fn limits(&self) -> Limits
         ensures { result ≡ self.now.limits }
     {
@@ -93,7 +92,7 @@ impl BlockParser {
         }
     }
 
-    /// Puts the open leaf, closed by an underline of this level or by none, and by a closing fence or by
+    /// Adds the open leaf, closed by an underline of this level or by none, and by a closing fence or by
     /// none.
     #[inline(always)]
     fn put_leaf(&mut self, heading: Option<u8>, ended: bool) -> Result<(), RawFault>
@@ -147,7 +146,7 @@ impl BlockParser {
         Ok(())
     }
 
-    /// A blank line in the innermost container.
+    /// Adds a blank line to the innermost container.
     fn push_blank(&mut self) -> Result<(), NoMemory>
         requires { leaf_of self.old.leaf ≡ no_leaf }
         ensures pushed { OnOk result (stack_of self.new ≡ with_blank self.old.stack self.old.owners) }
@@ -163,7 +162,7 @@ impl BlockParser {
         Ok(())
     }
 
-    /// The first line of a leaf block in the innermost container.
+    /// Opens a leaf block in the innermost container with its first line.
     fn open_leaf(
         &mut self,
         start: &LeafStart<'_>,
@@ -189,7 +188,7 @@ impl BlockParser {
         }
     }
 
-    /// What a line begins in the innermost container, where no leaf is open.
+    /// Opens what a line starts in the innermost container, where no leaf is open.
     fn begin(&mut self, line: &mut CountedLine<'_>) -> Result<(), BlockFault>
         requires plain { self.old.stack.bare ≡ false }
         requires leaf { leaf_of self.old.leaf ≡ no_leaf }
@@ -220,7 +219,8 @@ impl BlockParser {
         }
     }
 
-    /// A line that stays in so many of the open containers, if it is one of the open leaf: whether it is.
+    /// Adds a line that stays in `depth` of the open containers to the open leaf, if it belongs to it.
+    /// Returns whether it does.
     fn take_to_leaf(&mut self, depth: usize, line: &mut CountedLine<'_>) -> Result<bool, RawFault>
         requires plain { self.old.stack.bare ≡ false }
         ensures taken { IfOk result (λ taken.
@@ -246,7 +246,7 @@ impl BlockParser {
         Ok(true)
     }
 
-    /// One more line.
+    /// Reads one more line.
     #[inline(always)]
     fn accept(&mut self, line: &mut CountedLine<'_>) -> Result<(), BlockFault>
         ensures pushed { OnOk result (stack_of self.new
@@ -273,13 +273,13 @@ impl BlockParser {
         self.begin(line)
     }
 
-    /// Takes in one more line, which is lent and not kept.
+    /// Reads one more line. It isn't kept.
     ///
     /// # Errors
     ///
-    /// `BlocksTooDeep` in the call that brings the first line with more quotes and items round it than the
-    /// limit, `NoMemory` where a request for memory was refused, `TooLarge` where a place would need more
-    /// than 32 bits; the same fault from then on.
+    /// `BlocksTooDeep` on the first line inside more quotes and items than the limit, `NoMemory` if a request
+    /// for memory was refused, `TooLarge` if a place would need more than 32 bits; the same fault from then
+    /// on.
     pub fn line(&mut self, line: &Line) -> Result<(), BlockFault>
         ensures stands { OnOk result ((lines : List LineView) → HasTaken self.old lines
             → HasTaken self.new (lines ++ seen_line line.now ∷ [])) }
@@ -292,13 +292,13 @@ impl BlockParser {
         self.line_view(&line.view())
     }
 
-    /// Takes in one more line, which is seen without a copy and not kept.
+    /// Reads one more line through a view. It is neither copied nor kept.
     ///
     /// # Errors
     ///
-    /// `BlocksTooDeep` in the call that brings the first line with more quotes and items round it than the
-    /// limit, `NoMemory` where a request for memory was refused, `TooLarge` where a place would need more
-    /// than 32 bits; the same fault from then on.
+    /// `BlocksTooDeep` on the first line inside more quotes and items than the limit, `NoMemory` if a request
+    /// for memory was refused, `TooLarge` if a place would need more than 32 bits; the same fault from then
+    /// on.
     pub fn line_view(&mut self, line: &View<'_>) -> Result<(), BlockFault>
         ensures stands { OnOk result ((lines : List LineView) → HasTaken self.old lines
             → HasTaken self.new (lines ++ seen_view line.now ∷ [])) }
@@ -323,7 +323,7 @@ impl BlockParser {
         result
     }
 
-    /// Whether a run of text is open. Lines of text go on with it then, whatever is open round it.
+    /// Whether a run of text is open. Lines of text then continue it, whatever encloses it.
     #[inline(always)]
     pub fn is_in_text(&self) -> bool
         ensures { result ≡ is_in_text self.now }
@@ -331,12 +331,12 @@ impl BlockParser {
         self.fault.is_none() && self.leaf.is_run()
     }
 
-    /// Takes in lines of text, as `line_view` takes in one after another. A run of text is open, with which
-    /// they go on. They are lent and not kept.
+    /// Reads lines of text, as `line_view` reads one after another. They continue a run of text, which is
+    /// open. They aren't kept.
     ///
     /// # Errors
     ///
-    /// `NoMemory` where a request for memory was refused, and from then on.
+    /// `NoMemory` if a request for memory was refused, and from then on.
     #[inline(always)]
     pub fn text_lines(&mut self, more: &TextLines<'_>) -> Result<(), BlockFault>
         requires { is_in_text self.old ≡ true }
@@ -363,8 +363,8 @@ impl BlockParser {
     ///
     /// # Errors
     ///
-    /// The fault that was met; `NoMemory` where a request for memory was refused, `TooLarge` where a place
-    /// would need more than 32 bits.
+    /// The fault that a line met; `NoMemory` if a request for memory was refused, `TooLarge` if a place would
+    /// need more than 32 bits.
     pub fn finish(mut self) -> Result<Outline, BlockFault>
         ensures outline { IfOk result (λ outline. (lines : List LineView) → HasTaken self lines
             → OutlineOf outline self.limits.rules lines) }
@@ -378,9 +378,9 @@ impl BlockParser {
         }
         self.close_leaf()?;
         self.stack.close_to(0)?;
-        // So few lines, within so few containers, were read less often than can be counted.
+        // This number of lines, within this number of containers, is read less often than can be counted.
         let _bounds = (self.owners.len(), self.limits.blocks());
-        // These are all that it holds: no line is kept.
+        // These are all its fields: no line is kept.
         let BlockParser {
             alloc: _,
             limits: _,

@@ -32,7 +32,7 @@ use std::alloc::{AllocError, Global};
 use std::marker::Model;
 use std::mem;
 
-/// A quote, or an item of a list with the column at which its content begins.
+/// A quote, or an item of a list with the column at which its content starts.
 #[derive(Clone, Copy, Debug)]
 pub(crate) enum Container {
     Quote,
@@ -42,17 +42,17 @@ pub(crate) enum Container {
 /// How a line stays in an open container, if it does.
 #[derive(Clone, Copy, Debug)]
 pub(crate) enum Stays {
-    /// Behind the container's marker or indentation.
+    /// After the container's marker or indentation.
     Inside,
-    /// As a lazy continuation line, which goes into all containers inside as it is.
+    /// As a lazy continuation line, which enters all containers inside unchanged.
     Lazily,
     /// It doesn't stay there.
     Leaves,
 }
 
 impl Container {
-    /// Takes a line in, if it stays in the container by itself, and answers whether it does. `bare` says of
-    /// an item that there is only its marker so far, with nothing on its line.
+    /// Whether the line stays in the container by itself, and if so enters it. `bare` says of an item that
+    /// there is only its marker so far, with nothing on its line.
     fn has_inside(&self, bare: bool, line: &mut CountedLine<'_>) -> bool
         ensures continuation { (by : all.Rules) → IsInside result (continuation_in by (container_of self.now) bare
             (seen_view line.old.rest)) (continuation_if_lazy by (seen_view line.old.rest))
@@ -66,8 +66,8 @@ impl Container {
         }
     }
 
-    /// Takes a line in, if it stays in the container, by itself or as a lazy continuation line, and answers
-    /// how it does. `open_text` says that a paragraph is left open.
+    /// Enters the container with a line that stays in it, by itself or as a lazy continuation line. Returns
+    /// how it stays. `open_text` says that a paragraph is left open.
     fn take_in(
         &self,
         rules: Rules,
@@ -92,15 +92,15 @@ impl Container {
     }
 }
 
-/// An open container, and the level in which it stands.
+/// An open container, and the level that contains it.
 #[derive(Debug, Drop)]
 pub(crate) struct Frame {
     pub(crate) level: Level,
     pub(crate) container: Container,
 }
 
-/// How many items a line has gone into by itself, and whether the next container is an item in which it
-/// doesn't stay so.
+/// The number of items that a line has entered by itself, and whether the next container is an item in which
+/// it doesn't stay.
 #[derive(Clone, Copy, Debug)]
 struct EnteredItems {
     count: usize,
@@ -135,9 +135,9 @@ fn begin_with_item(frames: &[Frame]) -> bool {
     )
 }
 
-/// Takes a line into the items that these containers start with, as far as it stays there by itself. There is
-/// more of each item than its marker. Each item is one reading, and so is the next one if the line doesn't
-/// stay there (5.2 List items).
+/// Enters the items that these containers start with, as far as the line stays there by itself. There is more
+/// of each item than its marker. Each item is one reading, and so is the next one if the line doesn't stay
+/// there (5.2 List items).
 #[inline(always)]
 fn go_into_items(frames: &[Frame], line: &mut LineInItems<'_>) -> EnteredItems
     requires plain { line.old.inner.lazy ≡ false }
@@ -173,8 +173,8 @@ fn go_into_items(frames: &[Frame], line: &mut LineInItems<'_>) -> EnteredItems
     }
 }
 
-/// The same. `bare` says that of the innermost container there is only the marker, and then the line goes
-/// into none.
+/// The same as `go_into_items`. `bare` says that there is only the marker of the innermost container; then
+/// the line enters none.
 #[inline(always)]
 fn enter_items(frames: &[Frame], bare: bool, line: &mut CountedLine<'_>) -> EnteredItems
     ensures through { (rules : all.Rules) (open_text : Bool) (raw : Raw) → behind result.count
@@ -202,7 +202,7 @@ fn enter_items(frames: &[Frame], bare: bool, line: &mut CountedLine<'_>) -> Ente
     entered
 }
 
-/// Whether a container is the innermost one and that has only its marker so far.
+/// Whether a container is the innermost one and has only its marker so far.
 fn is_bare_at(frames: &[Frame], depth: usize, bare: bool) -> bool
     requires { depth < length frames.now }
     ensures { (raw : Raw) → result ≡ (bare && is_last (drop (suc depth) (frames_in raw frames.now))) }
@@ -210,7 +210,7 @@ fn is_bare_at(frames: &[Frame], depth: usize, bare: bool) -> bool
     bare && depth == frames.len() - 1
 }
 
-/// Takes a line into the containers in which it stays, and answers how many these are.
+/// Enters the containers in which the line stays. Returns their number.
 fn matching(
     rules: Rules,
     frames: &[Frame],
@@ -313,7 +313,7 @@ impl Stack {
         }
     }
 
-    /// Takes a line into the containers in which it stays, and answers how many these are.
+    /// Enters the containers in which the line stays. Returns their number.
     pub(crate) fn matching(
         &self,
         rules: Rules,
@@ -337,7 +337,7 @@ impl Stack {
         has_quote(self.frames.as_slice())
     }
 
-    /// Opens a container in the innermost level, as which this one stands from now on, and goes into it.
+    /// Opens a container, and enters it: the innermost level becomes its enclosing one.
     fn open(&mut self, alloc: Global, container: Container) -> Result<(), RawFault>
         ensures frames { OnOk result (self.new.frames
             ≡ self.old.frames ++ record { level = self.old.level; container = container_of container } ∷ []) }
@@ -362,7 +362,7 @@ impl Stack {
         self.open(alloc, Container::Quote)
     }
 
-    /// Closes the list with which an item of this kind doesn't go on, and finishes a chunk there.
+    /// Closes the open list, unless an item of this kind continues it. Then a chunk may be finished.
     fn begin_list(&mut self, kind: ListKind) -> Result<(), RawFault>
         ensures level { OnOk result (item_opens self.new.level kind ≡ item_opens self.old.level kind) }
         ensures frames { self.new.frames ≡ self.old.frames }
@@ -421,7 +421,7 @@ impl Stack {
         }
     }
 
-    /// Closes the containers from the inside out until so many are open.
+    /// Closes the containers from the inside out until `depth` are open.
     pub(crate) fn close_to(&mut self, depth: usize) -> Result<(), RawFault>
         requires { depth ≤ length self.old.frames }
         ensures frames { OnOk result (self.new.frames ≡ take depth self.old.frames) }
@@ -449,7 +449,7 @@ impl Stack {
         self.bare
     }
 
-    /// Says whether the innermost container is an item of which there is only the marker so far.
+    /// Sets whether the innermost container is an item of which there is only the marker so far.
     pub(crate) fn set_bare(&mut self, bare: bool)
         ensures bare { self.new.bare ≡ bare }
         ensures frames { self.new.frames ≡ self.old.frames }
@@ -458,7 +458,7 @@ impl Stack {
         self.bare = bare;
     }
 
-    /// A blank line in the innermost level.
+    /// Adds a blank line to the innermost level.
     pub(crate) fn push_blank(&mut self)
         ensures level { self.new.level ≡ push_blank self.old.level }
         ensures frames { self.new.frames ≡ self.old.frames }
@@ -486,8 +486,8 @@ impl Stack {
         self.frames.is_empty() && self.level.open_list.is_none()
     }
 
-    /// Finishes a chunk of the document, where its texts are enough for one and no container and no list
-    /// is open. All blocks stay what they are.
+    /// Finishes a chunk of the document, if its texts are long enough and no container and no list is open.
+    /// All blocks stay the same.
     fn finish_chunk(&mut self) -> Result<(), AllocError>
         ensures same { OnOk result (self.new ≡ self.old) }
         ensures frames { self.new.frames ≡ self.old.frames }
@@ -502,7 +502,7 @@ impl Stack {
         self.chunks.push(RawChunk::new(blocks, raw))
     }
 
-    /// Puts a leaf block that was opened.
+    /// Adds a leaf block that was opened.
     #[inline(always)]
     pub(crate) fn put(&mut self, leaf: &LeafBlock<'_>) -> Result<(), RawFault>
         ensures level { OnOk result (self.new.level ≡ block_closes self.old.level (block_of leaf.now)) }
@@ -513,7 +513,7 @@ impl Stack {
         self.level.close_block(block)
     }
 
-    /// The blocks of the document, where no container is open.
+    /// The blocks of the document. No container is open.
     pub(crate) fn into_tree(self) -> Result<RawTree, RawFault>
         requires { self.frames ≡ [] }
         ensures { IfOk result (λ blocks. blocks ≡ closed_blocks self.level) }

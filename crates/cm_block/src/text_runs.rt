@@ -1,5 +1,5 @@
-//! Runs of text: lines that may become definitions, a paragraph or a heading. The definitions stand at the
-//! front of a run's source.
+//! Runs of text: lines that may become definitions, a paragraph or a heading. The definitions are at the
+//! start of a run's source.
 ghost use Rattle.std.specs.Prelude.{◌≡◌, ◌+◌, ◌<◌, ◌≤◌, ◌^◌, not, true, IfSome, IfNone};
 ghost use Rattle.cm_block.specs.Prelude.{seen_view, is_empty, definitions_of, line_feeds, rest_of, next_line};
 ghost use Rattle.cm_block.specs.declared.text_runs.NextLine.TheVariants.{Ends};
@@ -11,7 +11,7 @@ use cm_scan::{definition, trim_end};
 use cm_text::Rules;
 use memchr::memchr_iter;
 
-/// How many line feeds a text has.
+/// The number of line feeds in a text.
 pub(crate) fn line_feeds(text: &str) -> usize
     ensures count { result ≡ line_feeds text.now }
     ensures few { result < 2 ^ 63 }
@@ -24,7 +24,7 @@ pub(crate) fn line_feeds(text: &str) -> usize
     count
 }
 
-/// The text behind the definitions at its front (4.7 Link reference definitions).
+/// The text after the definitions at its start (4.7 Link reference definitions).
 fn behind_definitions(text: &str) -> &str
     ensures { result.now ≡ (definitions_of text.now).left }
 {
@@ -35,7 +35,7 @@ fn behind_definitions(text: &str) -> &str
     rest
 }
 
-/// Whether something is left of a run with this source behind the definitions at its front.
+/// Whether a run with this source has more than the definitions at its start.
 fn has_rest(source: &str) -> bool
     ensures { result ≡ not (is_empty (rest_of source.now)) }
 {
@@ -50,8 +50,8 @@ pub(crate) enum NextLine {
     Underlines(u8),
 }
 
-/// The level of a heading that the line makes of a run with this source. It needs something above the line
-/// that is no definition (4.3 Setext headings).
+/// The level of the heading that the line makes of a run with this source. There has to be something above
+/// the line that is no definition (4.3 Setext headings).
 fn heading_level(source: &str, line: &mut CountedLine<'_>) -> Option<u8>
     ensures level { result ≡ heading_level source.now (seen_view line.old.rest) }
     ensures read { ReadOnce line.old line.new }
@@ -63,7 +63,8 @@ fn heading_level(source: &str, line: &mut CountedLine<'_>) -> Option<u8>
     Some(level)
 }
 
-/// What the next line is to a run with this source. An underline wins over a thematic break and an item.
+/// What the next line is to a run with this source. An underline takes precedence over a thematic break and
+/// an item.
 pub(crate) fn next_line(rules: Rules, source: &str, line: &mut CountedLine<'_>) -> NextLine
     ensures next { next_of result ≡ next_line rules source.now (seen_view line.old.rest) }
     ensures same { line.new.rest ≡ line.old.rest }

@@ -1,4 +1,4 @@
-//! Whether a line stays inside an open container, and what is left of it there.
+//! Whether a line stays inside an open container, and the rest of it there.
 ghost use Rattle.std.specs.Prelude.{◌≡◌, ◌≤◌, ◌&&◌, ◌||◌};
 ghost use Rattle.std.specs.Prelude.{drop, length, nat_le, true, false, option_map, IfSome, MatchOption};
 ghost use Rattle.cm_block.specs.Prelude.{indent_of, strip_columns, seen_view, is_blank, QuoteMarker};
@@ -15,7 +15,7 @@ use crate::counted_line::starts::{Start, start_of};
 use cm_scan::{HtmlKind, ItemMarker, is_blank_text, quote_marker};
 use cm_text::{Rules, View, leading_spaces};
 
-/// How many spaces a text begins with, and what stands behind them.
+/// The number of spaces at the start of a text, and what follows them.
 #[inline(always)]
 fn behind_spaces(text: &str) -> (usize, &str)
     ensures spaces { result.0 ≡ run_length 32 text.now }
@@ -26,7 +26,7 @@ fn behind_spaces(text: &str) -> (usize, &str)
     (spaces, &text[spaces..])
 }
 
-/// The line with the spaces at its front seen as columns. It is the same line.
+/// The same line, with its leading spaces counted as columns.
 #[inline(always)]
 pub(crate) fn with_columns<'a>(line: &View<'a>) -> View<'a>
     ensures { seen_view result ≡ seen_view line.now }
@@ -48,7 +48,7 @@ pub(crate) fn is_blank(line: &View) -> bool
     is_blank_text(line.rest.as_bytes())
 }
 
-/// Whether a lazy continuation line may begin so (5.1 Block quotes).
+/// Whether a lazy continuation line may start like this (5.1 Block quotes).
 fn may_be_lazy(start: &Start<'_>) -> bool
     ensures { result ≡ may_be_lazy (seen start.now) }
 {
@@ -58,8 +58,8 @@ fn may_be_lazy(start: &Start<'_>) -> bool
     )
 }
 
-/// The line as a lazy continuation line, if it can be one: `open_text` says whether the lines so far leave
-/// a paragraph open (5.1 Block quotes, 5.2 List items).
+/// The line as a lazy continuation line, if it can be one: `open_text` says whether the lines so far leave a
+/// paragraph open (5.1 Block quotes, 5.2 List items).
 pub(crate) fn if_lazy<'a>(rules: Rules, line: &View<'a>, open_text: bool) -> Option<View<'a>>
     ensures line { option_map seen_view result
         ≡ goes_inward (continuation_if_lazy rules (seen_view line.now)) open_text }
@@ -82,7 +82,7 @@ pub(crate) fn if_lazy<'a>(rules: Rules, line: &View<'a>, open_text: bool) -> Opt
     })
 }
 
-/// The line behind the marker of a quote with which it begins, and one column of space, if there is one
+/// The line after the marker of a quote with which it starts, and after one column of space if there is one
 /// (5.1 Block quotes).
 #[inline(always)]
 pub(crate) fn quote_content<'a>(line: &View<'a>) -> Option<View<'a>>
@@ -111,8 +111,8 @@ pub(crate) fn ends_bare_item(bare: bool, line: &View<'_>) -> bool
     bare && is_blank(line)
 }
 
-/// Whether a line reaches a column, of whose columns as many are taken as there are up to that, or is blank.
-/// No more of the line is read.
+/// Whether a line is blank or reaches a column. `inner` is the line without its indentation up to that
+/// column. No more of the line is read.
 pub(crate) fn reaches_or_is_blank(line: &View<'_>, inner: &View<'_>, column: usize) -> bool
     requires { seen_view inner.now ≡ strip_columns column (seen_view line.now) }
     ensures { result ≡ (nat_le column (indent_of (seen_view line.now)) || is_blank (seen_view line.now)) }
@@ -120,7 +120,7 @@ pub(crate) fn reaches_or_is_blank(line: &View<'_>, inner: &View<'_>, column: usi
     inner.column - line.column == column || is_blank(line)
 }
 
-/// The line behind the marker of the item that it begins.
+/// The line after the marker of the item that it starts.
 fn behind_marker<'a>(line: &View<'a>, marker: &ItemMarker) -> View<'a>
     requires { (by : all.Rules) × (start_of by (seen_view line.now) ≡ ItemStart (seen_marker marker.now)) }
     ensures { seen_view result ≡ behind_marker (seen_marker marker.now) (seen_view line.now) }
@@ -144,8 +144,7 @@ fn content_offset(behind: &View<'_>) -> usize
     indent
 }
 
-/// Of the item that a line begins, the column at which its content begins, and the line as it goes into it
-/// (5.2 List items).
+/// The column at which the content of the item starts, and the line as it enters it (5.2 List items).
 pub(crate) fn item_content<'a>(line: &View<'a>, marker: &ItemMarker) -> (usize, View<'a>)
     requires { (by : all.Rules) × (start_of by (seen_view line.now) ≡ ItemStart (seen_marker marker.now)) }
     ensures column { result.0 ≡ content_column (seen_marker marker.now) (seen_view line.now) }

@@ -1,4 +1,4 @@
-//! Calls that copy what is left of a line to the end of a text.
+//! Calls that append the rest of a line to a text.
 ghost use Rattle.std.specs.Prelude.{◌≡◌, ◌++◌, ◌∷◌, suc, false, string_bytes, IfOk, OnOk};
 ghost use Rattle.cm_text.specs.Rules as all;
 ghost use Rattle.cm_block.specs.Prelude.{seen_view, given, with_ending, line_feeds, add_text};
@@ -11,7 +11,7 @@ use crate::leaf_text::LeafText;
 use cm_text::View;
 use std::alloc::AllocError;
 
-/// Puts a line at the end of a text.
+/// Appends a line to a text.
 pub(crate) fn push_line(text: &mut LeafText, line: &View<'_>) -> Result<(), AllocError>
     ensures { OnOk result (text.new ≡ text.old ++ (seen_view line.now).text) }
 {
@@ -21,7 +21,7 @@ pub(crate) fn push_line(text: &mut LeafText, line: &View<'_>) -> Result<(), Allo
     text.push(line.rest)
 }
 
-/// Puts a line and its line feed at the end of a text.
+/// Appends a line and its line feed to a text.
 pub(crate) fn push_whole_line(text: &mut LeafText, line: &View<'_>) -> Result<(), AllocError>
     ensures text { OnOk result (text.new ≡ text.old ++ with_ending (seen_view line.now)) }
     ensures feeds { OnOk result (line_feeds text.new ≡ suc (line_feeds text.old)) }
@@ -30,7 +30,7 @@ pub(crate) fn push_whole_line(text: &mut LeafText, line: &View<'_>) -> Result<()
     text.end_line()
 }
 
-/// Puts a line feed and a line at the end of a text.
+/// Appends a line feed and a line to a text.
 pub(crate) fn push_next_line(text: &mut LeafText, line: &View<'_>) -> Result<(), AllocError>
     ensures text { OnOk result (text.new ≡ text.old ++ 10 ∷ (seen_view line.now).text) }
     ensures feeds { OnOk result (line_feeds text.new ≡ suc (line_feeds text.old)) }
@@ -39,7 +39,7 @@ pub(crate) fn push_next_line(text: &mut LeafText, line: &View<'_>) -> Result<(),
     push_line(text, line)
 }
 
-/// Goes on with a run by one more line, whose leading spaces and tabs go (4.8 Paragraphs).
+/// Appends a line to a run, without its leading spaces and tabs (4.8 Paragraphs).
 pub(crate) fn add_text(source: &mut LeafText, line: &View<'_>) -> Result<(), AllocError>
     ensures { OnOk result (source.new ≡ add_text source.old (seen_view line.now)) }
 {
@@ -47,8 +47,8 @@ pub(crate) fn add_text(source: &mut LeafText, line: &View<'_>) -> Result<(), All
     source.push(content(line))
 }
 
-/// A line behind indented code: whether it is one of the block, which then has it. A blank line waits for a
-/// further line of code (4.4 Indented code blocks).
+/// Appends a line that follows indented code if it belongs to the block. Returns whether it does. A blank
+/// line waits for a further line of code (4.4 Indented code blocks).
 pub(crate) fn take_code_line(
     text: &mut LeafText,
     blank_lines: &mut LeafText,

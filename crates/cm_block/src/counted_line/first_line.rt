@@ -1,4 +1,4 @@
-//! What the first line of a leaf block makes: a leaf that further lines may go on with, or a whole one.
+//! What the first line of a leaf block makes: a leaf that further lines may continue, or a whole one.
 ghost use Rattle.std.specs.Prelude.{◌≡◌, IfOk, IfSome, IfNone, true};
 ghost use Rattle.cm_block.specs.Prelude.{LineView, seen_view, kind_of};
 ghost use Rattle.cm_text.specs.Rules as all;
@@ -26,7 +26,7 @@ use std::alloc::{AllocError, Global};
 /// What the first line of a leaf block makes.
 #[derive(Debug, Drop)]
 pub(crate) enum FirstLine {
-    /// A leaf that further lines may go on with. It is open.
+    /// A leaf that further lines may continue. It is open.
     Opens,
     /// A leaf that is open, and ends with this line.
     Ends,
@@ -34,7 +34,7 @@ pub(crate) enum FirstLine {
     Whole(WholeLeaf),
 }
 
-/// Indented code: the line loses 4 columns (4.4 Indented code blocks).
+/// Opens indented code: the line loses 4 columns (4.4 Indented code blocks).
 fn begin_code(alloc: Global, leaf: &mut OpenLeaf, line: &View<'_>) -> Result<FirstLine, AllocError>
     requires { leaf_of leaf.old ≡ no_leaf }
     ensures leaf { IfOk result (λ first. (by : all.Rules) → begins_leaf (first_of first leaf.new)
@@ -59,8 +59,8 @@ fn heading_of(alloc: Global, heading: AtxHeading<'_>) -> Result<WholeLeaf, Alloc
     })
 }
 
-/// A fence, with its info resolved: each further line loses as many columns as this one has (4.5 Fenced code
-/// blocks).
+/// Opens a fenced code block, with its info resolved. Each further line loses as many columns as this one has
+/// (4.5 Fenced code blocks).
 fn begin_fence(
     alloc: Global,
     rules: Rules,
@@ -81,7 +81,7 @@ fn begin_fence(
     Ok(FirstLine::Opens)
 }
 
-/// HTML, which its first line may end (4.6 HTML blocks).
+/// Opens HTML, which its first line may end (4.6 HTML blocks).
 fn begin_html(leaf: &mut OpenLeaf, kind: HtmlKind, line: &View<'_>) -> Result<FirstLine, AllocError>
     requires { leaf_of leaf.old ≡ no_leaf }
     ensures leaf { IfOk result (λ first. (by : all.Rules) → begins_leaf (first_of first leaf.new)
@@ -96,7 +96,7 @@ fn begin_html(leaf: &mut OpenLeaf, kind: HtmlKind, line: &View<'_>) -> Result<Fi
     Ok(FirstLine::Opens)
 }
 
-/// A run of text, which begins with the line behind its indentation (4.8 Paragraphs).
+/// Opens a run of text, which starts with the line after its indentation (4.8 Paragraphs).
 #[inline(always)]
 fn begin_run(leaf: &mut OpenLeaf, line: &View<'_>) -> Result<FirstLine, AllocError>
     requires { leaf_of leaf.old ≡ no_leaf }
@@ -109,8 +109,8 @@ fn begin_run(leaf: &mut OpenLeaf, line: &View<'_>) -> Result<FirstLine, AllocErr
     Ok(FirstLine::Opens)
 }
 
-/// The first line of a leaf block, by what it begins. A quote's or an item's marker begins none. No leaf is
-/// open so far.
+/// Opens a leaf block with its first line, by what that starts. A quote's or an item's marker opens none. No
+/// leaf is open so far.
 #[inline(always)]
 pub(crate) fn begin_leaf(
     alloc: Global,

@@ -20,7 +20,7 @@ fn starts_at_one(kind: ListKind) -> bool
     }
 }
 
-/// Whether there are only spaces and tabs behind a marker with so many digits.
+/// Whether only spaces and tabs follow a marker with this number of digits.
 fn is_blank_behind(digits: usize, content: &[u8]) -> bool
     ensures { result ≡ is_blank_text (drop (suc digits) content.now) }
 {
@@ -30,7 +30,7 @@ fn is_blank_behind(digits: usize, content: &[u8]) -> bool
     }
 }
 
-/// Whether an item can interrupt a paragraph: it is not empty, and its number is 1 (5.2 List items).
+/// Whether an item can interrupt a paragraph: it isn't empty, and its number is 1 (5.2 List items).
 fn item_interrupts(marker: ItemMarker, line: &View<'_>) -> bool
     ensures { result ≡ can_interrupt (seen (Item marker)) (seen_view line.now) }
 {
@@ -56,8 +56,8 @@ pub(crate) fn interrupts_paragraph(rules: Rules, line: &View<'_>) -> bool
     }
 }
 
-/// The level that the line gives to the text above it, as an underline: it is no lazy continuation line
-/// (4.3 Setext headings).
+/// The heading level that the line gives, as an underline, to the text above it. A lazy continuation line is
+/// none (4.3 Setext headings).
 pub(crate) fn underline_of(line: &View<'_>) -> Option<u8>
     ensures { result ≡ underline_of (seen_view line.now) }
 {

@@ -1,4 +1,4 @@
-//! Whether a line stays in an open item by itself, and what is left of it there.
+//! Whether a line stays in an open item by itself, and the rest of it there.
 ghost use Rattle.std.specs.Prelude.{◌≡◌, ◌<◌, ◌≤◌, ◌+◌, ◌-◌, ◌^◌, false, IfSome, MatchOption};
 ghost use Rattle.cm_text.specs.Rules as all;
 ghost use Rattle.cm_scan.specs.blocks.Starts.{Stays};
@@ -8,7 +8,7 @@ ghost use Rattle.cm_block.specs.steps.ContinuationViews.{begins_plain, IsInside}
 use crate::counted_line::continuations::{reaches_or_is_blank, with_columns};
 use cm_text::View;
 
-/// The line without so many of the spaces in front of its rest.
+/// The line without the given number of its leading spaces.
 #[inline(always)]
 fn past_spaces<'a>(line: &View<'a>, count: usize) -> View<'a>
     requires { count ≤ line.now.spaces }
@@ -23,7 +23,7 @@ fn past_spaces<'a>(line: &View<'a>, count: usize) -> View<'a>
     }
 }
 
-/// Whether a text begins with something that is neither a space nor a tab.
+/// Whether a text starts with a byte that is neither a space nor a tab.
 #[inline(always)]
 fn begins_plain(text: &str) -> bool
     ensures { result ≡ begins_plain text.now }
@@ -34,8 +34,8 @@ fn begins_plain(text: &str) -> bool
     }
 }
 
-/// The line as it goes into an open item whose content begins at a column, if it stays there by itself. No
-/// space stands in front of its rest, and there is more of the item than its marker (5.2 List items).
+/// The line as it enters an open item whose content starts at a column, if it stays there by itself. The rest
+/// of the line has no leading space, and there is more of the item than its marker (5.2 List items).
 #[inline(always)]
 pub(crate) fn inside_item<'a>(line: &View<'a>, column: usize) -> Option<View<'a>>
     requires { line.now.lazy ≡ false }
@@ -60,16 +60,16 @@ pub(crate) fn inside_item<'a>(line: &View<'a>, column: usize) -> Option<View<'a>
     Some(inner)
 }
 
-/// A line on its way into open items, and how often it has been read there. As of a `CountedLine`, nothing
-/// that shows it leaves this type: each of its calls is one reading, which it counts, and none lets it go
-/// without the count.
+/// A line as it enters open items, and how often it has been read there. As with a `CountedLine`, nothing
+/// that shows it leaves this type: each of its calls is one reading, which it counts, and the line is only
+/// returned with the count.
 pub(crate) struct LineInItems<'a> {
     inner: View<'a>,
     tests: usize,
 }
 
 impl<'a> LineInItems<'a> {
-    /// A line that hasn't been read on this way.
+    /// A line that hasn't been read here.
     #[inline(always)]
     pub(super) fn new(line: &View<'a>) -> LineInItems<'a>
         ensures line { seen_view result.inner ≡ seen_view line.now }
@@ -81,7 +81,7 @@ impl<'a> LineInItems<'a> {
         }
     }
 
-    /// The line as it has gone into the last of the items, and how often it was read.
+    /// The line as it has entered the last of the items, and how often it was read.
     #[inline(always)]
     pub(super) fn into_parts(self) -> (View<'a>, usize)
         ensures line { result.0 ≡ self.entry.inner }
@@ -91,8 +91,8 @@ impl<'a> LineInItems<'a> {
         (inner, tests)
     }
 
-    /// Whether the line stays by itself in an open item whose content begins at a column, into which it then
-    /// goes. There is more of the item than its marker (5.2 List items).
+    /// Whether the line stays by itself in an open item whose content starts at a column, and if so enters
+    /// it. There is more of the item than its marker (5.2 List items).
     #[inline(always)]
     pub(crate) fn stays_in(&mut self, column: usize) -> bool
         requires plain { self.old.inner.lazy ≡ false }

@@ -1,4 +1,4 @@
-//! What a line begins: a quote, an item, or a leaf block (CommonMark 0.31.2, chapters 4 and 5).
+//! What a line starts: a quote, an item, or a leaf block (CommonMark 0.31.2, chapters 4 and 5).
 ghost use Rattle.std.specs.Prelude.{◌≡◌, ◌==◌, ◌&&◌, false, true};
 ghost use Rattle.cm_block.specs.Prelude.{is_line, seen_view, is_at_letter, content_of, given};
 ghost use Rattle.cm_block.specs.Prelude.{◌<|>◌, is_thematic_break, atx_heading, opening_fence};
@@ -13,7 +13,7 @@ use cm_scan::{
 };
 use cm_text::{Rules, View};
 
-/// What a line that is neither blank nor lazy begins (chapters 4 and 5).
+/// What a line that is neither blank nor lazy starts (chapters 4 and 5).
 #[derive(Clone, Copy, Debug)]
 pub(crate) enum Start<'a> {
     IndentedCode,
@@ -26,7 +26,7 @@ pub(crate) enum Start<'a> {
     TextLine,
 }
 
-/// Whether a line begins with an ASCII letter, without indentation. It is text then, and all of it is its
+/// Whether a line starts with an ASCII letter, without indentation. It is text then, and all of it is its
 /// content.
 #[inline(always)]
 pub(crate) fn begins_with_letter(line: &View<'_>) -> bool
@@ -38,7 +38,7 @@ pub(crate) fn begins_with_letter(line: &View<'_>) -> bool
     }
 }
 
-/// The line behind its indentation.
+/// The line after its indentation.
 pub(crate) fn content<'a>(line: &View<'a>) -> &'a str
     ensures content { result.now ≡ content_of (seen_view line.now) }
     ensures line { is_line result.now ≡ true }
@@ -49,7 +49,7 @@ pub(crate) fn content<'a>(line: &View<'a>) -> &'a str
     line.strip(line.indent()).rest
 }
 
-/// Whether a thematic break may begin with a byte.
+/// Whether a thematic break may start with a byte.
 #[inline(always)]
 fn begins_break(b: u8) -> bool
     ensures { result ≡ begins_break b }
@@ -57,7 +57,7 @@ fn begins_break(b: u8) -> bool
     matches!(b, b'-' | b'_' | b'*' | b' ' | b'\t')
 }
 
-/// Whether a fence may begin with a byte.
+/// Whether a fence may start with a byte.
 #[inline(always)]
 fn begins_fence(b: u8) -> bool
     ensures { result ≡ begins_fence b }
@@ -117,8 +117,8 @@ fn break_or_item(text: &str) -> Start<'_>
     item_or_text(text)
 }
 
-/// The first that fits by these rules, with up to 3 columns of indentation. By its first byte most are left
-/// out.
+/// The first start that matches with these rules, with up to 3 columns of indentation. The first byte
+/// excludes most.
 fn start_of_content(rules: Rules, text: &str) -> Start<'_>
     ensures { seen result ≡ start_of_content rules text.now }
 {
@@ -141,7 +141,7 @@ fn start_of_content(rules: Rules, text: &str) -> Start<'_>
     }
 }
 
-/// What a line that isn't lazy begins: four columns of indentation make code.
+/// What a line that isn't lazy starts: four columns of indentation make code.
 #[inline(never)]
 fn start_behind_indentation<'a>(rules: Rules, line: &View<'a>) -> Start<'a>
     requires { line.now.lazy ≡ false }
@@ -154,7 +154,7 @@ fn start_behind_indentation<'a>(rules: Rules, line: &View<'a>) -> Start<'a>
     start_of_content(rules, line.strip(indent).rest)
 }
 
-/// What a line begins. A lazy continuation line is text, and so is one that begins with a letter, as most do.
+/// What a line starts. A lazy continuation line is text, and so is one that starts with a letter, as most do.
 #[inline(always)]
 pub(crate) fn start_of<'a>(rules: Rules, line: &View<'a>) -> Start<'a>
     ensures { seen result ≡ start_of rules (seen_view line.now) }
