@@ -19,12 +19,12 @@ ghost use Rattle.cm_block.specs.steps.StartViews.{seen};
 ghost use Rattle.cm_block.specs.steps.ContinuationViews.{IsInside};
 ghost use Rattle.cm_block.specs.steps.FirstLines.{first_of, StaysClosed, begins_container};
 
+mod continuations;
 mod copies;
 mod ends;
 mod first_line;
 mod interruptions;
 mod items;
-mod continuations;
 mod starts;
 
 use crate::leaf_text::LeafText;
@@ -32,6 +32,7 @@ use crate::open_leaf::OpenLeaf;
 use cm_scan::{FenceKind, HtmlKind};
 use cm_text::{NoMemory, Rules, TextLines, View};
 use cm_tree::ListKind;
+use continuations::{ends_bare_item, if_lazy, is_blank, item_content, quote_content, with_columns};
 use copies::{add_text, push_next_line, push_whole_line, take_code_line};
 use ends::{closes_fence, ends_html};
 pub(crate) use first_line::FirstLine;
@@ -39,7 +40,6 @@ use first_line::begin_leaf;
 use interruptions::{interrupts_paragraph, underline_of};
 pub(crate) use items::LineInItems;
 use items::inside_item;
-use continuations::{ends_bare_item, if_lazy, is_blank, item_content, quote_content, with_columns};
 use starts::{Start, begins_with_letter, start_of};
 use std::alloc::{AllocError, Global};
 

@@ -27,7 +27,7 @@ use crate::counted_line::{CountedLine, LineInItems};
 use crate::leaf_block::LeafBlock;
 use crate::level::Level;
 use cm_text::Rules;
-use cm_tree::{Items, ListKind, RawBlock, RawBlocks, RawFault, RawChunk, RawTree};
+use cm_tree::{Items, ListKind, RawBlock, RawBlocks, RawChunk, RawFault, RawTree};
 use std::alloc::{AllocError, Global};
 use std::marker::Model;
 use std::mem;

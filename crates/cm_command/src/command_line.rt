@@ -68,7 +68,7 @@ fn flag_arg<'a>(alloc: Global, name: &'a str, help: &'a str) -> Arg<'a>
         .help(help)
 }
 
-/// The subcommand with each flag.
+/// The subcommand, with each flag added.
 fn with_flags<'a>(alloc: Global, command: Command<'a>) -> Result<Command<'a>, AllocError>
     ensures app { IfOk result (λ c. app_of c ≡ with_flags (app_of command.entry)) }
     ensures local { (out-Command command.entry).has_globals ≡ false
@@ -144,7 +144,7 @@ fn job_of(name: &str) -> Option<Job>
     }
 }
 
-/// Why there are no matches. Want of memory comes first, since it has a text and a status too.
+/// Why there are no matches. Lack of memory is tested first, because it has a text and a status too.
 fn stop_of(alloc: Global, error: &Error) -> Stop
     ensures memory { kind_of error.now ≡ ErrorKind.OutOfMemory → result ≡ Stop.NoMemory }
     ensures kind { StopsBy (kind_of error.now) result }
@@ -204,7 +204,7 @@ fn limits_of(found: &ArgMatches<'_>) -> Limits
     limits.with_rules(rules_of(found))
 }
 
-/// The limits of a job, of whose subcommand this was found.
+/// The limits of a job, from the matches of its subcommand.
 fn limits_for_job(job: Job, found: &ArgMatches<'_>) -> Limits
     requires { OptionsAreRead job (rows_of (found_of found.now)) }
     ensures { limits_for_job job (rows_of (found_of found.now)) ≡ Some result }
@@ -215,7 +215,7 @@ fn limits_for_job(job: Job, found: &ArgMatches<'_>) -> Limits
     }
 }
 
-/// The task of the words in which this was found.
+/// The task of these matches.
 fn task_of(alloc: Global, matches: &ArgMatches<'_>) -> Result<Task, AllocError>
     requires { IsSomeAnd (subcommand_rows_of matches.now) IsJob }
     ensures { IfOk result (λ task. IsTaskOf (subcommand_rows_of matches.now) task) }
@@ -229,10 +229,10 @@ fn task_of(alloc: Global, matches: &ArgMatches<'_>) -> Result<Task, AllocError>
     })
 }
 
-/// The task that the words of a command line ask for, of which the first is the program's name.
+/// The task that the words of a command line ask for. The first word is the program's name.
 ///
-/// A request for help or for the version, and words that are no command line of the program, are a
-/// `Stop`, whose text is `clap`'s. Memory may run out in any call.
+/// `Stop` for a request for help or for the version, with `clap`'s text, and for words that are no command
+/// line of the program. A request for memory may be refused in any call.
 pub fn task(alloc: Global, words: &[String]) -> Result<Task, Stop>
     // A job on a text by its name, with each option at most once, in any order, and a file or none.
     // Neither a number nor the file is a hyphen followed by more; a file `-` is standard input.

@@ -1,4 +1,4 @@
-//! Tasks, and what is answered in place of one: help, a mistake in the words, or want of memory.
+//! Tasks, and what is returned without one: help, a mistake in the words, or lack of memory.
 
 use cm_text::Limits;
 use std::alloc::AllocError;
@@ -12,15 +12,15 @@ pub enum Job {
     Tree,
     /// The text is written as plain source of its tree.
     Rewrite,
-    /// The text is a file of examples, of which the report is written.
+    /// The text is a file of examples, and the report on it is written.
     Examples,
 }
 
-/// A job, and what it is done on.
+/// A job, and the file that it is done with.
 #[derive(Debug, PartialEq, Eq, Drop)]
 pub struct Task {
     pub job: Job,
-    /// The file to read; `None` for standard input, where the words leave it out or say `-`.
+    /// The file to read; `None` for standard input: the words have no file, or `-`.
     pub file: Option<String>,
     pub limits: Limits,
 }

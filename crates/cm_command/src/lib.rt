@@ -1,6 +1,6 @@
 //! What the words of `cmk`'s command line ask for.
 //!
-//! Begin with [`task`], which answers a [`Task`], or a [`Stop`] for help, a mistake or want of memory.
+//! Start with [`task`], which returns a [`Task`], or a [`Stop`] for help, a mistake or lack of memory.
 //! `cm_tool` does what a task asks for.
 //!
 //! ```

@@ -1,4 +1,4 @@
-//! Files of examples: their lines, what comes of their sources, and the report.
+//! Files of examples: their lines, the outputs of their sources, and the report.
 ghost use Rattle.std.specs.Prelude.{◌≡◌, ◌≢◌, ◌∷◌, [], ◌++◌, ◌+◌, ◌-◌, ◌^◌, ◌<◌, ◌≤◌};
 ghost use Rattle.std.specs.Prelude.{length, map, option_map, string_bytes, IfOk, IfErr, OnOk};
 ghost use Rattle.std.specs.Prelude.{IfSome, IfNone, Ok};
@@ -30,7 +30,7 @@ pub(crate) struct Example {
     pub(crate) html: String,
 }
 
-/// The lines of a text that are left, and how many have been taken.
+/// The lines of a text that are left, and the number of those taken.
 #[derive(Clone, Copy)]
 struct Lines<'a> {
     rest: &'a str,
@@ -38,7 +38,7 @@ struct Lines<'a> {
     ghost few: { taken + length rest.now ≤ 2 ^ 63 },
 }
 
-/// The first line of a text that isn't empty, and what is left behind its ending.
+/// The first line of a nonempty text, and the text after its line ending.
 fn first_line(text: &str) -> (&str, &str)
     requires { text.now ≢ [] }
     ensures lines { lines_of text.now ≡ result.0.now ∷ lines_of result.1.now }
@@ -48,7 +48,7 @@ fn first_line(text: &str) -> (&str, &str)
     let Some(at) = memchr2(b'\n', b'\r', bytes) else {
         return (text, "");
     };
-    // A line feed behind a carriage return belongs to the same ending.
+    // A line feed after a carriage return belongs to the same line ending.
     let last = if bytes[at..].starts_with(b"\r\n") {
         at + 1
     } else {
@@ -76,8 +76,8 @@ impl<'a> Lines<'a> {
         Some(line)
     }
 
-    /// Takes the lines up to the one that ends them, and that one, and answers their text. None where they
-    /// close the example before, or the file ends.
+    /// Takes the lines up to the one that ends them, and that line, and returns their text. Returns None if
+    /// they close the example before, or the file ends.
     fn take_part(&mut self, alloc: Global, end: &str) -> Result<Option<String>, AllocError>
         ensures part { IfOk result (λ part.
             option_map (λ text. part_of (string_bytes text) self.new.taken self.new.rest.now) part
@@ -97,7 +97,7 @@ impl<'a> Lines<'a> {
         Ok(None)
     }
 
-    /// Takes the lines of an example of which the opening line was taken last.
+    /// Takes the lines of an example, after its opening line.
     fn take_example(&mut self, alloc: Global) -> Result<Example, Fault>
         ensures example { IfOk result (λ example. examples_opened self.old.taken self.old.rest.now
             ≡ put_example (example_of example) (examples_left self.new.taken self.new.rest.now)) }
@@ -116,7 +116,7 @@ impl<'a> Lines<'a> {
     }
 }
 
-/// Puts a line of an example to the end, with a line feed; → stands for a tab.
+/// Appends a line of an example, with a line feed. → is a tab.
 fn push_line(part: &mut String, line: &str) -> Result<(), AllocError>
     ensures { OnOk result (string_bytes part.new ≡ string_bytes part.old ++ example_line line.now) }
 {

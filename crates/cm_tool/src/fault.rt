@@ -1,4 +1,4 @@
-//! Faults, and the texts by which they are told.
+//! Faults, and the texts that report them.
 ghost use Rattle.std.specs.Prelude.{◌≡◌, ◌+◌, ◌≤◌, ◌++◌, Some, length};
 ghost use Rattle.cm_tool.specs.FaultLines.{fault_text, line_of};
 ghost use Rattle.cm_tool.specs.steps.FaultParts.{parts_text};
@@ -13,17 +13,17 @@ use std::alloc::AllocError;
 use std::error::Error;
 use std::fmt;
 
-/// The most bytes of a fault's line.
+/// The greatest number of bytes of a fault's line.
 pub const LINE: usize = 126;
 
-/// Why a task ends without its answer. Its `Display` is what the program prints after `cmk: `.
+/// Why a task ends without its output. Its `Display` is what the program prints after `cmk: `.
 #[derive(Clone, Copy, Debug, PartialEq, Eq, Drop)]
 pub enum Fault {
-    /// The bytes aren't UTF-8; `at` is the length of the longest well-formed front.
+    /// The bytes aren't UTF-8; `at` is the length of their longest well-formed prefix.
     NotUtf8 { at: usize },
     /// There is a byte past the limit, which is `at`.
     TooLong { at: usize },
-    /// More quotes and items stand round the line, counted from 1, than the limit.
+    /// The line, counted from 1, is inside more quotes and items than the limit.
     BlocksTooDeep { line: u128 },
     /// The inlines of the leaf, counted from 1, nest deeper than the limit.
     InlinesTooDeep { leaf: usize },
@@ -31,17 +31,17 @@ pub enum Fault {
     NoMemory,
     /// The reader failed, or the file couldn't be opened.
     ReadFailed,
-    /// The writer failed, or took no byte of a nonempty piece, after it had taken so many bytes.
+    /// The writer failed, or accepted no byte of a nonempty piece, after it had accepted `written` bytes.
     WriteFailed { written: usize },
     /// The tree can't be spelled as plain source.
     Unspellable { why: Why },
-    /// An example isn't closed, whose opening line, counted from 1, is this.
+    /// The example whose opening line, counted from 1, is this isn't closed.
     BadExampleFile { line: usize },
-    /// The example, counted from 1, is the first whose output differs from the HTML that it wants.
+    /// The example, counted from 1, is the first whose output differs from its expected HTML.
     ExampleDiffers { number: usize },
 }
 
-/// What a fault's text is made of: words, perhaps a number, and more words.
+/// The parts of a fault's text: words, perhaps a number, and more words.
 #[derive(Clone, Copy, Debug)]
 struct Parts {
     front: &'static str,
@@ -50,7 +50,7 @@ struct Parts {
 }
 
 impl Fault {
-    /// What its text is made of.
+    /// The parts of its text.
     fn parts(&self) -> Parts
         ensures text { parts_text result ≡ fault_text self.now }
         ensures short { length result.front.now + length result.behind.now ≤ 80 }

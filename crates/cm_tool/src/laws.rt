@@ -23,50 +23,50 @@ pub fn worked_examples()
     ensures shown { ShownExamples }
 {}
 
-/// A parser meets faults in an order that gives the fault of the input: first a line that has ended and
-/// is too deep, then what is wrong with the text, then the last line.
+/// A parser meets faults in an order that gives the fault of the input: first a line that has ended and is
+/// too deep, then what is wrong with the text, then the last line.
 pub fn faults_in_order()
     ensures { FaultsInOrder }
 {}
 
-/// A parser tells a fault just where every input that begins with the bytes so far has it.
+/// A parser reports a fault exactly if every input that starts with the bytes so far has it.
 pub fn settled_is_told()
     ensures { SettledIsTold }
 {}
 
-/// A text has no fault just where it is UTF-8, no longer than the limit, and its tree nests no deeper than
-/// the limits. So has the source that is spelled for a tree, where it and the tree are within the limits.
+/// A text has no fault exactly if it is UTF-8, no longer than the limit, and its tree nests no deeper than
+/// the limits. The source that is spelled for a tree has none if it and the tree are within the limits.
 pub fn no_fault_within_limits()
     ensures text { NoFaultJustWithin }
     ensures spelled { SpelledWithoutFault }
 {}
 
 /// Each line of a text has one owner in its document, and the leaves of the document's tree are those that
-/// the lines name: each leaf's lines are one nonempty unbroken run, and the runs stand in the order of the
+/// the lines name: each leaf's lines are one nonempty unbroken run, and the runs are in the order of the
 /// leaves' numbers.
 pub fn owners_of_lines()
     ensures one_a_line { OneOwnerALine }
     ensures runs { RunsInOrder }
 {}
 
-/// Each heading of a document has a level from 1 to 6. What `convert` writes of a text whose tree has no raw
-/// HTML, but for that in the alternative text of images, is markup, and its tags are those of the tree. Each
+/// Each heading of a document has a level from 1 to 6. If a text's tree has no raw HTML other than in the
+/// alternative text of images, what `convert` writes is markup, and its tags are those of the tree. Each
 /// address in it is one that the rules follow.
 pub fn text_is_no_markup()
     ensures levels { HeadingLevels }
     ensures tags { TextIsNoMarkup }
 {}
 
-/// By rules without raw HTML what `convert` writes of any bytes is markup, and its tags are those of the
+/// With rules without raw HTML, what `convert` writes for any bytes is markup, and its tags are those of the
 /// tree. Each address in it is one that the rules follow, and each class is `language-` and a word.
 pub fn texts_from_strangers()
     ensures { TextsFromStrangers }
 {}
 
-/// The examples of a file are those that stand among its lines. An opening line is 32 backticks, a space and
-/// `example`. Behind it come the lines of the source, a line `.`, the lines of the HTML, and a closing line
-/// of 32 backticks. Lines outside of examples are passed over. An opening line behind which a closing line
-/// comes before the line `.`, or none comes, is the fault of the file: the first one is told.
+/// The examples of a file are among its lines. An opening line is 32 backticks, a space and `example`. It is
+/// followed by the lines of the source, a line `.`, the lines of the HTML, and a closing line of 32
+/// backticks. Lines outside of examples are skipped. The fault of a file is its first opening line that is
+/// followed by a closing line before the line `.`, or by no closing line.
 pub fn examples_by_lines()
     ensures text { ExamplesOfText }
     ensures told { ExamplesAreTold }

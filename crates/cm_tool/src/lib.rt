@@ -1,15 +1,15 @@
-//! From the bytes of a CommonMark text, in whatever pieces they come, to its document, its HTML and its plain
-//! source; and the program `cmk` round that.
+//! From the bytes of a CommonMark text, in pieces of any length, to its document, its HTML and its plain
+//! source; and what the program `cmk` does.
 //!
-//! Begin with [`html_of`], [`doc_of`] or [`source_of`] for a text in memory.
+//! Start with [`html_of`], [`doc_of`] or [`source_of`] for a text in memory.
 //!
 //! - From a source to a sink: [`convert`], [`read`], [`rewrite`] and [`read_text`].
-//! - For pieces as they come: [`Parser`].
-//! - For files of examples: [`examples`] and [`examples_by`], whose [`Report`] tells its verdict.
+//! - For input in pieces: [`Parser`].
+//! - For files of examples: [`examples`] and [`examples_by`], which return a [`Report`].
 //! - [`Fault`] has each fault, with the line that the program prints.
 //!
-//! The program itself is made of [`task`], [`run`], [`tell`] and [`tell_unopened`]. The command line is read by
-//! `cm_command`, so that no other crate is checked together with `clap`.
+//! The program consists of [`task`], [`run`], [`tell`] and [`tell_unopened`]. `cm_command` reads the command
+//! line, so no other crate is checked together with `clap`.
 //!
 //! ```
 //! use cm_text::Limits;

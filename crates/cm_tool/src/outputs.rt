@@ -1,7 +1,8 @@
-//! Outputs: the document, its HTML, or its plain source, which are made of an outline; and the calls that
-//! read a source and write one of them to a sink.
+//! Outputs that are made of an outline: the document, its HTML, its plain source; and the calls that read a
+//! source and write one of them to a sink.
 //!
-//! Each output goes out by `cm_text::write_all`, and one definition, `Writes`, says what such a call returns.
+//! Each output is written with `cm_text::write_all`, and one definition, `Writes`, says what such a call
+//! returns.
 ghost use Rattle.std.specs.Prelude.{◌≡◌, ℕ, List};
 ghost use Rattle.cm_tool.specs.Parsing.{Finishes, Makes};
 ghost use Rattle.cm_tool.specs.Rewriting.{kept_tree};
@@ -46,8 +47,8 @@ pub(crate) fn doc_of_outline(alloc: Global, limits: Limits, outline: Outline) ->
     Ok(Doc { blocks, owners })
 }
 
-/// The HTML of an outline's document in pages, the first with room for this many bytes, or for a whole page if
-/// they are more.
+/// The HTML of an outline's document in pages. The first page has room for this number of bytes, up to a
+/// whole page.
 pub(crate) fn html_of_outline(
     alloc: Global,
     limits: Limits,
@@ -63,7 +64,7 @@ pub(crate) fn html_of_outline(
         definitions,
         ..
     } = outline;
-    // The HTML goes into the memory of the owners, which it doesn't show.
+    // The HTML is written to the memory of the owners, which it doesn't show.
     drop(owners);
     leaves_html(alloc, limits, definitions, blocks, room)
 }

@@ -1,5 +1,5 @@
-//! Reading: from bytes to the outline of their document. They come from a source, which is read to its end,
-//! in pieces, or as a text in memory.
+//! Reading: from bytes to the outline of their document. The bytes come from a source, which is read to its
+//! end, in pieces, or from memory.
 ghost use Rattle.std.specs.Prelude.{◌≡◌, ℕ, ◌-◌, ◌^◌, ◌<◌, List, IfOk, length};
 ghost use Rattle.std.specs.Io.KnownBytes.{Consumes};
 ghost use Rattle.cm_tool.specs.Reading.{Reads};
@@ -16,8 +16,8 @@ use cm_block::Outline;
 use cm_text::{Limits, Source};
 use cm_tree::Doc;
 pub use in_memory::{doc_of, html_of, source_of};
-use parser::SLICE;
 pub use parser::Parser;
+use parser::SLICE;
 use std::alloc::{AllocError, Global};
 use taking_in::take_all;
 pub use texts::read_text;
@@ -28,7 +28,7 @@ pub(crate) fn zeros(alloc: Global, count: usize) -> Result<Vec<u8>, AllocError>
     vec![in alloc; 0; count]
 }
 
-/// Reads a source to its end and answers the outline of its document.
+/// Reads a source to its end and returns the outline of its document.
 pub(crate) fn outline_of<R: Source>(
     alloc: Global,
     source: &mut R,
@@ -46,7 +46,7 @@ pub(crate) fn outline_of<R: Source>(
     parser.outline()
 }
 
-/// Reads a source to its end and answers the document.
+/// Reads a source to its end and returns the document.
 ///
 /// A fault that the bytes settle ends the reading: no read is made after it. So does a failed read.
 pub fn read<R: Source>(alloc: Global, source: &mut R, limits: Limits) -> Result<Doc, Fault>

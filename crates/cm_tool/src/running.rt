@@ -1,4 +1,4 @@
-//! Doing a task, and telling what goes wrong.
+//! Doing a task, and reporting faults.
 ghost use Rattle.std.specs.Prelude.{◌≡◌, ℕ, ◌-◌, ◌^◌, ◌<◌, List, Result, IfOk, string_bytes};
 ghost use Rattle.std.specs.Io.KnownBytes.{Consumes};
 ghost use Rattle.cm_tool.specs.declared.fault.Fault as faults;
@@ -14,7 +14,7 @@ use cm_command::{Job, Stop, Task};
 use cm_text::{Sink, Source, WriteFailed, write_all};
 use std::alloc::{AllocError, Global};
 
-/// Writes the text, and passes over a failure.
+/// Writes the text, and ignores a failure.
 fn offer<E: Sink>(errors: &mut E, text: &[u8])
     requires { E.failed errors.old < 2 ^ 64 - 1 }
     ensures { Offered
@@ -25,7 +25,7 @@ fn offer<E: Sink>(errors: &mut E, text: &[u8])
     let _ = write_all(errors, text);
 }
 
-/// Writes the fault's line, and answers the exit status. It passes over a failure, and takes no memory.
+/// Writes the fault's line, and returns the exit status. It ignores a failure, and takes no memory.
 fn tell_fault<E: Sink>(fault: Fault, errors: &mut E) -> u8
     requires { E.failed errors.old < 2 ^ 64 - 1 }
     ensures status { result ≡ 1 }
@@ -48,7 +48,7 @@ fn no_example_line() -> ArrayString<LINE>
     line
 }
 
-/// Reports a file of examples that has none, and answers the exit status of a job that is done.
+/// Reports a file of examples that has none, and returns the exit status of a job that is done.
 fn tell_done<E: Sink>(job: Job, count: usize, errors: &mut E) -> u8
     requires { E.failed errors.old < 2 ^ 64 - 1 }
     ensures status { result ≡ 0 }
@@ -86,8 +86,8 @@ fn work<R: Source, W: Sink>(
     }
 }
 
-/// Does the task and answers the exit status: 0, or 1 after a fault, whose line goes to `errors`. A line
-/// goes there too where a file of examples has none. A failure of `errors` is passed over.
+/// Does the task and returns the exit status: 0, or 1 after a fault, whose line is written to `errors`. If a
+/// file of examples has none, a line about that is written there too. A failure of `errors` is ignored.
 pub fn run<R: Source, W: Sink, E: Sink>(
     alloc: Global,
     task: &Task,
@@ -113,9 +113,8 @@ pub fn run<R: Source, W: Sink, E: Sink>(
     }
 }
 
-/// Tells why there is no task, and answers the exit status: 0 for help, which goes to `writer`, 2 for
-/// a wrong command line, and 1 for want of memory or a failure of `writer`. A failure of `errors` is
-/// passed over.
+/// Reports why there is no task, and returns the exit status: 0 for help, which is written to `writer`, 2 for
+/// a wrong command line, and 1 for lack of memory or a failure of `writer`. A failure of `errors` is ignored.
 pub fn tell<W: Sink, E: Sink>(stop: &Stop, writer: &mut W, errors: &mut E) -> u8
     requires writes { W.failed writer.old < 2 ^ 64 - 1 }
     requires tells { E.failed errors.old < 2 ^ 64 - 1 }
@@ -151,9 +150,9 @@ fn unopened_lines(alloc: Global, name: &str, reason: &str) -> Result<String, All
     Ok(lines)
 }
 
-/// Reports that the file of this name can't be opened, with the reason, and answers the exit status 1.
+/// Reports that the file of this name can't be opened, with the reason, and returns the exit status 1.
 /// Control and format characters of both are written as `\u{..}`, so they stay on one line. If memory runs
-/// out, that is reported instead. A failure of `errors` is passed over.
+/// out, that is reported instead. A failure of `errors` is ignored.
 pub fn tell_unopened<E: Sink>(alloc: Global, name: &str, reason: &str, errors: &mut E) -> u8
     requires { E.failed errors.old < 2 ^ 64 - 1 }
     ensures status { result ≡ 1 }

@@ -1,6 +1,6 @@
 //! The program `cmk`: converts CommonMark to HTML, to a listing of its tree, or to CommonMark source.
 //!
-//! `main` asks `cm_tool` for the task that the words name, and has it done. docs/cmk.md describes the
+//! `main` gets the task that the words name from `cm_tool`, and has it done. docs/cmk.md describes the
 //! program.
 #![tactic(auto)]
 
@@ -26,7 +26,7 @@ fn asked<R: Env + AllocGlobal>(rt: &R) -> Result<Task, Stop> {
     }
 }
 
-/// Each read and write is one call of the system, so a count of bytes written is true.
+/// Each read and write is one system call, so a count of bytes written is true.
 fn main(rt: HostRuntime) -> ExitCode {
     let alloc = rt.alloc();
     let mut output = FromWrite::new(rt.stdout());

@@ -13,30 +13,30 @@ use cm_html::html;
 use cm_text::{Limits, Rules};
 use std::alloc::{AllocError, Global};
 
-/// An example whose output isn't the HTML that it wants.
+/// An example whose output isn't its expected HTML.
 #[derive(Debug, PartialEq, Eq, Drop)]
 pub struct Difference {
     /// Its number in the file, counted from 1.
     pub number: usize,
-    /// The HTML that the example wants.
+    /// The expected HTML.
     pub expected: String,
     /// The HTML of its source.
     pub got: String,
 }
 
-/// What comes of the examples of a file.
+/// The results of the examples of a file.
 #[derive(Debug, PartialEq, Eq, Drop)]
 pub struct Report {
-    /// How many examples there are.
+    /// The number of examples.
     pub total: usize,
-    /// How many of them agree: the HTML of their source is the one that they want.
+    /// The number of examples that agree: the HTML of their source is the expected one.
     pub agree: usize,
     /// Each of the others, in order.
     pub differ: Vec<Difference>,
 }
 
 impl Report {
-    /// How many examples there are, if all agree. It takes no memory.
+    /// The number of examples, if all agree. It takes no memory.
     ///
     /// # Errors
     ///
@@ -53,23 +53,23 @@ impl Report {
     }
 }
 
-/// Reads the source of each example of a text, and compares its HTML with the one that the example wants.
+/// Reads the source of each example of a text, and compares its HTML with the expected one.
 ///
-/// An example is an opening line of 32 backticks, a space and `example`, the lines of its source, a line
-/// `.`, the lines of its HTML, and a closing line of 32 backticks; in these lines U+2192 stands for a tab.
-/// Lines outside of examples are passed over. Sources are read under the standard limits.
+/// An example is an opening line of 32 backticks, a space and `example`, the lines of its source, a line `.`,
+/// the lines of its HTML, and a closing line of 32 backticks; in these lines U+2192 is a tab. Lines outside
+/// of examples are skipped. Sources are read with the standard limits.
 ///
 /// # Errors
 ///
-/// `Fault::BadExampleFile` where an example isn't closed, with the number of its opening line; else the
-/// fault of the first source that has one. `Fault::NoMemory` where a request for memory was refused.
+/// `Fault::BadExampleFile` if an example isn't closed, with the number of its opening line; otherwise the
+/// fault of the first source that has one. `Fault::NoMemory` if a request for memory was refused.
 pub fn examples(alloc: Global, text: &str) -> Result<Report, Fault>
     ensures { Examines result profile text.now }
 {
     examples_by(alloc, Rules::profile(), text)
 }
 
-/// The same, by these rules.
+/// The same as `examples`, with these rules.
 ///
 /// # Errors
 ///
@@ -96,7 +96,7 @@ pub fn examples_by(alloc: Global, rules: Rules, text: &str) -> Result<Report, Fa
     })
 }
 
-/// Puts one more that differs to the end.
+/// Appends one more difference.
 fn push_difference(
     differ: &mut Vec<Difference>,
     number: usize,

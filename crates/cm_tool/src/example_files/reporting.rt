@@ -1,4 +1,4 @@
-//! The report of a file of examples, from a source of its bytes to what is written.
+//! The report on a file of examples, from a source of its bytes to the text that is written.
 ghost use Rattle.std.specs.Prelude.{◌≡◌, ℕ, ◌-◌, ◌^◌, ◌<◌, ◌++◌, List, IfOk, OnOk, string_bytes};
 ghost use Rattle.std.specs.Io.KnownBytes.{Consumes};
 ghost use Rattle.cm_tool.specs.ExampleFiles.{difference_of, report_view};
@@ -11,7 +11,7 @@ use cm_text::{Limits, Sink, Source, write_all};
 use std::alloc::{AllocError, Global};
 use std::fmt::Write;
 
-/// Puts what is written of an example that differs to the end.
+/// Appends the text that is written for an example that differs.
 fn push_difference_text(out: &mut String, difference: &Difference) -> Result<(), AllocError>
     ensures { OnOk result (string_bytes out.new
         ≡ string_bytes out.old ++ difference_text (difference_of difference.now)) }
@@ -24,7 +24,7 @@ fn push_difference_text(out: &mut String, difference: &Difference) -> Result<(),
     write!(out, "example {number}\nexpected:\n{expected}got:\n{got}")
 }
 
-/// What is written of a report.
+/// The text that is written for a report.
 fn report_text(alloc: Global, report: &Report) -> Result<String, AllocError>
     ensures { IfOk result (λ text. string_bytes text ≡ report_text (report_view report.now)) }
 {
@@ -36,12 +36,12 @@ fn report_text(alloc: Global, report: &Report) -> Result<String, AllocError>
     Ok(out)
 }
 
-/// Writes the report of the source's examples, read by the rules of the limits, and answers how many
-/// there are, or the first that differs.
+/// Writes the report on the source's examples, read with the rules of the limits. Returns the number of
+/// examples, or the first that differs.
 ///
-/// Nothing is written before the report is whole. A fault that the bytes settle ends the reading: no
-/// read is made after it. On `Fault::WriteFailed` what went out is the first `written` bytes of the
-/// report, and where there is no report, nothing.
+/// Nothing is written before the report is complete. A fault that the bytes settle ends the reading: no read
+/// is made after it. On `Fault::WriteFailed` the first `written` bytes of the report were written, and if
+/// there is no report, nothing.
 pub(crate) fn report<R: Source, W: Sink>(
     alloc: Global,
     source: &mut R,

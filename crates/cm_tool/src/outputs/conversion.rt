@@ -9,11 +9,11 @@ use crate::reading::outline_of;
 use cm_text::{Limits, Sink, Source};
 use std::alloc::Global;
 
-/// Writes the HTML of the source's text, and answers its length in bytes.
+/// Writes the HTML of the source's text, and returns its length in bytes.
 ///
-/// Nothing is written before the text has been read whole. A fault that the bytes settle ends the
-/// reading: no read is made after it. On `Fault::WriteFailed` what went out is the first `written`
-/// bytes of the HTML, on `Fault::NoMemory` a beginning of it, and on any other fault nothing.
+/// Nothing is written before the whole text has been read. A fault that the bytes settle ends the reading: no
+/// read is made after it. On `Fault::WriteFailed` the first `written` bytes of the HTML were written, on
+/// `Fault::NoMemory` a prefix of it, and on any other fault nothing.
 pub fn convert<R: Source, W: Sink>(
     alloc: Global,
     source: &mut R,

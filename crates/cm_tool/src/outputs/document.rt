@@ -15,7 +15,7 @@ use cm_tree::{Block, Definitions, Items, RawBlock, RawTree, Text};
 use std::alloc::{AllocError, Global};
 
 impl Unread {
-    /// The text between two places.
+    /// The text in a range of positions.
     fn text(&self, from: u32, to: u32) -> Result<Text, AllocError>
         requires { IsBetween self.now.raw.text from to }
         ensures { IfOk result (λ text. text ≡ slice_range self.now.raw.text from to) }
@@ -83,7 +83,7 @@ impl LeafWalk {
         }
     }
 
-    /// The blocks between two places, with the inlines of their leaves.
+    /// The blocks in a range of positions, with the inlines of their leaves.
     #[cycle(blocks)]
     fn blocks(&mut self, from: u32, to: u32) -> Result<Items<Block>, Fault>
         requires { IsRange (length self.old.unread.raw.blocks) from to }
@@ -101,7 +101,7 @@ impl LeafWalk {
         Ok(read)
     }
 
-    /// The items between two places, with the inlines of their leaves.
+    /// The items in a range of positions, with the inlines of their leaves.
     #[cycle(blocks)]
     fn items(&mut self, from: u32, to: u32) -> Result<Items<Items<Block>>, Fault>
         requires { IsRange (length self.old.unread.raw.items) from to }
@@ -119,7 +119,7 @@ impl LeafWalk {
         Ok(read)
     }
 
-    /// Puts all blocks that are left, with the inlines of their leaves, behind others.
+    /// Appends all blocks that are left, with the inlines of their leaves, to others.
     fn push_all(&mut self, read: &mut Items<Block>) -> Result<(), Fault>
         requires { ArePlacedLeft self.old.unread }
         ensures read { OnOk result (read.new ≡ read.old ++ all_left self.old.unread) }
@@ -135,13 +135,13 @@ impl LeafWalk {
     }
 }
 
-/// The blocks with the inlines of their leaves, at every depth. Each chunk of the document is let go of
-/// before the next one is read.
+/// The blocks with the inlines of their leaves, at every depth. Each chunk of the document is freed before
+/// the next one is read.
 ///
 /// # Errors
 ///
-/// `InlinesTooDeep` with the first leaf whose inlines nest deeper than the limit, `NoMemory` where a request
-/// for memory was refused.
+/// `InlinesTooDeep` with the first leaf whose inlines nest deeper than the limit, `NoMemory` if a request for
+/// memory was refused.
 pub(crate) fn read_leaves(
     alloc: Global,
     limits: Limits,

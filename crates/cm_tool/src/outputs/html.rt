@@ -1,6 +1,6 @@
 //! The HTML of an outline's blocks, whose inlines are read as it is written.
 //!
-//! No tree is made: a leaf's text is copied from its source to the page. No page goes out before the last
+//! No tree is made: a leaf's text is copied from its source to the page. No page is written before the last
 //! leaf has been read, because that one may nest too deep. The layout of blocks in an item is in code twice,
 //! here and in `cm_html` for trees, and once in the definition.
 ghost use Rattle.std.specs.Prelude.{◌≡◌, List, ◌∷◌, ◌++◌, length, map, option_map, true, IfOk, IfErr, OnOk};
@@ -31,7 +31,7 @@ struct HtmlWalk {
 }
 
 impl HtmlWalk {
-    /// Adds the HTML of a block that stands in no item.
+    /// Adds the HTML of a block outside of items.
     #[cycle(html)]
     fn push_block(&mut self, block: RawBlock) -> Result<(), Fault>
         requires { IsPlaced self.old.walk.unread.raw block }
@@ -86,7 +86,7 @@ impl HtmlWalk {
         Ok(())
     }
 
-    /// Adds the HTML of the blocks between two places.
+    /// Adds the HTML of the blocks in a range of positions.
     #[cycle(html)]
     fn push_blocks(&mut self, from: u32, to: u32) -> Result<(), Fault>
         requires { IsRange (length self.old.walk.unread.raw.blocks) from to }
@@ -104,7 +104,7 @@ impl HtmlWalk {
         Ok(())
     }
 
-    /// Adds the HTML of the items between two places.
+    /// Adds the HTML of the items in a range of positions.
     #[cycle(html)]
     fn push_items(&mut self, tight: bool, from: u32, to: u32) -> Result<(), Fault>
         requires { IsRange (length self.old.walk.unread.raw.items) from to }
@@ -145,8 +145,8 @@ impl HtmlWalk {
         Ok(())
     }
 
-    /// Adds the HTML of a block that stands in an item. The mark says that it begins on a new line, unless
-    /// it is a paragraph of a tight list; answers the mark for the next block.
+    /// Adds the HTML of a block in an item. `fresh` says that it starts on a new line, unless it is a
+    /// paragraph of a tight list. Returns `fresh` for the next block.
     #[cycle(html)]
     fn push_inside(&mut self, tight: bool, fresh: bool, block: RawBlock) -> Result<bool, Fault>
         requires { IsPlaced self.old.walk.unread.raw block }
@@ -180,7 +180,7 @@ impl HtmlWalk {
         }
     }
 
-    /// Adds the HTML of a block, on a new line where the mark says so.
+    /// Adds the HTML of a block, on a new line if `fresh`.
     #[cycle(html)]
     #[inline(always)]
     fn push_apart(&mut self, fresh: bool, block: RawBlock) -> Result<(), Fault>
@@ -216,8 +216,9 @@ impl HtmlWalk {
     }
 }
 
-/// The HTML of the blocks with the inlines of their leaves, in pages, the first with room for this many bytes.
-/// The inlines of a leaf are freed before those of the next one are read, and so is each chunk of the document.
+/// The HTML of the blocks with the inlines of their leaves, in pages. The first page has room for this number
+/// of bytes. The inlines of a leaf are freed before those of the next one are read, and so is each chunk of
+/// the document.
 ///
 /// # Errors
 ///

@@ -1,7 +1,7 @@
-//! A walk over the blocks of an outline, whose leaves are read on the way.
+//! A walk over the blocks of an outline that reads their leaves.
 //!
 //! The walk owns the blocks that are left, the definitions and the memory in which leaves are read, so that a
-//! contract mentions one value. It goes by places, because a slice of its blocks would be borrowed from the
+//! contract mentions one value. It uses positions, because a slice of its blocks would be borrowed from the
 //! walk itself.
 ghost use Rattle.std.specs.Prelude.{◌≡◌, ◌≢◌, ◌≤◌, ◌<◌, ◌+◌, ◌++◌, ℕ, [], ◌∷◌, length};
 ghost use Rattle.std.specs.Prelude.{true, false, IfOk, IfErr, IfSome, OnOk, None};
@@ -21,8 +21,8 @@ use cm_tree::{Definitions, Inline, Items, RawBlock, RawBlocks, RawChunk, RawTree
 use std::alloc::Global;
 use std::vec::IntoIter;
 
-/// What of an outline hasn't been read: the blocks at the top level that are left in a chunk of the document,
-/// all that the blocks of this chunk are made of, and the chunks behind it. And what their leaves are read by.
+/// What hasn't been read of an outline: the blocks at the top level that are left in the current chunk, the
+/// blocks inside that chunk, and the chunks after it. It also has what is needed to read their leaves.
 #[derive(Drop)]
 pub(crate) struct Unread {
     pub(crate) alloc: Global,
@@ -30,13 +30,13 @@ pub(crate) struct Unread {
     definitions: Definitions,
     pub(crate) raw: RawBlocks,
     top: Vec<RawBlock>,
-    // The place of the next block in `top`.
+    // The position of the next block in `top`.
     at: usize,
     chunks: IntoIter<RawChunk, Global>,
 }
 
 impl Unread {
-    /// Takes the next chunk that has blocks, where none of the chunk at hand is left. This chunk is let go of.
+    /// Takes the next chunk that has blocks, if none of the current one is left. The current chunk is freed.
     #[cold]
     fn next_chunk(&mut self) -> bool
         requires { ArePlacedLeft self.old }
@@ -58,7 +58,7 @@ impl Unread {
         true
     }
 
-    /// Takes the next block at the top level. A chunk is let go of before the first block of the next one.
+    /// Takes the next block at the top level. A chunk is freed before the first block of the next one.
     #[inline(always)]
     pub(crate) fn next_block(&mut self) -> Option<RawBlock>
         requires { ArePlacedLeft self.old }
@@ -77,7 +77,7 @@ impl Unread {
         Some(block)
     }
 
-    /// The inlines of a paragraph or heading whose source lies between these places.
+    /// The inlines of a paragraph or heading whose source is in this range.
     fn content(
         &self,
         reader: &mut InlineReader,
@@ -135,7 +135,7 @@ impl Unread {
     }
 }
 
-/// Counts one more leaf, and answers its number.
+/// Counts one more leaf, and returns its number.
 fn count_leaf(next: &mut usize) -> Result<usize, Fault>
     ensures number { IfOk result (λ leaf. leaf ≡ next.old) }
     ensures counted { OnOk result (next.new ≡ next.old + 1) }
@@ -147,7 +147,7 @@ fn count_leaf(next: &mut usize) -> Result<usize, Fault>
     Ok(leaf)
 }
 
-/// The fault of a leaf that can't be read. Its source lies between two 32-bit places, so it is never too
+/// The fault of a leaf that can't be read. Its source is between two 32-bit positions, so it is never too
 /// long.
 fn leaf_fault(fault: InlineFault, leaf: usize) -> Fault
     requires { fault ≢ inline_faults.SourceTooLong }
@@ -161,7 +161,8 @@ fn leaf_fault(fault: InlineFault, leaf: usize) -> Fault
     }
 }
 
-/// A walk over what hasn't been read. It owns what leaves are read in, and the number of the next leaf.
+/// A walk over what hasn't been read. It owns the memory in which leaves are read, and the number of the next
+/// leaf.
 #[derive(Drop)]
 pub(crate) struct LeafWalk {
     pub(crate) unread: Unread,
@@ -197,7 +198,7 @@ impl LeafWalk {
         }
     }
 
-    /// Goes past the next leaf, which has no inlines.
+    /// Skips the next leaf, which has no inlines.
     pub(crate) fn pass(&mut self) -> Result<(), Fault>
         ensures passes { OnOk result (HasRead self.old self.new (0 ∷ [])) }
         ensures told { IfErr result (λ fault. TellsOf self.old fault (0 ∷ [])) }
@@ -206,7 +207,7 @@ impl LeafWalk {
         Ok(())
     }
 
-    /// The inlines of the next leaf, a paragraph or heading whose source lies between these places.
+    /// The inlines of the next leaf, a paragraph or heading whose source is in this range.
     pub(crate) fn leaf(&mut self, from: u32, to: u32) -> Result<Items<Inline>, Fault>
         requires { IsBetween self.old.unread.raw.text from to }
         ensures read { IfOk result (λ inlines. inlines ≡ content_at self.old.unread from to) }

@@ -9,12 +9,11 @@ use cm_html::write_listing;
 use cm_text::{Limits, Sink, Source};
 use std::alloc::Global;
 
-/// Writes the listing of the source's tree and of the owners of its lines, and answers its length in
-/// bytes.
+/// Writes the listing of the source's tree and of the owners of its lines, and returns its length in bytes.
 ///
-/// Nothing is written before the listing is whole. A fault that the bytes settle ends the reading: no
-/// read is made after it. On `Fault::WriteFailed` what went out is the first `written` bytes of the
-/// listing, and on any other fault nothing.
+/// Nothing is written before the listing is complete. A fault that the bytes settle ends the reading: no read
+/// is made after it. On `Fault::WriteFailed` the first `written` bytes of the listing were written, and on
+/// any other fault nothing.
 pub(crate) fn list<R: Source, W: Sink>(
     alloc: Global,
     source: &mut R,

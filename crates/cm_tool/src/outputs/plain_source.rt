@@ -4,8 +4,8 @@
 //! the text, and takes precedence. Definitions count among the leaves, so they are removed from a block only
 //! after its leaves have their numbers.
 //!
-//! Blocks are judged and spelled from inlines. From nodes no inlines would be made, but the refusals and the
-//! spelling would be needed a second time.
+//! Blocks are judged and spelled from inlines. Working from nodes would save making the inlines, but would
+//! need the refusals and the spelling a second time.
 ghost use Rattle.std.specs.Prelude.{◌≡◌, List, [], ◌∷◌, ◌++◌, IfOk, IfErr, OnOk, None, option_map};
 ghost use Rattle.cm_text.specs.Rules as text_rules;
 ghost use Rattle.cm_tree.specs.declared.tree.Block as trees;
@@ -41,7 +41,7 @@ impl PlainSource {
         }
     }
 
-    /// Goes on with one more block. Where those so far can't be spelled, nothing is.
+    /// Spells one more block. After a refusal it does nothing.
     fn push(&mut self, block: &Block) -> Result<(), NoMemory>
         ensures { OnOk result ((rules : text_rules.Rules) (blocks : List trees.Block)
             → HasTaken rules self.old blocks → HasTaken rules self.new (blocks ++ block.now ∷ [])) }
@@ -59,7 +59,7 @@ impl PlainSource {
         }
     }
 
-    /// Goes on with one more block without its definitions, or with nothing if it is one, and lets go of it.
+    /// Spells one more block without its definitions, or nothing if it is one, and frees it.
     fn push_cleared(
         &mut self,
         alloc: Global,
@@ -98,8 +98,8 @@ struct PlainSourceWalk {
 }
 
 impl PlainSourceWalk {
-    /// Goes on with all blocks that are left. The definitions of a block are leaves too, so they are taken
-    /// out once it is read.
+    /// Spells all blocks that are left. The definitions of a block are leaves too, so they are removed after
+    /// it is read.
     fn push_all(&mut self) -> Result<(), Fault>
         requires { ArePlacedLeft self.old.walk.unread }
         ensures pushed { OnOk result ((rules : text_rules.Rules) (taken : List trees.Block)
@@ -121,8 +121,8 @@ impl PlainSourceWalk {
 }
 
 /// The source of the blocks with the inlines of their leaves and without their definitions, or why they can't
-/// be spelled. The inlines of one block are let go of before those of the next one are read. All leaves are
-/// read, also behind a block that can't be spelled, since one that is too deep goes before it.
+/// be spelled. The inlines of one block are freed before those of the next one are read. All leaves are read,
+/// also after a block that can't be spelled, because a leaf that is too deep takes precedence.
 ///
 /// # Errors
 ///

@@ -9,12 +9,12 @@ use crate::reading::outline_of;
 use cm_text::{Limits, Sink, Source, write_all};
 use std::alloc::Global;
 
-/// Writes plain source of the source's tree without its link reference definitions, and answers its length
-/// in bytes.
+/// Writes plain source of the source's tree without its link reference definitions, and returns its length in
+/// bytes.
 ///
 /// Nothing is written before the whole source is spelled. A fault that the bytes settle ends the reading: no
-/// read is made after it. On `Fault::WriteFailed` what went out is the first `written` bytes of the source,
-/// and on any other fault nothing.
+/// read is made after it. On `Fault::WriteFailed` the first `written` bytes of the source were written, and
+/// on any other fault nothing.
 pub fn rewrite<R: Source, W: Sink>(
     alloc: Global,
     source: &mut R,

@@ -1,4 +1,4 @@
-//! The document, the HTML and the plain source of a text that lies in memory, without a device.
+//! The document, the HTML and the plain source of a text in memory, without a device.
 ghost use Rattle.std.specs.Prelude.{◌≡◌, IfErr, IfOk};
 ghost use Rattle.cm_tool.specs.Faults.{fault_of};
 ghost use Rattle.cm_tool.specs.Parsing.{Finishes, Makes, TellsFault};
@@ -25,24 +25,24 @@ fn outline_of(alloc: Global, bytes: &[u8], limits: Limits) -> Result<Outline, Fa
     parser.outline()
 }
 
-/// The document of these bytes, as `read` answers it for a source that has them.
+/// The document of these bytes, as `read` returns it for a source that has them.
 ///
 /// # Errors
 ///
-/// The text's one fault, or `Fault::NoMemory` where a request for memory was refused.
+/// The text's one fault, or `Fault::NoMemory` if a request for memory was refused.
 pub fn doc_of(alloc: Global, bytes: &[u8], limits: Limits) -> Result<Doc, Fault>
     ensures { Finishes result limits bytes.now }
 {
     doc_of_outline(alloc, limits, outline_of(alloc, bytes, limits)?)
 }
 
-/// How many bytes the HTML of a text of this length usually needs at most.
+/// The number of bytes that the HTML of a text of this length usually needs at most.
 fn room_for_html(len: usize) -> usize {
     len.saturating_add(len / 2).saturating_add(64)
 }
 
-/// The HTML of these bytes, which `convert` writes for a source that has them. Its pages can be written to a
-/// sink, or made one string.
+/// The HTML of these bytes, as `convert` writes it for a source that has them. Its pages can be written to a
+/// sink, or joined to one string.
 ///
 /// # Errors
 ///
@@ -54,12 +54,12 @@ pub fn html_of(alloc: Global, bytes: &[u8], limits: Limits) -> Result<Pages, Fau
     html_of_outline(alloc, limits, outline_of(alloc, bytes, limits)?, room)
 }
 
-/// Plain source of these bytes' tree without its link reference definitions, which `rewrite` writes for a
+/// Plain source of these bytes' tree without its link reference definitions, as `rewrite` writes it for a
 /// source that has them.
 ///
 /// # Errors
 ///
-/// As `doc_of`, and `Fault::Unspellable` where the text has no fault and its tree can't be spelled.
+/// As `doc_of`, and `Fault::Unspellable` if the text has no fault and its tree can't be spelled.
 pub fn source_of(alloc: Global, bytes: &[u8], limits: Limits) -> Result<String, Fault>
     ensures { MakesPlainSource result limits bytes.now }
 {

@@ -1,6 +1,6 @@
-//! A document that comes in pieces.
+//! A document that is read in pieces.
 //!
-//! A long piece is taken in by slices of 8 KiB, so that what the parser holds doesn't grow with the piece.
+//! A long piece is read in slices of 8 KiB, so that what the parser holds doesn't grow with the piece.
 ghost use Rattle.std.specs.Prelude.{◌≡◌, ◌≢◌, ◌+◌, ◌-◌, ◌≤◌, [], ◌++◌};
 ghost use Rattle.std.specs.Prelude.{ℕ, List, length, IfOk, IfErr, OnOk, Some, None, Err, false};
 ghost use Rattle.cm_text.specs.Answers.{answer_after};
@@ -28,13 +28,13 @@ use cm_tree::Doc;
 use std::alloc::Global;
 use std::marker::Model;
 
-/// How many bytes are taken in at once.
+/// The number of bytes that are read at once.
 pub(crate) const SLICE: usize = 8192;
 
-/// Reads a document that comes in pieces. Each line is taken in once, as soon as it has ended.
+/// Reads a document in pieces. Each line is read once, as soon as it has ended.
 ///
-/// Hand over the bytes by `feed`, in whatever pieces they come, and tell by `finish` that they are all.
-/// After a fault each further call answers that fault.
+/// Pass the bytes to `feed`, in pieces of any length, then call `finish`. After a fault, each further call
+/// returns that fault.
 #[derive(Debug, Drop)]
 pub struct Parser {
     alloc: Global,
@@ -60,7 +60,7 @@ impl Model for Parser {
 }
 
 impl Parser {
-    /// A parser of nothing so far. It takes no memory.
+    /// A parser of no bytes so far. It takes no memory.
     pub fn new(alloc: Global, limits: Limits) -> Parser
         ensures { HasTakenIn limits result [] }
     {
@@ -72,19 +72,19 @@ impl Parser {
         }
     }
 
-    /// Goes on with one more piece, which may be empty and may end anywhere. Of a long piece no more lines
-    /// are held at once than of a short one.
+    /// Reads one more piece, which may be empty and may end anywhere. A long piece needs no more memory for
+    /// its lines than a short one.
     ///
-    /// A fault is answered as soon as the bytes settle it, however they go on.
+    /// A fault is returned as soon as the bytes settle it, however they continue.
     pub fn feed(&mut self, piece: &[u8]) -> Result<(), Fault>
-        // Whatever bytes it had taken in, it has taken in them and the piece.
+        // If it has read these bytes, it has then read them and the piece.
         ensures stands { OnOk result ((limits : LimitsView) (bytes : List ℕ)
             → HasTakenIn limits self.old bytes → HasTakenIn limits self.new (bytes ++ piece.now)) }
-        // A fault is answered exactly where the bytes settle it.
+        // A fault is returned exactly where the bytes settle it.
         ensures settled { (limits : LimitsView) (bytes : List ℕ)
             → HasTakenIn limits self.old bytes
             → Answers result (settled_fault_of limits (bytes ++ piece.now)) }
-        // From then on it is answered again.
+        // From then on it is returned again.
         ensures answer { result ≡ answer_after self.new.fault }
         ensures failed { self.old.fault ≢ None → self.new ≡ self.old }
         ensures limit { self.new.feed.limit ≡ self.old.feed.limit }
@@ -101,7 +101,7 @@ impl Parser {
         result
     }
 
-    /// The outline of the document, where the bytes so far are all.
+    /// The outline of the document of the bytes so far.
     pub(crate) fn outline(self) -> Result<Outline, Fault>
         ensures outline { IfOk result (λ outline. (limits : LimitsView) (bytes : List ℕ)
             → HasTakenIn limits self bytes → IsOutline limits bytes outline) }
@@ -121,7 +121,7 @@ impl Parser {
         }
     }
 
-    /// The HTML of the document in pages, where the bytes so far are all. No tree is made.
+    /// The HTML of the document of the bytes so far, in pages. No tree is made.
     ///
     /// # Errors
     ///
@@ -135,7 +135,7 @@ impl Parser {
         html_of_outline(alloc, limits, self.outline()?, usize::MAX)
     }
 
-    /// The document, where the bytes so far are all.
+    /// The document of the bytes so far.
     pub fn finish(self) -> Result<Doc, Fault>
         ensures finishes { (limits : LimitsView) (bytes : List ℕ) → HasTakenIn limits self bytes
             → Finishes result limits bytes }
@@ -158,7 +158,7 @@ impl TakesBytes for Parser {
     }
 }
 
-/// Goes on with one more piece, slice by slice, as far as it goes.
+/// Reads one more piece, slice by slice, up to a fault.
 fn push(feed: &mut LineBuffer, blocks: &mut BlockParser, piece: &[u8]) -> Result<(), Fault>
     requires { feed.old.ended ≡ false }
     ensures pushes { Pushes result piece.now feed.old blocks.old feed.new blocks.new }
@@ -172,8 +172,8 @@ fn push(feed: &mut LineBuffer, blocks: &mut BlockParser, piece: &[u8]) -> Result
     push_slice(feed, blocks, rest)
 }
 
-/// Goes on with one more slice of a piece, as far as it goes. The lines that end before a fault of the text
-/// are taken in first, since one that is too deep goes before it.
+/// Reads one more slice of a piece, up to a fault. The lines that end before a fault of the text are read
+/// first, because one that is too deep takes precedence.
 fn push_slice(feed: &mut LineBuffer, blocks: &mut BlockParser, piece: &[u8]) -> Result<(), Fault>
     requires { feed.old.ended ≡ false }
     ensures pushes { Pushes result piece.now feed.old blocks.old feed.new blocks.new }
@@ -202,7 +202,7 @@ fn outline(mut feed: LineBuffer, mut blocks: BlockParser) -> Result<Outline, Fau
     Ok(outline)
 }
 
-/// Lends the lines of text at the front to the blocks, if they go on with a run of text there.
+/// Lends the lines of text at the start to the blocks, if they continue a run of text there.
 #[inline(always)]
 fn hand_over_text(feed: &mut LineBuffer, blocks: &mut BlockParser) -> Result<(), BlockFault>
     ensures ended { feed.new.ended ≡ feed.old.ended }
@@ -224,8 +224,8 @@ fn hand_over_text(feed: &mut LineBuffer, blocks: &mut BlockParser) -> Result<(),
     Ok(())
 }
 
-/// Lends the lines that have ended to the blocks, one after another. Lines of text that go on with a run of
-/// text go there together.
+/// Lends the lines that have ended to the blocks, one after another. Lines of text that continue a run are
+/// lent together.
 fn hand_over(feed: &mut LineBuffer, blocks: &mut BlockParser) -> Result<(), BlockFault>
     ensures ready { OnOk result (feed.new ≡ with_ready [] feed.old) }
     ensures ended { feed.new.ended ≡ feed.old.ended }

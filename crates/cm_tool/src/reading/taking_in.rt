@@ -1,4 +1,4 @@
-//! A source is given to what takes in its bytes, to its end.
+//! Reads a source to its end, and passes its bytes on in pieces.
 ghost use Rattle.std.specs.Prelude.{◌≡◌, ℕ, ◌+◌, ◌-◌, ◌^◌, ◌<◌, List, [], ◌++◌, Option, None, length, OnOk};
 ghost use Rattle.std.specs.Io.KnownBytes.{Consumes};
 ghost use Rattle.cm_text.specs.Limits.{LimitsView};
@@ -9,18 +9,18 @@ ghost use Rattle.cm_tool.specs.steps.ReadingSteps.{TakesIn};
 use crate::fault::Fault;
 use cm_text::Source;
 
-/// What takes in bytes, piece by piece.
+/// What reads bytes, piece by piece.
 pub(crate) trait TakesBytes {
-    // It has taken in these bytes, which settle no fault.
+    // It has read these bytes, which settle no fault.
     ghost has_taken_in: { LimitsView → Self → List ℕ → Type 0 };
 
     // The fault that bytes settle.
     ghost settled: { LimitsView → List ℕ → Option faults.Fault };
 
-    // How many bytes it may still be given.
+    // How many bytes it can still read.
     ghost left: { Self → ℕ };
 
-    /// Takes in one more piece. A fault is answered as soon as the bytes settle it.
+    /// Reads one more piece. A fault is returned as soon as the bytes settle it.
     fn take(&mut self, piece: &[u8]) -> Result<(), Fault>
         ensures stands { OnOk result ((limits : LimitsView) (bytes : List ℕ)
             → has_taken_in limits self.old bytes → has_taken_in limits self.new (bytes ++ piece.now)) }
@@ -29,7 +29,7 @@ pub(crate) trait TakesBytes {
         ensures left { OnOk result (left self.new + length piece.now ≡ left self.old) };
 }
 
-/// Gives a source to its taker, in pieces of the buffer's length. A fault that the bytes settle ends the
+/// Passes a source to a taker, in pieces of the buffer's length. A fault that the bytes settle ends the
 /// reading: no read is made after it. So does a failed read.
 pub(crate) fn take_all<R: Source, T: TakesBytes>(
     source: &mut R,

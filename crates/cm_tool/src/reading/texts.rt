@@ -1,7 +1,7 @@
 //! Reading a source to its end as a text.
 //!
 //! The bytes also go through a feed, so that the same proved code finds their faults, and as early. The cost
-//! is lines that nobody takes.
+//! is that lines are made that nobody uses.
 ghost use Rattle.std.specs.Prelude.{◌≡◌, ℕ, ◌-◌, ◌^◌, ◌<◌, ◌≤◌, List, IfOk, IfErr, None, string_bytes};
 ghost use Rattle.std.specs.Io.KnownBytes.{Consumes};
 ghost use Rattle.cm_text.specs.Feed.{count};
@@ -19,8 +19,7 @@ use cm_text::{Limits, LineBuffer, Source, text_of};
 use std::alloc::Global;
 use std::marker::Model;
 
-/// The bytes of a text that comes in pieces. The feed is asked for faults alone, and its lines aren't looked
-/// at.
+/// The bytes of a text that is read in pieces. The feed only finds faults, and its lines are ignored.
 #[derive(Drop)]
 struct TextBytes {
     feed: LineBuffer,
@@ -40,7 +39,7 @@ impl Model for TextBytes {
 }
 
 impl TextBytes {
-    /// The text, where the bytes so far are all.
+    /// The text of the bytes so far.
     fn text(self, alloc: Global) -> Result<String, Fault>
         ensures text { IfOk result (λ text. (limits : LimitsView) (bytes : List ℕ)
             → HasGathered limits self bytes
@@ -68,10 +67,10 @@ impl TakesBytes for TextBytes {
     }
 }
 
-/// Reads a source to its end and answers its text, in which U+FFFD stands for U+0000.
+/// Reads a source to its end and returns its text, in which U+0000 has become U+FFFD.
 ///
-/// Of the faults of a text it tells that the bytes aren't UTF-8, or are too many. A fault that the bytes
-/// settle ends the reading: no read is made after it. So does a failed read.
+/// The only faults of a text that it reports are that the bytes aren't UTF-8, or are too many. A fault that
+/// the bytes settle ends the reading: no read is made after it. So does a failed read.
 pub fn read_text<R: Source>(alloc: Global, source: &mut R, limits: Limits) -> Result<String, Fault>
     requires { R.failed source.old < 2 ^ 64 - 1 }
     ensures { (bytes : List ℕ) × Consumes (R.remaining source.old) (R.remaining source.new) bytes
