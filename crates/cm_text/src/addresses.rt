@@ -25,14 +25,14 @@ fn is_web_address(address: &[u8]) -> bool
     }
 }
 
-/// Where a scheme ends, or what follows begins, if there is none.
+/// Where a scheme ends, or where the rest starts if there is none.
 fn find_scheme_end(address: &[u8]) -> Option<usize>
     ensures { result ≡ position (λ b. b == 58 || begins_a_part b) address.now }
 {
     address.iter().position(|b| *b == b':' || begins_a_part(*b))
 }
 
-/// Whether a path, a query or a fragment begins with this byte.
+/// Whether a path, a query or a fragment starts with this byte.
 fn begins_a_part(b: u8) -> bool
     ensures { result ≡ begins_a_part b }
 {

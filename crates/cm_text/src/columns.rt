@@ -42,8 +42,8 @@ pub(crate) fn indent_from(column: usize, text: &str) -> usize
     indent
 }
 
-/// Without so many columns of a text that begins at this column: the column after what is taken, how many
-/// columns a cut tab leaves there, and how many bytes are taken.
+/// Removes up to `n` columns from a text that starts at this column. Returns the column after them, the
+/// number of columns that a cut tab leaves there, and the number of bytes removed.
 pub(crate) fn take_columns(n: usize, column: usize, text: &str) -> (usize, usize, usize)
     requires { column + length text.now + 3 * tabs text.now < 2 ^ 64 }
     ensures taken { strip_from n column text.now
@@ -116,7 +116,7 @@ impl<'a> View<'a> {
     }
 
     /// The line without `n` columns of indentation, or without its indentation if that is less. The start
-    /// column moves on by what is taken, and a tab that is taken in part leaves the other columns as spaces
+    /// column grows by what is removed, and a tab that is removed in part leaves its other columns as spaces
     /// (2.2 Tabs).
     pub fn strip(&self, n: usize) -> View<'a>
         ensures line { seen_view result ≡ strip_columns n (seen_view self.now) }

@@ -26,7 +26,7 @@ impl ByteKind for LineEnding {
     }
 }
 
-/// How many bytes the first line of a text has, where so many are known to be of it.
+/// The number of bytes of the first line of a text, whose first `known` bytes are known to belong to it.
 #[inline(always)]
 pub(crate) fn line_len(text: &str, known: usize) -> usize
     requires within { known ≤ length text.now }
@@ -36,7 +36,7 @@ pub(crate) fn line_len(text: &str, known: usize) -> usize
     next_far_of::<LineEnding>(text.as_bytes(), known)
 }
 
-/// Whether a line feed or a carriage return stands at the end of a text that isn't empty.
+/// Whether a nonempty text ends with a line feed or a carriage return.
 pub(crate) fn ends_a_line(text: &str) -> bool
     requires { 0 < length text.now }
     ensures { result ≡ ends_a_line text.now }
@@ -44,7 +44,8 @@ pub(crate) fn ends_a_line(text: &str) -> bool
     LineEnding::contains(text.as_bytes()[text.len() - 1])
 }
 
-/// The place behind the line feed of a carriage return, if it stands there; and whether it may still come.
+/// The place after the line feed of a carriage return, if the line feed is there; and whether it may still
+/// come.
 pub(crate) fn past_line_feed(text: &str, at: usize, after_return: bool) -> (usize, bool)
     requires { IsCharBoundary text.now at }
     ensures boundary { IsCharBoundary text.now result.0 }

@@ -22,18 +22,18 @@ use std::marker::Model;
 
 /// The lines of a text that comes in pieces, each a value of its own.
 ///
-/// Hand over the bytes by `push`, in whatever pieces they come, take the lines that have ended by
-/// `next_line` at any time, and tell by `end` that the text is whole. A line ends with a line feed,
-/// a carriage return, or both (CommonMark 0.31.2, 2.1); U+0000 becomes U+FFFD (2.3). `LineBuffer` lends the
-/// lines in place of copying them.
+/// Pass the bytes to `push`, in pieces of any length; take the lines that have ended with `next_line`, at any
+/// time; and call `end` after the last piece. A line ends with a line feed, a carriage return, or both
+/// (CommonMark 0.31.2, 2.1); U+0000 becomes U+FFFD (2.3). `LineBuffer` lends the lines instead of copying
+/// them.
 ///
-/// After a fault each further `push` and `end` answers that fault, and the lines that ended before
-/// its place can still be taken; after `TextFault::NoMemory`, a beginning of those that have ended.
+/// After a fault, each further `push` and `end` returns that fault, and the lines that ended before its place
+/// can still be taken; after `TextFault::NoMemory`, the first of those that have ended.
 #[derive(Debug, Drop)]
 pub struct LineFeed {
     alloc: Global,
     limits: Limits,
-    /// The lines that can be taken, and what has come behind them.
+    /// The lines that can be taken, and the text after them.
     ready: VecDeque<Line>,
     buffer: LineBuffer,
     fault: Option<TextFault>,
@@ -83,7 +83,7 @@ fn move_lines(
     Ok(())
 }
 
-/// The same. Where memory is refused, what hasn't been copied is let go.
+/// Copies the lines that have ended. If memory is refused, those that haven't been copied are dropped.
 fn copy_lines(
     alloc: Global,
     limits: Limits,
@@ -122,7 +122,7 @@ impl LineFeed {
         }
     }
 
-    /// Goes on with the next piece.
+    /// Reads the next piece.
     fn accept(&mut self, piece: &[u8]) -> Result<(), TextFault>
         requires { self.old.ended ≡ false }
         ensures step { Steps result self.old piece.now self.new }
@@ -149,20 +149,20 @@ impl LineFeed {
         closed
     }
 
-    /// Goes on with the next piece of the text, which may be empty and may end anywhere, also within
-    /// a character or between a carriage return and its line feed.
+    /// Reads the next piece of the text, which may be empty and may end anywhere, also within a character or
+    /// between a carriage return and its line feed.
     ///
-    /// A fault is answered as soon as the bytes settle it, however they go on.
+    /// A fault is returned as soon as the bytes settle it, however they continue.
     pub fn push(&mut self, piece: &[u8]) -> Result<(), TextFault>
         requires { self.old.ended ≡ false }
-        // Whatever bytes it stood for, it stands for them and the piece.
+        // If it stood for these bytes, it then stands for them and the piece.
         ensures stands { self.old.fault ≡ None → (bytes : List ℕ) (taken : ℕ) →
             StandsFor self.old bytes taken → StandsFor self.new (bytes ++ piece.now) taken }
-        // A fault is answered exactly where the bytes settle it.
+        // A fault is returned exactly where the bytes settle it.
         ensures settled { self.old.fault ≡ None → (bytes : List ℕ) (taken : ℕ) →
             StandsFor self.old bytes taken →
             Answers result (settled_fault self.old.limit (bytes ++ piece.now)) }
-        // From then on it is answered again.
+        // From then on it is returned again.
         ensures answer { result ≡ answer_after self.new.fault }
         ensures failed { self.old.fault ≢ None → self.new ≡ self.old }
         ensures limit { self.new.limit ≡ self.old.limit }
@@ -192,7 +192,7 @@ impl LineFeed {
         self.ready.pop_front()
     }
 
-    /// Whether `end` has answered Ok.
+    /// Whether `end` has returned Ok.
     pub fn ended(&self) -> bool
         ensures { result ≡ self.now.ended }
     {

@@ -18,9 +18,8 @@ pub fn indent(line: &Line) -> usize
 
 /// The line without `n` columns of indentation, or without its indentation where that is less.
 ///
-/// The start column moves on by what is taken. A tab of which some columns are taken leaves the others
-/// as spaces in front of the text (2.2 Tabs). A blank line loses columns too, and the mark of a lazy
-/// line stays.
+/// The start column grows by what is removed. A tab of which some columns are removed leaves the others as
+/// spaces before the text (2.2 Tabs). A blank line loses columns too, and the mark of a lazy line stays.
 ///
 /// # Errors
 ///

@@ -14,8 +14,8 @@ use std::borrow::CowStr;
 /// A label as it is compared: case folded in full (Unicode), without the spaces, tabs and line endings
 /// at its ends, and with each run of them inside as one space. Two labels match where this is equal.
 ///
-/// The label is that of a link or a definition, without its brackets, and backslashes and references in
-/// it are as they stand in the source.
+/// The label is that of a link or a definition, without its brackets. Backslashes and references in it are as
+/// in the source.
 ///
 /// # Errors
 ///
@@ -83,8 +83,8 @@ fn is_plain_byte(b: u8) -> bool
     PLAIN[usize::from(b)] == b'1'
 }
 
-/// Whether a space stands there, and such a character behind it. It is a call of its own, so that such
-/// characters are passed over with as little as that takes.
+/// Whether a space is there, followed by such a character. It is a call of its own, so that such characters
+/// are skipped at the least cost.
 #[inline(never)]
 fn is_single_space(text: &[u8], at: usize) -> bool
     requires { at < length text.now }
@@ -93,7 +93,7 @@ fn is_single_space(text: &[u8], at: usize) -> bool
     text[at] == b' ' && begins_plain(text, at + 1)
 }
 
-/// Whether such a character stands there.
+/// Whether such a character is there.
 fn begins_plain(text: &[u8], at: usize) -> bool
     ensures { result ≡ begins_plain (drop at text.now) }
 {

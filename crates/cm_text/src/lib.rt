@@ -1,8 +1,8 @@
 //! The text of a document: its limits, its lines in whatever pieces it comes, its characters, escapes and
 //! references, and the devices that bytes come from and go to. It knows nothing of blocks and inlines.
 //!
-//! Begin with [`Limits`] and [`Rules`], which each reading takes, and with
-//! [`LineFeed`] for the lines of a text.
+//! Start with [`Limits`] and [`Rules`], which each reading takes, and with [`LineFeed`] for the lines of a
+//! text.
 //!
 //! - Devices: [`Source`], [`Sink`], [`FromRead`], [`FromWrite`], and in memory [`Pieces`] and [`Room`].
 //! - Lines: [`LineFeed`], [`Line`], [`View`], [`indent`] and [`strip`].

@@ -20,16 +20,17 @@ use std::marker::Model;
 
 /// The lines of a text that comes in pieces, which are lent and not copied.
 ///
-/// Hand over the bytes by `push`, in whatever pieces they come; see the first line that has ended by
-/// `first_line` and go past it by `pass_line`, at any time; and tell by `end` that the text is whole. A line
-/// ends with a line feed, a carriage return, or both (CommonMark 0.31.2, 2.1); U+0000 becomes U+FFFD (2.3).
+/// Pass the bytes to `push`, in pieces of any length; see the first line that has ended with `first_line` and
+/// skip it with `pass_line`, at any time; and call `end` after the last piece. A line ends with a line feed,
+/// a carriage return, or both (CommonMark 0.31.2, 2.1); U+0000 becomes U+FFFD (2.3).
 ///
-/// After a fault each further `push` and `end` answers that fault, and the lines that ended before
-/// its place can still be seen; after `TextFault::NoMemory`, a beginning of those that have ended.
+/// After a fault, each further `push` and `end` returns that fault, and the lines that ended before its place
+/// can still be seen; after `TextFault::NoMemory`, the first of those that have ended.
 #[derive(Debug, Drop)]
 pub struct LineBuffer {
     limits: Limits,
-    /// How many bytes have been read as text, and those after them, of which no character is whole yet.
+    /// The number of bytes that have been read as text, and of those after them, which have no whole
+    /// character yet.
     start: usize,
     pending: Vec<u8>,
     unread: Unread,
@@ -122,20 +123,20 @@ impl LineBuffer {
         }
     }
 
-    /// Goes on with the next piece of the text, which may be empty and may end anywhere, also within
-    /// a character or between a carriage return and its line feed.
+    /// Reads the next piece of the text, which may be empty and may end anywhere, also within a character or
+    /// between a carriage return and its line feed.
     ///
-    /// A fault is answered as soon as the bytes settle it, however they go on.
+    /// A fault is returned as soon as the bytes settle it, however they continue.
     pub fn push(&mut self, piece: &[u8]) -> Result<(), TextFault>
         requires { self.old.ended ≡ false }
-        // Whatever bytes it stood for, it stands for them and the piece.
+        // If it stood for these bytes, it then stands for them and the piece.
         ensures stands { self.old.fault ≡ None → (bytes : List ℕ) (taken : ℕ) →
             StandsFor self.old bytes taken → StandsFor self.new (bytes ++ piece.now) taken }
-        // A fault is answered exactly where the bytes settle it.
+        // A fault is returned exactly where the bytes settle it.
         ensures settled { self.old.fault ≡ None → (bytes : List ℕ) (taken : ℕ) →
             StandsFor self.old bytes taken →
             Answers result (settled_fault self.old.limit (bytes ++ piece.now)) }
-        // From then on it is answered again.
+        // From then on it is returned again.
         ensures answer { result ≡ answer_after self.new.fault }
         ensures failed { self.old.fault ≢ None → self.new ≡ self.old }
         ensures limit { self.new.limit ≡ self.old.limit }
@@ -182,8 +183,8 @@ impl LineBuffer {
         self.unread.look_for_text();
     }
 
-    /// The lines of text at the front that were looked for, as they are held, without a copy. There is none
-    /// where it wasn't looked for, and behind each `push`, `pass_line` and `pass_lines`.
+    /// The lines of text at the start that were searched for, as they are held, without a copy. There are
+    /// none if they weren't searched for, and after each `push`, `pass_line` and `pass_lines`.
     #[inline(always)]
     pub fn text_lines(&self) -> Option<TextLines<'_>>
         ensures { IfSome result (λ found.
@@ -203,7 +204,7 @@ impl LineBuffer {
         self.unread.pass_lines(count);
     }
 
-    /// Whether `end` has answered Ok.
+    /// Whether `end` has returned Ok.
     pub fn ended(&self) -> bool
         ensures { result ≡ self.now.ended }
     {

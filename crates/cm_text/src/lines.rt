@@ -7,11 +7,11 @@ ghost use Rattle.cm_text.specs.LineText.{is_line, tabs};
 /// Its text has no line feed and no carriage return.
 #[derive(Debug, Drop, PartialEq, Eq)]
 pub struct Line {
-    /// How many columns stand before the text.
+    /// The number of columns before the text.
     pub column: usize,
     /// The line without its ending.
     pub text: String,
-    /// Whether the line goes on a paragraph without the markers of its containers.
+    /// Whether the line continues a paragraph without the markers of its containers.
     pub lazy: bool,
     pub ghost one_line: { is_line (string_bytes text) ≡ true },
     pub ghost fits: { column + string_len text + 3 * tabs (string_bytes text) < 2 ^ 64 },

@@ -22,7 +22,7 @@ const NAMES: &[u8] =
     regrhorsaquorsquosbquosectshysigmasigmafsup1sup2sup3szligtauthetathorntimestradeuacuteuarr\
     ucircugraveumlupsilonuumlxiyacuteyenyumlzeta";
 
-/// Where each begins, and where the last ends.
+/// Where each starts, and where the last ends.
 const STARTS: [u16; 178] = [
     0, 5, 11, 16, 22, 27, 32, 38, 42, 46, 52, 55, 79, 85, 91, 96, 109, 112, 118, 123, 129, 136,
     139, 143, 148, 160, 166, 171, 177, 181, 185, 190, 196, 198, 204, 206, 212, 217, 223, 228, 235,
@@ -36,7 +36,7 @@ const STARTS: [u16; 178] = [
     860, 863, 867, 871,
 ];
 
-/// What each stands for, or the first of two characters.
+/// The character of each, or the first of two.
 const CHARACTERS: [char; 177] = [
     '\u{C6}', '\u{C1}', '\u{C2}', '\u{C0}', '\u{391}', '\u{C5}', '\u{C3}', '\u{C4}', '\u{392}',
     '\u{C7}', '\u{3A7}', '\u{2232}', '\u{2021}', '\u{10E}', '\u{394}', '\u{2146}', '\u{D0}',
@@ -61,7 +61,7 @@ const CHARACTERS: [char; 177] = [
     '\u{FF}', '\u{3B6}',
 ];
 
-/// The place of the one name that stands for two characters.
+/// The position of the one name that has two characters.
 const PAIR: usize = 122;
 
 /// The characters of a reference with this name, if it is one of the names.

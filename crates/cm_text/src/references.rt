@@ -12,7 +12,7 @@ ghost use Rattle.cm_text.specs.References.{begins_with, reference, reference_at,
 use crate::names::look_up;
 use std::alloc::AllocError;
 
-/// What a reference stands for: one character or two.
+/// The characters of a reference: one or two.
 #[derive(Clone, Copy, Debug, PartialEq, Eq, Drop)]
 pub struct Chars {
     /// The one character, or the first of two.
@@ -52,7 +52,7 @@ pub fn reference_at(text: &str, place: usize) -> Option<(Chars, usize)>
     Some((chars, place + len))
 }
 
-/// The reference with which a text begins, and how many bytes it takes.
+/// The reference at the start of a text, and the number of its bytes.
 #[inline(always)]
 pub(crate) fn reference(text: &[u8]) -> Option<(Chars, usize)>
     ensures { read_of result ≡ reference text.now }
@@ -129,7 +129,7 @@ fn count_alphanumeric(text: &[u8]) -> usize
         .count()
 }
 
-/// What stands before a semicolon, if one stands after so many bytes.
+/// What is before a semicolon, if one is at this position.
 fn before_semicolon(text: &[u8], len: usize) -> Option<&[u8]>
     requires { len ≤ length text.now }
     ensures { option_copied result
@@ -141,7 +141,8 @@ fn before_semicolon(text: &[u8], len: usize) -> Option<&[u8]>
     Some(&text[..len])
 }
 
-/// The character with a number of at most so many digits; so many bytes stand round them.
+/// The character with a number of up to `most` digits, and the number of bytes of the reference, of which
+/// `round` enclose the digits.
 fn numbered(digits: &[u8], radix: u32, most: usize, round: usize) -> Option<(Chars, usize)>
     requires radix { (2 ≤ radix) × (radix ≤ 16) }
     requires most { (most ≤ 7) × (round ≤ 4) }

@@ -1,4 +1,4 @@
-//! Texts of which some bytes are written otherwise.
+//! Texts in which some bytes are replaced.
 ghost use Rattle.std.specs.Prelude.{◌≡◌, ◌<◌, ◌++◌, [], ◌∷◌};
 ghost use Rattle.std.specs.Prelude.{ℕ, List, true, false, position, flat_map, string_bytes, IsTrue, OnOk};
 
@@ -6,7 +6,7 @@ use crate::parts::cut_at;
 use crate::search::{ByteKind, next_of};
 use std::alloc::AllocError;
 
-/// A kind of bytes that are written otherwise than they stand in a text.
+/// A kind of bytes that are replaced when a text is written.
 pub trait Replaced: ByteKind {
     /// What is written for a byte.
     ghost written: { ℕ → List ℕ };
@@ -30,7 +30,7 @@ pub trait Replaced: ByteKind {
 ///
 /// # Errors
 ///
-/// `AllocError` where a request for memory was refused; a beginning may stand behind the string then.
+/// `AllocError` if a request for memory was refused; the string may then have a prefix of the result.
 pub fn push_replaced<K: Replaced>(out: &mut String, text: &str) -> Result<(), AllocError>
     requires ascii { (b : ℕ) → K.passes b ≡ true → b < 128 }
     requires others { (b : ℕ) → K.passes b ≡ false → K.written b ≡ b ∷ [] }

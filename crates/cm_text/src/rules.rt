@@ -4,18 +4,18 @@ ghost use Rattle.cm_text.specs.Rules.{profile, older_rules};
 
 use std::marker::Model;
 
-/// The rules by which a text is read, where readers of CommonMark differ: whether the older ones hold,
-/// whether there is strikethrough, whether there is raw HTML, and whether addresses of every scheme are
-/// followed. Each goes with any of the others.
+/// The rules for reading a text, where readers of CommonMark differ: whether the older ones hold, whether
+/// there is strikethrough, whether there is raw HTML, and whether addresses of every scheme are followed.
+/// Each can be combined with any of the others.
 ///
-/// The older rules are this project's own, and stand for no earlier edition of the standard. By them Unicode
-/// punctuation is the general categories P and ASCII punctuation alone, without the other symbols; of the
-/// names that begin an HTML block of the sixth kind `source` is one in place of `search`; and a comment in
-/// raw HTML begins with neither `>` nor `->`, holds no `--`, and doesn't end with `-`.
+/// The older rules are this project's own, and match no earlier edition of the standard. With them Unicode
+/// punctuation is the general categories P and ASCII punctuation, without the other symbols; `source`
+/// replaces `search` among the names that start an HTML block of the sixth kind; and a comment in raw HTML
+/// starts with neither `>` nor `->`, contains no `--`, and doesn't end with `-`.
 ///
-/// Without raw HTML no line begins an HTML block, and no `<` raw HTML: both are
-/// text, and autolinks stay; and the info of a code block is one line. An address
-/// that isn't followed makes no link, image or autolink: what would be one is text.
+/// Without raw HTML no line starts an HTML block, and no `<` raw HTML: both are text, and autolinks stay; and
+/// the info of a code block is one line. An address that isn't followed makes no link, image or autolink:
+/// what would be one is text.
 #[derive(Clone, Copy, Debug, PartialEq, Eq, Drop)]
 pub struct Rules {
     older: bool,

@@ -1,10 +1,10 @@
 //! The search for bytes of a kind, many at a time, each in a lane of a wide register.
 //!
 //! One proved loop serves for the bytes that end a line, those of inline markup and those that HTML escapes.
-//! The search of `memchr` for three bytes took some 300 instructions a line, a tenth of all on plain text. A
-//! single byte is looked up in the table of its kind too: comparing it with each byte takes a branch between
-//! letters and spaces that a processor often predicts wrongly. On `lists.md` the lookup avoids 5.5 of a
-//! hundred wrong predictions, on `prose.md` 6.8.
+//! The search of `memchr` for three bytes took some 300 instructions for each line, a tenth of all on plain
+//! text. A single byte is looked up in the table of its kind too: comparing it with each byte takes a branch
+//! between letters and spaces that a processor often predicts wrongly. On `lists.md` the lookup avoids 5.5
+//! percent of wrong predictions, on `prose.md` 6.8.
 ghost use Rattle.std.specs.Prelude.{◌≡◌, ◌+◌, ◌<◌, ◌≤◌};
 ghost use Rattle.std.specs.Prelude.{ℕ, Bool, false, not, length, get_or, map, None, IfSome};
 ghost use Rattle.std.specs.List.{position_or_len, prefix_len};
@@ -83,7 +83,7 @@ pub fn next_of<K: ByteKind>(bytes: &[u8], from: usize) -> usize
     }
 }
 
-/// A place at or after `from` up to which there is none of the kind: all of 32 bytes are passed at a time.
+/// A place at or after `from` up to which there is none of the kind: 32 bytes are skipped at a time.
 #[inline(always)]
 fn pass_by_32<K: ByteKind>(bytes: &[u8], from: usize) -> usize
     requires { from ≤ length bytes.now }
@@ -103,7 +103,7 @@ fn pass_by_32<K: ByteKind>(bytes: &[u8], from: usize) -> usize
     at
 }
 
-/// The same as `next_of`, for bytes that stand far apart.
+/// The same as `next_of`, for bytes that are far apart.
 #[inline(always)]
 pub(crate) fn next_far_of<K: ByteKind>(bytes: &[u8], from: usize) -> usize
     requires { from ≤ length bytes.now }
@@ -113,8 +113,8 @@ pub(crate) fn next_far_of<K: ByteKind>(bytes: &[u8], from: usize) -> usize
     next_of::<K>(bytes, at)
 }
 
-/// Marked bytes, each at the place of its last four bits, which two of them share at most. A byte that isn't
-/// at its own place stands for none.
+/// Marked bytes, each at the position of its last four bits, which at most two of them share. A byte that
+/// isn't at its own position is no marked one.
 const MARKED: [u8; 16] = [
     b'`', b'!', 0, 0, 0, 0, b'&', 0, 0, 0, b'\n', b'[', b'<', b'\r', b'~', b'_',
 ];
@@ -122,7 +122,7 @@ const MARKED: [u8; 16] = [
 /// The others.
 const ALSO_MARKED: [u8; 16] = [1, 0, 0, 0, 0, 0, 0, 0, 0, 0, b'*', 0, b'\\', b']', 0, 0];
 
-/// Bytes with which an inline other than text can begin, and those that end a line.
+/// Bytes with which an inline other than text can start, and those that end a line.
 struct Marked;
 
 impl ByteKind for Marked {

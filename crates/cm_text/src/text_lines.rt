@@ -11,14 +11,14 @@ ghost use Rattle.cm_text.specs.steps.TextAhead.{IsAhead};
 use crate::endings::line_len;
 use crate::search::leading_spaces;
 
-/// Lines of text that follow one another, seen without a copy: each begins with a letter of ASCII or with a
-/// character beyond it, the first behind spaces or not. No block but a paragraph begins so, and a line that
-/// begins so goes on with a paragraph that is open (CommonMark 0.31.2, 4.8).
+/// Consecutive lines of text, seen without a copy: each starts with an ASCII letter or with a character
+/// beyond ASCII, the first perhaps after spaces. No block but a paragraph starts like this, and such a line
+/// continues an open paragraph (CommonMark 0.31.2, 4.8).
 #[derive(Clone, Copy, Debug, PartialEq, Eq)]
 pub struct TextLines<'a> {
     /// The lines, each with the line feed that ends it.
     pub text: &'a str,
-    /// How many spaces the first begins with.
+    /// The number of spaces at the start of the first.
     pub spaces: usize,
     /// How many lines there are, at least one.
     pub count: usize,
@@ -37,16 +37,16 @@ impl<'a> TextLines<'a> {
     }
 }
 
-/// How far lines of text go with which a text begins. Of none the other numbers tell nothing.
+/// The extent of the lines of text at the start of a text. If there are none, the other numbers mean nothing.
 #[derive(Clone, Copy, Debug)]
 pub(crate) struct TextAhead {
-    /// How many spaces the first begins with.
+    /// The number of spaces at the start of the first.
     pub(crate) spaces: usize,
     /// How many lines there are.
     pub(crate) count: usize,
     /// How many bytes they have, with their line feeds.
     pub(crate) len: usize,
-    /// How many bytes the line behind them has.
+    /// The number of bytes of the line after them.
     pub(crate) line: usize,
 }
 
@@ -64,7 +64,7 @@ impl TextAhead {
     }
 }
 
-/// Whether a line of text may begin with a byte.
+/// Whether a line of text may start with a byte.
 #[inline(always)]
 fn begins_text(b: u8) -> bool
     ensures { result ≡ begins_text b }
@@ -72,8 +72,8 @@ fn begins_text(b: u8) -> bool
     b.is_ascii_alphabetic() || b >= 128
 }
 
-/// Whether a line of text may stand in front, as the first byte tells. Mostly
-/// there is none, and no more is looked at then.
+/// Whether the text may start with a line of text, by its first byte. Mostly it doesn't, and no more is
+/// examined then.
 #[inline(always)]
 pub(crate) fn may_begin_text(bytes: &[u8]) -> bool {
     match bytes {
@@ -82,7 +82,7 @@ pub(crate) fn may_begin_text(bytes: &[u8]) -> bool {
     }
 }
 
-/// Whether a line goes up to a place, and a line feed ends it there, and it begins as text, at another place.
+/// Whether a line ends with a line feed at `end`, and starts as text at `first`.
 #[inline(always)]
 fn is_text_line(bytes: &[u8], first: usize, end: usize) -> bool
     ensures first { result ≡ true → first < end }
@@ -93,7 +93,7 @@ fn is_text_line(bytes: &[u8], first: usize, end: usize) -> bool
     end < bytes.len() && first < end && bytes[end] == b'\n' && begins_text(bytes[first])
 }
 
-/// How far the lines of text go with which a text begins, whose first line has so many bytes. It is a call of
+/// The extent of the lines of text at the start of a text, whose first line has `line` bytes. It is a call of
 /// its own, made once for all of them.
 #[inline(never)]
 pub(crate) fn text_ahead(text: &str, line: usize) -> TextAhead

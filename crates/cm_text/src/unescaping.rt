@@ -52,8 +52,8 @@ pub fn unescape_or_lend(alloc: Global, text: &str) -> Result<CowStr<'_, Global>,
     }
 }
 
-/// Writes what the escape or the reference at the front gives, or the one byte
-/// there, and answers how many bytes were read.
+/// Writes the result of the escape or the reference at the start, or the one byte there. Returns the number
+/// of bytes read.
 fn push_special(out: &mut String, text: &str) -> Result<usize, AllocError>
     requires some { 0 < length text.now }
     requires ascii { slice_index text.now 0 < 128 }
@@ -70,7 +70,7 @@ fn push_special(out: &mut String, text: &str) -> Result<usize, AllocError>
     Ok(len)
 }
 
-/// The escape or the reference with which a text begins, and how many bytes it takes.
+/// The escape or the reference at the start of a text, and the number of its bytes.
 fn special(text: &[u8]) -> Option<(Chars, usize)>
     ensures { read_of result ≡ special text.now }
 {
@@ -84,7 +84,7 @@ fn special(text: &[u8]) -> Option<(Chars, usize)>
     reference(text)
 }
 
-/// The character behind a backslash.
+/// The character after a backslash.
 fn escaped(text: &[u8]) -> Option<char>
     ensures { option_map (λ c. (c ∷ [], 2)) result ≡ escape text.now }
 {

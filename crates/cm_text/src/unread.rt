@@ -1,4 +1,4 @@
-//! The text that has come, and of which no line has been taken yet.
+//! The text that has been read and of which no line has been taken yet.
 ghost use Rattle.std.specs.Prelude.{◌≡◌, [], ◌∷◌, ◌++◌, ◌+◌, ◌*◌, ◌^◌, ◌<◌, ◌≤◌, map, length};
 ghost use Rattle.std.specs.Prelude.{drop, OnOk, OnErr, IfSome, IfNone, string_bytes, string_len, true};
 ghost use Rattle.std.specs.Str.{IsCharBoundary};
@@ -13,17 +13,17 @@ use crate::view::View;
 use memchr::memchr;
 use std::alloc::Global;
 
-/// The text that has come and hasn't been taken.
+/// The text that has been read and not taken yet.
 #[derive(Debug, Drop)]
 pub(crate) struct Unread {
     pub(crate) alloc: Global,
-    /// Of the text so many bytes have been passed, and so many behind them are the first line.
+    /// The text. Its first `passed` bytes have been passed, and the next `line` bytes are the first line.
     pub(crate) text: String,
     pub(crate) passed: usize,
     pub(crate) line: usize,
-    /// Whether a carriage return came last, of which the line feed may still come.
+    /// Whether the last byte was a carriage return, whose line feed may still come.
     pub(crate) after_return: bool,
-    /// The lines of text that were looked for at the front, or none.
+    /// The lines of text that were searched for at the start, or none.
     pub(crate) text_ahead: TextAhead,
     pub(crate) ghost boundary: { IsCharBoundary (string_bytes text) passed },
     pub(crate) ghost first: { IsFirstLine line (drop passed (string_bytes text)) },
@@ -145,8 +145,7 @@ impl Unread {
         self.passed += len;
     }
 
-    /// Goes past so many lines, or past all that there are. It is done in one
-    /// step for the lines of text that were found.
+    /// Skips up to `count` lines. For the lines of text that were found it is one step.
     #[inline(always)]
     pub(crate) fn pass_lines(&mut self, count: usize)
         ensures cut { cut_of self.new ≡ without count (cut_of self.old) }
@@ -172,7 +171,7 @@ impl Unread {
         Ok(())
     }
 
-    /// Goes on with a text that has no U+0000.
+    /// Appends a text that has no U+0000.
     fn go_on(&mut self, more: &str) -> Result<(), NoMemory>
         ensures len { string_len self.new.text ≤ string_len self.old.text + length more.now }
         ensures ok { OnOk result (cut_of self.new ≡ cut_more (cut_of self.old) more.now) }
@@ -192,7 +191,7 @@ impl Unread {
         Ok(())
     }
 
-    /// Goes on with a text. Where memory is refused, nothing changes.
+    /// Appends a text. If memory is refused, nothing changes.
     pub(crate) fn take(&mut self, more: &str) -> Result<(), NoMemory>
         ensures len { string_len self.new.text ≤ string_len self.old.text + 3 * length more.now }
         ensures ok { OnOk result (cut_of self.new ≡ cut_more (cut_of self.old) (text_of more.now)) }

@@ -1,4 +1,4 @@
-//! Bytes that are taken in as text, as far as they are UTF-8.
+//! Bytes that are read as text, as far as they are UTF-8.
 ghost use Rattle.std.specs.Prelude.{◌≡◌, ◌+◌, ◌*◌, ◌≤◌, ◌++◌, length, OnOk, OnErr, IfOk, is_some, string_len};
 ghost use Rattle.std.specs.Str.Lossy.{utf8_valid_len, utf8_error_len};
 ghost use Rattle.cm_text.specs.Cut.{cut_of, IsFront};
@@ -10,8 +10,8 @@ use crate::unread::Unread;
 use simdutf8::compat::from_utf8;
 
 impl Unread {
-    /// Goes on with the longest well-formed front, and answers its length, and whether no character can
-    /// begin with the bytes after it, however they go on.
+    /// Appends the longest well-formed prefix. Returns its length, and whether no character can start with
+    /// the bytes after it, however they continue.
     pub(crate) fn take_utf8(&mut self, bytes: &[u8]) -> Result<(usize, bool), NoMemory>
         ensures most { string_len self.new.text ≤ string_len self.old.text + 3 * length bytes.now }
         ensures grown { IfOk result (λ r. string_len self.new.text ≤ string_len self.old.text + 3 * r.0) }

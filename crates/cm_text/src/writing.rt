@@ -5,7 +5,7 @@ ghost use Rattle.cm_text.specs.Writing.{Wrote, WroteFront};
 use crate::device::Sink;
 use thiserror::Error;
 
-/// A sink failed, or took no byte of a nonempty piece, after it had taken so many bytes.
+/// A sink failed, or accepted no byte of a nonempty piece, after it had accepted `written` bytes.
 #[derive(Clone, Copy, Debug, PartialEq, Eq, Drop, Error)]
 #[error("write failed after {written} bytes")]
 pub struct WriteFailed {

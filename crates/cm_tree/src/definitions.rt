@@ -18,8 +18,8 @@ use cm_text::{NoMemory, Rules, fold_label_or_lend};
 use std::alloc::{AllocError, Global};
 use std::marker::Model;
 
-/// Link reference definitions by their labels, of which the first of matching labels counts
-/// (CommonMark 0.31.2, 4.7 and 6.3).
+/// Link reference definitions by their labels. The first of matching labels counts (CommonMark 0.31.2, 4.7
+/// and 6.3).
 ///
 /// Contracts see it as a map from folded labels to destinations and titles.
 #[derive(Debug, Drop)]
@@ -27,9 +27,9 @@ pub struct Definitions {
     alloc: Global,
     /// Folded labels, and destinations and titles that are short.
     texts: String,
-    /// In the order in which they came, each label once.
+    /// In the order in which they were added, each label once.
     entries: Vec<Entry>,
-    /// Where each label's entry stands.
+    /// Where each label's entry is.
     index: LabelIndex,
 }
 
@@ -89,7 +89,7 @@ impl Definitions {
         self.add_new(number, label, dest, title)
     }
 
-    /// Keeps at least four slots for each entry that stands in one.
+    /// Keeps at least four slots for each entry in a slot.
     fn make_room(&mut self) -> Result<(), AllocError>
         ensures { self.new ≡ self.old }
     {
@@ -152,7 +152,7 @@ impl Definitions {
     }
 
     /// The same, if the rules follow the address. That was judged once, when the definition was added: a
-    /// look-up takes no time for the length of an address.
+    /// lookup takes no time for the length of an address.
     ///
     /// # Errors
     ///
@@ -180,7 +180,7 @@ impl Definitions {
     }
 }
 
-/// Puts an entry behind the others, and into the index.
+/// Appends an entry to the others, and adds it to the index.
 fn put(
     alloc: Global,
     entries: &mut Vec<Entry>,

@@ -19,7 +19,7 @@ use std::alloc::{AllocError, Global};
 pub(crate) struct Entry {
     /// The number of its folded label.
     pub(crate) number: u64,
-    /// Where the folded label begins in the table's text.
+    /// Where the folded label starts in the table's text.
     pub(crate) label: usize,
     /// Where it ends.
     pub(crate) end: usize,
@@ -30,12 +30,11 @@ pub(crate) struct Entry {
 }
 
 impl Entry {
-    /// Copies a definition, and puts its texts behind those of others.
+    /// Copies a definition, and appends its texts to those of others.
     ///
     /// # Errors
     ///
-    /// `AllocError` where a request for memory was refused; some of its texts
-    /// may stand behind the others then.
+    /// `AllocError` if a request for memory was refused; some of its texts may have been appended then.
     pub(crate) fn copy(
         alloc: Global,
         texts: &mut String,
@@ -113,7 +112,7 @@ pub(crate) fn entry_under(
     }
 }
 
-/// The same, if it stands in a slot.
+/// The same, if it is in a slot.
 fn in_slots(
     texts: &str,
     entries: &[Entry],
@@ -141,7 +140,7 @@ fn in_slots(
     None
 }
 
-/// An index of all entries, with so many slots.
+/// An index of all entries, with this number of slots.
 pub(crate) fn indexed(
     alloc: Global,
     texts: &str,

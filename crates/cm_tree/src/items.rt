@@ -59,7 +59,7 @@ impl<T> Items<T> {
         self.items.len()
     }
 
-    /// A list with no items that has room for as many as there are here.
+    /// An empty list with room for a copy of the items here.
     pub(crate) fn room_for_a_copy(&self) -> Result<Items<T>, AllocError>
         ensures { IfOk result (λ items. items ≡ []) }
     {

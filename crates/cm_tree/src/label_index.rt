@@ -11,13 +11,13 @@ ghost use Rattle.cm_tree.specs.steps.LabelIndex.{home, IsFree, IsIndex, IsSame, 
 use std::alloc::{AllocError, Global};
 use std::collections::BTreeMap;
 
-/// A label stands in one of so many slots, from the one on that its number names.
+/// A label is in one of this number of slots, from the one on that its number names.
 pub(crate) const NEAR: usize = 8;
 
 /// The entries of a table by their labels.
 ///
-/// Nearly all stand in the first slot that was free near the one that their number names. An entry that found
-/// none stands in a tree: so labels that were made to have equal numbers take no longer than by a tree alone.
+/// Nearly all are in the first slot that was free near the one that their number names. An entry that found
+/// none is in a tree: so labels that were made to have equal numbers take no longer than with a tree alone.
 #[derive(Debug, Drop)]
 pub(crate) struct LabelIndex {
     /// Entries, counted from 1; 0 is a free slot.
@@ -37,7 +37,7 @@ impl LabelIndex {
         }
     }
 
-    /// An index of no entries, with so many slots.
+    /// An index of no entries, with `count` slots.
     pub(crate) fn with_slots(alloc: Global, count: usize) -> Result<LabelIndex, AllocError>
         ensures { IfOk result (λ index. IsIndex index []) }
     {
@@ -47,13 +47,14 @@ impl LabelIndex {
         })
     }
 
-    /// Whether there are fewer than four slots for each of so many entries and one more, but for those in the
-    /// tree: slots that labels were made to miss needn't be more.
+    /// Whether there are fewer than four slots for each of the entries and one more, not counting those in
+    /// the tree: labels that were made to miss their slots don't need more of them.
     pub(crate) fn is_full(&self, entries: usize) -> bool {
         entries.saturating_sub(self.crowded.len()) >= self.slots.len() / 4
     }
 
-    /// How many slots come next: a power of two in which labels begin, and those that end behind them.
+    /// The next number of slots: a power of two in which labels start, and those at the end into which they
+    /// run over.
     pub(crate) fn next_slots(&self) -> usize {
         self.slots
             .len()

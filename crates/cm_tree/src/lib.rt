@@ -2,9 +2,9 @@
 //! The tree of a document, how deep it nests, blocks whose inlines haven't
 //! been read, and the table of its definitions.
 //!
-//! Begin with [`Doc`]: its blocks are the tree, its owners tell what each line belongs to. The nodes are
-//! [`Block`] and [`Inline`]. [`block_depth`], [`inline_depth`] and [`has_raw_html`] ask something of a tree,
-//! and [`Definitions`] is the table of link reference definitions. [`RawTree`] with what it is made of and
+//! Start with [`Doc`]: its blocks are the tree, its owners say what each line belongs to. The nodes are
+//! [`Block`] and [`Inline`]. [`block_depth`], [`inline_depth`] and [`has_raw_html`] examine a tree, and
+//! [`Definitions`] is the table of link reference definitions. [`RawTree`] with what it is made of and
 //! [`TargetPlaces`] are what the crates above use.
 //!
 //! A tree is made of plain enums over [`Items`], [`Text`] and [`BoxedText`]. Contracts

@@ -8,8 +8,8 @@ use crate::target_places::TargetPlaces;
 use crate::text::Text;
 use std::alloc::{AllocError, Global};
 
-/// A text of so many bytes is shared by all that refer to it. A shorter one is
-/// copied: a copy costs less than a count.
+/// A text of at least this number of bytes is shared by all that refer to it. A shorter one is copied: a copy
+/// costs less than a count.
 const SHARED: usize = 64;
 
 /// Where a link leads, and its title: as plain texts, or as texts that a
@@ -69,7 +69,7 @@ pub enum KeptTarget {
 }
 
 impl KeptTarget {
-    /// Keeps copies behind a text.
+    /// Appends copies to a text.
     fn place(texts: &mut String, dest: &str, title: &str) -> Result<KeptTarget, AllocError>
         ensures kept { IfOk result (λ kept. Keeps (string_bytes texts.new) kept (dest.now, title.now)) }
         ensures goes_on { GoesOn (string_bytes texts.old) (string_bytes texts.new) }
@@ -82,7 +82,8 @@ impl KeptTarget {
     ///
     /// # Errors
     ///
-    /// `AllocError` where a request for memory was refused; the destination may stand behind the text then.
+    /// `AllocError` if a request for memory was refused; the destination may have been appended to the text
+    /// then.
     pub fn copy(
         alloc: Global,
         texts: &mut String,

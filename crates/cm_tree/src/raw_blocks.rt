@@ -5,8 +5,8 @@
 //! and its item's blocks. It would free them much later, which is when an allocator is slowest. The content
 //! of a quote or item is moved to the end when that closes, so each block is moved twice at most.
 //!
-//! A place has 32 bits, which halves a block. A document that needs more is `TooLarge`; none within the
-//! limits does, because a text has at most 2^30 bytes, each of which becomes at most three.
+//! A place has 32 bits, which halves the size of a block. A document that needs more is `TooLarge`; none
+//! within the limits does, because a text has at most 2^30 bytes, each of which becomes at most three.
 ghost use Rattle.std.specs.Prelude.{◌≡◌, ◌<◌, ◌≤◌, ◌+◌, ◌^◌, [], ◌++◌, length, get_or, nat_le, IfOk, IfErr, OnOk};
 ghost use Rattle.std.specs.List.{slice_range};
 ghost use Rattle.cm_tree.specs.RawBlocks.{raw_inlines, block_in, blocks_in, item_in, items_in};
@@ -80,7 +80,7 @@ pub enum RawBlock {
 pub struct RawItem {
     /// The place of the first.
     pub from: u32,
-    /// The place behind the last.
+    /// The place after the last.
     pub to: u32,
 }
 
@@ -128,11 +128,11 @@ impl From<OutOfMemory> for RawFault {
     }
 }
 
-/// What [`RawBlock`]s are made of: the texts of all, the blocks that stand in
-/// others, each behind those in it, and the items.
+/// What [`RawBlock`]s are made of: the texts of all, the blocks inside others, each after those inside it,
+/// and the items.
 ///
-/// All that was made stays what it is when more is made. Where a call that makes something answers a fault, a
-/// beginning of what it would have put behind the others may stand there, which is part of no block.
+/// What was made stays the same when more is made. If a call that makes something returns a fault, a prefix
+/// of what it would have appended may stay there, which is part of no block.
 #[derive(Debug, Drop)]
 pub struct RawBlocks {
     text: String,
@@ -203,7 +203,7 @@ impl RawBlocks {
         self.text.len() >= FULL
     }
 
-    /// Puts a text behind the others.
+    /// Appends a text to the others.
     fn put_text(&mut self, text: &str) -> Result<(), AllocError>
         ensures text { OnOk result (self.new.text ≡ self.old.text ++ text.now) }
         ensures between { OnOk result
@@ -216,7 +216,7 @@ impl RawBlocks {
         Ok(())
     }
 
-    /// Puts a text behind the others, and answers where it begins and where it ends.
+    /// Appends a text to the others, and returns where it starts and where it ends.
     fn push_text(&mut self, text: &str) -> Result<(u32, u32), RawFault>
         ensures text { OnOk result (self.new.text ≡ self.old.text ++ text.now) }
         ensures from { IfOk result (λ places. places.0 ≡ length self.old.text) }

@@ -65,7 +65,7 @@ impl RawChunk {
 }
 
 /// The blocks of a document whose inlines haven't been read: those of its chunks, one after another. The
-/// source of a paragraph or heading stands as one text.
+/// source of a paragraph or heading is one text.
 #[derive(Debug, Drop)]
 pub struct RawTree {
     chunks: Vec<RawChunk>,
@@ -99,7 +99,7 @@ impl RawTree {
     ///
     /// # Errors
     ///
-    /// `AllocError` where a request for memory was refused; the chunk is let go of then.
+    /// `AllocError` if a request for memory was refused; the chunk is freed then.
     pub fn push(&mut self, chunk: RawChunk) -> Result<(), AllocError>
         ensures ok { OnOk result (self.new ≡ self.old ++ chunk) }
         ensures err { OnErr result (self.new ≡ self.old) }
@@ -115,7 +115,7 @@ impl RawTree {
         &self.chunks
     }
 
-    /// The chunks, each of which may be freed by itself.
+    /// The chunks, each of which can be freed on its own.
     pub fn into_chunks(self) -> Vec<RawChunk>
         ensures { all_blocks result.items ≡ self }
     {

@@ -4,12 +4,12 @@ ghost use Rattle.cm_tree.specs.TargetPlaces.{target_in, places_behind, GoesOn, I
 
 use std::alloc::AllocError;
 
-/// Where a destination, and a title behind it, lie in a text that holds many.
+/// Where a destination, followed by a title, is in a text that holds many.
 #[derive(Clone, Copy, Debug, PartialEq, Eq)]
 pub struct TargetPlaces {
-    /// Where the destination begins.
+    /// Where the destination starts.
     pub dest: usize,
-    /// Where it ends, and the title begins.
+    /// Where it ends, and the title starts.
     pub title: usize,
     /// Where that ends.
     pub end: usize,
@@ -20,7 +20,8 @@ impl TargetPlaces {
     ///
     /// # Errors
     ///
-    /// `AllocError` where a request for memory was refused; the destination may stand behind the text then.
+    /// `AllocError` if a request for memory was refused; the destination may have been appended to the text
+    /// then.
     pub fn push(texts: &mut String, dest: &str, title: &str) -> Result<TargetPlaces, AllocError>
         ensures places { IfOk result (λ places.
             places ≡ places_behind (string_bytes texts.old) dest.now title.now) }

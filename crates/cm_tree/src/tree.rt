@@ -3,16 +3,16 @@ use crate::boxed_text::BoxedText;
 use crate::items::Items;
 use crate::text::Text;
 
-/// An inline (chapter 6). References and backslash escapes stand for their characters in each text,
-/// destination and title; a title that is absent is empty.
+/// An inline (chapter 6). In each text, destination and title, references and backslash escapes are resolved;
+/// a title that is absent is empty.
 #[derive(Debug, Drop, PartialEq, Eq)]
 pub enum Inline {
     /// Text as it is read (6.9 Textual content).
     Text(Text),
     /// A code span, without its backticks (6.1 Code spans).
     Code(Text),
-    /// Raw HTML, an open or closing tag, a comment, an instruction, a declaration or CDATA, as it stands in
-    /// the source (6.6 Raw HTML).
+    /// Raw HTML, an open or closing tag, a comment, an instruction, a declaration or CDATA, as in the source
+    /// (6.6 Raw HTML).
     Html(Text),
     /// A line ending that is shown as one or as a space (6.8 Soft line breaks).
     Soft,
@@ -44,7 +44,7 @@ pub enum Inline {
     },
 }
 
-/// What marks the items of a list (5.2 List items). Items with another mark begin another list.
+/// What marks the items of a list (5.2 List items). Items with another mark start another list.
 #[derive(Clone, Copy, Debug, PartialEq, Eq)]
 pub enum ListKind {
     /// A bullet list of `-`.
@@ -53,20 +53,20 @@ pub enum ListKind {
     Plus,
     /// A bullet list of `*`.
     Star,
-    /// An ordered list with `.` behind its numbers.
+    /// An ordered list with `.` after its numbers.
     Dot {
         /// The number of the first item.
         start: u32,
     },
-    /// An ordered list with `)` behind its numbers.
+    /// An ordered list with `)` after its numbers.
     Paren {
         /// The number of the first item.
         start: u32,
     },
 }
 
-/// A block (chapters 4 and 5). Its information, destination and title are resolved: references and
-/// backslash escapes stand for their characters. A label is as it stands in the source.
+/// A block (chapters 4 and 5). Its information, destination and title are resolved: references and backslash
+/// escapes became their characters. A label is as in the source.
 #[derive(Debug, Drop, PartialEq, Eq)]
 pub enum Block {
     /// A paragraph (4.8 Paragraphs).
@@ -87,14 +87,14 @@ pub enum Block {
     },
     /// An HTML block (4.6 HTML blocks).
     Html {
-        /// Its lines, each with a line feed, as they stand in the source.
+        /// Its lines, each with a line feed, as in the source.
         text: Text,
     },
     /// A thematic break (4.1 Thematic breaks).
     Break,
     /// A link reference definition (4.7 Link reference definitions).
     Definition {
-        /// Its label without the brackets, as it stands in the source.
+        /// Its label without the brackets, as in the source.
         label: Text,
         /// Where links by it lead to.
         dest: Text,

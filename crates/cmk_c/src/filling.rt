@@ -7,7 +7,7 @@ ghost use Rattle.cmk_c.specs.Calls.{FillsBy, Gives, IsEmpty, IsPut, ended};
 use crate::numbers::{DONE, NO_ROOM, OUT_OF_RANGE, number_of, place_of};
 use cm_tool::Fault;
 
-/// What a call tells that fills room of the caller's.
+/// What a call that fills a caller's buffer returns.
 #[repr(C)]
 #[derive(Clone, Copy, Debug, Drop)]
 pub struct Filled {
@@ -17,8 +17,8 @@ pub struct Filled {
     pub place: usize,
 }
 
-/// Puts bytes that end in NUL to the front of the room, where there is room for all of them, and tells how
-/// many stand before the NUL.
+/// Writes bytes that end with NUL to the start of the room, if it has room for all of them, and sets the
+/// number of bytes before the NUL.
 pub(crate) fn fill_with(bytes: &[u8], room: &mut [u8], filled: &mut Filled) -> u32
     ensures { (output : List ℕ) → bytes.now ≡ ended output → IsPut output room.old
         (record {
@@ -38,7 +38,7 @@ pub(crate) fn fill_with(bytes: &[u8], room: &mut [u8], filled: &mut Filled) -> u
     DONE
 }
 
-/// Puts what was made to the front of the room, or tells the fault, and leaves the room as it was.
+/// Writes the result to the start of the room, or sets the fault and leaves the room unchanged.
 pub(crate) fn fill(made: Result<Vec<u8>, Fault>, room: &mut [u8], filled: &mut Filled) -> u32
     requires { IfErr made HasPlace }
     ensures { (fault : Option faults.Fault) (output : List ℕ) → Gives fault output made
@@ -60,7 +60,7 @@ pub(crate) fn fill(made: Result<Vec<u8>, Fault>, room: &mut [u8], filled: &mut F
     }
 }
 
-/// Tells that a number that was handed over is out of its range.
+/// Reports that a number that was passed is out of its range.
 pub(crate) fn fill_nothing(filled: &mut Filled) -> u32
     ensures { (room : List ℕ) → IsEmpty 11 room
         (record {

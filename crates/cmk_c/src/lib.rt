@@ -1,7 +1,7 @@
 //! CommonMark for C: a text to HTML, to the listing of its tree, or to plain source.
 //!
 //! A call takes the text as a pointer and a length, and has no state of its own. `include/cmk.h` declares the
-//! calls for C. Begin with [`cmk_html`]; `examples/render.c` is a whole program, which the gate compiles and
+//! calls for C. Start with [`cmk_html`]; `examples/render.c` is a whole program, which the gate compiles and
 //! runs.
 //!
 //! ```c
@@ -129,8 +129,7 @@ pub extern "C" fn cmk_html_into(
     }
 }
 
-/// The line that tells what a call answered by this number and this place, put into the caller's room, and
-/// its length.
+/// Writes the line for the number and the place that a call returned to the caller's room, with its length.
 #[unsafe(no_mangle)]
 pub extern "C" fn cmk_fault_text(
     number: u32,

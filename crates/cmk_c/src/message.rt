@@ -1,4 +1,4 @@
-//! What the number that a call answers tells, and the line for it.
+//! The meaning of the number that a call returns, and the line for it.
 ghost use Rattle.std.specs.Prelude.{◌≡◌, ◌≤◌};
 ghost use Rattle.cmk_c.specs.Calls.{IsPut, ended};
 ghost use Rattle.cmk_c.specs.Numbers.{message_of, message_line};
@@ -8,18 +8,18 @@ use crate::numbers::{NO_ROOM, OUT_OF_RANGE, fault_numbered};
 use arrayvec::ArrayString;
 use cm_tool::Fault;
 
-/// What a call tells in place of its output.
+/// What a call reports instead of its output.
 #[derive(Clone, Copy, Debug, Drop)]
 pub enum Message {
-    /// The fault of a text, as the program tells it.
+    /// The fault of a text, as the program reports it.
     Refused(Fault),
-    /// A number that was handed over is out of its range.
+    /// A number that was passed is out of its range.
     OutOfRange,
     /// The caller's room is too small.
     NoRoom,
 }
 
-/// What this number at this place tells.
+/// The meaning of this number at this place.
 pub(crate) fn message_of(number: u32, place: usize) -> Option<Message>
     ensures { result ≡ message_of number place }
 {
@@ -52,7 +52,7 @@ impl Message {
     }
 }
 
-/// Puts the line of the message, with a NUL behind it, to the front of the room. It takes no memory.
+/// Writes the line of the message, followed by a NUL, to the start of the room. It takes no memory.
 pub(crate) fn fill_line(message: Message, room: &mut [u8], filled: &mut Filled) -> u32
     ensures line { IsPut (message_line message) room.old
         (record {

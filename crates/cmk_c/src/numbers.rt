@@ -13,13 +13,13 @@ use cm_tool::Fault;
 /// There is no fault.
 pub(crate) const DONE: u32 = 0;
 
-/// A number that was handed over is out of its range.
+/// A number that was passed is out of its range.
 pub(crate) const OUT_OF_RANGE: u32 = 11;
 
 /// The caller's room is too small.
 pub(crate) const NO_ROOM: u32 = 12;
 
-/// The number of a fault, as its line has it behind its F.
+/// The number of a fault, as its line has it after its F.
 pub(crate) fn number_of(fault: Fault) -> u32
     ensures { result ≡ number_of fault }
 {

@@ -1,4 +1,4 @@
-//! What a call gives back.
+//! What a call returns.
 ghost use Rattle.std.specs.Prelude.{◌≡◌, ℕ, List, [], Option, IfErr};
 ghost use Rattle.cm_tool.specs.declared.fault.Fault as faults;
 ghost use Rattle.cmk_c.specs.Calls.{AnswersBy, Gives, IsEmpty};
@@ -7,10 +7,10 @@ ghost use Rattle.cmk_c.specs.steps.Places.{HasPlace};
 use crate::numbers::{DONE, OUT_OF_RANGE, number_of, place_of};
 use cm_tool::Fault;
 
-/// What a call gives back beside its number.
+/// What a call returns in addition to its number.
 #[repr(C)]
 pub struct Output {
-    /// The output with a NUL behind it, a block of `malloc` that is the caller's to free; or no bytes.
+    /// The output followed by a NUL, in a block of `malloc` that the caller frees; or no bytes.
     pub bytes: &'static [u8],
     /// How many bytes the output has before the NUL.
     pub length: usize,
@@ -18,7 +18,7 @@ pub struct Output {
     pub place: usize,
 }
 
-/// Puts what was made into the output, and answers the number of the fault, or 0.
+/// Stores the result in the output, and returns the number of the fault, or 0.
 pub(crate) fn put(made: Result<Vec<u8>, Fault>, output: &mut Output) -> u32
     requires { IfErr made HasPlace }
     ensures { (fault : Option faults.Fault) (bytes : List ℕ) → Gives fault bytes made
@@ -46,7 +46,7 @@ pub(crate) fn put(made: Result<Vec<u8>, Fault>, output: &mut Output) -> u32
     }
 }
 
-/// Tells that a number among the options is out of its range.
+/// Reports that a number among the options is out of its range.
 pub(crate) fn put_wrong_options(output: &mut Output) -> u32
     ensures { IsEmpty 11 [] (record {
       number = result;

@@ -1,4 +1,4 @@
-//! The outputs of the calls, each with a NUL behind it: HTML, a listing, or plain source.
+//! The outputs of the calls, each followed by a NUL: HTML, a listing, or plain source.
 ghost use Rattle.std.specs.Prelude.{◌≡◌, ◌≤◌, ◌^◌, List, ℕ, IfErr, IfOk, IfSome, string_bytes};
 ghost use Rattle.cm_tool.specs.declared.fault.Fault.TheVariants.{NoMemory};
 ghost use Rattle.cm_tool.specs.Faults.{fault_of};
@@ -12,7 +12,7 @@ use cm_text::Limits;
 use cm_tool::Fault;
 use std::alloc::Global;
 
-/// The bytes of a text with a NUL behind them, if there was memory for it.
+/// The bytes of a text followed by a NUL, if there was memory for it.
 fn with_nul(text: Option<String>) -> Result<Vec<u8>, Fault>
     ensures value { (output : List ℕ) → IfSome text (λ text. string_bytes text ≡ output)
         → IfOk result (λ made. made.items ≡ ended output) }
@@ -28,7 +28,7 @@ fn with_nul(text: Option<String>) -> Result<Vec<u8>, Fault>
     }
 }
 
-/// The HTML of the text, with a NUL behind it.
+/// The HTML of the text, followed by a NUL.
 pub(crate) fn html_of(alloc: Global, text: &[u8], limits: Limits) -> Result<Vec<u8>, Fault>
     requires { limits.bytes ≤ 2 ^ 30 }
     ensures value { Gives (fault_of limits text.now) (converted limits.rules text.now) result }
@@ -40,7 +40,7 @@ pub(crate) fn html_of(alloc: Global, text: &[u8], limits: Limits) -> Result<Vec<
     }
 }
 
-/// The listing of the text's tree and of the owners of its lines, with a NUL behind it.
+/// The listing of the text's tree and of the owners of its lines, followed by a NUL.
 pub(crate) fn tree_of(alloc: Global, text: &[u8], limits: Limits) -> Result<Vec<u8>, Fault>
     requires { limits.bytes ≤ 2 ^ 30 }
     ensures value { Gives (fault_of limits text.now) (listed limits.rules text.now) result }
@@ -52,7 +52,7 @@ pub(crate) fn tree_of(alloc: Global, text: &[u8], limits: Limits) -> Result<Vec<
     }
 }
 
-/// Plain source of the text's tree without its definitions, with a NUL behind it.
+/// Plain source of the text's tree without its definitions, followed by a NUL.
 pub(crate) fn source_of(alloc: Global, text: &[u8], limits: Limits) -> Result<Vec<u8>, Fault>
     requires { limits.bytes ≤ 2 ^ 30 }
     ensures value { Gives (rewriting_fault limits text.now) (rewritten limits.rules text.now) result }

@@ -4,8 +4,8 @@ ghost use Rattle.std.specs.Prelude.{◌≡◌};
 use crate::device::{DeviceFailed, Source};
 use std::io::Read;
 
-/// A reader of std as a source: every error of the reader is a failure. The bytes still to
-/// come are those that the reader tells; a file or a terminal leaves them open.
+/// A reader of std as a source: every error of the reader is a failure. The bytes still to come are those
+/// that the reader reports; a file or a terminal leaves them open.
 #[derive(Debug, Drop)]
 pub struct FromRead<R> {
     reader: R,

@@ -4,9 +4,9 @@ ghost use Rattle.std.specs.Prelude.{◌≡◌};
 use crate::device::{DeviceFailed, Sink};
 use std::io::Write;
 
-/// A writer of std as a sink: every error of the writer is a failure, and so is a write that takes
-/// nothing of a nonempty piece. The bytes taken are those that the writer tells; a file or a terminal
-/// leaves them open.
+/// A writer of std as a sink: every error of the writer is a failure, and so is a write that accepts no byte
+/// of a nonempty piece. The bytes accepted are those that the writer reports; a file or a terminal leaves
+/// them open.
 #[derive(Debug, Drop)]
 pub struct FromWrite<W> {
     writer: W,

@@ -7,8 +7,8 @@ ghost use Rattle.std.specs.List.{flat_map};
 
 use crate::device::{DeviceFailed, Source};
 
-/// A source in memory, for tests: pieces, of which empty ones are passed over, and then the end or a
-/// failure. No read gives bytes of two pieces.
+/// A source in memory, for tests: pieces, of which empty ones are skipped, and then the end or a failure. No
+/// read returns bytes of two pieces.
 #[derive(Debug, Drop)]
 pub struct Pieces {
     pieces: Vec<Vec<u8>>,
@@ -66,7 +66,7 @@ impl Source for Pieces {
         ensures failures { ⟦<Pieces as Source>⟧.failed self.new
             ≡ (if is_ok result then ⟦<Pieces as Source>⟧.failed self.old
             else ⟦<Pieces as Source>⟧.failed self.old + 1) }
-        // It gives as much of the next piece as the buffer holds, and nothing of the one behind it.
+        // It returns as much of the next piece as the buffer holds, and nothing of the one after it.
         ensures piece { IfOk result (λ n. n ≡ min (length (next_piece self.old)) (length buf.old)) }
         // It fails exactly where the pieces are used up and it was made to.
         ensures fails { OnErr result ((⟦<Pieces as Source>⟧.remaining self.old ≡ Some [])

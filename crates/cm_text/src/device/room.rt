@@ -7,7 +7,7 @@ ghost use Rattle.std.specs.Io.KnownBytes.{WriteAppends};
 use crate::device::{DeviceFailed, NoMemory, Sink};
 use std::alloc::Global;
 
-/// A sink in memory, for tests: it takes so many bytes, at most so many a call, and then fails.
+/// A sink in memory, for tests: it accepts a limited number of bytes in all and in each call, and then fails.
 #[derive(Debug, Drop)]
 pub struct Room {
     bytes: Vec<u8>,
