@@ -26,7 +26,7 @@ pub(crate) fn push_blocks(out: &mut Pages, blocks: &[Block]) -> Result<(), Alloc
 ///
 /// # Errors
 ///
-/// `AllocError` where a request for memory was refused; a beginning of the HTML may have been added then.
+/// `AllocError` if a request for memory was refused; a prefix of the HTML may have been added then.
 #[cycle(blocks)]
 pub fn push_block(out: &mut Pages, block: &Block) -> Result<(), AllocError>
     ensures { OnOk result (out.new ≡ out.old ++ alone (written block.now)) }
@@ -69,7 +69,7 @@ fn push_heading(out: &mut Pages, level: u8, content: &[Inline]) -> Result<(), Al
 ///
 /// # Errors
 ///
-/// `AllocError` where a request for memory was refused; a beginning of it may have been added then.
+/// `AllocError` if a request for memory was refused; a prefix of it may have been added then.
 pub fn push_heading_start(out: &mut Pages, level: u8) -> Result<(), AllocError>
     ensures { OnOk result (out.new ≡ out.old ++ heading_start level) }
 {

@@ -23,7 +23,7 @@ impl Replaced for Escaped {
 
     #[inline(always)]
     fn find(bytes: &[u8]) -> Option<usize> {
-        // Such bytes often stand side by side.
+        // Such bytes are often next to each other.
         if !bytes.is_empty() && Escaped::contains(bytes[0]) {
             return Some(0);
         }
@@ -36,7 +36,7 @@ impl Replaced for Escaped {
 ///
 /// # Errors
 ///
-/// `AllocError` where a request for memory was refused; a beginning may stand behind the string then.
+/// `AllocError` if a request for memory was refused; the string may then have a prefix of the result.
 #[inline(always)]
 pub(crate) fn push_escaped(out: &mut String, text: &str) -> Result<(), AllocError>
     ensures { OnOk result (string_bytes out.new ≡ string_bytes out.old ++ escape text.now) }
@@ -95,7 +95,7 @@ pub(crate) fn push_destination(out: &mut String, destination: &str) -> Result<()
     Ok(())
 }
 
-/// Where the first space or tab stands.
+/// Where the first space or tab is.
 fn find_space_or_tab(bytes: &[u8]) -> Option<usize>
     ensures { result ≡ position is_space_or_tab bytes.now }
 {

@@ -10,7 +10,7 @@ pub enum HtmlFault {
     /// A request for memory was refused.
     #[error("out of memory")]
     NoMemory,
-    /// The writer failed, or took no byte of a nonempty piece, after it had taken so many bytes.
+    /// The writer failed, or accepted no byte of a nonempty piece, after it had accepted `written` bytes.
     #[error("write failed after {written} bytes")]
     WriteFailed { written: usize },
 }

@@ -1,4 +1,4 @@
-//! Texts in the form in which they are written. Each is made once, however often the output has it, and
+//! Texts in the form in which they are written. Each is made once, however often it is in the output, and
 //! before any of it is written.
 //!
 //! So writing takes no memory, and the length of the output is known before its first byte.

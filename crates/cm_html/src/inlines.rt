@@ -94,8 +94,8 @@ fn push_title(out: &mut Pages, target: LinkTarget<'_>) -> Result<(), AllocError>
     }
 }
 
-/// Adds a title behind the value of an attribute, unless the title is empty. The quotation mark behind the
-/// last value is left out.
+/// Adds a title after the value of an attribute, unless the title is empty. The quotation mark after the last
+/// value is left out.
 #[inline(always)]
 fn push_title_behind(out: &mut Pages, target: LinkTarget<'_>) -> Result<(), AllocError>
     ensures { OnOk result (out.new ++ codes "\""
@@ -113,7 +113,7 @@ fn push_title_behind(out: &mut Pages, target: LinkTarget<'_>) -> Result<(), Allo
 ///
 /// # Errors
 ///
-/// `AllocError` where a request for memory was refused; a beginning of the tag may have been added then.
+/// `AllocError` if a request for memory was refused; a prefix of the tag may have been added then.
 pub fn push_link_start(out: &mut Pages, target: LinkTarget<'_>) -> Result<(), AllocError>
     ensures { OnOk result (out.new ≡ out.old ++ link_start (led_to target.entry).0 (led_to target.entry).1) }
 {

@@ -1,8 +1,8 @@
 //! The tree of a document as HTML and as a listing.
 //!
-//! Begin with [`html`], or with [`write_html`] where the HTML goes to a sink.
-//! [`listing`] and [`write_listing`] give the listing. [`Pages`], and the
-//! calls that add a part of the HTML to them, are what the crates above use.
+//! Start with [`html`], or with [`write_html`] if the HTML goes to a sink. [`listing`] and [`write_listing`]
+//! give the listing. [`Pages`], and the calls that add a part of the HTML to them, are what the crates above
+//! use.
 //!
 //! ```
 //! use cm_html::html;

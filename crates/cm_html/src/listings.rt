@@ -46,7 +46,7 @@ pub(crate) fn push_document(out: &mut Pages, doc: &Doc) -> Result<(), AllocError
     push_owners(out, doc.owners.as_slice())
 }
 
-/// Writes blocks that stand in no others, and turns the page between them.
+/// Writes the blocks of the top level, and turns the page between them.
 fn push_parted(out: &mut Pages, blocks: &[Block]) -> Result<(), AllocError>
     ensures { OnOk result (out.new ≡ out.old ++ listed_blocks 0 blocks.now) }
 {
@@ -57,7 +57,7 @@ fn push_parted(out: &mut Pages, blocks: &[Block]) -> Result<(), AllocError>
     Ok(())
 }
 
-/// Writes texts between quotes, each behind a space.
+/// Writes texts between quotes, each after a space.
 fn push_all_quoted(out: &mut Pages, texts: &[&str]) -> Result<(), AllocError>
     ensures { OnOk result (out.new ≡ out.old ++ all_quoted (map (λ text. text.now) texts.now)) }
 {
@@ -80,8 +80,8 @@ fn push_line(out: &mut Pages, depth: usize, word: &str, texts: &[&str]) -> Resul
     out.push_str("\n")
 }
 
-/// Writes a destination and a title between quotes, each behind a space. Long
-/// texts that have other owners are held once.
+/// Writes a destination and a title between quotes, each after a space. Long texts that have other owners are
+/// held once.
 fn push_target(out: &mut Pages, dest: &BoxedText, title: &BoxedText) -> Result<(), AllocError>
     ensures { OnOk result (out.new ≡ out.old ++ all_quoted (dest.now ∷ title.now ∷ [])) }
 {
@@ -108,7 +108,7 @@ fn push_target_line(
     out.push_str("\n")
 }
 
-/// Writes inlines with so many nodes round them, one after another.
+/// Writes inlines inside `depth` nodes, one after another.
 #[cycle(inline_lines)]
 fn push_inlines(out: &mut Pages, depth: usize, inlines: &[Inline]) -> Result<(), AllocError>
     ensures { OnOk result (out.new ≡ out.old ++ listed_inlines depth inlines.now) }
@@ -166,7 +166,7 @@ fn push_with_inlines(
     push_inlines(out, depth + 1, content)
 }
 
-/// Writes a word, and a number behind it.
+/// Writes a word, followed by a number.
 fn push_with_number(out: &mut Pages, word: &str, number: usize) -> Result<(), AllocError>
     ensures { OnOk result (out.new ≡ out.old ++ word.now ++ decimal number) }
 {
@@ -210,7 +210,7 @@ fn push_list_line(
     out.push_str(if tight { " tight\n" } else { " loose\n" })
 }
 
-/// Writes blocks with so many nodes round them, one after another.
+/// Writes blocks inside `depth` nodes, one after another.
 #[cycle(block_lines)]
 fn push_blocks(out: &mut Pages, depth: usize, blocks: &[Block]) -> Result<(), AllocError>
     ensures { OnOk result (out.new ≡ out.old ++ listed_blocks depth blocks.now) }

@@ -1,4 +1,4 @@
-//! A text with insertions: other texts at places of it, of which it holds no copy.
+//! A text with insertions: other texts in it, of which it holds no copy.
 //!
 //! A text of 250 KB can refer 50,000 times to a destination of 50,000 bytes, and its HTML has 2.5 GB. So a
 //! long text with other owners is inserted by a counted reference of 24 bytes; a shorter text, or one without
@@ -18,7 +18,7 @@ use cm_tree::BoxedText;
 use std::alloc::{AllocError, Global};
 use std::marker::Model;
 
-/// A counted text, and the place in the page's own text at which it stands.
+/// A counted text, and its place in the page's own text.
 #[derive(Drop)]
 pub(crate) struct Insertion {
     pub(crate) place: usize,
@@ -57,7 +57,7 @@ impl Page {
         }
     }
 
-    /// A page with nothing on it, and with room for so many bytes.
+    /// An empty page, with room for this number of bytes.
     pub(crate) fn with_room(alloc: Global, room: usize) -> Result<Page, AllocError>
         ensures { IfOk result (λ page. page ≡ []) }
     {
@@ -67,7 +67,7 @@ impl Page {
         })
     }
 
-    /// Whether the page, with its insertions, takes so many bytes.
+    /// Whether the page, with its insertions, takes at least this number of bytes.
     #[inline(always)]
     pub(crate) fn takes_at_least(&self, bytes: usize) -> bool {
         let insertions = self.insertions.len().saturating_mul(INSERTION);
@@ -99,7 +99,7 @@ impl Page {
         settled(pushed, &mut self.insertions)
     }
 
-    /// Adds the indentation of a line with so many nodes round it.
+    /// Adds the indentation of a line inside `depth` nodes.
     pub(crate) fn push_margin(&mut self, depth: usize) -> Result<(), AllocError>
         ensures written { OnOk result (self.new ≡ self.old ++ margin depth) }
         ensures small { OnOk result (depth < 2 ^ 63) }
@@ -157,8 +157,8 @@ impl Page {
     }
 }
 
-/// Hands on whether something was put to the text of a page. Where it wasn't, a beginning of it may have
-/// been, and no insertion stays, since its place isn't known to lie in the text.
+/// Returns whether something was added to the text of a page. If it wasn't, a prefix of it may have been, and
+/// no insertion stays, since its place isn't known to be in the text.
 #[inline(always)]
 fn settled(
     pushed: Result<(), AllocError>,

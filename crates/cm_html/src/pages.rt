@@ -1,4 +1,4 @@
-//! A text in pages, each of which is a piece of memory by itself.
+//! A text in pages, each with its own memory.
 //!
 //! A page is as long as a part of a raw tree, so that the HTML can go into memory that the parts had.
 ghost use Rattle.std.specs.Prelude.{◌≡◌, ◌+◌, ◌-◌, ◌^◌, ◌<◌, [], ◌++◌};
@@ -30,8 +30,8 @@ const ROOM: usize = 40_960;
 /// copied in less time than it is looked for.
 const INSERTED: usize = 64;
 
-/// A text that is made from its front to its end: HTML, or a listing. A long text that has other owners is
-/// held once, as it is written, and inserted wherever it stands.
+/// A text that is made from its start to its end: HTML, or a listing. A long text that has other owners is
+/// held once, as it is written, and inserted wherever it occurs.
 ///
 /// Contracts see it as its bytes.
 #[derive(Drop)]
@@ -99,8 +99,8 @@ impl Pages {
     ///
     /// # Errors
     ///
-    /// `AllocError` where a request for memory was refused; what stands there then isn't said. So it is with
-    /// all calls that add to the text.
+    /// `AllocError` if a request for memory was refused; the text is unspecified then. The same holds for all
+    /// calls that add to the text.
     #[inline(always)]
     pub fn push_str(&mut self, more: &str) -> Result<(), AllocError>
         ensures { OnOk result (self.new ≡ self.old ++ more.now) }
@@ -135,7 +135,7 @@ impl Pages {
         self.last.push_number(number)
     }
 
-    /// Adds the indentation of a line with so many nodes round it.
+    /// Adds the indentation of a line inside `depth` nodes.
     pub(crate) fn push_margin(&mut self, depth: usize) -> Result<(), AllocError>
         ensures written { OnOk result (self.new ≡ self.old ++ margin depth) }
         ensures small { OnOk result (depth < 2 ^ 63) }
@@ -159,7 +159,7 @@ impl Pages {
         self.last.push_insertion(inserted)
     }
 
-    /// Goes on with a new page, if the last one is full.
+    /// Continues on a new page, if the last one is full.
     ///
     /// # Errors
     ///
@@ -174,7 +174,7 @@ impl Pages {
         Ok(())
     }
 
-    /// Puts the last page behind the full ones, and goes on with a new one.
+    /// Adds the last page to the full ones, and continues on a new one.
     fn lay_aside(&mut self) -> Result<(), AllocError>
         ensures { OnOk result (self.new ≡ self.old) }
     {
@@ -237,7 +237,7 @@ fn len_of(full: &[Page], last: &Page) -> Option<usize>
     full_len(full)?.checked_add(last.len()?)
 }
 
-/// A copy of the full pages, and of the last one behind them.
+/// A copy of the full pages, followed by the last one.
 fn copied(alloc: Global, full: &[Page], last: &Page) -> Result<String, AllocError>
     ensures { IfOk result (λ text. string_bytes text ≡ concat full.now ++ last.now) }
 {

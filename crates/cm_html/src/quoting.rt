@@ -8,8 +8,8 @@ use crate::search::Quoted;
 use cm_text::{Replaced, push_replaced};
 use std::alloc::AllocError;
 
-/// Writes the indentation of a line with so many nodes round it. What a `String` holds keeps their
-/// number small.
+/// Writes the indentation of a line inside `depth` nodes. The length limit of a `String` keeps their number
+/// small.
 pub(crate) fn push_margin(out: &mut String, depth: usize) -> Result<(), AllocError>
     ensures written { OnOk result (string_bytes out.new ≡ string_bytes out.old ++ margin depth) }
     ensures small { OnOk result (depth < 2 ^ 63) }

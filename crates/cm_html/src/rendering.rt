@@ -21,7 +21,7 @@ pub fn html(alloc: Global, doc: &Doc) -> Result<String, NoMemory>
     Ok(out.into_string()?)
 }
 
-/// Adds the HTML of blocks that stand in no others, and turns the page between them.
+/// Adds the HTML of the blocks of the top level, and turns the page between them.
 fn push_parted(out: &mut Pages, blocks: &[Block]) -> Result<(), AllocError>
     ensures { OnOk result (out.new ≡ out.old ++ html_of blocks.now) }
 {

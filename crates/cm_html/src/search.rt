@@ -6,8 +6,8 @@ ghost use Rattle.cm_html.specs.steps.Bytes.{is_escaped, is_changed, has_escape};
 use cm_text::{ByteKind, next_of};
 use std::simd::prelude::*;
 
-/// The bytes of the kind, each at the place of its last four bits, which no two of them share. A byte that
-/// isn't at its own place stands for none.
+/// The bytes of the kind, each at the position of its last four bits, which no two of them share. A byte that
+/// isn't at its own position is none of them.
 const ESCAPED: [u8; 16] = [1, 0, b'"', 0, 0, 0, b'&', 0, 0, 0, 0, 0, b'<', 0, b'>', 0];
 
 /// The bytes that are written as references.
@@ -50,8 +50,8 @@ impl ByteKind for Quoted {
     }
 }
 
-/// By the last four bits of a byte, and by the four before, a bit for each of the other four with which it is
-/// plain: one that a destination keeps and that isn't `&`.
+/// For the last four bits of a byte, and for the four before, one bit for each value of the other four with
+/// which it is plain: one that a destination keeps and that isn't `&`.
 const PLAIN_LOW: [u8; 16] = [
     184, 252, 248, 252, 252, 252, 248, 252, 252, 252, 252, 92, 84, 92, 212, 124,
 ];

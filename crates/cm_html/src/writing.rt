@@ -6,7 +6,7 @@ ghost use Rattle.cm_html.specs.steps.Pages.{WritesMore};
 use crate::page::Page;
 use cm_text::{Sink, WriteFailed, write_all};
 
-/// Writes a piece behind so many bytes, and answers how many there are then.
+/// Writes a piece after `written` bytes. Returns the number of bytes written then.
 fn write_piece<W: Sink>(sink: &mut W, written: usize, piece: &[u8]) -> Result<usize, WriteFailed>
     requires failed { W.failed sink.old < 2 ^ 64 - 1 }
     requires counted { written + length piece.now < 2 ^ 64 }
@@ -81,7 +81,7 @@ fn write_full<W: Sink>(sink: &mut W, pages: &[Page]) -> Result<usize, WriteFaile
     Ok(written)
 }
 
-/// Writes the full pages, and the last one behind them.
+/// Writes the full pages, followed by the last one.
 pub(crate) fn write_pages<W: Sink>(
     sink: &mut W,
     full: &[Page],

@@ -13,7 +13,7 @@ use crate::tokens::Token;
 use cm_html::Pages;
 use std::alloc::AllocError;
 
-/// Adds the part of an inline that stands by itself in the source.
+/// Adds the part of an inline that contains no other.
 fn push_standalone(html: &mut Pages, source: &str, standalone: Standalone) -> Result<(), AllocError>
     requires { IsWithin source.now standalone }
     ensures { OnOk result (html.new ≡ html.old ++ escape (standalone_plain source.now standalone)) }

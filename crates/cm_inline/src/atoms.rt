@@ -1,4 +1,4 @@
-//! The atoms of a leaf's source: what begins at a place (CommonMark 0.31.2, chapter 6).
+//! The atoms of a leaf's source: what starts at a place (CommonMark 0.31.2, chapter 6).
 ghost use Rattle.std.specs.Prelude.{◌≡◌, ◌≢◌, ◌==◌, ◌+◌, ◌<◌, ◌≤◌, ◌^◌, ◌&&◌, ◌||◌, [], if◌then◌else◌, not};
 ghost use Rattle.std.specs.Prelude.{false, length, drop, slice_index, nat_le, IfOk, OnOk, IfSome, IsUtf8};
 ghost use Rattle.cm_inline.specs.steps.Prelude.{IsCharBoundary, raw_html, reading_of, whole_of, Rules, Knows};
@@ -19,8 +19,8 @@ use cm_scan::{after_run, autolink_by, code_span, is_next, raw_html_by, trim_end_
 use cm_text::{Rules, is_ascii_punct, next_markup, reference_at};
 use std::alloc::{AllocError, Global};
 
-/// The place where the text ends that goes on from a place: that of the next byte with which something else
-/// can begin, or that of the spaces before a line feed.
+/// Where the text that continues from a place ends: at the next byte with which something else can start, or
+/// at the spaces before a line feed.
 pub(crate) fn text_end(source: &str, at: usize) -> usize
     requires { IsCharBoundary source.now at }
     ensures { IsTextTo source.now at result }
@@ -32,7 +32,7 @@ pub(crate) fn text_end(source: &str, at: usize) -> usize
     end
 }
 
-/// Reads what begins at a place where no `]` stands, and answers where it ends.
+/// Reads what starts at a place where no `]` is, and returns where it ends.
 #[inline(always)]
 pub(crate) fn read_atom(
     alloc: Global,
@@ -90,7 +90,7 @@ pub(crate) fn read_atom(
     }
 }
 
-/// Puts an atom that was read, and answers where it ends.
+/// Adds an atom that was read, and returns where it ends.
 #[inline(always)]
 fn put(
     rules: Rules,
@@ -272,7 +272,7 @@ fn line_feed(source: &str, at: usize) -> (Token, usize)
     (Token::Whole(Standalone::Soft), at + 1)
 }
 
-/// The line break behind so many spaces.
+/// The line break after this number of spaces.
 fn break_behind(spaces: usize) -> Standalone
     ensures { result ≡ (if nat_le 2 spaces then Hard else Soft) }
 {
@@ -294,8 +294,8 @@ fn exclamation_mark(source: &str, at: usize) -> (Token, usize)
     text(at, at + 1)
 }
 
-/// Whether so many of a marker are a delimiter run: tildes are one only if
-/// strikethrough is on and there are two.
+/// Whether `count` of a marker are a delimiter run: tildes are one only if strikethrough is on and there are
+/// two.
 fn is_run(rules: Rules, marker: Marker, count: usize) -> bool
     ensures { result ≡ (not (byte_of marker == tilde) || rules.strike && count == 2) }
 {

@@ -20,7 +20,7 @@ use cm_text::{NoMemory, Rules};
 use cm_tree::{Definitions, LinkTarget};
 use std::alloc::{AllocError, Global};
 
-/// A `[` or `![` that nothing was made of yet: the number of its node, and the place behind it.
+/// A `[` or `![` that nothing was made of yet: the number of its node, and the place after it.
 #[derive(Clone, Copy, Debug)]
 pub(crate) struct Bracket {
     pub(crate) node: usize,
@@ -35,8 +35,8 @@ pub(crate) struct Reader {
     pub(crate) nodes: Nodes,
     /// The brackets among the nodes that nothing was made of yet.
     pub(crate) brackets: Vec<Bracket>,
-    /// How many nodes there are up to the last one that is a link or holds
-    /// one. A `[` with such a node behind it makes no link.
+    /// The number of nodes up to the last one that is or contains a link. A `[` followed by such a node makes
+    /// no link.
     pub(crate) links_end: usize,
     pub(crate) openers: Openers,
     pub(crate) ends: MissingEnds,
@@ -54,7 +54,7 @@ impl Reader {
         }
     }
 
-    /// Lets go of what was read, and begins with another source in the same memory.
+    /// Discards what was read, and starts with another source in the same memory.
     pub(crate) fn restart(&mut self, source: &str)
         requires { length source.now < 2 ^ 32 }
         ensures read { IsReadTo source.now 0 self.new }
@@ -139,7 +139,7 @@ impl Reader {
         }
     }
 
-    /// Whether a link stands behind a bracket, by itself or in an image.
+    /// Whether a link follows a bracket, on its own or in an image.
     fn has_link_behind(&self, bracket: Bracket) -> bool
         ensures { result ≡ nat_lt bracket.node self.now.links_end }
     {
@@ -177,7 +177,7 @@ impl Reader {
         link_end(alloc, rules, source, definitions, bracket.behind, at)
     }
 
-    /// Makes the link or the image of a bracket and all that stands behind it.
+    /// Makes the link or the image of a bracket and of all that follows it.
     fn make_link(
         &mut self,
         alloc: Global,

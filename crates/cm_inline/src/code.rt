@@ -27,8 +27,8 @@ fn are_spaces(bytes: &[u8]) -> bool
     bytes.iter().all(|b| is_space(*b))
 }
 
-/// The places between which the content of a code span stands, by those of its backtick strings: without a
-/// space at each end, where there are both and something else stands between them.
+/// The range of the content of a code span, from that between its backtick strings: without a space at each
+/// end, if there are both and something else is between them.
 pub(crate) fn content_between(source: &str, from: usize, to: usize) -> (usize, usize)
     requires { IsBetween source.now from to }
     ensures stripped { one_line (slice_range source.now result.0 result.1)

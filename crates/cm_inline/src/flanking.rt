@@ -10,17 +10,17 @@ use crate::delimiter_runs::{DelimiterRun, Marker};
 use cm_scan::{first_character, last_character};
 use cm_text::{Rules, is_punct_by, is_space};
 
-/// How a run sees the character beside it.
+/// The character next to a run, as it matters to the run.
 #[derive(Clone, Copy, Debug)]
 pub(crate) enum Neighbour {
-    /// Unicode whitespace, or the beginning or the end of the leaf.
+    /// Unicode whitespace, or the start or the end of the leaf.
     Whitespace,
     Punctuation,
     Other,
 }
 
 impl Neighbour {
-    /// The character that stands beside a run, if one does.
+    /// The character next to a run, if there is one.
     #[tactic(auto, unfolding(cm_scan::specs::inlines::Delimiters::neighbour))]
     fn of(rules: Rules, beside: Option<char>) -> Neighbour
         ensures { neighbour_of result ≡ neighbour rules beside }
@@ -55,7 +55,7 @@ fn may_open(marker: Marker, before: Neighbour, after: Neighbour) -> bool
             || matches!(before, Neighbour::Punctuation))
 }
 
-/// The delimiter run that stands between two places.
+/// The delimiter run between two places.
 #[tactic(auto, unfolding(cm_scan::specs::inlines::Atoms::run_between))]
 #[inline(always)]
 pub(crate) fn run_between(

@@ -30,7 +30,7 @@ pub(crate) struct Making<'a> {
     pub(crate) target: LinkTarget<'a>,
 }
 
-/// Emphasis, a link or an image, and the places among the tokens inside of what stands in it.
+/// Emphasis, a link or an image, and the range of its content among the tokens inside.
 #[derive(Clone, Copy)]
 pub(crate) struct Group<'a> {
     pub(crate) making: Making<'a>,
@@ -47,7 +47,7 @@ struct PlacedGroup {
     to: usize,
 }
 
-/// The groups of a leaf, of which none owns memory, but shares in that of a long target.
+/// The groups of a leaf. None owns memory, but it may share that of a long target.
 #[derive(Drop)]
 pub(crate) struct Groups {
     groups: Vec<PlacedGroup>,
@@ -96,7 +96,7 @@ impl Groups {
         }
     }
 
-    /// Lets go of all groups, and keeps their memory.
+    /// Removes all groups, and keeps their memory.
     pub(crate) fn clear(&mut self)
         ensures { self.new ≡ [] }
     {
@@ -111,7 +111,7 @@ impl Groups {
         self.groups.len()
     }
 
-    /// Adds a group that leads there, and in which the tokens between these places stand.
+    /// Adds a group with this target, which contains the tokens in this range.
     #[inline(always)]
     pub(crate) fn push(
         &mut self,

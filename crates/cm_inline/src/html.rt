@@ -55,7 +55,7 @@ fn push_autolink(
     html.push_str("</a>")
 }
 
-/// Adds the HTML of an inline that stands by itself in the source.
+/// Adds the HTML of an inline that contains no other.
 #[inline(always)]
 fn push_standalone(
     alloc: Global,
@@ -149,8 +149,7 @@ fn push_text(html: &mut Pages, source: &str, from: usize, to: usize) -> Result<(
     html.push_escaped(&source[from..to])
 }
 
-/// Adds the HTML of a token. That of a piece of the source waits; its places
-/// are answered, or those of no text.
+/// Adds the HTML of a token. That of a piece of the source waits; its range is returned, or that of no text.
 #[cycle(html)]
 fn push_apart(
     alloc: Global,

@@ -14,7 +14,8 @@ use crate::tokens::{Token, push_texts};
 use cm_tree::{BoxedText, Inline, Items, LinkTarget};
 use std::alloc::AllocError;
 
-/// How many inlines come of the tokens, where texts side by side are one: as many as there is room for.
+/// The number of inlines that the tokens become, where adjacent texts are one: for this many there is to be
+/// room.
 fn count_inlines(tokens: &[Token]) -> usize {
     let mut count: usize = 0;
     let mut in_text = false;

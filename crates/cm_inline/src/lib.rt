@@ -1,6 +1,6 @@
 //! The inlines of a leaf (CommonMark 0.31.2, chapter 6).
 //!
-//! Begin with [`inlines`], or [`inlines_by`] for other rules. [`InlineReader::inlines`] reads one leaf after
+//! Start with [`inlines`], or [`inlines_by`] for other rules. [`InlineReader::inlines`] reads one leaf after
 //! another in the same memory. The rest is what the crates above use.
 //!
 //! ```

@@ -17,7 +17,7 @@ use cm_tree::{Definitions, LinkTarget};
 use std::alloc::Global;
 use std::borrow::CowStr;
 
-/// Where a link or an image leads, and its title: as they are written behind it, or a definition's.
+/// The target of a link or an image: as it is written after it, or a definition's.
 #[derive(Drop)]
 pub(crate) enum FoundTarget<'a> {
     Inline {
@@ -34,8 +34,9 @@ pub(crate) struct LinkEnd<'a> {
     pub(crate) end: usize,
 }
 
-/// What follows the `]` at a place, whose opener ends at `behind`: where a link or an image leads. An inline
-/// link's end goes before a reference (6.3 Links). Neither is one where the rules don't follow its address.
+/// What follows the `]` at a place, whose opener ends at `behind`: the target of a link or an image. The end
+/// of an inline link takes precedence over a reference (6.3 Links). There is neither if the rules don't
+/// follow its address.
 pub(crate) fn link_end<'a>(
     alloc: Global,
     rules: Rules,
@@ -57,7 +58,7 @@ pub(crate) fn link_end<'a>(
     reference_end(alloc, rules, source, definitions, behind, at)
 }
 
-/// Whether the rules follow the address to which a link or an image leads.
+/// Whether the rules follow the address of a link or an image.
 #[inline(always)]
 fn leads_on(rules: Rules, dest: &str) -> bool
     ensures { result ≡ is_followed rules dest.now }
@@ -88,7 +89,7 @@ fn inline_end<'a>(
     }
 }
 
-/// What stands behind a destination: a title that a gap parts from it, or none, and the end.
+/// What follows a destination: a title that a gap separates from it, or none, and the end.
 fn after_destination<'a>(
     alloc: Global,
     rules: Rules,
@@ -208,7 +209,7 @@ fn label_between(source: &str, behind: usize, at: usize) -> Option<&str>
     Some(between)
 }
 
-/// The place behind the `[]` of a collapsed reference, or the place itself.
+/// The place after the `[]` of a collapsed reference, or the place itself.
 fn after_brackets(source: &str, at: usize) -> usize
     requires { IsCharBoundary source.now at }
     ensures rest { drop result source.now ≡ behind_brackets (drop at source.now) }

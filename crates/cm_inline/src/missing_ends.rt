@@ -13,8 +13,8 @@ use memchr::memchr;
 use std::alloc::{AllocError, Global};
 use std::collections::BTreeMap;
 
-/// A form of raw HTML that goes on to the first place of a word, however far that is (CommonMark 0.31.2, 6.6
-/// Raw HTML).
+/// A form of raw HTML that ends at the first place of a word, however far that is (CommonMark 0.31.2, 6.6 Raw
+/// HTML).
 #[derive(Clone, Copy, Debug, PartialEq, Eq)]
 pub(crate) enum Form {
     /// From `<!--` to `-->`. By the older rules a comment is over, or is none, at the next `--`, so that
@@ -29,7 +29,7 @@ pub(crate) enum Form {
 }
 
 impl Form {
-    /// The word with which it ends.
+    /// The word that ends it.
     fn end(self) -> &'static str
         ensures { result.now ≡ end_of self }
     {
@@ -42,7 +42,7 @@ impl Form {
     }
 }
 
-/// The form that begins at a place, if it can be one of these.
+/// The form that starts at a place, if it can be one of these.
 pub(crate) fn form_at(rules: Rules, source: &str, at: usize) -> Option<Form>
     requires { at ≤ length source.now }
     ensures { IfSome result (λ form. (rest : List ℕ) × (drop at source.now ≡ start_of form ++ rest)) }
@@ -60,8 +60,8 @@ pub(crate) fn form_at(rules: Rules, source: &str, at: usize) -> Option<Form>
     text.starts_with(b"<!").then_some(Form::Declaration)
 }
 
-/// From where on the end of each form stands nowhere in a source, as far as that is known, and where the last
-/// backtick strings end, once one has been looked for in vain.
+/// From where on a source has no end of each form, as far as that is known, and where the last backtick
+/// strings end, once a search for one has failed.
 #[derive(Drop)]
 pub(crate) struct MissingEnds {
     comment: usize,
@@ -115,7 +115,7 @@ impl MissingEnds {
         }
     }
 
-    /// Whether it is known that no backtick string of so many stands behind the one which ends at a place.
+    /// Whether it is known that no backtick string of this length follows the one that ends at a place.
     pub(crate) fn is_last_backticks(&self, source: &str, count: usize, end: usize) -> bool
         requires { Knows source.now self.now }
         ensures { result ≡ true → NoneFrom source.now count end }
@@ -145,7 +145,7 @@ impl MissingEnds {
     }
 }
 
-/// The place behind the last backtick string of each length.
+/// The place after the last backtick string of each length.
 fn last_backticks(alloc: Global, source: &str) -> Result<BTreeMap<usize, usize>, AllocError>
     ensures { IfOk result (λ last. AreLast source.now last) }
 {

@@ -12,17 +12,17 @@ use crate::tokens::{Token, depth_of_all, has_closer};
 use std::alloc::{AllocError, Global};
 use std::marker::Model;
 
-/// The nodes of a leaf. Each group holds tokens that were moved behind those of the groups before it, so
-/// nothing is made twice and no node owns memory.
+/// The nodes of a leaf. Each group holds tokens that were moved to the end of those of the groups before it,
+/// so nothing is made twice and no node owns memory.
 #[derive(Drop)]
 pub(crate) struct Nodes {
     /// The tokens up to those that wait to be paired.
     before: Vec<Token>,
-    /// Those that wait, behind others that don't any more.
+    /// Those that wait, after others that no longer do.
     rest: Vec<Token>,
     /// How many those are.
     passed: usize,
-    /// What stands in groups.
+    /// The contents of groups.
     inside: Vec<Token>,
     groups: Groups,
 }
@@ -60,7 +60,7 @@ impl Nodes {
         }
     }
 
-    /// Lets go of all nodes, and keeps their memory.
+    /// Removes all nodes, and keeps their memory.
     pub(crate) fn clear(&mut self)
         ensures nodes { nodes_in self.new ≡ [] }
         ensures inside { self.new.inside ≡ [] }
@@ -80,7 +80,7 @@ impl Nodes {
         &self.before
     }
 
-    /// The tokens that stand in groups.
+    /// The tokens inside groups.
     pub(crate) fn inside(&self) -> &[Token]
         ensures { result.now ≡ self.now.inside }
     {
@@ -144,7 +144,7 @@ impl Nodes {
         self.groups.len() >= limit && depth_of_all(&self.before) > limit
     }
 
-    /// How deep the inlines among the nodes behind one nest.
+    /// How deep the inlines among the nodes after one nest.
     pub(crate) fn depth_behind(&self, place: usize) -> usize
         requires { place < length (nodes_in self.now) }
         ensures { result ≡ nodes_depth (drop (suc place) (nodes_in self.now)) }
@@ -166,7 +166,7 @@ impl Nodes {
         Ok(())
     }
 
-    /// Takes the nodes that wait, up to the next run, which is answered.
+    /// Takes the nodes that wait, up to the next run, and returns that.
     pub(crate) fn pass(&mut self) -> Result<Option<DelimiterRun>, AllocError>
         ensures takes { IfOk result (λ run. Takes self.old self.new run) }
         ensures inside { self.new.inside ≡ self.old.inside }
@@ -188,7 +188,7 @@ impl Nodes {
         Ok(None)
     }
 
-    /// Makes a group of all nodes behind one, in the place of which what is left of it stands then.
+    /// Makes a group of all nodes after one, and replaces that with what is left of it.
     #[inline(always)]
     pub(crate) fn wrap(
         &mut self,

@@ -59,7 +59,7 @@ pub(crate) fn begin(
     Ok(place)
 }
 
-/// The nearest opener of a closer, with all that stands between them taken out.
+/// Returns the nearest opener of a closer, and removes all runs between them.
 pub(crate) fn take_opener(
     openers: &mut Openers,
     closer: Place,
@@ -102,7 +102,7 @@ pub(crate) fn finish(openers: &mut Openers, closer: Place, run: DelimiterRun, it
     }
 }
 
-/// Takes out a closer of which nothing is left.
+/// Removes a closer of which nothing is left.
 pub(crate) fn drop_closer(openers: &mut Openers, closer: Place)
     requires there { is_listed closer openers.old.list.entries ≡ true }
     ensures { Drops openers.old openers.new closer }
@@ -110,7 +110,7 @@ pub(crate) fn drop_closer(openers: &mut Openers, closer: Place)
     openers.list.remove(closer);
 }
 
-/// Takes out what stands between an entry and the last one.
+/// Removes what is between an entry and the last one.
 pub(crate) fn take_between(list: &mut DelimiterList, opener: Place, closer: Place)
     requires last { first_place list.old.entries ≡ Some closer }
     requires there { is_listed opener (after_place closer list.old.entries) ≡ true }

@@ -45,7 +45,7 @@ fn push_text(nodes: &mut Nodes, from: usize, to: usize) -> Result<(), AllocError
     Ok(())
 }
 
-/// Reads the text between two places and what follows it, and answers where that ends.
+/// Reads the text between two places and what follows it, and returns where that ends.
 #[inline(always)]
 fn read_on(
     alloc: Global,
@@ -116,10 +116,10 @@ fn read_all(
     Ok(())
 }
 
-/// Whether a source has none of the bytes with which anything but text can start, and isn't empty: then it is
-/// its one inline itself, by all rules and whatever is defined. It takes no memory.
+/// Whether a source is nonempty and has none of the bytes with which anything but text can start. Then it is
+/// its own only inline, with all rules and whatever is defined. It takes no memory.
 ///
-/// Of other sources that come to one text, such as `a!`, it answers false.
+/// For other sources that become one text, such as `a!`, it returns false.
 pub fn is_one_text(source: &str) -> bool
     ensures unmarked { result ≡ (not (is_empty source.now) && not (list_any is_marked source.now)) }
     ensures text { IsTrue result → (rules : Rules) (defined : Defined)
@@ -128,7 +128,7 @@ pub fn is_one_text(source: &str) -> bool
     !source.is_empty() && next_markup(source.as_bytes(), 0) == source.len()
 }
 
-/// The place where the text ends with which a source begins.
+/// Where the text at the start of a source ends.
 #[inline(always)]
 fn first_text_end(source: &str) -> usize
     ensures { IsTextTo source.now 0 result }
@@ -136,9 +136,9 @@ fn first_text_end(source: &str) -> usize
     text_end(source, 0)
 }
 
-/// Whether nothing but line feeds with no space before them parts the text of
-/// a source, which begins with text up to a place. What it writes is its own
-/// text then, since a soft line break is written as a line feed.
+/// Whether the text of a source is only separated by line feeds with no space before them. `first` is where
+/// the text at its start ends. Then it is written unchanged, since a soft line break is written as a line
+/// feed.
 fn is_all_text(source: &str, first: usize) -> bool
     requires { IsTextTo source.now 0 first }
     ensures { IsTrue result → IsAllText source.now }
@@ -177,8 +177,8 @@ impl InlineReader {
         }
     }
 
-    /// Reads the nodes of a source, of which nothing more is made then, from the text at its front on, and
-    /// answers how many openers were looked at.
+    /// Reads the nodes of a source, from the text at its start on, and settles them: nothing more is made of
+    /// them. Returns how many openers were looked at.
     fn read_nodes(
         &mut self,
         rules: Rules,
@@ -237,7 +237,7 @@ impl InlineReader {
         self.spare.one_text(source)
     }
 
-    /// Lets go of a block. The memory of its inlines serves for those that are read next.
+    /// Frees a block. The memory of its inlines is used for those that are read next.
     pub fn let_go(&mut self, block: Block) {
         self.spare.keep_block(block);
     }
@@ -247,7 +247,7 @@ impl InlineReader {
     ///
     /// # Errors
     ///
-    /// As `inlines`; a beginning of the HTML may have been added where a request for memory was refused.
+    /// As `inlines`; a prefix of the HTML may have been added if a request for memory was refused.
     pub fn push_html(
         &mut self,
         html: &mut Pages,

@@ -11,7 +11,7 @@ use cm_tree::{Block, BoxedText, Inline, Items, Text};
 use std::alloc::{AllocError, Global};
 use std::sync::Arc;
 
-/// Texts and lists of inlines that were let go of.
+/// Texts and lists of inlines that were given back.
 #[derive(Drop)]
 pub(crate) struct Spare {
     alloc: Global,
@@ -21,7 +21,7 @@ pub(crate) struct Spare {
 }
 
 impl Spare {
-    /// Nothing was let go of. It takes no memory.
+    /// Nothing. It takes no memory.
     pub(crate) fn new(alloc: Global) -> Spare {
         Spare {
             alloc,
@@ -50,7 +50,7 @@ impl Spare {
         }
     }
 
-    /// A string of no bytes in such memory, or else with room for so many.
+    /// An empty string in such memory, or else with room for this number of bytes.
     #[inline(always)]
     pub(crate) fn string_for(&mut self, size: usize) -> Result<String, AllocError>
         ensures { IfOk result (λ string. string_bytes string ≡ []) }

@@ -1,4 +1,4 @@
-//! Inlines in which no other inline nests: code spans, raw HTML, autolinks and breaks.
+//! Inlines that contain no other inline: code spans, raw HTML, autolinks and breaks.
 ghost use Rattle.std.specs.Prelude.{◌≡◌, ◌++◌, [], ◌∷◌, string_bytes, codes, if◌then◌else◌, IfOk};
 ghost use Rattle.cm_tree.specs.declared.tree.Inline.TheVariants as inlines;
 ghost use Rattle.cm_inline.specs.steps.Standalone.{inline_in, standalone_depth, IsBetween, IsWithin};
@@ -9,10 +9,10 @@ use crate::spare::Spare;
 use cm_tree::{BoxedText, Inline};
 use std::alloc::{AllocError, Global};
 
-/// An inline in which nothing nests but text, by the places between which its text stands.
+/// An inline that contains only text, by the range of its text.
 #[derive(Clone, Copy, Debug)]
 pub(crate) enum Standalone {
-    /// A code span: what stands between its backtick strings, without the spaces that are stripped.
+    /// A code span: what is between its backtick strings, without the spaces that are stripped.
     Code {
         from: u32,
         to: u32,
@@ -22,7 +22,7 @@ pub(crate) enum Standalone {
         from: u32,
         to: u32,
     },
-    /// An autolink: whether it is an e-mail address, and what stands between `<` and `>`.
+    /// An autolink: whether it is an e-mail address, and what is between `<` and `>`.
     Autolink {
         is_address: bool,
         from: u32,

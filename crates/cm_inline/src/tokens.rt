@@ -33,9 +33,9 @@ pub(crate) enum Token {
         from: u32,
         to: u32,
     },
-    /// The characters for which a reference stands.
+    /// The characters of a reference.
     Characters(Chars),
-    /// An inline that stands by itself in the source.
+    /// An inline that contains no other.
     Whole(Standalone),
     /// Emphasis, a link or an image by the number of its group, how deep it nests, and whether it is a link
     /// that a `]` made, or an image that holds one.
@@ -46,7 +46,7 @@ pub(crate) enum Token {
     },
     /// What is left of a delimiter run.
     Run(DelimiterRun),
-    /// `[` or `![`, and the place behind it.
+    /// `[` or `![`, and the place after it.
     Opener {
         image: bool,
         behind: u32,
@@ -54,7 +54,7 @@ pub(crate) enum Token {
 }
 
 impl Token {
-    /// A group by its number. `AllocError` is answered where a number needs more than 32 bits.
+    /// A group by its number. `AllocError` if a number needs more than 32 bits.
     pub(crate) fn made(number: usize, depth: usize, holds_link: bool) -> Result<Token, AllocError>
         ensures { IfOk result (λ token. token ≡ Made number depth holds_link) }
     {
@@ -115,7 +115,7 @@ pub(crate) fn has_closer(tokens: &[Token]) -> bool
     tokens.iter().any(|token| token.is_closer())
 }
 
-/// About how many bytes of text the tokens begin with, and never fewer.
+/// About the number of bytes of the text at the start of the tokens, and never fewer.
 fn size_of_text(tokens: &[Token]) -> usize {
     let mut size: usize = 0;
     for token in tokens {
@@ -150,7 +150,7 @@ pub(crate) fn opener_text(image: bool) -> &'static str
     if image { "![" } else { "[" }
 }
 
-/// Adds the text of a token, and tells whether it is text.
+/// Adds the text of a token, and returns whether it is text.
 fn push_text_of(text: &mut String, source: &str, token: Token) -> Result<bool, AllocError>
     requires { IsPlaced source.now token }
     ensures told { IfOk result (λ told. told ≡ is_text (node_of [] token)) }
@@ -179,7 +179,7 @@ fn push_text_of(text: &mut String, source: &str, token: Token) -> Result<bool, A
     }
 }
 
-/// A string of no bytes in memory that is left, or else with room for the text with which the tokens begin.
+/// An empty string in memory that is left, or else with room for the text at the start of the tokens.
 fn string_for(spare: &mut Spare, tokens: &[Token]) -> Result<String, AllocError>
     ensures { IfOk result (λ string. string_bytes string ≡ []) }
 {
@@ -189,7 +189,7 @@ fn string_for(spare: &mut Spare, tokens: &[Token]) -> Result<String, AllocError>
     }
 }
 
-/// The text with which the tokens begin, in one piece, and how many of them it takes.
+/// The text at the start of the tokens, in one piece, and the number of its tokens.
 fn join(spare: &mut Spare, source: &str, tokens: &[Token]) -> Result<(Text, usize), AllocError>
     requires { ArePlaced source.now tokens.now }
     ensures text { IfOk result (λ joined. joined.0 ≡ text_in_front source.now (nodes_of [] tokens.now)) }
@@ -206,7 +206,7 @@ fn join(spare: &mut Spare, source: &str, tokens: &[Token]) -> Result<(Text, usiz
     Ok((Text::from(text), tokens.len()))
 }
 
-/// Adds the text with which the tokens begin, if there is one, and answers how many of them it takes.
+/// Adds the text at the start of the tokens, if there is one, and returns the number of its tokens.
 pub(crate) fn push_texts(
     spare: &mut Spare,
     source: &str,

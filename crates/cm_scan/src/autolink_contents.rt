@@ -1,4 +1,4 @@
-//! What stands between the angle brackets of an autolink (CommonMark 0.31.2, 6.5 Autolinks).
+//! What is between the angle brackets of an autolink (CommonMark 0.31.2, 6.5 Autolinks).
 ghost use Rattle.std.specs.Prelude.{◌≡◌, List, ℕ, ◌||◌, ◌==◌, option_map, IfSome};
 ghost use Rattle.std.specs.List.{list_all};
 ghost use Rattle.cm_scan.specs.Words.{is_letter_or_digit, skip};
@@ -52,7 +52,7 @@ fn is_letter_or_digit(b: u8) -> bool
     is_letter(b) || is_digit(b)
 }
 
-/// Whether a byte goes on with a scheme.
+/// Whether a byte continues a scheme.
 #[inline(always)]
 fn continues_scheme(b: u8) -> bool
     ensures { result ≡ continues_scheme b }
@@ -60,14 +60,14 @@ fn continues_scheme(b: u8) -> bool
     is_letter_or_digit(b) || b == b'+' || b == b'.' || b == b'-'
 }
 
-/// What is left behind the bytes that go on with a scheme.
+/// The bytes after those that continue a scheme.
 fn skip_scheme(bytes: &[u8]) -> &[u8]
     ensures { result.now ≡ skip continues_scheme bytes.now }
 {
     skip_while(bytes, continues_scheme)
 }
 
-/// Whether this is an absolute URI: a scheme of 2 to 32 characters, and a colon behind it.
+/// Whether this is an absolute URI: a scheme of 2 to 32 characters, followed by a colon.
 fn is_absolute(inside: &[u8]) -> bool
     ensures { result ≡ is_absolute inside.now }
 {
@@ -79,14 +79,14 @@ fn is_absolute(inside: &[u8]) -> bool
     is_letter(inside[0]) && is_next(rest, 0, b':')
 }
 
-/// Whether a byte may stand before the `@` of an e-mail address.
+/// Whether a byte may be before the `@` of an e-mail address.
 fn stands_in_address(b: u8) -> bool
     ensures { result ≡ stands_in_address b }
 {
     is_letter_or_digit(b) || b".!#$%&'*+/=?^_`{|}~-".contains(&b)
 }
 
-/// What is left behind the bytes that may stand before the `@` of an e-mail address.
+/// The bytes after those that may be before the `@` of an e-mail address.
 fn skip_address(bytes: &[u8]) -> &[u8]
     ensures { result.now ≡ skip stands_in_address bytes.now }
 {
@@ -141,7 +141,7 @@ fn has_host_bytes(label: &[u8]) -> bool
     label.iter().all(|b| is_host_byte(*b))
 }
 
-/// Whether a byte may stand in a label of a host.
+/// Whether a byte may be in a label of a host.
 #[inline(always)]
 fn is_host_byte(b: u8) -> bool
     ensures { result ≡ is_host_byte b }

@@ -14,8 +14,8 @@ use cm_text::{Rules, is_followed};
 /// The autolink at a place in a text, which is the boundary of a character, and the place after its `>`
 /// (CommonMark 0.31.2, 6.5 Autolinks). None where there is none.
 ///
-/// An absolute URI goes before an e-mail address. Nothing is read behind the first space,
-/// control character or `<` inside.
+/// An absolute URI takes precedence over an e-mail address. Nothing is read after the first space, control
+/// character or `<` inside.
 pub fn autolink<'a>(text: &'a str, at: usize) -> Option<(Autolink<'a>, usize)>
     requires { IsCharBoundary text.now at }
     ensures read { option_map (λ r. autolink_with r.0.is_address r.0.text.now (drop r.1 text.now)) result
@@ -69,7 +69,7 @@ fn in_angles<'a>(text: &'a str, at: usize) -> Option<(&'a str, usize)>
     Some((&text[at + 1..end], end + 1))
 }
 
-/// The place behind the bytes that may stand in an autolink.
+/// The place after the bytes that may be in an autolink.
 fn after_inside(bytes: &[u8], from: usize) -> usize
     requires { from ≤ length bytes.now }
     ensures front { slice_range bytes.now from result ≡ front_of is_inside (drop from bytes.now) }
@@ -83,7 +83,7 @@ fn after_inside(bytes: &[u8], from: usize) -> usize
     end
 }
 
-/// Whether a byte may stand in an autolink.
+/// Whether a byte may be in an autolink.
 #[inline(always)]
 fn is_inside(b: u8) -> bool
     ensures { result ≡ is_inside b }

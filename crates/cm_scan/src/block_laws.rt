@@ -1,4 +1,4 @@
-//! Laws of single blocks, with any lines behind them. Each is the contract of a public function with an empty
+//! Laws of single blocks, with any lines after them. Each is the contract of a public function with an empty
 //! body.
 ghost use Rattle.cm_scan.specs.laws.BlockLaws.{UnindentedLine, QuoteAndSpace, QuoteAlone, ItemAndSpace};
 ghost use Rattle.cm_scan.specs.laws.BlockLaws.{ItemAlone, RunUpToItsEnd, RunUpToItsUnderline};
@@ -20,7 +20,7 @@ pub fn content_behind_markers()
     ensures item_alone { ItemAlone }
 {}
 
-/// A run of text has the lines that go on with it, up to the one that ends or underlines it.
+/// A run of text has the lines that continue it, up to the one that ends or underlines it.
 pub fn lines_of_text()
     ensures end { RunUpToItsEnd }
     ensures underline { RunUpToItsUnderline }

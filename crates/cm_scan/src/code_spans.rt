@@ -12,9 +12,9 @@ use memchr::memchr;
 /// The code span at a place in a text, which is the boundary of a character: what is between its two backtick
 /// strings, as it is written, and the place after the second one (CommonMark 0.31.2, 6.1 Code spans).
 ///
-/// The backtick string there has as many backticks as stand in a row from that place on, and the other is the
-/// next one of just as many. Where there is none, no backtick string of as many further on has one either, so
-/// a caller has no need to look for the end of those.
+/// The first backtick string has as many backticks as there are in a row from that place on, and the other is
+/// the next one of the same length. If there is none, no backtick string of that length further on has one
+/// either, so a caller needn't search for their ends.
 pub fn code_span<'a>(text: &'a str, at: usize) -> Option<(&'a str, usize)>
     requires { IsCharBoundary text.now at }
     ensures read { reading_of text.now result ≡ spanned_as_written (drop at text.now) }
@@ -33,8 +33,8 @@ pub fn code_span<'a>(text: &'a str, at: usize) -> Option<(&'a str, usize)>
     Some((&text[start..close], end))
 }
 
-/// The places where the next run of just so many backticks begins and ends, from a place
-/// on. Backticks in front of the place don't count.
+/// Where the next run of exactly `count` backticks starts and ends, from a place on. Backticks before the
+/// place don't count.
 fn next_run(text: &str, from: usize, count: usize) -> Option<(usize, usize)>
     requires { IsCharBoundary text.now from }
     ensures read { run_at text.now from result ≡ up_to_run count false (drop from text.now) }

@@ -23,7 +23,7 @@ pub fn is_blank_next(text: &[u8], at: usize) -> bool
     at < text.len() && is_blank_byte(text[at])
 }
 
-/// The place behind the spaces and tabs.
+/// The place after the spaces and tabs.
 pub(crate) fn after_blanks(text: &[u8], at: usize) -> usize
     requires { at ≤ length text.now }
     ensures skipped { drop result text.now ≡ trim_start (drop at text.now) }
@@ -51,7 +51,7 @@ pub fn after_gap(text: &[u8], at: usize) -> usize
     end
 }
 
-/// The place behind the end of the line, where nothing but spaces and tabs stand before it.
+/// The place after the end of the line, if only spaces and tabs are before it.
 pub(crate) fn after_line(text: &[u8], at: usize) -> Option<usize>
     requires { at ≤ length text.now }
     ensures ended { option_map (λ end. drop end text.now) result ≡ after_line (drop at text.now) }

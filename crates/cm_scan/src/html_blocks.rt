@@ -51,7 +51,8 @@ fn is_at_word(word: &[u8], bytes: &[u8]) -> bool
     true
 }
 
-/// Whether a word stands somewhere, in any case. The word is in lower case and begins with no letter.
+/// Whether a word is anywhere in the bytes, in any case. The word is in lower case and doesn't start with a
+/// letter.
 fn holds_word(word: &[u8], bytes: &[u8]) -> bool
     requires some { 0 < length word.now }
     requires no_letter { is_letter (slice_index word.now 0) ≡ false }
@@ -203,7 +204,7 @@ fn is_at_tag_end(bytes: &[u8]) -> bool
     is_at_name_end(bytes) || bytes.starts_with(b"/>")
 }
 
-/// Whether a name and its end stand behind a `<`, in any case. The name is in lower case.
+/// Whether a name and its end follow a `<`, in any case. The name is in lower case.
 fn is_named_start(name: &str, behind: &[u8]) -> bool
     ensures { result ≡ is_named_start (lower (60 ∷ behind.now)) name.now }
 {
@@ -213,7 +214,7 @@ fn is_named_start(name: &str, behind: &[u8]) -> bool
     is_at_name_end(&behind[name.len()..])
 }
 
-/// Start condition 1, behind the `<`.
+/// Start condition 1, after the `<`.
 #[tactic(auto, unfolding(crate::specs::blocks::HtmlBlocks::is_raw_text_start))]
 fn is_raw_text_start(behind: &[u8]) -> bool
     ensures { result ≡ is_raw_text_start (60 ∷ behind.now) }
@@ -224,7 +225,7 @@ fn is_raw_text_start(behind: &[u8]) -> bool
         || is_named_start("textarea", behind)
 }
 
-/// Start condition 4, behind the `<`.
+/// Start condition 4, after the `<`.
 #[tactic(auto, using(crate::proofs::lemmas::blocks::HtmlStarts::declarations))]
 fn is_declaration_start(behind: &[u8]) -> bool
     ensures { result ≡ is_declaration_start (60 ∷ behind.now) }
@@ -241,7 +242,7 @@ fn is_declaration_start(behind: &[u8]) -> bool
     is_letter(c)
 }
 
-/// What stands behind a `/`, or else behind the `<` itself.
+/// What follows a `/`, or else the `<` itself.
 #[tactic(auto, unfolding(crate::specs::Words::after_word))]
 fn name_of_tag(behind: &[u8]) -> &[u8]
     ensures { Some result.now
@@ -256,7 +257,7 @@ fn name_of_tag(behind: &[u8]) -> &[u8]
     inside
 }
 
-/// Start condition 6, behind the `<`.
+/// Start condition 6, after the `<`.
 fn is_block_tag_start(rules: Rules, behind: &[u8]) -> bool
     ensures { result ≡ is_block_tag_start rules (60 ∷ behind.now) }
 {
@@ -266,7 +267,7 @@ fn is_block_tag_start(rules: Rules, behind: &[u8]) -> bool
     is_at_tag_end(tag.rest) && is_block_name(rules, tag.name)
 }
 
-/// Start condition 7, behind the `<`.
+/// Start condition 7, after the `<`.
 fn is_any_tag_start(behind: &[u8]) -> bool
     ensures { result ≡ is_any_tag_start (60 ∷ behind.now) }
 {
@@ -332,7 +333,7 @@ pub fn html_start_by(rules: Rules, text: &str, at: usize) -> Option<HtmlKind>
     None
 }
 
-/// Whether the closing tag of an element stands somewhere whose text is not markup.
+/// Whether the bytes contain the closing tag of an element whose text isn't markup.
 fn holds_raw_text_end(bytes: &[u8]) -> bool
     ensures { result
         ≡ list_any (λ name. holds_word (codes "</" ++ name ++ codes ">") (lower bytes.now)) raw_text_names }

@@ -48,8 +48,8 @@ pub fn raw_html_by<'a>(rules: Rules, text: &'a str, at: usize) -> Option<(&'a st
 
 /// Whether a text contains a word from a place on.
 ///
-/// Where it doesn't, it stands behind no later place either. So a caller that has found no `-->`, `?>`, `]]>`
-/// or `>` has no need to try the raw HTML further on which needs it for its end (`raw_html_needs_its_end`).
+/// If it doesn't, it contains the word from no later place on either. So a caller that has found no `-->`,
+/// `?>`, `]]>` or `>` needn't try raw HTML further on that needs it for its end (`raw_html_needs_its_end`).
 pub fn holds_from(text: &str, from: usize, word: &str) -> bool
     requires { from ≤ length text.now }
     ensures held { result ≡ holds_word word.now (drop from text.now) }
@@ -59,7 +59,7 @@ pub fn holds_from(text: &str, from: usize, word: &str) -> bool
     memmem::find(bytes_from(text, from), word.as_bytes()).is_some()
 }
 
-/// What is left behind raw HTML, where the rules have any.
+/// The bytes after raw HTML, if the rules have any.
 fn after_html_tag(rules: Rules, bytes: &[u8]) -> Option<&[u8]>
     ensures { left_of result ≡ html_tag rules bytes.now }
 {
@@ -76,7 +76,7 @@ fn after_html_tag(rules: Rules, bytes: &[u8]) -> Option<&[u8]>
     }
 }
 
-/// What is left behind a comment, a CDATA section or a declaration, behind its `<!`.
+/// The bytes after a comment, a CDATA section or a declaration, from after its `<!` on.
 fn after_mark(rules: Rules, inside: &[u8]) -> Option<&[u8]>
     ensures { left_of result ≡ html_tag rules (60 ∷ 33 ∷ inside.now) }
 {
@@ -89,7 +89,7 @@ fn after_mark(rules: Rules, inside: &[u8]) -> Option<&[u8]>
     after_declaration(inside)
 }
 
-/// What is left behind a comment, behind its `<!--`.
+/// The bytes after a comment, from after its `<!--` on.
 fn after_comment(older: bool, inside: &[u8]) -> Option<&[u8]>
     ensures { left_of result ≡ after_comment older inside.now }
 {
@@ -102,7 +102,7 @@ fn after_comment(older: bool, inside: &[u8]) -> Option<&[u8]>
     after_front(b">", after_end(b"--", inside)?)
 }
 
-/// What is left behind the end of a comment without a text.
+/// The bytes after the end of a comment without a text.
 fn short_end(inside: &[u8]) -> Option<&[u8]>
     ensures { left_of result ≡ short_end inside.now }
 {
@@ -112,7 +112,7 @@ fn short_end(inside: &[u8]) -> Option<&[u8]>
     after_front(b"->", inside)
 }
 
-/// What is left behind a declaration, behind its `<!`.
+/// The bytes after a declaration, from after its `<!` on.
 fn after_declaration(inside: &[u8]) -> Option<&[u8]>
     ensures { left_of result ≡ after_declaration inside.now }
 {
@@ -123,7 +123,7 @@ fn after_declaration(inside: &[u8]) -> Option<&[u8]>
     after_end(b">", behind)
 }
 
-/// What is left behind a word, where it comes next.
+/// The bytes after a word, if it comes next.
 #[inline(always)]
 fn after_front<'a>(word: &[u8], bytes: &'a [u8]) -> Option<&'a [u8]>
     ensures { left_of result ≡ after_word word.now bytes.now }
@@ -134,7 +134,7 @@ fn after_front<'a>(word: &[u8], bytes: &'a [u8]) -> Option<&'a [u8]>
     Some(&bytes[word.len()..])
 }
 
-/// What is left behind the first place where a word stands.
+/// The bytes after the first place of a word.
 fn after_end<'a>(word: &[u8], bytes: &'a [u8]) -> Option<&'a [u8]>
     requires some { 0 < length word.now }
     ensures { left_of result ≡ behind_word word.now bytes.now }

@@ -35,16 +35,15 @@ pub fn inline_examples()
     ensures nesting { NestingExamples }
 {}
 
-/// Each step leaves an end of its source, and reading goes on after the step as if the source started there:
-/// no bound and no place in the whole matters. At a `]` the step is that of brackets.
+/// Each step leaves an end of its source, and reading continues after the step as if the source started
+/// there: no bound and no place in the whole matters. At a `]` the step is that of brackets.
 pub fn reading_goes_on()
     ensures on { ReadingGoesOn }
     ensures end { StepLeavesAnEnd }
     ensures bracket { BracketStep }
 {}
 
-/// Each delimiter run has at least one character, and together they have at most as many as the source has
-/// bytes.
+/// Each delimiter run has at least one character, and together they have no more than the source has bytes.
 pub fn runs_are_few()
     ensures { RunsAreFew }
 {}
@@ -59,13 +58,13 @@ pub fn plain_is_itself()
     ensures line_break { SpacesAndLineFeed }
 {}
 
-/// However the texts among the items are cut, emphasis is the same, and reading goes on in the same way.
+/// However the texts among the items are cut, emphasis is the same, and reading continues in the same way.
 pub fn texts_in_pieces()
     ensures emphasis { TextsInPieces }
     ensures reading { ReadingInPieces }
 {}
 
-/// Repeated pairing makes what one pass from the left makes, in which each closer looks for its nearest
+/// Repeated pairing makes the same as one pass from the left in which each closer searches for its nearest
 /// opener.
 pub fn pairs_in_one_pass()
     ensures { PairsInOnePass }

@@ -7,8 +7,8 @@ ghost use Rattle.cm_scan.specs.laws.Looseness.{PartsHaveLines, LooseByOwners};
 ghost use Rattle.cm_scan.specs.laws.BlockExamples.{LeafExamples, ContainerExamples};
 ghost use Rattle.cm_scan.specs.laws.BlockExamples.{DefinitionExamples, DepthExamples, BoundExamples};
 
-/// The parts of a list of lines are given by the cases on its first line, in which the parts of fewer lines
-/// occur: nothing depends on the bound up to which the definition computes.
+/// The parts of a list of lines are given by the cases on its first line, which use the parts of fewer lines:
+/// nothing depends on the bound up to which the definition computes.
 #[tactic(auto, using(crate::proofs::lemmas::blocks::PartsByCases::all_cases))]
 pub fn parts_by_cases()
     ensures none { NoLines }

@@ -2,7 +2,7 @@
 //! Each scanner takes a text and a place in it. It returns what it read there and where that ends, or None.
 //! Only line feeds end lines in such a text: a carriage return is a control character like any other.
 //!
-//! Begin with the scanner of the form that you look for.
+//! Start with the scanner of the form that you need.
 //!
 //! - Lines: [`thematic`], [`atx`], [`underline`], [`fence`], [`fence_end`], [`html_start`],
 //!   [`html_end`], [`quote_marker`] and [`item_marker`].

@@ -56,7 +56,7 @@ pub fn thematic(text: &str, at: usize) -> Option<usize>
     Some(text.len())
 }
 
-/// Whether there is one of the marker or more from a place on, and only spaces and tabs behind them.
+/// Whether one or more of the marker are at a place, with only spaces and tabs after them.
 fn is_underline_of(marker: u8, text: &str, at: usize) -> bool
     requires { at ≤ length text.now }
     ensures { result ≡ is_underline_of marker (drop at text.now) }
@@ -85,11 +85,11 @@ pub fn underline(text: &str, at: usize) -> Option<(u8, usize)>
 pub struct AtxHeading<'a> {
     /// From 1 to 6.
     pub level: u8,
-    /// What it says, as it stands in the source.
+    /// Its content, as in the source.
     pub content: &'a str,
 }
 
-/// A content without its closing sequence of `#`, if a space or tab stands before that or nothing does.
+/// A content without its closing sequence of `#`, if a space or tab is before that or nothing is.
 fn without_closing(content: &str) -> &str
     ensures { result.now ≡ without_closing true content.now }
 {
@@ -136,11 +136,11 @@ pub struct FenceKind {
 pub struct OpeningFence<'a> {
     /// What it's made of.
     pub kind: FenceKind,
-    /// Its info string, as it stands in the source.
+    /// Its info string, as in the source.
     pub info: &'a str,
 }
 
-/// Three or more of the marker from a place on, and the info string behind them.
+/// Three or more of the marker from a place on, and the info string after them.
 fn fence_of(marker: u8, text: &str, at: usize) -> Option<OpeningFence<'_>>
     requires ascii { marker < 128 }
     requires boundary { IsCharBoundary text.now at }

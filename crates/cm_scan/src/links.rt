@@ -21,9 +21,9 @@ use cm_text::is_ascii_punct;
 /// The link label at a place in a text, which is the boundary of a character: what is between its
 /// brackets, as it is written, and the place after the right one (CommonMark 0.31.2, 6.3 Links).
 ///
-/// It ends at the first right bracket that no backslash escapes, no such left one stands before it, it has
-/// at most 999 characters, and not all of them are spaces, tabs and line feeds. No more than 999 characters
-/// are read where there is none.
+/// It ends at the first right bracket that no backslash escapes, no such left one is before that, it has at
+/// most 999 characters, and not all of them are spaces, tabs and line feeds. No more than 999 characters are
+/// read if there is none.
 #[inline(always)]
 pub fn label<'a>(text: &'a str, at: usize) -> Option<(&'a str, usize)>
     requires { IsCharBoundary text.now at }
@@ -77,7 +77,7 @@ pub fn destination<'a>(text: &'a str, at: usize) -> Option<(&'a str, usize)>
 /// quotation marks or parentheses, as it is written, and the place after them (CommonMark 0.31.2, 6.3
 /// Links).
 ///
-/// It has no blank line: nothing is read behind one.
+/// It has no blank line: nothing is read after one.
 pub fn title<'a>(text: &'a str, at: usize) -> Option<(&'a str, usize)>
     requires { IsCharBoundary text.now at }
     ensures read { reading_of text.now result ≡ title (drop at text.now) }
@@ -128,7 +128,7 @@ pub fn definition<'a>(text: &'a str, at: usize) -> Option<(LinkDefinition<'a>, u
     Some((LinkDefinition { label, dest, title }, end))
 }
 
-/// What stands behind a destination: a title and the end of its line, or the end of the line.
+/// What follows a destination: a title and the end of its line, or the end of the line.
 fn end_of_definition<'a>(text: &'a str, at: usize) -> Option<(&'a str, usize)>
     requires { IsCharBoundary text.now at }
     ensures read { (label dest : List ℕ) →
@@ -144,7 +144,7 @@ fn end_of_definition<'a>(text: &'a str, at: usize) -> Option<(&'a str, usize)>
     Some(("", end))
 }
 
-/// A title behind a destination, and the place after its line.
+/// A title after a destination, and the place after its line.
 fn titled<'a>(text: &'a str, at: usize) -> Option<(&'a str, usize)>
     requires { IsCharBoundary text.now at }
     ensures read { (label dest : List ℕ) →
@@ -162,7 +162,7 @@ fn titled<'a>(text: &'a str, at: usize) -> Option<(&'a str, usize)>
     Some((title, end))
 }
 
-/// The byte that ends the title which a byte begins.
+/// The byte that ends a title which starts with a byte.
 fn end_of_title(b: u8) -> Option<u8>
     ensures { result ≡ title_end b }
 {
@@ -198,18 +198,18 @@ fn enclosed<'a>(text: &'a str, at: usize, bounds: Bounds) -> Option<(&'a str, us
     Some((&text[at + 1..end], end + 1))
 }
 
-/// What a part of a text stands between, and what it may hold.
+/// What encloses a stretch of text, and what it may contain.
 #[derive(Clone, Copy, Drop)]
 struct Bounds {
-    /// The byte that begins the part, which may not stand in it unescaped.
+    /// The byte that starts it, which may not be in it unescaped.
     open: u8,
     /// The byte that ends it.
     close: u8,
     /// The characters that it has at most.
     most: usize,
-    /// Whether no line feed may stand in it.
+    /// Whether it contains no line feed.
     one_line: bool,
-    /// Whether blank lines may stand in it.
+    /// Whether it may contain blank lines.
     blank_lines: bool,
 }
 
@@ -261,7 +261,7 @@ static PLAIN: [u8; 256] = *b"\
     22222222222222222222222222222222\
     22222222222222222222222222222222";
 
-/// The place behind the bytes from a place on that mean nothing in a part, so many at most.
+/// The place after the bytes that mean nothing there, up to `most` of them.
 #[inline(always)]
 fn plain_end(text: &[u8], from: usize, most: usize) -> usize
     requires { from ≤ length text.now }
@@ -278,7 +278,7 @@ fn plain_end(text: &[u8], from: usize, most: usize) -> usize
     at
 }
 
-/// The destination that no `<` begins.
+/// A destination that doesn't start with `<`.
 fn bare<'a>(text: &'a str, at: usize) -> Option<(&'a str, usize)>
     requires { IsCharBoundary text.now at }
     ensures read { reading_of text.now result ≡ keep_if is_filled (bare_run 0 false (drop at text.now)) }
@@ -345,7 +345,7 @@ fn is_too_deep(b: u8, opened: usize, escaped: bool) -> bool
     !escaped && b == b'(' && opened == 32
 }
 
-/// How many parentheses are open behind a byte.
+/// How many parentheses are open after a byte.
 fn opened_by(b: u8, opened: usize, escaped: bool) -> usize
     requires { opened ≤ 32 }
     ensures { result ≡ (if escaped then opened else opened_by opened b) }
@@ -411,7 +411,7 @@ pub fn is_next(text: &[u8], at: usize, b: u8) -> bool
     text.get(at) == Some(&b)
 }
 
-/// Whether the byte there escapes the one behind it (2.4 Backslash escapes), where it isn't escaped itself.
+/// Whether the byte there escapes the next one (2.4 Backslash escapes), unless it is escaped itself.
 fn escapes_next(text: &[u8], at: usize, escaped: bool) -> bool
     requires { at < length text.now }
     ensures { result ≡ (not escaped && escapes_next (slice_index text.now at) (drop (suc at) text.now)) }

@@ -32,7 +32,7 @@ fn bullet_kind(b: u8) -> Option<ListKind>
     }
 }
 
-/// `.` or `)` behind a number.
+/// `.` or `)` after a number.
 fn ordered_kind(number: u32, b: u8) -> Option<ListKind>
     ensures { result ≡ ordered_kind number b }
 {
@@ -43,7 +43,7 @@ fn ordered_kind(number: u32, b: u8) -> Option<ListKind>
     }
 }
 
-/// The kind that a byte behind so many digits makes.
+/// The kind that a byte makes after this number of digits.
 fn kind_of(digits: usize, number: u32, b: u8) -> Option<ListKind>
     ensures { result ≡ (if digits == 0 then bullet_kind b else ordered_kind number b) }
 {
@@ -54,8 +54,8 @@ fn kind_of(digits: usize, number: u32, b: u8) -> Option<ListKind>
     }
 }
 
-/// The number at a place, of nine digits at most, and the place after it: that place itself where no
-/// digit stands there.
+/// The number at a place, of up to nine digits, and the place after it: that place itself if no digit is
+/// there.
 fn number_at(text: &str, at: usize) -> (u32, usize)
     requires { at ≤ length text.now }
     ensures begin { at ≤ result.1 }

@@ -14,10 +14,10 @@ use crate::gaps::{self, is_blank_byte, is_blank_next};
 use crate::words::{is_digit, skip_while};
 use memchr::memchr;
 
-/// A tag's name, and what is left behind the tag or the name.
+/// A tag's name, and the bytes after the tag or the name.
 #[derive(Clone, Copy, Debug, PartialEq, Eq)]
 pub(crate) struct Tag<'a> {
-    /// The name as it stands in the source.
+    /// The name as in the source.
     pub(crate) name: &'a [u8],
     /// What is left.
     pub(crate) rest: &'a [u8],
@@ -31,7 +31,7 @@ pub(crate) fn is_letter(b: u8) -> bool
     b.is_ascii_alphabetic()
 }
 
-/// Whether a byte goes on with a tag's name.
+/// Whether a byte continues a tag's name.
 #[inline(always)]
 fn continues_name(b: u8) -> bool
     ensures { result ≡ continues_name b }
@@ -39,7 +39,7 @@ fn continues_name(b: u8) -> bool
     is_letter(b) || is_digit(b) || b == b'-'
 }
 
-/// Whether a byte begins an attribute's name.
+/// Whether a byte starts an attribute's name.
 #[inline(always)]
 fn begins_attribute(b: u8) -> bool
     ensures { result ≡ begins_attribute b }
@@ -47,7 +47,7 @@ fn begins_attribute(b: u8) -> bool
     is_letter(b) || b == b'_' || b == b':'
 }
 
-/// Whether a byte goes on with an attribute's name.
+/// Whether a byte continues an attribute's name.
 #[inline(always)]
 fn continues_attribute(b: u8) -> bool
     ensures { result ≡ continues_attribute b }
@@ -55,7 +55,7 @@ fn continues_attribute(b: u8) -> bool
     begins_attribute(b) || is_digit(b) || b == b'.' || b == b'-'
 }
 
-/// Whether a byte may stand in an unquoted value.
+/// Whether a byte may be in an unquoted value.
 #[inline(always)]
 fn is_unquoted(b: u8) -> bool
     ensures { result ≡ is_unquoted b }
@@ -80,35 +80,35 @@ pub(crate) fn first_of(bytes: &[u8]) -> Option<(u8, &[u8])>
     Some((*b, &bytes[1..]))
 }
 
-/// What is left behind the bytes that go on with a tag's name.
+/// The bytes after those that continue a tag's name.
 fn skip_name(bytes: &[u8]) -> &[u8]
     ensures { result.now ≡ skip continues_name bytes.now }
 {
     skip_while(bytes, continues_name)
 }
 
-/// What is left behind the bytes that go on with an attribute's name.
+/// The bytes after those that continue an attribute's name.
 fn skip_attribute(bytes: &[u8]) -> &[u8]
     ensures { result.now ≡ skip continues_attribute bytes.now }
 {
     skip_while(bytes, continues_attribute)
 }
 
-/// What is left behind the bytes of an unquoted value.
+/// The bytes after those of an unquoted value.
 fn skip_unquoted(bytes: &[u8]) -> &[u8]
     ensures { result.now ≡ skip is_unquoted bytes.now }
 {
     skip_while(bytes, is_unquoted)
 }
 
-/// What is left behind spaces, tabs, and up to one line ending.
+/// The bytes after spaces, tabs, and up to one line ending.
 fn after_gap(bytes: &[u8]) -> &[u8]
     ensures { result.now ≡ after_gap bytes.now }
 {
     &bytes[gaps::after_gap(bytes, 0)..]
 }
 
-/// What is left behind a value that this quotation mark ends.
+/// The bytes after a value that ends with this quotation mark.
 fn after_quoted(quote: u8, bytes: &[u8]) -> Option<&[u8]>
     ensures { MatchOption result (after_quoted quote bytes.now ≡ None)
         (λ rest. after_quoted quote bytes.now ≡ Some rest.now) }
@@ -117,7 +117,7 @@ fn after_quoted(quote: u8, bytes: &[u8]) -> Option<&[u8]>
     Some(&bytes[at + 1..])
 }
 
-/// What is left behind the value of an attribute: in double quotes, in single quotes, or unquoted.
+/// The bytes after the value of an attribute: in double quotes, in single quotes, or unquoted.
 #[tactic(auto, unfolding(crate::specs::spans::Tags::after_value, crate::specs::spans::Tags::after_unquoted))]
 fn after_value(bytes: &[u8]) -> Option<&[u8]>
     ensures { MatchOption result (after_value bytes.now ≡ None)
@@ -133,7 +133,7 @@ fn after_value(bytes: &[u8]) -> Option<&[u8]>
     Some(skip_unquoted(behind))
 }
 
-/// What is left behind the value of an attribute with its `=`, where one comes next.
+/// The bytes after the value of an attribute with its `=`, if one comes next.
 #[tactic(auto, unfolding(crate::specs::spans::Tags::after_specification, crate::specs::Words::after_word))]
 fn after_specification(bytes: &[u8]) -> Option<&[u8]>
     ensures { MatchOption result (after_specification bytes.now ≡ None)
@@ -148,7 +148,7 @@ fn after_specification(bytes: &[u8]) -> Option<&[u8]>
     after_value(after_gap(behind))
 }
 
-/// What is left behind an attribute.
+/// The bytes after an attribute.
 #[tactic(auto, unfolding(crate::specs::spans::Tags::after_attribute))]
 fn after_attribute(bytes: &[u8]) -> Option<&[u8]>
     ensures { MatchOption result (after_attribute bytes.now ≡ None)
@@ -161,7 +161,7 @@ fn after_attribute(bytes: &[u8]) -> Option<&[u8]>
     after_specification(skip_attribute(behind))
 }
 
-/// What is left behind a `>`.
+/// The bytes after a `>`.
 #[tactic(auto, unfolding(crate::specs::Words::after_word))]
 fn after_bracket(bytes: &[u8]) -> Option<&[u8]>
     ensures { MatchOption result (after_word (codes ">") bytes.now ≡ None)
@@ -174,7 +174,7 @@ fn after_bracket(bytes: &[u8]) -> Option<&[u8]>
     Some(behind)
 }
 
-/// What is left behind the end of an open tag: `/` or not, and `>`.
+/// The bytes after the end of an open tag: `/` or not, and `>`.
 #[tactic(auto, unfolding(crate::specs::spans::Tags::after_tag_end, crate::specs::Words::after_word))]
 fn after_tag_end(bytes: &[u8]) -> Option<&[u8]>
     ensures { MatchOption result (after_tag_end bytes.now ≡ None)
@@ -187,7 +187,7 @@ fn after_tag_end(bytes: &[u8]) -> Option<&[u8]>
     after_bracket(behind)
 }
 
-/// What is left behind the attributes and the end of an open tag.
+/// The bytes after the attributes and the end of an open tag.
 fn after_attributes(bytes: &[u8]) -> Option<&[u8]>
     ensures { MatchOption result (after_attributes (suc (length bytes.now)) bytes.now ≡ None)
         (λ rest. after_attributes (suc (length bytes.now)) bytes.now ≡ Some rest.now) }
@@ -206,7 +206,7 @@ fn after_attributes(bytes: &[u8]) -> Option<&[u8]>
     None
 }
 
-/// The name of a tag, and what is left behind it.
+/// The name of a tag, and the bytes after it.
 pub(crate) fn tag_name(bytes: &[u8]) -> Option<Tag<'_>>
     ensures { MatchOption result (tag_name bytes.now ≡ None)
         (λ tag. tag_name bytes.now ≡ Some (record { name = tag.name.now; rest = tag.rest.now })) }
@@ -220,7 +220,7 @@ pub(crate) fn tag_name(bytes: &[u8]) -> Option<Tag<'_>>
     Some(Tag { name, rest })
 }
 
-/// An open tag behind its `<`.
+/// An open tag, after its `<`.
 pub(crate) fn open_tag(inside: &[u8]) -> Option<Tag<'_>>
     ensures { MatchOption result (open_tag (60 ∷ inside.now) ≡ None)
         (λ tag. open_tag (60 ∷ inside.now) ≡ Some (record { name = tag.name.now; rest = tag.rest.now })) }
@@ -233,7 +233,7 @@ pub(crate) fn open_tag(inside: &[u8]) -> Option<Tag<'_>>
     })
 }
 
-/// A closing tag behind its `</`.
+/// A closing tag, after its `</`.
 pub(crate) fn closing_tag(inside: &[u8]) -> Option<Tag<'_>>
     ensures { MatchOption result (closing_tag (60 ∷ 47 ∷ inside.now) ≡ None)
         (λ tag. closing_tag (60 ∷ 47 ∷ inside.now)

@@ -32,7 +32,7 @@ pub(crate) fn bytes_from(text: &str, at: usize) -> &[u8]
     &text.as_bytes()[at..]
 }
 
-/// What is left behind the bytes at the front that pass a test.
+/// The bytes after the first ones that pass a test.
 #[inline(always)]
 pub(crate) fn skip_while<F: Fn(u8) -> bool>(bytes: &[u8], test: F) -> &[u8]
     requires { F.IsAlwaysCallable test }

@@ -45,7 +45,7 @@ fn spell_heading(source: &mut SourceLines, level: u8, content: &[Inline]) -> Res
     source.end_line()
 }
 
-/// Spells a fence of so many backticks, with an info string.
+/// Spells a fence of `marks` backticks, with an info string.
 fn spell_fence(source: &mut SourceLines, marks: usize, info: &str) -> Result<(), AllocError>
     ensures { OnOk result (Writes source.old source.new
         ((replicate marks 96 ++ spelled_text true true info.now) ∷ [])) }

@@ -18,8 +18,8 @@ fn ends_at_blank_line(kind: HtmlKind) -> bool
     matches!(kind, HtmlKind::BlockTag | HtmlKind::AnyTag)
 }
 
-/// Whether a line can stand in an HTML block of a kind, as its last line or before that: where a blank line
-/// would end the block it isn't blank, and else it meets the end condition just where it is the last.
+/// Whether a line can be in an HTML block of a kind, as its last line or before that: if a blank line would
+/// end the block it isn't blank, otherwise it meets the end condition exactly if it is the last.
 fn fits(kind: HtmlKind, line: &str, last: bool) -> bool
     ensures { result ≡ fits (kind_of kind) line.now last }
 {

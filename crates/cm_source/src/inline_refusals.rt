@@ -21,7 +21,7 @@ use cm_text::{ByteKind, Rules, is_followed, is_punct_by, is_space, next_of};
 use cm_tree::Inline;
 use std::simd::prelude::*;
 
-/// What the inlines beside an inline see of it.
+/// What neighbouring inlines see of an inline.
 #[derive(Clone, Copy)]
 enum Face<'a> {
     /// A text.
@@ -33,7 +33,7 @@ enum Face<'a> {
     Other,
 }
 
-/// Where an inline stands.
+/// The position of an inline.
 #[derive(Clone, Copy)]
 struct Place {
     /// In a heading.
@@ -45,7 +45,7 @@ struct Place {
 }
 
 impl Place {
-    /// The place behind the first inline of a paragraph, or inside of it.
+    /// The position after the first inline of a paragraph, or inside it.
     fn further(self) -> Place
         ensures { place_of result ≡ further_in (place_of self) }
     {
@@ -132,7 +132,7 @@ fn is_plain(rules: Rules, c: Option<char>) -> bool
     }
 }
 
-/// What the inlines beside an inline see of it.
+/// What neighbouring inlines see of an inline.
 fn face_of(inline: &Inline) -> Face<'_>
     ensures { (rules : text_rules.Rules) → shown result ≡ (judged rules inline.now).face }
 {
@@ -168,7 +168,7 @@ fn last_face(inlines: &[Inline]) -> Option<Face<'_>>
     }
 }
 
-/// The first character of what stands there, if it is a text.
+/// The first character of a neighbour, if it is a text.
 fn first_of(beside: Option<Face<'_>>) -> Option<char>
     ensures { result ≡ first_of (seen beside.entry) }
 {
@@ -178,7 +178,7 @@ fn first_of(beside: Option<Face<'_>>) -> Option<char>
     }
 }
 
-/// The last character of what stands there, if it is a text.
+/// The last character of a neighbour, if it is a text.
 fn last_of(beside: Option<Face<'_>>) -> Option<char>
     ensures { result ≡ last_of (seen beside.entry) }
 {
@@ -195,7 +195,7 @@ fn is_emphasis(beside: Option<Face<'_>>) -> bool
     matches!(beside, Some(Face::Emphasis))
 }
 
-/// Whether emphasis stands among inlines, at any depth. The search ends where it finds one.
+/// Whether inlines contain emphasis, at any depth. The search ends where it finds one.
 #[cycle(emphasis)]
 fn hold_emphasis(inlines: &[Inline]) -> bool
     ensures { (rules : text_rules.Rules) → result ≡ hold_emphasis (map (judged rules) inlines.now) }
@@ -222,7 +222,7 @@ fn has_emphasis(inline: &Inline) -> bool
     }
 }
 
-/// Whether a link stands among inlines, at any depth. The search ends where it finds one.
+/// Whether inlines contain a link, at any depth. The search ends where it finds one.
 #[cycle(links)]
 fn hold_link(inlines: &[Inline]) -> bool
     ensures { (rules : text_rules.Rules) → result ≡ hold_link (map (judged rules) inlines.now) }
@@ -277,8 +277,8 @@ fn has_wrong_edge(
 
 /// Refuses emphasis with such a content between these.
 ///
-/// Where emphasis holds another, the walk ends here. So no inline is searched for emphasis twice, however
-/// deep it stands, and the walk takes time in proportion to the tree.
+/// Where emphasis contains other emphasis, the walk ends. So no inline is searched for emphasis twice,
+/// however deep it is, and the walk takes linear time.
 fn check_emphasis(
     rules: Rules,
     content: &[Inline],
@@ -317,7 +317,7 @@ fn is_one_tag(rules: Rules, text: &str) -> bool
     }
 }
 
-/// Refuses a text behind this.
+/// Refuses a text after `before`.
 fn check_text(text: &str, before: Option<Face<'_>>) -> Result<(), Why>
     ensures { result ≡ ok_unless (refused ((has_nul text.now, Why.Nul)
         ∷ (is_empty text.now || is_text (seen before.entry), Why.Text) ∷ [])) }
@@ -329,7 +329,7 @@ fn check_text(text: &str, before: Option<Face<'_>>) -> Result<(), Why>
     )
 }
 
-/// Refuses a code span at a place, behind this.
+/// Refuses a code span at a place, after `before`.
 fn check_code(place: Place, text: &str, before: Option<Face<'_>>) -> Result<(), Why>
     ensures { result ≡ ok_unless (refused (code_reasons (place_of place) text.now (seen before.entry))) }
 {
@@ -343,7 +343,7 @@ fn check_code(place: Place, text: &str, before: Option<Face<'_>>) -> Result<(), 
     )
 }
 
-/// Refuses raw HTML at a place, behind this.
+/// Refuses raw HTML at a place, after `before`.
 fn check_html(rules: Rules, place: Place, text: &str, before: Option<Face<'_>>) -> Result<(), Why>
     ensures { result
         ≡ ok_unless (refused (html_reasons rules (place_of place) text.now (seen before.entry))) }
@@ -359,7 +359,7 @@ fn check_html(rules: Rules, place: Place, text: &str, before: Option<Face<'_>>) 
     )
 }
 
-/// Refuses a line break at a place, behind this and before these.
+/// Refuses a line break at a place, after `before` and followed by `rest`.
 fn check_break(place: Place, before: Option<Face<'_>>, rest: &[Inline]) -> Result<(), Why>
     ensures { (rules : text_rules.Rules) → result ≡ ok_unless (refused
         (break_reasons (place_of place) (seen before.entry) (first_face (map (judged rules) rest.now)))) }
@@ -385,7 +385,7 @@ fn check_inlines(rules: Rules, place: Place, inlines: &[Inline]) -> Result<(), W
     Ok(())
 }
 
-/// Refuses an inline at a place, behind this and before these.
+/// Refuses an inline at a place, after `before` and followed by `rest`.
 #[cycle(inlines)]
 fn check_inline(
     rules: Rules,
@@ -444,7 +444,7 @@ fn check_strike(rules: Rules, strike: bool) -> Result<(), Why>
     refuse_if(strike && !rules.strike(), Why::StrikeOff)
 }
 
-/// Refuses emphasis, strong emphasis or strikethrough at a place, behind this and before these.
+/// Refuses emphasis, strong emphasis or strikethrough at a place, after `before` and followed by `rest`.
 #[cycle(inlines)]
 fn check_between(
     rules: Rules,

@@ -51,7 +51,7 @@ fn spell_target(source: &mut SourceLines, dest: &str, title: &str) -> Result<(),
     push_target(&mut source.text, dest, title)
 }
 
-/// Whether a line ends right before inlines, where one ends behind them or not.
+/// Whether a line ends right before inlines. `last` says whether one ends after them.
 fn is_line_end(last: bool, inlines: &[Inline]) -> bool
     ensures { result ≡ is_line_end last (map spelled inlines.now) }
 {
@@ -61,14 +61,14 @@ fn is_line_end(last: bool, inlines: &[Inline]) -> bool
     }
 }
 
-/// Whether a line begins right behind an inline.
+/// Whether a line starts right after an inline.
 fn begins_line(inline: &Inline) -> bool
     ensures { result ≡ (spelled inline.now).begins_line }
 {
     matches!(inline, Inline::Soft | Inline::Hard)
 }
 
-/// Spells inlines that begin and end with a line or not.
+/// Spells inlines, which may start and end a line.
 #[cycle(inlines)]
 pub(crate) fn spell_inlines(
     source: &mut SourceLines,
@@ -142,7 +142,7 @@ fn spell_between(source: &mut SourceLines, mark: &str, content: &[Inline]) -> Re
     source.push(mark)
 }
 
-/// Spells a link or an image, which begins with this mark.
+/// Spells a link or an image, which starts with this mark.
 #[cycle(inlines)]
 fn spell_link(
     source: &mut SourceLines,

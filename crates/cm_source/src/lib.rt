@@ -1,9 +1,9 @@
 //! Plain CommonMark source, spelled so that it reads back as the tree (CommonMark 0.31.2).
 //!
-//! Begin with [`spell`], or [`spell_by`] for other rules. [`spellable`] and [`spellable_by`] say whether a
-//! tree can be spelled, without taking memory. A [`Speller`] spells one block after another, so that a tree
-//! needn't be held whole. [`without_definitions`] takes the link reference definitions out of a tree, which
-//! can't be spelled; [`block_without_definitions`] takes them out of one block.
+//! Start with [`spell`], or [`spell_by`] for other rules. [`spellable`] and [`spellable_by`] say whether a
+//! tree can be spelled, without taking memory. A [`Speller`] spells one block after another, so the whole
+//! tree needn't be held. [`without_definitions`] removes the link reference definitions, which can't be
+//! spelled, from a tree; [`block_without_definitions`] removes them from one block.
 //!
 //! ```
 //! use cm_source::{SourceFault, spell, without_definitions};

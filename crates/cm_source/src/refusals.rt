@@ -23,7 +23,7 @@ use cm_scan::is_same_kind;
 use cm_text::Rules;
 use cm_tree::{Block, Inline, Items, ListKind};
 
-/// What the blocks beside a block see of it.
+/// What neighbouring blocks see of a block.
 #[derive(Clone, Copy)]
 pub(crate) enum Face {
     Paragraph,
@@ -44,7 +44,7 @@ fn is_filled(items: &[Items<Block>]) -> bool
     }
 }
 
-/// What the blocks beside a block see of it.
+/// What neighbouring blocks see of a block.
 pub(crate) fn face_of(block: &Block) -> Face
     ensures { (rules : text_rules.Rules) → shown result ≡ (judged_block rules block.now).face }
 {
@@ -60,7 +60,7 @@ pub(crate) fn face_of(block: &Block) -> Face
     }
 }
 
-/// Whether this is an ordered list that doesn't begin at 1.
+/// Whether this is an ordered list that doesn't start at 1.
 fn begins_late(kind: ListKind) -> bool
     ensures { result ≡ begins_late kind }
 {
@@ -137,7 +137,7 @@ fn is_as_said(tight: bool, items: &[Items<Block>]) -> bool
     items.len() > 1 || any_has_two(items)
 }
 
-/// Whether an ordered list begins at 10^9 or later.
+/// Whether an ordered list starts at 10^9 or later.
 fn begins_too_high(kind: ListKind) -> bool
     ensures { result ≡ begins_too_high kind }
 {
@@ -148,7 +148,7 @@ fn begins_too_high(kind: ListKind) -> bool
     }
 }
 
-/// Whether a list of the same kind stands right before.
+/// Whether a list of the same kind is right before.
 fn is_behind_same(kind: ListKind, before: Option<Face>) -> bool
     ensures { result ≡ is_behind_same kind (seen before) }
 {
@@ -158,7 +158,7 @@ fn is_behind_same(kind: ListKind, before: Option<Face>) -> bool
     }
 }
 
-/// Whether an item begins with a list.
+/// Whether an item starts with a list.
 fn begins_with_list(item: &[Block]) -> bool
     ensures { (rules : text_rules.Rules) → result ≡ is_list (faces (map (judged_block rules) item.now)) }
 {
@@ -168,7 +168,7 @@ fn begins_with_list(item: &[Block]) -> bool
     }
 }
 
-/// Whether an item of these begins with a list.
+/// Whether one of these items starts with a list.
 fn any_begins_with_list(items: &[Items<Block>]) -> bool
     ensures { (rules : text_rules.Rules) → result ≡ list_any is_list (faces_of_items rules items.now) }
 {
@@ -180,7 +180,7 @@ fn any_begins_with_list(items: &[Items<Block>]) -> bool
     false
 }
 
-/// Whether a list has no items, or begins at 10^9 or later.
+/// Whether a list has no items, or starts at 10^9 or later.
 fn is_malformed(kind: ListKind, items: &[Items<Block>]) -> bool
     ensures { (rules : text_rules.Rules) → result
         ≡ (not (list_any (λ item. true) (faces_of_items rules items.now)) || begins_too_high kind) }
@@ -188,7 +188,7 @@ fn is_malformed(kind: ListKind, items: &[Items<Block>]) -> bool
     items.is_empty() || begins_too_high(kind)
 }
 
-/// Refuses a list with these items behind this block.
+/// Refuses a list with these items after `before`.
 fn check_list(
     kind: ListKind,
     tight: bool,
@@ -269,7 +269,7 @@ fn check_blocks(rules: Rules, blocks: &[Block]) -> Result<(), Why>
     Ok(())
 }
 
-/// Refuses a block behind this one.
+/// Refuses a block after `before`.
 #[cycle(blocks)]
 pub(crate) fn check_block(rules: Rules, block: &Block, before: Option<Face>) -> Result<(), Why>
     ensures { result ≡ ok_unless ((judged_block rules block.now).refusal (seen before)) }
@@ -307,12 +307,12 @@ pub fn spellable(blocks: &[Block]) -> Result<(), Why>
 
 /// The same by these rules.
 ///
-/// They decide what a plain character beside emphasis is, which texts are raw HTML and HTML
-/// blocks, and whether there is strikethrough.
+/// The rules decide what a plain character next to emphasis is, which texts are raw HTML and HTML blocks, and
+/// whether there is strikethrough.
 ///
 /// # Errors
 ///
-/// Why it can't, as `spellable` tells it.
+/// The reason, as `spellable` returns it.
 pub fn spellable_by(rules: Rules, blocks: &[Block]) -> Result<(), Why>
     ensures { result ≡ ok_unless (refusal_of rules blocks.now) }
 {

@@ -16,7 +16,7 @@ use cm_text::cut_at;
 use cm_tree::ListKind;
 use std::alloc::{AllocError, Global};
 
-/// Writes a character so many times.
+/// Writes a character `count` times.
 fn push_repeated(out: &mut String, mark: char, count: usize) -> Result<(), AllocError>
     requires { mark < 128 }
     ensures written { OnOk result (string_bytes out.new ≡ string_bytes out.old ++ replicate count mark) }
@@ -28,7 +28,7 @@ fn push_repeated(out: &mut String, mark: char, count: usize) -> Result<(), Alloc
     Ok(())
 }
 
-/// Writes the marker of an item and a space, and answers how many bytes they are.
+/// Writes the marker of an item and a space, and returns the number of their bytes.
 fn push_marker(out: &mut String, kind: ListKind) -> Result<usize, AllocError>
     ensures written { OnOk result (string_bytes out.new ≡ string_bytes out.old ++ marker kind ++ codes " ") }
     ensures width { IfOk result (λ width. width ≡ length (marker kind) + 1) }
@@ -52,15 +52,15 @@ fn strip_end(text: &mut String)
     text.truncate(kept);
 }
 
-/// Lines of source, each behind what stands in front of it in its containers.
+/// Lines of source, each after what precedes it in its containers.
 #[derive(Drop)]
 pub(crate) struct SourceLines {
     pub(crate) text: String,
-    /// What stands in front of each further line: marks of quotes, and spaces.
+    /// What precedes each further line: marks of quotes, and spaces.
     pub(crate) front: String,
     /// Whether the last line has begun.
     pub(crate) begun: bool,
-    /// Where its content begins then.
+    /// Where its content starts then.
     pub(crate) line: usize,
     pub(crate) ghost ascii: { IsAscii (string_bytes front) },
 }
@@ -81,7 +81,7 @@ impl SourceLines {
         }
     }
 
-    /// Begins a line, unless one has begun.
+    /// Starts a line, unless one has started.
     #[inline(always)]
     pub(crate) fn begin_line(&mut self) -> Result<(), AllocError>
         ensures begins { OnOk result (BeginsLine self.old self.new) }
@@ -97,7 +97,7 @@ impl SourceLines {
         Ok(())
     }
 
-    /// Ends the line that has begun. In front of an empty one no spaces stand at the end.
+    /// Ends the line that has started. If it is empty, the spaces at its end are removed.
     #[inline(always)]
     pub(crate) fn end_line(&mut self) -> Result<(), AllocError>
         ensures { OnOk result (Ends self.old self.new) }
@@ -110,7 +110,7 @@ impl SourceLines {
         Ok(())
     }
 
-    /// Ends a line and begins the next one.
+    /// Ends a line and starts the next one.
     #[inline(always)]
     pub(crate) fn break_line(&mut self) -> Result<(), AllocError>
         ensures { OnOk result (Lays self.old self.new (10 ∷ [])) }
@@ -119,7 +119,7 @@ impl SourceLines {
         self.begin_line()
     }
 
-    /// Writes what stands in one line.
+    /// Writes text within one line.
     pub(crate) fn push(&mut self, text: &str) -> Result<(), AllocError>
         requires { list_any (λ b. b == 10) text.now ≡ false }
         ensures { OnOk result (Lays self.old self.new text.now) }
@@ -127,7 +127,7 @@ impl SourceLines {
         self.text.push_str(text)
     }
 
-    /// Writes what stands in one or more lines.
+    /// Writes text in one or more lines.
     pub(crate) fn push_lines(&mut self, text: &str) -> Result<(), AllocError>
         ensures { OnOk result (Lays self.old self.new text.now) }
     {
@@ -141,7 +141,7 @@ impl SourceLines {
         self.push(rest)
     }
 
-    /// Writes a character so many times.
+    /// Writes a character `count` times.
     pub(crate) fn push_marks(&mut self, mark: char, count: usize) -> Result<(), AllocError>
         requires ascii { mark < 128 }
         requires one_line { mark ≢ 10 }
@@ -184,7 +184,7 @@ impl SourceLines {
         self.end_line()
     }
 
-    /// Enters a quote, and answers how many bytes stood in front of further lines before.
+    /// Enters a quote, and returns how many bytes preceded further lines before.
     pub(crate) fn enter_quote(&mut self) -> Result<usize, AllocError>
         ensures enters { OnOk result (Enters self.old self.new (codes "> ") (codes "> ")) }
         ensures front { IfOk result (λ front. front ≡ length (string_bytes self.old.front)) }
@@ -197,7 +197,7 @@ impl SourceLines {
         Ok(front)
     }
 
-    /// Enters an item, and answers how many bytes stood in front of further lines before.
+    /// Enters an item, and returns how many bytes preceded further lines before.
     pub(crate) fn enter_item(&mut self, kind: ListKind) -> Result<usize, AllocError>
         ensures enters { OnOk result (Enters self.old self.new
             (marker kind ++ codes " ") (replicate (length (marker kind) + 1) 32)) }
@@ -211,7 +211,7 @@ impl SourceLines {
         Ok(front)
     }
 
-    /// Leaves a container, before which so many bytes stood in front of further lines.
+    /// Leaves a container. `front` is how many bytes preceded further lines before it.
     pub(crate) fn leave(&mut self, front: usize) -> Result<(), AllocError>
         ensures { OnOk result (Leaves self.old self.new front) }
     {

@@ -39,7 +39,7 @@ fn spelling(alloc: Global, blocks: &[Block]) -> Result<String, NoMemory>
 ///
 /// # Errors
 ///
-/// `Unspellable` with the reason that `spellable` tells, `NoMemory` where a request for memory was refused.
+/// `Unspellable` with the reason that `spellable` returns, `NoMemory` if a request for memory was refused.
 pub fn spell(alloc: Global, blocks: &[Block]) -> Result<String, SourceFault>
     ensures answer { Spells result profile blocks.now }
     ensures reads_back { IfOk result (λ source. tree_of profile (string_bytes source) ≡ blocks.now) }
@@ -63,9 +63,9 @@ pub fn spell_by(alloc: Global, rules: Rules, blocks: &[Block]) -> Result<String,
 
 /// Spells blocks one after another, so that a tree needn't be held whole.
 ///
-/// Hand over each block once, in the order of the document, by `push`, and let go of it; take the source by
-/// `finish`. It is the source that `spell_by` spells for all of them. For example, a paragraph `a` that is
-/// pushed, and then a paragraph `b`, are finished as `a`, an empty line, and `b`.
+/// Pass each block once to `push`, in the order of the document; it can be freed then. `finish` returns the
+/// source, which is that of `spell_by` for all of them. For example, a paragraph `a` that is pushed, and then
+/// a paragraph `b`, become `a`, an empty line, and `b`.
 #[derive(Drop)]
 pub struct Speller {
     rules: Rules,
@@ -96,15 +96,15 @@ impl Speller {
         }
     }
 
-    /// Goes on with one more block.
+    /// Spells one more block.
     ///
     /// # Errors
     ///
-    /// `Unspellable` where the blocks can't be spelled with this one, with the reason that `spellable_by`
-    /// tells of them, whatever stands behind; the speller stays as it was then. `NoMemory` where a request
-    /// for memory was refused, and from then on.
+    /// `Unspellable` if the blocks can't be spelled with this one, with the reason that `spellable_by`
+    /// returns for them, whatever follows; the speller is then unchanged. `NoMemory` if a request for memory
+    /// was refused, and from then on.
     pub fn push(&mut self, block: &Block) -> Result<(), SourceFault>
-        // Whatever blocks it stood for, it stands for them and the block.
+        // If it stood for these blocks, it then stands for them and the block.
         ensures stands { OnOk result ((rules : text_rules.Rules) (blocks : List trees.Block) →
             HasSpelled rules self.old blocks → HasSpelled rules self.new (blocks ++ block.now ∷ [])) }
         ensures told { IfErr result (λ fault. (rules : text_rules.Rules) (blocks : List trees.Block) →
@@ -124,7 +124,7 @@ impl Speller {
         Ok(())
     }
 
-    /// Writes a block behind those so far.
+    /// Writes a block after those so far.
     fn add(&mut self, block: &Block) -> Result<(), NoMemory>
         ensures writes { OnOk result (Writes self.old.source self.new.source
             (gap (is_some self.old.before) ++ lines_of_block block.now)) }
@@ -143,7 +143,7 @@ impl Speller {
     ///
     /// # Errors
     ///
-    /// `NoMemory` exactly where `push` has answered that.
+    /// `NoMemory` exactly if `push` has returned that.
     pub fn finish(self) -> Result<String, NoMemory>
         ensures spelled { IfOk result (λ source. (rules : text_rules.Rules) (blocks : List trees.Block) →
             HasSpelled rules self blocks →

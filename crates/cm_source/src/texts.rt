@@ -15,7 +15,7 @@ use cm_text::{ByteKind, Replaced, is_ascii_punct, push_replaced};
 use std::alloc::AllocError;
 use std::simd::prelude::*;
 
-/// Whether a byte isn't written as it is. Most are small letters, so these are told first.
+/// Whether a byte isn't written unchanged. Most bytes are small letters, so these are tested first.
 fn is_spelled(b: u8) -> bool
     ensures { result ≡ is_spelled b }
 {
@@ -64,14 +64,14 @@ impl Replaced for Spelled {
     }
 }
 
-/// Writes a text in which no space stands at the beginning or the end of a line.
+/// Writes a text in which no space is at the start or the end of a line.
 pub(crate) fn push_spelled(out: &mut String, text: &str) -> Result<(), AllocError>
     ensures { OnOk result (string_bytes out.new ≡ string_bytes out.old ++ spelled_bytes text.now) }
 {
     push_replaced::<Spelled>(out, text)
 }
 
-/// Writes a text that stands at the end of a line or not, and not at the beginning of one.
+/// Writes a text that isn't at the start of a line. `last` says whether it is at the end of one.
 #[inline(always)]
 fn push_to_end(out: &mut String, text: &str, last: bool) -> Result<(), AllocError>
     ensures { OnOk result (string_bytes out.new ≡ string_bytes out.old ++ spelled_text false last text.now) }
@@ -88,7 +88,7 @@ fn push_to_end(out: &mut String, text: &str, last: bool) -> Result<(), AllocErro
     }
 }
 
-/// Writes a text that stands at the beginning of a line or not, and at the end of one or not.
+/// Writes a text that may be at the start of a line, and at the end of one.
 #[inline(always)]
 pub(crate) fn push_text(
     out: &mut String,

@@ -7,41 +7,41 @@ ghost use Rattle.cm_source.specs.Reasons.{reason_text};
 use std::error::Error;
 use std::fmt;
 
-/// Why a tree can't be spelled: what its first node is, in the order of the document, that
-/// no source gives or that its spelling wouldn't give back.
+/// Why a tree can't be spelled: what is wrong with its first node, in the order of the document, that no
+/// source gives or that its spelling wouldn't give back.
 #[derive(Clone, Copy, Debug, PartialEq, Eq, Drop)]
 pub enum Why {
     /// A link reference definition.
     Definition,
     /// U+0000 in a string.
     Nul,
-    /// A heading's level that isn't from 1 to 6, a list without items, an ordered list that
-    /// begins at 10^9 or later, a paragraph without inlines.
+    /// A heading's level that isn't from 1 to 6, a list without items, an ordered list that starts at 10^9 or
+    /// later, a paragraph without inlines.
     Shape,
-    /// An empty text, or a text right behind a text.
+    /// An empty text, or a text right after a text.
     Text,
     /// Emphasis, strong emphasis or strikethrough that holds another at any depth.
     EmphasisNested,
-    /// Emphasis, strong emphasis or strikethrough right behind another.
+    /// Emphasis, strong emphasis or strikethrough right after another.
     EmphasisTouching,
-    /// One without content, or at an edge of which its delimiter run wouldn't open or close.
+    /// Emphasis without content, or with an edge where its delimiter run wouldn't open or close.
     EmphasisEdge,
-    /// A code span that is empty, has a line ending, stands right behind another, or would end a label.
+    /// A code span that is empty, has a line ending, is right after another, or would end a label.
     CodeSpan,
-    /// Raw HTML that isn't one line of one tag, begins a paragraph, stands right behind a
-    /// line break, or would end a label.
+    /// Raw HTML that isn't one line of one tag, starts a paragraph, is right after a line break, or would end
+    /// a label.
     RawHtml,
     /// A link that holds a link at any depth.
     LinkInLink,
-    /// A line break in a heading, at an end of its inlines, or right behind another.
+    /// A line break in a heading, at an end of its inlines, or right after another.
     LineBreak,
     /// The text of a code block that doesn't end in a line feed, or has a carriage return.
     CodeText,
     /// An HTML block that isn't read back as itself.
     HtmlBlock,
-    /// A list right behind a list of its kind.
+    /// A list right after a list of its kind.
     AdjacentLists,
-    /// A list with an item that begins with a list.
+    /// A list with an item that starts with a list.
     ItemBeginsWithList,
     /// A list that would be tight if it is loose, or loose if it is tight.
     Looseness,
