@@ -12,7 +12,7 @@ use crate::trouble::Trouble;
 use crate::words::Word;
 pub use answer::Answer;
 
-/// Answers the call, if it is one of these libraries.
+/// Runs the call, if it is one of these libraries. Returns whether it is.
 pub fn answers(answer: &mut Answer, name: &str, given: &[Word]) -> Result<bool, Trouble> {
     Ok(
         of_text::answers(answer, name, given)?

@@ -34,7 +34,7 @@ impl Case {
         self.part(name).is_some()
     }
 
-    /// That it has no parts but those with these names, and none of them twice.
+    /// Checks that it has no parts but those with these names, and none of them twice.
     pub fn has_only(&self, names: &[&str]) -> Result<(), Trouble> {
         for part in &self.parts {
             let name = part.name.as_str();
@@ -50,7 +50,7 @@ impl Case {
         Ok(())
     }
 
-    /// What stands in the line of this part.
+    /// The rest of the line of this part.
     pub fn rest(&self, name: &str) -> Option<&str> {
         Some(self.part(name)?.rest.as_str())
     }
@@ -63,12 +63,12 @@ impl Case {
         }
     }
 
-    /// The lines of this part, as they stand.
+    /// The lines of this part, unchanged.
     pub fn lines(&self, name: &str) -> Option<&str> {
         Some(self.part(name)?.body.as_str())
     }
 
-    /// The bytes for which the lines of this part stand.
+    /// The bytes that the lines of this part represent.
     pub fn bytes(&self, name: &str) -> Result<Option<Vec<u8>>, Trouble> {
         match self.lines(name) {
             Some(lines) => Ok(Some(unescaped(self.alloc, lines)?)),
@@ -105,7 +105,7 @@ impl Reading {
         }
     }
 
-    /// A line that begins a part.
+    /// A line that starts a part.
     fn part(&mut self, name: &str, rest: &str) -> Result<(), Trouble> {
         let Some(case) = &mut self.open else {
             return Err(wrong(self.alloc, "no case is open"));

@@ -1,4 +1,4 @@
-//! Where a text is cut into the pieces in which it is handed over.
+//! Where a text is cut into the pieces that are fed.
 ghost use Rattle.std.specs.Prelude.{◌≡◌, ◌+◌, ◌-◌, ◌^◌, ◌<◌, is_ok, if◌then◌else◌};
 ghost use Rattle.std.specs.Io.{ReadsAtMost};
 ghost use Rattle.std.specs.Io.KnownBytes.{ReadConsumes};
@@ -16,7 +16,7 @@ pub enum Cut {
     Nowhere,
     BehindEachByte,
     BehindByte(usize),
-    /// Behind each byte whose bit is set.
+    /// After each byte whose bit is set.
     BehindBytes(u16),
 }
 
@@ -42,8 +42,8 @@ impl fmt::Display for Cut {
     }
 }
 
-/// The cuts of a text of so many bytes: none, behind each byte, each cut in two, and, of at most 8
-/// bytes, each cut.
+/// The cuts of a text of this length: none, after each byte, each cut in two, and, for up to 8 bytes, each
+/// cut.
 pub fn cuts(alloc: Global, len: usize) -> Result<Vec<Cut>, AllocError> {
     let mut cuts = vec![in alloc; Cut::Nowhere, Cut::BehindEachByte]?;
     if len <= LONG {

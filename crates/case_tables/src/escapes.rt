@@ -24,7 +24,7 @@ struct Unescaping {
     alloc: Global,
     bytes: Vec<u8>,
     place: Place,
-    /// In `\{N|..}`: N, and where in the bytes what is repeated begins.
+    /// In `\{N|..}`: N, and where in the bytes the repeated part starts.
     repeated: Option<(usize, usize)>,
 }
 
@@ -41,7 +41,7 @@ impl Unescaping {
         Ok(())
     }
 
-    /// Puts what is repeated at the end, as often as it is still wanted.
+    /// Appends the repeated part, until it is there `count` times.
     fn repeat(&mut self, count: usize, from: usize) -> Result<(), Trouble> {
         let part = match self.bytes.get(from..) {
             Some(part) => Vec::from_slice(self.alloc, part)?,
@@ -135,9 +135,9 @@ impl Unescaping {
     }
 }
 
-/// The bytes for which a text of a table stands. `\t`, `\n`, `\r`, `\\`, `\"`, `\}` and `\@` are the
-/// characters that they are in Rust or stand for themselves, `\x80` is a byte, `\u{FFFD}` a character, and
-/// `\{100|ab}` a hundred times `ab`. A backslash at the end of a line takes the line feed away.
+/// The bytes that a text of a table represents. `\t`, `\n`, `\r`, `\\`, `\"` are as in Rust, `\}` and `\@`
+/// are `}` and `@`, `\x80` is a byte, `\u{FFFD}` a character, and `\{100|ab}` a hundred times `ab`. A
+/// backslash at the end of a line removes the line feed.
 pub fn unescaped(alloc: Global, text: &str) -> Result<Vec<u8>, Trouble> {
     let mut reading = Unescaping {
         alloc,
@@ -154,7 +154,7 @@ pub fn unescaped(alloc: Global, text: &str) -> Result<Vec<u8>, Trouble> {
     }
 }
 
-/// The text for which a text of a table stands.
+/// The text that a text of a table represents.
 pub fn unescaped_text(alloc: Global, text: &str) -> Result<String, Trouble> {
     match String::from_utf8(unescaped(alloc, text)?) {
         Ok(text) => Ok(text),

@@ -1,7 +1,7 @@
 //! How tables of cases are read, what is tried of a tree, and the calls of the libraries below `cm_tool`.
 //!
-//! It is for the program `conformance` alone. Begin with [`cases`] for a table of several lines a case, and
-//! with [`calls`] for one of a call a line. docs/testing.md says how to add a case.
+//! It is only for the program `conformance`. Start with [`cases`] for a table with several lines for each
+//! case, and with [`calls`] for one with a call on each line. docs/testing.md says how to add a case.
 #![tactic(auto)]
 
 pub mod calls;

@@ -4,7 +4,7 @@ use crate::trouble::{Trouble, wrong};
 use cm_text::{Limits, Line, LineFeed, strip};
 use std::alloc::Global;
 
-/// A feed of which the lines of a text are taken.
+/// A feed from which the lines of a text can be taken.
 fn fed(alloc: Global, text: &str) -> Result<LineFeed, Trouble> {
     let mut feed = LineFeed::new(alloc, Limits::standard());
     if feed.push(text.as_bytes()).is_err() || feed.end().is_err() {
@@ -52,7 +52,7 @@ fn indented(alloc: Global, spaces: usize, text: &str) -> Result<String, Trouble>
     Ok(whole)
 }
 
-/// A line that begins at this column.
+/// A line that starts at this column.
 pub fn line_at(alloc: Global, column: usize, text: &str) -> Result<Line, Trouble> {
     let whole = indented(alloc, column, text)?;
     let line = first_line(alloc, whole.as_str())?;

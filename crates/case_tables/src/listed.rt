@@ -137,7 +137,7 @@ impl Reading {
         }
     }
 
-    /// Closes the nodes inside so many.
+    /// Closes the nodes until `depth` are open.
     fn close_to(&mut self, depth: usize) -> Result<(), Trouble> {
         for _ in depth..self.open.len() {
             self.close()?;
@@ -306,7 +306,7 @@ impl Reading {
     }
 }
 
-/// The document with this listing. (Whether it has it, `listing` tells.)
+/// The document with this listing. (`listing` shows whether it has it.)
 pub fn listed(alloc: Global, text: &str) -> Result<Doc, Trouble> {
     let mut reading = Reading {
         alloc,

@@ -28,7 +28,7 @@ fn refusal(rules: Option<Rules>, blocks: &[Block]) -> Option<Why> {
     }
 }
 
-/// That the tree is spelled or refused as its case wants.
+/// Checks that the tree is spelled or refused as its case expects.
 fn is_spelled(
     alloc: Global,
     case: &Case,
@@ -53,7 +53,7 @@ fn is_spelled(
     same(alloc, "refusal", wanted.as_bytes(), told.as_bytes())
 }
 
-/// That the tree without its definitions is the one that the case wants.
+/// Checks that the tree without its definitions is the one that the case expects.
 fn is_kept(alloc: Global, wanted: &str, blocks: &Items<Block>) -> Result<(), Trouble> {
     let kept = Doc {
         blocks: without_definitions(alloc, blocks.clone()?),
@@ -78,7 +78,7 @@ fn pushed(alloc: Global, rules: Rules, blocks: &Items<Block>) -> Result<(String,
     Ok((speller.finish()?, reasons))
 }
 
-/// That pushing the blocks one after another gives the source that the case wants, and its reasons.
+/// Checks that pushing the blocks one after another gives the source that the case expects, and its reasons.
 fn are_pushed(
     alloc: Global,
     case: &Case,
@@ -100,7 +100,7 @@ fn rules_named(alloc: Global, case: &Case) -> Result<Option<Rules>, Trouble> {
     }
 }
 
-/// That the tree is spelled, as the parts of its case want.
+/// Checks that the tree is spelled as the parts of its case expect.
 pub fn agrees(alloc: Global, case: &Case, blocks: &Items<Block>) -> Result<(), Trouble> {
     if case.has("spelled") || case.has("refused") {
         is_spelled(alloc, case, rules_named(alloc, case)?, blocks.as_slice())?;

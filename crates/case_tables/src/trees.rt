@@ -9,7 +9,7 @@ use cm_text::Room;
 use cm_tree::{Block, Doc, block_depth, inline_depth};
 use std::alloc::Global;
 
-/// Writers fail behind each byte of an output that is no longer than this.
+/// Writers fail after each byte of an output that is no longer than this.
 const SHORT: usize = 200;
 
 const PARTS: [&str; 10] = [
@@ -41,7 +41,8 @@ enum Output {
     Listing,
 }
 
-/// That a writer which takes so much, at most so much a call, is told of as it should be.
+/// Checks that a writer which takes a limited number of bytes, in all and in each call, is reported as it
+/// should be.
 fn is_written(
     alloc: Global,
     (doc, output, whole): (&Doc, Output, &[u8]),
@@ -68,7 +69,7 @@ fn is_written(
     same(alloc, "output", front, room.taken())
 }
 
-/// That the tree is written so, also where writes fail.
+/// Checks that the tree is written so, also where writes fail.
 fn has_output(alloc: Global, doc: &Doc, output: Output, whole: &[u8]) -> Result<(), Trouble> {
     if whole.len() > SHORT {
         return is_written(alloc, (doc, output, whole), whole.len(), whole.len());
@@ -81,7 +82,7 @@ fn has_output(alloc: Global, doc: &Doc, output: Output, whole: &[u8]) -> Result<
     Ok(())
 }
 
-/// The tree of a case, if it is as its case wants.
+/// The tree of a case, if it is as its case expects.
 pub fn agrees(alloc: Global, case: &Case) -> Result<Doc, Trouble> {
     case.has_only(&PARTS)?;
     let text = case.lines("tree").unwrap_or("");
@@ -109,14 +110,14 @@ pub fn agrees(alloc: Global, case: &Case) -> Result<Doc, Trouble> {
     Ok(doc)
 }
 
-/// That two documents are told apart, or found equal, wrongly.
+/// Reports that two documents are wrongly found different, or equal.
 fn mistaken(alloc: Global, doc: &Doc, other: &Doc) -> Result<(), Trouble> {
     let text = listing(alloc, doc)?;
     let other = listing(alloc, other)?;
     Err(Trouble::Told(format!(in alloc; "equal or not:\n{text}and:\n{other}")?))
 }
 
-/// That a copy of the document is equal to the one at its place, and to no other.
+/// Checks that a copy of the document is equal to the one at its place, and to no other.
 fn is_distinct(alloc: Global, docs: &[Doc], at: usize, doc: &Doc) -> Result<(), Trouble> {
     let copy = doc.clone()?;
     for (place, other) in docs.iter().enumerate() {
@@ -127,7 +128,7 @@ fn is_distinct(alloc: Global, docs: &[Doc], at: usize, doc: &Doc) -> Result<(), 
     Ok(())
 }
 
-/// That each document is equal to its own copy, and to no other.
+/// Checks that each document is equal to its own copy, and to no other.
 pub fn are_distinct(alloc: Global, docs: &[Doc]) -> Result<(), Trouble> {
     for (at, doc) in docs.iter().enumerate() {
         is_distinct(alloc, docs, at, doc)?;

@@ -7,7 +7,7 @@ use std::str;
 /// Why a case doesn't come out.
 #[derive(Debug, Drop)]
 pub enum Trouble {
-    /// What was wanted and what came, or what of the table can't be read.
+    /// What was expected and what was found, or what can't be read in the table.
     Told(String),
     /// A request for memory was refused.
     NoMemory,
@@ -31,7 +31,7 @@ impl From<NoMemory> for Trouble {
     }
 }
 
-/// The trouble that this text tells.
+/// The trouble with this text.
 pub fn wrong(alloc: Global, text: &str) -> Trouble {
     match String::from_str(alloc, text) {
         Ok(text) => Trouble::Told(text),
@@ -39,12 +39,12 @@ pub fn wrong(alloc: Global, text: &str) -> Trouble {
     }
 }
 
-/// Bytes as they are told.
+/// Bytes as they are reported.
 pub fn shown(bytes: &[u8]) -> &str {
     str::from_utf8(bytes).unwrap_or("(no UTF-8)")
 }
 
-/// That these bytes came as they were wanted; or else both, under the name of what they are.
+/// Checks that these bytes are the expected ones; otherwise reports both, under the name of what they are.
 pub fn same(alloc: Global, what: &str, wanted: &[u8], got: &[u8]) -> Result<(), Trouble> {
     if wanted == got {
         return Ok(());

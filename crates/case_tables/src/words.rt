@@ -5,7 +5,7 @@ use crate::trouble::{Trouble, wrong};
 use std::alloc::Global;
 use std::mem;
 
-/// A word of a line: one between quotation marks, with its escapes resolved, or another, as it stands.
+/// A word of a line: one between quotation marks, with its escapes resolved, or another, unchanged.
 #[derive(Debug, PartialEq, Eq, Drop)]
 pub enum Word {
     Text(String),
@@ -13,7 +13,7 @@ pub enum Word {
 }
 
 impl Word {
-    /// Whether it stands so, and not between quotation marks.
+    /// Whether it is this word, without quotation marks.
     pub fn is(&self, word: &str) -> bool {
         match self {
             Word::Plain(plain) => plain.as_str() == word,

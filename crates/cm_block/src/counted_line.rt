@@ -8,7 +8,8 @@ ghost use Rattle.std.specs.Prelude.{◌≡◌, ◌+◌, ◌++◌, ◌∷◌, ◌
 ghost use Rattle.std.specs.Prelude.{List, suc, true, false, string_bytes, IfOk, IfSome, IfNone, OnOk};
 ghost use Rattle.cm_block.specs.Prelude.{strip_columns, seen_view, given, is_blank, with_ending};
 ghost use Rattle.cm_block.specs.Prelude.{is_html_end, kind_of, continuation_if_lazy, continuation_in_quote};
-ghost use Rattle.cm_block.specs.Prelude.{continuation_in_item, interrupts_paragraph, underline_of, goes_inward};
+ghost use Rattle.cm_block.specs.Prelude.{continuation_in_item, interrupts_paragraph, underline_of};
+ghost use Rattle.cm_block.specs.Prelude.{goes_inward};
 ghost use Rattle.cm_block.specs.Prelude.{line_feeds, add_text, closes_fence, plain_lines_of};
 ghost use Rattle.cm_text.specs.Rules as all;
 ghost use Rattle.cm_block.specs.OpenLeaf.{no_leaf, stays_open, line_of_leaf, begins_leaf, begin_of_start};
@@ -150,7 +151,8 @@ impl<'a> CountedLine<'a> {
     /// Whether the line stays in an open quote by its marker. If so, it continues after the marker (5.1 Block
     /// quotes).
     pub(crate) fn stays_in_quote(&mut self) -> bool
-        ensures continuation { (by : all.Rules) → IsInside result (continuation_in_quote by (seen_view self.old.rest))
+        ensures continuation { (by : all.Rules) → IsInside result
+            (continuation_in_quote by (seen_view self.old.rest))
             (continuation_if_lazy by (seen_view self.old.rest)) (seen_view self.new.rest) }
         ensures same { result ≡ false → self.new.rest ≡ self.old.rest }
         ensures tests { Tested 1 1 self.old.tests self.new.tests }

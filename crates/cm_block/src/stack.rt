@@ -54,8 +54,9 @@ impl Container {
     /// Whether the line stays in the container by itself, and if so enters it. `bare` says of an item that
     /// there is only its marker so far, with nothing on its line.
     fn has_inside(&self, bare: bool, line: &mut CountedLine<'_>) -> bool
-        ensures continuation { (by : all.Rules) → IsInside result (continuation_in by (container_of self.now) bare
-            (seen_view line.old.rest)) (continuation_if_lazy by (seen_view line.old.rest))
+        ensures continuation { (by : all.Rules) → IsInside result
+            (continuation_in by (container_of self.now) bare (seen_view line.old.rest))
+            (continuation_if_lazy by (seen_view line.old.rest))
             (seen_view line.new.rest) }
         ensures same { result ≡ false → line.new.rest ≡ line.old.rest }
         ensures tests { Tested 1 1 line.old.tests line.new.tests }

@@ -1,11 +1,12 @@
 //! The blocks of a document whose inlines haven't been read, in chunks that may be freed one by one.
 //!
-//! A chunk has texts of 32 KiB or somewhat more, and the HTML goes into the memory of freed chunks. A chunk ends
-//! at the top level, where nothing is open, so a quote, list or leaf is never divided. The first chunk starts
-//! without memory, so that a short text takes only what it needs.
+//! A chunk has texts of 32 KiB or somewhat more, and the HTML is written to the memory of freed chunks. A
+//! chunk ends at the top level, where nothing is open, so a quote, list or leaf is never divided. The first
+//! chunk starts without memory, so that a short text takes only what it needs.
 //!
-//! The price is that a leaf's text is copied once more, into the texts of its chunk. Chunks of one growing text
-//! would need places made of a chunk and a distance, and a proof that no block lies in a chunk that was freed.
+//! The price is that a leaf's text is copied once more, into the texts of its chunk. Chunks of one growing
+//! text would need places made of a chunk and a distance, and a proof that no block is in a chunk that was
+//! freed.
 ghost use Rattle.std.specs.Prelude.{◌≡◌, [], ◌++◌, OnOk, OnErr};
 ghost use Rattle.cm_tree.specs.RawBlocks.{blocks_in, ArePlaced};
 ghost use Rattle.cm_tree.specs.RawTrees.{all_blocks};

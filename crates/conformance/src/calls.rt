@@ -1,5 +1,5 @@
-//! Calls of one line: the name of a function, what it is called with, `=`, and its answer. The front of
-//! `text.calls` says how such a table is written.
+//! Calls on one line: the name of a function, its arguments, `=`, and its result. The start of `text.calls`
+//! says how such a table is written.
 
 mod of_command_line;
 
@@ -8,7 +8,7 @@ use case_tables::trouble::{Trouble, wrong};
 use case_tables::words::{Word, words};
 use std::alloc::Global;
 
-/// What a call answers.
+/// The result of a call.
 fn called(alloc: Global, asked: &[Word]) -> Result<Answer, Trouble> {
     let Some((Word::Plain(name), given)) = asked.split_first() else {
         return Err(wrong(alloc, "a call has no name"));
@@ -23,7 +23,7 @@ fn called(alloc: Global, asked: &[Word]) -> Result<Answer, Trouble> {
     Err(wrong(alloc, "no call has this name and such words"))
 }
 
-/// That the call of a line gives its answer.
+/// Checks that the call of a line gives its result.
 pub(crate) fn agrees(alloc: Global, line: &str) -> Result<(), Trouble> {
     let (mut asked, mut wanted) = (Vec::new(alloc), Vec::new(alloc));
     let mut is_answer = false;

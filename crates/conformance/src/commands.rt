@@ -36,7 +36,7 @@ fn words_of(alloc: Global, line: &str) -> Result<Vec<String>, Trouble> {
     Ok(all)
 }
 
-/// That what was written is what the case wants whole, or holds what it wants somewhere, or is nothing.
+/// Checks that what was written is all that the case expects, or contains it, or is nothing.
 fn is_written(
     alloc: Global,
     case: &Case,
@@ -56,7 +56,7 @@ fn is_written(
     same(alloc, whole, wanted.as_slice(), got)
 }
 
-/// The room that this part of a case tells.
+/// The room that this part of a case gives.
 fn space(case: &Case, part: &str) -> Result<Space, Trouble> {
     Ok(Space {
         capacity: case.number(part)?.unwrap_or(AMPLE),
@@ -64,7 +64,7 @@ fn space(case: &Case, part: &str) -> Result<Space, Trouble> {
     })
 }
 
-/// That what was written, and the exit status, are those that the case wants.
+/// Checks that what was written, and the exit status, are those that the case expects.
 fn is_done(alloc: Global, case: &Case, ran: &Written) -> Result<(), Trouble> {
     is_written(alloc, case, ("output", "output_holds"), ran.output.taken())?;
     is_written(alloc, case, ("errors", "errors_hold"), ran.errors.taken())?;
@@ -74,7 +74,8 @@ fn is_done(alloc: Global, case: &Case, ran: &Written) -> Result<(), Trouble> {
     Ok(())
 }
 
-/// That plain source is made of a text in memory as the case wants, or that it is refused so.
+/// Checks that plain source is made of a text in memory as the case expects, or that it is refused with the
+/// expected reason.
 fn is_in_memory(alloc: Global, case: &Case, task: &Task, input: &[u8]) -> Result<(), Trouble> {
     if task.job != Job::Rewrite || case.has("room") || task.file.is_some() {
         return Ok(());
@@ -87,7 +88,7 @@ fn is_in_memory(alloc: Global, case: &Case, task: &Task, input: &[u8]) -> Result
     is_written(alloc, case, ("errors", "errors_hold"), line.as_bytes())
 }
 
-/// That a task whose case tells all that is written is done so with readers and writers that fail.
+/// Checks a task, whose case has all that is written, with readers and writers that fail.
 fn is_done_with_failures(
     alloc: Global,
     case: &Case,
@@ -111,7 +112,7 @@ fn is_done_with_failures(
     .agrees()
 }
 
-/// That a command line is answered as its case wants.
+/// Checks that a command line does what its case expects.
 pub(crate) fn agrees(alloc: Global, tries: Tries, case: &Case) -> Result<(), Trouble> {
     case.has_only(&PARTS)?;
     let all = words_of(alloc, case.rest("words").unwrap_or(""))?;

@@ -1,5 +1,5 @@
-//! Tasks with devices that fail: a reader behind any byte of the text, and a writer that takes only so much
-//! of the output.
+//! Tasks with devices that fail: a reader after any byte of the text, and a writer that takes only a part of
+//! the output.
 
 use crate::runs::{READ, SHORT, Space, ample, ran};
 use case_tables::cuts::{Cut, pieces};
@@ -7,7 +7,7 @@ use case_tables::trouble::{Trouble, same, wrong};
 use cm_tool::{Job, Task};
 use std::alloc::Global;
 
-/// A task, the text that it is done on, and what it comes to where no read and no write fails.
+/// A task, the text that it is done with, and its results if no read and no write fails.
 #[derive(Drop)]
 pub(crate) struct Done<'a> {
     pub(crate) alloc: Global,
@@ -28,8 +28,8 @@ impl Done<'_> {
         !is_of_bytes && !is_too_deep
     }
 
-    /// That the task, done on the text whole with so much room, comes to a front of its output, and that the
-    /// text is read to its end.
+    /// Checks that the task, done with the whole text and this room, writes a prefix of its output, and that
+    /// the text is read to its end.
     fn is_written(&self, space: Space) -> Result<(), Trouble> {
         let alloc = self.alloc;
         let given = (pieces(alloc, self.input, Cut::Nowhere)?, false);
@@ -53,8 +53,8 @@ impl Done<'_> {
         Ok(())
     }
 
-    /// That nothing but a failed read is told where the reader fails behind so many bytes, and that no read
-    /// is made after it.
+    /// Checks that only a failed read is reported if the reader fails after this number of bytes, and that no
+    /// read is made after it.
     fn is_failed(&self, place: usize) -> Result<(), Trouble> {
         let alloc = self.alloc;
         let front = self.input.get(..place).unwrap_or(self.input);
@@ -81,7 +81,7 @@ impl Done<'_> {
         Ok(())
     }
 
-    /// That both hold behind each byte of what is short.
+    /// Checks both after each byte of a short text or output.
     pub(crate) fn agrees(&self) -> Result<(), Trouble> {
         if !self.is_unsettled() || self.input.len() > READ {
             return Ok(());

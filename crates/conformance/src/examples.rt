@@ -1,13 +1,13 @@
 //! Examples in the form of the CommonMark specification. An opening line of 32 backticks and `example` comes
-//! first. Then come the text, a line with a point, its HTML, and a closing line of 32 backticks. → stands for
-//! a tab. Lines outside of examples are passed over.
+//! first. Then come the text, a line with a point, its HTML, and a closing line of 32 backticks. → is a tab.
+//! Lines outside of examples are skipped.
 
 use crate::texts::{Outcome, Text, Tries};
 use case_tables::trouble::{Trouble, wrong};
 use cm_text::{Limits, Rules};
 use std::alloc::{AllocError, Global};
 
-/// What an opening line begins with, and what a closing line is.
+/// The start of an opening line, and a closing line.
 pub(crate) const FENCE: &str = "````````````````````````````````";
 
 /// A text and its HTML.
@@ -19,7 +19,7 @@ pub(crate) struct Example {
 }
 
 impl Example {
-    /// That the text comes to the HTML by these rules.
+    /// Checks that the text becomes the HTML with these rules.
     pub(crate) fn agrees(&self, rules: Rules, tries: Tries) -> Result<(), Trouble> {
         let html = Some(self.html.as_bytes());
         Text {
@@ -38,7 +38,7 @@ impl Example {
     }
 }
 
-/// Where a line stands.
+/// Where in an example a line is.
 #[derive(Clone, Copy, PartialEq, Eq, Drop)]
 enum Place {
     Outside,
@@ -63,7 +63,7 @@ fn empty(alloc: Global) -> Example {
     }
 }
 
-/// Puts a line of an example behind those before it.
+/// Appends a line of an example to those before it.
 fn push_line(lines: &mut String, line: &str) -> Result<(), AllocError> {
     for c in line.chars() {
         lines.push(if c == '→' { '\t' } else { c })?;

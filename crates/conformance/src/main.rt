@@ -1,5 +1,5 @@
-//! Reads tables of cases from the files that its arguments name. It says how many of them come out as the
-//! tables say, and for each other what was wanted and what came.
+//! Reads tables of cases from the files that its arguments name. It reports how many of them agree with the
+//! tables, and for each other what was expected and what was found.
 //!
 //! A file `.cases` has cases of several lines, `.calls` calls of one line. A file `.txt` has examples in the
 //! form of the CommonMark specification, by the older rules in `older.txt`. docs/testing.md says how to add a

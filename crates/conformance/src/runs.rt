@@ -11,13 +11,13 @@ use cm_tool::{
 };
 use std::alloc::Global;
 
-/// Writers fail behind each byte of an output that is no longer than this.
+/// Writers fail after each byte of an output that is no longer than this.
 pub(crate) const SHORT: usize = 200;
 
-/// Readers fail behind each byte of a text that is no longer than this.
+/// Readers fail after each byte of a text that is no longer than this.
 pub(crate) const READ: usize = 1_000;
 
-/// Room for what is written: so many bytes, at most so many a call.
+/// Room for what is written: a number of bytes, in all and in each call.
 #[derive(Clone, Copy)]
 pub(crate) struct Space {
     pub(crate) capacity: usize,
@@ -25,7 +25,7 @@ pub(crate) struct Space {
 }
 
 impl Space {
-    /// How much of an output of so many bytes it takes.
+    /// How much of an output of this length it takes.
     pub(crate) fn taken(self, len: usize) -> usize {
         if self.at_most == 0 {
             0
@@ -35,7 +35,7 @@ impl Space {
     }
 }
 
-/// More than an output of so many bytes needs.
+/// More than an output of this length needs.
 pub(crate) fn ample(len: usize) -> Space {
     let capacity = len.saturating_add(1_000);
     Space {
@@ -53,7 +53,7 @@ pub(crate) struct Written {
     pub(crate) reads: usize,
 }
 
-/// Does a task on a text that comes in these pieces, behind which the reader may fail.
+/// Does a task with a text in these pieces, after which the reader may fail.
 pub(crate) fn ran(
     alloc: Global,
     task: &Task,
@@ -73,7 +73,7 @@ pub(crate) fn ran(
     })
 }
 
-/// Tells why there is no task.
+/// Reports why there is no task.
 pub(crate) fn told(
     alloc: Global,
     stop: &Stop,
@@ -90,7 +90,7 @@ pub(crate) fn told(
     })
 }
 
-/// What was taken of the output, how many reads were made, and the answer.
+/// What was taken of the output, how many reads were made, and the result.
 #[derive(Drop)]
 pub(crate) struct Page {
     pub(crate) output: Room,
@@ -98,8 +98,8 @@ pub(crate) struct Page {
     pub(crate) answer: Result<usize, Fault>,
 }
 
-/// What `rewrite`, or for any other job `convert`, answers on a text that comes in these pieces, behind which
-/// the reader may fail.
+/// What `rewrite`, or for any other job `convert`, returns for a text in these pieces, after which the reader
+/// may fail.
 pub(crate) fn answered(
     alloc: Global,
     job: Job,
@@ -121,7 +121,7 @@ pub(crate) fn answered(
     })
 }
 
-/// What `read_text` answers on such a text, and how many reads were made.
+/// What `read_text` returns for such a text, and how many reads were made.
 pub(crate) fn text_read(
     alloc: Global,
     limits: Limits,

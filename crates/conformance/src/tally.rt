@@ -9,7 +9,7 @@ use case_tables::trouble::Trouble;
 use cm_text::{NoMemory, Rules};
 use std::alloc::Global;
 
-/// The cases so far, and what is to be told of those that don't come out.
+/// The cases so far, and what is reported about those that differ.
 #[derive(Drop)]
 pub(crate) struct Tally {
     alloc: Global,
@@ -29,12 +29,12 @@ impl Tally {
         self.total.saturating_sub(self.differ.len())
     }
 
-    /// What is to be told of the others.
+    /// What is reported about the others.
     pub(crate) fn differ(&self) -> &[String] {
         self.differ.as_slice()
     }
 
-    /// Counts a case, and what is to be told of it under its title.
+    /// Counts a case, and keeps what is reported about it under its title.
     fn count(&mut self, title: &str, answer: Result<(), Trouble>) -> Result<(), NoMemory> {
         self.total = self.total.saturating_add(1);
         match answer {

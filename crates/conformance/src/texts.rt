@@ -16,7 +16,7 @@ use std::alloc::{AllocError, Global};
 /// The report of a file without examples.
 const NO_EXAMPLES: &[u8] = b"0 of 0 agree\n";
 
-/// What the line about it begins with.
+/// The start of the line about it.
 const NONE_FOUND: &str = "cmk: no example found; an example starts with the line ";
 
 /// How a text is tried.
@@ -28,7 +28,7 @@ pub(crate) enum Tries {
     InAllWays,
 }
 
-/// What a text comes to.
+/// The expected result of a text.
 #[derive(Clone, Copy, Debug)]
 pub(crate) enum Outcome<'a> {
     /// A document with this HTML and this listing, each where the table has it.
@@ -36,20 +36,20 @@ pub(crate) enum Outcome<'a> {
         html: Option<&'a [u8]>,
         listing: Option<&'a str>,
     },
-    /// The fault of this line, which is told as soon as the bytes are there, or only at the end.
+    /// The fault with this line. It is reported as soon as the bytes are there, or only at the end.
     Fault {
         line: &'a str,
         is_late: bool,
     },
 }
 
-/// A text, and what it comes to under these limits.
+/// A text, and its expected result with these limits.
 #[derive(Drop)]
 pub(crate) struct Text<'a> {
     pub(crate) alloc: Global,
     pub(crate) input: &'a [u8],
     pub(crate) limits: Limits,
-    /// Whether the reader fails behind the text.
+    /// Whether the reader fails after the text.
     pub(crate) fails: bool,
     /// How many reads are made where the text comes byte by byte.
     pub(crate) reads: Option<usize>,
@@ -57,12 +57,12 @@ pub(crate) struct Text<'a> {
     pub(crate) outcome: Outcome<'a>,
 }
 
-/// What the parser answers to a piece.
+/// What the parser returns for a piece.
 fn fed(parser: &mut Parser, piece: &[u8]) -> Result<(), Fault> {
     parser.feed(piece)
 }
 
-/// What the parser answers at the end.
+/// What the parser returns at the end.
 fn finished(parser: Parser) -> Result<Doc, Fault> {
     parser.finish()
 }
@@ -73,7 +73,7 @@ fn is_of_bytes(line: &str) -> bool {
 }
 
 impl Text<'_> {
-    /// Whether what opens an example stands nowhere in the text.
+    /// Whether the text has no opening line of an example.
     fn has_no_examples(&self) -> bool {
         let mut windows = self.input.windows(FENCE.len().max(1));
         !windows.any(|bytes| bytes == FENCE.as_bytes())
@@ -94,7 +94,7 @@ impl Text<'_> {
         }
     }
 
-    /// What is to be told of an output of which so much is taken: the fault, or nothing.
+    /// What is reported if this number of bytes of the output is taken: the fault, or nothing.
     fn told(&self, whole: &[u8], taken: usize) -> Result<String, AllocError> {
         match self.outcome {
             Outcome::Fault { line, .. } => String::from_str(self.alloc, line),
@@ -105,7 +105,7 @@ impl Text<'_> {
         }
     }
 
-    /// What is to be written to the errors: the line of the fault, or that there is no example.
+    /// What should be written to the errors: the line of the fault, or that there is no example.
     fn errors(&self, job: Job, told: &str) -> Result<String, AllocError> {
         match job {
             _ if !told.is_empty() => format!(in self.alloc; "cmk: {told}\n"),
@@ -114,7 +114,8 @@ impl Text<'_> {
         }
     }
 
-    /// That the job, as the program runs it, gives what is wanted, and makes as many reads.
+    /// Checks that the job, as the program runs it, gives the expected result with the expected number of
+    /// reads.
     fn runs(&self, job: Job, cut: Cut, space: Space) -> Result<(), Trouble> {
         let Some(whole) = self.whole(job) else {
             return Ok(());
@@ -140,7 +141,7 @@ impl Text<'_> {
         self.has_reads(cut, ran.reads)
     }
 
-    /// That a call of the library does the job as is wanted, and makes as many reads.
+    /// Checks that a call of the library does the job with the expected result and number of reads.
     fn answers(&self, job: Job, page: &Page, cut: Cut, space: Space) -> Result<(), Trouble> {
         let Some(whole) = self.whole(job) else {
             return Ok(());
@@ -161,7 +162,7 @@ impl Text<'_> {
         self.has_reads(cut, page.reads)
     }
 
-    /// That so many reads are those that are wanted.
+    /// Checks the number of reads.
     fn has_reads(&self, cut: Cut, reads: usize) -> Result<(), Trouble> {
         match (cut, self.reads) {
             (Cut::BehindEachByte, Some(wanted)) if reads != wanted => {
@@ -171,7 +172,7 @@ impl Text<'_> {
         }
     }
 
-    /// That `convert` and `rewrite` answer what is wanted.
+    /// Checks the results of `convert` and `rewrite`.
     fn converts(&self, cut: Cut, space: Space) -> Result<(), Trouble> {
         for job in [Job::Render, Job::Rewrite] {
             let input = (pieces(self.alloc, self.input, cut)?, self.fails);
@@ -181,7 +182,7 @@ impl Text<'_> {
         Ok(())
     }
 
-    /// The text of the bytes, where they are UTF-8: U+FFFD stands for U+0000.
+    /// The text of the bytes, if they are UTF-8, with U+FFFD for U+0000.
     fn text(&self) -> Result<Vec<u8>, Trouble> {
         let mut text = Vec::new(self.alloc);
         for b in self.input {
@@ -193,7 +194,7 @@ impl Text<'_> {
         Ok(text)
     }
 
-    /// That `read_text` answers the text, or its fault, if that is one of the bytes or of the reader.
+    /// Checks that `read_text` returns the text, or its fault, if that is one of the bytes or of the reader.
     fn is_text(&self, cut: Cut) -> Result<(), Trouble> {
         let alloc = self.alloc;
         let input = (pieces(alloc, self.input, cut)?, self.fails);
@@ -215,7 +216,7 @@ impl Text<'_> {
         }
     }
 
-    /// Feeds the pieces to the parser, and answers the first fault, which each further call has to tell.
+    /// Feeds the pieces to the parser, and returns the first fault, which each further call has to return.
     fn feed(&self, parser: &mut Parser, cut: Cut) -> Result<Option<Fault>, Trouble> {
         let mut first = None;
         for piece in &pieces(self.alloc, self.input, cut)? {
@@ -229,7 +230,7 @@ impl Text<'_> {
         Ok(first)
     }
 
-    /// That a document is the one that is wanted.
+    /// Checks that a document is the expected one.
     fn is_document(&self, doc: &Doc) -> Result<(), Trouble> {
         if let Some(whole) = self.whole(Job::Render) {
             let written = html(self.alloc, doc)?;
@@ -247,7 +248,7 @@ impl Text<'_> {
         }
     }
 
-    /// That the parser gives what is wanted.
+    /// Checks that the parser gives the expected result.
     fn parses(&self, cut: Cut) -> Result<(), Trouble> {
         let alloc = self.alloc;
         let mut parser = Parser::new(alloc, self.limits);
@@ -258,7 +259,7 @@ impl Text<'_> {
         }
     }
 
-    /// That the fault at the end is the one that is wanted, and was told first when it was to be.
+    /// Checks that the fault at the end is the expected one, and was returned first when it should be.
     fn is_fault(&self, first: Option<Fault>, fault: Fault) -> Result<(), Trouble> {
         let alloc = self.alloc;
         let told = format!(in alloc; "{fault}")?;
@@ -274,7 +275,7 @@ impl Text<'_> {
         Ok(())
     }
 
-    /// That all calls give what is wanted of the text, cut so.
+    /// Checks that all calls give the expected results for the text, cut like this.
     fn is_read(&self, cut: Cut) -> Result<(), Trouble> {
         for job in [Job::Render, Job::Tree, Job::Rewrite, Job::Examples] {
             let len = self.whole(job).map_or(0, |whole| whole.len());
@@ -289,7 +290,7 @@ impl Text<'_> {
         self.parses(cut)
     }
 
-    /// That each call tells how much went out where writes fail.
+    /// Checks that each call reports how much was written if writes fail.
     fn is_written(&self, job: Job) -> Result<(), Trouble> {
         let len = self.whole(job).map_or(0, |whole| whole.len());
         if len > SHORT {
@@ -315,8 +316,8 @@ impl Text<'_> {
         }
     }
 
-    /// That a failed read is told where the reader fails behind any byte of a text that has no settled fault,
-    /// and that no read is made after it.
+    /// Checks that a failed read is reported if the reader fails after any byte of a text that has no settled
+    /// fault, and that no read is made after it.
     fn fails_at_each_place(&self) -> Result<(), Trouble> {
         if self.fails || self.input.len() > READ || !self.is_unsettled() {
             return Ok(());
@@ -339,7 +340,7 @@ impl Text<'_> {
         Ok(())
     }
 
-    /// That what is made of the text in memory is what the job gives.
+    /// Checks that what is made of the text in memory is what the job gives.
     fn is_in_memory(&self, job: Job) -> Result<(), Trouble> {
         let Some(whole) = self.whole(job) else {
             return Ok(());
@@ -354,8 +355,8 @@ impl Text<'_> {
         same(alloc, "output in memory", whole, made.as_bytes())
     }
 
-    /// That it comes to what is wanted, however it is cut, however much of the output is taken, and wherever
-    /// the reader fails.
+    /// Checks that the result is as expected, however the text is cut, however much of the output is taken,
+    /// and wherever the reader fails.
     fn agrees_in_cuts(&self) -> Result<(), Trouble> {
         for cut in &cuts(self.alloc, self.input.len())? {
             match self.is_read(*cut) {
@@ -375,7 +376,7 @@ impl Text<'_> {
         self.fails_at_each_place()
     }
 
-    /// That the whole text is rendered and listed as is wanted, as far as its table tells.
+    /// Checks that the whole text is rendered and listed as its table says.
     fn agrees_once(&self) -> Result<(), Trouble> {
         for job in [Job::Render, Job::Tree] {
             let len = self.whole(job).map_or(0, |whole| whole.len());
@@ -394,7 +395,7 @@ impl Text<'_> {
         }
     }
 
-    /// That it comes to what is wanted, as often as it is tried, and to one tree in all cuts if its table has
+    /// Checks that the result is as expected in each try, and that all cuts give one tree if the table has
     /// none.
     pub(crate) fn agrees(&self, tries: Tries) -> Result<(), Trouble> {
         if let Tries::Once = tries {
@@ -460,7 +461,7 @@ fn outcome_of<'a>(
     }
 }
 
-/// That a text comes to what its case wants.
+/// Checks that a text gives what its case expects.
 pub(crate) fn agrees(alloc: Global, tries: Tries, case: &Case) -> Result<(), Trouble> {
     case.has_only(&PARTS)?;
     let input = case.bytes("input")?.unwrap_or(Vec::new(alloc));

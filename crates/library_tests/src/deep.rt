@@ -7,7 +7,7 @@ use std::test::Fail;
 
 const DEPTH: usize = 500;
 
-/// A text in so many emphases in so many quotes.
+/// A text inside a number of emphases inside a number of quotes.
 fn nested(alloc: Global) -> Result<Block, AllocError> {
     let text = Inline::Text(Text::from_str(alloc, "a")?);
     let mut content = Items::from(vec![in alloc; text]?);
@@ -28,7 +28,7 @@ fn document(alloc: Global) -> Result<Doc, AllocError> {
     })
 }
 
-/// The parts of the HTML, each so many times.
+/// The parts of the HTML, each with its number.
 const PARTS: [(&str, usize); 7] = [
     ("<blockquote>\n", DEPTH),
     ("<p>", 1),
@@ -47,7 +47,7 @@ fn wanted_html(alloc: Global) -> Result<String, AllocError> {
     Ok(text)
 }
 
-/// The line of the listing with so many nodes round its node.
+/// The line of the listing for a node inside `depth` nodes.
 fn line(depth: usize) -> &'static str {
     match depth {
         0..DEPTH => "quote\n",

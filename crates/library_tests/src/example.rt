@@ -18,7 +18,7 @@ fn title(alloc: Global, text: &str) -> Result<Block, AllocError>
     })
 }
 
-/// Whether a heading of the first level stands among the blocks, or in quotes.
+/// Whether a heading of the first level is among the blocks, or in quotes.
 #[cycle(has_title)]
 fn has_title(blocks: &Items<Block>) -> bool {
     for block in blocks {

@@ -1,4 +1,4 @@
-//! The answer of a call, as the words that a table has for it.
+//! The result of a call, as the words that a table has for it.
 
 use crate::trouble::{Trouble, shown};
 use crate::words::Word;
@@ -37,7 +37,7 @@ impl Answer {
         Ok(self.words.push(Word::Text(text))?)
     }
 
-    /// A word as it stands.
+    /// A word, unchanged.
     pub fn word(&mut self, word: &str) -> Result<(), Trouble> {
         let word = String::from_str(self.alloc, word)?;
         Ok(self.words.push(Word::Plain(word))?)

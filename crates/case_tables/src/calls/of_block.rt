@@ -7,7 +7,7 @@ use crate::words::{Word, number};
 use cm_block::{BlockFault, BlockParser, Outline};
 use cm_text::{Limits, Line};
 
-/// With which fault a parser refuses a line.
+/// The fault with which a parser refuses a line, if it does.
 fn refusal(parser: &mut BlockParser, line: &Line) -> Option<BlockFault> {
     parser.line(line).err()
 }
@@ -17,7 +17,7 @@ fn finished(parser: BlockParser) -> Result<Outline, BlockFault> {
     parser.finish()
 }
 
-/// Puts the number of a line and the fault with which it is refused, if it is, into the answer.
+/// Adds the number of a line and the fault with which it is refused, if it is, to the answer.
 fn tell(answer: &mut Answer, at: usize, refusal: Option<BlockFault>) -> Result<(), Trouble> {
     if let Some(fault) = refusal {
         answer.number(at)?;
@@ -52,7 +52,7 @@ fn show_owners(answer: &mut Answer, outline: &Outline) -> Result<(), Trouble> {
     answer.shown(&outline.to_owners(answer.alloc)?)
 }
 
-/// Adds to the answer the top-level blocks of an outline, chunk by chunk, followed by the owners of its lines.
+/// Adds to the answer the top-level blocks of an outline, chunk by chunk, and the owners of its lines.
 fn show_chunks(answer: &mut Answer, outline: &Outline) -> Result<(), Trouble> {
     for chunk in outline.blocks.chunks() {
         let (top, _inside) = chunk.contents();
@@ -124,7 +124,7 @@ fn refused_by(answer: &mut Answer, limits: Limits, text: &str) -> Result<(), Tro
     show_fault(answer, finished(parser).err())
 }
 
-/// The limits of a parser, the faults of lines within so many quotes and items, and what is told at the end.
+/// The limits of a parser, the faults of lines with this limit of quotes and items, and the fault at the end.
 fn refused(answer: &mut Answer, limit: &str, text: &str) -> Result<bool, Trouble> {
     let Some(limits) = Limits::new(100, number(answer.alloc, limit)?, 1) else {
         return Err(wrong(answer.alloc, "the limits are out of range"));
@@ -153,7 +153,7 @@ fn of_text(answer: &mut Answer, name: &str, text: &str) -> Result<bool, Trouble>
     Ok(true)
 }
 
-/// Answers the call, if it is one of `cm_block`.
+/// Runs the call, if it is one of `cm_block`. Returns whether it is.
 pub fn answers(answer: &mut Answer, name: &str, given: &[Word]) -> Result<bool, Trouble> {
     match given {
         [Word::Text(text)] => of_text(answer, name, text.as_str()),

@@ -12,7 +12,7 @@ const MANY: u64 = 1_000;
 /// How many reads are made.
 const READS: usize = 4;
 
-/// What reads of two bytes answer and give, and how many of them failed.
+/// What reads of two bytes return, and how many of them failed.
 fn reads<R: Source>(answer: &mut Answer, source: &mut R) -> Result<(), Trouble> {
     for _ in 0..READS {
         let mut buf = [0; 2];
@@ -26,7 +26,7 @@ fn reads<R: Source>(answer: &mut Answer, source: &mut R) -> Result<(), Trouble> 
     answer.shown(&source.failures())
 }
 
-/// What writes of these texts answer, and how many of them failed.
+/// What writes of these texts return, and how many of them failed.
 fn writes<W: Sink>(answer: &mut Answer, sink: &mut W, texts: &[Word]) -> Result<(), Trouble> {
     for text in texts {
         let (Word::Text(text) | Word::Plain(text)) = text;
@@ -53,7 +53,7 @@ fn from_read(answer: &mut Answer, text: &str) -> Result<bool, Trouble> {
     Ok(true)
 }
 
-/// The reads of a source of pieces, which fails behind them or ends.
+/// The reads of a source of pieces, which fails after them or ends.
 fn from_pieces(answer: &mut Answer, end: &str, texts: &[Word]) -> Result<bool, Trouble> {
     let pieces = pieces(answer.alloc, texts)?;
     reads(answer, &mut Pieces::new(pieces, end == "fails"))?;
@@ -68,7 +68,8 @@ fn from_write(answer: &mut Answer, texts: &[Word]) -> Result<bool, Trouble> {
     Ok(true)
 }
 
-/// The writes to a room of this capacity, which takes at most so many bytes a call, and what was written.
+/// The writes to a room of this capacity, which takes a limited number of bytes in each call, and what was
+/// written.
 fn to_room(
     answer: &mut Answer,
     capacity: &str,
@@ -107,7 +108,7 @@ fn of_room(answer: &mut Answer, name: &str, given: &[Word]) -> Result<bool, Trou
     }
 }
 
-/// Answers the call, if it is one of a device.
+/// Runs the call, if it is one of a device. Returns whether it is.
 pub fn answers(answer: &mut Answer, name: &str, given: &[Word]) -> Result<bool, Trouble> {
     match (name, given) {
         ("from_write", texts) => from_write(answer, texts),

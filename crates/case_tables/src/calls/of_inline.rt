@@ -62,7 +62,8 @@ fn one_leaf(
     Ok(true)
 }
 
-/// Whether at least and at most so many openers are looked at in a leaf, and how many inlines it has.
+/// Whether the number of openers that are looked at in a leaf is in this range, and how many inlines the leaf
+/// has.
 fn looks(answer: &mut Answer, least: &str, most: &str, leaf: &str) -> Result<bool, Trouble> {
     let least = number(answer.alloc, least)? as u128;
     let most = number(answer.alloc, most)? as u128;
@@ -83,7 +84,7 @@ fn by(answer: &Answer, name: &str, limit: &str) -> Result<(Rules, usize), Troubl
     Ok((rules_of(answer.alloc, name)?, limit))
 }
 
-/// Answers the call, if it is one of `cm_inline`.
+/// Runs the call, if it is one of `cm_inline`. Returns whether it is.
 pub fn answers(answer: &mut Answer, name: &str, given: &[Word]) -> Result<bool, Trouble> {
     match given {
         [Word::Text(text)] if name == "is_one_text" => {

@@ -103,7 +103,7 @@ fn named(answer: &mut Answer, started: Option<HtmlKind>) -> Result<(), Trouble> 
     }
 }
 
-/// An autolink that was found: whether it is an e-mail address, what stands inside, its end.
+/// An autolink that was found: whether it is an e-mail address, its content, its end.
 fn link(answer: &mut Answer, found: Option<(Autolink<'_>, usize)>) -> Result<(), Trouble> {
     match found {
         Some((link, end)) => {
@@ -132,7 +132,7 @@ fn raw(answer: &mut Answer, name: &str, text: &String, at: usize) -> Result<(), 
     answer.slice(raw_html_by(rules, text.as_str(), at))
 }
 
-/// Whether the word stands in the text from there on.
+/// Whether the text contains the word from there on.
 fn holds(answer: &mut Answer, text: &String, from: usize, word: &str) -> Result<bool, Trouble> {
     if text.len() < from {
         return Err(wrong(answer.alloc, "the place is past the text"));
@@ -154,7 +154,7 @@ fn underlined(answer: &mut Answer, text: &str, at: usize) -> Result<(), Trouble>
     }
 }
 
-/// A scanner of what begins a line, if it is one.
+/// A scanner of what starts a line, if it is one.
 fn starts(answer: &mut Answer, name: &str, text: &str, at: usize) -> Result<bool, Trouble>
     requires { IsCharBoundary text.now at }
 {
@@ -171,7 +171,7 @@ fn starts(answer: &mut Answer, name: &str, text: &str, at: usize) -> Result<bool
     Ok(true)
 }
 
-/// A scanner that answers a slice and its end, if it is one.
+/// A scanner that returns a slice and its end, if it is one.
 fn slices<'a>(name: &str, text: &'a str, at: usize) -> Option<Option<(&'a str, usize)>>
     requires { IsCharBoundary text.now at }
 {
@@ -203,7 +203,7 @@ fn scans(answer: &mut Answer, name: &str, text: &String, at: usize) -> Result<bo
     Ok(true)
 }
 
-/// The end of a fence of this marker and so many of it.
+/// The end of a fence of this number of this marker.
 fn closing(
     answer: &mut Answer,
     (marker, count): (&str, &str),
@@ -231,7 +231,7 @@ fn html_ends(answer: &mut Answer, name: &str, text: &String, at: usize) -> Resul
     }
 }
 
-/// The kind of the HTML block that begins there by the rules of this name.
+/// The kind of the HTML block that starts there with the rules of this name.
 fn html_starts(answer: &mut Answer, name: &str, text: &String, at: usize) -> Result<(), Trouble> {
     let rules = rules_of(answer.alloc, name)?;
     if text.len() < at {
@@ -269,7 +269,7 @@ fn by_name(
     Ok(true)
 }
 
-/// Answers the call, if it is one of `cm_scan`.
+/// Runs the call, if it is one of `cm_scan`. Returns whether it is.
 pub fn answers(answer: &mut Answer, name: &str, given: &[Word]) -> Result<bool, Trouble> {
     match given {
         [Word::Text(text)] => of_text(answer, name, text.as_str()),

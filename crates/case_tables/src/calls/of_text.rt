@@ -13,7 +13,7 @@ use cm_text::{
 };
 use std::alloc::Global;
 
-/// The calls with a line that begins at a column.
+/// The calls with a line that starts at a column.
 const LINES: [&str; 3] = ["indent", "strip", "taken"];
 
 /// A kind of characters.
@@ -96,7 +96,7 @@ fn stripped(answer: &mut Answer, line: &Line, columns: usize) -> Result<(), Trou
     seen(answer, &line.view().strip(columns))
 }
 
-/// A lazy line seen without a copy, from which so many columns are taken one after another.
+/// A lazy line seen without a copy, from which these numbers of columns are removed one after another.
 fn taken_in_parts(answer: &mut Answer, mut line: Line, parts: &[Word]) -> Result<(), Trouble> {
     line.lazy = true;
     let mut left = line.view();
@@ -129,7 +129,7 @@ fn characters(answer: &mut Answer, text: &str, kind: &Kind) -> Result<(), Troubl
     answer.text(found.as_str())
 }
 
-/// What stands before an ASCII character, and what stands after it.
+/// The text before an ASCII character, and the text after it.
 fn cut(answer: &mut Answer, text: &String, at: usize) -> Result<(), Trouble> {
     match text.as_bytes().get(at) {
         Some(b) if *b < 128 => {
@@ -141,7 +141,7 @@ fn cut(answer: &mut Answer, text: &String, at: usize) -> Result<(), Trouble> {
     }
 }
 
-/// A reference: what it stands for, and its end.
+/// A reference: its characters, and its end.
 fn reference(answer: &mut Answer, text: &String, at: usize) -> Result<(), Trouble> {
     if !text.is_char_boundary(at) {
         return Err(wrong(answer.alloc, "the place is no boundary"));
@@ -215,7 +215,7 @@ fn at_place(answer: &mut Answer, name: &str, text: &String, at: usize) -> Result
     Ok(true)
 }
 
-/// A call with a line that begins at a column, and how many columns are taken from it, if it is one.
+/// A call with a line that starts at a column, and how many columns are removed from it, if it is one.
 fn of_line(answer: &mut Answer, name: &str, line: Line, columns: &[Word]) -> Result<bool, Trouble> {
     match (name, columns) {
         ("indent", []) => answer.number(indent(&line))?,
@@ -236,7 +236,7 @@ fn punctuation(answer: &mut Answer, rules: &str, text: &str) -> Result<bool, Tro
     Ok(true)
 }
 
-/// Answers the call, if it is one of `cm_text`.
+/// Runs the call, if it is one of `cm_text`. Returns whether it is.
 pub fn answers(answer: &mut Answer, name: &str, given: &[Word]) -> Result<bool, Trouble> {
     match given {
         pieces if name == "lines" => lines(answer, pieces),

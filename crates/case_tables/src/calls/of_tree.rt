@@ -44,7 +44,8 @@ fn look_up(answer: &mut Answer, call: &str, label: &str, given: &[Word]) -> Resu
     show(answer, &table, call, label)
 }
 
-/// Answers the call, if it is one of `cm_tree`: what a table has under a label, as texts or as they are lent.
+/// Runs the call, if it is one of `cm_tree`: what a table has under a label, as texts or as they are lent.
+/// Returns whether it is.
 pub fn answers(answer: &mut Answer, name: &str, given: &[Word]) -> Result<bool, Trouble> {
     match (name, given) {
         ("find" | "target", [Word::Text(label), given @ ..]) => {

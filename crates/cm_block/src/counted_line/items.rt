@@ -2,7 +2,8 @@
 ghost use Rattle.std.specs.Prelude.{◌≡◌, ◌<◌, ◌≤◌, ◌+◌, ◌-◌, ◌^◌, false, IfSome, MatchOption};
 ghost use Rattle.cm_text.specs.Rules as all;
 ghost use Rattle.cm_scan.specs.blocks.Starts.{Stays};
-ghost use Rattle.cm_block.specs.Prelude.{seen_view, strip_columns, continuation_if_lazy, continuation_in_item};
+ghost use Rattle.cm_block.specs.Prelude.{seen_view, strip_columns};
+ghost use Rattle.cm_block.specs.Prelude.{continuation_if_lazy, continuation_in_item};
 ghost use Rattle.cm_block.specs.steps.ContinuationViews.{begins_plain, IsInside};
 
 use crate::counted_line::continuations::{reaches_or_is_blank, with_columns};
@@ -40,7 +41,8 @@ fn begins_plain(text: &str) -> bool
 pub(crate) fn inside_item<'a>(line: &View<'a>, column: usize) -> Option<View<'a>>
     requires { line.now.lazy ≡ false }
     ensures continuation { (by : all.Rules) → MatchOption result
-        (continuation_in_item by column false (seen_view line.now) ≡ continuation_if_lazy by (seen_view line.now))
+        (continuation_in_item by column false (seen_view line.now)
+        ≡ continuation_if_lazy by (seen_view line.now))
         (λ inner. continuation_in_item by column false (seen_view line.now) ≡ Stays (seen_view inner)) }
     ensures lazy { IfSome result (λ inner. inner.lazy ≡ false) }
 {

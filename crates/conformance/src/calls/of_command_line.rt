@@ -45,7 +45,7 @@ fn asked(answer: &mut Answer, given: &[Word]) -> Result<bool, Trouble> {
     Ok(true)
 }
 
-/// What stands in place of a task, by its name.
+/// What is returned without a task, by its name.
 fn stop(alloc: Global, name: &str, text: &str) -> Result<Stop, Trouble> {
     let text = String::from_str(alloc, text)?;
     Ok(match name {
@@ -102,7 +102,7 @@ fn examined(answer: &mut Answer, file: &str) -> Result<bool, Trouble> {
     Ok(true)
 }
 
-/// Answers the call, if it is one of `cm_tool`.
+/// Runs the call, if it is one of `cm_tool`. Returns whether it is.
 pub(super) fn answers(answer: &mut Answer, name: &str, given: &[Word]) -> Result<bool, Trouble> {
     match given {
         words if name == "task" => asked(answer, words),
