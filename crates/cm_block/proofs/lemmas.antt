@@ -6,11 +6,11 @@
 -- 3. The code has the open containers in a row (specs/Frames.antt, specs/steps/FrameSteps.antt). Frames ties
 --    one more line in that row to one more line on the stack; each small function of the parser is proved
 --    against its part of that.
--- 4. The blocks of finished parts precede those of the outermost level (specs/steps/FrontViews.antt). Nothing
---    that is done to a level looks at what precedes it (FrontLemmas), so a part may be finished wherever
+-- 4. The blocks of finished chunks precede those of the outermost level (specs/steps/FrontViews.antt). Nothing
+--    that is done to a level looks at what precedes it (FrontLemmas), so a chunk may be finished wherever
 --    nothing is open.
 --
--- A line whose content begins as text goes to the end of an open run through every level (`TextGoesOn`), so
+-- A line whose content starts as text goes to the end of an open run through every level (`TextGoesOn`), so
 -- lines of text that are lent together have the same effect as one by one (TextStands). How often a line is
 -- read is a clause of its own (`Tested`): the containers that it stays in and those that it opens are within
 -- the limit, and each is one reading. TestLemmas adds these up; ContainerLemmas shows that the tree has no

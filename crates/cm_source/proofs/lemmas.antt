@@ -11,7 +11,7 @@
 --   with any blocks after each, as just its parts (SequenceParts, SequenceBack). ContinuationsBack and MarkersBack
 --   have what stays in quotes and items, LeavesBack, FencesBack and HtmlBack the leaves. That a tree isn't
 --   refused gives what this asks of the sequence (SpellableBlocks).
--- - Sources. No definition is at the front of a spelled content (ContentLabels), each of its lines starts
+-- - Sources. No definition is at the start of a spelled content (ContentLabels), each of its lines starts
 --   with what is nothing but text (LineFronts, ContentFronts), and it ends with neither a space nor a run of
 --   `#` (ContentEnds).
 -- - Inlines. A content that fits (`FitsAll` in specs/steps/ContentBack.antt: what each inline needs of the

@@ -1,4 +1,4 @@
--- What a line begins is given by the cases, with no word of how deep the calls go.
+-- What a line starts is given by the cases, with no word of how deep the calls go.
 use Rattle.std.proofs.Common.{◌≡◌, ℕ, zero, suc, ◌<◌, Bool, true, false, [], refl, ap, arith, le_refl}
 use Rattle.std.specs.Prelude.{⊤}
 use Rattle.cm_text.specs.Rules.{Rules}
@@ -9,13 +9,13 @@ use Rattle.cm_scan.proofs.lemmas.blocks.LineSizes.{marks-behind_quote_marker, ma
 use Rattle.cm_block.specs.OpenLeaf.{LineOpens, begins_nothing, begins_leaf, begins_quote, begins_item, begin_of_start, begin_of}
 use Rattle.cm_block.specs.Machine.{Change, change, in_quote, in_item, begin_by, begin_within, begin}
 
--- the line behind a marker, if the line begins a container, passes a test
+-- the line after a marker, if the line starts a container, passes a test
 abbrev pub OfInner : (LineView → Type 0) → LineOpens → Type 0
 OfInner P (begins_quote inner) = P inner
 OfInner P (begins_item kind column inner) = P inner
 OfInner P _ = ⊤
 
--- behind a marker there are fewer marks
+-- after a marker there are fewer marks
 pub inner-less : (rules : Rules) (line : LineView) → OfInner (λ inner. marks inner.text < marks line.text) (begin_of rules line)
 unfolding begin_of
 inner-less rules line = go (is_blank line) refl
@@ -34,14 +34,14 @@ inner-less rules line = go (is_blank line) refl
     go true e = tt
     go false e = of_start (start_of rules line) e
 
--- two functions that agree on the line behind the marker give the same
+-- two functions that agree on the line after the marker give the same
 agree-by : (f g : LineView → Change) (b : LineOpens) → OfInner (λ inner. f inner ≡ g inner) b → begin_by f b ≡ begin_by g b
 agree-by f g begins_nothing h = refl
 agree-by f g (begins_leaf x) h = refl
 agree-by f g (begins_quote inner) h = ap (λ (c : Change). change [] (in_quote c.closed c.now)) h
 agree-by f g (begins_item kind column inner) h = ap (λ (c : Change). change [] (in_item kind column (is_blank inner) c.closed c.now)) h
 
--- what is said of every line with fewer marks is said of the line behind the marker
+-- what is said of every line with fewer marks is said of the line after the marker
 pub of-less : (P Q : LineView → Type 0) → ((l : LineView) → P l → Q l) → (b : LineOpens) → OfInner P b → OfInner Q b
 of-less P Q h begins_nothing p = tt
 of-less P Q h (begins_leaf x) p = tt

@@ -1,4 +1,4 @@
--- How many quotes and items a stack holds, before and behind a line.
+-- How many quotes and items a stack holds, before and after a line.
 use Rattle.std.specs.Prelude.{take, drop, not, ◌&&◌, ◌||◌}
 use Rattle.std.specs.List.{sum}
 use Rattle.std.proofs.lemmas.List.Sums.{sum_by_push}
@@ -80,7 +80,7 @@ pub count-closes : (v : Level) (block : Block) → count_in (block_closes v bloc
 count-closes v block =
     omega (arith, count-level (v.blocks ++ block ∷ []) v.open_list, count-level v.blocks v.open_list, one-more v.blocks block)
 
--- an item counts where it stands in a list
+-- an item counts where it is in a list
 count-item-closes : (v : Level) (item : Item) → count_in (item_closes v item) ≤ count_in v + suc (container_count item.blocks)
 unfolding list-count
 count-item-closes v item =
@@ -162,7 +162,7 @@ count-parted zero fs = omega arith
 count-parted (suc n) [] = omega arith
 count-parted (suc n) (f ∷ fs) = let h : count_frames (take n fs) + count_frames (drop n fs) ≡ count_frames fs = count-parted n fs in omega (arith, h)
 
--- what a line begins: as many as are then open
+-- what a line starts: as many as are then open
 
 count-leaf-line : (s : Owned) (v : Level) (l : LeafLine) → count_of (push_leaf_line s v l) ≡ count_in v + nesting (push_leaf_line s v l).now
 unfolding count_open nesting
@@ -196,7 +196,7 @@ pub count_taken : (bare : Bool) (fs : List Frame) (v : Level) (x : OpenLeaf) (s 
     → count_of now - count_of (stack_with bare fs v x s) ≤ 0
 count_taken bare fs v x s t l now is = omega (arith, ap count_of is, count-within fs (push_leaf_line t v l), count-stays t v l, count-nest bare fs v x s)
 
--- of another line that stays in so many containers, those beyond these are opened
+-- of another line that stays in the given number of containers, those beyond these are opened
 pub count_begun : (rules : Rules) (bare : Bool) (fs gs : List Frame) (v w : Level) (x : OpenLeaf) (s t : Owned) (line : LineView) (depth : ℕ) (now : Stack)
     → gs ≡ take depth fs → w ≡ close_frames (drop depth fs) (close_open v (in_leaf x)) → now ≡ begun_in rules gs w line t
     → count_of now - count_of (stack_with bare fs v x s) ≤ nesting now.now - length gs

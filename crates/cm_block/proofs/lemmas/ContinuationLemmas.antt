@@ -155,7 +155,7 @@ taken_goes_on column line inner is =
     let taken : inner.column ≡ line.column + min column (indent_of line) = ap (λ (l : LineView). l.column) is ∙ (strip_takes_columns column line).0 in
     grind (arith, taken)
 
--- a line behind a marker
+-- a line after a marker
 
 pub past_content : (line : LineView) (n k : ℕ) (view : View) → n ≡ indent_of line → seen_view view ≡ strip_columns n line → view.spaces ≡ 0
     → record { column = view.column + k; text = drop k view.rest.now; lazy = view.lazy } ≡ past k line
@@ -170,7 +170,7 @@ past_content line n k view all left none =
         let least : min n (indent_of line) ≡ indent_of line = grind (arith, all) in
         omega (arith, taken, least)
 
--- the columns behind an item's marker
+-- the columns after an item's marker
 
 pub offset_blank : (behind : LineView) → is_blank behind ≡ true → 1 ≡ content_offset behind
 unfolding content_offset
@@ -200,7 +200,7 @@ pub first_is_content : (marker : ItemMarker) (line behind : LineView) (offset : 
 unfolding first_content
 first_is_content marker line behind offset at is = ap₂ strip_columns (is ∙ ap content_offset at) at
 
--- the spaces at the front of a text, and what stands behind them
+-- the spaces at the start of a text, and what is after them
 
 spaces-front : (text : List ℕ) → replicate (run_length 32 text) 32 ++ drop (run_length 32 text) text ≡ text
 unfolding run_length
@@ -238,7 +238,7 @@ module _ (text rest : List ℕ) (spaces : ℕ) (run : spaces ≡ run_length 32 t
   pub columns_seen : (n : ℕ) → replicate (n + spaces) 32 ++ rest ≡ replicate n 32 ++ text
   columns_seen n = replicate-more n spaces rest ∙ ap (λ t. replicate n 32 ++ t) front
 
--- the spaces in front of a text, as the search counts them
+-- the spaces before a text, as the search counts them
 pub spaces_run : (text : List ℕ) → run_length 32 text ≡ position_or_len is_no_space text
 unfolding run_length
 spaces_run [] = refl

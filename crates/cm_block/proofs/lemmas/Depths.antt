@@ -81,7 +81,7 @@ unfolding put_all depths_of
 depths-law [] = refl
 depths-law (x ∷ ps) = put-depths x (put_all ps none) ∙ ap (λ ds. closed_part_depths x ++ ds) (depths-law ps)
 
--- leaves stand at no depth
+-- leaves are at no depth
 
 leaf_total : List (LeafPart × ℕ) → ℕ
 leaf_total [] = 0
@@ -103,7 +103,7 @@ closing-zeros x =
     ∙ ap₂ (λ ds es. ds ++ es) (leaf-zeros (closed_leaves x)) (blank-zeros (blank_lines_behind x))
     ∙ replicate-append-replicate (leaf_total (closed_leaves x)) (blank_lines_behind x) 0
 
--- a container stands round its lines
+-- a container is around its lines
 
 map-suc : (k d : ℕ) → map suc (replicate k d) ≡ replicate k (suc d)
 map-suc zero d = refl
@@ -136,7 +136,7 @@ grows-leaf m before e (is_last leaves) = record {
   became = depths-append (parts_of_leaves leaves) (closing (in_leaf no_leaf)) ∙ ap₂ (λ ds es. ds ++ es) (leaf-zeros leaves) (closing-zeros no_leaf) ∙ replicate-append-replicate (leaf_total leaves) _ 0;
 }
 
--- where nothing stands before
+-- where nothing is before
 abbrev Adds : Change → Type 0
 Adds c = (k : ℕ) × (closed_parts_depths (c.closed ++ closing c.now) ≡ replicate k (nesting c.now))
 

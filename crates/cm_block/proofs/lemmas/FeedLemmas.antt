@@ -39,12 +39,12 @@ pub feeds_ended : (text : List ℕ) → line_feeds (text ++ 10 ∷ []) ≡ suc (
 unfolding line_feeds
 feeds_ended text = let h : line_feeds (text ++ 10 ∷ []) ≡ line_feeds text + line_feeds (10 ∷ []) = feeds_append text (10 ∷ []) in grind (arith, h)
 
--- with a part of a line behind it, or without it, a text has as many
+-- with a part of a line after it, or without it, a text has as many
 pub feeds_with_part : (ok : Bool) (old part new : List ℕ) → is_line part ≡ true → new ≡ (if ok then old ++ part else old) → line_feeds new ≡ line_feeds old
 feeds_with_part true old part new line e = ap line_feeds e ∙ feeds_append old part ∙ omega (arith, feeds_of_line part line)
 feeds_with_part false old part new line e = ap line_feeds e
 
--- nor does a line behind a text bring more
+-- nor does a line after a text bring more
 pub feeds_behind : (text : List ℕ) (n : ℕ) (rest : List ℕ) → is_line rest ≡ true → line_feeds (text ++ (replicate n 32 ++ rest)) ≡ line_feeds text
 feeds_behind text n rest e = omega (arith, feeds_append text (replicate n 32 ++ rest), feeds_of_view n rest e)
 

@@ -1,4 +1,4 @@
--- What a line begins in the innermost of the open containers.
+-- What a line starts in the innermost of the open containers.
 use Rattle.std.proofs.Common.{◌≡◌, ℕ, zero, suc, ◌+◌, ◌<◌, Bool, true, false, ◌&&◌, List, [], ◌∷◌, ◌++◌, length, refl, ◌∙◌, sym, ap, ap₂, arith, le_refl, Option, Some, None}
 use Rattle.std.specs.Prelude.{⊤}
 use Rattle.cm_text.specs.Rules.{Rules}
@@ -46,7 +46,7 @@ push-cases rules q s v line =
     agree-by (push_within rules (marks line.text)) (push_begin rules) q s v (begin_of rules line)
     (of-less (λ l. marks l.text < marks line.text) _ (λ l less q s v. within-agree rules (marks line.text) (suc (marks l.text)) q s v l less (le_refl _)) (begin_of rules line) (inner-less rules line))
 
--- behind a line that isn't blank, the level doesn't end in a blank line
+-- after a line that isn't blank, the level doesn't end in a blank line
 
 leaves-end : (v : Level) (xs : List (LeafPart × ℕ)) → v.ends_blank ≡ false → (close_leaves v xs).ends_blank ≡ false
 unfolding close_leaves
@@ -100,7 +100,7 @@ line-ends rules q s v line h = ap (λ (c : Stack). c.level.ends_blank) (push-cas
 still : (w : Level) → w.ends_blank ≡ false → not_blank w ≡ w
 still w h = ap (λ b. record w { ends_blank = b }) (sym h)
 
--- what the line begins
+-- what the line starts
 
 pub begins-nothing : (rules : Rules) (q : Bool) (s : Owned) (v : Level) (line : LineView) → begin_of rules line ≡ begins_nothing
     → push_begin rules q s v line ≡ push_by (push_begin rules) q s v begins_nothing
@@ -141,7 +141,7 @@ begins-bare-item rules q s v line inner kind column h none =
     ∙ ap₂ (λ b (c : Stack). stack (item_opens v kind) (in_item kind column b (not_blank c.level) c.now) c.owned) none
     (begins-nothing rules true s empty_level inner (blank-begins rules inner none))
 
--- containers round a stack
+-- containers around a stack
 
 pub within-append : (fs gs : List Frame) (st : Stack) → within (fs ++ gs) st ≡ within fs (within gs st)
 unfolding within

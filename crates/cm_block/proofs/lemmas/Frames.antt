@@ -1,4 +1,4 @@
--- A row of open containers is the stack in which each stands in the one before.
+-- A row of open containers is the stack in which each is in the one before.
 use Rattle.std.specs.Prelude.{length, take, drop, ◌==◌}
 use Rattle.std.proofs.Common.{◌≡◌, ℕ, suc, Bool, true, false, ◌&&◌, List, [], ◌∷◌, refl, ◌∙◌, sym, ap, ap₂, arith, Option, Some, None}
 use Rattle.cm_text.specs.Rules.{Rules}
@@ -47,7 +47,7 @@ owns bare q (f ∷ fs) s v x = go f.container (λ p. owns bare p fs s v x)
 
 -- one more line
 
--- the last containers are closed, and the line begins something in the first ones
+-- the last containers are closed, and the line starts something in the first ones
 unfoldable pub pushed_after : Rules → (q : Bool) → List Frame → Level → OpenLeaf → Owned → ℕ × LineView → Stack
 pushed_after rules q fs v x s m =
     within (take m.0 fs) (push_begin rules (quoted_by q (take m.0 fs)) (own_open (quoted_by q fs) s (in_leaf x)) (close_frames (drop m.0 fs) (close_open v (in_leaf x))) m.1)
@@ -66,7 +66,7 @@ pushed rules q fs v x s m = elim (m.0 == length fs) [
 same-count : (n m : ℕ) → (suc n == suc m) ≡ (n == m)
 same-count n m = grind arith
 
--- what a container round a stack makes of it
+-- what a container around a stack makes of it
 abbrev round : Frame → Stack → Stack
 round f i = stack f.level (opened f.container false i.level i.now) i.owned
 

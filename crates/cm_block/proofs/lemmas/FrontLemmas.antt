@@ -1,4 +1,4 @@
--- Blocks that stand before all that is open play no part in what is done there.
+-- Blocks that are before all that is open play no part in what is done there.
 use Rattle.std.proofs.Common.{◌≡◌, ◌∙◌, ◌&&◌, ◌||◌, Bool, true, false, List, [], ◌∷◌, ◌++◌, length, Option, Some, None, refl, sym, ap, append_assoc, arith}
 use Rattle.std.proofs.lemmas.List.{same_from_push}
 use Rattle.cm_text.specs.Rules.{Rules}

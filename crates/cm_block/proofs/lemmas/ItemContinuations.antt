@@ -1,4 +1,4 @@
--- What the spaces in front of the rest of a line tell of an open item.
+-- What the spaces before the rest of a line say of an open item.
 use Rattle.std.specs.Prelude.{nat_le, ◌||◌}
 use Rattle.std.proofs.lemmas.Bool.Decides.{nat_tests}
 use Rattle.std.proofs.Common.{◌≡◌, ℕ, ◌+◌, ◌-◌, ◌<◌, ◌≤◌, Bool, true, false, not, List, [], ◌∷◌, ◌++◌, replicate, refl, sym, ◌∙◌, ap, arith}
@@ -21,7 +21,7 @@ module _ (column spaces from : ℕ) (rest : List ℕ) (lazy : Bool) where
       let h : nat_le column (indent_of line) ≡ true = grind (arith, nat_tests, e, few) in
       grind (arith, h)
 
-  -- nothing stands behind them
+  -- nothing is after them
   pub nothing_behind : rest ≡ [] → (nat_le column (indent_of line) || is_blank line) ≡ true
   nothing_behind none =
       let blank : is_blank line ≡ true = blank_spaces spaces rest ∙ ap is_blank_text none in
@@ -35,7 +35,7 @@ module _ (column spaces from : ℕ) (rest : List ℕ) (lazy : Bool) where
       ∙ sym (strip_all spaces column from rest few ∙ ap (strip_from (column - spaces) (from + spaces)) none)
       )
 
-  -- something else stands behind them, and they don't reach it
+  -- something else is after them, and they don't reach it
   pub plain_behind : begins_plain rest ≡ true → spaces < column → (nat_le column (indent_of line) || is_blank line) ≡ false
   plain_behind plain near =
       let no_more = go rest refl in

@@ -21,7 +21,7 @@ use Rattle.cm_block.specs.OpenLeaf.{no_leaf, open_text, open_code, open_fence, o
 use Rattle.cm_block.specs.LeafViews.{ended, code_of, leaf_with}
 use Rattle.cm_block.specs.steps.LeafSteps.{leaves_with}
 
--- spaces in front of a line don't matter to the end of an HTML block
+-- spaces before a line don't matter to the end of an HTML block
 
 end-space : (kind : HtmlKind) (text : List ℕ) → is_html_end kind (32 ∷ text) ≡ is_html_end kind text
 unfolding is_html_end holds_word is_at_word
@@ -64,7 +64,7 @@ closes (leaf.Code blank_lines) text = refl
 closes (leaf.Fence kind info columns) text = refl
 closes (leaf.Html kind) text = refl
 
--- a line behind indented code
+-- a line after indented code
 
 module _ (rules : Rules) where
   line-of-code : (text blanks : List ℕ) (line : LineView) (blank indented : Bool) → is_blank line ≡ blank → nat_le 4 (indent_of line) ≡ indented
@@ -96,7 +96,7 @@ module _ (rules : Rules) where
       let lines : suc (line_feeds after) ≡ suc (line_feeds text) + line_feeds blanks + 1 = omega (arith, feeds, feeds_append (text ++ 10 ∷ []) blanks, feeds_ended text) in
       ap₂ (λ t n. Some (stays_open (open_code t n [] 0))) ends lines ∙ line-of-code text blanks line false true blank indented
 
--- a line behind each other kind of leaf
+-- a line after each other kind of leaf
 
 module _ (rules : Rules) where
   pub no_line : (line : LineView) → None ≡ line_of_leaf rules no_leaf line

@@ -12,7 +12,7 @@ use Rattle.cm_scan.specs.blocks.Parts.{Parts, none, blank, leaf, quote, list, It
 use Rattle.cm_block.specs.Machine.{ClosedPart, closed_blank, closed_leaf, closed_quote, closed_item, put, put_all}
 use Rattle.cm_block.specs.Level.{OpenList, Item, Level, empty_level, closed_blocks, push_blank, list_opens, list_goes_on, item_opens_in, item_closes, push_block, push_item, item_of_parts, add, add_all, LevelOfParts}
 
--- an item that begins a list, and one that goes on with it
+-- an item that starts a list, and one that continues it
 abbrev first_item : Level → ListKind → Item → Level
 first_item v kind i = item_closes (list_opens v kind) i
 
@@ -31,7 +31,7 @@ outcome bs s e = record { blocks = bs; separated = s; ends_blank = e }
 abbrev Following : Type 0
 Following = Option (ℕ × ItemParts × Parts)
 
--- where no item goes on with the list
+-- where no item continues the list
 abbrev plain : Level → Parts → Outcome
 plain v p = outcome (closed_blocks v ++ blocks_of_parts p) (v.separated || is_separated v.has_block v.ends_blank p) (ends_blank_after v.ends_blank p)
 
@@ -102,7 +102,7 @@ plain-push v b p =
     ap₂ (λ bs s. outcome bs s (ends_blank_after false p)) (sym (append_assoc (closed_blocks v) (b ∷ []) (blocks_of_parts p)))
     (sym (or_assoc v.separated (v.has_block && v.ends_blank) (is_separated true false p)))
 
--- an item that begins a list
+-- an item that starts a list
 list-begins : (v : Level) (kind : ListKind) (c p : Parts) (x : Following)
     → plain v (put_before kind c p x) ≡ by_next (first_item v kind (item_of_parts c)) (record { kind = kind; loose = is_separated false false c; items = blocks_of_parts c ∷ [] }) p x
 unfolding by_next blocks_of_parts is_separated ends_blank_after is_loose items_end_blank
@@ -114,7 +114,7 @@ list-begins v kind c p (Some f) =
     ap (λ s. outcome (closed_blocks v ++ ListBlock kind (not (is_loose (item c f.0 f.1))) (blocks_of_parts c ∷ blocks_of_items f.1) ∷ blocks_of_parts f.2) s (ends_blank_after (items_end_blank f.1) f.2))
     (sym (or_assoc v.separated (v.has_block && v.ends_blank) (is_separated true (items_end_blank f.1) f.2)))
 
--- an item that goes on with a list
+-- an item that continues a list
 more-loose : (a b c d e f : Bool) → (a || false || b || (c || d || e || f)) ≡ (a || b || c || d || e || f)
 more-loose true b c d e f = refl
 more-loose false true c d e f = refl

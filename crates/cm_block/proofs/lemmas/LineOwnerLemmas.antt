@@ -1,4 +1,4 @@
--- Owners of blank lines that stand together.
+-- Owners of consecutive blank lines.
 use Rattle.std.proofs.Common.{◌≡◌, ℕ, zero, suc, Bool, [], ◌∷◌, replicate, sym, ap, ◌∙◌}
 use Rattle.std.proofs.lemmas.List.{append_assoc, append-nil}
 use Rattle.cm_block.specs.Stack.{Owned, own_lines, blank_owner, own_blanks}

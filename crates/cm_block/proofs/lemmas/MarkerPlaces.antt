@@ -1,4 +1,4 @@
--- What stands at the front of a line that begins an item, and behind its marker.
+-- What is at the start of a line that starts an item, and after its marker.
 use Rattle.std.proofs.Common.{◌≡◌, ℕ, zero, suc, ◌+◌, ◌<◌, ◌≤◌, ◌==◌, Bool, true, false, List, [], ◌∷◌, ◌++◌, length, drop, take, Option, Some, None, refl, ◌∙◌, sym, ap, subst, arith, add-one}
 use Rattle.std.specs.Prelude.{nat_le}
 use Rattle.std.specs.Str.{IsCharBoundary}
@@ -16,7 +16,7 @@ use Rattle.cm_scan.specs.blocks.Starts.{Start, QuoteMarker, ItemStart, start_of_
 use Rattle.cm_block.specs.steps.ContinuationViews.{begins_quote}
 use Rattle.cm_block.proofs.lemmas.StartLemmas.{first}
 
--- a marker at the front of a text
+-- a marker at the start of a text
 pub record Marked (text : List ℕ) (marker : ItemMarker) : Type 0 where
   pub few : marker.digits ≤ 9
   pub within : suc marker.digits ≤ length text
@@ -63,7 +63,7 @@ length-behind : (ds cs : List ℕ) (c : ℕ) → suc (length ds) ≤ length (ds 
 length-behind [] cs c = omega arith
 length-behind (d ∷ ds) cs c = omega (arith, length-behind ds cs c)
 
--- so many bytes, and a byte behind them
+-- a number of bytes, and a byte after them
 of-width : (ds cs : List ℕ) (c : ℕ) (m : ItemMarker) → m.digits ≡ length ds → length ds ≤ 9 → tabs (ds ++ c ∷ []) ≡ 0 → is_at_gap cs ≡ true → Marked (ds ++ c ∷ cs) m
 of-width ds cs c m width few plain gap = record {
   few = omega (arith, width, few);
@@ -110,7 +110,7 @@ marked (b ∷ bs) m e = go (bullet_marker (b ∷ bs)) refl e
         of-width [] bs b m h.0 (omega arith) (one-plain b (bullet-plain b bs m (is ∙ e))) h.1
     go None is e = ordered-marked (b ∷ bs) (skip is_digit (b ∷ bs)) m refl e
 
--- a line that begins an item has its marker behind at most 3 columns
+-- a line that starts an item has its marker after at most 3 columns
 
 first-item : (q : Bool) (h : Option Heading) (f : Option Fence) (k : Option HtmlKind) (b : Bool) (i : Option ItemMarker) (m : ItemMarker)
     → first q h f k b i ≡ ItemStart m → i ≡ Some m
@@ -140,7 +140,7 @@ module _ (rules : Rules) where
       go false true h e = absurd (cc e)
       go false false h e = (near h, first-item (begins_with 62 text) (atx_heading text) (opening_fence text) (html_start rules text) (is_thematic_break text) (item_marker text) m e)
 
--- a quote begins just where a `>` stands behind at most 3 columns
+-- a quote starts just where a `>` is after at most 3 columns
 
 quote-first : (h : Option Heading) (f : Option Fence) (k : Option HtmlKind) (b : Bool) (i : Option ItemMarker) → begins_quote (first false h f k b i) ≡ false
 quote-first (Some h) f k b i = refl

@@ -99,7 +99,7 @@ match_end rules bare open_text i n from line at is = ap (λ fs. behind i (matchi
     sum : i + 0 ≡ n
     sum = omega (arith, is)
 
--- one more item, with the line behind the containers in front of it
+-- one more item, with the line after the containers before it
 
 pub frames_from : (raw : Raw) (frames : List code.Frame) (i : ℕ) (other : code.Frame) → i < length frames
     → drop i (frames_in raw frames) ≡ frame_in raw (get_or frames i other) ∷ drop (suc i) (frames_in raw frames)

@@ -108,7 +108,7 @@ module _ (rules : Rules) where
       go None true e = refl
       go (Some other) true e = absurd (cc)
 
--- what is behind the first byte of a part
+-- what is after the first byte of a part
 
 drop-one : (n : ℕ) (text : List ℕ) → drop 1 (drop n text) ≡ drop (suc n) text
 drop-one zero text = refl
@@ -118,7 +118,7 @@ drop-one (suc n) (b ∷ bs) = drop-one n bs
 pub behind_first : (text part : List ℕ) (n : ℕ) → part ≡ slice_range text n (length text) → take (length part - 1) (drop 1 part) ≡ drop (suc n) text
 behind_first text part n e = slice_from 1 part ∙ ap (drop 1) (e ∙ slice_from n text) ∙ drop-one n text
 
--- a line that begins with a letter goes on with any run
+-- a line that starts with a letter continues any run
 
 next-plain : (rules : Rules) (source : List ℕ) (line : LineView) → is_blank line ≡ false → underline_of line ≡ None → interrupts_paragraph rules line ≡ false
     → GoesOn ≡ next_line rules source line
@@ -133,7 +133,7 @@ shows (b ∷ bs) e = grind (arith, e)
 pub letter_shows : (view : View) → ((view.spaces == 0) && is_at_letter view.rest.now) ≡ true → is_blank (seen_view view) ≡ false
 letter_shows view letter = shows (seen_view view).text (at_letter view letter)
 
--- and begins a text
+-- and starts a text
 pub letter_text : (rules : Rules) (view : View) → ((view.spaces == 0) && is_at_letter view.rest.now) ≡ true → start_of rules (seen_view view) ≡ TextLine
 letter_text rules view letter = go view.lazy refl
   where

@@ -35,7 +35,7 @@ unfolding put_all put_leaves
 put-leaves [] p = refl
 put-leaves (x ∷ xs) p = ap (leaf x.0 x.1) (put-leaves xs p)
 
--- so many blank lines in front
+-- the given number of blank lines before
 put_blanks : ℕ → Parts → Parts
 put_blanks zero p = p
 put_blanks (suc n) p = blank (put_blanks n p)
@@ -145,7 +145,7 @@ module _ (rules : Rules) where
   unfolding finish
   finish-step now line lines c e = ap (λ (c : Change). c.closed ++ finish c.now lines) e
 
-  -- with nothing open the line begins something
+  -- with nothing open the line starts something
   finish-begin : (line : LineView) (lines : List LineView) → finish (in_leaf no_leaf) (line ∷ lines) ≡ (begin rules line).closed ++ finish (begin rules line).now lines
   unfolding finish step line_of_leaf closing closed_leaves
   finish-begin line lines = refl
@@ -200,7 +200,7 @@ module _ (rules : Rules) where
   unfolding parts_in_one_pass close
   reached-close so_far ps o e = ap close e
 
-  -- it tells whether a lazy continuation line can follow
+  -- it says whether a lazy continuation line can follow
   open-reached : (so_far : List LineView) (ps : List ClosedPart) (o : Open (List ClosedPart)) → take_lines rules new_machine so_far ≡ change ps o
       → parts_in_one_pass rules so_far ≡ parts_of rules so_far → leaves_paragraph_open (parts_of rules so_far) ≡ has_open_text o
   open-reached so_far ps o e same =

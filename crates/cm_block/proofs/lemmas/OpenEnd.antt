@@ -1,4 +1,4 @@
--- What is open tells whether the last line is a paragraph's or a definition's.
+-- What is open says whether the last line is a paragraph's or a definition's.
 use Rattle.std.specs.Prelude.{⊤, ◌&&◌, nat_le, replicate}
 use Rattle.std.proofs.Common.{◌≡◌, ℕ, zero, suc, ◌<◌, Bool, true, false, List, [], ◌∷◌, ◌++◌, length, refl, ◌∙◌, sym, ap, arith, Option, Some, None, le_refl, subst}
 use Rattle.std.proofs.lemmas.List.{append_assoc, append-nil}
@@ -40,7 +40,7 @@ pub given-is : {A : Type 0} (b : Bool) (x y : A) → given b x ≡ Some y → x 
 given-is {A = A} true x y e = ap (λ (v : Option A). elim v as (λ _. A) [ Some z ↦ z | None ↦ x ]) e
 given-is false x y e = grind (arith, e)
 
--- an item in front of what follows
+-- an item before what follows
 next-open : (kind : ListKind) (n : ℕ) (before : Bool) (p : Parts) (following : ℕ × ItemParts × Parts) → next_items kind n p ≡ Some following
     → leaves_open_after before p ≡ leaves_open_after (items_leave_open following.1) following.2
 unfolding next_items leaves_open_after
@@ -149,7 +149,7 @@ heading-closed source level before h =
 -- what the states that lines lead to keep: a run of text is firm; where nothing is open, the last line is no paragraph's; an item isn't
 -- without anything
 
--- an open leaf that a line has begun or gone on with
+-- an open leaf that a line has started or continued
 abbrev pub SoundLeaf : OpenLeaf → Type 0
 SoundLeaf no_leaf = ⊥
 SoundLeaf (open_text source) = Firm source
@@ -190,7 +190,7 @@ open-last (in_item kind column bare closed now) closed_parts h = open-last now c
 pub fit-open : (now : Open (List ClosedPart)) (closed_parts : List ClosedPart) → Fit closed_parts now → has_open_text now ≡ leaves_paragraph_open (put_all (closed_parts ++ closing now) none)
 fit-open now closed_parts h = open-last now closed_parts h ∙ sym (last_open-append false closed_parts (closing now)) ∙ sym (ends-open (closed_parts ++ closing now))
 
--- each line of a leaf, and what a line begins, is sound
+-- each line of a leaf, and what a line starts, is sound
 
 abbrev pub SoundLine : LeafLine → Type 0
 SoundLine (stays_open x) = SoundLeaf x
@@ -252,7 +252,7 @@ begin-sound rules line = go (is_blank line) refl
     go true e = tt
     go false e = start-sound rules line e (start_of rules line)
 
--- a change behind any closed parts keeps it
+-- a change after any closed parts keeps it
 
 abbrev pub Fits : List ClosedPart → Change → Type 0
 Fits closed_parts c = Fit (closed_parts ++ c.closed) c.now × NotFresh c.closed c.now
@@ -266,7 +266,7 @@ abbrev pub HasLeaves : List (LeafPart × ℕ) → Type 0
 HasLeaves [] = ⊥
 HasLeaves (x ∷ xs) = ⊤
 
--- leaves that tell whether a paragraph is left open are some
+-- if leaves say whether a paragraph is left open, there are some
 pub some-closed : (leaves : List (LeafPart × ℕ)) → ((before : Bool) → last_open before (parts_of_leaves leaves) ≡ false) → HasLeaves leaves
 some-closed [] h = absurd (true-false (h true))
 some-closed (x ∷ xs) h = tt

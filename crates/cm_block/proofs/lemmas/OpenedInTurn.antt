@@ -1,4 +1,4 @@
--- Containers that a line begins, opened one after another.
+-- Containers that a line starts, opened one after another.
 use Rattle.std.proofs.Common.{◌≡◌, ℕ, ◌≤◌, Bool, true, false, List, [], ◌∷◌, ◌++◌, length, refl, ◌∙◌, sym, ap, ap₂, arith}
 use Rattle.cm_text.specs.Rules.{Rules}
 use Rattle.cm_text.specs.Lines.{LineView}
@@ -34,7 +34,7 @@ module _ (rules : Rules) where
   marked-same q p s v line some =
       push-cases rules q s v line ∙ marked-by q p s v (begin_of rules line) (not-nothing rules line some) ∙ sym (push-cases rules p s v line)
 
-  -- what it begins, by its start
+  -- what it starts, by its start
   pub begins-as : (line : LineView) (start : Start) → is_blank line ≡ false → start_of rules line ≡ start → begin_of rules line ≡ begin_of_start rules start line
   unfolding begin_of
   begins-as line start some is = go (is_blank line) some
@@ -111,7 +111,7 @@ module _ (rules : Rules) where
   stays_left bare fs gs v w line owned e frames level =
       sym (left_some _ bare gs w line owned e ∙ ap₂ (λ hs u. begun_in rules hs u line owned) frames level)
 
-  -- behind an item's marker, by whether the rest of the line is blank
+  -- after an item's marker, by whether the rest of the line is blank
   pub item_left : (bare : Bool) (fs gs : List Frame) (v w : Level) (line : LineView) (owned : Owned) (kind : ListKind) (inner : LineView) (column : ℕ)
       → begin_of rules line ≡ begins_item kind column inner → bare ≡ is_blank inner
       → gs ≡ fs ++ frame (item_opens v kind) (an_item kind column) ∷ [] → w ≡ empty_level

@@ -22,7 +22,7 @@ next_owners leaves (run ∷ runs) last =
     ∙ sym (append_assoc (owners_of_run leaves run) (owners_of (leaves_with leaves run.owner) runs)
     (owners_of_run (leaves_in (leaves_with leaves run.owner) runs) last))
 
--- the last run, by so many lines
+-- the last run, longer by the given number of lines
 pub longer_run : (closed : List OwnerRun) (last : OwnerRun) (times : ℕ) (owner : Owner)
     → ((leaves : ℕ) → owner_of leaves last.owner ≡ owner)
     → owners_in closed (record last { lines = last.lines + times }) ≡ owners_in closed last ++ replicate times owner

@@ -14,21 +14,21 @@ use Rattle.cm_block.specs.Machine.{ClosedPart, closed_blank, closed_leaf, closed
 use Rattle.cm_block.proofs.lemmas.OpenEnd.{given-is}
 use Rattle.cm_block.specs.Stack.{Owned, table_with, own_leaf, own_lines, own_leaves, own_blanks}
 
--- the owners of a closed part's lines, where so many leaves stand before
+-- the owners of a closed part's lines, after the given number of leaves
 abbrev pub closed_part_owners : ℕ → ClosedPart → List Owner
 closed_part_owners n closed_blank = Blank ∷ []
 closed_part_owners n (closed_leaf x lines) = replicate lines (Leaf (suc n))
 closed_part_owners n (closed_quote c) = map marked (owners_after n c)
 closed_part_owners n (closed_item kind c) = marked_first c (owners_after n c)
 
--- how many leaves stand before what follows it
+-- the number of leaves before what follows it
 abbrev pub leaves_behind : ℕ → ClosedPart → ℕ
 leaves_behind n closed_blank = n
 leaves_behind n (closed_leaf x lines) = suc n
 leaves_behind n (closed_quote c) = n + leaf_count c
 leaves_behind n (closed_item kind c) = n + leaf_count c
 
--- parts behind a closed part
+-- parts after a closed part
 
 abbrev blanks : ℕ → List Owner
 blanks n = replicate n Blank

@@ -127,7 +127,7 @@ module _ (rules : Rules) (bare : Bool) (fs : List Frame) (v : Level) (x : OpenLe
   all_definitions p is =
       ap (λ (t : Owned). t.table) (is ∙ sym (owns bare false fs o v x)) ∙ ap (λ s. (close_stack s).definitions) holds ∙ stack_table rules lines
 
--- one more line behind those so far
+-- one more line after those so far
 
 module _ (limits : LimitsView) (st : Stack) (lines : List LineView) (line l : LineView) (same : l ≡ line) (so_far : AreLines lines) (one_line : is_line line.text ≡ true)
     (holds : st ≡ push_lines limits.rules empty_stack lines) (within_limit : first_too_deep limits.rules limits.blocks lines ≡ None) where
@@ -193,7 +193,7 @@ matched_few rules bare open_text (f ∷ fs) line = go (inward rules f.container 
     go None h = omega arith
     go (Some inner) h = omega (arith, h inner)
 
--- what was begun, of what was closed
+-- what was started, of what was closed
 pub deep_after : (fault : BlockFault) (limits : LimitsView) (before now : Stack) (line : LineView) (o : Owned) → push_line limits.rules before line ≡ now → (close_stack before).owners ≡ o.owners
     → DeepIn fault limits.blocks now o → Deep fault limits before line
 deep_after NoMemory limits before now line o is owners h = tt
@@ -230,7 +230,7 @@ stands_next old new lines line l tests same one_line h is few within tested sum 
         ap (λ (t : Stack). nesting t.now) (sym is)
         ∙ nest-nesting new.stack.bare new.stack.frames new.stack.level (leaf_of new.leaf)
 
--- a line that the parser accepts: one of the open leaf, or else what it begins
+-- a line that the parser accepts: one of the open leaf, or else what it starts
 
 module _ (old before now : parser.BlockParser) (line : LineView) (m : ℕ × LineView) (frames : before.stack.frames ≡ old.stack.frames) (level : before.stack.level ≡ old.stack.level)
     (leaf : before.leaf ≡ old.leaf) (owners : before.owners ≡ old.owners) (limits : before.limits ≡ old.limits)
@@ -316,7 +316,7 @@ owners_after old mid closed same owners =
     ∙ sym (owners ∙ ap₂ (λ g o. own_open (quoted_by false g) o (in_leaf (leaf_of mid.leaf))) same.1.0 same.1.1.1
     ∙ ap (λ y. own_open (quoted_by false old.stack.frames) old.owners (in_leaf y)) same.0))
 
--- how many more quotes and items there are behind the line
+-- how many more quotes and items there are after the line
 
 pub taken_count : (old before now : parser.BlockParser) (depth : ℕ) (line : LineView) (taken : Bool) → before.stack.frames ≡ old.stack.frames → before.stack.level ≡ old.stack.level
     → taken ≡ true → TakenToLeaf taken depth before line now → count_of (stack_of now) - count_of (stack_of old) ≤ 0

@@ -106,7 +106,7 @@ feeds-parted text end =
     ∙ sym (feeds_append (take end text) (drop end text))
     ∙ ap line_feeds (take-append-drop end text)
 
--- those of the front of a text, and those behind it
+-- those of the front of a text, and those after it
 pub feeds_parted : (text front : List ℕ) (end n : ℕ) → front ≡ slice_range text 0 end → n ≡ line_feeds front
     → n + line_feeds (drop end text) ≡ line_feeds text
 feeds_parted text front end n e k = ap (λ m. m + line_feeds (drop end text)) (k ∙ ap line_feeds e) ∙ feeds-parted text end

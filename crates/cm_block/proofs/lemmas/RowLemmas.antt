@@ -74,7 +74,7 @@ pub one-more-frame : (raw : Raw) (before after : List code.Frame) (last : code.F
     → AreFramesPlaced raw before → IsLevelPlaced raw last.level → AreFramesPlaced raw after
 one-more-frame raw before after last is placed outside = subst (AreFramesPlaced raw) (sym is) (frames-append raw before (last ∷ []) placed (outside, tt))
 
--- ---- all that stands there becomes a part
+-- ---- all that is there becomes a chunk
 
 pub no-frames : (raw : Raw) (front : List Block) (frames : List code.Frame) → frames_behind front (frames_in raw frames) ≡ [] → frames ≡ []
 no-frames raw front [] none = refl

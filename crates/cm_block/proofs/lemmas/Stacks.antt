@@ -33,7 +33,7 @@ unfolding add_all
 add_all-append v [] qs = refl
 add_all-append v (x ∷ ps) qs = add_all-append (add v x) ps qs
 
--- right behind a block the next is opened as the level stands
+-- right after a block the next is opened in the unchanged level
 block-again : (v : Level) (a b : Block) → block_closes (push_block v a) b ≡ push_block (push_block v a) b
 block-again v a b = ap (λ s. record (block_closes (push_block v a) b) { separated = s }) (sym (or-false (separated_next v)))
 
@@ -71,7 +71,7 @@ past-leaves : (xs : List (LeafPart × ℕ)) → past_blank (parts_of_leaves xs) 
 past-leaves [] = refl
 past-leaves (x ∷ xs) = refl
 
--- closed parts behind those of an item, where the first of all isn't a blank line among them
+-- closed parts after those of an item, where the first of all isn't a blank line among them
 abbrev Behind : List ClosedPart → List ClosedPart → Type 0
 Behind ps qs = past_blank (ps ++ qs) ≡ past_blank ps ++ qs
 
@@ -216,7 +216,7 @@ pub record Follows (q : Bool) (s : Owned) (v : Level) (c : Change) (st : Stack) 
   pub now : st.now ≡ held c.now
   pub owned : st.owned ≡ owned_in q (own_closed_parts q s c.closed) c.now
 
--- behind more closed parts
+-- after more closed parts
 follows-behind : (q : Bool) (s : Owned) (v : Level) (ps : List ClosedPart) (c : Change) (st : Stack) → Follows q (own_closed_parts q s ps) (add_all v ps) c st → Follows q s v (change (ps ++ c.closed) c.now) st
 follows-behind q s v ps c st f = record {
   level = f.level ∙ ap (opened c.now) (sym (add_all-append v ps c.closed));
@@ -321,7 +321,7 @@ module _ (rules : Rules) where
       (subst (λ t. Follows q (own_closed_parts q s (closing o)) (add_all v (closing o)) (begin rules line) (push_begin rules q t (add_all v (closing o)) line)) (sym (own-held q s ps o h))
       (follows-begin q (own_closed_parts q s (closing o)) (add_all v (closing o)) line)))
 
-  -- behind an item that isn't fresh no blank line comes first
+  -- after an item that isn't fresh no blank line comes first
 
   past-closed : (o : Open (List ClosedPart)) (line : LineView) → NotFresh [] o → Fit [] o → past_blank (closing o ++ (begin rules line).closed) ≡ closing o ++ (begin rules line).closed
   unfolding closing closed_leaves Fit

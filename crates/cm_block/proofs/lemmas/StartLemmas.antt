@@ -1,4 +1,4 @@
--- What a line begins, by what each scanner answers.
+-- What a line starts, by what each scanner returns.
 use Rattle.std.proofs.Common.{◌≡◌, ℕ, length, drop, get_or, subst, ◌<◌, ◌≤◌, Bool, true, false, ◌==◌, ◌&&◌, ◌||◌, not, None, Some, List, [], ◌∷◌, ◌++◌, replicate, Option, refl, ◌∙◌, sym, ap, arith}
 use Rattle.cm_text.specs.Lines.{LineView}
 use Rattle.cm_block.specs.steps.StartViews.{begins_break, begins_fence}
@@ -42,7 +42,7 @@ no-item : (b : ℕ) (bs : List ℕ) → (b == 45) ≡ false → (b == 43) ≡ fa
 unfolding item_marker
 no-item b bs d p s n = rw (no-bullet b bs d p s, no-number b bs n) refl
 
--- a byte that begins neither a quote, a heading, a fence, HTML nor a break
+-- a byte that starts neither a quote, a heading, a fence, HTML nor a break
 abbrev pub begins_item : ℕ → Bool
 begins_item b = not (b == 62 || b == 35 || b == 60 || begins_break b || begins_fence b)
 
@@ -114,7 +114,7 @@ pub in-none : (P : List ℕ → Type 0) (bytes text : List ℕ) → bytes ≡ te
 in-none P [] text e none holds = subst P e holds
 in-none P (c ∷ cs) text e none holds = absurd (omega (arith, eqb-true (length (c ∷ cs)) 0 none))
 
--- a scanner that answers a place alone
+-- a scanner that only returns a place
 
 pub is_there : (there : Bool) (place : ℕ) (read : Option ℕ) → read ≡ given there place → true ≡ is_some read → there ≡ true
 is_there true place read e h = refl
@@ -164,7 +164,7 @@ module _ (rules : Rules) where
   starts_near line n view lazy all near left none =
       ap (start_of_content rules) (content_left line n view all left none) ∙ starts_content _ line lazy (omega (arith, all, near))
 
--- a line that begins with a letter, without indentation
+-- a line that starts with a letter, without indentation
 
 pub at_letter : (view : View) → ((view.spaces == 0) && is_at_letter view.rest.now) ≡ true → is_at_letter (seen_view view).text ≡ true
 at_letter view begins =

@@ -39,7 +39,7 @@ tested_leaf least len limit x y z none few before leaf =
     tested_within 0 (suc len + 4) least (limit + 5) x z none (omega (arith, few)) (tested_within (0 + 0) (suc len + 4) 0 (suc len + 4) x z (omega arith) (omega arith) (tested_then 0 (suc len) 0 4 x y z before leaf))
 
 -- one that stays in the first of the containers, and opens others: with one further reading where it may be lazy, three of the open leaf
--- where it stays in all and isn't lazy, one where it begins no container, and one of the leaf that it opens
+-- where it stays in all and isn't lazy, one where it starts no container, and one of the leaf that it opens
 pub tested_line : (lazy : Bool) (least depth len next limit w x y z : ℕ) → least ≤ next - depth → depth ≤ len → depth ≤ next → next ≤ limit
     → Tested 0 (suc len) w x → x ≤ w + depth + 2 → (lazy ≡ false → len ≤ depth → x ≤ w + depth)
     → Tested 0 4 x y → y ≤ x + 3 → (lazy ≡ true → y ≤ x + 1) → (depth < len → y ≡ x) → Tested (next - depth) (next - depth + 2) y z → Tested least (limit + 5) w z
@@ -63,7 +63,7 @@ pub both_ok : {T E : Type 0} (P Q : Type 0) (r : Result T E) → OnOk r P → On
 both_ok P Q (Ok x) p q = (p, q)
 both_ok P Q (Err e) p q = tt
 
--- behind all lines so far, and one more
+-- after all lines so far, and one more
 pub tested_lines : (before now limit lines next x n y : ℕ) → next ≡ lines + 1 → limit ≤ 500 → AllTested before ((limit + 5) * lines) 0 x
     → Tested (now - before) (limit + 5) 0 n → y ≡ min (x + n) (2 ^ 128 - 1) → AllTested now ((limit + 5) * next) 0 y
 tested_lines before now limit lines next x n y is within so_far line sum =

@@ -1,4 +1,4 @@
--- A line of text goes on with the open run of text, through every level.
+-- A line of text continues the open run of text, through every level.
 use Rattle.std.proofs.Common.{◌≡◌, ℕ, Bool, true, false, ◌&&◌, not, List, [], ◌∷◌, ◌++◌, refl, ◌∙◌, sym, ap, ap₂, subst, arith, Option, Some, None}
 use Rattle.std.specs.Prelude.{nat_le}
 use Rattle.std.proofs.lemmas.Bool.Decides.{nat_tests}
@@ -23,7 +23,7 @@ use Rattle.cm_block.specs.Lazy.{with_text, TextGoesOn}
 use Rattle.cm_block.proofs.lemmas.StartLemmas.{content-after}
 use Rattle.cm_block.proofs.lemmas.Lazy.{lazy_line}
 
--- such a byte begins no other block, and no underline
+-- such a byte starts no other block, and no underline
 
 quiet : (b : ℕ) → begins_text b ≡ true → is_quiet b ≡ true
 unfolding is_quiet
@@ -40,7 +40,7 @@ text-level : (text : List ℕ) → is_text_behind 0 text ≡ true → underline 
 text-level [] h = absurd (cc (h))
 text-level (b ∷ bs) h = no-level b bs (differs begins_text b 61 h refl) (differs begins_text b 45 h refl)
 
--- a line whose content begins so isn't blank
+-- a line whose content starts like this isn't blank
 shows : (text : List ℕ) → is_text_behind 0 (trim_start text) ≡ true → is_blank_text text ≡ false
 unfolding skip
 shows [] h = absurd (cc (h))
@@ -51,7 +51,7 @@ shows (b ∷ bs) h = go (is_space_or_tab b) refl h (λ k. shows bs k)
     go true e h rest = ap (λ v. v && is_blank_text bs) e ∙ rest h
     go false e h rest = ap (λ v. v && is_blank_text bs) e
 
--- begins code or text, which can't interrupt a paragraph and may be lazy
+-- starts code or text, which can't interrupt a paragraph and may be lazy
 
 abbrev IsText : Start → Type 0
 IsText start = (may_be_lazy start ≡ true) × (((line : LineView) → can_interrupt start line ≡ false) × ((rules : Rules) (line : LineView) → quote_continuation rules start line ≡ continuation_if_lazy rules line))

@@ -14,7 +14,7 @@ use Rattle.cm_scan.proofs.lemmas.texts.ToldApart.{differs}
 use Rattle.cm_block.specs.steps.TextRuns.{add_lines, with_line}
 use Rattle.cm_block.proofs.lemmas.FeedLemmas.{feeds_append, feeds_of_line, feeds_ended}
 
--- the content of a line of text stands behind its spaces
+-- the content of a line of text is after its spaces
 pub content_behind : (spaces : ℕ) (line : List ℕ) → is_text_behind spaces line ≡ true → trim_start line ≡ drop spaces line
 unfolding skip
 content_behind spaces [] h = absurd (cc (h))
@@ -36,7 +36,7 @@ dropped spaces [] more h = absurd (cc (h))
 dropped zero (b ∷ bs) more h = refl
 dropped (suc n) (b ∷ bs) more h = dropped n bs more (and_parts (b == 32) (is_text_behind n bs) h).1
 
--- lines behind a source that isn't empty, each behind a line feed
+-- lines after a source that isn't empty, each after a line feed
 behind-some : (lines : List (List ℕ)) (b : ℕ) (bs : List ℕ) → are_text 0 lines ≡ true
     → fold add_text (b ∷ bs) (map plain_line lines) ++ 10 ∷ [] ≡ (b ∷ bs) ++ 10 ∷ flat_map with_line_feed lines
 behind-some [] b bs h = refl
@@ -48,7 +48,7 @@ behind-some (line ∷ lines) b bs h =
     ∙ ap (λ t. (b ∷ bs) ++ 10 ∷ (t ++ 10 ∷ flat_map with_line_feed lines)) content
     ∙ ap (λ t. (b ∷ bs) ++ 10 ∷ t) (sym (append_assoc line (10 ∷ []) (flat_map with_line_feed lines)))
 
--- the first behind spaces, and the others
+-- the first after spaces, and the others
 module _ (spaces : ℕ) (line : List ℕ) (lines : List (List ℕ)) (first : is_text_behind spaces line ≡ true) (rest : are_text 0 lines ≡ true) (text content : List ℕ)
     (is : text ≡ flat_map with_line_feed (line ∷ lines)) (left : drop spaces text ≡ content ++ 10 ∷ []) where
   left-is : drop spaces line ++ 10 ∷ flat_map with_line_feed lines ≡ content ++ 10 ∷ []
@@ -85,7 +85,7 @@ module _ (text : List ℕ) (spaces count : ℕ) (h : AreTextLines text spaces co
       go [] are is some = absurd (omega (arith, some))
       go (line ∷ lines) are is some = let parts = and_parts (is_text_behind spaces line) (are_text 0 lines) are in step line lines parts.0 parts.1 is
 
-  -- behind a run, or as its first lines
+  -- after a run, or as its first lines
   pub lines_added : (source : List ℕ) → with_line source ++ content ≡ add_lines source (plain_lines_of text)
   lines_added [] =
       by-lines (λ lines. content ≡ fold add_text [] (map plain_line lines)) (λ line lines first rest is. sym (behind-none spaces line lines first rest text content is left))

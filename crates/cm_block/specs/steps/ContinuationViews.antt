@@ -8,7 +8,7 @@ use Rattle.cm_scan.specs.Words.{is_space_or_tab}
 use Rattle.cm_scan.specs.blocks.LineForms.{ItemMarker}
 use Rattle.cm_scan.specs.blocks.Starts.{Start, QuoteMarker, Continuation, Stays}
 
--- it is a quote that begins
+-- it starts a quote
 abbrev pub begins_quote : Start → Bool
 begins_quote QuoteMarker = true
 begins_quote _ = false
@@ -16,7 +16,7 @@ begins_quote _ = false
 abbrev pub seen_marker : code.ItemMarker → ItemMarker
 seen_marker marker = record { kind = marker.kind; digits = marker.digits }
 
--- the line stays in the container and goes inward so, or stands where it otherwise does
+-- the line stays in the container and enters it as this line, or else has the other continuation
 abbrev pub IsInside : (inside : Bool) → (continuation otherwise : Continuation) → (inner : LineView) → Type 0
 IsInside true continuation otherwise inner = continuation ≡ Stays inner
 IsInside false continuation otherwise inner = continuation ≡ otherwise
@@ -26,7 +26,7 @@ stays stay.Inside = true
 stays stay.Lazily = true
 stays stay.Leaves = false
 
--- something else than a space or a tab stands in front
+-- it starts with something other than a space or a tab
 abbrev pub begins_plain : List ℕ → Bool
 begins_plain [] = false
 begins_plain (b ∷ bs) = not (is_space_or_tab b)

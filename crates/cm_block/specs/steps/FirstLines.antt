@@ -20,18 +20,18 @@ first_of Opens now = stays_open (leaf_of now)
 first_of Ends now = is_last (leaves_with None false now.kind now.text)
 first_of (Whole leaf) now = is_last (whole_leaves leaf)
 
--- behind a leaf of one line none is open
+-- after a leaf of one line none is open
 abbrev pub StaysClosed : FirstLine → OpenLeaf → Type 0
 StaysClosed (Whole leaf) now = leaf_of now ≡ no_leaf
 StaysClosed _ now = ⊤
 
--- the line begins with the marker of a quote or an item
+-- the line starts with the marker of a quote or an item
 abbrev pub begins_container : Start → Bool
 begins_container QuoteMarker = true
 begins_container (ItemStart marker) = true
 begins_container _ = false
 
--- what the line begins, and how it goes on
+-- what the line starts, and how it continues
 abbrev pub Found : Rules → LineView → Begins → LineView → Type 0
 Found rules line Nothing now = (is_blank line ≡ true) × (now ≡ line)
 Found rules line Quote now = (is_blank line ≡ false) × (begin_of rules line ≡ begins_quote now)

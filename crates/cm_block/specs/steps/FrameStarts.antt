@@ -1,4 +1,4 @@
--- What a line begins in the innermost of the open containers, as the code has them.
+-- What a line starts in the innermost of the open containers, as the code has them.
 use Rattle.std.specs.Prelude.{◌≡◌, ℕ, suc, ◌<◌, ◌≤◌, Bool, true, false, List, [], ◌∷◌, length, ⊤}
 use Rattle.cm_text.specs.Rules.{Rules}
 use Rattle.cm_text.specs.Lines.{LineView}
@@ -17,14 +17,14 @@ use Rattle.cm_block.specs.steps.FrameSteps.{within, quoted_by}
 use Rattle.cm_block.specs.steps.StartViews.{seen}
 use Rattle.cm_block.specs.steps.FirstLines.{begins_container}
 
--- the line begins something in the innermost of these containers
+-- the line starts something in the innermost of these containers
 abbrev pub begun_in : Rules → List Frame → Level → LineView → Owned → Stack
 begun_in rules frames level line owned = within frames (push_begin rules (quoted_by false frames) owned level line)
 
 abbrev pub begun_by : Rules → Row → LineView → Owned → Stack
 begun_by rules before line owned = begun_in rules before.frames before.level line owned
 
--- a blank line in the innermost container: right behind an item's marker it belongs to that
+-- a blank line in the innermost container: right after an item's marker it belongs to that
 abbrev pub blank_in : (bare : Bool) → List Frame → Level → Owned → Stack
 blank_in true frames level owned = stack_with true frames level no_leaf (own_lines owned (Marker ∷ []))
 blank_in false frames level owned = stack_with false frames (push_blank level) no_leaf (own_lines owned (blank_owner (quoted_by false frames) ∷ []))
@@ -40,7 +40,7 @@ left_in rules false frames level line owned = begun_in rules frames level line o
 abbrev pub left_of : Rules → Row → LineView → Owned → Stack
 left_of rules now line owned = left_in rules now.bare now.frames now.level line owned
 
--- The containers that the line begins have been opened, and this is left of it.
+-- The containers that the line starts have been opened, and this is the rest of it.
 abbrev pub Inside : Rules → ℕ → Row → LineView → Row → LineView → Innermost → Type 0
 Inside rules limit before line now inner TooDeep = (owned : Owned) → limit < nesting (begun_by rules before line owned).now
 Inside rules limit before line now inner Blank = (length now.frames ≤ limit) × ((owned : Owned) → begun_by rules before line owned ≡ with_blank now owned)
@@ -54,7 +54,7 @@ abbrev pub LeafBegins : Rules → Start → LineView → Row → Owned → Stack
 LeafBegins rules start line before owned now =
     (l : LeafLine) × ((begins_leaf l ≡ begin_of_start rules (seen start) line) × (now ≡ within before.frames (push_leaf_line owned (block_opens before.level) l)))
 
--- so many containers are open that a line is too deep, which is the next
+-- so many containers are open that a line is too deep, and it is the next
 abbrev pub DeepIn : BlockFault → ℕ → Stack → Owned → Type 0
 DeepIn (BlocksTooDeep n) limit now owned = (limit < nesting now.now) × (n ≡ suc (length owned.owners))
 DeepIn NoMemory limit now owned = ⊤

@@ -25,11 +25,11 @@ matching rules bare open_text (f ∷ fs) line = elim (inward rules f.container (
   | None ↦ (0, line)
 ]
 
--- behind so many containers
+-- after the given number of containers
 abbrev pub behind : ℕ → ℕ × LineView → ℕ × LineView
 behind n m = (n + m.0, m.1)
 
--- behind so many of these containers there is one in which the line doesn't stay by itself
+-- after the given number of these containers comes one in which the line doesn't stay by itself
 abbrev pub LeavesNext : List Frame → ℕ → LineView → Type 0
 LeavesNext frames n line =
     (f : Frame) × ((drop n frames ≡ f ∷ drop (suc n) frames) × ((rules : Rules) → continuation_in rules f.container false line ≡ continuation_if_lazy rules line))
@@ -38,7 +38,7 @@ abbrev pub quoted_in : Container → Bool → Bool
 quoted_in a_quote quoted = true
 quoted_in (an_item kind column) quoted = quoted
 
--- inside a quote, where these containers stand in one or not
+-- inside a quote, where these containers are in one or not
 unfoldable pub quoted_by : Bool → List Frame → Bool
 quoted_by quoted [] = quoted
 quoted_by quoted (f ∷ fs) = quoted_by (quoted_in f.container quoted) fs

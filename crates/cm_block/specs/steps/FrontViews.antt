@@ -1,4 +1,4 @@
--- Blocks that stand before all that is open: they go to the front of the outermost level.
+-- Blocks that are before all that is open: they go to the front of the outermost level.
 use Rattle.std.specs.Prelude.{List, [], ◌∷◌, ◌++◌}
 use Rattle.cm_tree.specs.declared.tree.Block.{Block}
 use Rattle.cm_block.specs.Level.{Level}

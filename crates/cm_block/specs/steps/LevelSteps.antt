@@ -23,14 +23,14 @@ abbrev pub is_list_of : Option OpenList → ListKind → Bool
 is_list_of None kind = false
 is_list_of (Some list) kind = is_same_kind list.kind kind
 
--- an item of this kind goes on with the list
+-- an item of this kind continues the list
 abbrev pub has_list_of : Level → ListKind → Bool
 has_list_of level kind = is_list_of level.open_list kind
 
 abbrev loosened : Bool → OpenList → OpenList
 loosened loose list = record { kind = list.kind; loose = list.loose || loose; items = list.items }
 
--- the list goes on with an item
+-- the list continues an item
 abbrev pub goes_on : Level → Level
 goes_on level = record {
   blocks = level.blocks;

@@ -1,4 +1,4 @@
--- What one look at a line tells of it.
+-- What one look at a line says of it.
 use Rattle.std.specs.Prelude.{◌≡◌, ℕ, List, true, false}
 use Rattle.cm_text.specs.Lines.{LineView}
 use Rattle.cm_text.specs.Rules.{Rules}
@@ -7,7 +7,7 @@ use Rattle.cm_scan.specs.blocks.Blocks as blocks
 use Rattle.cm_block.specs.declared.counted_line.Look.{Look}
 use Rattle.cm_block.specs.declared.counted_line.Look.TheVariants.{Blank, Letter, Other}
 
--- it is blank; it goes on with any run of text; it isn't blank
+-- it is blank; it continues any run of text; it isn't blank
 abbrev pub LooksLike : Look → LineView → Type 0
 LooksLike Blank line = is_blank line ≡ true
 LooksLike Letter line = (rules : Rules) (source : List ℕ) → blocks.GoesOn ≡ blocks.next_line rules source line

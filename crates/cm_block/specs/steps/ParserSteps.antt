@@ -12,13 +12,13 @@ use Rattle.cm_block.specs.OpenLeaf.{LeafLine, line_of_leaf}
 use Rattle.cm_block.specs.LeafViews.{leaf_of}
 use Rattle.cm_block.specs.Parser.{stack_of}
 
--- one more line behind this stack is too deep, and it is the next
+-- one more line after this stack is too deep, and it is the next
 abbrev pub Deep : BlockFault → LimitsView → Stack → LineView → Type 0
 Deep (BlocksTooDeep n) limits before line = (limits.blocks < nesting (push_line limits.rules before line).now) × (n ≡ suc (length (close_stack before).owners))
 Deep NoMemory limits before line = ⊤
 Deep TooLarge limits before line = ⊤
 
--- A line that stays in so many containers is one of the open leaf, or not: it stays in all then.
+-- A line that stays in the given number of containers is one of the open leaf, or not: it stays in all then.
 abbrev pub TakenToLeaf : Bool → ℕ → code.BlockParser → LineView → code.BlockParser → Type 0
 TakenToLeaf true depth before line now =
     (length before.stack.frames ≤ depth)

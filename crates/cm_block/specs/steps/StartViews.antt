@@ -1,4 +1,4 @@
--- What a line begins, as the code has it.
+-- What a line starts, as the code has it.
 use Rattle.std.specs.Prelude.{ℕ, ◌==◌, ◌||◌, Bool}
 use Rattle.cm_scan.specs.blocks.HtmlKinds.{kind_of}
 use Rattle.cm_scan.specs.blocks.Starts as starts
@@ -15,7 +15,7 @@ seen Break = starts.BreakLine
 seen (Item marker) = starts.ItemStart (record { kind = marker.kind; digits = marker.digits })
 seen TextLine = starts.TextLine
 
--- what a thematic break, and what a fence may begin with, in any text
+-- what a thematic break, and what a fence may start with, in any text
 abbrev pub begins_break : ℕ → Bool
 begins_break b = b == 45 || b == 95 || b == 42 || b == 32 || b == 9
 

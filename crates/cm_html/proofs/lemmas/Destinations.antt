@@ -102,7 +102,7 @@ unchanged (b ∷ bs) h =
     ∙ ap (λ l. l ++ destination_html bs) (kept-html b here.0 here.1)
     ∙ ap (λ l. b ∷ l) (unchanged bs parts.1)
 
--- the look-up in two tables
+-- the lookup in two tables
 pub changed-looked-up : agree_below (λ x. top 7 (hit (bit_and (get_or PLAIN_LOW (bit_and x 15) 0) (get_or PLAIN_HIGH (x / 2 ^ 4) 0)) 0)) is_changed 256 ≡ true
 unfolding is_changed is_kept
 changed-looked-up = refl
@@ -114,7 +114,7 @@ changed-alone = refl
 pub changed-byte : (b : ℕ) → b < 256 → (bit_and (get_or PLAIN_LOW (bit_and b 15) 0) (get_or PLAIN_HIGH (b / 2 ^ 4) 0) == 0) ≡ is_changed b
 changed-byte b small = agree_below_at (λ x. bit_and (get_or PLAIN_LOW (bit_and x 15) 0) (get_or PLAIN_HIGH (x / 2 ^ 4) 0) == 0) is_changed 256 b changed-alone small
 
--- no byte passes where the first that does would stand at the end
+-- no byte passes where the first that does would be at the end
 pub none-before-end : (p : ℕ → Bool) (bs : List ℕ) → (next_place p bs 0 == length bs) ≡ list_all (λ b. not (p b)) bs
 none-before-end p [] = refl
 none-before-end p (b ∷ bs) = let more = none-before-end p bs in grind (arith, nat_tests, more)

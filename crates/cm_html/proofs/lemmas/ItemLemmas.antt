@@ -5,7 +5,7 @@ use Rattle.cm_html.specs.Html.{Written, paragraph_html, all_alone, shown, line_f
 use Rattle.cm_html.specs.Html.Written.{Nothing, Inlines, Whole}
 use Rattle.cm_html.specs.steps.ItemPass.{tight_inside, loose_inside, inside_from}
 
--- the blocks that are shown, where the mark says that the first of them begins on a new line, or that it doesn't
+-- the blocks that are shown, where the mark says that the first of them starts on a new line, or that it doesn't
 abbrev tight_left : Bool → List Written → List ℕ
 tight_left true ws = line_feed_before ws ++ tight_blocks ws
 tight_left false ws = tight_blocks ws
@@ -36,7 +36,7 @@ pub inside_is : (tight : Bool) (ws : List Written) → inside_from tight true ws
 inside_is true ws = tight_is true ws
 inside_is false ws = loose_is true ws
 
--- what a pass has added behind some bytes once no block is left
+-- what a pass has added after some bytes once no block is left
 pub inside_added : (tight mark : Bool) (ws left : List Written) (old new : List ℕ) → left ≡ []
     → new ++ inside_from tight mark left ≡ old ++ inside_from tight true ws → new ≡ old ++ inside tight ws
 inside_added tight mark ws left old new none added =

@@ -2,7 +2,7 @@
 use Rattle.std.proofs.Common.{◌≡◌, ℕ, zero, suc, ◌-◌, ◌+◌, ◌*◌, ◌<◌, ◌++◌, length, codes, refl, ap, arith}
 use Rattle.cm_html.specs.Listing.{margin}
 
--- with one node fewer round it
+-- with one node fewer around it
 margin-suc : (k d : ℕ) → k ≡ suc d → margin k ≡ codes "  " ++ margin d
 margin-suc k d e = ap margin e
 

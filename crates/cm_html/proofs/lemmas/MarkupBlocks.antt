@@ -162,7 +162,7 @@ module _ (rules : Rules) where
 
   -- ---- blocks one after another
 
-  -- what a block writes has these tags, by whether it stands in a tight item
+  -- what a block writes has these tags, by whether it is in a tight item
   abbrev HasTags : Written → (Bool → Tags) → Type 0
   HasTags Nothing tags = (tight : Bool) → tags tight ≡ []
   HasTags (Inlines html) tags = Balanced rules html (tags true) × (tags false ≡ element (codes "p") (tags true) (codes "/p"))

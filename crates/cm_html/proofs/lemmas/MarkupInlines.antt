@@ -110,7 +110,7 @@ module _ (rules : Rules) where
       append_balanced rules (tags_of_inline e.0) (join_tags (map tags_of_inline (inlines_in es))) (rendered e.0).html (join_html (map rendered (inlines_in es)))
       (e.1 none.0 all.0) (content_balanced es none.1 all.1)
 
-  -- an element round a content
+  -- an element around a content
   round_content : (name tag end start close : List ℕ) (es : List Proved) → any_of (map inline_has_raw (inlines_in es)) ≡ false → all_of (map (inline_is_followed rules) (inlines_in es)) ≡ true
       → ((names : List (List ℕ)) → Goes rules (InText names) start (tag ∷ []) (InText (name ∷ names)))
       → ((names : List (List ℕ)) → Goes rules (InText (name ∷ names)) close (end ∷ []) (InText names))

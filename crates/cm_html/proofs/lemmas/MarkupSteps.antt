@@ -1,4 +1,4 @@
--- Where a reader of markup stands behind some bytes, and the tags that it has met, whatever follows the bytes.
+-- Where a reader of markup is after some bytes, and the tags that it has met, whatever follows the bytes.
 use Rattle.std.proofs.Common.{◌≡◌, ℕ, Option, Some, List, [], ◌∷◌, ◌++◌, ap, refl, sym, ◌∙◌, append-nil}
 use Rattle.std.proofs.lemmas.List.{append_assoc}
 use Rattle.cm_text.specs.Rules.{Rules}

@@ -90,7 +90,7 @@ module _ (rules : Rules) where
       → Goes rules (InValue tag value names) (codes "\"") [] (InTag (tag ++ codes "\"\"") names)
   value_closed tag value names may rest = rw may
 
-  -- an attribute, behind what stands in front of its value
+  -- an attribute, after the text before its value
   pub attribute : (a : Place) (tag front value : List ℕ) (names : List (List ℕ)) → Goes rules a front [] (InValue tag [] names)
       → is_text value ≡ true → may_be_value rules tag value ≡ true → Goes rules a (front ++ value ++ codes "\"") [] (InTag (tag ++ codes "\"\"") names)
   attribute a tag front value names opens is may =

@@ -1,4 +1,4 @@
--- What stands on a page, while more is put behind it.
+-- What is on a page, while more is put after it.
 use Rattle.std.proofs.Common.{◌≡◌, ℕ, length-take-le, ◌+◌, ◌-◌, ◌≤◌, List, [], ◌∷◌, ◌++◌, length, take, drop, sym, ap, ap₂, subst, ◌∙◌, inl, inr, arith, string_bytes, append_assoc, append-nil, length-append, length-drop, take_all}
 use Rattle.std.specs.Prelude.{String, Result, Ok, Err, OnOk, OnErr, is_ok, if◌then◌else◌}
 use Rattle.std.specs.List.{slice_range, concat}
@@ -26,7 +26,7 @@ place_grows text more grown at is utf8 later place = elim (cases_lt at (length t
       IsCharBoundary-from_take grown at later (omega (arith, end, ap length is, length-append text more)) (subst IsUtf8 front utf8)
 ]
 
--- more text behind them
+-- more text after them
 order_grows : (from : ℕ) (text more grown : List ℕ) (is : List Insertion) → grown ≡ text ++ more → IsUtf8 text → IsUtf8 grown → AreInOrder from text is → AreInOrder from grown is
 order_grows from text more grown [] pushed utf8 later order = place_grows text more grown from pushed utf8 later order
 order_grows from text more grown (i ∷ is) pushed utf8 later order =
@@ -44,7 +44,7 @@ slice_same from to text more order within =
     ap (take (to - from)) (drop-append-le from text more (omega (arith, order, within)))
     ∙ take-append-le (to - from) (drop from text) more (omega (arith, order, within, length-drop from text))
 
--- more text behind a page
+-- more text after a page
 text_behind : (from : ℕ) (text more : List ℕ) (is : List Insertion) → AreInOrder from text is → with_insertions from (text ++ more) is ≡ with_insertions from text is ++ more
 text_behind from text more [] order = drop-append-le from text more order.0
 text_behind from text more (i ∷ is) order =
@@ -54,7 +54,7 @@ text_behind from text more (i ∷ is) order =
 drop_whole : (text : List ℕ) → drop (length text) text ≡ []
 drop_whole text = ap (drop (length text)) (sym (append-nil text)) ∙ drop-append_seam text []
 
--- one more insertion behind a page
+-- one more insertion after a page
 pub insertion_behind : (from : ℕ) (text : List ℕ) (is : List Insertion) (i : Insertion) → i.place ≡ length text → AreInOrder from text is
     → with_insertions from text (is ++ i ∷ []) ≡ with_insertions from text is ++ i.text
 insertion_behind from text [] i at order =
@@ -86,7 +86,7 @@ module _ {Z : Type 0} (old new : String Z) (more : List ℕ) (is : List Insertio
     pushed_behind (Ok x) pushed seen view = stands_behind pushed seen view
     pushed_behind (Err e) pushed seen view = tt
 
-    -- by one that may have added a beginning, after which no insertion stays
+    -- with one that may have added a prefix, after which no insertion stays
     settled_by_case : (r : Result T E) (kept : List Insertion) → OnOk r (string_bytes new ≡ string_bytes old ++ more) → OnOk r (kept ≡ is) → OnErr r (kept ≡ [])
         → AreInOrder 0 (string_bytes new) kept
     settled_by_case (Ok x) kept pushed same none = subst (AreInOrder 0 (string_bytes new)) (sym same) (in_order pushed)
@@ -126,7 +126,7 @@ length_page text is order = omega (arith, length_from 0 text is order)
 
 -- ---- pages
 
--- the last page is put behind the full ones, and a new one is the last
+-- the last page is put after the full ones, and a new one is the last
 pub laid_aside : (pages new : List (List ℕ)) (old full page fresh : List ℕ) → new ≡ pages ++ full ∷ [] → full ≡ old → fresh ≡ page → page ≡ []
     → (seen : List ℕ) → concat pages ++ old ≡ seen → concat new ++ fresh ≡ seen
 laid_aside pages new old full page fresh pushed same opened empty seen view =

@@ -1,4 +1,4 @@
--- What stands before the first element that a search finds.
+-- What is before the first element that a search finds.
 use Rattle.std.proofs.Common.{◌≡◌, ℕ, ◌<◌, ◌≤◌, Bool, true, Some, None, List, length, take, sym, arith, take_all}
 use Rattle.std.specs.List.{position, position_or_len}
 use Rattle.cm_html.specs.Escape.{is_space_or_tab, class_word}

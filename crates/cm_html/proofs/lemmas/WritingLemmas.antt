@@ -9,7 +9,7 @@ use Rattle.cm_text.specs.declared.writing.WriteFailed.{WriteFailed}
 use Rattle.cm_text.proofs.lemmas.WriteLemmas.{appends-append}
 use Rattle.cm_html.specs.steps.Pages.{WritesMore}
 
--- what goes out behind what went out
+-- what is written after what was written
 
 module _ (a b c : SinkView) (first second : List ℕ) (before : Wrote a b first 0) where
   whole : (failures : ℕ) → Wrote b c second failures → Wrote a c (first ++ second) failures
@@ -34,7 +34,7 @@ lost : (b c : SinkView) (first second : List ℕ) (failed : WriteFailed) (writte
 lost b c first second failed written out =
     (out.0, (subst (λ t. Wrote b c t 1) (sym (take-append-le out.0 first second out.1.1)) out.1.0, omega (arith, out.1.1, length-append first second)), out.2)
 
--- A front of the whole has gone out behind so many bytes, there are so many now, and no write failed; and this is left.
+-- A prefix of the whole was written after one number of bytes, there are now the other number, and no write failed; and this is left.
 pub record Left (old now : SinkView) (all left : List ℕ) (start written : ℕ) : Type 0 where
   pub gone : List ℕ
   pub parts : gone ++ left ≡ all
@@ -87,7 +87,7 @@ module _ (old now : SinkView) (all left : List ℕ) (start written : ℕ) (state
       let ends : state.gone ≡ all = sym (append-nil state.gone) ∙ ap (λ t. state.gone ++ t) (sym none) ∙ state.parts in
       (subst (λ t. Wrote old now t 0) ends state.wrote, omega (arith, state.counted, ap length ends))
 
--- the item at a place, and those behind it
+-- the item at a place, and those after it
 pub next_item : {A : Type 0} (xs : List A) (at : ℕ) (x : A) → at < length xs → get_or xs at x ≡ x → drop at xs ≡ x ∷ drop (at + 1) xs
 next_item xs at x low here =
     let next : suc at ≡ at + 1 = omega arith in

@@ -23,7 +23,7 @@ written b = escape (destination_byte b)
 abbrev stays : ℕ → Bool
 stays b = not (b == 58) && not (begins_a_part b)
 
--- in front of a scheme
+-- before a scheme
 abbrev onto : List ℕ → Option (List ℕ) → Option (List ℕ)
 onto [] scheme = scheme
 onto (b ∷ bs) scheme = onto_scheme b (onto bs scheme)

@@ -1,4 +1,4 @@
--- The inside of an item as one pass over its blocks adds it. A mark tells of the blocks that are left.
+-- The inside of an item as one pass over its blocks adds it. A mark stands for the blocks that are left.
 use Rattle.std.specs.Prelude.{ℕ, Bool, true, false, List, [], ◌∷◌, ◌++◌, codes}
 use Rattle.cm_html.specs.Html.{Written, paragraph_html}
 use Rattle.cm_html.specs.Html.Written.{Nothing, Inlines, Whole}
@@ -7,7 +7,7 @@ abbrev pub line_feed : Bool → List ℕ
 line_feed true = codes "\n"
 line_feed false = []
 
--- the blocks of an item of a tight list; the mark says that a block which is no paragraph begins on a new line
+-- the blocks of an item of a tight list; the mark says that a block which is no paragraph starts on a new line
 abbrev pub tight_inside : Bool → List Written → List ℕ
 tight_inside fresh [] = []
 tight_inside fresh (Nothing ∷ ws) = tight_inside fresh ws

@@ -11,12 +11,12 @@ abbrev pub with_insertions : (from : ℕ) → List ℕ → List Insertion → Li
 with_insertions from text [] = drop from text
 with_insertions from text (i ∷ is) = (slice_range text from i.place ++ i.text) ++ with_insertions i.place text is
 
--- from a place of the text on their places follow one another, and at each of them a character begins, or the text ends
+-- from a place of the text on their places follow one another, and at each of them a character starts, or the text ends
 abbrev pub AreInOrder : (from : ℕ) → List ℕ → List Insertion → Type 0
 AreInOrder from text [] = IsCharBoundary text from
 AreInOrder from text (i ∷ is) = IsCharBoundary text from × (from ≤ i.place) × AreInOrder i.place text is
 
--- A piece went out behind so many bytes, and the answer is how many went out then; or a write failed behind a front of it.
+-- A piece was written after the given number of bytes, and the result is how many were written then; or a write failed after a prefix of it.
 abbrev pub WritesMore : Result ℕ WriteFailed → (written : ℕ) → (piece : List ℕ) → SinkView → SinkView → Type 0
 WritesMore (Ok n) written piece old new = Wrote old new piece 0 × (n ≡ written + length piece)
 WritesMore (Err failed) written piece old new = (front : ℕ) × WroteFront old new piece front × (failed.written ≡ written + front)

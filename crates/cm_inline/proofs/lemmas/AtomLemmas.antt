@@ -1,4 +1,4 @@
--- What begins at a place of a source, by the byte that stands there.
+-- What starts at a place of a source, by the byte that is there.
 use Rattle.std.proofs.Common.{◌≡◌, ℕ, suc, ◌+◌, ◌-◌, ◌<◌, ◌≤◌, ◌==◌, ◌&&◌, ◌||◌, not, Bool, true, false, List, [], ◌∷◌, length, take, drop, get_or, reverse, replicate, Option, Some, None, codes, refl, sym, ap, subst, ◌∙◌, arith, length-append, length-drop, drop-drop, get_or-drop}
 use Rattle.std.specs.Prelude.{IsUtf8, nat_le, if◌then◌else◌, encode_utf8_all}
 use Rattle.std.specs.List.{slice_range}
@@ -108,7 +108,7 @@ module _ (rules : Rules) (source : List ℕ) (at : ℕ) where
       let low : at ≤ at + 1 = omega arith in
       is-atom (Piece at (at + 1)) (at + 1) a s.within same rest (item ∙ sym (ap (λ t. Some (items.Characters t)) (one-byte b s))) (low, s.boundary, behind-byte b utf8 s ascii) (behind-byte b utf8 s ascii) tt
 
-  -- the byte behind it
+  -- the byte after it
   next-stands : (b c : ℕ) → IsUtf8 source → Stands source at b → b < 128 → begins_with c (drop (at + 1) source) ≡ true → Stands source (at + 1) c
   next-stands b c utf8 s ascii next =
       let found = begins-at c source (at + 1) next in

@@ -117,7 +117,7 @@ nearest-skips c (Opener b n ∷ xs) ys inside h = nearest-skips c xs ys (Opener 
 nearest-skips c (Delimiters r ∷ xs) ys inside h =
     nearest-passes c r (xs ++ ys) inside h.0 ∙ nearest-skips c xs ys (Delimiters r ∷ inside) h.1 ∙ ap (nearest_opener c ys) (sym (reverse-first (Delimiters r) xs inside))
 
--- so where there is none nothing is found, and the nearest is found behind others
+-- so where there is none nothing is found, and the nearest is found after others
 pub nearest-none : (c : Run) (xs inside : List Item) → NoOpener c xs → nearest_opener c xs inside ≡ None
 unfolding nearest_opener
 nearest-none c xs inside h = ap (λ l. nearest_opener c l inside) (sym (append-nil xs)) ∙ nearest-skips c xs [] inside h

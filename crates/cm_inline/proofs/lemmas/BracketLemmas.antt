@@ -20,7 +20,7 @@ brackets-append n (x ∷ xs) ys =
     ap (λ t. bracket_in n x ++ t) (brackets-append (suc n) xs ys) ∙ sym (append_assoc (bracket_in n x) (brackets_from (suc n) xs) (brackets_from (length xs + suc n) ys))
     ∙ ap (λ m. (bracket_in n x ++ brackets_from (suc n) xs) ++ brackets_from m ys) place
 
--- Nodes whose last bracket this is: those before it, and those behind it.
+-- Nodes whose last bracket this is: those before it, and those after it.
 pub record Split (nodes : List Node) (n : ℕ) (others : List Bracket) (b : Bracket) : Type 0 where
   pub front : List Node
   pub inside : List Node
@@ -29,7 +29,7 @@ pub record Split (nodes : List Node) (n : ℕ) (others : List Bracket) (b : Brac
   pub outer : brackets_from n front ≡ others
   pub inner : brackets_from (suc b.node) inside ≡ []
 
--- the bracket that nodes begin with is the last one, or the last one stands behind it
+-- the bracket that nodes start with is the last one, or the last one is after it
 none-more : {A : Type 0} (rest : List A) (a : A) → [] ≡ rest ++ a ∷ [] → ⊥
 none-more rest a e = let l : 0 ≡ length rest + 1 = ap length e ∙ length-append rest (a ∷ []) in omega (arith, l)
 
@@ -39,7 +39,7 @@ same-head e = cc e
 same-tail : {A : Type 0} {a b : A} {rest bs : List A} → a ∷ rest ≡ b ∷ bs → rest ≡ bs
 same-tail e = cc e
 
--- a node that is no bracket in front
+-- a node that is no bracket before
 behind : (n : ℕ) (x : Node) (nodes : List Node) (others : List Bracket) (b : Bracket) → bracket_in n x ≡ [] → Split nodes (suc n) others b → Split (x ∷ nodes) n others b
 unfolding brackets_from
 behind n x nodes others b none w = record {
@@ -73,7 +73,7 @@ split-last n (Whole standalone ∷ nodes) others b e = behind n (Whole standalon
 split-last n (Finished inline depth holds ∷ nodes) others b e = behind n (Finished inline depth holds) nodes others b refl (split-last (suc n) nodes others b e)
 split-last n (Run run ∷ nodes) others b e = behind n (Run run) nodes others b refl (split-last (suc n) nodes others b e)
 
--- no opener stands among nodes without brackets
+-- no opener is among nodes without brackets
 no-opener : (source : List ℕ) (n : ℕ) (nodes : List Node) (before after : List Item) → brackets_from n nodes ≡ []
     → last_opener (reverse (items_of source nodes) ++ before) after ≡ last_opener before (items_of source nodes ++ after)
 unfolding brackets_from last_opener
@@ -110,7 +110,7 @@ closes-nothing rules defined source nodes at none = ap (decided rules defined it
     rest : List ℕ
     rest = drop (at + 1) source
 
--- The opener of a `]`, with what stands before it and behind it.
+-- The opener of a `]`, with what is before it and after it.
 abbrev found_of : List ℕ → List Node → Bracket → OpenerFound
 found_of source nodes b = record { before = reverse (outside_of source nodes b); image = b.image; source = drop b.behind source; inside = inside_of source nodes b }
 
@@ -176,7 +176,7 @@ end-turned : (source : List ℕ) (nodes : List Node) (b : Bracket) (rest : List 
 end-turned source nodes b rest None = ap (λ t. record { items = t; rest = rest }) (text-turned source nodes b)
 end-turned source nodes b rest (Some end) = ap (λ t. record { items = t; rest = end.rest }) (link-turned source nodes b end.dest end.title)
 
--- a bracket is no link, so that a link behind it is one from its number on
+-- a bracket is no link, so that a link after it is one from its number on
 pub link-behind : (source : List ℕ) (nodes : List Node) (others : List Bracket) (b : Bracket) (links_end : ℕ) → Split nodes 0 others b → LinksEnd source nodes links_end
     → holds_link (inside_of source nodes b) ≡ nat_lt b.node links_end
 unfolding holds_link

@@ -51,7 +51,7 @@ without-depth n run = go (nat_le run.left n)
     go true = refl
     go false = omega arith
 
--- a pair nests deeper than what stands between its runs, and no less deep than what stands before
+-- a pair nests deeper than what is between its runs, and no less deep than what is before
 pub pair-deeper : (found : Opened) (closer : Run) → (items_depth found.inside < items_depth (up_to_pair found closer)) × (items_depth (together found) ≤ items_depth (up_to_pair found closer))
 pair-deeper found closer =
     let n = used found.opener closer in
@@ -85,7 +85,7 @@ closed-deeper (suc n) before closer = go (nearest_opener closer before []) refl 
 pub nodes-items : (source : List ℕ) (nodes : List Node) → AreParts source nodes → items_depth (items_of source nodes) ≡ nodes_depth nodes
 nodes-items source nodes parts = sym (settled-items (items_of source nodes)) ∙ settled-depth source nodes parts
 
--- what a closer comes to nests deeper than what stands between it and its opener
+-- what a closer comes to nests deeper than what is between it and its opener
 pub closer-deeper : (before : List Item) (closer : Run) (found : Opened) → closer.closes ≡ true → nearest_opener closer before [] ≡ Some found → items_depth found.inside < items_depth (passed before (Delimiters closer))
 closer-deeper before closer found h s = go (nat_le closer.left (used found.opener closer)) refl
   where
@@ -118,7 +118,7 @@ abbrev fault_or : {A : Type 0} → InlineFault → Result A InlineFault → Inli
 fault_or f (Ok x) = f
 fault_or f (Err g) = g
 
--- a fault that is handed on
+-- a fault that is passed on
 pub same-fault : {A : Type 0} (r : Result A InlineFault) (told fault : InlineFault) → IsErrAnd r (λ e. e ≡ told) → r ≡ Err fault → told ≡ fault
 same-fault (Ok x) told fault is e = absurd (cc e)
 same-fault (Err f) told fault is e = sym is ∙ ap (fault_or f) e
@@ -165,7 +165,7 @@ made-depth true dest title inside = go (holds_link inside)
     go true = image-depth dest title (emphasis_of inside)
     go false = image-depth dest title (emphasis_of inside)
 
--- and deeper than what stands between its brackets
+-- and deeper than what is between its brackets
 pub made-deeper : (image : Bool) (dest title : List ℕ) (inside : List Item) → items_depth inside < item_depth (made image dest title inside)
 made-deeper image dest title inside = omega (arith, made-depth image dest title inside, emphasis-deeper inside)
 

@@ -36,7 +36,7 @@ link-depth link =
     let one : depth_of (link_of link) ≡ inlines_depth (Text link.text ∷ []) + 1 = simp (fold_out-Inline ℕ depth_step, outs-Link) in
     omega (arith, one, text-depth link.text)
 
--- an inline that stands by itself in a source
+-- an inline that contains no other
 pub whole-depth : (source : List ℕ) (w : Standalone) → depth_of (inline_in source w) ≡ standalone_depth w
 whole-depth source (standalone.Code from to) = code-depth (one_line (slice_range source from to))
 whole-depth source (standalone.Html from to) = html-depth (slice_range source from to)
@@ -92,7 +92,7 @@ settled-after source text (Finished inline depth true ∷ nodes) parts =
 pub settled-depth : (source : List ℕ) (nodes : List Node) → AreParts source nodes → inlines_depth (settled (items_of source nodes)) ≡ nodes_depth nodes
 settled-depth source nodes parts = settled-after source [] nodes parts
 
--- inlines with one more behind them
+-- inlines with one more after them
 pub one-more-depth : (inlines all : List Inline) (last : Inline) → all ≡ inlines ++ last ∷ [] → (inlines_depth inlines ≤ inlines_depth all) × (depth_of last ≤ inlines_depth all)
 one-more-depth inlines all last is = let both = after inlines in let same = ap inlines_depth is in (omega (arith, both, same), omega (arith, both, same))
   where

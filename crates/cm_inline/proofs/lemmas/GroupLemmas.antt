@@ -156,7 +156,7 @@ made-text source made (tokens.Made number depth holds_link ∷ held) = refl
 made-text source made (tokens.Run run ∷ held) = ap (λ t. text_in source (node_of [] (tokens.Run run)) ++ t) (made-text source made held)
 made-text source made (tokens.Opener image behind ∷ held) = ap (λ t. text_in source (node_of [] (tokens.Opener image behind)) ++ t) (made-text source made held)
 
--- how many of the tokens are text in front
+-- how many of the tokens are text before
 texts : List Token → ℕ
 texts [] = 0
 texts (tokens.Piece from to ∷ held) = suc (texts held)

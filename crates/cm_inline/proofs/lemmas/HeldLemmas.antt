@@ -205,7 +205,7 @@ passes-more old now before rest token passes front back other =
       waiting = passes.waiting ∙ ap (λ ts. passes.others ++ nodes_of made ts) back ∙ sym (append_assoc passes.others (node ∷ []) (nodes_of made rest));
     }
 
--- those before some that wait, with these up to a place behind them
+-- those before some that wait, with these up to a place after them
 abbrev pub over : (before rest : List Token) (passed end : ℕ) → List Token
 over before rest passed end = before ++ slice_range rest passed end
 
@@ -267,7 +267,7 @@ rest-held old before rest token are front back = record {
   rest = (subst (AreBelow (length old.groups)) back are.rest).1;
 }
 
--- more that stands in groups
+-- more that is in groups
 
 group-grows : (inside more : List Token) (number : ℕ) (made : List Made) (group : Grouped) → IsGroup inside number group → group_made (inside ++ more) made group ≡ group_made inside made group
 group-grows inside more number made group is = ap (λ held. made_by group.kind group.target (nodes_of made held)) (slice-same inside more (inside ++ more) group.from group.to refl is.order is.within)
@@ -307,7 +307,7 @@ nodes-more made more (tokens.Made number depth holds_link ∷ held) below =
 nodes-more made more (tokens.Run run ∷ held) below = ap (λ ns. Run run ∷ ns) (nodes-more made more held below.1)
 nodes-more made more (tokens.Opener image behind ∷ held) below = ap (λ ns. Opener image behind ∷ ns) (nodes-more made more held below.1)
 
--- a group of all behind an opener
+-- a group of all after an opener
 
 -- what is left of the opener
 abbrev pub tokens_left : Option DelimiterRun → List Token
@@ -343,7 +343,7 @@ cut-none old opener left front inside none is moved = record {
   groups = refl;
 }
 
--- what was copied behind what stands in groups
+-- what was copied after what is in groups
 pub copied : (front into shown before : List Token) (opener : ℕ) → into ≡ front ++ take (length shown - (opener + 1)) (drop (opener + 1) shown) → shown ≡ before → into ≡ front ++ drop (suc opener) before
 copied front into shown before opener is same =
     let next : opener + 1 ≡ suc opener = omega arith in

@@ -96,7 +96,7 @@ module _ (shown : List ℕ → List ℕ) (whole : Inline → List ℕ) (joined :
 text-html : (text : List ℕ) → (rendered (Text text)).html ≡ escape text
 text-html text = simp (fold_out-Inline Rendered inline_step, outs-Text)
 
--- an inline that stands by itself in the source
+-- an inline that is by itself in the source
 standalone-is : (source : List ℕ) (standalone : Standalone) → (rendered (inline_in source standalone)).html ≡ standalone_html source standalone
 standalone-is source (Code from to) = simp (fold_out-Inline Rendered inline_step, outs-Code)
 standalone-is source (Html from to) = simp (fold_out-Inline Rendered inline_step, outs-Html)
@@ -229,7 +229,7 @@ slice-both source from to end first second =
 pub slice-none : (source : List ℕ) (from to : ℕ) → from ≡ to → slice_range source from to ≡ []
 slice-none source from to same = let none : to - from ≡ 0 = omega (arith, same) in ap (λ n. take n (drop from source)) none
 
--- a token that goes on with it
+-- a token that continues it
 pub text-further : (source done : List ℕ) (from to end : ℕ) (made : List Made) (token : Token) (held rest : List Token) (whole : List ℕ) → from ≤ to → to ≤ end → held ≡ token ∷ rest
     → node_html source (node_of made token) ≡ escape (slice_range source to end) → done ++ (escape (slice_range source from to) ++ nodes_html source (nodes_of made held)) ≡ whole
     → done ++ (escape (slice_range source from end) ++ nodes_html source (nodes_of made rest)) ≡ whole
@@ -240,7 +240,7 @@ text-further source done from to end made token held rest whole first second ste
     ap (λ t. done ++ (escape t ++ html)) (slice-both source from to end first second) ∙ ap (λ t. done ++ t) (longer before text html)
     ∙ ap (λ t. done ++ (escape before ++ (t ++ html))) (sym is) ∙ ap (λ t. done ++ (escape before ++ nodes_html source (nodes_of made t))) (sym step) ∙ h
 
--- one that was written behind it, and what waits of that
+-- one that was written after it, and what waits of that
 pub text-written : (source done after more : List ℕ) (text waits : List ℕ) (made : List Made) (token : Token) (held rest : List Token) (whole : List ℕ) → held ≡ token ∷ rest
     → after ≡ done ++ escape text → more ++ escape waits ≡ after ++ node_html source (node_of made token) → done ++ (escape text ++ nodes_html source (nodes_of made held)) ≡ whole
     → more ++ (escape waits ++ nodes_html source (nodes_of made rest)) ≡ whole

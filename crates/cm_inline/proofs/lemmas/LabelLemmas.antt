@@ -1,4 +1,4 @@
--- A label between two brackets, with more text behind them and without.
+-- A label between two brackets, with more text after them and without.
 use Rattle.std.proofs.Common.{◌≡◌, ◌≢◌, ℕ, ◌<◌, ◌==◌, Bool, true, false, List, [], ◌∷◌, ◌++◌, length, Option, Some, None, IfSome, refl, sym, ap, subst, ◌∙◌, arith}
 use Rattle.std.proofs.lemmas.List.{length-append}
 use Rattle.cm_scan.specs.Words.{is_empty, given}
@@ -11,11 +11,11 @@ use Rattle.cm_scan.proofs.lemmas.links.BracketedParts.{ahead}
 abbrev inside_of : Bool → List ℕ → Option Reading
 inside_of escaped text = up_to_closing (λ c. c == 93) (λ c. c == 91) escaped text
 
--- a text with a right bracket behind it, and what follows
+-- a text with a right bracket after it, and what follows
 abbrev closing : List ℕ → List ℕ → List ℕ
 closing between more = between ++ 93 ∷ more
 
--- Where reading ends that begins between brackets: at the right one, before it, nowhere, or behind it.
+-- Where reading ends that starts between brackets: at the right one, before it, nowhere, or after it.
 data Ends (escaped : Bool) (between : List ℕ) : Type 0 where
   at_bracket : ((more : List ℕ) → inside_of escaped (closing between more) ≡ Some (record { text = between; rest = more })) → Ends escaped between
   earlier : (front left : List ℕ) → ((more : List ℕ) → inside_of escaped (closing between more) ≡ Some (record { text = front; rest = closing left more })) → Ends escaped between
@@ -71,7 +71,7 @@ where_it_ends false (b ∷ bs) = go (b == 93) (b == 91) refl refl (where_it_ends
     go false false h k ends = passed false (escapes_next b (closing bs [])) b bs
         (λ more. goes-on b (closing bs more) h k ∙ ap (λ m. behind b (inside_of m (closing bs more))) (escapes-same b bs more)) ends
 
--- what is left behind a right bracket is less than the text
+-- what is left after a right bracket is less than the text
 less-behind : (b : ℕ) (bs : List ℕ) (o : Option Reading) → IfSome o (λ r. length r.rest < length bs) → IfSome (behind b o) (λ r. length r.rest < length (b ∷ bs))
 less-behind b bs None h = tt
 less-behind b bs (Some r) h = omega (arith, h)
@@ -91,7 +91,7 @@ less-left false (b ∷ bs) = go (b == 93) (b == 91) refl refl (less-behind b bs 
     go false true h k more = subst less (sym (refused-here b bs h k)) tt
     go false false h k more = subst less (sym (goes-on b bs h k)) more
 
--- the label that a left bracket begins
+-- the label that a left bracket starts
 label-of : (bs : List ℕ) (o : Option Reading) → inside_of false bs ≡ o → label (91 ∷ bs) ≡ keep_if is_label o
 unfolding label
 label-of bs o h = ap (keep_if is_label) h
@@ -119,7 +119,7 @@ ahead-less : (n : ℕ) (front : List ℕ) (o : Option Reading) (r : Reading) →
 ahead-less n front None r less h = absurd (cc)
 ahead-less n front (Some t) r less h = let same : t.rest ≡ r.rest = ap (λ (o : Option Reading). elim o as (λ _. List ℕ) [ None ↦ [] | Some q ↦ q.rest ]) h in omega (arith, less, ap length same)
 
--- A label that ends with the bracket behind the part between is the part itself, and has its target.
+-- A label that ends with the bracket after the part between is the part itself, and has its target.
 pub label_between : (defined : Defined) (between rest : List ℕ) (r : Reading) → label (91 ∷ closing between rest) ≡ Some r → length r.rest ≡ length rest
     → (r.text ≡ between) × (target_between defined between ≡ target_of defined between)
 label_between defined between rest r read ends = go (where_it_ends false between)

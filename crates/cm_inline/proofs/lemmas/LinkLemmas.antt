@@ -165,7 +165,7 @@ module _ (source : List ℕ) (before at : ℕ) where
 
 -- The whole
 
--- what a scanner answered that may have found nothing
+-- the result of a scanner that may have found nothing
 pub turned : {E : Type 0} (source : List ℕ) (r : Result (Option LinkEnd) E) (a b : Option brackets.LinkEnd) → a ≡ b → IfOk r (λ found. ends_of source found ≡ a) → IfOk r (λ found. ends_of source found ≡ b)
 turned source r a b e h = subst (λ x. IfOk r (λ found. ends_of source found ≡ x)) e h
 
@@ -175,7 +175,7 @@ pub led : {E : Type 0} (rules : Rules) (source : List ℕ) (r : Result (Option L
 led rules source (Ok found) target end b e h = h source ∙ ap (end_if_followed rules) e
 led rules source (Err f) target end b e h = tt
 
--- an end that was found ends behind the right bracket
+-- an end that was found ends after the right bracket
 pub place : (source : List ℕ) (at : ℕ) (rules : Rules) (defined : Defined) (between : List ℕ) (found : Option LinkEnd) → at < length source → ends_of source found ≡ end_at rules defined between (drop (at + 1) source)
     → IfSome found (λ e. IsCharBoundary source e.end) → IfSome found (λ e. (at < e.end) × (e.end ≤ length source) × IsCharBoundary source e.end)
 place source at rules defined between None within h boundary = tt

@@ -60,7 +60,7 @@ first-in slots (suc n) m e = go (is_at slots n) refl (first-in slots n m)
     go true k ih = ap (is_at slots) (sym (same_Some n m (sym (ap first_place (below-in slots n k)) ∙ e))) ∙ k
     go false k ih = ih (sym (ap first_place (below-out slots n k)) ∙ e)
 
--- behind an entry of the list the nearest is no lower
+-- after an entry of the list the nearest is no lower
 pub first-above : (slots : List Slot) (n j : ℕ) → j < n → is_at slots j ≡ true → (m : ℕ) → first_place (listed_below slots n) ≡ Some m → j ≤ m
 first-above slots zero j p h m e = absurd (omega arith)
 first-above slots (suc n) j p h m e = go (is_at slots n) refl (first-above slots n j)

@@ -45,18 +45,18 @@ known-at-end source = record { forms = go; backticks = tt }
     go CharacterData = missing-at-end (codes "]]>") source
     go Declaration = missing-at-end (codes ">") source
 
--- a text that begins with a word
+-- a text that starts with a word
 begins-so : (word text : List ℕ) → starts_with nat_eq text word ≡ true → (rest : List ℕ) × (text ≡ word ++ rest)
 begins-so word text h =
     (drop (length word) text, word-front word text (drop (length word) text) (word-there word text (sym (starts_at word text) ∙ h)))
 
--- a source that begins with one at a place, by a test of its bytes from there
+-- a source that starts with one at a place, by a test of its bytes from there
 pub word-begins : (word bytes source : List ℕ) (at : ℕ) (told : Bool) → bytes ≡ source → told ≡ starts_with nat_eq (take (length bytes - at) (drop at bytes)) word → told ≡ true
     → (rest : List ℕ) × (drop at source ≡ word ++ rest)
 word-begins word bytes source at told same told_is there =
     begins-so word (drop at source) (ap (λ t. starts_with nat_eq (drop at t) word) (sym same) ∙ ap (λ t. starts_with nat_eq t word) (sym (slice_from at bytes)) ∙ sym told_is ∙ there)
 
--- a form that is told of where its first word stands
+-- whether a form starts where its first word is
 abbrev Begins : List ℕ → Form → Type 0
 Begins text form = (rest : List ℕ) × (text ≡ start_of form ++ rest)
 
@@ -67,7 +67,7 @@ form-begins text form told result there h = subst (λ r. IfSome r (Begins text))
     go true k = k refl
     go false k = tt
 
--- so no raw HTML begins where its end is missing
+-- so no raw HTML starts where its end is missing
 
 needs-none : (start end : List ℕ) → NeedsEnd start end → (rules : Rules) (text rest : List ℕ) → text ≡ start ++ rest → behind_word end text ≡ None → raw_html rules text ≡ None
 needs-none start end needs rules text rest begins missing = ap (raw_html rules) begins ∙ needs rules rest (ap (behind_word end) (sym begins) ∙ missing)
@@ -105,7 +105,7 @@ module _ (last next : BTreeMap ℕ ℕ) (key end : ℕ) (updates : Updates nat_c
   behind-other : (count : ℕ) → (key ≡ count → ⊥) → behind_last next count ≡ behind_last last count
   behind-other count other = ap (λ o. option_map_or (λ e. e) o 0) (updates.2 count (not-key key count other))
 
-  -- what isn't found behind one more backtick string isn't found behind the last one of its length
+  -- what isn't found after one more backtick string isn't found after the last one of its length
   pub none-behind-last : (source : List ℕ) (at plain : ℕ) → Found source at plain → end ≡ at + plain + run_length 96 (drop (at + plain) source)
       → drop end source ≡ after_run 96 (drop (at + plain) source) → key ≡ end - (at + plain)
       → ((count : ℕ) → up_to_run count false (drop at source) ≡ None → up_to_run count false (drop (behind_last last count) source) ≡ None)
@@ -118,6 +118,6 @@ module _ (last next : BTreeMap ℕ ℕ) (key end : ℕ) (updates : Updates nat_c
           ap (λ k. up_to_run count false (drop k source)) (behind-other count other)
           ∙ before count (none-before count source at plain found end run left (λ e. other (size ∙ e)) none)
 
--- a backtick string whose like isn't found behind it begins no code span
+-- a backtick string whose like isn't found after it starts no code span
 pub no-code-span : (source : List ℕ) (at count start : ℕ) → start ≡ at + count → run_length 96 (drop at source) ≡ count → NoneFrom source count start → spanned_as_written (drop at source) ≡ None
 no-code-span source at count start place same none = none-behind count source none.0 at start place same none.1 none.2

@@ -33,7 +33,7 @@ text-then : (text : List ℕ) (inlines : List Inline) → text_before text inlin
 text-then [] inlines = refl
 text-then (b ∷ bs) inlines = refl
 
--- the text in front, and what is behind it
+-- the text at the start, and what is after it
 pub text-first : (source : List ℕ) (nodes : List Node) → text_before (text_in_front source nodes) [] ++ settled (items_of source (behind_texts nodes)) ≡ settled (items_of source nodes)
 text-first source nodes = sym (settled-texts source [] nodes ∙ text-then (text_in_front source nodes) (settled (items_of source (behind_texts nodes))))
 
@@ -45,7 +45,7 @@ others : List Node → List Node
 others [] = []
 others (n ∷ ns) = ns
 
--- behind it stands an inline, or nothing
+-- an inline follows it, or nothing
 pub inline-first : (source : List ℕ) (nodes : List Node) (node : Node) (rest : List Node) → behind_texts nodes ≡ node ∷ rest → inline_of source node ++ settled (items_of source rest) ≡ settled (items_of source (behind_texts nodes))
 unfolding settled_after first others
 inline-first source [] node rest e = absurd (cc e)
@@ -80,7 +80,7 @@ no-text source (Opener image behind) e = absurd (cc e)
 no-text source (Whole standalone) e = refl
 no-text source (Finished inline depth holds_link) e = refl
 
--- the inlines of what is left of the nodes, behind so many
+-- the inlines of what is left of the nodes, after the given number
 pub settled-left : (source : List ℕ) (done : List Inline) (nodes left : List Node) (whole : List Inline) → left ≡ behind_texts nodes → done ++ settled (items_of source nodes) ≡ whole
     → (done ++ text_before (text_in_front source nodes) []) ++ settled (items_of source left) ≡ whole
 settled-left source done nodes left whole e h =

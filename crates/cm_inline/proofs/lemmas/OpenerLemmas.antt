@@ -113,7 +113,7 @@ search-fails before l new bs place closer m h c f e n k = (
         let now = ap (λ t. reserve t (c.last ∷ c.others)) (take-set-lt kinds bs (kind closer) place known ∙ ap (set few (kind closer)) (sym c.place_is)) in
         omega (arith, raised, seen, now)
 
--- entries behind others
+-- entries after others
 split-above : (xs : List Entry) (e : Entry) (ys : List Entry) (n : ℕ) → Below n (xs ++ e ∷ ys) → e.place < n
 split-above [] e ys n b = b.0
 split-above (x ∷ xs) e ys n b = split-above xs e ys n b.1

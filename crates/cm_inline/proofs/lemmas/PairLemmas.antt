@@ -213,7 +213,7 @@ pair-items source nodes opener closer rest made left e =
     ∙ ap (λ t. t ++ item_of source made ∷ []) (map-append (item_of source) (take opener.item nodes) (rest_in rest) ∙ ap (λ t. front ++ t) (rest-items source rest ∙ left))
     ∙ ap (λ i. (front ++ without (used (run_of opener.run) closer) (run_of opener.run)) ++ i ∷ []) e
 
--- a pair behind a place among the nodes
+-- a pair after a place among the nodes
 
 front-stays : (from place : ℕ) (whole more : List Node) → from ≤ place → place < length whole → take from (take place whole ++ more) ≡ take from whole
 front-stays from place whole more h w = take-append-le from (take place whole) more (omega (arith, length-take place whole, h, w)) ∙ take-take from place whole h
@@ -249,7 +249,7 @@ pair-long whole more from i rest kind target depth within e =
     let behind = rest_in rest ++ node.Finished (made_by kind target (drop (suc (from + i)) whole)) depth false ∷ [] in
     omega (arith, ap length e, length-append (take (from + i) whole) behind, length-take (from + i) whole, within)
 
--- emphasis nests one deeper than what stands in it, and parts of a source stay such
+-- emphasis nests one deeper than what is in it, and parts of a source stay such
 pub pair-parts : (source : List ℕ) (whole more : List Node) (place character count : ℕ) (rest : Option DelimiterRun) (kind : Kind) (target : Target) (depth : ℕ) → ((content : List Inline) → made_of kind target content ≡ emphasised character count content)
     → depth ≡ nodes_depth (drop (suc place) whole) → more ≡ pair_nodes place whole rest kind target (depth + 1) → AreParts source whole → AreParts source more
 pair-parts source whole more place character count rest kind target depth makes deep e parts =
@@ -264,7 +264,7 @@ placed-append : (source : List ℕ) (held more : List Token) → ArePlaced sourc
 placed-append source [] more placed others = others
 placed-append source (token ∷ held) more placed others = (placed.0, placed-append source held more placed.1 others)
 
--- what stood behind a node stands inside then
+-- what was after a node is inside then
 pub placed-inside : (source : List ℕ) (old new : Held) (place : ℕ) → new.inside ≡ old.inside ++ drop (suc place) old.before → AreParts source (nodes_in old) → ArePlaced source old.inside → ArePlaced source new.inside
 placed-inside source old new place e parts inside =
     let before = parts-placed source (groups_made old.inside old.groups) old.before (subst (AreParts source) (nodes-in old) parts) in
@@ -352,7 +352,7 @@ allowance-split kinds source done rest = ap (allowance kinds) (map-append (item_
 pub emphases-more : (source : List ℕ) (nodes : List Node) (x : Node) → items_emphases (items_of source (nodes ++ x ∷ [])) ≡ items_emphases (items_of source nodes) + item_emphases (item_of source x)
 emphases-more source nodes x = omega (arith, ap items_emphases (map-append (item_of source) nodes (x ∷ [])), both-hold (items_of source nodes) (item_of source x ∷ []))
 
--- runs of the first so many kinds
+-- runs of the first kinds, of which there is the given number
 
 pub of-append : (kinds : ℕ) (items more : List Item) → AreOf kinds items → AreOf kinds more → AreOf kinds (items ++ more)
 of-append kinds [] more is others = others

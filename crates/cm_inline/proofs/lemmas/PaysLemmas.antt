@@ -24,7 +24,7 @@ use Rattle.cm_inline.proofs.lemmas.PairLemmas.{last-item, of-append, allowance-m
 use Rattle.cm_inline.proofs.lemmas.SliceLemmas.{slice-front, before-later, before-one}
 use Rattle.cm_inline.proofs.lemmas.WholeLemmas.{step_at, adds-item, bracket-at, text-pieces, nat_lt-false}
 
--- the characters ahead: those of what is read at a place, if it is a run, and those behind it
+-- the characters ahead: those of what is read at a place, if it is a run, and those after it
 
 step-counts : (rules : Rules) (defined : Defined) (source : List ℕ) (nodes more : List Node) (at end : ℕ) → at < length source → at < end
     → step_at rules defined source at (reverse (items_of source nodes)) ≡ record { items = reverse (items_of source more); rest = drop end source }
@@ -56,7 +56,7 @@ text-on rules defined source nodes at end is =
     ∙ runs-in-pieces rules defined zero (reverse (take end source)) (drop end source) (reverse (one_by_one text) ++ items) (reverse (items_of source (nodes ++ Piece at end ∷ []))) (text-pieces source nodes at end)
     ))
 
--- the sum of what is paid, where so many looks are allowed for each character
+-- the sum of what is paid, where the given number of looks are allowed for each character
 one-more : (strike : Bool) (looks paid own whole ahead later total : ℕ) → looks + paid + (if strike then 15 else 14) * ahead ≤ (if strike then 15 else 14) * total → ahead ≡ whole + later → own ≤ (if strike then 15 else 14) * whole
     → looks + (paid + own) + (if strike then 15 else 14) * later ≤ (if strike then 15 else 14) * total
 one-more true looks paid own whole ahead later total p e f = omega (arith, p, e, f)

@@ -73,7 +73,7 @@ text-further source at end is read = λ rules defined.
     ∙ ap (λ p. items_after rules defined zero p (drop end source) (reverse (one_by_one text) ++ items)) (sym (before-later source at end is.low))
     ∙ ap (items_from rules defined source end) same
 
--- a line feed behind it
+-- a line feed after it
 pub feed-further : (source : List ℕ) (at : ℕ) → at < length source → get_or source at 0 ≡ 10 → ReadsAsText source at → ReadsAsText source (at + 1)
 feed-further source at within byte read = λ rules defined.
     let front = take at source in

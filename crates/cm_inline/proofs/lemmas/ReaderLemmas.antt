@@ -125,7 +125,7 @@ links-linked source nodes x is = λ n. holds-drop source n nodes (x ∷ []) ∙ 
         let size : length (x ∷ []) ≡ 1 = refl in
         ap (λ v. v || holds_link (items_of source (drop (n - length nodes) (x ∷ [])))) (past source n nodes (omega (arith, high))) ∙ past source (n - length nodes) (x ∷ []) (omega (arith, high, size)) ∙ sym e
 
--- behind nodes without a link stands none
+-- nodes without a link are followed by none
 drop-none : (source : List ℕ) (n : ℕ) (nodes : List Node) → holds_link (items_of source nodes) ≡ false → holds_link (items_of source (drop n nodes)) ≡ false
 unfolding holds_link
 drop-none source zero nodes e = e
@@ -173,7 +173,7 @@ opener-part source image behind o =
 
 -- a bracket and a `]` that are text
 
--- the nodes with text in place of their last bracket, and a `]` behind them
+-- the nodes with text in place of their last bracket, and a `]` after them
 abbrev pub with_text : List Node → Bracket → ℕ → List Node
 with_text nodes b at = set nodes b.node (Piece (b.behind - length (bracket_text b.image)) b.behind) ++ Piece at (at + 1) ∷ []
 
@@ -257,7 +257,7 @@ link-read source nodes more others b made at links_end end ends r is part none l
       boundary = r.boundary;
     }
 
--- where the links end in front of a bracket with no link behind it
+-- where the links end before a bracket with no link after it
 pub links-before : (source : List ℕ) (nodes : List Node) (others : List Bracket) (b : Bracket) (links_end : ℕ) → Split nodes 0 others b → LinksEnd source nodes links_end → nat_lt b.node links_end ≡ false → LinksEnd source (take b.node nodes) links_end
 unfolding holds_link
 links-before source nodes others b links_end w links none =
@@ -303,7 +303,7 @@ made-is : (image : Bool) (dest title : List ℕ) (inside : List Item) (holds : B
 made-is false dest title inside holds e = ap (λ h. if h then Item.Linked (Link dest title (emphasis_of inside)) else Item.Finished (Link dest title (emphasis_of inside))) e
 made-is true dest title inside holds e = ap (λ h. if h then Item.Linked (Image dest title (emphasis_of inside)) else Item.Finished (Image dest title (emphasis_of inside))) e
 
--- All that is known of a link or an image that was made: what it is in the source, how deep its content nests, and the nodes behind it.
+-- All that is known of a link or an image that was made: what it is in the source, how deep its content nests, and the nodes after it.
 pub record IsLink (source : List ℕ) (nodes more : List Node) (b : Bracket) (dest title : List ℕ) (inline : List ℕ → Inline) (depth : ℕ) (holds : Bool) (links_end : ℕ) : Type 0 where
   pub nodes_are : more ≡ take b.node nodes ++ Finished inline (depth + 1) holds ∷ []
   pub inline_is : inline source ≡ link_of b.image dest title (emphasis_of (inside_of source nodes b))
@@ -353,7 +353,7 @@ link-deeper source nodes b dest title limit deep =
     let made-one = made b.image dest title (inside_of source nodes b) in
     omega (arith, deep, made-depth b.image dest title (inside_of source nodes b), both (outside_of source nodes b) (made-one ∷ []))
 
--- the nodes up to their last bracket, it, and those behind it, as items
+-- the nodes up to their last bracket, it, and those after it, as items
 items-split : (source : List ℕ) (nodes : List Node) (others : List Bracket) (b : Bracket) → Split nodes 0 others b
     → items_of source nodes ≡ outside_of source nodes b ++ Item.Opener b.image (drop b.behind source) ∷ inside_of source nodes b
 items-split source nodes others b w =
@@ -361,7 +361,7 @@ items-split source nodes others b w =
     ∙ ap (λ t. items_of source t ++ Item.Opener b.image (drop b.behind source) ∷ items_of source w.inside) (sym (outside-is source nodes others b w))
     ∙ ap (λ t. outside_of source nodes b ++ Item.Opener b.image (drop b.behind source) ∷ items_of source t) (sym (inside-is source nodes others b w))
 
--- the nodes from the number behind a bracket on are its inside
+-- the nodes from the number after a bracket on are its inside
 inside-items : (source : List ℕ) (nodes : List Node) (b : Bracket) (first : ℕ) → first ≡ b.node + 1 → items_of source (drop first nodes) ≡ inside_of source nodes b
 inside-items source nodes b first place =
     let one : first ≡ suc b.node = omega (arith, place) in
@@ -426,7 +426,7 @@ text-keeps source nodes more others b looks later w is same =
     (subst (Keeps looks (outside_of source nodes b ++ Item.Opener b.image (drop b.behind source) ∷ inside_of source nodes b) looks) (sym is)
     (keeps-text looks (outside_of source nodes b) (inside_of source nodes b) b.image (drop b.behind source) (bracket_text b.image) (93 ∷ []))))
 
--- reading goes on at a later place
+-- reading continues at a later place
 pub read-further : (source : List ℕ) (nodes : List Node) (brackets : List Bracket) (at end links_end : ℕ) (ends : MissingEnds) → at ≤ end → IsCharBoundary source end → IsRead source at nodes brackets links_end ends
     → IsRead source end nodes brackets links_end ends
 read-further source nodes brackets at end links_end ends low boundary r = record {
@@ -524,7 +524,7 @@ pub none-there : {A : Type 0} (xs : List A) → length xs ≡ 0 → xs ≡ []
 none-there [] e = refl
 none-there (x ∷ xs) e = absurd (cc e)
 
--- the nodes behind a bracket, once they are paired
+-- the nodes after a bracket, once they are paired
 
 paired-inside : (source : List ℕ) (nodes paired : List Node) (b : Bracket) (first : ℕ) → first ≡ b.node + 1 → items_of source (drop first paired) ≡ pair_all (items_of source (drop first nodes)) → items_of source (drop (suc b.node) paired) ≡ pair_all (inside_of source nodes b)
 paired-inside source nodes paired b first place pairs = sym (inside-items source paired b first place) ∙ pairs ∙ ap pair_all (inside-items source nodes b first place)

@@ -15,7 +15,7 @@ below-one bound [] n token below low = absurd (omega (arith, low))
 below-one bound (first ∷ held) zero token below low = below.0
 below-one bound (first ∷ held) (suc n) token below low = below-one bound held n token below.1 (omega (arith, low))
 
--- what is behind the texts with which some tokens begin, whatever was made of the groups
+-- what is after the texts with which some tokens start, whatever was made of the groups
 tokens-left : (made : List Made) (tokens left : List Token) (at count : ℕ) → left ≡ drop at tokens → nodes_of [] (drop count left) ≡ behind_texts (nodes_of [] left)
     → nodes_of made (drop (at + count) tokens) ≡ behind_texts (nodes_of made (drop at tokens))
 tokens-left made tokens left at count same rest =
@@ -26,7 +26,7 @@ texts-pushed : (source : List ℕ) (made : List Made) (tokens left : List Token)
 texts-pushed source made tokens left at done pushed same was =
     was ∙ ap (λ t. done ++ text_before (text_in_front source (nodes_of [] t)) []) same ∙ sym (ap (λ t. done ++ text_before t []) (made-text source made (drop at tokens)))
 
--- the inlines of the tokens that are left, behind their first texts
+-- the inlines of the tokens that are left, after their first texts
 pub settled-behind : (source : List ℕ) (made : List Made) (tokens left : List Token) (at count : ℕ) (done pushed whole : List Inline) → left ≡ drop at tokens
     → nodes_of [] (drop count left) ≡ behind_texts (nodes_of [] left) → pushed ≡ done ++ text_before (text_in_front source (nodes_of [] left)) []
     → done ++ settled (items_of source (nodes_of made (drop at tokens))) ≡ whole → pushed ++ settled (items_of source (nodes_of made (drop (at + count) tokens))) ≡ whole
@@ -34,7 +34,7 @@ settled-behind source made tokens left at count done pushed whole same rest was 
     ap (λ t. t ++ settled (items_of source (nodes_of made (drop (at + count) tokens)))) (texts-pushed source made tokens left at done pushed same was)
     ∙ settled-left source done (nodes_of made (drop at tokens)) (nodes_of made (drop (at + count) tokens)) whole (tokens-left made tokens left at count same rest) h
 
--- and behind the inline that follows
+-- and after the inline that follows
 pub settled-further : (source : List ℕ) (made : List Made) (tokens left : List Token) (at count : ℕ) (token : Token) (done pushed further whole : List Inline) → left ≡ drop at tokens
     → nodes_of [] (drop count left) ≡ behind_texts (nodes_of [] left) → pushed ≡ done ++ text_before (text_in_front source (nodes_of [] left)) []
     → at + count < length tokens → further ≡ pushed ++ inline_of source (node_of made (get_or tokens (at + count) token))

@@ -9,7 +9,7 @@ slice-front source at end low =
     let place : at + (end - at) ≡ end = omega (arith, low) in
     sym (take-append-drop (end - at) (drop at source)) ∙ ap (λ t. slice_range source at end ++ t) (drop-drop (end - at) at source ∙ ap (λ n. drop n source) place)
 
--- what stands before a place, the last first
+-- what is before a place, the last first
 pub before-later : (source : List ℕ) (at end : ℕ) → at ≤ end → reverse (take end source) ≡ reverse (slice_range source at end) ++ reverse (take at source)
 before-later source at end low =
     let place : at + (end - at) ≡ end = omega (arith, low) in

@@ -1,4 +1,4 @@
--- Where the text of an inline stands that stands by itself in a source.
+-- Where the text of an inline is that contains no other.
 use Rattle.std.proofs.Common.{◌≡◌, ℕ, zero, suc, ◌+◌, ◌-◌, ◌<◌, ◌≤◌, ◌==◌, ◌&&◌, not, cond, Bool, true, false, List, [], ◌∷◌, ◌++◌, length, take, drop, get_or, Option, Some, None, codes, refl, sym, ap, subst, ◌∙◌, arith, length-append, length-drop, drop-drop}
 use Rattle.std.specs.Prelude.{IsUtf8}
 use Rattle.std.specs.List.{slice_range}
@@ -40,7 +40,7 @@ whole-is rules source at w depth end within is = record {
   fresh = is.fresh;
 }
 
--- what stands before the next run is the front of the text, and a backtick is behind it
+-- what is before the next run is the front of the text, and a backtick is after it
 
 -- a part as it was read, and what is left
 record Stood (text part : List ℕ) : Type 0 where
@@ -81,7 +81,7 @@ span-stood : (n : ℕ) (text : List ℕ) (r : Reading) → Some r ≡ as_written
 span-stood zero text r e = none-some (sym e)
 span-stood (suc n) text r e = stood (suc n) false text r (sym e)
 
--- the text of a code span stands behind its first backtick string
+-- the text of a code span is after its first backtick string
 pub record Placed (source : List ℕ) (from : ℕ) (part : List ℕ) : Type 0 where
   pub is : slice_range source from (from + length part) ≡ part
   pub between : IsBetween source from (from + length part)
@@ -99,7 +99,7 @@ span-placed source at start inside rest e left boundary =
       between = (omega arith, boundary, IsCharBoundary-before_ascii source (start + length inside) found.0 (omega (arith, found.2)));
     }
 
--- what stands between `<` and `>`
+-- what is between `<` and `>`
 
 front-skip : (test : ℕ → Bool) (bs : List ℕ) → front_of test bs ++ skip test bs ≡ bs
 unfolding front_of skip

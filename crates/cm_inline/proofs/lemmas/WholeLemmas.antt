@@ -29,7 +29,7 @@ use Rattle.cm_inline.proofs.lemmas.DeeperLemmas.{emphasis-deeper, reverse-depth,
 use Rattle.cm_inline.proofs.lemmas.PairLemmas.{last-item}
 use Rattle.cm_inline.proofs.lemmas.SliceLemmas.{slice-front, before-later, before-one}
 
--- the items from a place on, behind items that have the last first
+-- the items from a place on, after items that have the last first
 abbrev pub items_from : Rules → Defined → List ℕ → ℕ → List pairing.Item → List pairing.Item
 items_from rules defined source at items = items_after rules defined zero (reverse (take at source)) (drop at source) items
 
@@ -146,7 +146,7 @@ ahead-text rules defined source nodes at end is = go (nat_lt at end) refl
         let same : end ≡ at = omega (arith, is.low, nat_lt-false at end e) in
         ap (λ t. ahead rules defined source t end) (append-nil nodes) ∙ ap (ahead rules defined source nodes) same
 
--- at the front and at the end of a source
+-- at the start and at the end of a source
 pub ahead-start : (rules : Rules) (defined : Defined) (source : List ℕ) → ahead rules defined source [] zero ≡ in_pieces (inlines.items_of rules defined source)
 unfolding inlines.items_of
 ahead-start rules defined source = refl

@@ -34,7 +34,7 @@ abbrev pub AreBefore : ℕ → List Bracket → Type 0
 AreBefore at [] = ⊤
 AreBefore at (bracket ∷ brackets) = (bracket.behind ≤ at) × AreBefore at brackets
 
--- a link stands among the nodes from a number on, just where the number is below the end of the links
+-- a link is among the nodes from a number on, just where the number is below the end of the links
 abbrev pub LinksEnd : List ℕ → List Node → ℕ → Type 0
 LinksEnd source nodes end = (n : ℕ) → holds_link (items_of source (drop n nodes)) ≡ nat_lt n end
 
@@ -57,7 +57,7 @@ IsReadTo source at reader = IsRead source at (nodes_in reader.nodes) reader.brac
 abbrev pub IsReadWith : List ℕ → ℕ → Reader → Bracket → Type 0
 IsReadWith source at reader bracket = IsRead source at (nodes_in reader.nodes) (reader.brackets.items ++ bracket ∷ []) reader.links_end reader.ends × ArePlaced source reader.nodes.inside
 
--- An atom at a place, which ends at the other, was put behind the nodes, and among the brackets if it is one. What is known of the source
+-- An atom at a place, which ends at the other, was put after the nodes, and among the brackets if it is one. What is known of the source
 -- may be more, and all else is as it was.
 pub record Puts (rules : Rules) (source : List ℕ) (at end : ℕ) (old new : Reader) : Type 0 where
   pub node : Node
@@ -80,7 +80,7 @@ end_for rules defined source bracket links_end at = elim (not bracket.image && n
   | false ↦ end_at rules defined (slice_range source bracket.behind at) (drop (at + 1) source)
 ]
 
--- the items before a bracket, and those behind it
+-- the items before a bracket, and those after it
 abbrev pub outside_of : List ℕ → List Node → Bracket → List items.Item
 outside_of source nodes bracket = items_of source (take bracket.node nodes)
 
@@ -92,7 +92,7 @@ abbrev pub link_of : (image : Bool) → (dest title : List ℕ) → List Inline 
 link_of true dest title content = Image dest title content
 link_of false dest title content = Link dest title content
 
--- a link or an image in place of its bracket and what stands behind that
+-- a link or an image in place of its bracket and what is after that
 abbrev pub link_made : List ℕ → List Node → Bracket → (dest title : List ℕ) → List items.Item
 link_made source nodes bracket dest title =
     outside_of source nodes bracket ++ made bracket.image dest title (inside_of source nodes bracket) ∷ []

@@ -59,7 +59,7 @@ abbrev pub Falling : List Entry → Type 0
 Falling [] = Unit {0}
 Falling (e ∷ es) = Below e.place es × Falling es
 
--- how many entries stand at a bottom or above it
+-- how many entries are at a bottom or above it
 abbrev pub above : ℕ → List Entry → ℕ
 above bottom entries = count_by (λ e. nat_le bottom e.place) entries
 

@@ -34,7 +34,7 @@ made_of kinds.Image target content = inlines.Image target.0 target.1 content
 abbrev pub made_by : Kind → Target → List Node → Made
 made_by kind target nodes source = made_of kind target (settled (items_of source nodes))
 
--- the tags of what a kind makes, save images
+-- the tags of what a kind makes, except images
 abbrev pub start_html : Kind → Target → List ℕ
 start_html kinds.Emph target = codes "<em>"
 start_html kinds.Strong target = codes "<strong>"
@@ -49,7 +49,7 @@ end_html kinds.Strike = codes "</del>"
 end_html kinds.Link = codes "</a>"
 end_html kinds.Image = []
 
--- A group: what it is, where a link or an image leads, and the places of what stands in it.
+-- A group: what it is, where a link or an image leads, and the places of what is in it.
 pub record Grouped : Type 0 where
   pub kind : Kind
   pub target : Target
@@ -77,7 +77,7 @@ abbrev pub AreTargets : List ℕ → List PlacedGroup → Type 0
 AreTargets texts [] = ⊤
 AreTargets texts (group ∷ groups) = IsKept texts group.target × AreTargets texts groups
 
--- the group stands there
+-- the group is there
 abbrev pub IsAt : List Grouped → ℕ → Grouped → Type 0
 IsAt groups number group = group ≡ get_or groups number group
 
@@ -118,7 +118,7 @@ nodes_among inside groups held = nodes_of (groups_made inside groups) held
 abbrev pub made_among : (inside : List Token) → List Grouped → Grouped → Made
 made_among inside groups group = group_made inside (groups_made inside groups) group
 
--- The tokens up to those that wait to be paired; those; what stands in groups; and the groups.
+-- The tokens up to those that wait to be paired; those; what is in groups; and the groups.
 pub record Held : Type 0 where
   pub before : List Token
   pub rest : List Token
@@ -154,7 +154,7 @@ abbrev pub AreBelow : ℕ → List Token → Type 0
 AreBelow bound [] = ⊤
 AreBelow bound (token ∷ held) = IsBelow bound token × AreBelow bound held
 
--- what stands in a group lies inside, and is of groups before it
+-- what is in a group lies inside, and is of groups before it
 pub record IsGroup (inside : List Token) (number : ℕ) (group : Grouped) : Type 0 where
   pub order : group.from ≤ group.to
   pub within : group.to ≤ length inside

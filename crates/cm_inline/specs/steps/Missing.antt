@@ -1,4 +1,4 @@
--- Words that are known to stand nowhere in the rest of a source.
+-- Words that are known to be nowhere in the rest of a source.
 use Rattle.std.specs.Prelude.{◌≡◌, ℕ, ◌≤◌, false, List, drop, codes, Option, Some, None, ⊤}
 use Rattle.std.specs.Option.{option_map_or}
 use Rattle.std.specs.Ordering.{nat_cmp}
@@ -9,7 +9,7 @@ use Rattle.cm_inline.specs.declared.missing_ends.Form.{Form}
 use Rattle.cm_inline.specs.declared.missing_ends.Form.TheVariants.{Comment, Instruction, CharacterData, Declaration}
 use Rattle.cm_inline.specs.declared.missing_ends.MissingEnds.{MissingEnds}
 
--- the words with which a form begins and ends
+-- the words with which a form starts and ends
 abbrev pub start_of : Form → List ℕ
 start_of Comment = codes "<!--"
 start_of Instruction = codes "<?"
@@ -22,7 +22,7 @@ end_of Instruction = codes "?>"
 end_of CharacterData = codes "]]>"
 end_of Declaration = codes ">"
 
--- the word stands nowhere from the place on
+-- the word is nowhere from the place on
 abbrev pub Missing : List ℕ → List ℕ → ℕ → Type 0
 Missing source word from = (later : ℕ) → from ≤ later → behind_word word (drop later source) ≡ None
 
@@ -33,11 +33,11 @@ missing_from ends Instruction = ends.instruction
 missing_from ends CharacterData = ends.character_data
 missing_from ends Declaration = ends.declaration
 
--- behind the last backtick string of so many that a map of them has, or the front where it has none
+-- after the last backtick string of this length that a map of them has, or the start where it has none
 abbrev pub behind_last : BTreeMap ℕ ℕ → ℕ → ℕ
 behind_last last count = option_map_or (λ end. end) (get nat_cmp last count) 0
 
--- behind the last backtick string of each length none of that length stands
+-- no backtick string of a length follows the last one of that length
 abbrev pub AreLast : List ℕ → BTreeMap ℕ ℕ → Type 0
 AreLast source last = (count : ℕ) → up_to_run count false (drop (behind_last last count) source) ≡ None
 
@@ -50,6 +50,6 @@ pub record Knows (source : List ℕ) (ends : MissingEnds) : Type 0 where
   pub forms : (form : Form) → Missing source (end_of form) (missing_from ends form)
   pub backticks : AreLastIfKnown source ends.backticks
 
--- from some place no further on than this one, no backtick string of so many follows
+-- from some place no further on than this one, no backtick string of this length follows
 abbrev pub NoneFrom : List ℕ → ℕ → ℕ → Type 0
 NoneFrom source count start = (from : ℕ) × (from ≤ start) × (up_to_run count false (drop from source) ≡ None)

@@ -14,9 +14,9 @@ use Rattle.cm_inline.specs.declared.standalone.Standalone.{Standalone}
 use Rattle.cm_inline.specs.steps.Runs.{byte_of, run_of}
 use Rattle.cm_inline.specs.steps.Standalone.{inline_in, standalone_depth, standalone_html, standalone_plain, IsWithin}
 
--- The source between two places as text; the characters for which a reference stands; an inline that stands by itself in the source;
+-- The source between two places as text; the characters of a reference; an inline that contains no other;
 -- an inline that was made of nodes, as it comes of a source, how deep it nests, and whether it is a link that a `]` made, or an image
--- that holds one; what is left of a delimiter run; and `[` or `![`, and the place behind it.
+-- that holds one; what is left of a delimiter run; and `[` or `![`, and the place after it.
 pub data Node : Type 0 where
   Piece : (from to : ℕ) → Node
   Characters : Chars → Node
@@ -113,12 +113,12 @@ node_plain source node = text_in source node
 abbrev pub nodes_plain : List ℕ → List Node → List ℕ
 nodes_plain source nodes = flat_map (node_plain source) nodes
 
--- the text with which the nodes begin
+-- the text with which the nodes start
 abbrev pub text_in_front : List ℕ → List Node → List ℕ
 text_in_front source [] = []
 text_in_front source (node ∷ nodes) = elim (is_text node) [ true ↦ text_in source node ++ text_in_front source nodes | false ↦ [] ]
 
--- the nodes behind it
+-- the nodes after it
 abbrev pub behind_texts : List Node → List Node
 behind_texts [] = []
 behind_texts (node ∷ nodes) = elim (is_text node) [ true ↦ behind_texts nodes | false ↦ node ∷ nodes ]

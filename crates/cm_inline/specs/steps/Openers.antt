@@ -9,7 +9,7 @@ use Rattle.cm_inline.specs.steps.Runs.{run_of}
 use Rattle.cm_inline.specs.steps.Entries.{Entry, Listed, Below, Falling, answers, reserve}
 use Rattle.cm_inline.specs.steps.Searching.{AreSound, kind, openers_of, places_of, characters}
 
--- The looks that were made and those that may still be made for the first so many kinds of closers: one for each character left
+-- The looks that were made and those that may still be made for the first kinds of closers, of which there is the given number: one for each character left
 -- besides.
 abbrev pub spent : (kinds : ℕ) → Listed → List ℕ → ℕ
 spent kinds l bottoms = l.looks + reserve (take kinds bottoms) l.entries + characters l.entries

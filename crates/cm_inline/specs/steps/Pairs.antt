@@ -13,7 +13,7 @@ use Rattle.cm_inline.specs.steps.Runs.{run_of}
 use Rattle.cm_inline.specs.steps.Openers.{Ready, spent}
 use Rattle.cm_inline.specs.steps.Searching.{kind}
 
--- The looks for which items pay, where closers are of so many kinds: for each run one in vain for each kind, one for its removal, and
+-- The looks for which items pay, where closers are of the given number of kinds: for each run one in vain for each kind, one for its removal, and
 -- one for each of its characters.
 abbrev pub allowed : (kinds : ℕ) → Item → ℕ
 allowed kinds (Delimiters run) = kinds + 1 + run.left
@@ -26,7 +26,7 @@ allowance kinds items = sum_by (allowed kinds) items
 abbrev pub AreFew : (looks : ℕ) → List Item → Type 0
 AreFew looks items = looks + allowance 13 items < 2 ^ 127
 
--- the runs among items are of the first so many kinds
+-- the runs among items are of the first kinds, of which there is the given number
 abbrev pub IsOf : (kinds : ℕ) → Item → Type 0
 IsOf kinds (Delimiters run) = kind run < kinds
 IsOf kinds _ = ⊤
@@ -44,7 +44,7 @@ item_emphases _ = 0
 abbrev pub items_emphases : List Item → ℕ
 items_emphases items = sum (map item_emphases items)
 
--- what stands before an opener among the nodes, it, and what stands behind it
+-- what is before an opener among the nodes, it, and what is after it
 abbrev pub opened_at : List ℕ → List Node → Delimiter → Opened
 opened_at source nodes opener = record { before = items_of source (take opener.item nodes); opener = run_of opener.run; inside = items_of source (drop (suc opener.item) nodes) }
 
@@ -55,7 +55,7 @@ pub record Stays (from : ℕ) (old new : Held) : Type 0 where
   pub parts : (source : List ℕ) → AreParts source (nodes_in old) → AreParts source (nodes_in new)
   pub placed : (source : List ℕ) → AreParts source (nodes_in old) → ArePlaced source old.inside → ArePlaced source new.inside
 
--- A run is added behind nodes, and makes all its pairs first: the list stands for the openers among the nodes again, the run pays for
+-- A run is added after nodes, and makes all its pairs first: the list stands for the openers among the nodes again, the run pays for
 -- the looks, and each emphasis that is made takes one.
 pub record Adds (source : List ℕ) (old : List Node) (had : Openers) (new : List Node) (has : Openers) (run : Run) : Type 0 where
   pub ready : Ready (reverse (items_of source new)) has.list has.bottoms
@@ -63,13 +63,13 @@ pub record Adds (source : List ℕ) (old : List Node) (had : Openers) (new : Lis
   pub made : had.list.looks + items_emphases (items_of source new) ≤ has.list.looks + items_emphases (items_of source old)
   pub passes : reverse (items_of source new) ≡ passed (reverse (items_of source old)) (Delimiters run)
 
--- The looks at the end, where items come to what holds so many emphases: the items pay for those that were added, and each emphasis
+-- The looks at the end, where items become what holds the given number of emphases: the items pay for those that were added, and each emphasis
 -- that was made took one.
 pub record AreLooks (looks : ℕ) (items : List Item) (later emphases : ℕ) : Type 0 where
   pub paid : (kinds : ℕ) → AreOf kinds items → later ≤ looks + allowance kinds items
   pub made : looks + emphases ≤ later + items_emphases items
 
--- All pairs among the nodes from a number on are made, with so many looks before and so many at the end.
+-- All pairs among the nodes from a number on are made, with these numbers of looks before and at the end.
 pub record MakesPairs (from : ℕ) (old : Held) (sooner : ℕ) (new : Held) (later : ℕ) : Type 0 where
   pub pairs : (source : List ℕ) → items_from source from new ≡ pair_all (items_from source from old)
   pub stays : Stays from old new

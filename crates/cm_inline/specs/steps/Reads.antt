@@ -19,7 +19,7 @@ use Rattle.cm_inline.specs.Reading.{looks_at_most}
 use Rattle.cm_inline.specs.steps.Searching.{kind}
 use Rattle.cm_inline.specs.steps.Pairs.{AreOf, allowance, items_emphases}
 
--- this byte stands at the place, where a character begins, in a source whose places have 32 bits
+-- this byte is at the place, where a character starts, in a source whose places have 32 bits
 pub record Stands (source : List ℕ) (at b : ℕ) : Type 0 where
   pub short : length source < 2 ^ 32
   pub within : at < length source
@@ -30,7 +30,7 @@ pub record Stands (source : List ℕ) (at b : ℕ) : Type 0 where
 abbrev pub atom_in : Rules → List ℕ → ℕ → AtomRead
 atom_in rules source at = atom_at rules (reverse (take at source)) (slice_index source at) (drop (at + 1) source)
 
--- What stands between the places is text, behind which the source is at its end or an ASCII character stands.
+-- What is between the places is text, after which the source is at its end or has an ASCII character.
 pub record IsTextTo (source : List ℕ) (at end : ℕ) : Type 0 where
   pub low : at ≤ end
   pub boundary : IsCharBoundary source end
@@ -43,7 +43,7 @@ pub record IsAllText (source : List ℕ) : Type 0 where
   pub html : (rules : Rules) (defined : Defined) → inlines_html (inlines_of rules defined source) ≡ escape source
   pub flat : (rules : Rules) (defined : Defined) (limit : ℕ) → nests_past rules defined limit source ≡ false
 
--- a byte with which a line break can begin
+-- a byte with which a line break can start
 abbrev pub is_break_byte : ℕ → Bool
 is_break_byte b = b == line_feed || b == space
 
@@ -59,7 +59,7 @@ item_for CloseBracket rest = None
 abbrev pub kinds_by : Rules → ℕ
 kinds_by rules = if rules.strike then 13 else 12
 
--- An item that an atom puts holds no emphasis yet, and a run is of the first so many kinds and has all its characters left.
+-- An item that an atom puts holds no emphasis yet, and a run is of the first kinds, of which there is the given number, and has all its characters left.
 abbrev pub IsNew : (kinds : ℕ) → items.Item → Type 0
 IsNew kinds (items.Finished inline) = emphases_of inline ≡ 0
 IsNew kinds (items.Linked inline) = emphases_of inline ≡ 0
@@ -80,11 +80,11 @@ pub record IsAtom (rules : Rules) (source : List ℕ) (at : ℕ) (node : Node) (
 abbrev pub ahead : Rules → Defined → List ℕ → List Node → ℕ → List items.Item
 ahead rules defined source nodes at = in_pieces (reverse (items_after rules defined zero (reverse (take at source)) (drop at source) (reverse (items_of source nodes))))
 
--- how many characters the delimiter runs have that follow a place, where nodes stand before it
+-- how many characters the delimiter runs have that follow a place, where nodes are before it
 abbrev pub characters_ahead : Rules → Defined → List ℕ → List Node → ℕ → ℕ
 characters_ahead rules defined source nodes at = characters_of (runs_after rules defined zero (reverse (take at source)) (drop at source) (reverse (items_of source nodes)))
 
--- A source is read up to a place with so many looks: the looks for which the nodes pay and those that the runs ahead allow are enough, and
+-- A source is read up to a place with the given number of looks: the looks for which the nodes pay and those that the runs ahead allow are enough, and
 -- each emphasis that was made took one.
 pub record Pays (rules : Rules) (defined : Defined) (source : List ℕ) (nodes : List Node) (at looks : ℕ) : Type 0 where
   pub are : AreOf (kinds_by rules) (items_of source nodes)

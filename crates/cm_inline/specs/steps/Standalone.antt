@@ -1,4 +1,4 @@
--- Inlines that stand by themselves in a source.
+-- Inlines that contain no other.
 use Rattle.std.specs.Prelude.{ℕ, Bool, ◌≤◌, List, [], ◌∷◌, ◌++◌, codes, if◌then◌else◌, ⊤}
 use Rattle.std.specs.List.{slice_range}
 use Rattle.std.specs.Str.{IsCharBoundary}

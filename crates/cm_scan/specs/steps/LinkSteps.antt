@@ -5,7 +5,7 @@ use Rattle.cm_text.specs.Characters.{within}
 use Rattle.cm_scan.specs.Words.{is_control, begins_with, trim_start}
 use Rattle.cm_scan.specs.inlines.Links.{Reading, characters, has_no_blank_line}
 
--- the part between two places, of which a closing byte stands at the second
+-- the part between two places, with a closing byte at the second
 abbrev pub closed_at : List ℕ → ℕ → Option ℕ → Option Reading
 closed_at text from end = option_map (λ e. record { text = slice_range text from e; rest = drop (suc e) text }) end
 
@@ -13,7 +13,7 @@ closed_at text from end = option_map (λ e. record { text = slice_range text fro
 abbrev pub ended_at : List ℕ → ℕ → Option ℕ → Option Reading
 ended_at text from end = option_map (λ e. record { text = slice_range text from e; rest = drop e text }) end
 
--- the byte that ends the title which a byte begins
+-- the byte that ends the title which a byte starts
 abbrev pub title_end : ℕ → Option ℕ
 title_end b = if b == 34 then Some 34 else (if b == 39 then Some 39 else (if b == 40 then Some 41 else None))
 
@@ -25,7 +25,7 @@ ends_bare opened b = b == 32 || is_control b || (b == 41 && opened == 0)
 abbrev pub is_plain_in_run : ℕ → Bool
 is_plain_in_run b = nat_lt 32 b && not (b == 40) && not (b == 41) && not (b == 92) && not (b == 127)
 
--- a byte that begins a character
+-- a byte that starts a character
 abbrev pub begins_character : ℕ → Bool
 begins_character b = not (within 128 191 b)
 
@@ -34,18 +34,18 @@ abbrev pub is_barred : ℕ → (one_line : Bool) → ℕ → Bool
 is_barred open_byte true b = b == open_byte || b == 10
 is_barred open_byte false b = b == open_byte
 
--- an ASCII byte that means nothing in a part: it neither begins nor ends one, escapes nothing, and ends no line
+-- an ASCII byte that means nothing in a part: it neither starts nor ends one, escapes nothing, and ends no line
 abbrev pub is_plain : ℕ → Bool
 is_plain b = nat_lt b 128 && not (list_any (λ c. c == b) (codes "\n\"'()<>[\\]"))
 
--- at most so many characters, and no blank line save where those may stand
+-- up to the given number of characters, and no blank line except where those may be
 abbrev pub fits : ℕ → (blank_lines : Bool) → Reading → Bool
 fits most blank_lines r = nat_le (characters r.text) most && (blank_lines || has_no_blank_line r)
 
--- a line feed with which a blank line begins
+-- a line feed with which a blank line starts
 abbrev pub blank_follows : ℕ → List ℕ → Bool
 blank_follows b bs = b == 10 && begins_with 10 (trim_start bs)
 
--- a byte that no part can hold: one that may not stand there, one character too many, or a line feed before a blank line
+-- a byte that no part can hold: one that may not be there, one character too many, or a line feed before a blank line
 abbrev pub is_refused : ℕ → (blank_lines barred : Bool) → ℕ → List ℕ → Bool
 is_refused left blank_lines barred b bs = barred || (left == 0 && begins_character b) || (not blank_lines && blank_follows b bs)

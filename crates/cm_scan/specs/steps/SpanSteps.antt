@@ -5,11 +5,11 @@ use Rattle.std.specs.List.{slice_range}
 use Rattle.cm_scan.specs.Words.{is_letter_or_digit}
 use Rattle.cm_scan.specs.inlines.Links.{Reading}
 
--- what is left of a text, which a step answers as a slice
+-- what is left of a text, which a step returns as a slice
 abbrev pub left_of : Option (Bor (List ℕ)) → Option (List ℕ)
 left_of rest = option_map (λ r. r.now) rest
 
--- the part up to a run, and what is left behind it, by the places where the run begins and ends
+-- the part up to a run, and what is left after it, by the places where the run starts and ends
 abbrev pub run_at : List ℕ → ℕ → Option (ℕ × ℕ) → Option Reading
 run_at text from run = option_map (λ r. record { text = slice_range text from r.0; rest = drop r.1 text }) run
 

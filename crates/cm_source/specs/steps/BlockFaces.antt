@@ -1,4 +1,4 @@
--- The faces of blocks, as the code has them: what a block shows to those beside it.
+-- The faces of blocks, as the code has them: what a block shows to those next to it.
 use Rattle.std.specs.Prelude.{Bool, true, false, Option, option_map, map, List as ListOf}
 use Rattle.cm_text.specs.Rules.{Rules}
 use Rattle.cm_tree.specs.declared.tree.Block.{Block}
@@ -22,6 +22,6 @@ abbrev pub is_paragraph : refusals.BlockFace → Bool
 is_paragraph refusals.ParagraphFace = true
 is_paragraph face = false
 
--- what the blocks of each item are to those beside them
+-- what the blocks of each item are to those next to them
 abbrev pub faces_of_items : Rules → ListOf (ListOf Block) → ListOf (ListOf refusals.BlockFace)
 faces_of_items rules items = map refusals.faces (map (map (refusals.judged_block rules)) items)

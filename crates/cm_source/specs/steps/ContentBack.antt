@@ -1,4 +1,4 @@
--- What inlines need of the bytes beside them so that their spelling reads back (CommonMark 0.31.2, chapter 6). The bytes before a
+-- What inlines need of the bytes next to them so that their spelling reads back (CommonMark 0.31.2, chapter 6). The bytes before a
 -- place have the last first.
 use Rattle.std.specs.Prelude.{◌≡◌, ℕ, Bool, true, false, ◌&&◌, List, [], ◌∷◌, ◌++◌, map, reverse, Some, codes}
 use Rattle.cm_text.specs.Rules.{Rules}
@@ -15,7 +15,7 @@ use Rattle.cm_source.specs.Texts.{spelled_text, spelled_bytes, spelled_target}
 use Rattle.cm_source.specs.Inlines.{is_line_end, join, spelled, spelled_inlines, spelled_content}
 use Rattle.cm_source.specs.InlineRefusals.{has_nul, has_line_ending, is_text, first_face, hold_link, is_one_tag, Judged, judged}
 
--- What stands before and behind the content of emphasis, of strong emphasis, and of a text that is struck through.
+-- What is before and after the content of emphasis, of strong emphasis, and of a text that is struck through.
 pub data Mark : Type 0 where
   Star : Mark
   TwoStars : Mark
@@ -42,7 +42,7 @@ is_known rules Star = true
 is_known rules TwoStars = true
 is_known rules TwoTildes = rules.strike
 
--- Between these bytes a content has a mark on both sides: the first may open and the second may close, and neither goes on.
+-- Between these bytes a content has a mark on both sides: the first may open and the second may close, and neither continues.
 pub record IsBetween (rules : Rules) (mark : Mark) (before content rest : List ℕ) : Type 0 where
   pub known : is_known rules mark ≡ true
   pub first_ends : begins_with (character_of mark) (content ++ written mark ++ rest) ≡ false
@@ -50,7 +50,7 @@ pub record IsBetween (rules : Rules) (mark : Mark) (before content rest : List �
   pub opens : (run_between rules (character_of mark) (count_of mark) before (content ++ written mark ++ rest)).opens ≡ true
   pub closes : (run_between rules (character_of mark) (count_of mark) (reverse content ++ written mark ++ before) rest).closes ≡ true
 
--- a line ends right behind the spaces with which this begins, if there are any
+-- a line ends right after the spaces with which this starts, if there are any
 abbrev pub is_before_line_end : List ℕ → Bool
 is_before_line_end rest = begins_with 10 (after_run 32 rest)
 
@@ -59,7 +59,7 @@ abbrev pub are_texts : Judged → List Judged → Bool
 are_texts inline others = is_text (Some inline.face) && is_text (first_face others)
 
 mutual
-  -- An inline between these bytes, at the beginning and at the end of a line or not, where it may be emphasis or not.
+  -- An inline between these bytes, at the start and at the end of a line or not, where it may be emphasis or not.
   pub data Fits (rules : Rules) : (emphasis first last : Bool) → (before : List ℕ) → Inline → (rest : List ℕ) → Type 0 where
     FitsText : {emphasis first last : Bool} {before rest text : List ℕ}
         → is_empty text ≡ false → has_nul text ≡ false → (last ≡ false → is_before_line_end rest ≡ false)
@@ -70,7 +70,7 @@ mutual
     FitsHtml : {emphasis first last : Bool} {before rest text : List ℕ} → is_one_tag rules text ≡ true → Fits rules emphasis first last before (Html text) rest
     FitsSoft : {emphasis first last : Bool} {before rest : List ℕ} → Fits rules emphasis first last before Soft rest
     FitsHard : {emphasis first last : Bool} {before rest : List ℕ} → Fits rules emphasis first last before Hard rest
-    -- no emphasis stands in emphasis
+    -- no emphasis is in emphasis
     FitsEmphasis : {first last : Bool} {before rest : List ℕ} {content : List Inline} (mark : Mark)
         → IsBetween rules mark before (spelled_inlines false false content) rest
         → FitsAll rules false false false (written mark ++ before) content (written mark ++ rest)
@@ -85,7 +85,7 @@ mutual
         → FitsAll rules true false false (91 ∷ 33 ∷ before) content (spelled_target dest title ++ rest)
         → Fits rules emphasis first last before (Image dest title content) rest
 
-  -- Inlines one after another, of which no two texts stand side by side: each fits between those before it and those behind it.
+  -- Inlines one after another, without two adjacent texts: each fits between those before it and those after it.
   pub data FitsAll (rules : Rules) : (emphasis first last : Bool) → (before : List ℕ) → List Inline → (rest : List ℕ) → Type 0 where
     FitsNone : {emphasis first last : Bool} {before rest : List ℕ} → FitsAll rules emphasis first last before [] rest
     FitsNext : {emphasis first last : Bool} {before rest : List ℕ} {next : Inline} {inlines : List Inline}

@@ -1,4 +1,4 @@
--- Contents that aren't refused fit: each of their inlines has beside it what it needs to read back.
+-- Contents that aren't refused fit: each of their inlines has next to it what it needs to read back.
 use Rattle.std.specs.Prelude.{◌≡◌, true, List, [], None, IsUtf8}
 use Rattle.cm_text.specs.Rules.{Rules}
 use Rattle.cm_tree.specs.declared.tree.Inline.{Inline}

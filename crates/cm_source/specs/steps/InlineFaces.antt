@@ -1,4 +1,4 @@
--- The faces of inlines, as the code has them: what an inline shows to those beside it, and where it stands.
+-- The faces of inlines, as the code has them: what an inline shows to those next to it, and its position.
 use Rattle.std.specs.Prelude.{Option, option_map, reverse}
 use Rattle.cm_scan.specs.inlines.Atoms.{first_character, last_character}
 use Rattle.cm_source.specs.InlineRefusals as refusals
@@ -14,7 +14,7 @@ shown Break = refusals.BreakFace
 shown Emphasis = refusals.EmphasisFace
 shown Other = refusals.OtherFace
 
--- that of what stands there, if anything does
+-- that of what is there, if anything is
 abbrev pub seen : Option Face → Option refusals.Face
 seen beside = option_map shown beside
 

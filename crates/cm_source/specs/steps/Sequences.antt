@@ -45,12 +45,12 @@ unfoldable mutual
   items_tree (last_one inside) = tree inside ∷ []
   items_tree (one_and inside items) = tree inside ∷ items_tree items
 
--- whether an empty line follows a block: the blocks stand apart, and others follow it; or the last one has one behind it
+-- whether an empty line follows a block: the blocks are apart, and others follow it; or the last one has one after it
 abbrev pub gap_before : (apart behind_last : Bool) → Sequence → Bool
 gap_before apart behind_last no_blocks = behind_last
 gap_before apart behind_last _ = apart
 
--- the lines that are spelled for blocks, with an empty line behind the last or not; and for items
+-- the lines that are spelled for blocks, with an empty line after the last or not; and for items
 unfoldable mutual
   pub block_lines : (apart behind_last : Bool) → Sequence → List (List ℕ)
   block_lines apart behind_last no_blocks = []
@@ -115,7 +115,7 @@ begins_with_kind kind _ = false
 
 -- The sequence of a tree
 
--- blocks, each in front of those that follow it
+-- blocks, each followed by the rest
 abbrev pub chain : List (Sequence → Sequence) → Sequence
 chain [] = no_blocks
 chain (block ∷ blocks) = block (chain blocks)
@@ -125,7 +125,7 @@ chain_items [] = last_one no_blocks
 chain_items (item ∷ []) = last_one (chain item)
 chain_items (item ∷ next ∷ items) = one_and (chain item) (chain_items (next ∷ items))
 
--- one block, with each block inside in front of what follows it
+-- one block, followed by the rest, with each block inside followed by its rest
 abbrev pub sequence_step : Block-F (Sequence → Sequence) → Sequence → Sequence
 sequence_step (block.Paragraph content) rest = leaf_then (record { part = paragraph (spelled_content content); lines = parted_lines (spelled_content content) }) rest
 sequence_step (block.Heading level content) rest = leaf_then (record { part = heading level (spelled_content content); lines = heading_lines level content }) rest

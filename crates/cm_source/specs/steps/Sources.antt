@@ -36,7 +36,7 @@ abbrev pub AllTextLines : Rules → List (List ℕ) → Type 0
 AllTextLines rules [] = ⊤
 AllTextLines rules (line ∷ lines) = IsTextLine rules line × AllTextLines rules lines
 
--- the source of a paragraph: its first line stays text behind a bullet too
+-- the source of a paragraph: its first line stays text after a bullet too
 pub record IsParagraphSource (rules : Rules) (source : List ℕ) : Type 0 where
   pub clean : is_clean source ≡ true
   pub first : List ℕ

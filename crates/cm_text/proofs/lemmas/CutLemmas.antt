@@ -49,7 +49,7 @@ text_of-append xs ys = flat_map-append text_of_byte xs ys
 pub cut_text-append : (cut : Cut) (xs ys : List ℕ) → cut_more cut (text_of (xs ++ ys)) ≡ cut_more (cut_more cut (text_of xs)) (text_of ys)
 cut_text-append cut xs ys = ap (cut_more cut) (text_of-append xs ys) ∙ cut_more-append cut (text_of xs) (text_of ys)
 
--- the cut behind lines that have ended before
+-- the cut after lines that have ended before
 abbrev pub behind : List LineView → Cut → Cut
 behind front cut = record cut { ended = front ++ cut.ended }
 

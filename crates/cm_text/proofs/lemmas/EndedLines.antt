@@ -10,7 +10,7 @@ abbrev LastLine : (ended : Bool) → List ℕ → Type 0
 LastLine true partial = last_line partial ≡ []
 LastLine false partial = last_line partial ≡ partial ∷ []
 
--- a carriage return that came last leaves no text behind it
+-- a carriage return that came last leaves no text after it
 abbrev IsFresh : Cut → Type 0
 IsFresh cut = cut.after_return ≡ true → cut.partial ≡ []
 
@@ -85,7 +85,7 @@ pub nothing_open : (after_return : Bool) (text : List ℕ) → length text ≡ 0
 nothing_open after_return [] none = refl
 nothing_open after_return (b ∷ bs) none = absurd (omega arith)
 
--- the last byte tells
+-- the last byte decides
 pub ends_by_last : (text : List ℕ) → 0 < length text → ends_a_line text ≡ is_line_ending (get_or text (length text - 1) 0)
 ends_by_last [] some = absurd (omega arith)
 ends_by_last (b ∷ bs) some =

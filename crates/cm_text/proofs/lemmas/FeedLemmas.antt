@@ -46,7 +46,7 @@ without_more n cut [] fits = refl
 without_more n cut (b ∷ bytes) fits =
     ap (λ d. cut_more d bytes) (without_step n cut b fits) ∙ without_more n (cut_byte cut b) bytes (longer cut (b ∷ []) n fits)
 
--- a text at the front is passed over
+-- a text at the start is skipped
 pub valid_shift : (f x : List ℕ) → IsUtf8 f → utf8_valid_len (f ++ x) ≡ length f + utf8_valid_len x
 valid_shift f x u = ⊎_elim
     (λ w. utf8_valid_len-IsUtf8 (f ++ x) (IsUtf8-append f x u w) ∙ length-append f x ∙ ap (λ n. length f + n) (sym (utf8_valid_len-IsUtf8 x w)))
@@ -228,7 +228,7 @@ pass_stands old bytes taken some stands = go old.cut.ended refl some
     go [] is some = absurd (omega arith)
     go (line ∷ rest) is some = one_taken old.fault old.ended old line rest bytes taken is stands
 
--- so many lines, one after another
+-- a number of lines, one after another
 pub pass_all_stand : (n : ℕ) (old : Feed) (bytes : List ℕ) (taken : ℕ) → n ≤ length old.cut.ended → StandsFor old bytes taken
     → StandsFor (with_ready (drop n old.cut.ended) old) bytes (taken + n)
 pass_all_stand zero old bytes taken within stands = subst (StandsFor old bytes) (omega arith) stands
@@ -314,7 +314,7 @@ close_stands old new bytes taken sound going stands closed =
     let R : Bool → Type 0 = λ b. StandsAs None b new bytes taken in
     subst Q (sym (closed.fault ∙ sound)) (subst R (sym closed.ended) whole)
 
--- what the end answers
+-- what the end returns
 pub close_answers : (r : Result (Unit {0}) TextFault) (old new : Feed) (bytes : List ℕ) (taken : ℕ) → Goes old bytes taken → Closes r old new
     → Answers r (text_fault old.limit bytes)
 close_answers (Ok x) old new bytes taken g closed = end_sound old bytes taken g closed.pending

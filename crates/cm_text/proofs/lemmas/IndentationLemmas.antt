@@ -14,7 +14,7 @@ use Rattle.cm_text.specs.Indentation.{blank_width, strip_from}
 blank_ascii : (column b : ℕ) → 0 < blank_width column b → b < 128
 blank_ascii column b h = grind (arith, nat_tests)
 
--- so a character begins after it
+-- so a character starts after it
 pub after_blank : (bs : List ℕ) (i column : ℕ) → IsUtf8 bs → i < length bs → 0 < blank_width column (get_or bs i 0) → IsCharBoundary bs (i + 1)
 after_blank bs i column utf8 within some = IsCharBoundary-after_ascii bs i utf8 within (blank_ascii column (get_or bs i 0) some)
 

@@ -16,7 +16,7 @@ after after_gap (b ∷ bs) = elim (is_gap b) [
   | false ↦ elim after_gap [ true ↦ 32 ∷ b ∷ after false bs | false ↦ b ∷ after false bs ]
 ]
 
--- a stripped text behind a gap
+-- a stripped text after a gap
 abbrev behind_gap : List ℕ → List ℕ
 behind_gap [] = []
 behind_gap (b ∷ bs) = 32 ∷ collapse_after true (b ∷ bs)
@@ -64,7 +64,7 @@ pub after_is : (text : List ℕ) → after false (strip_leading text) ≡ settle
 unfolding settle_gaps
 after_is text = (both (strip_leading text)).0
 
--- what the rest of a text gives behind what was made of its front
+-- what the rest of a text gives after what was made of its front
 abbrev pub rest_after : (made : List ℕ) (after_gap : Bool) → List ℕ → List ℕ
 rest_after [] after_gap rest = after false (strip_leading rest)
 rest_after (b ∷ bs) after_gap rest = after after_gap rest

@@ -49,7 +49,7 @@ lines_after-cons after_return line b bs = by_tests (b == 10) (b == 13) after_ret
     by_tests false true after_return = refl
     by_tests false false after_return = refl
 
--- what is left of a text, where a line feed at its front may belong to a carriage return before it
+-- what is left of a text, where a line feed at its start may belong to a carriage return before it
 abbrev left_after : Bool → List ℕ → List ℕ
 left_after false text = text
 left_after true [] = []
@@ -103,7 +103,7 @@ computed_from after_return line (b ∷ bs) is =
 pub lines_are_computed : LinesAreComputed
 lines_are_computed text = computed_from false [] text refl
 
--- a text that begins with a line ending, or is at its end
+-- a text that starts with a line ending, or is at its end
 abbrev at_ending : List ℕ → Bool
 at_ending [] = true
 at_ending (b ∷ bs) = is_line_ending b
@@ -130,7 +130,7 @@ split_unique (c ∷ cs) (d ∷ ds) x y l m h k same =
     let both = split_unique cs ds x y (and_parts _ _ l).1 (and_parts _ _ m).1 h k rest in
     (let e = both.0 in cc, both.1)
 
--- what stands after a line
+-- what is after a line
 abbrev tail_of : Ending → List ℕ → List ℕ
 tail_of LineFeed rest = 10 ∷ rest
 tail_of CarriageReturnLineFeed rest = 13 ∷ 10 ∷ rest

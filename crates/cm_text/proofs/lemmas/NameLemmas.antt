@@ -16,7 +16,7 @@ use Rattle.cm_text.specs.NamedReferences.{names}
 use Rattle.cm_text.specs.References.{entry}
 use Rattle.cm_text.specs.steps.NameTable.{names_joined, start_at, first_at, name_at, characters_at}
 
--- so many numbers from one on pass a test
+-- the given number of consecutive numbers pass a test
 pub passes : (ℕ → Bool) → ℕ → ℕ → Bool
 passes test from zero = true
 passes test from (suc count) = test from && passes test (from + 1) count
@@ -80,7 +80,7 @@ keys-sorted k d low high =
     let up : not (is_lt (slice_cmp nat_cmp (name_at (k + 1)) (name_at k))) ≡ true = passes-at ascends 0 176 all_ascend k (omega arith) (omega arith) in
     rw (key_at (k + 1) d next, key_at k d (omega arith)) (grind (arith, up))
 
--- so what a comparison with a name answers doesn't fall along the table
+-- so what a comparison with a name returns doesn't fall along the table
 compared : (name : List ℕ) (i j : ℕ) → i ≤ j → j < 177
     → ordering_index (slice_cmp nat_cmp (name_at i) name) ≤ ordering_index (slice_cmp nat_cmp (name_at j) name)
 compared name i j up within =
@@ -100,7 +100,7 @@ apart-low name middle j true e m less same =
     absurd (omega (arith, one, none, up))
 apart-low name middle j false e m less same = grind (arith, nat_tests, e)
 
--- a name that comes after the one in the middle stands after it
+-- a name that is greater than the one in the middle is after it
 pub after_middle : (name : List ℕ) (middle j : ℕ) → middle < 177 → slice_cmp nat_cmp (name_at middle) name ≡ Less → name_at j ≡ name → middle < j
 after_middle name middle j = apart-low name middle j (nat_le j middle) refl
 
@@ -139,7 +139,7 @@ pub place-entry : (i : ℕ) → i < 177 → entry names (name_at i) ≡ Some (ch
 unfolding agrees
 place-entry i within = same_entry-is (entry names (name_at i)) (characters_at i) (passes-at agrees 0 177 all_agree i (omega arith) (omega arith))
 
--- a name stands in the table
+-- a name is in the table
 stands : List ℕ → ℕ → ℕ → Bool
 stands name from zero = false
 stands name from (suc count) = bytes_eq (name_at from) name || stands name (from + 1) count
@@ -165,7 +165,7 @@ both_true : (a b : Bool) → (a && b) ≡ true → (a ≡ true) × (b ≡ true)
 both_true true b h = (refl, h)
 both_true false b h = absurd (cc)
 
--- so what stands nowhere in the table is no name
+-- so what is nowhere in the table is no name
 entry-step : (name : List ℕ) (e : List ℕ × List ℕ) (es : List (List ℕ × List ℕ)) (same : Bool) → bytes_eq e.0 name ≡ same
     → stands name 0 177 ≡ false → stands e.0 0 177 ≡ true → entry es name ≡ None
     → elim same as (λ _. Option (List ℕ)) [ true ↦ Some e.1 | false ↦ entry es name ] ≡ None

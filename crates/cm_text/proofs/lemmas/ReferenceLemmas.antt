@@ -33,7 +33,7 @@ digits-step : (radix : ℕ) (passes : ℕ → Bool) (b : ℕ) (bs : List ℕ) (p
 digits-step radix passes b bs true means h rest = subst (λ n. AllDigits radix (take n (b ∷ bs))) (one-plus (prefix_len passes bs)) (means b h, rest)
 digits-step radix passes b bs false means h rest = tt
 
--- so what stands before a semicolon is digits
+-- so what is before a semicolon is digits
 pub all_digits : (radix : ℕ) (passes : ℕ → Bool) (text : List ℕ) → MeansDigit radix passes → AllDigits radix (take (prefix_len passes text) text)
 all_digits radix passes [] means = tt
 all_digits radix passes (b ∷ bs) means = digits-step radix passes b bs (passes b) means refl (all_digits radix passes bs means)
@@ -70,7 +70,7 @@ number-more radix digits i number digit low within n d =
     let more : number * radix + digit ≡ digits_value radix (take (i + 1) digits) = rw (n, d) (sym (digits_value_more radix digits i within)) in
     (more, rw more (digits_value-take-le radix digits (i + 1) (omega arith)))
 
--- a text that begins with a byte
+-- a text that starts with a byte
 pub begins-cons : (b : ℕ) (text : List ℕ) → begins_with b text ≡ true → text ≡ b ∷ drop 1 text
 begins-cons b [] h = absurd (cc)
 begins-cons b (c ∷ cs) h = let same : c ≡ b = grind (arith, nat_tests, h) in ap (λ n. n ∷ cs) same
@@ -164,7 +164,7 @@ abbrev pub EndsWithin : List ℕ → Read → Type 0
 EndsWithin text None = Unit {0}
 EndsWithin text (Some read) = (1 ≤ read.1) × (read.1 ≤ length text) × (get_or text (read.1 - 1) 0 ≡ 59)
 
--- a semicolon stands after what stands behind so many bytes
+-- a semicolon follows what comes after the given number of bytes
 abbrev Inside : ℕ → List ℕ → Option (List ℕ) → Type 0
 Inside n text None = Unit {0}
 Inside n text (Some content) = (n + length content < length text) × (get_or text (n + length content) 0 ≡ 59)
@@ -258,7 +258,7 @@ read-within text given place len characters same within e =
     let at : place + len - 1 ≡ place + (len - 1) = omega (arith, ends.0) in
     (omega (arith, ends.0, ends.1, long), ends.0, rw at last)
 
--- so a character begins after it
+-- so a character starts after it
 pub boundary-after : (text : List ℕ) (place len : ℕ) → IsUtf8 text → (place + len ≤ length text) × (1 ≤ len) × (get_or text (place + len - 1) 0 ≡ 59)
     → IsCharBoundary text (place + len)
 boundary-after text place len utf8 read =

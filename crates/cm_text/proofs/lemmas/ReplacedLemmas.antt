@@ -9,7 +9,7 @@ use Rattle.std.proofs.lemmas.List.Sums.{fails_before_first}
 abbrev pub Keeps : (ℕ → Bool) → (ℕ → List ℕ) → Type 0
 Keeps p f = (b : ℕ) → p b ≡ false → f b ≡ b ∷ []
 
--- one at the front of a text
+-- one at the start of a text
 replaced-cons : (p : ℕ → Bool) (f : ℕ → List ℕ) → Keeps p f → (b : ℕ) (bs : List ℕ) → p b ≡ false → flat_map f (b ∷ bs) ≡ b ∷ flat_map f bs
 replaced-cons p f keeps b bs plain = ap (λ front. front ++ flat_map f bs) (keeps b plain)
 

@@ -74,7 +74,7 @@ last-few x small = omega (arith, and_le_r x 15)
 pub places-ok : (v : List ℕ) → length v ≡ 16 → Each1 (Fits w8) v → SwzOk w8 16 16 0 (zip2 bit_and v (replicate 16 15))
 places-ok v long fits = looks-up (λ x. bit_and x 15) last-few v _ long fits (last-bits v long)
 
--- which lanes stand in the table, each at the place of its last four bits
+-- which lanes are in the table, each at the place of its last four bits
 pub in-table : (table v : List ℕ) → length v ≡ 16 → Each1 (Fits w8) v
     → zip2 hit (swz_l w8 16 table 0 (zip2 bit_and v (replicate 16 15))) v ≡ map (λ x. hit (get_or table (bit_and x 15) 0) x) v
 in-table table v long fits =
@@ -84,13 +84,13 @@ tops : (f : ℕ → ℕ) (p : ℕ → Bool) → agree_below (λ x. top 7 (f x)) 
 tops f p agree [] fits = refl
 tops f p agree (x ∷ xs) fits = ap₂ (λ a b. a ∷ b) (agree_below_at (λ y. top 7 (f y)) p 256 x agree fits.0.fits) (tops f p agree xs fits.1)
 
--- the mask of lanes whose top bits tell of each byte whether it passes
+-- the mask of lanes whose top bits say of each byte whether it passes
 pub masked : (f : ℕ → ℕ) (p : ℕ → Bool) → agree_below (λ x. top 7 (f x)) p 256 ≡ true → (v z : List ℕ) → length v ≤ 64 → Each1 (Fits w8) v → z ≡ map f v
     → mask_l (map (top 7) z) % 2 ^ 64 ≡ mask_l (map p v)
 masked f p agree v z few fits lanes =
     ap (λ l. mask_l l % 2 ^ 64) (ap (map (top 7)) lanes ∙ tops f p agree v fits) ∙ mask_l-mod (map p v) 64 (omega (arith, length-map v p))
 
--- a lane that passes stands in a mask that isn't empty
+-- a lane that passes is in a mask that isn't empty
 pub some-passes : (p : ℕ → Bool) (v : List ℕ) → 0 < mask_l (map p v) → prefix_len (λ b. not (p b)) v < length v
 some-passes p [] some = absurd (omega (arith, some))
 some-passes p (x ∷ xs) some = go (p x) some (some-passes p xs)

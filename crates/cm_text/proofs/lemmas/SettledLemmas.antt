@@ -1,4 +1,4 @@
--- The bytes so far settle a fault just where the feed's test says so: what stays refused, and what can go on to a text.
+-- The bytes so far settle a fault exactly if the feed's test says so: what stays refused, and what can continue to be a text.
 use Rattle.std.proofs.Common.{◌≡◌, ◌⊎◌, ℕ, suc, ◌+◌, ◌-◌, ◌*◌, ◌<◌, ◌≤◌, Bool, true, false, cond, List, [], ◌∷◌, ◌++◌, length, take, drop, IsUtf8, Option, Some, None, is_some, nat_lt, refl, sym, ap, subst, ◌∙◌, arith, inl, inr, ⊎_elim, true≢false, append_assoc, append-nil, length-append, length-drop, take_all, take-append-drop}
 use Rattle.std.proofs.lemmas.Bool.{cases_Bool, cases_lt, cond-true, cond-false, ltb-false, lt-ltb, le-ltb, ne_eqb, and_parts, leb-true}
 use Rattle.std.proofs.lemmas.Bool.Decides.{nat_tests}
@@ -132,16 +132,16 @@ text_four a b d e least most s third fourth =
 abbrev NoText : List ℕ → Type 0
 NoText x = (m : ℕ) → 0 < m → m ≤ length x → IsUtf8 (take m x) → ⊥
 
--- where no text stands at the front, the first byte isn't ASCII
+-- where no text is at the start, the first byte isn't ASCII
 no_one : (a : ℕ) (r : List ℕ) → NoText (a ∷ r) → 128 ≤ a
 no_one a r none = ⊎_elim (λ (low : a < 128). absurd (none 1 (omega arith) (omega arith) (of_one (a ∷ r) 0 (omega arith) low))) (λ high. high) (cases_lt a 128)
 
--- where no text stands at the front, the first two bytes aren't a character
+-- where no text is at the start, the first two bytes aren't a character
 no_two : (a b : ℕ) (r : List ℕ) → NoText (a ∷ b ∷ r) → 194 ≤ a → Second a b → 224 ≤ a
 no_two a b r none least s =
     ⊎_elim (λ (low : a < 224). absurd (none 2 (omega arith) (omega arith) (text_two a b least low (s.low, s.high)))) (λ high. high) (cases_lt a 224)
 
--- where no text stands at the front, the first three bytes aren't a character
+-- where no text is at the start, the first three bytes aren't a character
 no_three : (a b d : ℕ) (r : List ℕ) → NoText (a ∷ b ∷ d ∷ r) → 224 ≤ a → Second a b → Follows d → 240 ≤ a
 no_three a b d r none least s third =
     ⊎_elim (λ (low : a < 240). absurd (none 3 (omega arith) (omega arith) (text_three a b d least low s third))) (λ high. high) (cases_lt a 240)
@@ -188,15 +188,15 @@ fails_fourth : (a b d e : ℕ) (r : List ℕ) → is_first a ≡ true → is_sec
 fails_fourth a b d e r first second third =
     ap is_some (error_four a b d e r ∙ cond-true _ _ _ first ∙ cond-true _ _ _ second ∙ cond-true _ _ _ third)
 
--- no character stands at the front of the bytes, and they are refused
+-- no character is at the start of the bytes, and they are refused
 abbrev Stays : List ℕ → Type 0
 Stays y = StartsWithNoChar y × (is_some (utf8_error_len y) ≡ true)
 
--- with a wrong first byte no character stands at the front
+-- with a wrong first byte no character is at the start
 stays_first : (a : ℕ) (r : List ℕ) → 128 ≤ a → is_first a ≡ false → Stays (a ∷ r)
 stays_first a r high first = (no_char (a ∷ r) 0 (λ w. let range = ranged_first _ _ _ _ _ w high in out_of_range 0xC2 0xF4 a first range.0 range.1), fails_first a r first)
 
--- with a wrong second byte no character stands at the front
+-- with a wrong second byte no character is at the start
 stays_second : (a b : ℕ) (r : List ℕ) → is_first a ≡ true → is_second a b ≡ false → Stays (a ∷ b ∷ r)
 stays_second a b r first second =
     let least = (in_range _ _ a first).0 in
@@ -209,7 +209,7 @@ stays_third a b d r high first second third = (
   fails_third a b d r first second third,
 )
 
--- with no text at the front of four bytes or more, no character stands there, whatever follows the four
+-- with no text at the start of four bytes or more, no character is there, whatever follows the four
 stays_fourth : (a b d e : ℕ) (r more : List ℕ) → NoText (a ∷ b ∷ d ∷ e ∷ r) → is_first a ≡ true → is_second a b ≡ true → is_third d ≡ true
     → Stays (a ∷ b ∷ d ∷ e ∷ more)
 stays_fourth a b d e r more none first second third =
@@ -262,7 +262,7 @@ stays (a ∷ b ∷ d ∷ e ∷ r) more some none = ⊎_elim
     (λ first. stays_first a (b ∷ d ∷ e ∷ r ++ more) (no_one a (b ∷ d ∷ e ∷ r) none) first)
     (cases_Bool (is_first a))
 
--- what is left after the longest well-formed front has no text at its front
+-- what is left after the longest well-formed front has no text at its start
 no_text : (bs : List ℕ) → NoText (left_of bs)
 no_text bs m some fits u =
     let n = utf8_valid_len bs in
@@ -275,7 +275,7 @@ no_text bs m some fits u =
 parts : (bs more : List ℕ) → bs ++ more ≡ take (utf8_valid_len bs) bs ++ (left_of bs ++ more)
 parts bs more = ap (λ t. t ++ more) (sym (take-append-drop (utf8_valid_len bs) bs)) ∙ append_assoc (take (utf8_valid_len bs) bs) (left_of bs) more
 
--- where no character can begin with what is left, nothing more is well-formed however the bytes go on
+-- where no character can start with what is left, nothing more is well-formed however the bytes continue
 error_stays : (bs more : List ℕ) → is_some (utf8_error_len (left_of bs)) ≡ true
     → (utf8_valid_len (bs ++ more) ≡ utf8_valid_len bs) × (is_some (utf8_error_len (left_of (bs ++ more))) ≡ true) × (utf8_valid_len bs < length bs)
 error_stays bs more some =
@@ -297,7 +297,7 @@ error_stays bs more some =
       short,
     )
 
--- the bytes can go on so that they are a text
+-- the bytes can continue to be a text
 abbrev CanEnd : List ℕ → Type 0
 CanEnd x = (more : List ℕ) × AreBytes more × IsUtf8 (x ++ more)
 
@@ -328,7 +328,7 @@ least_second a = record {
   after_244 = λ e. grind (arith, nat_tests);
 }
 
--- a first byte can go on to a character
+-- a first byte can continue to a character
 end_first : (a : ℕ) → 194 ≤ a → a ≤ 244 → CanEnd (a ∷ [])
 end_first a least most =
     let b = second_byte_min a in
@@ -342,18 +342,18 @@ end_first a least most =
     (cases_lt a 240))
     (cases_lt a 224)
 
--- two bytes that begin a longer character can go on to it
+-- two bytes that start a longer character can continue to it
 end_second : (a b : ℕ) → 224 ≤ a → a ≤ 244 → Second a b → CanEnd (a ∷ b ∷ [])
 end_second a b least most s = ⊎_elim
     (λ (three : a < 240). (128 ∷ [], one_byte 128 (omega arith), text_three a b 128 least three s follows_128))
     (λ (four : 240 ≤ a). (128 ∷ 128 ∷ [], two_bytes 128 128 (omega arith) (omega arith), text_four a b 128 128 four most s follows_128 follows_128))
     (cases_lt a 240)
 
--- three bytes that begin a character of four can go on to it
+-- three bytes that start a character of four can continue to it
 end_third : (a b d : ℕ) → 240 ≤ a → a ≤ 244 → Second a b → Follows d → CanEnd (a ∷ b ∷ d ∷ [])
 end_third a b d least most s third = (128 ∷ [], one_byte 128 (omega arith), text_four a b d 128 least most s third follows_128)
 
--- bytes that `utf8_error_len` doesn't refuse and at whose front no text stands are the beginning of a character
+-- bytes that `utf8_error_len` doesn't refuse and that don't start with a text are the start of a character
 can_end : (x : List ℕ) → NoText x → utf8_error_len x ≡ None → CanEnd x
 can_end [] none sound = ([], All-nil (λ n. n < 256), IsUtf8-nil)
 can_end (a ∷ []) none sound = ⊎_elim
@@ -396,7 +396,7 @@ can_end (a ∷ b ∷ d ∷ e ∷ r) none sound = ⊎_elim
     (λ first. impossible (a ∷ b ∷ d ∷ e ∷ r) (fails_first a (b ∷ d ∷ e ∷ r) first) sound)
     (cases_Bool (is_first a))
 
--- bytes without an error can go on so that they are a text
+-- bytes without an error can continue to be a text
 can_go_on : (bs : List ℕ) → utf8_error_len (left_of bs) ≡ None → CanEnd bs
 can_go_on bs sound =
     let last = can_end (left_of bs) (no_text bs) sound in
@@ -469,7 +469,7 @@ never_both : (t : Bool) (n limit : ℕ) (fault : TextFault) → fault ≡ NotUtf
 never_both true n limit fault is too_long = cc
 never_both false n limit fault is too_long = cc
 
--- where nothing is settled, the bytes can go on to a text
+-- where nothing is settled, the bytes can continue to a text
 not_settled : (limit : ℕ) (bytes : List ℕ) (fault : TextFault) → settled_fault limit bytes ≡ None → Settles limit bytes fault → text_fault limit bytes ≡ Some fault → ⊥
 not_settled limit bytes fault none settles told =
     let whole : take limit bytes ≡ bytes = take_all limit bytes (within_limit limit bytes none) in
@@ -479,7 +479,7 @@ not_settled limit bytes fault none settles told =
     let short : fault ≡ NotUtf8 (valid_len limit bytes) = cut_short _ _ _ (sym (cond-false _ _ _ (ap is_some none)) ∙ told) in
     never_both _ (valid_len limit bytes) limit fault short (sym (sound_text limit (bytes ++ text.0) text.2) ∙ settles text.0 text.1)
 
--- a fault that every text has that begins with the bytes is the one that the test tells
+-- a fault that every text has that starts with the bytes is the one that the test says
 settled_from : (limit : ℕ) (bytes : List ℕ) (fault : TextFault) → Settles limit bytes fault → settled_fault limit bytes ≡ Some fault
 settled_from limit bytes fault settles = by_fault (settled_fault limit bytes) refl
   where
@@ -490,7 +490,7 @@ settled_from limit bytes fault settles = by_fault (settled_fault limit bytes) re
     by_fault None is = absurd (not_settled limit bytes fault is settles told)
     by_fault (Some other) is = is ∙ sym (settled_text limit bytes other is) ∙ told
 
--- the test that a feed makes tells just the faults that the bytes settle
+-- the test that a feed makes finds exactly the faults that the bytes settle
 pub settled_is_told : SettledIsTold
 settled_is_told limit bytes fault = (
   λ is more are_bytes. settled_text limit (bytes ++ more) fault (settled_stays limit bytes more fault is),

@@ -26,7 +26,7 @@ pub nul-first : (bs : List ℕ) (i : ℕ) → i < length bs → Passes (is_byte 
     → take i bs ++ (replacement_bytes ++ text_of (drop (i + 1) bs)) ≡ text_of bs
 nul-first bs i within nul none = rw add-one (nul-at bs i within nul none)
 
--- what was made so far goes on by it
+-- what was made so far continues by it
 pub more_text : (made front behind rest whole : List ℕ) → front ++ (replacement_bytes ++ text_of behind) ≡ text_of rest → made ++ text_of rest ≡ text_of whole
     → ((made ++ front) ++ replacement_bytes) ++ text_of behind ≡ text_of whole
 more_text made front behind rest whole cut so_far =

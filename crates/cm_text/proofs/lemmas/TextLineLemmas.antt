@@ -20,7 +20,7 @@ use Rattle.cm_text.proofs.lemmas.LinesLemmas.{lines_are_computed, lines_are_line
 pub all_lines : (text : List ℕ) → list_all is_line (lines_of text) ≡ true
 all_lines text = lines_are_lines text (lines_of text) (lines_are_computed text)
 
--- the cut of lines, each with its line feed, and of more behind them
+-- the cut of lines, each with its line feed, and of more after them
 pub lines_cut : (lines : List (List ℕ)) (more : List ℕ) → list_all is_line lines ≡ true
     → cut_more (begun false) (flat_map with_line_feed lines ++ more) ≡ behind (map plain_line lines) (cut_more (begun false) more)
 lines_cut [] more h = refl
@@ -33,7 +33,7 @@ lines_cut (line ∷ lines) more h =
 
 -- one line more
 
--- how many spaces the next line of text may begin with, behind so many lines
+-- how many spaces the next line of text may start with, after the given number of lines
 abbrev pub next_spaces : ℕ → ℕ → ℕ
 next_spaces zero spaces = spaces
 next_spaces (suc n) spaces = 0
@@ -132,7 +132,7 @@ module _ (text : List ℕ) (a : TextAhead) (h : IsAhead a text) (within : a.len 
         first = behind;
       }
 
--- the lines of text that were found in front of what is unread
+-- the lines of text that were found before what is unread
 module _ (after_return : Bool) (text : List ℕ) (at : ℕ) (a : TextAhead) (waits : after_return ≡ true → at ≡ length text)
     (h : IsAhead a (drop at text)) (some : 0 < a.count) where
   abbrev found : List (List ℕ)
@@ -177,7 +177,7 @@ module _ (after_return : Bool) (text : List ℕ) (at : ℕ) (a : TextAhead) (wai
 pub passed_more : (n : ℕ) (cut : Cut) → without 1 (without n cut) ≡ without (n + 1) cut
 passed_more n cut = ap (λ t. record cut { ended = t }) (drop-drop 1 n cut.ended)
 
--- what stands between the spaces in front and the last line feed
+-- what is between the spaces before and the last line feed
 
 last-feed : (lines : List (List ℕ)) → 0 < length lines → (front : List ℕ) × (flat_map with_line_feed lines ≡ front ++ 10 ∷ [])
 last-feed [] some = absurd (omega (arith, some))
@@ -186,7 +186,7 @@ last-feed (line ∷ next ∷ lines) some =
     let rest = last-feed (next ∷ lines) (omega arith) in
     (with_line_feed line ++ rest.0, ap (λ t. with_line_feed line ++ t) rest.1 ∙ sym (append_assoc (with_line_feed line) rest.0 (10 ∷ [])))
 
--- the spaces, and a byte behind them
+-- the spaces, and a byte after them
 spaces-first : (spaces : ℕ) (text : List ℕ) → is_text_behind spaces text ≡ true → (spaces < length text) × ((k : ℕ) → k < spaces → get_or text k 0 ≡ 32)
 spaces-first spaces [] h = absurd (cc (h))
 spaces-first zero (b ∷ bs) h = (omega arith, λ k below. absurd (omega (arith, below)))

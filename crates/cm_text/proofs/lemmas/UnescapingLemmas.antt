@@ -1,4 +1,4 @@
--- Escapes and references resolved: what is read at the front of a text, and the text after it.
+-- Escapes and references resolved: what is read at the start of a text, and the text after it.
 use Rattle.std.proofs.Common.{◌≡◌, ℕ, zero, suc, ◌+◌, ◌-◌, ◌<◌, ◌≤◌, Bool, true, false, ◌==◌, ◌&&◌, if◌then◌else◌, List, [], ◌∷◌, ◌++◌, length, take, drop, get_or, Option, Some, None, encode_utf8_all, refl, sym, ap, subst, ◌∙◌, arith, append_assoc, drop-drop}
 use Rattle.std.proofs.lemmas.Bool.Decides.{nat_tests}
 use Rattle.std.proofs.lemmas.List.{take_all, append-nil}
@@ -83,7 +83,7 @@ next-front : (b : ℕ) (bs : List ℕ) (o : Read) → special (b ∷ bs) ≡ o
 unfolding unescape_after
 next-front b bs o h = ap (λ t. elim t as (λ _. List ℕ) [ None ↦ b ∷ unescape_after 0 bs | Some read ↦ encode_utf8_all read.0 ++ unescape_after (read.1 - 1) bs ]) h
 
--- an escape or reference at the front gives its characters
+-- an escape or reference at the start gives its characters
 pub unescape-special : (text characters : List ℕ) (len : ℕ) → special text ≡ Some (characters, len)
     → unescape text ≡ encode_utf8_all characters ++ unescape (drop len text)
 unescape-special text characters len h = from_front text len h (special-within text text characters len refl (sym h)) where

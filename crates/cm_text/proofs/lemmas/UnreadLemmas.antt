@@ -66,7 +66,7 @@ none_passed cut none = ap (λ t. record cut { ended = t }) (none ∙ sym (ap (dr
 pub ending_is_ascii : (b : ℕ) → is_line_ending b ≡ true → b < 128
 ending_is_ascii b ends = grind (arith, nat_tests)
 
--- where more comes behind
+-- where more comes after
 pub boundary_on : (xs ys : List ℕ) (i : ℕ) → IsUtf8 ys → IsCharBoundary xs i → IsCharBoundary (xs ++ ys) i
 boundary_on xs ys i u at = go (cases_lt i (length xs))
   where

@@ -51,7 +51,7 @@ pub valid_front-IsUtf8 : (bs : List ℕ) → IsUtf8 (take (utf8_valid_len bs) bs
 unfolding utf8_valid_len
 valid_front-IsUtf8 bs = (longest_front bs (length bs)).0
 
--- what is left of a text behind a text at its front is a text
+-- what is left of a text after a text at its start is a text
 cancel : (cs ds : List ℕ) (y : List ℕ) → scalars ds ≡ true → encodes cs ++ y ≡ encodes ds → IsUtf8 y
 cancel [] ds y all same = (ds, (all, sym same))
 cancel (c ∷ cs) [] y all same =

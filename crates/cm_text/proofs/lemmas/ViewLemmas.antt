@@ -1,4 +1,4 @@
--- Columns of a line whose text has so many spaces in front.
+-- Columns of a line whose text has the given number of spaces before.
 use Rattle.std.proofs.Common.{◌≡◌, ℕ, zero, suc, ◌+◌, ◌-◌, ◌*◌, ◌≤◌, Bool, true, false, List, [], ◌∷◌, ◌++◌, length, drop, replicate, refl, sym, ap, ◌∙◌, arith}
 use Rattle.std.proofs.lemmas.List.{length-replicate, length-append}
 use Rattle.cm_text.specs.LineText.{is_line, tabs}
@@ -87,7 +87,7 @@ rest_fits n column next spaces k text rest left e =
     let few = tabs-spaces spaces (drop k text) in
     rw e (omega (arith, all, long, few))
 
--- so does what is left behind some bytes
+-- so does what is left after some bytes
 pub behind_fits : (n : ℕ) (text rest : List ℕ) → n ≤ length text → rest ≡ drop n text → n + length rest + 3 * tabs rest ≤ length text + 3 * tabs text
 behind_fits zero text rest within e = rw e (omega arith)
 behind_fits (suc n) [] rest within e = absurd (omega (arith, within))

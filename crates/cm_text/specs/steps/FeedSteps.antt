@@ -59,7 +59,7 @@ Closes (Err NoMemory) old new = (new.limit ≡ old.limit) × IsFront new.cut.end
 Closes (Err (NotUtf8 at)) old new = (new ≡ old) × (0 < length old.pending) × (at ≡ old.start)
 Closes (Err (TooLong at)) old new = ⊥
 
--- a feed with lines in front of those that it has, and with a fault
+-- a feed with lines before those that it has, and with a fault
 abbrev pub behind_ready : List LineView → Option TextFault → Feed → Feed
 behind_ready ready fault feed = record {
   limit = feed.limit;

@@ -3,19 +3,19 @@ use Rattle.std.specs.Prelude.{ℕ, Bool, true, false, not, ◌&&◌, ◌||◌, �
 use Rattle.std.specs.Char.{is_ascii_graphic, is_ascii_uppercase}
 use Rattle.cm_text.specs.Labels.{is_gap}
 
--- what a character adds to the text that was made, where a gap stands before it or doesn't
+-- what a character adds to the text that was made, where a gap is before it or isn't
 abbrev pub put_after : (made : List ℕ) (after_gap : Bool) → List ℕ → List ℕ
 put_after [] after_gap bytes = bytes
 put_after (b ∷ bs) after_gap bytes = elim after_gap [ true ↦ 32 ∷ bytes | false ↦ bytes ]
 
--- whether a text is settled that begins with a gap or doesn't, by the same of what stands behind its first byte
+-- whether a text is settled, which may start with a gap, by whether what follows its first byte is
 abbrev pub settled_by : (gap behind_gap space rest_behind_gap rest : Bool) → Bool
 settled_by true true space rest_behind_gap rest = false
 settled_by true false space rest_behind_gap rest = space && rest_behind_gap
 settled_by false behind_gap space rest_behind_gap rest = rest
 
--- Whether a text is settled as it stands: each gap in it is one space, and something else stands before and behind that. The mark says
--- that a gap stands before the text, or nothing.
+-- Whether a text is settled unchanged: each gap in it is one space, and something else is before and after that. The mark says
+-- that a gap is before the text, or nothing.
 abbrev pub is_settled : (behind_gap : Bool) → List ℕ → Bool
 is_settled behind_gap [] = not behind_gap
 is_settled behind_gap (b ∷ bs) = settled_by (is_gap b) behind_gap (b == 32) (is_settled true bs) (is_settled false bs)
@@ -24,12 +24,12 @@ is_settled behind_gap (b ∷ bs) = settled_by (is_gap b) behind_gap (b == 32) (i
 abbrev pub is_plain_byte : ℕ → Bool
 is_plain_byte b = is_ascii_graphic b && not (is_ascii_uppercase b)
 
--- such a character stands at the front
+-- such a character is at the start
 abbrev pub begins_plain : List ℕ → Bool
 begins_plain [] = false
 begins_plain (b ∷ bs) = is_plain_byte b
 
--- a space does, with such a character behind it
+-- a space is, with such a character after it
 abbrev pub is_single_space : List ℕ → Bool
 is_single_space [] = false
 is_single_space (b ∷ bs) = b == 32 && begins_plain bs

@@ -1,4 +1,4 @@
--- How far the lines of text go with which a text begins.
+-- How far the lines of text go with which a text starts.
 use Rattle.std.specs.Prelude.{◌≡◌, ℕ, ◌<◌, ◌≤◌, true, List, length, take, drop}
 use Rattle.std.specs.List.{flat_map}
 use Rattle.std.specs.Str.{IsCharBoundary}
@@ -7,7 +7,7 @@ use Rattle.cm_text.specs.TextLines.{are_text}
 use Rattle.cm_text.specs.steps.FirstLine.{IsFirstLine}
 use Rattle.cm_text.specs.declared.text_lines.TextAhead.{TextAhead}
 
--- So many bytes are so many lines of text, each with its line feed, and the line behind them has as many bytes as is said.
+-- This number of bytes is this number of lines of text, each with its line feed, and the line after them has as many bytes as is said.
 pub record IsAhead (ahead : TextAhead) (text : List ℕ) : Type 0 where
   pub within : ahead.len ≤ length text
   pub boundary : IsCharBoundary text ahead.len

@@ -1,4 +1,4 @@
--- What a conversion answers where the HTML isn't written whole.
+-- What a conversion returns where the HTML isn't written whole.
 use Rattle.std.proofs.Common.{◌≡◌, ℕ, List, subst, inl}
 use Rattle.std.specs.Prelude.{Err}
 use Rattle.cm_text.specs.Limits.{LimitsView}

@@ -163,7 +163,7 @@ module _ (rules : Rules) (defined : Defined) where
           items-deepest items have.2,
         )
 
--- The deepest line stands as deep as the tree.
+-- The deepest line is as deep as the tree.
 deepest_line : (rules : Rules) (lines : List LineView) → AreLines lines → greatest (depths_of (parts_of rules lines)) ≡ blocks_depth (tree_of_lines rules lines)
 unfolding blocks_of
 deepest_line rules lines are = deepest rules (defined_by rules lines) (parts_of rules lines) (parts_have_lines rules lines are)

@@ -27,7 +27,7 @@ wider limit bytes more = ⊎_elim
     ap (λ k. take k (bytes ++ more)) room ∙ take-append-add bytes more n ∙ ap (λ t. t ++ take n more) (sym (take_all limit bytes within)))
     (cases_lt limit (length bytes))
 
--- the cut goes on from where it stood
+-- the cut continues where it was
 pub cut_on : (limit : ℕ) (bytes more : List ℕ)
     → cut_bytes limit (bytes ++ more) ≡ cut_valid (cut_bytes limit bytes) (after_valid limit bytes ++ take (limit - length bytes) more)
 cut_on limit bytes more =

@@ -1,4 +1,4 @@
--- The examples of lines, told by what stands in a file.
+-- The examples of lines, by what is in a file.
 use Rattle.std.proofs.Common.{◌≡◌, ◌≢◌, ◌∙◌, ◌+◌, ◌++◌, ◌<◌, ◌≤◌, ◌⊎◌, ℕ, zero, suc, Bool, true, false, List, [], ◌∷◌, refl, sym, ap, ap₂, subst, append_assoc, append-nil, bytes_eq, flat_map, length, length-append, arith, true≢false}
 use mathlib.Core.Logic.{inl, inr}
 use Rattle.std.specs.Prelude.{Result, Err}
@@ -146,7 +146,7 @@ module _ (opened : ℕ) where
 
 -- ---- an example
 
--- its lines with others behind them
+-- its lines with others after them
 abbrev lines_with : (source html lines : List (List ℕ)) → List (List ℕ)
 lines_with source html lines = opening_line ∷ source ++ (middle_line ∷ html ++ (closing_line ∷ lines))
 
@@ -179,7 +179,7 @@ examples_are_told = record {
 -- ---- no other way
 
 module _ (told : Telling) (tells : TellsExamples told) where
-  -- behind an opening line, where what stands behind it is told
+  -- after an opening line, where what follows it is known
   after_opening : (number : ℕ) (lines : List (List ℕ))
       → ((n : ℕ) (rest : List (List ℕ)) → length rest ≤ length lines → told n rest ≡ examples_of_lines n rest)
       → told number (opening_line ∷ lines) ≡ examples_of_lines number (opening_line ∷ lines)

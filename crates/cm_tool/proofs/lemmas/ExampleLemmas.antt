@@ -95,7 +95,7 @@ module _ {T : Type 0} (f : T → Part) (o : Option T) (opened number : ℕ) (lin
       ≡ put_example (record { source = source; html = (f t).text }) (examples_from Outside (f t).number (f t).behind)
   with_html t source is some = html_taken opened number source [] lines ∙ ap (after_html opened source) (sym is ∙ ap (option_map f) some)
 
--- what is left of a text behind a character is a text
+-- what is left of a text after a character is a text
 pub rest_utf8 : (rest behind : List ℕ) (c : ℕ) → IsUtf8 rest → rest ≡ encode c ++ behind → IsUtf8 behind
 rest_utf8 rest behind c u is = go u.0 u.1.0 (sym is ∙ sym u.1.1)
   where
@@ -130,7 +130,7 @@ if_put (Err e) old new put whole is done = tt
 
 -- ---- reports
 
--- what so many of these examples have come to
+-- the results of the given number of these examples
 pub record SoFar (rules : Rules) (examples : List code.Example) (agree : ℕ) (differ : List Difference) (at : ℕ) : Type 0 where
   pub bound : agree ≤ at
   pub agreed : agree + count_by (agrees rules) (map example_of (drop at examples)) ≡ count_by (agrees rules) (map example_of examples)
@@ -191,7 +191,7 @@ module _ (rules : Rules) (examples : List code.Example) (agree : ℕ) (differ : 
       first fault is =
           sym so_far.sound ∙ ap (λ xs. first_fault rules (map example_of xs)) next ∙ ap (λ o. option_or o (first_fault rules behind)) is
 
--- the element at a place, and what stands behind it
+-- the element at a place, and what is after it
 pub drop_at : {X : Type 0} (xs : List X) (k : ℕ) (d : X) → k < length xs → d ≡ get_or xs k d → drop k xs ≡ d ∷ drop (k + 1) xs
 drop_at {X = X} xs k d within is = rw add-one (go xs k within) ∙ ap (λ x. x ∷ drop (k + 1) xs) (sym is)
   where

@@ -148,7 +148,7 @@ module _ (unread : Unread) (block : RawBlock) where
 
 -- ---- the blocks at the top level
 
--- a chunk is let go of, and the next one taken
+-- a chunk is freed, and the next one taken
 pub next_chunk : (raw now : Raw) (top held : List RawBlock) (chunks later : List (List Block)) (chunk : List Block) → top ≡ [] → chunks ≡ chunk ∷ later → blocks_in now held ≡ chunk
     → blocks_in now held ++ all_blocks later ≡ blocks_in raw top ++ all_blocks chunks
 next_chunk raw now top held chunks later chunk none taken is =

@@ -33,7 +33,7 @@ whole_line bs some none =
     take_whole [] = refl
     take_whole (x ∷ xs) = ap (λ t. x ∷ t) (take_whole xs)
 
--- a carriage return and a line feed stand at the front
+-- a carriage return and a line feed are at the start
 abbrev pub is_pair : List ℕ → Bool
 is_pair text = starts_with nat_eq text (13 ∷ 10 ∷ [])
 
@@ -77,7 +77,7 @@ at_byte bs i within = rw add-one (go bs i within)
     go (x ∷ xs) zero within = refl
     go (x ∷ xs) (suc k) within = ap (λ t. x ∷ t) (go xs k (omega (arith, within)))
 
--- The first line of a text ends at this byte, or behind it.
+-- The first line of a text ends at this byte, or after it.
 pub line_at : (bs : List ℕ) (i last : ℕ) (pair : Bool) → i < length bs → Passes (is_byte2 10 13) bs i → Nowhere (Passes (is_byte2 10 13) bs) 0 i
     → is_pair (drop i bs) ≡ pair → last ≡ cond pair (i + 1) i → lines_of bs ≡ take i bs ∷ lines_of (drop (last + 1) bs)
 line_at bs i last true within ends none is last_is =

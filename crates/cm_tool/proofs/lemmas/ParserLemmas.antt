@@ -42,7 +42,7 @@ pub no_fault : (x : Unit {0}) (of : Option TextFault) → Ok x ≡ answer_after 
 no_fault x None is = refl
 no_fault x (Some fault) is = cc
 
--- what is left of a list behind a front of it
+-- what is left of a list after its start
 rest_of_front : (front all ready : List LineView) → IsFront front all → ready ≡ drop (length front) all → front ++ ready ≡ all
 rest_of_front front all ready is was =
     ap (λ t. front ++ t) (was ∙ ap (drop (length front)) is.1 ∙ drop-length front is.0) ∙ sym is.1
@@ -102,7 +102,7 @@ module _ (limits : LimitsView) where
       ∙ ap₂ (λ o t. option_or (option_map BlocksTooDeep o) (option_map told t))
       (none_deep before (ended_of bytes) g.same_limits g.handed) (ap (λ l. settled_fault l bytes) (sym g.limit) ∙ g.feeds.sound)
 
-  -- the lines that had ended, and those that are ready behind a piece
+  -- the lines that had ended, and those that are ready after a piece
   pub all_ended : (pushed : Feed) (bytes piece : List ℕ) → pushed.limit ≡ limits.bytes → pushed.ended ≡ false → (pushed.fault ≡ Some text.NoMemory → ⊥)
       → FeedStandsFor pushed (bytes ++ piece) (count_of bytes) → ended_of bytes ++ pushed.cut.ended ≡ ended_of (bytes ++ piece)
   all_ended pushed bytes piece limit going memory h =

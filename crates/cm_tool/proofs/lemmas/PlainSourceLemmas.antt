@@ -1,4 +1,4 @@
--- Plain source of blocks that are let go of one after another.
+-- Plain source of blocks that are freed one after another.
 use Rattle.std.proofs.Common.{◌≡◌, ◌∙◌, List, [], ◌∷◌, ◌++◌, Bool, true, false, not, cond, refl, sym, ap, subst, append_assoc, append-nil, Some, None}
 use Rattle.std.specs.Prelude.{Option, map}
 use Rattle.std.specs.Option.{is_some}
@@ -13,7 +13,7 @@ use Rattle.cm_source.specs.Speller.{HasSpelled, Refuses}
 use Rattle.cm_tool.specs.declared.outputs.plain_source.PlainSource as code
 use Rattle.cm_tool.specs.steps.PlainSources.{Spells, HasTaken}
 
--- one more block behind those that a source has taken
+-- one more block after those that a source has taken
 
 pub now_refused : (refused : Option Why) (speller : Speller) (rules : Rules) (blocks : List Block) (block : Block) (why : Why) → is_some refused ≡ false
     → (HasSpelled rules speller blocks → Refuses (Unspellable why) rules blocks block) → Spells refused speller rules blocks

@@ -57,7 +57,7 @@ end_told settled whole (Unspellable why) source later same at_end sound h = absu
 end_told settled whole (BadExampleFile line) source later same at_end sound h = absurd h
 end_told settled whole (ExampleDiffers number) source later same at_end sound h = absurd h
 
--- a parser that has been given all the bytes answers their outline
+-- a parser that has been given all the bytes returns their outline
 pub outline_read : (limits : LimitsView) (source later : SourceView) (read : List ℕ) (parser : ParserView)
     → (later.failed ≡ source.failed) × IsAtEnd later.remaining × HasTakenIn limits parser read × (settled_fault_of limits read ≡ None) → (r : Result Outline Fault)
     → IfOk r (λ outline. (limits : LimitsView) (bytes : List ℕ) → HasTakenIn limits parser bytes → IsOutline limits bytes outline)

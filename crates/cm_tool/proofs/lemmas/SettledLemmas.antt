@@ -70,7 +70,7 @@ from_text (Some n) wrong all leaf f e = absurd (subst IsOfText (sym (some_same e
 from_text None (Some g) all leaf f e = ap Some (told_same g f (some_same e))
 from_text None None all leaf f e = absurd (not_of_text all leaf f e)
 
--- where the bytes aren't UTF-8, the fault stands at the end of the longest well-formed front
+-- where the bytes aren't UTF-8, the fault is at the end of the longest well-formed front
 not_utf8_at : (limit : ℕ) (bytes : List ℕ) (at : ℕ) → text_fault limit bytes ≡ Some (text.NotUtf8 at) → at ≡ valid_len limit bytes
 not_utf8_at limit bytes at e = by_tests (is_some (utf8_error_len (after_valid limit bytes))) (nat_lt limit (length bytes)) (nat_lt (valid_len limit bytes) (length bytes)) (valid_len limit bytes) e
   where
@@ -100,7 +100,7 @@ never_memory limit bytes e = by_tests (is_some (utf8_error_len (after_valid limi
     by_tests false true n e = cc
     by_tests false false n e = cc
 
--- behind a fault that is settled no line ends
+-- after a fault that is settled no line ends
 same_cut : (limit : ℕ) (bytes more : List ℕ) (f : TextFault) → AreBytes more → settled_fault limit bytes ≡ Some f
     → cut_bytes limit (bytes ++ more) ≡ cut_bytes limit bytes
 same_cut limit bytes more (text.NotUtf8 at) are e =
@@ -125,14 +125,14 @@ sound_text limit bytes sound =
     none_of_two None true at h = cc
     none_of_two (Some f) t at h = cc
 
--- no text begins with the byte 255
+-- no text starts with the byte 255
 none_valid : (n : ℕ) → utf8_valid_len (take n (255 ∷ [])) ≡ 0
 unfolding utf8_valid_len is_utf8 chars encode
 none_valid zero = refl
 none_valid (suc zero) = refl
 none_valid (suc (suc n)) = refl
 
--- behind a text that byte ends no line and is wrong
+-- after a text that byte ends no line and is wrong
 no_line_ends : (limit : ℕ) (bytes : List ℕ) → text_fault limit bytes ≡ None
     → (cut_bytes limit (bytes ++ 255 ∷ []) ≡ cut_bytes limit bytes) × (text_fault limit (bytes ++ 255 ∷ []) ≡ None → ⊥)
 no_line_ends limit bytes sound =
@@ -153,11 +153,11 @@ no_line_ends limit bytes sound =
     too_short n all valid e f fits p = omega (arith, e, f, fits p)
 
 module _ (limits : LimitsView) where
-  -- every input that begins with the bytes has the fault
+  -- every input that starts with the bytes has the fault
   abbrev SettlesMet : List ℕ → Fault → Type 0
   SettlesMet bytes fault = (more : List ℕ) → AreBytes more → fault_met limits (bytes ++ more) ≡ Some fault
 
-  -- what is told stays so
+  -- what is reported stays so
   stays : (bytes more : List ℕ) (fault : Fault) → AreBytes more → settled_fault_met limits bytes ≡ Some fault → fault_met limits (bytes ++ more) ≡ Some fault
   stays bytes more fault are is = by_cases (ended_deep limits bytes) (settled_fault limits.bytes bytes) refl refl is
     where
@@ -177,7 +177,7 @@ module _ (limits : LimitsView) where
           ∙ ap (λ t. of_four None t (all_deep limits (bytes ++ more)) (leaf_deep limits (bytes ++ more))) wrong ∙ is
       by_cases None None e s is = cc
 
-  -- What every input has that begins with the bytes is told. Where nothing is told, the byte 255, which stands in no text, makes the
+  -- A fault that every input has that starts with the bytes is reported. Where nothing is reported, the byte 255, which is in no text, makes the
   -- input faulty and ends no line.
   not_settled : (bytes : List ℕ) (fault : Fault) → ended_deep limits bytes ≡ None → settled_fault limits.bytes bytes ≡ None → SettlesMet bytes fault → ⊥
   not_settled bytes fault none nothing settles = by_cases (text_fault limits.bytes bytes) refl

@@ -1,4 +1,4 @@
--- A fault that a call answers of one input is the fault of another.
+-- A fault that a call returns for one input is the fault of another.
 use Rattle.std.proofs.Common.{◌≡◌, Option, Some}
 use Rattle.cm_tool.specs.declared.fault.Fault.{Fault}
 use Rattle.cm_tool.specs.declared.fault.Fault.TheVariants.{NotUtf8, TooLong, BlocksTooDeep, InlinesTooDeep, NoMemory, ReadFailed, WriteFailed, Unspellable, BadExampleFile, ExampleDiffers}

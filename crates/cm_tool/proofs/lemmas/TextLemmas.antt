@@ -12,7 +12,7 @@ use Rattle.cm_text.proofs.lemmas.Utf8Lemmas.{valid_front-IsUtf8}
 use Rattle.cm_tool.specs.ToldFaults.{told}
 use Rattle.cm_tool.specs.Parsing.{TellsFault}
 
--- what a feed answers is told as the fault of the bytes
+-- what a feed returns is reported as the fault of the bytes
 pub feed_told : (fault : TextFault) (of : Option TextFault) → FeedAnswers (Err fault) of → TellsFault (told fault) (option_map told of)
 feed_told text.NoMemory of h = tt
 feed_told (text.NotUtf8 at) of h = ap (option_map told) h
@@ -43,6 +43,6 @@ had_none old new failed sound = go old.fault refl
         let stays = failed (λ none. let both : None ≡ Some fault = sym none ∙ is in cc) in
         ap (λ (f : Feed). f.fault) (sym stays) ∙ sound
 
--- a feed that stands for bytes and has no fault goes on
+-- a feed that stands for bytes and has no fault continues
 pub feed_goes : (feed : Feed) (bytes : List ℕ) → feed.ended ≡ false → (feed.fault ≡ None → Goes feed bytes 0) → feed.fault ≡ None → FeedStandsFor feed bytes 0
 feed_goes feed bytes going goes sound = goes_on feed bytes 0 sound going (goes sound)

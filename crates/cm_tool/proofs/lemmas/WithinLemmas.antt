@@ -43,7 +43,7 @@ sound_bytes limit bytes = (from_none, to_none)
         settled.sound_text limit bytes sound.0
         ∙ ap (λ past. cond past (Some (TooLong limit)) None) (le-ltb limit (length bytes) sound.1)
 
--- no fault is told just where there is none of the three
+-- no fault is reported just where there is none of the three
 
 none-of-two : (line leaf : Option ℕ) → (option_or (option_map BlocksTooDeep line) (option_map InlinesTooDeep leaf) ≡ None) ↔ ((line ≡ None) × (leaf ≡ None))
 none-of-two None None = (λ e. (refl, refl), λ both. refl)

@@ -10,7 +10,7 @@ use Rattle.cm_tool.specs.ExampleFiles.{Example, closing_line, example_line, exam
 abbrev pub example_of : code.Example → Example
 example_of example = record { source = string_bytes example.source; html = string_bytes example.html }
 
--- a source or HTML, the number of the line behind the one that ends it, and the lines from there on
+-- a source or HTML, the number of the line after the one that ends it, and the lines from there on
 pub record Part : Type 0 where
   pub text : List ℕ
   pub number : ℕ
@@ -31,7 +31,7 @@ part_from end so_far number (line ∷ lines) = elim (bytes_eq line end) [
   ]
 ]
 
--- the examples of what is left of a file, where so many of its lines have been taken: outside of examples, and where the last line
+-- the examples of what is left of a file, where the given number of its lines have been taken: outside of examples, and where the last line
 -- that was taken opened one
 abbrev pub examples_left : (taken : ℕ) (rest : List ℕ) → Result (List Example) ℕ
 examples_left taken rest = examples_from Outside (taken + 1) (lines_of rest)

@@ -40,7 +40,7 @@ of_four ended wrong all leaf = option_or (option_map BlocksTooDeep ended) (optio
 abbrev pub fault_met : LimitsView → List ℕ → Option Fault
 fault_met limits bytes = of_four (ended_deep limits bytes) (text_fault limits.bytes bytes) (all_deep limits bytes) (leaf_deep limits bytes)
 
--- the same however the bytes go on
+-- the same however the bytes continue
 abbrev pub settled_fault_met : LimitsView → List ℕ → Option Fault
 settled_fault_met limits bytes = option_or (option_map BlocksTooDeep (ended_deep limits bytes)) (option_map told (settled_fault limits.bytes bytes))
 

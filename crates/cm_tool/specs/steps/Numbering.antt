@@ -5,7 +5,7 @@ use Rattle.cm_tool.specs.declared.fault.Fault.TheVariants.{InlinesTooDeep}
 use Rattle.cm_tool.specs.Leaves.{first_past}
 use Rattle.cm_tool.specs.Parsing.{TellsFault}
 
--- No leaf of these depths is past the limit: where the first of them has the one number, the first behind them has the other.
+-- No leaf of these depths is past the limit: where the first of them has the one number, the first after them has the other.
 abbrev pub Passes : (limit first behind : ℕ) → (depths : List ℕ) → Type 0
 Passes limit first behind depths = (more : List ℕ) → first_past limit first (depths ++ more) ≡ first_past limit behind more
 

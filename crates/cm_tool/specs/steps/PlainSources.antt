@@ -1,4 +1,4 @@
--- Plain source of blocks, each of which is let go of once it is spelled.
+-- Plain source of blocks, each of which is freed once it is spelled.
 use Rattle.std.specs.Prelude.{◌≡◌, List, ◌++◌, Option, Some, None, Result, Ok, Err, String, string_bytes}
 use Rattle.std.specs.declared.alloc.Global.{Global}
 use Rattle.cm_text.specs.Rules.{Rules}
@@ -10,7 +10,7 @@ use Rattle.cm_source.specs.Speller.{HasSpelled}
 use Rattle.cm_source.specs.Spelling.{spelling_of}
 use Rattle.cm_tool.specs.declared.outputs.plain_source.PlainSource as code
 
--- a speller that stands for these blocks, or why they can't be spelled, whatever stands behind them
+-- a speller that stands for these blocks, or why they can't be spelled, whatever is after them
 abbrev pub Spells : Option Why → Speller → Rules → List Block → Type 0
 Spells None speller rules blocks = HasSpelled rules speller blocks
 Spells (Some why) speller rules blocks = (others : List Block) → refusal_of rules (blocks ++ others) ≡ Some why

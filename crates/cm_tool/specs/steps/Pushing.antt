@@ -7,12 +7,12 @@ use Rattle.cm_tool.specs.declared.fault.Fault.{Fault}
 use Rattle.cm_tool.specs.Faults.{settled_fault_of}
 use Rattle.cm_tool.specs.Parsing.{Goes, Answers}
 
--- without a fault they stand for the piece too, whatever bytes they stood for, and a fault is answered just where these bytes settle it
+-- without a fault they stand for the piece too, whatever bytes they stood for, and a fault is returned just where these bytes settle it
 pub record Pushes (answer : Result (Unit {0}) Fault) (piece : List ℕ) (old : Feed) (before : BlockParser) (new : Feed) (after : BlockParser) : Type 0 where
   pub goes : OnOk answer ((limits : LimitsView) (bytes : List ℕ) → Goes limits old before bytes → Goes limits new after (bytes ++ piece))
   pub settled : (limits : LimitsView) (bytes : List ℕ) → Goes limits old before bytes → Answers answer (settled_fault_of limits (bytes ++ piece))
 
--- the feed goes on under its limit, and without a fault it has counted the bytes of the piece, and no more than that
+-- the feed continues under its limit, and without a fault it has counted the bytes of the piece, and no more than that
 pub record Counts (answer : Result (Unit {0}) Fault) (piece : List ℕ) (old new : Feed) : Type 0 where
   pub going : new.ended ≡ false
   pub limit : new.limit ≡ old.limit

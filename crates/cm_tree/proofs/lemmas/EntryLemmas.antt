@@ -82,7 +82,7 @@ kept-grow old new es index grows are = record {
   found = subst (IsIndex index) (sym (labels-same old new es grows are.there)) are.found;
 }
 
--- texts behind the others, of which the first is a label
+-- texts after the others, of which the first is a label
 
 pub made : (old label new : List ℕ) (more : List ℕ) (e : Entry) (target : Target) → more ≡ old ++ label → IsUtf8 label → GoesOn more new → e.label ≡ length old → e.end ≡ length more
     → e.number ≡ number_of label → Keeps new e.target target → e.is_web ≡ is_web_address target.0 → IsMade new e label target

@@ -1,4 +1,4 @@
--- What is kept in a text, while more is put behind it.
+-- What is kept in a text, while more is put after it.
 use Rattle.std.proofs.Common.{◌≡◌, ℕ, List, ◌++◌, refl, sym, ap, subst, ◌∙◌}
 use Rattle.std.specs.Str.{IsUtf8}
 use Rattle.cm_tree.specs.declared.link_target.KeptTarget.{KeptTarget}
@@ -16,7 +16,7 @@ pub is_kept-grows : (old new : List ℕ) (keeper : KeptTarget) → GoesOn old ne
 is_kept-grows old new (keeping.Placed places) grows is = target-grows old new places grows is
 is_kept-grows old new (keeping.Shared dest title) grows is = tt
 
--- copies that are put behind a text
+-- copies that are put after a text
 
 pub keeps-behind : (old dest title new : List ℕ) (places : TargetPlaces) → places ≡ places_behind old dest title → new ≡ old ++ dest ++ title → IsUtf8 dest → IsUtf8 title
     → Keeps new (keeping.Placed places) (dest, title)

@@ -41,7 +41,7 @@ pub nothing-made : (text : List ℕ) (items : List RawItem) (blocks : List RawBl
 unfolding made_after
 nothing-made text items blocks none = ap (made_of text items) none
 
--- a text behind another
+-- a text after another
 pub between-behind : (text more grown : List ℕ) (from to : ℕ) → grown ≡ text ++ more → IsUtf8 more → from ≡ length text → to ≡ length grown → IsBetween grown from to
 between-behind text more grown from to is utf8 begins ends = (
   omega (arith, begins, ends, ap length is, length-append text more),

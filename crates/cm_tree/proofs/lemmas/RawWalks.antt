@@ -1,4 +1,4 @@
--- Blocks whose inlines haven't been read, as they are walked by places: what stands there, and how deep it nests.
+-- Blocks whose inlines haven't been read, as they are walked by places: what is there, and how deep it nests.
 use Rattle.std.proofs.Common.{◌≡◌, ◌∙◌, ◌≤◌, ◌<◌, ◌+◌, ◌-◌, ℕ, zero, suc, Bool, List, [], ◌∷◌, ◌++◌, length, get_or, take, drop, sym, ap, append_assoc, arith}
 use Rattle.std.proofs.lemmas.List.{drop_more, get_or-take, get_or-drop, length-take, length-drop}
 use Rattle.std.specs.List.{slice_range}
@@ -29,7 +29,7 @@ deepest-item (item ∷ items) (suc i) d within = omega (arith, deepest-item item
 -- ---- places in a list
 
 module _ {A : Type 0} (xs : List A) (from at to : ℕ) (x : A) (begins : from ≤ at) (less : at < to) (ends : to ≤ length xs) (is : x ≡ get_or xs at x) where
-  -- what stands there, and what behind it
+  -- what is there, and what after it
   pub there-first : slice_range xs at to ≡ x ∷ slice_range xs (at + 1) to
   there-first =
       let gap : to - at ≡ suc (to - (at + 1)) = omega (arith, less) in

@@ -1,4 +1,4 @@
--- What lies at places of a text, while more is put behind it.
+-- What lies at places of a text, while more is put after it.
 use Rattle.std.proofs.Common.{◌≡◌, ℕ, List, [], ◌++◌, Option, Some, None, length, take, refl, sym, ap, subst, ◌∙◌, append_assoc}
 use Rattle.std.specs.List.{slice_range}
 use Rattle.std.specs.Str.{IsUtf8, IsCharBoundary}
@@ -21,7 +21,7 @@ pub between-grows : (old new : List ℕ) (from to : ℕ) → GoesOn old new → 
 between-grows old new from to grows between =
     (between.0, boundary-grows old grows.more new from grows.is grows.utf8 between.1, boundary-grows old grows.more new to grows.is grows.utf8 between.2)
 
--- where the rest begins, and what stands before that
+-- where the rest starts, and what is before that
 
 pub seam : (old new : List ℕ) (n : ℕ) → length old ≡ n → GoesOn old new → IsCharBoundary new n
 seam old new n at grows = subst (IsCharBoundary new) at (IsCharBoundary-at_seam new old grows.more grows.is grows.utf8)
@@ -40,7 +40,7 @@ target-same old new places grows is =
 pub target-grows : (old new : List ℕ) (places : TargetPlaces) → GoesOn old new → IsTarget old places → IsTarget new places
 target-grows old new places grows is = (between-grows old new places.dest places.title grows is.0, between-grows old new places.title places.end grows is.1)
 
--- a destination and a title behind a text
+-- a destination and a title after a text
 
 module _ (old dest title new : List ℕ) (is : new ≡ old ++ dest ++ title) (dest_utf8 : IsUtf8 dest) (title_utf8 : IsUtf8 title) where
   both : new ≡ old ++ (dest ++ title)

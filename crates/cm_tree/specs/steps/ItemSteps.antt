@@ -8,6 +8,6 @@ use Rattle.cm_tree.specs.RawHtml.{any_of_items, block_has_raw}
 abbrev pub items_depth : List (List Block) → ℕ
 items_depth items = greatest_item (map (map depth_of_block) items)
 
--- raw HTML or an HTML block stands in the items, at any depth, but in an image
+-- raw HTML or an HTML block is in the items, at any depth, except in an image
 abbrev pub items_have_raw : List (List Block) → Bool
 items_have_raw items = any_of_items (map (map block_has_raw) items)

@@ -1,4 +1,4 @@
--- How the blocks that stand in others are held: each is made of those before it.
+-- How the blocks inside others are held: each is made of those before it.
 use Rattle.std.specs.Prelude.{◌≡◌, ℕ, List, [], ◌∷◌, ◌++◌, map, ⊤}
 use Rattle.std.specs.List.{slice_range}
 use Rattle.cm_tree.specs.declared.raw_blocks.RawBlock.{RawBlock}
@@ -13,7 +13,7 @@ items_of made items = map (λ item. slice_range made item.from item.to) items
 abbrev pub raw_of : List ℕ → List RawItem → (made : List Block) → Raw
 raw_of text items made = record { text = text; blocks = made; items = items_of made items }
 
--- what is made of blocks, behind those that were made
+-- what is made of blocks, after those that were made
 unfoldable pub made_after : List ℕ → List RawItem → (made : List Block) → List RawBlock → List Block
 made_after text items made [] = made
 made_after text items made (block ∷ blocks) = made_after text items (made ++ block_in (raw_of text items made) block ∷ []) blocks

@@ -1,4 +1,4 @@
--- What a reading of a text in memory tells of the text.
+-- What a reading of a text in memory says of the text.
 use Rattle.std.proofs.Common.{◌≡◌, ℕ, List, sym, ap, subst, ◌∙◌, None}
 use Rattle.std.specs.Prelude.{Option, Ok, Err, Result, Vec, String, IfErr, IfOk, IfSome, string_bytes}
 use Rattle.std.specs.declared.alloc.Global.{Global}
@@ -19,13 +19,13 @@ pub made_text : {E : Type 0} (result : Result (String Global) E) (text : Option 
 made_text (Ok t) text made output is same e = subst (λ o. IfSome o (λ u. string_bytes u ≡ output)) (sym same) (is ∙ e)
 made_text (Err f) text made output is same e = subst (λ o. IfSome o (λ u. string_bytes u ≡ output)) (sym same) tt
 
--- with a NUL behind it, what was made is given
+-- what was made is returned, followed by a NUL
 pub given : (fault : Option Fault) (output : List ℕ) (result : Result (Vec ℕ Global) Fault) → fault ≡ None
     → IfOk result (λ v. v.items ≡ ended output) → IfErr result (λ f. f ≡ NoMemory) → Gives fault output result
 given fault output (Ok v) none value memory = (none, value)
 given fault output (Err f) none value memory = subst (λ g. Gives fault output (Err g)) (sym memory) tt
 
--- a fault that is told is given
+-- a fault that is reported is returned
 pub refused : (found : Option Fault) (output : List ℕ) (fault : Fault) → TellsFault fault found → Gives found output (Err fault)
 refused found output (NotUtf8 at) tells = tells
 refused found output (TooLong at) tells = tells
@@ -39,7 +39,7 @@ refused found output (BadExampleFile line) tells = absurd tells
 refused found output (ExampleDiffers number) tells = absurd tells
 
 module _ (limits : LimitsView) (text : List ℕ) where
-  -- why the tree can't be spelled comes behind the fault of the text
+  -- why the tree can't be spelled comes after the fault of the text
   behind : fault_of limits text ≡ None → rewriting_fault limits text ≡ option_map Unspellable (refusal_of limits.rules (kept_tree limits.rules text))
   behind none = ap (λ f. option_or f (option_map Unspellable (refusal_of limits.rules (kept_tree limits.rules text)))) none
 

@@ -5,7 +5,7 @@ use Rattle.cm_tree.specs.steps.ItemSteps.{items_depth}
 use Rattle.cm_tree.specs.RawBlocks.{block_in}
 use Rattle.cm_block.proofs.outline.+blocks.Given as goal
 
--- What stands in a quote or an item nests less deep than the quote or the list.
+-- What is in a quote or an item nests less deep than the quote or the list.
 abbrev pub decreases-made_items : goal.decreases-made_items
 decreases-made_items l = 3 * items_depth (slice_range l.raw.now.items l.from l.to)
 

@@ -5,7 +5,7 @@ use Rattle.cm_block.specs.steps.FrameSteps.{matching, behind}
 use Rattle.cm_block.specs.steps.FrameViews.{frames_in}
 use Rattle.cm_block.proofs.stack.go_into_items.Given as goal
 
--- behind the items so far, the rest decide; each was one reading
+-- after the items so far, the rest decide; each was one reading
 abbrev pub invariant-loop-depth : goal.invariant-loop-depth
 invariant-loop-depth l = record {
   through : (rules : all.Rules) (open_text : Bool) (raw : Raw)

@@ -6,7 +6,7 @@ use Rattle.cm_block.specs.steps.FrameViews.{frames_in}
 use Rattle.cm_block.specs.steps.LineTests.{Tested}
 use Rattle.cm_block.proofs.stack.matching.Given as goal
 
--- behind the containers so far, the rest decide; each was one reading
+-- after the containers so far, the rest decide; each was one reading
 abbrev pub invariant-loop-depth : goal.invariant-loop-depth
 invariant-loop-depth l = record {
   rest : (raw : Raw) → behind l.depth (matching l.rules l.bare l.open_text (drop l.depth (frames_in raw l.frames)) (seen_view l.line.rest))

@@ -17,7 +17,7 @@ use Rattle.cm_tree.specs.Followed.{followed_inline_step, followed_block_step}
 use Rattle.cm_html.specs.MarkupExamples.{safe, AddressMarkupExamples, FollowedExamples, MarkupExamples, RawHtmlExamples, TextMarkupExamples}
 use Rattle.cm_html.proofs.laws.markup_examples.Goals as goal
 
--- the tags of one block, by whether it stands in a tight item
+-- the tags of one block, by whether it is in a tight item
 block_at : (b : Block) (tight : Bool) → tags_of_block b tight ≡ block_tags (map-Block Block (Bool → Tags) tags_of_block (out-Block b)) tight
 block_at b tight = ap (λ tags. tags tight) (fold_out-Block (Bool → Tags) block_tags b)
 

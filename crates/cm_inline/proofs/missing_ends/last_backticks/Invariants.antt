@@ -3,7 +3,7 @@ use Rattle.cm_scan.specs.spans.CodeSpans.{up_to_run}
 use Rattle.cm_inline.specs.steps.Missing.{behind_last}
 use Rattle.cm_inline.proofs.missing_ends.last_backticks.Given as goal
 
--- what isn't found from here on isn't found behind the last one so far
+-- what isn't found from here on isn't found after the last one so far
 abbrev pub invariant-loop-plain : goal.invariant-loop-plain
 invariant-loop-plain l = record {
   none : (count : ℕ) → up_to_run count false (drop l.at l.source) ≡ None → up_to_run count false (drop (behind_last l.last count) l.source) ≡ None;

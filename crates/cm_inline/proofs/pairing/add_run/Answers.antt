@@ -126,7 +126,7 @@ finish-requires c =
       ];
     }
 
--- the closer still stands last in the list where the loop ends
+-- the closer is still last in the list where the loop ends
 standing : (c : goal.In_ok-push) (source : List ℕ) → Closing (reverse (items_of source (drop c.args.from (nodes_in c.loop-closer.nodes)))) c.loop-closer-test.openers.list c.loop-closer-test.openers.bottoms c.in_ok-place.place (run_of c.loop-closer.closer)
 standing c source =
     let items = reverse (items_of source (drop c.args.from (nodes_in c.loop-closer.nodes))) in

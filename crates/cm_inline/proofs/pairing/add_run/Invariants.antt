@@ -9,7 +9,7 @@ use Rattle.cm_inline.specs.steps.Pairs.{Stays, items_emphases}
 use Rattle.cm_inline.specs.steps.Searching.{kind}
 use Rattle.cm_inline.proofs.pairing.add_run.Given as goal
 
--- The closer stands last in the list, and what is left of it makes of the nodes what the run makes of those at first.
+-- The closer is last in the list, and what is left of it makes of the nodes what the run makes of those at first.
 abbrev pub invariant-loop-closer : goal.invariant-loop-closer
 invariant-loop-closer l = record {
   closing : (source : List ℕ) → Closing (reverse (items_of source (drop l.from (nodes_in l.nodes)))) l.openers.list l.openers.bottoms l.place (run_of l.closer);

@@ -62,7 +62,7 @@ feeds-adds = record { of_byte = λ b. if b == 10 then 1 else 0; of_nothing = ref
 abbrev LetsIn : (Bool → LineView → Continuation) → Type 0
 LetsIn continuation = (bare : Bool) (line : LineView) → NoMore line_feeds line (continuation bare line)
 
--- so many lines, without line feeds
+-- this number of lines, without line feeds
 abbrev Whole : ℕ → Inside → Type 0
 Whole n i = (length i.inner + length i.following ≡ n) × Plain i.inner × Plain i.following
 
@@ -261,7 +261,7 @@ underline_lines (Some level) = 1
 abbrev HasContent : TextRun → Type 0
 HasContent run = IfSome run.level (λ level. is_empty (rest_of run.source) ≡ false)
 
--- a run of so many lines
+-- a run of the given number of lines
 record RunOf (n : ℕ) (run : TextRun) : Type 0 where
   firm : Firm run.source
   counted : line_feeds run.source + underline_lines run.level + length run.following ≡ n
@@ -337,7 +337,7 @@ unfolding AllSome
 some-append [] ys h k = k
 some-append (x ∷ xs) ys h k = (h.0, some-append xs ys h.1 k)
 
--- the definitions at the front of a text, and the lines of what is left
+-- the definitions at the start of a text, and the lines of what is left
 record Definers (text : List ℕ) (found : Definitions) : Type 0 where
   counted : lines_of_leaves (definition_leaves text found.taken) + line_count found.left ≡ line_count text
   some : AllSome (definition_leaves text found.taken)
@@ -417,7 +417,7 @@ unfolding put_leaves HaveLines AllSome
 leaves-have [] p h k = k
 leaves-have (x ∷ xs) p h k = (h.0, leaves-have xs p h.1 k)
 
--- an item in front of what follows it
+-- an item before what follows it
 
 abbrev Following : Type 0
 Following = ℕ × ItemParts × Parts
@@ -472,7 +472,7 @@ module _ (rules : Rules) (line : LineView) (lines : List LineView) (plain : Plai
   unfolding size
   good-rest = good lines (omega arith) plain.1
 
-  -- a leaf of so many lines, and what follows it
+  -- a leaf of the given number of lines, and what follows it
   good-leaf : (x : LeafPart) (n : ℕ) (following : List LineView) → 0 < n → size following < size (line ∷ lines) → Plain following
       → n + length following ≡ suc (length lines) → Good (leaf x n (parts_of rules following)) (suc (length lines))
   unfolding line_total HaveLines

@@ -1,4 +1,4 @@
--- What starts an HTML block, behind its `<`.
+-- What starts an HTML block, after its `<`.
 use Rattle.std.proofs.Common.{◌≡◌, ℕ, Bool, true, false, ◌&&◌, List, [], ◌∷◌, Option, Some, None, codes, refl, sym, ap, arith, ◌∙◌, nat_eq}
 use Rattle.std.specs.Prelude.{not}
 use Rattle.std.specs.List.{starts_with}

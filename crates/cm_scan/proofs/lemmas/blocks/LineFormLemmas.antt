@@ -9,7 +9,7 @@ use Rattle.cm_scan.specs.blocks.LineForms.{is_break_of, is_thematic_break, witho
 
 -- thematic breaks
 
--- a space or tab at the front doesn't decide
+-- a space or tab at the start doesn't decide
 break-blank : (m b : ℕ) (bs : List ℕ) → is_space_or_tab m ≡ false → is_space_or_tab b ≡ true → is_break_of m (b ∷ bs) ≡ is_break_of m bs
 break-blank m b bs mark blank = grind arith
 
@@ -53,7 +53,7 @@ module _ (bs : List ℕ) where
     other : (m : ℕ) → is_space_or_tab m ≡ false → (x ≡ m → ⊥) → is_break_of m bs ≡ false
     other m mark differs = break-first m x bs mark found differs
 
-    -- what begins with another byte is none
+    -- what starts with another byte is none
     pub thematic_unmarked : is_break_marker x ≡ false → is_thematic_break bs ≡ false
     unfolding is_thematic_break
     thematic_unmarked unmarked =
@@ -62,7 +62,7 @@ module _ (bs : List ℕ) where
     same : (m : ℕ) → x ≡ m → is_break_of m bs ≡ is_break_of x bs
     same m e = ap (λ y. is_break_of y bs) (sym e)
 
-    -- what begins with one of the three is a break of that one or none
+    -- what starts with one of the three is a break of that one or none
     pub thematic_marked : is_break_marker x ≡ true → is_thematic_break bs ≡ is_break_of x bs
     unfolding is_thematic_break
     thematic_marked marked =
@@ -79,7 +79,7 @@ module _ (bs : List ℕ) where
 
 -- the end of a content without its closing sequence
 
--- the byte before a place, where p stands before the text
+-- the byte before a place, where p is before the text
 abbrev pub byte_before : ℕ → ℕ → List ℕ → ℕ
 byte_before p zero bs = p
 byte_before p (suc e) [] = p
@@ -96,7 +96,7 @@ before_later p (suc e) (b ∷ bs) within = before_later b e bs (omega arith)
 abbrev pub is_hash : ℕ → Bool
 is_hash c = c == 35
 
--- a run of `#` behind another byte than a space or tab stays
+-- a run of `#` after another byte than a space or tab stays
 hashes : (bs : List ℕ) → list_all is_hash bs ≡ true → without_closing false bs ≡ bs
 unfolding without_closing
 hashes [] all = refl
@@ -116,7 +116,7 @@ closing-kept : (g : Bool) (b : ℕ) (bs : List ℕ) → list_all is_hash (b ∷ 
 unfolding without_closing
 closing-kept g b bs some = grind (arith, some)
 
--- a last run of `#` behind a gap goes
+-- a last run of `#` after a gap goes
 pub closing_goes : (p e : ℕ) (bs : List ℕ) → list_all is_hash (drop e bs) ≡ true → (byte_before p e bs ≡ 35 → ⊥) → is_space_or_tab (byte_before p e bs) ≡ true
     → without_closing (is_space_or_tab p) bs ≡ take e bs
 unfolding without_closing
@@ -127,7 +127,7 @@ closing_goes p (suc e) (b ∷ bs) all other gap =
     closing-kept (is_space_or_tab p) b bs (false_from_ne_true (list_all is_hash (b ∷ bs)) (λ h. other (in_hashes b e bs (grind (arith, h)) (grind (arith, h)))))
     ∙ ap (λ rest. b ∷ rest) (closing_goes b e bs all other gap)
 
--- behind another byte it stays
+-- after another byte it stays
 pub closing_stays : (p e : ℕ) (bs : List ℕ) → list_all is_hash (drop e bs) ≡ true → (byte_before p e bs ≡ 35 → ⊥) → is_space_or_tab (byte_before p e bs) ≡ false
     → without_closing (is_space_or_tab p) bs ≡ bs
 unfolding without_closing
@@ -137,7 +137,7 @@ closing_stays p (suc e) (b ∷ bs) all other gap =
     closing-kept (is_space_or_tab p) b bs (false_from_ne_true (list_all is_hash (b ∷ bs)) (λ h. other (in_hashes b e bs (grind (arith, h)) (grind (arith, h)))))
     ∙ ap (λ rest. b ∷ rest) (closing_stays b e bs all other gap)
 
--- the byte before a place behind the first
+-- the byte before a place after the first
 before_place : (p e : ℕ) (bs : List ℕ) → 0 < e → e ≤ length bs → byte_before p e bs ≡ get_or bs (e - 1) 0
 before_place p e bs some within =
     let last : e ≡ suc (e - 1) = omega arith in
@@ -154,15 +154,15 @@ module _ (bs : List ℕ) (e : ℕ) (all : list_all is_hash (drop e bs) ≡ true)
     before : byte_before 32 e bs ≡ get_or bs (e - 1) 0
     before = before_place 32 e bs some within
 
-    -- a run of `#` behind a gap
+    -- a run of `#` after a gap
     pub closing_behind_gap : is_space_or_tab (get_or bs (e - 1) 0) ≡ true → without_closing true bs ≡ take e bs
     closing_behind_gap gap = closing_goes 32 e bs all (λ h. grind (arith, sym before ∙ h, gap)) (ap is_space_or_tab before ∙ gap)
 
-    -- a run of `#` behind another byte, or none
+    -- a run of `#` after another byte, or none
     pub closing_behind_other : (get_or bs (e - 1) 0 ≡ 35 → ⊥) → is_space_or_tab (get_or bs (e - 1) 0) ≡ false → without_closing true bs ≡ bs
     closing_behind_other other plain = closing_stays 32 e bs all (λ h. other (sym before ∙ h)) (ap is_space_or_tab before ∙ plain)
 
--- ATX headings, by the run of `#` and what is behind it
+-- ATX headings, by the run of `#` and what is after it
 
 module _ (bs : List ℕ) where
   pub atx_none : run_length 35 bs ≡ 0 → atx_heading bs ≡ None

@@ -1,4 +1,4 @@
--- What a container's lines and the lines behind a block come to in size.
+-- What a container's lines and the lines after a block come to in size.
 use Rattle.std.proofs.Common.{◌≡◌, ℕ, suc, ◌+◌, ◌<◌, ◌≤◌, Bool, true, false, List, [], ◌∷◌, ◌++◌, drop, length, length-append, refl, arith, le_refl}
 use Rattle.std.specs.Prelude.{if◌then◌else◌}
 use Rattle.cm_text.specs.Rules.{Rules}
@@ -22,7 +22,7 @@ marks-adds : AddsUp marks
 unfolding marks
 marks-adds = record { of_byte = λ b. if is_space_or_tab b then 0 else 1; of_nothing = refl; one_more = marks-one_more; of_space = refl }
 
--- behind the first byte that is neither space nor tab there is one less
+-- after the first byte that is neither space nor tab there is one less
 marks-past : (n : ℕ) (bs : List ℕ) → is_blank_text bs ≡ false → marks (drop (suc n) (trim_start bs)) < marks bs
 unfolding marks skip
 marks-past n [] e = grind arith

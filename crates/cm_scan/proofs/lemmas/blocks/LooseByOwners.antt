@@ -106,12 +106,12 @@ after-front : (front owners : List Owner) → is_after_blank (front ++ owners) (
 after-front [] owners = refl
 after-front (o ∷ front) owners = before-one o front owners
 
--- starts that count, where a block stands before or not
+-- starts that count, where a block is before or not
 abbrev later : Bool → List ℕ → List ℕ
 later true starts = starts
 later false starts = drop 1 starts
 
--- blocks that follow a front, which begin one behind the other
+-- blocks that follow a front, which start one after the other
 abbrev gaps : Bool → List Owner → ℕ → Parts → Bool
 gaps behind front n p = list_any (is_after_blank (front ++ owners_after n p)) (later behind (block_starts (length front) p))
 
@@ -121,7 +121,7 @@ one-more : (behind blank_before : Bool) (owners : List Owner) (start : ℕ) (sta
 one-more true blank_before owners start starts e = ap (λ b. b || list_any (is_after_blank owners) starts) e
 one-more false blank_before owners start starts e = refl
 
--- a block of so many lines, and what follows it
+-- a block of the given number of lines, and what follows it
 next : (behind : Bool) (front block : List Owner) (n : ℕ) (rest : Parts) (lines : ℕ) (ends : Bool) → length block ≡ lines → last_blank false (front ++ block) ≡ ends
     → is_separated true (last_blank false (front ++ block)) rest ≡ gaps true (front ++ block) n rest
     → ((behind && last_blank false front) || is_separated true ends rest)
@@ -137,7 +137,7 @@ next behind front block n rest lines ends count last more =
     ap (λ b. (behind && last_blank false front) || b) tail
     ∙ sym (one-more behind (last_blank false front) owners (length front) (block_starts (length front + lines) rest) (after-front front (block ++ owners_after n rest)))
 
--- whether blocks are parted, behind a front of lines
+-- whether blocks are parted, after a front of lines
 separated : (behind : Bool) (front : List Owner) (n : ℕ) (p : Parts) → HaveLines p
     → is_separated behind (last_blank false front) p ≡ gaps behind front n p
 unfolding is_separated owners_after block_starts HaveLines
@@ -172,13 +172,13 @@ inside_separated : (p : Parts) → HaveLines p → is_separated false false p �
 unfolding line_owners
 inside_separated p have = separated false [] 0 p have
 
--- the first item begins where the list does
+-- the first item starts where the list does
 first_start : (before : ℕ) (items : ItemParts) → item_starts before items ≡ before ∷ drop 1 (item_starts before items)
 unfolding item_starts
 first_start before (last_item inside) = refl
 first_start before (item inside blanks items) = refl
 
--- what stands between items, and what they have inside, in either order
+-- what is between items, and what they have inside, in either order
 orders : (s b e g i : Bool) → (s || b || e || (g || i)) ≡ (b || e || g || (s || i))
 orders true true e g i = refl
 orders true false true g i = refl

@@ -49,7 +49,7 @@ module _ (bs : List ℕ) (i : ℕ) where
   unfolding skip
   skip_end past = rw (drop_all i bs past) refl
 
--- what a number of so many digits is less than
+-- the bound of a number with the given number of digits
 abbrev pub bound : ℕ → ℕ
 bound zero = 1
 bound (suc k) = 10 * bound k
@@ -74,7 +74,7 @@ bound_most k few =
     let h : bound (8 - k + k) ≡ 100000000 = ap bound e in
     omega (arith, bound-more (8 - k) k, h)
 
--- a marker, by its digits and what is behind them
+-- a marker, by its digits and what is after them
 abbrev pub by_parts : List ℕ → List ℕ → Option ItemMarker
 by_parts [] rest = bullet_marker rest
 by_parts (d ∷ ds) rest = marker_behind (d ∷ ds) rest
@@ -105,7 +105,7 @@ parts-many [] rest many = absurd (omega arith)
 parts-many (d ∷ ds) [] many = refl
 parts-many (d ∷ ds) (b ∷ bs) many = grind (arith, many)
 
--- the kind that a byte behind so many digits makes
+-- the kind that a byte after the given number of digits makes
 abbrev pub kind_at : ℕ → ℕ → ℕ → Option ListKind
 kind_at n number b = if n == 0 then bullet_kind b else ordered_kind number b
 
@@ -122,7 +122,7 @@ parts-kind (d ∷ ds) b behind few = grind (arith, few)
 le_from_not : (n : ℕ) → (n < 9 → ⊥) → 9 ≤ n
 le_from_not n fails = omega arith
 
--- a marker, by the place behind the first nine digits
+-- a marker, by the place after the first nine digits
 module _ (bs : List ℕ) (at e number : ℕ)
     (begin : at ≤ e)
     (count : e + length (front_of is_digit (drop e bs)) ≡ at + length (front_of is_digit (drop at bs)))
@@ -130,7 +130,7 @@ module _ (bs : List ℕ) (at e number : ℕ)
     (left : skip is_digit (drop e bs) ≡ skip is_digit (drop at bs))
     (few : e - at ≤ 9)
     (whole : e - at < 9 → front_of is_digit (drop e bs) ≡ []) where
-  -- with nothing behind them
+  -- with nothing after them
   pub marker-end : length bs ≤ e → item_marker (drop at bs) ≡ None
   marker-end past =
       let none : skip is_digit (drop at bs) ≡ [] = sym left ∙ skip_end bs e past in
@@ -155,7 +155,7 @@ module _ (bs : List ℕ) (at e number : ℕ)
         ∙ ap (λ k. marker_at_gap (kind_at k (decimal_value ds) (get_or bs e 0)) k (drop (e + 1) bs)) n
         ∙ ap (λ k. marker_at_gap (kind_at (e - at) k (get_or bs e 0)) (e - at) (drop (e + 1) bs)) v
 
-    -- with a byte behind them
+    -- with a byte after them
     pub marker-at : item_marker (drop at bs) ≡ marker_at_gap (kind_at (e - at) number (get_or bs e 0)) (e - at) (drop (e + 1) bs)
     marker-at = ⊎_elim
         (λ (digit : is_digit (get_or bs e 0) ≡ true). after-digits digit

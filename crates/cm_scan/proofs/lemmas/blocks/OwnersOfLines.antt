@@ -95,7 +95,7 @@ name-leaf : (b : Bool) (n lines : ℕ) → 0 < lines → name_lines (named b n) 
 name-leaf b n zero some = absurd (omega arith)
 name-leaf b n (suc lines) some = ap (λ s. name_lines s (replicate lines (Leaf (suc n)))) (name-first b n) ∙ name-replicate n lines
 
--- whether the last of so many blank lines is a leaf's
+-- whether the last of the given number of blank lines is a leaf's
 abbrev after_blanks : Bool → ℕ → Bool
 after_blanks b zero = b
 after_blanks b (suc n) = false

@@ -120,7 +120,7 @@ blank_case rules line lines e =
     fixed_point rules line lines
     ∙ ap (λ (v : Bool). elim v as (λ _. Parts) [ true ↦ blank (parts_of rules lines) | false ↦ parts_by_start rules (parts_of rules) (start_of rules line) line lines ]) e
 
--- a line that isn't blank, by what it begins
+-- a line that isn't blank, by what it starts
 pub starting : (rules : Rules) (start : Start) (line : LineView) (lines : List LineView) → Begins rules line start
     → parts_of rules (line ∷ lines) ≡ parts_by_start rules (parts_of rules) start line lines
 unfolding parts_by_cases

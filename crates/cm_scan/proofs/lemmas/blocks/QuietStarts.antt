@@ -1,4 +1,4 @@
--- A first byte with which nothing but text begins.
+-- A first byte with which nothing but text starts.
 use Rattle.std.proofs.Common.{◌≡◌, ℕ, suc, ◌==◌, not, Bool, true, false, List, [], ◌∷◌, None, refl, ap, ◌∙◌, codes, arith}
 use Rattle.std.specs.List.{list_any}
 use Rattle.std.proofs.lemmas.Bool.Decides.{nat_tests}
@@ -12,7 +12,7 @@ use Rattle.cm_scan.specs.laws.BlockLaws.{is_unindented}
 use Rattle.cm_scan.proofs.lemmas.blocks.SingleBlocks.{unindented_line}
 use Rattle.cm_scan.proofs.lemmas.texts.ToldApart.{differs, none-passes}
 
--- the bytes with which a block other than text, or an underline, may begin, but for digits; blanks, and the end of a line
+-- the bytes with which a block other than text, or an underline, may start, but for digits; blanks, and the end of a line
 abbrev pub starters : List ℕ
 starters = codes ">#`~<-_*+= \t\n"
 
@@ -94,7 +94,7 @@ letter-no-level : (text : List ℕ) → is_at_letter text ≡ true → underline
 letter-no-level [] letter = cc
 letter-no-level (b ∷ bs) letter = no-level b bs (differs is_letter b 61 letter refl) (differs is_letter b 45 letter refl)
 
--- a line that begins with one is text, and underlines nothing
+-- a line that starts with one is text, and underlines nothing
 pub letter-starts : (rules : Rules) (line : LineView) → line.lazy ≡ false → is_at_letter line.text ≡ true → start_of rules line ≡ TextLine
 letter-starts rules line eager letter =
     (unindented_line rules line eager (letter-unindented line.text letter)).start ∙ letter-start rules line.text letter

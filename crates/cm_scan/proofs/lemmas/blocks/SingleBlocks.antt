@@ -1,4 +1,4 @@
--- Single blocks, with any lines behind them.
+-- Single blocks, with any lines after them.
 use Rattle.std.proofs.Common.{◌≡◌, ℕ, zero, suc, ◌+◌, Bool, true, false, not, ◌&&◌, ◌||◌, List, [], ◌∷◌, ◌++◌, length, drop, Some, None, refl, sym, ap, ◌∙◌, arith, append_assoc, append-nil}
 use Rattle.std.proofs.lemmas.Bool.{and_parts, not-true}
 use Rattle.std.specs.Prelude.{nat_le, nat_lt, if◌then◌else◌}
@@ -52,7 +52,7 @@ unindented_line rules line eager e = record {
       ∙ ap underline (trim-none line.text e);
 }
 
--- Markers and a space behind them
+-- Markers and a space after them
 
 strip-space : (line : LineView) (text : List ℕ) → line.text ≡ 32 ∷ text → strip_columns 1 line ≡ after_columns 1 text line
 strip-space line text e = ap (λ t. strip_columns 1 (record line { text = t })) e ∙ strip-nothing text
@@ -74,7 +74,7 @@ quote_alone line e =
     ap (λ t. behind_quote_marker (record line { text = t })) e
     ∙ ap (λ n. record { column = n; text = []; lazy = line.lazy }) (let same : line.column + 0 + 1 ≡ line.column + 1 = omega arith in same)
 
--- what stands behind a marker at the margin
+-- what is after a marker at the margin
 behind-is : (marker : ItemMarker) (line : LineView) (text : List ℕ) → is_unindented line.text ≡ true → drop (marker_width marker) line.text ≡ text
     → behind_marker marker line ≡ after_columns (marker_width marker) text line
 unfolding past

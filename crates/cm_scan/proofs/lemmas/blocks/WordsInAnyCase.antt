@@ -55,7 +55,7 @@ unfolding holds_word
 holds-cons word b bs = refl
 
 module _ (w : ℕ) (ws : List ℕ) (other : is_letter w ≡ false) where
-  -- a word that begins with another byte than the next is not next
+  -- a word that starts with another byte than the next is not next
   past-byte : (b : ℕ) (bs : List ℕ) → (b ≡ w → ⊥) → holds_word (w ∷ ws) (lower (b ∷ bs)) ≡ holds_word (w ∷ ws) (lower bs)
   unfolding holds_word
   past-byte b bs differs = grind (arith, at-other w b ws bs (λ e. grind (arith, lower-other w b other, e, differs)))
@@ -126,14 +126,14 @@ same_not (w ∷ ws) (b ∷ bs) differ =
     let h : same_bytes ws (lower bs) ≡ false = same_not ws bs (λ e. differ (omega (arith, e))) in
     grind (arith, h)
 
--- a text that begins with a word
+-- a text that starts with a word
 pub starts_at : (ws bs : List ℕ) → starts_with nat_eq bs ws ≡ is_at_word ws bs
 unfolding is_at_word
 starts_at [] bs = refl
 starts_at (w ∷ ws) [] = refl
 starts_at (w ∷ ws) (b ∷ bs) = let h : starts_with nat_eq bs ws ≡ is_at_word ws bs = starts_at ws bs in grind (arith, h)
 
--- what is behind a word
+-- what is after a word
 
 after-at : (ws bs : List ℕ) → is_at_word ws (lower bs) ≡ true → after_word ws (lower bs) ≡ Some (lower (drop (length ws) bs))
 unfolding is_at_word after_word

@@ -65,7 +65,7 @@ passed-over rules defined before (b ∷ bs) rest items =
     ∙ ap (λ passed. runs_after rules defined zero passed rest items)
     (sym (append_assoc (reverse bs) (b ∷ []) before) ∙ ap (λ passed. passed ++ before) (sym (reverse-append (b ∷ []) bs)))
 
--- the runs from a place on are that of one step, if it reads one, and those behind it
+-- the runs from a place on are that of one step, if it reads one, and those after it
 pub runs-go-on : (rules : Rules) (defined : Defined) (before : List ℕ) (b : ℕ) (taken rest : List ℕ) (items : List Item) → (item_step rules defined before b (taken ++ rest) items).rest ≡ rest
     → runs_after rules defined zero before (b ∷ (taken ++ rest)) items
     ≡ run_in (atom_at rules before b (taken ++ rest)).atom ++ runs_after rules defined zero (reverse taken ++ b ∷ before) rest (item_step rules defined before b (taken ++ rest) items).items
@@ -95,7 +95,7 @@ runs-behind-text rules defined before (b ∷ bs) rest items plain parts =
     nothing : length (bs ++ rest) - length (bs ++ rest) ≡ 0
     nothing = omega arith
 
--- behind items that are the same in pieces stand the same runs
+-- items that are the same in pieces are followed by the same runs
 runs-same : (rules : Rules) (defined : Defined) (n : ℕ) (before source : List ℕ) (items others : List Item) → back items ≡ back others → runs_after rules defined n before source items ≡ runs_after rules defined n before source others
 unfolding runs_after
 runs-same rules defined n before [] items others e = refl

@@ -230,7 +230,7 @@ bracket-end rules defined items rest = go (last_opener items [])
     go (Some found) = by_bracket-end rules defined found rest
     go None = whole-end rest
 
--- Atoms: what they leave is an end of the source behind its first byte
+-- Atoms: what they leave is an end of the source after its first byte
 
 -- a word of a byte or more
 word-behind : (w : ℕ) (ws : List ℕ) (b : ℕ) (bs rest : List ℕ) → after_word (w ∷ ws) (b ∷ bs) ≡ Some rest → IsEnd rest bs
@@ -271,7 +271,7 @@ spanned-end (suc n) text r e = go (up_to_run (suc n) false text) refl e
     go None f e = none-some e
     go (Some s) f e = same-left s.rest r.rest (ap (λ (t : Reading). t.rest) (some-is e)) (up_to-end (suc n) false text s f)
 
--- what an atom leaves of the source behind its first byte, where a run is as long as what it takes
+-- what an atom leaves of the source after its first byte, where a run is as long as what it takes
 pub record Left (a : AtomRead) (bs : List ℕ) : Type 0 where
   pub end : IsEnd a.rest bs
   pub some : length (run_in a.atom) ≤ characters_of (run_in a.atom)
@@ -367,7 +367,7 @@ escape-two (b ∷ c ∷ rest) escaped e = go (b == 92 && is_ascii_punct c) e
     go true e = sym (ap (λ (p : List ℕ × ℕ). p.1) (some-is e))
     go false e = none-some e
 
--- behind some bytes of which one is the first
+-- after some bytes of which one is the first
 dropped : (n m : ℕ) (b : ℕ) (bs : List ℕ) → n ≡ suc m → IsEnd (drop n (b ∷ bs)) bs
 dropped n m b bs e = same-left (drop m bs) (drop n (b ∷ bs)) (ap (λ k. drop k (b ∷ bs)) (sym e)) (drop-end m bs)
 

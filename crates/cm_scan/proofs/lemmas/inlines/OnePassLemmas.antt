@@ -32,7 +32,7 @@ leftmost-skips (Delimiters r ∷ xs) ys before e = go r.closes (nearest_opener r
     go true None h s further = leftmost-no_opener r before (xs ++ ys) s ∙ further (sym (leftmost-no_opener r before xs s) ∙ e)
     go true (Some found) h s further = absurd (none-some (pair_of found r xs) (sym e ∙ leftmost-pairs r before xs found h s))
 
--- a pair among the items is one with anything behind them
+-- a pair among the items is one with anything after them
 pub leftmost-keeps : (xs ys before out : List Item) → pair_leftmost before xs ≡ Some out → pair_leftmost before (xs ++ ys) ≡ Some (out ++ ys)
 unfolding pair_leftmost paired
 leftmost-keeps [] ys before out e = absurd (none-some out e)
@@ -51,12 +51,12 @@ leftmost-keeps (Delimiters r ∷ xs) ys before out e = go r.closes (nearest_open
         leftmost-pairs r before (xs ++ ys) found h s
         ∙ ap Some (sym (append_assoc _ xs ys) ∙ ap (λ l. l ++ ys) (same_Some (pair_of found r xs) out (sym (leftmost-pairs r before xs found h s) ∙ e)))
 
--- where the items before a place don't pair, the search begins at the place
+-- where the items before a place don't pair, the search starts at the place
 pub pair_once-from : (before after : List Item) → IsUnpaired (reverse before) → pair_once (reverse before ++ after) ≡ pair_leftmost before after
 pair_once-from before after e =
     leftmost-skips (reverse before) after [] e ∙ ap (λ b. pair_leftmost b after) (append-nil (reverse (reverse before)) ∙ reverse-reverse before)
 
--- what stands in front of items that don't pair doesn't pair
+-- what is before items that don't pair doesn't pair
 pub unpaired-front : (xs ys : List Item) → IsUnpaired (xs ++ ys) → IsUnpaired xs
 unpaired-front xs ys e = go (pair_once xs) refl
   where
@@ -127,7 +127,7 @@ paired-parts found c after =
     append_assoc (found.before ++ without n found.opener) (e ∷ without n c) after
     ∙ sym (append_assoc (found.before ++ without n found.opener) (e ∷ []) (without n c ++ after))
 
--- The items come to what stands before and behind a place: nothing before it pairs, and all pairs of what is there now are all
+-- The items come to what is before and after a place: nothing before it pairs, and all pairs of what is there now are all
 -- pairs of the items.
 pub record Processed (items before after : List Item) : Type 0 where
   pub unpaired : IsUnpaired (reverse before)
@@ -252,7 +252,7 @@ closed-enough (suc n) (suc m) before c p q = go (nearest_opener c before []) ref
             let more : used found.opener c < c.left = leb-false c.left (used found.opener c) k in
             closed-more n before c found s k ∙ further (reverse (up_to_pair found c)) (closer_left found c) (omega arith) (omega arith) ∙ sym (closed-more m before c found s k)
 
--- A closer with no opener stays, one that is used up leaves the pair, and what is left of any other goes on behind the pair.
+-- A closer with no opener stays, one that is used up leaves the pair, and what is left of any other continues after the pair.
 pub closed_by-none : (before : List Item) (c : Run) → nearest_opener c before [] ≡ None → closed_by before c ≡ Delimiters c ∷ before
 closed_by-none before c s = closed-none c.left before c s
 

@@ -1,4 +1,4 @@
--- Emphasis of items whose texts stand in pieces.
+-- Emphasis of items whose texts are in pieces.
 use Rattle.std.proofs.Common.{◌≡◌, ℕ, zero, suc, ◌-◌, Bool, true, false, ◌&&◌, List, [], ◌∷◌, ◌++◌, reverse, Option, Some, None, refl, sym, ap, ◌∙◌, arith, append_assoc, append-nil}
 use Rattle.std.specs.Prelude.{sum_by, nat_le, option_map, if◌then◌else◌}
 use Rattle.std.specs.List.{flat_map}

@@ -1,4 +1,4 @@
--- Reading behind items whose texts stand in pieces.
+-- Reading after items whose texts are in pieces.
 use Rattle.std.proofs.Common.{◌≡◌, ℕ, zero, suc, ◌-◌, Bool, true, false, not, ◌&&◌, List, [], ◌∷◌, ◌++◌, length, reverse, Option, Some, None, refl, sym, ap, subst, ◌∙◌, append_assoc}
 use Rattle.std.specs.Prelude.{option_map, if◌then◌else◌}
 use Rattle.std.proofs.lemmas.List.{reverse-append, reverse-reverse}
@@ -12,7 +12,7 @@ use Rattle.cm_scan.specs.inlines.Inlines.{add_atom, item_step, items_after}
 use Rattle.cm_scan.specs.inlines.Pieces.{one_by_one, pieces_of, in_pieces, ReadingInPieces}
 use Rattle.cm_scan.proofs.lemmas.inlines.PairingInPieces.{back_pieces, back, back-forward, texts_in_pieces}
 
--- what stands in pieces stays as it is
+-- what is in pieces stays unchanged
 
 one_by_one-again : (text : List ℕ) → in_pieces (one_by_one text) ≡ one_by_one text
 one_by_one-again [] = refl
@@ -63,7 +63,7 @@ opener-in-pieces (Finished inline ∷ before) inside = opener-in-pieces before (
 opener-in-pieces (Linked inline ∷ before) inside = opener-in-pieces before (Linked inline ∷ inside)
 opener-in-pieces (Delimiters run ∷ before) inside = opener-in-pieces before (Delimiters run ∷ inside)
 
--- what is made of what stands between
+-- what is made of what is between
 
 no-link : (text : List ℕ) (items : List Item) → holds_link (one_by_one text ++ items) ≡ holds_link items
 unfolding holds_link
@@ -96,7 +96,7 @@ same-texts found =
     ∙ sym (flat_map-append back_pieces (reverse found.inside) (opener ∷ found.before)) in
     ap (λ t. back_pieces (Characters (93 ∷ [])) ++ t) behind
 
--- what two answers have in common
+-- what two results have in common
 pub record Alike (one other : Bracketed) : Type 0 where
   pub items : back one.items ≡ back other.items
   pub rest : one.rest ≡ other.rest
@@ -148,7 +148,7 @@ close-alike rules defined items rest = subst (λ o. Alike (by (back items) o) (b
     each None = record { items = ap (λ t. back_pieces (Characters (93 ∷ [])) ++ t) (back-again items); rest = refl }
     each (Some found) = closed-alike rules defined found rest
 
--- what is the same in pieces goes on alike
+-- what is the same in pieces continues alike
 
 close-same : (rules : Rules) (defined : Defined) (items others : List Item) (rest : List ℕ) → back items ≡ back others → Alike (close_bracket rules defined items rest) (close_bracket rules defined others rest)
 close-same rules defined items others rest e =

@@ -47,7 +47,7 @@ unmarked_is_plain b e = grind (arith, nat_tests, e)
 no-line-ending : (b : ℕ) → is_plain_byte b ≡ true → (b == 10) ≡ false
 no-line-ending b plain = grind (arith, nat_tests, plain)
 
--- the text ends with a space before a byte, and behind one
+-- the text ends with a space before a byte, and after one
 behind-first : (b : ℕ) (bs rest : List ℕ) → is_empty bs ≡ false → keeps_spaces rest (b ∷ bs) ≡ keeps_spaces rest bs
 unfolding ends_with
 behind-first b [] rest e = absurd (cc e)
@@ -64,7 +64,7 @@ no-break (b ∷ bs) rest plain some parts =
     other true e = absurd (cc e)
     other false e = refl
 
-    -- behind the last space stands no space, and no line feed
+    -- neither a space nor a line feed follows the last space
     last : (rest : List ℕ) → not ((begins_with 32 rest || begins_with 10 rest) && true) ≡ true → after_word (codes "\n") (after_run 32 rest) ≡ None
     last [] e = refl
     last (c ∷ cs) e = by (c == 32) (c == 10) refl e

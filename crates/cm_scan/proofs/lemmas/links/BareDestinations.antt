@@ -1,4 +1,4 @@
--- A destination that no `<` begins, read one byte at a time.
+-- A destination that no `<` starts, read one byte at a time.
 use Rattle.std.proofs.Common.{◌≡◌, ℕ, suc, ◌+◌, ◌<◌, ◌≤◌, ◌==◌, ◌&&◌, not, Bool, true, false, if◌then◌else◌, List, [], ◌∷◌, length, drop, get_or, Some, None, refl, sym, ap, ◌∙◌, arith, add-one, drop-cons}
 use Rattle.std.specs.List.{slice_range}
 use Rattle.std.proofs.lemmas.List.{append-nil, drop_all}
@@ -8,7 +8,7 @@ use Rattle.cm_scan.specs.inlines.Links.{behind, opened_by, bare_run}
 use Rattle.cm_scan.specs.steps.LinkSteps.{ended_at, ends_bare, is_plain_in_run}
 use Rattle.cm_scan.proofs.lemmas.links.BracketedParts.{mark, plain-mark, ahead, ahead_from, ahead-behind, slice-more}
 
--- how many parentheses are open behind a byte that may be escaped
+-- how many parentheses are open after a byte that may be escaped
 abbrev pub opened_behind : ℕ → Bool → ℕ → ℕ
 opened_behind opened escaped b = if escaped then opened else opened_by opened b
 

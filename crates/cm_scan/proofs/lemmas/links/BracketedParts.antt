@@ -13,7 +13,7 @@ use Rattle.cm_scan.specs.spans.Tags.{is_blank_byte}
 use Rattle.cm_scan.specs.inlines.Links.{Reading, behind, keep_if, escapes_next, up_to_closing, characters, has_blank_line}
 use Rattle.cm_scan.specs.steps.LinkSteps.{closed_at, begins_character, fits, is_barred, blank_follows, is_plain, is_refused}
 
--- whether the byte behind this one is escaped
+-- whether the byte after this one is escaped
 abbrev pub mark : Bool → ℕ → List ℕ → Bool
 mark escaped b bs = not escaped && escapes_next b bs
 
@@ -38,7 +38,7 @@ pub barred-no_spaces : (open_byte : ℕ) (one_line : Bool) → is_blank_byte ope
 barred-no_spaces open_byte true h b blank = grind (arith, nat_tests, h, blank)
 barred-no_spaces open_byte false h b blank = grind (arith, nat_tests, h, blank)
 
--- what holds behind a byte
+-- what holds after a byte
 if-behind : (P Q : Reading → Type 0) (b : ℕ) (o : Option Reading) → ((r : Reading) → P r → Q (record { text = b ∷ r.text; rest = r.rest })) → IfSome o P → IfSome (behind b o) Q
 if-behind P Q b None step h = tt
 if-behind P Q b (Some r) step h = step r h
@@ -109,7 +109,7 @@ module _ (closes forbidden : ℕ → Bool) where
   closed-closes b bs h = grind (arith, h)
 
   module _ (c : NoBlanks closes) (f : NoSpaces forbidden) where
-    -- the part that is read begins with a blank line where the text does
+    -- the part that is read starts with a blank line where the text does
     blank-same : (bs : List ℕ) → IfSome (up_to_closing closes forbidden false bs) (λ r. begins_with 10 (trim_start r.text) ≡ begins_with 10 (trim_start bs))
     unfolding up_to_closing skip
     blank-same [] = tt
@@ -144,11 +144,11 @@ module _ (closes forbidden : ℕ → Bool) where
                 (if-behind (λ r. Unit {0}) (λ r. begins_with 10 (trim_start r.text) ≡ begins_with 10 (trim_start (b ∷ bs))) b
                 (up_to_closing closes forbidden (mark false b bs) bs) (λ r e. grind (arith, h, k)) (if-any _))
 
--- a part with so many characters at most, with or without blank lines
+-- a part with up to the given number of characters, with or without blank lines
 abbrev pub part : (ℕ → Bool) → (ℕ → Bool) → ℕ → Bool → Bool → List ℕ → Option Reading
 part closes forbidden most blank_lines escaped text = keep_if (fits most blank_lines) (up_to_closing closes forbidden escaped text)
 
--- bytes in front of what was read
+-- bytes before what was read
 abbrev pub ahead : List ℕ → Option Reading → Option Reading
 ahead front None = None
 ahead front (Some r) = Some (record { text = front ++ r.text; rest = r.rest })
@@ -259,7 +259,7 @@ module _ (closes forbidden : ℕ → Bool) where
             (if-some (λ r. blank_follows b r.text ≡ blank_follows b bs) (λ r. blank_follows b r.text ≡ true) (up_to_closing closes forbidden (mark escaped b bs) bs)
             (λ r e. e ∙ follows) (follows-same b bs escaped))
 
-    -- a byte that may not stand there
+    -- a byte that may not be there
     pub part-stop : (most : ℕ) (blank_lines escaped : Bool) (text : List ℕ) (from at : ℕ) → at < length text
         → (not escaped && closes (get_or text at 0)) ≡ false
         → is_refused most blank_lines (not escaped && forbidden (get_or text at 0)) (get_or text at 0) (drop (suc at) text) ≡ true
@@ -331,7 +331,7 @@ plain-allowed most blank_lines escaped barred b bs l h k =
 -- plain bytes are passed over
 module _ (open_byte close_byte : ℕ) (one_line : Bool) (o : is_blank_byte open_byte ≡ false) (c : is_blank_byte close_byte ≡ false)
     (u : is_plain open_byte ≡ false) (e : is_plain close_byte ≡ false) (blank_lines : Bool) (text : List ℕ) (from : ℕ) where
-  -- what is read from a place on, with so many characters at most
+  -- what is read from a place on, with up to the given number of characters
   abbrev from-here : (at most : ℕ) (escaped : Bool) → Option Reading
   from-here at most escaped = ahead_from text from at (part (λ c. c == close_byte) (is_barred open_byte one_line) most blank_lines escaped (drop at text))
 
@@ -365,7 +365,7 @@ pub bool_byte-is : (v : Bool) → bool_byte v ≡ cond v 1 0
 bool_byte-is true = refl
 bool_byte-is false = refl
 
--- whether the byte at a place escapes the one behind it
+-- whether the byte at a place escapes the one after it
 pub escapes-at : (text : List ℕ) (at : ℕ) → get_or text at 0 ≡ 92 → suc at < length text
     → escapes_next (get_or text at 0) (drop (suc at) text) ≡ is_ascii_punct (get_or text (suc at) 0)
 escapes-at text at h within = rw (drop-cons text (suc at) 0, h) refl

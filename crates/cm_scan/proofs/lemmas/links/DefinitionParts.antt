@@ -6,7 +6,7 @@ use Rattle.cm_scan.specs.inlines.Links.{Reading, LinkDefinition, label, destinat
 use Rattle.cm_scan.specs.Scanned.{definition_with}
 use Rattle.cm_scan.proofs.lemmas.texts.ScannerAnswers.{begins-at}
 
--- a place behind a gap, in a text and its copy
+-- a place after a gap, in a text and its copy
 pub gap-of : (text copy : List ℕ) (at gap : ℕ) → copy ≡ text → drop gap copy ≡ after_gap (drop at copy) → drop gap text ≡ after_gap (drop at text)
 gap-of text copy at gap same h = subst (λ t. drop gap t ≡ after_gap (drop at t)) same h
 
@@ -18,7 +18,7 @@ titled-no l d text blank e h =
       | false ↦ None
     ]) (sym e ∙ h))
 
--- behind a gap
+-- after a gap
 titled-by : (l d text : List ℕ) (r : Option Reading) → is_blank_next text ≡ true → title (after_gap text) ≡ r
     → titled l d text ≡ elim r as (λ _. Option LinkDefinition) [ Some s ↦ defined l d s.text (after_line s.rest) | None ↦ None ]
 unfolding titled
@@ -93,7 +93,7 @@ by-colon l c h = ap (λ o. elim o as (λ _. Option LinkDefinition) [
 pub label-alone : (text : List ℕ) (l : Reading) (next : Bool) → Some l ≡ label text → next ≡ begins_with 58 l.rest → next ≡ false → None ≡ link_definition text
 label-alone text l next h e n = sym (by-label text (Some l) (sym h) ∙ by-colon l None (no-colon l.rest (sym e ∙ n)))
 
--- behind the colon
+-- after the colon
 behind-colon : (text : List ℕ) (l : Reading) (bs : List ℕ) (d : Option Reading) → Some l ≡ label text → l.rest ≡ 58 ∷ bs → destination (after_gap bs) ≡ d
     → link_definition text ≡ elim d as (λ _. Option LinkDefinition) [ Some r ↦ titled l.text r.text r.rest <|> untitled l.text r.text r.rest | None ↦ None ]
 behind-colon text l bs d h c e =

@@ -31,7 +31,7 @@ feeds-after_word [] text = le_refl _
 feeds-after_word (w ∷ ws) [] = tt
 feeds-after_word (w ∷ ws) (b ∷ bs) = let h : NoMore bs (after_word ws bs) = feeds-after_word ws bs in grind (arith, h)
 
--- a byte in front makes a text no shorter in line feeds
+-- a byte before makes a text no shorter in line feeds
 feeds-behind : (b : ℕ) (bs : List ℕ) (r : Option Reading) → Leaves bs r → Leaves (b ∷ bs) (behind b r)
 unfolding line_feeds
 feeds-behind b bs None h = tt
@@ -54,7 +54,7 @@ unfolding line_feeds
 feeds-more b bs None h = tt
 feeds-more b bs (Some r) h = grind (arith, h)
 
--- what is read behind a first byte
+-- what is read after a first byte
 feeds-kept : (b : ℕ) (bs : List ℕ) (test : Reading → Bool) (r : Option Reading) → Leaves bs r → Leaves (b ∷ bs) (keep_if test r)
 feeds-kept b bs test r h = feeds-more b bs _ (feeds-keep_if test bs r h)
 
@@ -96,7 +96,7 @@ unfolding title
 feeds-title [] = tt
 feeds-title (b ∷ bs) = feeds-kept b bs has_no_blank_line (title_in b bs) (feeds-title_in b bs)
 
--- behind a line's end there are fewer lines than in a text that isn't empty
+-- after a line's end there are fewer lines than in a text that isn't empty
 
 abbrev Fewer : List ℕ → Option (List ℕ) → Type 0
 Fewer text rest = IfSome rest (λ r. line_count r ≤ line_feeds text)

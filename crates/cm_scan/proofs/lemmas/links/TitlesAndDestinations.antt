@@ -1,4 +1,4 @@
--- Titles and destinations, by what stands between the bytes that enclose them.
+-- Titles and destinations, by what is between the bytes that enclose them.
 use Rattle.std.proofs.Common.{◌≡◌, ℕ, suc, ◌-◌, ◌<◌, ◌≤◌, ◌==◌, ◌||◌, nat_le, Bool, true, false, List, [], ◌∷◌, length, drop, get_or, Option, Some, None, IfSome, refl, sym, ap, ◌∙◌, arith, drop-cons}
 use Rattle.std.proofs.lemmas.List.{drop_all, length-drop}
 use Rattle.std.proofs.lemmas.List.Sums.{count_by-le-length}
@@ -86,7 +86,7 @@ pub destination-bare : (text : List ℕ) (at : ℕ) (next : Bool) (read : Option
     → read ≡ keep_if is_filled (bare_run 0 false (drop at text)) → read ≡ destination (drop at text)
 destination-bare text at next read e h r = r ∙ bare-cases (drop at text) (sym e ∙ h)
 
--- the title that a byte begins
+-- the title that a byte starts
 no-title : (b close : ℕ) → Some close ≡ title_end b → (b == 34) ≡ false → (b == 39) ≡ false → (b == 40) ≡ false → ⊥
 no-title b close h d s r = grind (arith, h, d, s, r)
 

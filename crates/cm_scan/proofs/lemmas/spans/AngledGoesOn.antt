@@ -1,4 +1,4 @@
--- What a `<` begins, with more text behind.
+-- What a `<` starts, with more text after.
 use Rattle.std.proofs.Common.{◌≡◌, ℕ, ◌-◌, ◌≤◌, List, [], ◌++◌, length, take, Bool, true, false, Option, Some, None, refl, sym, ap, ◌∙◌, arith, length-append}
 use Rattle.std.proofs.lemmas.List.{take-append-le}
 use Rattle.cm_scan.specs.spans.RawHtml.{raw_html}
@@ -21,7 +21,7 @@ angled-of : Angled → Option Angled → Angled
 angled-of a None = a
 angled-of a (Some b) = b
 
--- whether an address is followed doesn't depend on what stands behind
+-- whether an address is followed doesn't depend on what is after
 followed-longer : (rules : Rules) (link : Autolink) (x : List ℕ) → link_if_followed rules (longer_link (Some link) x) ≡ longer_link (link_if_followed rules (Some link)) x
 unfolding longer_link
 followed-longer rules link x = go (is_followed rules link.destination)

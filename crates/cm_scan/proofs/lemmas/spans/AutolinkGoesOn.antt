@@ -1,4 +1,4 @@
--- Autolinks with more text behind.
+-- Autolinks with more text after.
 use Rattle.std.proofs.Common.{◌≡◌, ℕ, Bool, true, false, ◌==◌, ◌||◌, List, [], ◌∷◌, ◌++◌, Option, Some, None, codes, cond, refl, sym, ap, ◌∙◌}
 use Rattle.std.proofs.lemmas.Bool.{eqb-true}
 use Rattle.cm_scan.specs.Words.{is_empty, skip, front_of, after_word}
@@ -18,7 +18,7 @@ angle-nothing : after_word (codes ">") [] ≡ None
 unfolding after_word
 angle-nothing = refl
 
--- where something is left behind the text inside
+-- where something is left after the text inside
 inside-extends : (inside x : List ℕ) → is_empty (skip is_inside inside) ≡ false
     → ended (front_of is_inside (inside ++ x)) (after_word (codes ">") (skip is_inside (inside ++ x))) ≡ longer_each (ended (front_of is_inside inside) (after_word (codes ">") (skip is_inside inside))) x
 inside-extends inside x goes_on =
@@ -58,7 +58,7 @@ stops (b ∷ bs) e = go (is_inside b) (b == 62) refl refl e (λ h. stops bs h)
     go true true f g e k = false-true (ap is_inside (sym (eqb-true b 62 g)) ∙ f)
     go true false f g e k = k e
 
--- where an end stands in the text, the text alone decides
+-- where an end is in the text, the text alone decides
 all-angles : (text x : List ℕ) → has_end text ≡ true → in_angles (text ++ x) ≡ longer_each (in_angles text) x
 unfolding in_angles
 all-angles text x h = go (after_word (codes "<") text) refl

@@ -20,7 +20,7 @@ is-false : (b : Bool) → (b ≡ true → ⊥) → b ≡ false
 is-false true h = absurd (h refl)
 is-false false h = refl
 
--- bytes at the front that pass a test, one after another
+-- bytes at the start that pass a test, one after another
 
 module _ (test : ℕ → Bool) where
   front-pass : (b : ℕ) (bs : List ℕ) → test b ≡ true → front_of test (b ∷ bs) ≡ b ∷ front_of test bs
@@ -264,7 +264,7 @@ pub label-bytes : (label : List ℕ) → 0 < length label → within 1 63 (lengt
 unfolding is_host_label
 label-bytes label some few first last = grind (arith, few, first, last, begins-first 45 label some, ends-at 45 label some)
 
--- the autolink of what stands inside
+-- the autolink of what is inside
 
 module _ (inside rest : List ℕ) where
   pub link-uri : is_absolute inside ≡ true → Some (autolink_with false inside rest) ≡ as_autolink (record { text = inside; rest = rest })

@@ -52,7 +52,7 @@ pub nowhere : (text bytes : List ℕ) (at : ℕ) → bytes ≡ drop at text → 
 nowhere text bytes at same h = λ k below e. subst (λ t. IsFirstByte (is_byte 96) t None) same h k (omega arith) below (eq-eqb _ _ e)
 
 module _ (n : ℕ) where
-  -- a byte where no run begins
+  -- a byte where no run starts
   passed : (in_run : Bool) (b : ℕ) (bs : List ℕ) → (b == 96 && not in_run && run_length 96 (b ∷ bs) == n) ≡ false → up_to_run n in_run (b ∷ bs) ≡ behind b (up_to_run n (b == 96) bs)
   unfolding up_to_run
   passed in_run b bs h = ap (λ c. elim c as (λ _. Option Reading) [ true ↦ Some (record { text = []; rest = after_run 96 (b ∷ bs) }) | false ↦ behind b (up_to_run n (b == 96) bs) ]) h
@@ -212,7 +212,7 @@ written-none : (n : ℕ) (bs : List ℕ) → up_to_run n false bs ≡ None → a
 written-none zero bs h = refl
 written-none (suc n) bs h = h
 
--- behind a run begins no other
+-- no other run starts after a run
 
 after-drop : (bs : List ℕ) → drop (run_length 96 bs) bs ≡ after_run 96 bs
 unfolding run_length after_run
@@ -234,7 +234,7 @@ after-twice (b ∷ bs) = go (b == 96) refl (after-twice bs)
     go true e k = k
     go false e k = ap (λ c. elim c as (λ _. List ℕ) [ true ↦ after_run 96 bs | false ↦ b ∷ bs ]) e
 
--- where no run is found from a place before a backtick string's end, the string begins no code span
+-- where no run is found from a place before a backtick string's end, the string starts no code span
 pub none-behind : (n : ℕ) (text : List ℕ) (from at start : ℕ) → start ≡ at + n → run_length 96 (drop at text) ≡ n → from ≤ start → up_to_run n false (drop from text) ≡ None
     → spanned_as_written (drop at text) ≡ None
 unfolding spanned_as_written
@@ -245,7 +245,7 @@ none-behind n text from at start place same low h =
     (ap (up_to_run n false) (sym (after-twice (drop at text))) ∙ ap (λ t. up_to_run n false (after_run 96 t)) (left ∙ drop-later text from start low)
     ∙ further-none n false (drop from text) (start - from) h)
 
--- where no run is found behind a run of another length, none is found from before it either
+-- where no run is found after a run of another length, none is found from before it either
 pub none-before : (n : ℕ) (text : List ℕ) (at plain : ℕ) → Found text at plain → (end : ℕ) → end ≡ at + plain + run_length 96 (drop (at + plain) text) → drop end text ≡ after_run 96 (drop (at + plain) text)
     → (end - (at + plain) ≡ n → ⊥) → up_to_run n false (drop end text) ≡ None → up_to_run n false (drop at text) ≡ None
 none-before n text at plain found end run left other h =
@@ -267,7 +267,7 @@ no-span-later text at later low h same =
     ap (λ t. as_written (run_length 96 t) (after_run 96 t)) place
     ∙ span-later (run_length 96 (drop (later - at) (drop at text))) (run_length 96 (drop at text)) (drop at text) (later - at) refl (sym h) (ap (run_length 96) (sym place) ∙ same)
 
--- what a scanner answers
+-- what a scanner returns
 
 written-some : (n : ℕ) (bs : List ℕ) → 0 < n → as_written n bs ≡ up_to_run n false bs
 written-some zero bs some = absurd (omega (arith, some))

@@ -1,4 +1,4 @@
--- Code spans with more text behind.
+-- Code spans with more text after.
 use Rattle.std.proofs.Common.{◌≡◌, ℕ, zero, suc, Bool, true, false, not, ◌==◌, ◌&&◌, List, [], ◌∷◌, ◌++◌, Option, Some, None, refl, sym, ap, ◌∙◌}
 use Rattle.cm_scan.specs.Words.{is_empty, run_length, after_run}
 use Rattle.cm_scan.specs.inlines.Links.{Reading, behind}
@@ -18,7 +18,7 @@ not-some : (b : Bool) → not b ≡ true → b ≡ false
 not-some true e = sym e
 not-some false e = refl
 
--- what a run at the front leaves
+-- what a run at the start leaves
 run-grows : (text x : List ℕ) → keeps_run (after_run 96 text) x ≡ true → run_length 96 (text ++ x) ≡ run_length 96 text
 unfolding run_length after_run
 run-grows [] [] e = refl
@@ -45,7 +45,7 @@ left-keeps : (text x : List ℕ) → is_empty text ≡ false → keeps_run text 
 left-keeps [] x e = false-true (sym e)
 left-keeps (b ∷ bs) x e = refl
 
--- inside a run that goes to the end no run begins
+-- inside a run that goes to the end no run starts
 no-run : (n : ℕ) (text : List ℕ) → is_empty (after_run 96 text) ≡ true → up_to_run n true text ≡ None
 unfolding up_to_run after_run
 no-run n [] e = refl
@@ -56,7 +56,7 @@ no-run n (b ∷ bs) e = go (b == 96) (run_length 96 (b ∷ bs) == n) e (λ h. no
     go false d e k = false-true e
     go true d e k = ap (behind b) (k e)
 
--- so behind a run in which one is found something is left
+-- so after a run in which one is found something is left
 run-ends : (n : ℕ) (text : List ℕ) (r : Reading) → up_to_run n true text ≡ Some r → is_empty (after_run 96 text) ≡ false
 run-ends n text r e = go (is_empty (after_run 96 text)) refl
   where

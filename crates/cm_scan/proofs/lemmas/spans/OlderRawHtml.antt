@@ -8,7 +8,7 @@ use Rattle.cm_scan.specs.laws.SpanLaws.{OlderIsRead}
 use Rattle.cm_scan.proofs.lemmas.texts.WordsGoOn.{none-some, some-same}
 use Rattle.cm_scan.proofs.lemmas.spans.RawHtmlGoesOn.{word-front, closing-goes-on, comment-goes-on, instruction-goes-on, declaration-goes-on, character_data-goes-on}
 
--- an end of a comment begins with two hyphens
+-- an end of a comment starts with two hyphens
 no-hyphens : (text : List ℕ) → after_word (codes "--") text ≡ None → after_word (codes "-->") text ≡ None
 unfolding after_word
 no-hyphens [] e = refl
@@ -69,7 +69,7 @@ older-comment text rest e = go (after_word (codes "<!--") text) e
     go None e = none-some e
     go (Some inside) e = older-inside inside rest e
 
--- nothing behind the text
+-- nothing after the text
 nothing-behind : (text rest : List ℕ) → html_tag profile (text ++ []) ≡ Some (rest ++ []) → html_tag profile text ≡ Some rest
 nothing-behind text rest e = ap (html_tag profile) (sym (append-nil text)) ∙ e ∙ ap Some (append-nil rest)
 

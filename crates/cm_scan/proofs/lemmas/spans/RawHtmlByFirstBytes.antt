@@ -1,4 +1,4 @@
--- Raw HTML in a text, by the bytes that it begins with.
+-- Raw HTML in a text, by the bytes that it starts with.
 use Rattle.std.proofs.Common.{◌≡◌, ℕ, suc, ◌+◌, ◌-◌, ◌<◌, ◌≤◌, true, false, List, [], ◌∷◌, ◌++◌, length, take, drop, get_or, Option, Some, None, codes, IsUtf8, refl, sym, ap, subst, ◌∙◌, arith, drop-drop, get_or-drop, length-drop, length-append}
 use Rattle.std.specs.List.{slice_range}
 use Rattle.std.specs.Str.{IsCharBoundary}
@@ -26,7 +26,7 @@ module _ (inside : List ℕ) where
   unfolding short_end
   short-next h = sym (ap (λ o. o <|> after_word (codes "->") inside) h)
 
-  -- a comment behind its beginning
+  -- a comment after its start
 
   module _ (rest : List ℕ) (short : Some rest ≡ short_end inside) where
     pub comment-refused : None ≡ after_comment true inside
@@ -50,7 +50,7 @@ module _ (inside : List ℕ) where
     unfolding after_comment
     comment-strict rest h = grind (arith, long, h)
 
--- a declaration behind its beginning
+-- a declaration after its start
 
 pub declaration-none : None ≡ after_declaration []
 unfolding after_declaration
@@ -64,7 +64,7 @@ pub declaration-letter : (b : ℕ) (bs : List ℕ) → is_letter b ≡ true → 
 unfolding after_declaration
 declaration-letter b bs h = grind (arith, h)
 
--- behind `<!`
+-- after `<!`
 
 first-alone : (o : Option (List ℕ)) → o <|> None ≡ o
 first-alone None = refl
@@ -140,7 +140,7 @@ get_or-seam : (front rest : List ℕ) → get_or (front ++ 62 ∷ rest) (length 
 get_or-seam [] rest = refl
 get_or-seam (b ∷ bs) rest = get_or-seam bs rest
 
--- where what is left begins
+-- where what is left starts
 pub record Cut (text : List ℕ) (at : ℕ) (rest : List ℕ) : Type 0 where
   pub behind : drop (length text - length rest) text ≡ rest
   pub low : at < length text - length rest
@@ -163,7 +163,7 @@ cut-at text at rest within ends =
 pub html-cut : (rules : Rules) (text : List ℕ) (at : ℕ) (rest : List ℕ) → at ≤ length text → raw_html rules (drop at text) ≡ Some rest → Cut text at rest
 html-cut rules text at rest within h = cut-at text at rest within (raw_html-ends rules (drop at text) rest h)
 
--- the part that a scanner answers
+-- the part that a scanner returns
 part-before : (text part : List ℕ) (at : ℕ) (rest : List ℕ) → at ≤ length text → part ≡ slice_range text at (length text - length rest) → part ≡ before rest (drop at text)
 unfolding before
 part-before text part at rest within same =

@@ -1,4 +1,4 @@
--- Raw HTML with more text behind.
+-- Raw HTML with more text after.
 use Rattle.std.proofs.Common.{◌≡◌, ℕ, ◌≤◌, Bool, true, false, ◌==◌, List, [], ◌∷◌, ◌++◌, length, Option, Some, None, codes, refl, sym, ap, ◌∙◌, arith}
 use Rattle.std.proofs.lemmas.Bool.{eqb-true}
 use Rattle.cm_text.specs.Rules.{Rules}
@@ -95,7 +95,7 @@ declaration-extends text x rest e = go (after_word (codes "<!") text) refl e
     go None f e = none-some e
     go (Some inside) f e = ap by (word-extends (codes "<!") text x inside f) ∙ after_declaration-extends inside x rest e
 
--- what a text begins with says which form it can be
+-- what a text starts with says which form it can be
 
 pub word-front : (word text rest : List ℕ) → after_word word text ≡ Some rest → text ≡ word ++ rest
 unfolding after_word
@@ -144,7 +144,7 @@ declaration-alone rules (b ∷ bs) rest e = go (b == 45) refl
     go true f = false-true (sym (ap is_letter (eqb-true b 45 f)) ∙ letter)
     go false f = ap (λ o. o <|> character_data (60 ∷ 33 ∷ b ∷ bs)) e
 
--- a text that has a reading begins with the reading's first word
+-- a text that has a reading starts with the reading's first word
 begun : (word : List ℕ) (reading : List ℕ → Option (List ℕ)) (text rest : List ℕ)
     → elim (after_word word text) as (λ _. Option (List ℕ)) [ Some inside ↦ reading inside | None ↦ None ] ≡ Some rest → (inside : List ℕ) × (text ≡ word ++ inside)
 begun word reading text rest e = go (after_word word text) refl e

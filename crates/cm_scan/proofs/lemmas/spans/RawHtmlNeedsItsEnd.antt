@@ -14,7 +14,7 @@ second-none : (a b : Option (List ℕ)) → elim a as (λ _. Option (List ℕ)) 
 second-none (Some r) b h = none-some (sym h)
 second-none None b h = h
 
--- a comment: the end may share hyphens with the beginning
+-- a comment: the end may share hyphens with the start
 inside-none : (inside : List ℕ) → behind_word (codes "-->") (codes "<!--" ++ inside) ≡ None → after_comment false inside ≡ None
 unfolding behind_word after_comment short_end after_word
 inside-none inside h = go (after_word (codes ">") inside) (after_word (codes "->") inside) h

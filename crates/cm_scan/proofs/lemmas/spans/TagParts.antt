@@ -88,7 +88,7 @@ pub name_nothing : tag_name [] ≡ None
 unfolding tag_name
 name_nothing = refl
 
--- tags behind their beginning
+-- tags after their start
 
 module _ (inside : List ℕ) where
   pub open_none : tag_name inside ≡ None → open_tag (60 ∷ inside) ≡ None

@@ -1,4 +1,4 @@
--- Tags with more text behind.
+-- Tags with more text after.
 use Rattle.std.proofs.Common.{◌≡◌, ℕ, zero, suc, ◌≤◌, Bool, true, false, ◌==◌, ◌||◌, List, [], ◌∷◌, ◌++◌, length, Option, Some, None, codes, refl, sym, ap, ◌∙◌, arith, length-append}
 use Rattle.std.proofs.lemmas.Bool.{eqb-true}
 use Rattle.cm_scan.specs.Words.{is_letter, is_letter_or_digit, is_empty, skip, front_of, after_word}
@@ -51,7 +51,7 @@ quoted-extends quote (b ∷ bs) x rest e = go (b == quote) e (λ h. quoted-exten
     go true e k = ap (λ t. Some (t ++ x)) (some-same e)
     go false e k = k e
 
--- an unquoted value goes on to the text's end, so something has to be left
+-- an unquoted value continues to the text's end, so something has to be left
 pub value-extends : (text x rest : List ℕ) → after_value text ≡ Some rest → is_empty rest ≡ false → after_value (text ++ x) ≡ Some (rest ++ x)
 unfolding after_value after_unquoted
 value-extends [] x rest e f = none-some e
@@ -123,7 +123,7 @@ attribute-extends (b ∷ bs) x rest e f = go (begins_attribute b) e
     go true e = ap after_specification (skip-extends continues_attribute bs x (specification-of (skip continues_attribute bs) rest e f)) ∙ specification-extends (skip continues_attribute bs) x rest e f
     go false e = none-some e
 
--- where an attribute begins, no tag ends
+-- where an attribute starts, no tag ends
 attribute-no-end : (text rest : List ℕ) → after_attribute text ≡ Some rest → (x : List ℕ) → after_tag_end (text ++ x) ≡ None
 unfolding after_attribute after_tag_end after_word
 attribute-no-end [] rest e x = none-some e
@@ -238,7 +238,7 @@ name-extends (b ∷ bs) x tag e f = go (is_letter b) e
         goes_on : is_empty (skip continues bs) ≡ false
         goes_on = ap (λ (o : Option Named). is_empty (tag_of o).rest) e ∙ f
 
--- the same tag, with more text behind
+-- the same tag, with more text after
 abbrev pub longer : Named → List ℕ → Named
 longer tag x = record { name = tag.name; rest = tag.rest ++ x }
 
@@ -249,7 +249,7 @@ with_rest-read name (Some rest) tag e = (ap (λ (t : Named). t.name) same, ap (�
     same : record { name = name; rest = rest } ≡ tag
     same = ap (λ (o : Option Named). elim o as (λ _. Named) [ None ↦ tag | Some t ↦ t ]) e
 
--- behind the name of a tag, in a reading that wants something there
+-- after the name of a tag, in a reading that needs something there
 named-extends : (reading : List ℕ → Option (List ℕ)) (further : List ℕ → Option (List ℕ)) (text x : List ℕ) (tag : Named) → reading [] ≡ None
     → ((t r : List ℕ) → reading t ≡ Some r → further (t ++ x) ≡ Some (r ++ x))
     → elim (tag_name text) as (λ _. Option Named) [ Some t ↦ with_rest t.name (reading t.rest) | None ↦ None ] ≡ Some tag

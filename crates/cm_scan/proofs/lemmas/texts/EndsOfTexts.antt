@@ -1,4 +1,4 @@
--- What is left of a text behind something at its front is an end of the text.
+-- What is left of a text after something at its start is an end of the text.
 use Rattle.std.proofs.Common.{◌≡◌, ℕ, zero, suc, Bool, true, false, ◌==◌, List, [], ◌∷◌, ◌++◌, Some, cond, drop, refl, sym, ap, ◌∙◌, append_assoc}
 use Rattle.cm_scan.specs.Words.{is_space_or_tab, skip, after_word, after_run}
 use Rattle.cm_scan.specs.spans.Tags.{after_line_ending, after_gap}

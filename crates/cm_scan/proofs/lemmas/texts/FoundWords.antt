@@ -1,4 +1,4 @@
--- A word at the front of a text, and the first place where it stands.
+-- A word at the start of a text, and the first place of it.
 use Rattle.std.proofs.Common.{◌≡◌, ℕ, zero, suc, ◌+◌, ◌-◌, ◌<◌, ◌≤◌, ◌==◌, ◌&&◌, ◌||◌, Bool, true, false, List, [], ◌∷◌, length, drop, get_or, Option, Some, None, is_some, refl, sym, ap, ◌∙◌, arith, eq-eqb, length-drop, drop-drop, get_or-drop}
 use Rattle.std.proofs.lemmas.Bool.{eqb-true}
 use Rattle.memchr.specs.Find.{OccursAt, FindsNeedle}
@@ -33,7 +33,7 @@ and-parts : (a b : Bool) → (a && b) ≡ true → (a ≡ true) × (b ≡ true)
 and-parts true b h = (refl, h)
 and-parts false b h = false-true h
 
--- each byte of the word stands in the text
+-- each byte of the word is in the text
 abbrev Reads : List ℕ → List ℕ → Type 0
 Reads word text = (length word ≤ length text) × ((j : ℕ) → j < length word → get_or text j 0 ≡ get_or word j 0)
 
@@ -72,7 +72,7 @@ not-occurs word text k high none = go (is_at_word word (drop k text)) refl
     go true h = absurd (none (there-occurs word text k high h))
     go false h = refl
 
--- the word stands at no place
+-- the word is at no place
 abbrev Nowhere : List ℕ → List ℕ → Type 0
 Nowhere word text = (k : ℕ) → k ≤ length text → is_at_word word (drop k text) ≡ false
 
@@ -141,7 +141,7 @@ pub holds-found : (word text : List ℕ) (found : Option ℕ) → FindsNeedle te
 holds-found word text None h = sym (holds-nothing word text (finds-nowhere word text h))
 holds-found word text (Some k) h = sym (holds-there word text k (omega (arith, h.1.fits)) (occurs-there word text k h.1))
 
--- a word that stands nowhere stands nowhere further on
+-- a word that is nowhere is nowhere further on
 past-nowhere : (word text : List ℕ) → holds_word word text ≡ false → behind_word word text ≡ None
 unfolding behind_word holds_word
 past-nowhere word [] h = refl

@@ -1,4 +1,4 @@
--- What a scanner answers, against the definition.
+-- What a scanner returns, against the definition.
 use Rattle.std.proofs.Common.{◌≡◌, ℕ, zero, suc, ◌+◌, ◌<◌, ◌==◌, ◌&&◌, nat_le, Bool, true, false, List, [], ◌∷◌, length, drop, get_or, Option, Some, None, refl, sym, ap, subst, ◌∙◌, arith}
 use Rattle.std.specs.List.{slice_range, list_all}
 use Rattle.std.proofs.lemmas.Bool.Decides.{nat_tests}
@@ -7,7 +7,7 @@ use Rattle.cm_scan.specs.spans.Tags.{is_blank_byte}
 use Rattle.cm_scan.specs.inlines.Links.{Reading, keep_if, up_to_closing, characters, is_label, label}
 use Rattle.cm_scan.specs.steps.LinkSteps.{fits}
 
--- a byte that comes next stands at the place
+-- a byte that comes next is at the place
 pub begins-at : (b : ℕ) (text : List ℕ) (at : ℕ) → begins_with b (drop at text) ≡ true → (at < length text) × (drop at text ≡ b ∷ drop (suc at) text) × (get_or text at 0 ≡ b)
 begins-at b [] zero h = absurd (cc)
 begins-at b [] (suc at) h = absurd (cc)
@@ -46,7 +46,7 @@ kept-label : (o : Option Reading) → keep_if (fits 999 true) o ≡ None → kee
 kept-label None h = refl
 kept-label (Some r) h = grind (arith, h)
 
--- the label's cases, by what stands between its brackets
+-- the label's cases, by what is between its brackets
 label-at : (text : List ℕ) (at : ℕ) (next : Bool) → next ≡ begins_with 91 (drop at text) → next ≡ true
     → label (drop at text) ≡ keep_if is_label (up_to_closing (λ c. c == 93) (λ c. c == 91) false (drop (suc at) text))
 label-at text at next e h = ap label (begins-at 91 text at (sym e ∙ h)).1 ∙ label-inside (drop (suc at) text)

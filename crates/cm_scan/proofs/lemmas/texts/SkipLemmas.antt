@@ -1,4 +1,4 @@
--- What is left behind bytes that pass a test.
+-- What is left after bytes that pass a test.
 use Rattle.std.proofs.Common.{◌≡◌, ℕ, suc, ◌+◌, ◌<◌, ◌≤◌, Bool, true, false, List, [], ◌∷◌, length, drop, get_or, refl, arith, add-one, drop-cons}
 use Rattle.std.proofs.lemmas.List.{drop_all}
 use Rattle.cm_scan.specs.Words.{skip}

@@ -1,4 +1,4 @@
--- Bytes that a test tells apart.
+-- Bytes that a test distinguishes.
 use Rattle.std.proofs.Common.{◌≡◌, ℕ, ◌==◌, Bool, true, false, List, [], ◌∷◌, refl, ap}
 use Rattle.std.specs.List.{list_any}
 use Rattle.std.proofs.lemmas.Bool.{or_from, or_parts, ne_eqb}

@@ -25,7 +25,7 @@ module _ (m : ℕ) where
   unfolding after_run
   after-other b bs other = grind arith
 
-  -- a run goes on
+  -- a run continues
   pub run_step : (bs : List ℕ) (i : ℕ) → i < length bs → get_or bs i 0 ≡ m → run_length m (drop i bs) ≡ suc (run_length m (drop (i + 1) bs))
   run_step bs i within same = rw (drop-cons bs i 0, add-one) (run-same (get_or bs i 0) (drop (suc i) bs) same)
 
@@ -59,11 +59,11 @@ trim_start-cons : (b : ℕ) (bs : List ℕ) → is_space_or_tab b ≡ true → t
 unfolding skip
 trim_start-cons b bs blank = grind arith
 
--- a space or tab at the front goes
+-- a space or tab at the start goes
 pub trim_start-step : (bs : List ℕ) (i : ℕ) → i < length bs → is_space_or_tab (get_or bs i 0) ≡ true → trim_start (drop i bs) ≡ trim_start (drop (i + 1) bs)
 trim_start-step bs i within blank = rw (drop-cons bs i 0, add-one) (trim_start-cons (get_or bs i 0) (drop (suc i) bs) blank)
 
--- another byte at the front stays
+-- another byte at the start stays
 trim_start-kept : (b : ℕ) (bs : List ℕ) → is_space_or_tab b ≡ false → trim_start (b ∷ bs) ≡ b ∷ bs
 unfolding skip
 trim_start-kept b bs other = grind arith

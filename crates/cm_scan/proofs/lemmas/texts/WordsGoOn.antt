@@ -1,4 +1,4 @@
--- Words, runs and gaps with more text behind.
+-- Words, runs and gaps with more text after.
 use Rattle.std.proofs.Common.{◌≡◌, ℕ, suc, ◌≤◌, Bool, true, false, ◌==◌, List, [], ◌∷◌, ◌++◌, length, Option, Some, None, cond, refl, sym, ap, ◌∙◌, arith}
 use Rattle.std.proofs.lemmas.Bool.{false≢true}
 use Rattle.cm_scan.specs.Words.{is_space_or_tab, is_empty, skip, front_of, after_word}
@@ -6,7 +6,7 @@ use Rattle.cm_scan.specs.spans.Tags.{after_line_ending, after_gap}
 use Rattle.cm_scan.specs.inlines.Links.{Reading}
 use Rattle.cm_scan.specs.spans.RawHtml.{behind_word, from_to}
 
--- a reading with more text behind it
+-- a reading with more text after it
 abbrev pub longer : Reading → List ℕ → Reading
 longer r x = record { text = r.text; rest = r.rest ++ x }
 

@@ -62,7 +62,7 @@ info-read rules source = go rules.raw_html
     go false = ap not (no-line-spaces (unescape source))
 
 module _ (rules : Rules) where
-  -- an item in front of what follows it
+  -- an item before what follows it
 
   abbrev Following : Type 0
   Following = ℕ × ItemParts × Parts

@@ -32,7 +32,7 @@ loop-at-preserved-then-is_plain c =
       within = (omega (arith, c.loop-at.invariant.within.0, within), within.1);
     }
   where
-    -- the byte there, and those behind it
+    -- the byte there, and those after it
     passed : (end : ℕ) → is_plain (get_or c.args.text.now c.loop-at.at 0) ≡ true
         → ((k : ℕ) → c.loop-at.at + 1 ≤ k → k < end → is_plain (get_or c.args.text.now k 0) ≡ true)
         → (k : ℕ) → c.loop-at.at ≤ k → k < end → is_plain (get_or c.args.text.now k 0) ≡ true

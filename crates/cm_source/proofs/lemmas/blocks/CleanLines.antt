@@ -1,4 +1,4 @@
--- The lines of a sequence have no byte that can't stand in a line.
+-- The lines of a sequence have no byte that can't be in a line.
 use Rattle.std.proofs.Common.{◌≡◌, ℕ, ◌+◌, ◌&&◌, not, Bool, true, false, List, [], ◌∷◌, ◌++◌, length, map, replicate, refl, ap}
 use Rattle.std.proofs.lemmas.Bool.{and_parts, and_from}
 use Rattle.std.specs.List.{list_all}

@@ -100,7 +100,7 @@ module _ (rules : Rules) where
   abbrev lazily : LineView → Bool → Continuation
   lazily l v = elim v as (λ _. Continuation) [ true ↦ StaysIfOpen (as_lazy l) | false ↦ Leaves ]
 
-  -- a line that begins an item of whatever kind leaves each item
+  -- a line that starts an item of whatever kind leaves each item
   pub marker-leaves : (n c : ℕ) (t : List ℕ) (m : ItemMarker) (inner rest : List LineView) → is_unindented t ≡ true → start_of_content rules t ≡ ItemStart m
       → FirstLeaves rules (continuation_in_item rules (suc n)) inner (at c t ∷ rest)
   unfolding continuation_if_lazy

@@ -48,7 +48,7 @@ data AllWithin (m : ℕ) : List (List ℕ) → Type 0 where
   none_within : AllWithin m []
   line_within : {t : List ℕ} {ts : List (List ℕ)} → longest_run 0 t ≤ m → AllWithin m ts → AllWithin m (t ∷ ts)
 
--- before the first line stand so many backticks
+-- the given number of backticks are before the first line
 data Within (n m : ℕ) : List (List ℕ) → Type 0 where
   nothing_within : Within n m []
   first_within : {t : List ℕ} {ts : List (List ℕ)} → longest_run n t ≤ m → AllWithin m ts → Within n m (t ∷ ts)
@@ -90,7 +90,7 @@ lines-within n (b ∷ bs) = go (b == 10) (b == 96) refl refl (lines-within 0 bs)
         subst (λ c. Within n (longest_run (suc n) bs) (in_front c (ended_lines bs))) (sym tick) (tick-front n (longest_run (suc n) bs) (ended_lines bs) (longest-at-least (suc n) bs) y)
     go false false h k x y = other-front b n (longest_run 0 bs) (ended_lines bs) k x
 
--- a fence of so many backticks
+-- a fence of the given number of backticks
 
 run-fence : (k : ℕ) (info : List ℕ) → list_any (λ b. b == 96) info ≡ false → run_length 96 (replicate k 96 ++ info) ≡ k
 unfolding run_length

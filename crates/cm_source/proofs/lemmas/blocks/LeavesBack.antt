@@ -25,7 +25,7 @@ use Rattle.cm_source.proofs.lemmas.blocks.SequenceFits.{Follows, apart_from, int
 use Rattle.cm_source.proofs.lemmas.sources.LineFronts.{seen_view, further_lines, parted-lines}
 use Rattle.cm_source.proofs.lemmas.shared.AllPass.{all-both, all-times}
 
--- a byte that may stand in a line
+-- a byte that may be in a line
 abbrev pub is_inside_line : ℕ → Bool
 is_inside_line b = not (b == 0) && (not (b == 10) && not (b == 13))
 
@@ -60,7 +60,7 @@ parted-alone (b ∷ bs) h =
 
 -- Headings
 
--- what stands behind the `#` of a heading whose content has this source
+-- what is after the `#` of a heading whose content has this source
 record EndsHashes (behind source : List ℕ) : Type 0 where
   pub none : run_length 35 behind ≡ 0
   pub after : after_run 35 behind ≡ behind
@@ -104,7 +104,7 @@ bare-not-empty : (t : List ℕ) → is_unindented t ≡ true → is_empty t ≡ 
 bare-not-empty [] h = absurd (false≢true h)
 bare-not-empty (b ∷ t) h = refl
 
--- more lines behind a source that isn't empty
+-- more lines after a source that isn't empty
 unfoldable pub with_lines : List ℕ → List (List ℕ) → List ℕ
 with_lines source [] = source
 with_lines source (t ∷ ts) = with_lines (source ++ 10 ∷ t) ts

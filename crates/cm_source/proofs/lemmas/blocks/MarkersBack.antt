@@ -88,7 +88,7 @@ module _ (rules : Rules) where
   unfolding start_of_content atx_heading opening_fence fence_of html_start is_thematic_break run_length after_run
   digit-starts d rest m h e = grind (arith, h, e)
 
-  -- digits and what stands behind them
+  -- digits and what is after them
   module _ (ds : List ℕ) (p : ℕ) (kind : ListKind) (all : list_all is_digit ds ≡ true) (short : is_number ds ≡ true) (other : is_digit p ≡ false) (kind-is : ordered_kind (decimal_value ds) p ≡ Some kind) where
     number-marker : ItemMarker
     number-marker = record { kind = kind; digits = length ds }

@@ -23,7 +23,7 @@ use Rattle.cm_source.proofs.lemmas.blocks.ContinuationsBack.{Apart, at_end, befo
 use Rattle.cm_source.proofs.lemmas.blocks.SequenceFits.{First, Inner, Marked, Interrupts, Follows, apart_from, interrupted, leaf_size, FitAll, ItemsFit}
 use Rattle.cm_source.proofs.lemmas.blocks.SequenceParts.{blank_if, or_blank, last_is_bare, one_if, concrete, concrete_items, closed, same-tree, next-none}
 
--- an empty line behind the blocks
+-- an empty line after the blocks
 tail-end : (front : List (List ℕ)) (a : Bool) (rest : Sequence) → (is_none rest ≡ false → block_lines a true rest ≡ block_lines a false rest ++ [] ∷ [])
     → front ++ gap (gap_before a true rest) ++ block_lines a true rest ≡ (front ++ gap (gap_before a false rest) ++ block_lines a false rest) ++ [] ∷ []
 unfolding block_lines
@@ -109,7 +109,7 @@ module _ (rules : Rules) where
   parts-blank_if true ls ts p (a_line {c = c} {ls = further} have) content = blank_case rules (at c []) further refl ∙ ap blank (content further have)
   parts-blank_if false ls ts p have content = content ls have
 
-  -- one item in front of what follows
+  -- one item before what follows
 
   out-of-bare : (n : ℕ) (rest : List LineView) (d : ℕ) → After rules false rest → FirstLeaves rules (continuation_in_item rules (suc n)) (at d [] ∷ []) rest
   out-of-bare n rest d nothing_follows = tt

@@ -1,4 +1,4 @@
--- What the blocks of a sequence are to those round them, as it is judged.
+-- What the blocks of a sequence are to those around them, as it is judged.
 use Rattle.std.proofs.Common.{◌≡◌, ◌==◌, ◌&&◌, ◌||◌, not, Bool, true, false, List, [], ◌∷◌, refl, sym, ◌∙◌, Option, Some}
 use Rattle.std.proofs.lemmas.Bool.{false≢true, and_parts, and_from}
 use Rattle.cm_tree.specs.declared.tree.ListKind.{ListKind}
@@ -20,7 +20,7 @@ faces_of (leaf_then x rest) = leaf_face x.part ∷ faces_of rest
 faces_of (quote_then inside rest) = QuoteFace ∷ faces_of rest
 faces_of (list_then kind tight items rest) = ListFace kind (not (is_none (first_inside items))) ∷ faces_of rest
 
--- a list comes first, and one of its kind stands right before
+-- a list comes first, and one of its kind is right before
 abbrev pub clashes : (before : Option BlockFace) → List BlockFace → Bool
 clashes before (ListFace kind filled ∷ others) = is_behind_same kind before
 clashes before _ = false
@@ -37,7 +37,7 @@ some-face (leaf_then x rest) face others h = refl
 some-face (quote_then inside rest) face others h = refl
 some-face (list_then kind tight items rest) face others h = refl
 
--- a second block, and a list in front
+-- a second block, and a list before
 
 pub has-two : (o : Sequence) → has_two (faces_of o) ≡ has_two_blocks o
 has-two no_blocks = refl

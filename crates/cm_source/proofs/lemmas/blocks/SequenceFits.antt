@@ -23,13 +23,13 @@ pub record First (ts : List (List ℕ)) : Type 0 where
   pub lines : ts ≡ line ∷ further
   pub bare : is_unindented line ≡ true
 
--- one that can stand behind a bullet
+-- one that can be after a bullet
 pub record Inner (ts : List (List ℕ)) : Type 0 where
   pub first : First ts
   pub no_dashes : is_only 45 first.line ≡ false
   pub no_stars : is_only 42 first.line ≡ false
 
--- one that begins an item
+-- one that starts an item
 pub record Marked (rules : Rules) (ts : List (List ℕ)) : Type 0 where
   pub first : First ts
   pub read : ItemMarker
@@ -54,7 +54,7 @@ leaf_size (code info text) = suc (1 + length (ended_lines text))
 leaf_size (html text) = length (ended_lines text)
 leaf_size _ = 1
 
--- its lines are read as the leaf, and they have no byte that can't stand in a line
+-- its lines are read as the leaf, and they have no byte that can't be in a line
 pub record LeafFits (rules : Rules) (x : SpelledLeaf) : Type 0 where
   pub inner : Inner x.lines
   pub back : (ls rest : List LineView) → Have ls x.lines → Follows rules x.part rest → parts_of rules (ls ++ rest) ≡ leaf x.part (leaf_size x.part) (parts_of rules rest)

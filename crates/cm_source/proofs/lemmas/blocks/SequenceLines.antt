@@ -25,7 +25,7 @@ have-split (t ∷ ts) us ls (a_line {c = c} {ls = further} have) =
 pub have-first : {ls : List LineView} {t : List ℕ} {ts : List (List ℕ)} → Have ls (t ∷ ts) → (c : ℕ) × (further : List LineView) × (ls ≡ at c t ∷ further) × Have further ts
 have-first (a_line {c = c} {ls = ls} have) = (c, ls, refl, have)
 
--- so many spaces are as many columns at least
+-- the given number of spaces are at least as many columns
 pub indent-spaces : (n c : ℕ) (t : List ℕ) → indent_of (at c (replicate n 32 ++ t)) ≡ n + indent_of (at (c + n) t)
 indent-spaces n c t = spaces_are_columns n (at c t)
 
@@ -34,7 +34,7 @@ pub strip-indented : (n c : ℕ) (t : List ℕ) → (d : ℕ) × (strip_columns 
 strip-indented n c [] = (c, refl)
 strip-indented n c (b ∷ t) = (c + n, spaces_are_stripped n (at c (b ∷ t)))
 
--- behind the marker of a quote
+-- after the marker of a quote
 pub behind-quote : (c : ℕ) (t : List ℕ) → (d : ℕ) × (behind_quote_marker (at c (quoted t)) ≡ at d t)
 behind-quote c [] = (c + 1, quote_alone (at c (quoted [])) refl)
 behind-quote c (b ∷ t) = (c + 2, quote_and_space (at c (quoted (b ∷ t))) (b ∷ t) refl)

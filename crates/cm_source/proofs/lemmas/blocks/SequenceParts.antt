@@ -1,4 +1,4 @@
--- What the lines of a sequence are read as: an empty line behind a list is one of its deepest last item, save behind a bare marker.
+-- What the lines of a sequence are read as: an empty line after a list is one of its deepest last item, except after a bare marker.
 use Rattle.std.proofs.Common.{◌≡◌, ℕ, Bool, true, false, [], ◌∷◌, refl, sym, ◌∙◌, ap, None}
 use Rattle.std.proofs.lemmas.Bool.{false≢true, and_parts}
 use Rattle.std.specs.Prelude.{not, nat_lt, ◌&&◌, ◌||◌}
@@ -45,7 +45,7 @@ or-blank-is (leaf_then x rest) p h = refl
 or-blank-is (quote_then inside rest) p h = refl
 or-blank-is (list_then k t is rest) p h = refl
 
--- With an empty line behind them the blocks leave no paragraph open.
+-- With an empty line after them the blocks leave no paragraph open.
 
 behind-closed : (a b v : Bool) (rest : Sequence) → ((b : Bool) → is_none rest ≡ false → leaves_open_after b (concrete a true rest) ≡ false)
     → (is_none rest ≡ true → v ≡ false → b ≡ false) → leaves_open_after b (blank_if v (concrete a true rest)) ≡ false
@@ -85,7 +85,7 @@ mutual
   items-closed tight (last_one inside) h = ap (leaves_open_after false) (or-blank-is inside (concrete (not tight) true inside) h) ∙ closed (not tight) false inside h
   items-closed tight (one_and inside items) h = items-closed tight items h
 
--- The last line is blank just where an empty line stands behind.
+-- The last line is blank exactly if an empty line follows.
 
 behind-ends : (a e b v : Bool) (rest : Sequence) → ((b : Bool) → is_none rest ≡ false → ends_blank_after b (concrete a e rest) ≡ e)
     → (is_none rest ≡ true → v ≡ true → e ≡ true) → (is_none rest ≡ true → v ≡ false → b ≡ e) → ends_blank_after b (blank_if v (concrete a e rest)) ≡ e

@@ -1,4 +1,4 @@
--- The blocks of a tree that can be spelled stand as a sequence which fits, with the same lines.
+-- The blocks of a tree that can be spelled are a sequence which fits, with the same lines.
 use Rattle.std.proofs.Common.{◌≡◌, ℕ, ◌&&◌, ◌||◌, not, Bool, true, false, List, [], ◌∷◌, ◌++◌, map, codes, refl, sym, ◌∙◌, ap, subst, Option, Some, None, append_assoc, append-nil}
 use Rattle.std.proofs.lemmas.Bool.{false≢true, and_parts, or_parts, not-false}
 use Rattle.std.specs.Prelude.{nat_le, flat_map}
@@ -49,7 +49,7 @@ gap-some a e (quote_then inside rest) h = refl
 gap-some a e (list_then kind tight items rest) h = refl
 
 module _ (rules : Rules) where
-  -- One block: the function that puts it in front of a sequence, how it is judged, its tree with sources, and its lines.
+  -- One block: the function that puts it before a sequence, how it is judged, its tree with sources, and its lines.
 
   record Stands (f : Sequence → Sequence) (s : Block) (l : List (List ℕ)) (rest : Sequence) : Type 0 where
     pub fits : FitAll rules (f rest)

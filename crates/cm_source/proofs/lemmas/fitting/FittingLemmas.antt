@@ -64,7 +64,7 @@ module _ (rules : Rules) where
     no_star : emphasis ≡ true → is_emphasis (Some face) ≡ true → begins_with 42 (join begins last (map spelled content) ++ rest) ≡ false
     no_tilde : emphasis ≡ true → is_emphasis (Some face) ≡ true → begins_with 126 (join begins last (map spelled content) ++ rest) ≡ false
 
-  -- what a content needs of what stands round it
+  -- what a content needs of what is around it
   record Outside (emphasis last : Bool) (face : Option Face) (before rest : List ℕ) : Type 0 where
     utf8 : IsUtf8 (reverse before)
     behind : Shows rules face (last_of face) (neighbour rules (last_character before))
@@ -104,7 +104,7 @@ module _ (rules : Rules) where
 
   -- ---- one inline after another
 
-  -- what an inline needs of what stands round it
+  -- what an inline needs of what is around it
   record Between (face : Face) (emphasis last : Bool) (ahead_face behind_face : Option Face) (before rest : List ℕ) : Type 0 where
     utf8 : IsUtf8 (reverse before)
     behind : Shows rules behind_face (last_of behind_face) (neighbour rules (last_character before))
@@ -187,7 +187,7 @@ module _ (rules : Rules) where
         no_tilde = ap (begins_with 126) same ∙ facts.no_tilde plain false ends (more ++ rest);
       }
 
-  -- what is seen of a content from behind it
+  -- what is seen of a content from after it
   record Ended (begins : Bool) (content : List Inline) (before : List ℕ) : Type 0 where
     shows : Shows rules (last_face (map (judged rules) content)) (last_of (last_face (map (judged rules) content))) (neighbour rules (last_character (reverse (spelled_inlines begins false content) ++ before)))
     no_break : is_break (last_face (map (judged rules) content)) ≡ false

@@ -1,4 +1,4 @@
--- What the inlines round an accepted inline see of it: the bytes and the characters with which its spelling begins and ends.
+-- What the inlines around an accepted inline see of it: the bytes and the characters with which its spelling starts and ends.
 use Rattle.std.proofs.Common.{◌≡◌, ℕ, ◌<◌, ◌+◌, ◌==◌, Bool, true, false, ◌&&◌, ◌||◌, List, [], ◌∷◌, ◌++◌, length, reverse, IsUtf8, Option, Some, None, get_or, refl, sym, ap, subst, ◌∙◌, arith, append_assoc, length-append}
 use Rattle.std.proofs.lemmas.Bool.{lt-ltb}
 use Rattle.std.proofs.lemmas.List.{reverse-append, reverse-reverse}
@@ -21,7 +21,7 @@ use Rattle.cm_scan.proofs.lemmas.texts.ToldApart.{differs'}
 
 -- ---- the first byte of a text
 
--- a byte with which no text begins
+-- a byte with which no text starts
 pub record IsHidden (m : ℕ) : Type 0 where
   pub punctuation : is_ascii_punct m ≡ true
   pub no_ampersand : (38 == m) ≡ false
@@ -55,7 +55,7 @@ second-fails false w h k = absurd (cc k)
 
 -- ---- UTF-8 before a place
 
--- the parts before and behind an ASCII byte
+-- the parts before and after an ASCII byte
 pub split-ascii : (front : List ℕ) (x : ℕ) (rest : List ℕ) → x < 128 → IsUtf8 (front ++ x ∷ rest) → IsUtf8 front × IsUtf8 rest
 split-ascii front x rest h u =
     let n = length front in
@@ -73,7 +73,7 @@ further-utf8 text before u v =
     subst IsUtf8 (sym (reverse-append (reverse text) before ∙ ap (λ l. reverse before ++ l) (reverse-reverse text))) (IsUtf8-append (reverse before) text v u)
 
 module _ (rules : Rules) where
-  -- What a run sees of an inline beside it, or of none: something other than whitespace and punctuation just if the edge there is
+  -- What a run sees of an inline next to it, or of none: something other than whitespace and punctuation just if the edge there is
   -- plain, and whitespace if there is some, a break, or no inline.
   pub record Shows (face : Option Face) (edge : Option ℕ) (seen : Neighbour) : Type 0 where
     pub plain : is_other seen ≡ is_plain rules edge
@@ -93,7 +93,7 @@ module _ (rules : Rules) where
   pub beside-shows : (face : Option Face) (edge : Option ℕ) (seen : Neighbour) → Beside rules edge seen → Shows face edge seen
   beside-shows face edge seen b = record { plain = b.plain; blank = λ e. ap (λ v. v || is_break face || is_none face) (b.blank e) }
 
--- what begins with one byte and ends with another
+-- what starts with one byte and ends with another
 pub record Ends (spelling : (first last : Bool) → List ℕ) (x y : ℕ) : Type 0 where
   pub front : (first last : Bool) → (ys : List ℕ) × (spelling first last ≡ x ∷ ys)
   pub back : (first last : Bool) → (zs : List ℕ) × (spelling first last ≡ zs ++ y ∷ [])
@@ -115,7 +115,7 @@ ends-begin spelling x y m e h first last rest = let f = e.front first last in ap
 ends-line : (spelling : (first last : Bool) → List ℕ) (x y : ℕ) → Ends spelling x y → (x == 32) ≡ false → (x == 10) ≡ false → (first last : Bool) (rest : List ℕ) → is_before_line_end (spelling first last ++ rest) ≡ false
 ends-line spelling x y e h k first last rest = let f = e.front first last in ap (λ l. is_before_line_end (l ++ rest)) f.1 ∙ no-line-here x (f.0 ++ rest) h k
 
--- No text stands behind a text, no code span behind a code span, no emphasis behind emphasis; and no break comes first or last.
+-- No text is after a text, no code span after a code span, no emphasis after emphasis; and no break comes first or last.
 pub record StandsApart (face : Face) (before after : Option Face) : Type 0 where
   pub text : (is_text before && is_text (Some face)) ≡ false
   pub code : (is_code before && is_code (Some face)) ≡ false
@@ -124,7 +124,7 @@ pub record StandsApart (face : Face) (before after : Option Face) : Type 0 where
   pub last : is_none after ≡ true → is_break (Some face) ≡ false
 
 module _ (rules : Rules) where
-  -- What is known of an accepted inline between two faces, whatever stands before it and behind it.
+  -- What is known of an accepted inline between two faces, whatever is before it and after it.
   pub record Facts (face : Face) (spelling : (first last : Bool) → List ℕ) (ends_line : Bool) (before after : Option Face) : Type 0 where
     pub begins : (first last : Bool) (rest : List ℕ) → Shows rules (Some face) (first_of (Some face)) (neighbour rules (first_character (spelling first last ++ rest)))
     pub ends : (first last : Bool) (behind : List ℕ) → IsUtf8 (reverse behind)

@@ -1,4 +1,4 @@
--- What a delimiter run sees of a spelled text beside it: the first and the last character.
+-- What a delimiter run sees of a spelled text next to it: the first and the last character.
 use Rattle.std.proofs.Common.{◌≡◌, ℕ, ◌+◌, ◌/◌, ◌%◌, ◌<◌, ◌≤◌, ◌==◌, ◌&&◌, ◌||◌, nat_lt, not, Bool, true, false, cond, List, [], ◌∷◌, ◌++◌, length, reverse, Option, Some, slice_get, IsUtf8, chars, codes, refl, sym, ap, subst, ◌∙◌, arith, append-nil}
 use Rattle.std.specs.Prelude.{if◌then◌else◌, ⊤}
 use Rattle.std.specs.Char.{is_ascii, is_ascii_control}
@@ -255,7 +255,7 @@ last-of-both xs ys v e = ap (λ l. slice_get l 0) (reverse-append xs ys) ∙ go 
     go [] e = absurd (cc e)
     go (z ∷ zs) e = e
 
--- the last character of a text that is UTF-8 behind another one
+-- the last character of a text that is UTF-8 after another one
 last-behind : (text before : List ℕ) (v : ℕ) → IsUtf8 (reverse before) → slice_get (reverse (chars text)) 0 ≡ Some v → last_character (reverse text ++ before) ≡ Some v
 last-behind text before v u e =
     let whole : chars (reverse (reverse text ++ before)) ≡ chars (reverse before) ++ chars text =
@@ -290,7 +290,7 @@ module _ (rules : Rules) where
   characters-of first last text cs s e =
       ap (λ l. chars (spelled_text first last l)) (sym e) ∙ ap chars (spelled-encodes first last cs) ∙ chars-encodes (spelled_characters first last cs) (spelled-scalars first last cs s)
 
-  -- what is seen of a text from before it, and from behind it
+  -- what is seen of a text from before it, and from after it
   pub text-begins : (first last : Bool) (text rest : List ℕ) → IsUtf8 text → is_empty text ≡ false
       → Beside rules (first_character text) (neighbour rules (first_character (spelled_text first last text ++ rest)))
   text-begins first last text rest u some = go u.0 u.1.0 u.1.1

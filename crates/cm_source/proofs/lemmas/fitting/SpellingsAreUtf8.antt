@@ -77,7 +77,7 @@ linked-utf8 mark dest title content u hold all first last =
     let both = and_parts (is_utf8 dest) (is_utf8 title) whole.0 in
     between-utf8 mark (spelled_target dest title) content u (target-utf8 dest title (IsUtf8-from_is_utf8 dest both.0) (IsUtf8-from_is_utf8 title both.1)) hold whole.1 first last
 
--- what is told of one as it is spelled
+-- what holds of one as it is spelled
 pub utf8-as : {s t : Spelled} → s ≡ t → (first last : Bool) → IsUtf8 (s.spelling first last) → IsUtf8 (t.spelling first last)
 utf8-as e first last u = subst (λ (spelled : Spelled). IsUtf8 (spelled.spelling first last)) e u
 

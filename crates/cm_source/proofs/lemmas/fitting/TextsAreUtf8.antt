@@ -35,7 +35,7 @@ spelling-first b front (ByNumber low) h = (38, drop 1 (numbered b), refl, omega 
 spelling-first b front (Escaped punct tick) h = (92, b ∷ [], refl, omega arith)
 spelling-first b front (AsItIs printed plain) h = (b, [], refl, h)
 
--- high bytes at the front of a spelled text stand in the text
+-- high bytes at the start of a spelled text are in the text
 high-front : (hs more : List ℕ) (last : Bool) (text : List ℕ) → AllHigh hs → hs ++ more ≡ spelled_text false last text → (behind : List ℕ) × (text ≡ hs ++ behind) × (more ≡ spelled_text false last behind)
 unfolding spelled_text
 high-front [] more last text h e = (text, refl, e)
@@ -145,7 +145,7 @@ target-behind front dest title u =
 
 -- ---- inlines
 
--- an inline other than a text begins and ends with bytes of ASCII
+-- an inline other than a text starts and ends with bytes of ASCII
 record Seam (spelling : (first last : Bool) → List ℕ) : Type 0 where
   x : ℕ
   y : ℕ
@@ -216,7 +216,7 @@ module _ (rules : Rules) where
   edged : (i : Inline) → IsEdged i
   edged = by-cases IsEdged edged-cases
 
-  -- an inline and what follows it are UTF-8, since a byte of ASCII stands between them
+  -- an inline and what follows it are UTF-8, since a byte of ASCII is between them
   apart-utf8 : (place : Place) (face : Option Face) (first last : Bool) (i : Inline) (is : List Inline) → refusal_of_all place face (map (judged rules) (i ∷ is)) ≡ None
       → let s = (spelled i).spelling first (is_line_end last (map spelled is)) in let more = join (spelled i).begins_line last (map spelled is) in IsUtf8 (s ++ more) → IsUtf8 s × IsUtf8 more
   apart-utf8 place face first last i is e u =

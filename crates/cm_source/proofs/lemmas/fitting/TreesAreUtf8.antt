@@ -73,7 +73,7 @@ joined-utf8 : (apart : Bool) (all : List (List (List ℕ))) → AllUtf8 (joined 
 joined-utf8 apart [] u = tt
 joined-utf8 apart (first ∷ others) u = let parts = both-parts first (flat_map (λ lines. gap apart ++ lines) others) u in (parts.0, joined-behind apart others parts.1)
 
--- a line behind a mark and a space
+-- a line after a mark and a space
 spaced-utf8 : (mark line : List ℕ) → IsUtf8 (mark ++ spaced line) → IsUtf8 line
 spaced-utf8 mark [] u = IsUtf8-nil
 spaced-utf8 mark (b ∷ bs) u = (split-ascii mark 32 (b ∷ bs) (omega arith) u).1
@@ -124,7 +124,7 @@ module _ (rules : Rules) where
       (all-texts item hold.0 None parts.0 (joined-utf8 (not tight) lines (item-utf8 (marker kind) (joined (not tight) lines) u.0)))
       (items-texts kind tight items hold.1 parts.1 u.1)
 
-  -- behind the marks of a heading
+  -- after the marks of a heading
   behind-marks : (level : ℕ) (content : List Inline) → heading_refusal rules content ≡ None → IsUtf8 (replicate level 35 ++ after_space content) → all_of (map has_utf8 content) ≡ true
   behind-marks level [] e u = refl
   behind-marks level (i ∷ is) e u =

@@ -24,7 +24,7 @@ use Rattle.cm_source.specs.steps.ContentBack.{is_before_line_end}
 use Rattle.cm_source.proofs.lemmas.shared.ByteSpellings.{SpellsByte, ByNumber, Escaped, AsItIs, is_numbered, spells_byte, number_read}
 use Rattle.cm_source.proofs.lemmas.inlines.UnescapeBack.{ascii_alone, escape_here}
 
--- Where a front stands behind these bytes and before the rest, reading goes on behind it with these items put to those so far.
+-- Where a front is after these bytes and before the rest, reading continues after it with these items put to those so far.
 abbrev pub ReadsAs : Rules → Defined → (before front rest : List ℕ) → List Item → Type 0
 ReadsAs rules defined before front rest made =
     (items : List Item) → items_after rules defined zero before (front ++ rest) items ≡ items_after rules defined zero (reverse front ++ before) rest (reverse made ++ items)
@@ -38,7 +38,7 @@ atom_left atom rest = record { atom = atom; rest = rest }
 abbrev pub reading : (text rest : List ℕ) → Reading
 reading text rest = record { text = text; rest = rest }
 
--- no run begins here
+-- no run starts here
 pub run_none : (c : ℕ) (text : List ℕ) → begins_with c text ≡ false → (run_length c text ≡ 0) × (after_run c text ≡ text)
 unfolding run_length after_run
 run_none c [] e = (refl, refl)
@@ -108,7 +108,7 @@ edge_no_line false b rest h = go (b == 32) refl
     go true e = subst (λ c. is_before_line_end (spelled_byte c ++ rest) ≡ false) (sym (eqb-true b 32 e)) (h refl)
     go false e = spelling_no_line b (spelled_byte b) rest (spells_byte b) e
 
--- none ends behind a byte of a text that is no edge
+-- none ends after a byte of a text that is no edge
 text_no_line : (first last : Bool) (bs rest : List ℕ) → (last ≡ false → is_before_line_end rest ≡ false) → (first || last && is_empty bs) ≡ false
     → is_before_line_end (spelled_text false last bs ++ rest) ≡ false
 unfolding spelled_text
@@ -121,7 +121,7 @@ text_no_line first last (b ∷ bs) rest h e =
 -- ---- reading on
 
 module _ (rules : Rules) (defined : Defined) where
-  -- where one step takes a front, reading goes on behind it
+  -- where one step takes a front, reading continues after it
   pub step_read : (before : List ℕ) (b : ℕ) (taken rest : List ℕ) (items more : List Item) → item_step rules defined before b (taken ++ rest) items ≡ left_with more rest
       → items_after rules defined zero before (b ∷ taken ++ rest) items ≡ items_after rules defined zero (reverse (b ∷ taken) ++ before) rest more
   step_read before b taken rest items more e =
@@ -137,7 +137,7 @@ module _ (rules : Rules) (defined : Defined) where
   pub reads_nothing : (before rest : List ℕ) → ReadsAs rules defined before [] rest []
   reads_nothing before rest items = refl
 
-  -- one front, and another behind it
+  -- one front, and another after it
   pub reads_then : (before front further rest : List ℕ) (made more : List Item) → ReadsAs rules defined before front (further ++ rest) made → ReadsAs rules defined (reverse front ++ before) further rest more
       → ReadsAs rules defined before (front ++ further) rest (made ++ more)
   reads_then before front further rest made more h k items =

@@ -31,7 +31,7 @@ marks_alone n rest e = omega (arith, run_of_marks n rest, (run_none 96 rest e).0
 
 -- ---- runs inside a text
 
--- a backtick stands right before what follows the text, where the mark says whether one stands before the text
+-- a backtick is right before what follows the text, where the mark says whether one is before the text
 ends_in_run : (in_run : Bool) → List ℕ → Bool
 ends_in_run in_run [] = in_run
 ends_in_run in_run (b ∷ bs) = ends_in_run (b == 96) bs

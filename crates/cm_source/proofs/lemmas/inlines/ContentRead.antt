@@ -107,7 +107,7 @@ opener_found (Delimiters run ∷ xs) items inside image source h =
     opener_found xs items (Delimiters run ∷ inside) image source h.1 ∙ ap (λ t. Some (found_at items image source t)) (sym (reverse-first (Delimiters run) xs inside))
 opener_found (Opener image' source' ∷ xs) items inside image source h = absurd h.0
 
--- what a `]` makes, behind which this end stands
+-- what a `]` makes, followed by this end
 bracket_closes : (rules : Rules) (defined : Defined) (text rest dest title : List ℕ) (items inside : List Item) (image : Bool) (source : List ℕ) → NoBrackets inside → (not image && holds_link inside) ≡ false
     → ((between : List ℕ) → end_at rules defined between text ≡ Some (link_end (dest, title) rest))
     → close_bracket rules defined (reverse inside ++ Opener image source ∷ items) text ≡ left_with (made image dest title inside ∷ items) rest
@@ -199,7 +199,7 @@ closing_is rules mark before rest e =
     ap (λ (t : Bool). record { character = character_of mark; whole = count_of mark; left = count_of mark; opens = run.opens; closes = t }) e
 
 module _ (rules : Rules) (defined : Defined) where
-  -- with these items so far, and those behind the front
+  -- with these items so far, and those after the front
   Goes : (before front rest : List ℕ) → List Item → List Item → Type 0
   Goes before front rest items more = items_after rules defined zero before (front ++ rest) items ≡ items_after rules defined zero (reverse front ++ before) rest more
 
@@ -215,7 +215,7 @@ module _ (rules : Rules) (defined : Defined) where
   goes_open before rest items false = step_read rules defined before 91 [] rest items (Opener false rest ∷ items) (atom_step rules defined before 91 rest items (atom_left (OpenBracket false) rest) refl)
   goes_open before rest items true = step_read rules defined before 33 (91 ∷ []) rest items (Opener true rest ∷ items) (atom_step rules defined before 33 (91 ∷ rest) items (atom_left (OpenBracket true) rest) refl)
 
-  -- what stands between brackets, with a target behind it
+  -- what is between brackets, with a target after it
   reads_brackets : (before content dest title rest : List ℕ) (inside : List Item) (image : Bool) → NoBrackets inside → (not image && holds_link inside) ≡ false → has_nul dest ≡ false → has_nul title ≡ false → is_followed rules dest ≡ true
       → ReadsAs rules defined (reverse (bracket_bytes image) ++ before) content (spelled_target dest title ++ rest) inside
       → ReadsAs rules defined before (bracket_bytes image ++ (content ++ spelled_target dest title)) rest (made image dest title inside ∷ [])
@@ -242,7 +242,7 @@ module _ (rules : Rules) (defined : Defined) where
       step_read rules defined before (character_of mark) (further mark) rest items (Delimiters run ∷ items)
       (atom_step rules defined before (character_of mark) (further mark ++ rest) items (atom_left (Delimiter run) rest) (atom_run rules mark before rest known ends ∙ ap (λ r. atom_left (Delimiter r) rest) is)))
 
-  -- An inline is read as items, in front of what follows where no text comes next to a text.
+  -- An inline is read as items, before what follows where no text comes next to a text.
   record IsRead (runs : Bool) (before front rest : List ℕ) (inline : Inline) : Type 0 where
     items : List Item
     shaped : (text_first : Bool) (inlines : List Inline) (others : List Item) → (is_text (Some (judged rules inline).face) && text_first) ≡ false → Shape runs text_first inlines others

@@ -24,7 +24,7 @@ unfoldable pub AllDone : List Item → Type 0
 AllDone [] = ⊤
 AllDone (item ∷ items) = IsDone item × AllDone items
 
--- the runs before and behind a content, which both have the length of a mark
+-- the runs before and after a content, which both have the length of a mark
 abbrev pub opening : Mark → (closes : Bool) → Run
 opening mark closes = record { character = character_of mark; whole = count_of mark; left = count_of mark; opens = true; closes = closes }
 
@@ -34,7 +34,7 @@ closing mark opens = record { character = character_of mark; whole = count_of ma
 abbrev pub emphasis : Mark → List Inline → Inline
 emphasis mark content = emphasised (character_of mark) (count_of mark) content
 
--- The items of inlines, in which emphasis may be runs round items without runs. The mark says whether a text comes first.
+-- The items of inlines, in which emphasis may be runs around items without runs. The mark says whether a text comes first.
 pub data Shape : (runs text_first : Bool) → List Inline → List Item → Type 0 where
   Nothing : {runs : Bool} → Shape runs false [] []
   Bytes : {runs : Bool} {text : List ℕ} {inlines : List Inline} {items : List Item} → is_empty text ≡ false → Shape runs false inlines items
@@ -121,7 +121,7 @@ opener_past closer (Opener image source ∷ xs) before inside h = absurd h.0
 
 -- ---- pairing
 
--- the runs round a content match
+-- the runs around a content match
 runs_match : (mark : Mark) (opens closes : Bool) → (true && delimiters_match (closing mark opens) (opening mark closes)) ≡ true
 unfolding delimiters_match
 runs_match Star true true = refl
@@ -142,7 +142,7 @@ paired_is Star opens closes done inside after = ap (λ t. t ++ (Finished (emphas
 paired_is TwoStars opens closes done inside after = ap (λ t. t ++ (Finished (emphasis TwoStars (settled inside)) ∷ []) ++ after) (append-nil done) ∙ append_assoc done (Finished (emphasis TwoStars (settled inside)) ∷ []) after
 paired_is TwoTildes opens closes done inside after = ap (λ t. t ++ (Finished (emphasis TwoTildes (settled inside)) ∷ []) ++ after) (append-nil done) ∙ append_assoc done (Finished (emphasis TwoTildes (settled inside)) ∷ []) after
 
--- the leftmost pair is that of the runs round the first content
+-- the leftmost pair is that of the runs around the first content
 pairs_first : (done inside after : List Item) (mark : Mark) (opens closes : Bool) → AllDone done → AllDone inside
     → pair_once (done ++ Delimiters (opening mark closes) ∷ inside ++ Delimiters (closing mark opens) ∷ after) ≡ Some (done ++ (Finished (emphasis mark (settled inside)) ∷ after))
 pairs_first done inside after mark opens closes h k =
@@ -169,7 +169,7 @@ pushed : (done : List Item) (item : Item) → AllDone done → IsDone item → A
 unfolding AllDone
 pushed done item h k = done_append done (item ∷ []) h (k, tt)
 
--- behind one item more
+-- after one item more
 behind_item : {text_first : Bool} {inlines : List Inline} {items : List Item} (item : Item) → IsDone item → (rest : Flat text_first inlines items)
     → (done : List Item) → AllDone done → pair_all (done ++ item ∷ items) ≡ done ++ item ∷ rest.flat
 behind_item {items = items} item is rest done h =

@@ -1,4 +1,4 @@
--- Raw HTML that is one tag is read as it is, whatever stands behind it.
+-- Raw HTML that is one tag is read as it is, whatever is after it.
 use Rattle.std.proofs.Common.{◌≡◌, ℕ, ◌-◌, true, List, [], ◌∷◌, ◌++◌, get_or, length, take_all, Option, Some, None, sym, ap, subst, arith, ◌∙◌}
 use Rattle.cm_text.specs.Rules.{Rules}
 use Rattle.cm_tree.specs.declared.tree.Inline.TheVariants.{Html}

@@ -1,4 +1,4 @@
--- A spelled destination and title are read as they are, behind the `]` of a link or an image.
+-- A spelled destination and title are read as they are, after the `]` of a link or an image.
 use Rattle.std.proofs.Common.{◌≡◌, ℕ, Bool, true, false, not, ◌&&◌, ◌||◌, ◌==◌, List, [], ◌∷◌, ◌++◌, drop, Option, Some, None, refl, sym, ap, ◌∙◌, arith, append_assoc, append-nil}
 use Rattle.std.specs.Fmt.{digits}
 use Rattle.std.specs.List.{list_all}
@@ -21,7 +21,7 @@ use Rattle.cm_source.proofs.lemmas.spelling.SpelledTexts.{escapes-none}
 use Rattle.cm_source.proofs.lemmas.spelling.NoLineFeeds.{has_feed}
 use Rattle.cm_source.proofs.lemmas.shared.BytesOfSpellings.{bytes-without}
 
--- bytes in front of what was read
+-- bytes before what was read
 onto : List ℕ → Option Reading → Option Reading
 onto [] o = o
 onto (b ∷ bs) o = behind b (onto bs o)
@@ -38,7 +38,7 @@ onto_read (x ∷ xs) text rest = ap (behind x) (onto_read xs text rest)
 
 -- ---- up to the byte that closes
 
--- a byte that ends a destination or a title, or can't stand in it
+-- a byte that ends a destination or a title, or can't be in it
 abbrev is_stop : ℕ → Bool
 is_stop b = b == 10 || b == 34 || b == 60 || b == 62
 
@@ -115,7 +115,7 @@ destination_read : (dest rest : List ℕ) → destination (60 ∷ (spelled_bytes
 unfolding destination
 destination_read dest rest = closed_read (λ c. c == 62) (λ c. c == 60 || c == 10) no_stop 62 dest rest refl
 
--- no line feed stands in spelled bytes
+-- no line feed is in spelled bytes
 no_blank_line : (text : List ℕ) → has_feed text ≡ false → has_blank_line text ≡ false
 unfolding has_blank_line
 no_blank_line [] e = refl

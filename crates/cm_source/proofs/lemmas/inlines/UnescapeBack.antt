@@ -46,7 +46,7 @@ all_unescaped text front (OneByte {b = b} {bs = bs} {first = first} {others = ot
     let parts = or_parts (b == 0) (has_nul bs) some in
     byte_unescaped b first others parts.0 one ∙ ap (λ t. b ∷ t) (all_unescaped bs others more parts.1)
 
--- a text of an inline, or an info string, which stands on a line by itself
+-- a text of an inline, or an info string, which is on a line by itself
 pub unescape_text : TextUnescapes
 unescape_text first last text some = all_unescaped text (spelled_text first last text) (spells_text first last text) some
 

@@ -268,7 +268,7 @@ ended-are-lines (b ∷ bs) clear = go (b == 10) refl (b == 13) refl clear (λ h.
     go true e false k h again = again h
     go false e false k h again = front-line b (ended_lines bs) (ap (λ v. v || b == 13) e ∙ k) (again h)
 
--- and the other way round
+-- and the other way around
 
 ends-behind : (front : List ℕ) (b : ℕ) (bs : List ℕ) → ends_with 10 (front ++ b ∷ bs) ≡ ends_with 10 (b ∷ bs)
 unfolding ends_with

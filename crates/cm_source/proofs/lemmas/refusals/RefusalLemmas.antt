@@ -56,7 +56,7 @@ pub told-error : (r : Result (Unit {0}) Why) (why : Why) → IsErrAnd r (λ e. e
 told-error (Ok x) why is = absurd is
 told-error (Err e) why is = ap Err is
 
--- reasons in a list, each as it is told
+-- reasons in a list, each as it is reported
 
 pub this-reason : (told holds : Bool) (why : Why) (others : List (Bool × Why)) (error : Why) → Err error ≡ ok_unless (refused ((told, why) ∷ [])) → told ≡ holds
     → Err error ≡ ok_unless (refused ((holds, why) ∷ others))
@@ -106,7 +106,7 @@ edges rules before content after one other some e f =
     let d = is_plain rules (first_of after) && not (is_plain rules last) in
     ap (λ v. v || other) e ∙ ap (λ v. (a || b) || v) f ∙ or-assoc (a || b) c d ∙ ap (λ v. (((v || a) || b) || c) || d) (sym some)
 
--- what is read of a text behind `<`
+-- what is read of a text after `<`
 
 pub some-read : {A B : Type 0} (f : A → B) (r : Option A) (o : Option B) → option_map f r ≡ o → is_some r ≡ true → (y : B) × (o ≡ Some y)
 some-read f None o e some = absurd (cc some)

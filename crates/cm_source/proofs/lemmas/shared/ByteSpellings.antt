@@ -1,4 +1,4 @@
--- How a byte of a text is spelled: by its number, behind a backslash, or as it is.
+-- How a byte of a text is spelled: by its number, after a backslash, or as it is.
 use Rattle.std.proofs.Common.{◌≡◌, ℕ, ◌+◌, ◌<◌, Bool, true, false, not, ◌&&◌, ◌||◌, ◌==◌, List, [], ◌∷◌, ◌++◌, length, take, drop, Some, None, refl, sym, ap, subst, ◌∙◌, arith, append_assoc, length-append}
 use Rattle.std.specs.Prelude.{if◌then◌else◌}
 use Rattle.std.specs.Char.{is_ascii_control, is_ascii_digit}

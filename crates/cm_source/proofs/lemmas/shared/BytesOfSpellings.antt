@@ -65,7 +65,7 @@ target-tame dest title =
     (all-both is_tame (codes "](<" ++ spelled_bytes dest ++ codes ">") (spelled_title title)
     (all-both is_tame (codes "](<" ++ spelled_bytes dest) (codes ">") (bytes-tame dest) refl) (title-tame title)) refl
 
--- so none of the others stands in them
+-- so none of the others is in them
 pub none-tame : (c : ℕ) → is_tame c ≡ false → (text : List ℕ) → list_all is_tame text ≡ true → list_any (λ b. b == c) text ≡ false
 none-tame c other [] e = refl
 none-tame c other (b ∷ bs) e =

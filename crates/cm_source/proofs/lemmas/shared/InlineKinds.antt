@@ -79,7 +79,7 @@ link-spelled dest title content = simp (fold_out-Inline Spelled spelling.inline_
 pub image-spelled : (dest title : List ℕ) (content : List Inline) → spelled (Image dest title content) ≡ between (codes "![") (map spelled content) (spelled_target dest title)
 image-spelled dest title content = simp (fold_out-Inline Spelled spelling.inline_step, outs-Image)
 
--- at the beginning and at the end of a line or not
+-- at the start and at the end of a line or not
 pub its-spelling : {s t : Spelled} → s ≡ t → (first last : Bool) → s.spelling first last ≡ t.spelling first last
 its-spelling e first last = ap (λ (spelled : Spelled). spelled.spelling first last) e
 

@@ -1,4 +1,4 @@
--- A text that is one tag is read whole, begins with `<` and ends with `>`.
+-- A text that is one tag is read whole, starts with `<` and ends with `>`.
 use Rattle.std.proofs.Common.{◌≡◌, ℕ, Bool, true, false, ◌==◌, List, [], ◌∷◌, ◌++◌, Option, Some, None, refl, sym, ap, ◌∙◌, arith}
 use Rattle.std.proofs.lemmas.Bool.{eqb-true, true_from_ne_false}
 use Rattle.cm_text.specs.Rules.{Rules}
@@ -11,7 +11,7 @@ use Rattle.cm_scan.proofs.lemmas.spans.RawHtmlGoesOn.{no-tag}
 use Rattle.cm_scan.proofs.lemmas.spans.RawHtmlEnds.{raw_html-ends}
 use Rattle.cm_source.specs.InlineRefusals.{is_one_tag}
 
--- what is read of such a text: no autolink, and nothing behind the tag
+-- what is read of such a text: no autolink, and nothing after the tag
 pub record IsWhole (rules : Rules) (text : List ℕ) : Type 0 where
   pub no_link : followed_autolink rules text ≡ None
   pub tag : raw_html rules text ≡ Some []
@@ -30,7 +30,7 @@ whole-read rules text e = go (followed_autolink rules text) (raw_html rules text
     go None (Some []) p q e = record { no_link = p; tag = q }
     go None (Some (b ∷ bs)) p q e = absurd (cc e)
 
--- nothing else begins with `<`
+-- nothing else starts with `<`
 
 no-html : (rules : Rules) (b : ℕ) (bs : List ℕ) → (b == 60) ≡ false → html_tag rules (b ∷ bs) ≡ None
 unfolding html_tag open_tag closing_tag comment from_to declaration after_word

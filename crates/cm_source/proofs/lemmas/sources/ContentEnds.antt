@@ -1,4 +1,4 @@
--- A spelled content ends with neither a space nor a tab, nor with a `#` that would close a heading; one of a heading begins so too.
+-- A spelled content ends with neither a space nor a tab, nor with a `#` that would close a heading; the same holds of the start of a heading's.
 use Rattle.std.proofs.Common.{◌≡◌, ℕ, zero, suc, ◌==◌, ◌&&◌, ◌||◌, not, Bool, true, false, List, [], ◌∷◌, ◌++◌, replicate, map, Option, Some, None, codes, refl, sym, ap, subst, ◌∙◌, append-nil}
 use Rattle.std.specs.Prelude.{if◌then◌else◌}
 use Rattle.std.specs.List.{list_all}

@@ -1,4 +1,4 @@
--- Each line of a content that can be spelled begins with what is nothing but text.
+-- Each line of a content that can be spelled starts with what is nothing but text.
 use Rattle.std.proofs.Common.{◌≡◌, ℕ, suc, ◌==◌, ◌&&◌, ◌||◌, ◌⊎◌, inl, inr, not, Bool, true, false, List, [], ◌∷◌, ◌++◌, replicate, map, Option, Some, None, codes, refl, sym, ap, subst, ◌∙◌, append_assoc, append-nil}
 use Rattle.std.specs.Prelude.{if◌then◌else◌}
 use Rattle.std.specs.Str.{chars}
@@ -43,7 +43,7 @@ inner-itself : (b : ℕ) → is_unmarked b ≡ true → is_inner b ≡ true
 unfolding is_inner
 inner-itself b e = ap not (none-passes is_unmarked b enders e refl)
 
--- a text that begins with an inner byte
+-- a text that starts with an inner byte
 pub record StartsInner (text : List ℕ) : Type 0 where
   pub byte : ℕ
   pub rest : List ℕ
@@ -101,7 +101,7 @@ text-front last b bs more e = go (b == 32) refl
     go false p = subst Front (sym (append_assoc (spelled_byte b) (spelled_text false last bs) more))
         (spelling-front b (spelled_byte b) (spells_byte b) p (spelled_text false last bs ++ more) (text-ends last bs more e))
 
--- inside of stars or tildes no text begins with a space
+-- inside stars or tildes no text starts with a space
 spelling-inner : (b : ℕ) (front : List ℕ) → SpellsByte b front → (b == 32) ≡ false → (rest : List ℕ) → StartsInner (front ++ rest)
 unfolding is_inner
 spelling-inner b front (ByNumber low) space rest = starts-with 38 _ refl
@@ -129,7 +129,7 @@ line-has (b ∷ bs) rest e =
     ap (λ v. list_any (λ c. c == 96) (if v then [] else b ∷ seen_view (bs ++ 96 ∷ rest))) parts.0
     ∙ or_right (b == 96) (list_any (λ c. c == 96) (seen_view (bs ++ 96 ∷ rest))) (line-has bs rest parts.1)
 
--- what stands between the backticks
+-- what is between the backticks
 between_ticks : List ℕ → List ℕ
 between_ticks text = padding text ++ text ++ padding text
 
@@ -185,7 +185,7 @@ begin-with first (b ∷ bs) more some e front begin =
 
 -- ---- kinds of inlines
 
--- a line begins with an inline only at the front of a paragraph and behind a break
+-- a line starts with an inline only at the start of a paragraph and after a break
 abbrev FirstIs : Bool → Place → Option Face → Type 0
 FirstIs first place before = first ≡ true → ((place.opens_paragraph ≡ true) × (before ≡ None)) ⊎ (is_break before ≡ true)
 
@@ -193,7 +193,7 @@ false-not-first : (place : Place) (before : Option Face) → FirstIs false place
 false-not-first place before e = absurd (cc e)
 
 module _ (rules : Rules) where
-  -- what begins behind an inline is told by what others see of it
+  -- what starts after an inline is known from what others see of it
   abbrev SameBreak : Inline → Type 0
   SameBreak i = (spelled i).begins_line ≡ is_break (Some (judged rules i).face)
 
@@ -229,7 +229,7 @@ module _ (rules : Rules) where
     image = λ dest title is all place before e. ap (λ (j : Judged). is_break (Some j.face)) (image-judged rules dest title is);
   })
 
-  -- behind a text stands no digit, no `.` and no `)`
+  -- no digit, no `.` and no `)` follows a text
   abbrev EndsNumber : Inline → Type 0
   EndsNumber i = (place : Place) (before after : Option Face) → Accepted rules place before after i → is_text before ≡ true → (first last : Bool) (more : List ℕ)
       → ends_number ((spelled i).spelling first last ++ more) ≡ true
@@ -352,7 +352,7 @@ module _ (rules : Rules) where
       ∙ number-ends j (further_in place) face (first_face (map (judged rules) js)) next.0 is (spelled i).begins_line next_end (behind ++ more))
       (content-fronts j js all.0 all.1 (further_in place) face parts.1 (spelled i).begins_line last (λ b. inr (sym (same-break i) ∙ b)) more ends begin))
 
-  -- stars, tildes or a bracket round a content
+  -- stars, tildes or a bracket around a content
   round-front : (first last : Bool) (start close : List ℕ) (is : List Inline) → is_empty start ≡ false → list_all is_line_byte start ≡ true → list_all is_line_byte close ≡ true
       → AllHold Fronts is → (place : Place) → refusal_of_all place None (map (judged rules) is) ≡ None → (more : List ℕ)
       → ends_number (close ++ more) ≡ true → (first ≡ true → Front (start ++ (join false false (map spelled is) ++ (close ++ more)))) → LinesBegin false more
@@ -372,7 +372,7 @@ module _ (rules : Rules) where
   front-told i s e first last more begin goes =
       subst (λ (z : Spelled). LinesBegin first (z.spelling first last ++ more)) (sym e) (goes (subst (λ (z : Spelled). LinesBegin z.begins_line more) e begin))
 
-  -- no line begins with raw HTML, nor with a break
+  -- no line starts with raw HTML, nor with a break
   not-first : (place : Place) (before : Option Face) → (place.opens_paragraph ≡ true → before ≡ None → ⊥) → is_break before ≡ false → (first : Bool) → FirstIs first place before → first ≡ false
   not-first place before apart broken false front = refl
   not-first place before apart broken true front = go (front refl)

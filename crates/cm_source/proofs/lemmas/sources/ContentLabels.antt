@@ -1,4 +1,4 @@
--- No definition stands at the front of a spelled content: a link there ends where no colon follows.
+-- No definition is at the start of a spelled content: a link there ends where no colon follows.
 use Rattle.std.proofs.Common.{◌≡◌, ℕ, zero, suc, ◌==◌, ◌&&◌, ◌||◌, not, Bool, true, false, List, [], ◌∷◌, ◌++◌, replicate, map, Option, Some, None, codes, refl, sym, ap, ◌∙◌, append_assoc}
 use Rattle.std.specs.Prelude.{if◌then◌else◌}
 use Rattle.std.specs.List.{list_all}
@@ -26,7 +26,7 @@ use Rattle.cm_source.proofs.lemmas.shared.AllPass.{all-both, all-so}
 
 -- ---- where a label ends
 
--- Behind the first bracket that isn't escaped, if it is a right one, stands no colon. The mark says that the first byte is escaped.
+-- No colon follows the first bracket that isn't escaped, if it is a right one. The mark says that the first byte is escaped.
 unfoldable pub is_no_label : (is_escaped : Bool) → List ℕ → Bool
 is_no_label is_escaped [] = true
 is_no_label true (b ∷ bs) = is_no_label false bs
@@ -185,7 +185,7 @@ held-further : (b : ℕ) (bs : List ℕ) → holds_word (codes "]:") (b ∷ bs) 
 unfolding holds_word
 held-further b bs e = (or_parts (is_at_word (codes "]:") (b ∷ bs)) (holds_word (codes "]:") bs) e).1
 
--- a text that holds no `]:`, in front of a byte that is no colon
+-- a text that holds no `]:`, before a byte that is no colon
 words-pass : (text : List ℕ) (z : ℕ) (more : List ℕ) → holds_word (codes "]:") text ≡ false → (z == 58) ≡ false → PassesEither (z ∷ more) → PassesEither (text ++ z ∷ more)
 unfolding is_no_label
 words-pass [] z more e other h v = h v
@@ -254,7 +254,7 @@ module _ (rules : Rules) where
       → is_no_label false ((spelled i).spelling first last ++ more) ≡ true
   told i s e first last more k = ap (λ (z : Spelled). is_no_label false (z.spelling first last ++ more)) e ∙ k
 
-  -- stars or tildes round a content
+  -- stars or tildes around a content
   round-passes : (marks : List ℕ) → list_all passes_byte marks ≡ true → (is : List Inline) → AllHold Passes is → (place : Place) → place.in_opening_link ≡ true
       → refusal_of_all place None (map (judged rules) is) ≡ None → (first last : Bool) (more : List ℕ) → is_no_label false more ≡ true
       → is_no_label false ((between marks (map spelled is) marks).spelling first last ++ more) ≡ true
@@ -342,7 +342,7 @@ module _ (rules : Rules) where
     image = λ dest title is all place opens after e last more. none-told (Image dest title is) _ (image-spelled dest title is) last more (other-none 33 _ refl);
   })
 
-  -- no definition stands at the front of a paragraph's content
+  -- no definition is at the start of a paragraph's content
   pub content-none : (i : Inline) (is : List Inline) (place : Place) → place.opens_paragraph ≡ true → refusal_of_all place None (map (judged rules) (i ∷ is)) ≡ None
       → (last : Bool) → link_definition (join true last (map spelled (i ∷ is))) ≡ None
   content-none i is place opens e last =

@@ -1,4 +1,4 @@
--- What a line begins with that is nothing but text, whatever stands further on in it.
+-- How a line starts that is nothing but text, whatever follows in it.
 use Rattle.std.proofs.Common.{◌≡◌, ℕ, zero, suc, ◌==◌, ◌&&◌, ◌||◌, not, Bool, true, false, List, [], ◌∷◌, ◌++◌, replicate, Option, None, refl, sym, ap, subst, ◌∙◌, codes}
 use Rattle.std.specs.Prelude.{if◌then◌else◌, nat_le, length}
 use Rattle.std.specs.List.{list_any}
@@ -14,14 +14,14 @@ use Rattle.cm_source.specs.steps.Sources.{is_only, IsTextLine, AllTextLines}
 use Rattle.cm_scan.proofs.lemmas.blocks.QuietStarts.{starters, is_quiet, no-run, no-fence-of, no-level, no-number, unmarked-start}
 use Rattle.cm_scan.proofs.lemmas.texts.ToldApart.{differs, none-passes}
 
--- the bytes at which, behind stars or tildes, a marker or a run may end
+-- the bytes at which, after stars or tildes, a marker or a run may end
 abbrev pub enders : List ℕ
 enders = codes "*~ \t\n"
 
 unfoldable pub is_inner : ℕ → Bool
 is_inner b = not (list_any (λ c. b == c) enders)
 
--- behind the digits at its front stands neither `.` nor `)`
+-- neither `.` nor `)` follows the digits at its start
 unfoldable pub ends_number : List ℕ → Bool
 ends_number [] = true
 ends_number (b ∷ bs) = elim (is_digit b) [ true ↦ ends_number bs | false ↦ not (b == 46) && not (b == 41) ]
@@ -31,7 +31,7 @@ unfoldable pub seen_view : List ℕ → List ℕ
 seen_view [] = []
 seen_view (b ∷ bs) = if b == 10 then [] else b ∷ seen_view bs
 
--- how a line begins that is nothing but text
+-- how a line starts that is nothing but text
 pub data Front : List ℕ → Type 0 where
   quiet : (b : ℕ) (bs : List ℕ) → is_quiet b ≡ true → is_digit b ≡ false → Front (b ∷ bs)
   number : (b : ℕ) (bs : List ℕ) → is_digit b ≡ true → ends_number (b ∷ bs) ≡ true → Front (b ∷ bs)
@@ -128,7 +128,7 @@ no-marker digits (b ∷ bs) e = go (is_digit b) refl (no-marker digits bs)
         let other = both-other b (sym (ends-other b bs d) ∙ e) in
         ap (λ v. marker_behind digits (elim v as (λ _. List ℕ) [ true ↦ skip is_digit bs | false ↦ b ∷ bs ])) d ∙ no-delimiter digits b bs other.0 other.1
 
--- a digit begins nothing but a marker
+-- a digit starts nothing but a marker
 digit-quiet : (b : ℕ) → is_digit b ≡ true → is_quiet b ≡ true
 unfolding is_quiet
 digit-quiet b d = ap not (none-passes is_digit b starters d refl)
@@ -242,12 +242,12 @@ front-line rules text (backticks n b bs e no_end holds) =
 
 -- ---- all lines of a text
 
--- each line begins with such a front, the first one where the text stands at the front of a line
+-- each line starts with such a front, the first one where the text is at the start of a line
 unfoldable pub LinesBegin : (at_front : Bool) → List ℕ → Type 0
 LinesBegin at_front [] = at_front ≡ false
 LinesBegin at_front (b ∷ bs) = (at_front ≡ true → Front (b ∷ bs)) × LinesBegin (b == 10) bs
 
--- the lines behind the first one
+-- the lines after the first one
 unfoldable pub further_lines : List ℕ → List (List ℕ)
 further_lines [] = []
 further_lines (b ∷ bs) = if b == 10 then parted_lines bs else further_lines bs

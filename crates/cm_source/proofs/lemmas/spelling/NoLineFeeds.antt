@@ -44,7 +44,7 @@ ended-first (b ∷ bs) rest none = go (b == 10) none (λ h. ended-first bs rest 
     go true none again = absurd (cc none)
     go false none again = ap (in_front b) (again none)
 
--- a line that is cut off at a line feed, and what is behind that
+-- a line that is cut off at a line feed, and what is after that
 pub cut-first : (text line behind : List ℕ) (i : ℕ) → position (λ b. b == 10) text ≡ Some i → line ≡ take i text → behind ≡ drop (i + 1) text → ended_lines text ≡ line ∷ ended_lines behind
 cut-first text line behind i found before after =
     let at = feed-at text i found in

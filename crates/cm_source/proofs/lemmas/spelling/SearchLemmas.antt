@@ -1,4 +1,4 @@
--- The first place that the kit's search answers is where a byte first stands in a text, and there is one just where the byte stands there.
+-- The first place that the kit's search returns is where a byte first is in a text, and there is one exactly if the byte is there.
 use Rattle.std.proofs.Common.{◌≡◌, ℕ, ◌+◌, Bool, true, false, not, cond, ◌||◌, List, [], ◌∷◌, nat_lt, Option, Some, None, length, get_or, refl, sym, ap, arith}
 use Rattle.std.specs.List.{list_any, position, position_or_len}
 use Rattle.std.specs.Option.{is_some}
@@ -17,7 +17,7 @@ first-position p bs (Some at) found =
     let here : position_or_len p bs ≡ at = position_or_len_is p bs at 0 (omega (arith, found.0.high)) (λ k below. is-false (p (get_or bs k 0)) (found.0.before k (omega arith) below)) (λ below. found.1) in
     rw here (let within : nat_lt at (length bs) ≡ true = grind (arith, found.0.high) in sym (ap (λ w. cond w (Some at) None) within))
 
--- whether a place is found is whether the byte stands there
+-- whether a place is found is whether the byte is there
 pub found-any : (p : ℕ → Bool) (bs : List ℕ) → is_some (position p bs) ≡ list_any p bs
 found-any p [] = refl
 found-any p (b ∷ bs) = go (p b) (found-any p bs)

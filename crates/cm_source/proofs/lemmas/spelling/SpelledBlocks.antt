@@ -23,9 +23,9 @@ pub gapped-on : (now apart : Bool) (first : List (List ℕ)) (others : List (Lis
 gapped-on now apart first [] = refl
 gapped-on now apart first (next ∷ others) = refl
 
--- a mark in front of lines
+-- a mark before lines
 module _ (mark further : List ℕ) (outer : List (List ℕ) → List (List ℕ)) where
-  -- the lines of a container stand behind its mark as they stand in the container behind what was in front of it
+  -- the lines of a container have the same content after its mark, in the container, after what was before it
   abbrev pub Marks : Type 0
   Marks = (first front : List ℕ) (lines : List (List ℕ)) → all_lines (first ++ mark) (front ++ further) (or_empty_line lines) ≡ all_lines first front (outer lines)
 
@@ -62,7 +62,7 @@ quote-some (line ∷ lines) = (quoted line, map quoted lines, refl)
 
 -- an item
 
--- behind a mark no spaces stand, and it has some byte
+-- no spaces follow a mark, and it has some byte
 pub record IsMark (mark : List ℕ) : Type 0 where
   pub byte : ℕ
   pub rest : List ℕ
@@ -154,7 +154,7 @@ item_lines_of kind tight items = map (λ blocks. item_lines (marker kind) (joine
 abbrev pub lines_of_items : ListKind → (tight : Bool) → List (List Block) → List (List ℕ)
 lines_of_items kind tight items = joined (not tight) (item_lines_of kind tight items)
 
--- lines in front of which nothing stands
+-- lines with nothing before them
 
 behind-nothing : (line : List ℕ) → behind [] line ≡ line
 unfolding trim_end_by
@@ -165,7 +165,7 @@ further-nothing : (lines : List (List ℕ)) → further_lines [] lines ≡ flat_
 further-nothing [] = refl
 further-nothing (line ∷ lines) = ap (λ t. (t ++ 10 ∷ []) ++ further_lines [] lines) (behind-nothing line) ∙ ap (λ t. (line ++ 10 ∷ []) ++ t) (further-nothing lines)
 
--- lines that are written behind others
+-- lines that are written after others
 pub written-behind : (lines : List (List ℕ)) (old new : SourceLines) (done : List ℕ) → IsBetween old false done [] [] → Writes old new lines
     → IsBetween new false (done ++ flat_map (λ line. line ++ 10 ∷ []) lines) [] []
 written-behind [] old new done is writes = writes false done [] [] is

@@ -21,7 +21,7 @@ kept b plain = grind arith
 pub spelled-ascii : (b : ℕ) → is_spelled b ≡ true → b < 128
 spelled-ascii b spelled = grind arith
 
--- one byte, by its number or behind a backslash
+-- one byte, by its number or after a backslash
 pub by-number : (b : ℕ) → (b == 96 || is_ascii_control b) ≡ true → spelled_byte b ≡ numbered b
 unfolding spelled_byte
 by-number b e = grind (arith, e)

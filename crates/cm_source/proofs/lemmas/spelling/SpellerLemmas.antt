@@ -20,7 +20,7 @@ use Rattle.cm_source.specs.steps.WrittenLines.{IsBetween, Writes}
 use Rattle.cm_source.proofs.lemmas.spelling.SpelledBlocks.{written-behind}
 use Rattle.cm_source.proofs.lemmas.refusals.RefusalLemmas.{no-reason}
 
--- why blocks are refused that stand behind others
+-- why blocks are refused that are after others
 
 or-more : (first second third : Option Why) → first <|> (second <|> third) ≡ (first <|> second) <|> third
 or-more None second third = refl
@@ -56,7 +56,7 @@ module _ (rules : Rules) (blocks : List Block) (block : Block) where
       go None told = absurd (cc told)
       go (Some other) told = let same : other ≡ why = cc told in ap Some same
 
--- the lines of blocks and one behind them
+-- the lines of blocks and one after them
 
 some-behind : (before : Option BlockFace) (blocks : List JudgedBlock) → is_some before ≡ true → is_some (face_behind before blocks) ≡ true
 some-behind before [] some = some

@@ -36,7 +36,7 @@ feed-ended front text =
     ap trim_end_spaces (append_assoc front (10 ∷ []) text) ∙ kept-front front (10 ∷ text) 10 (trim_end_spaces text) (feed-kept [] text)
     ∙ ap (λ t. front ++ t) (feed-kept [] text) ∙ sym (append_assoc front (10 ∷ []) (trim_end_spaces text))
 
--- the spaces at the end of a text begin where it is stripped
+-- the spaces at the end of a text start where it is stripped
 pub stripped-end : (text : List ℕ) → length (trim_end_spaces text) ≤ length text × (length (trim_end_spaces text) < length text → get_or text (length (trim_end_spaces text)) 0 ≡ 32) × (take (length (trim_end_spaces text)) text ≡ trim_end_spaces text)
 stripped-end text =
     let t = trimmed text in
@@ -51,14 +51,14 @@ stripped-end text =
     first zero some = absurd (omega (arith, some))
     first (suc count) some = get_or-append_seam (trim_end_spaces text) 32 (replicate count 32) 0
 
--- content that stands in lines
+-- content that is in lines
 
 pub lay-more : (front : List ℕ) (place : Place) (xs ys : List ℕ) → lay front place (xs ++ ys) ≡ lay front (lay front place xs) ys
 unfolding lay
 lay-more front place [] ys = refl
 lay-more front place (b ∷ bs) ys = lay-more front (if b == 10 then record { done = up_to place; first = front; last = [] } else record place { last = place.last ++ b ∷ [] }) bs ys
 
--- what stands in one line
+-- what is in one line
 pub lay-inside : (front : List ℕ) (place : Place) (text : List ℕ) → list_any (λ b. b == 10) text ≡ false → lay front place text ≡ record place { last = place.last ++ text }
 unfolding lay
 lay-inside front place [] none = ap (λ t. record place { last = t }) (sym (append-nil place.last))
@@ -72,7 +72,7 @@ lay-inside front place (b ∷ bs) none = go (b == 10) none (λ h. lay-inside fro
     go true none again = absurd (cc none)
     go false none again = again none ∙ ap (λ t. record place { last = t }) (append_assoc place.last (b ∷ []) bs)
 
--- the lines of a content, of which the first begins with what is written of it already
+-- the lines of a content, of which the first starts with what is written of it already
 abbrev put_front : List ℕ → List (List ℕ) → List (List ℕ)
 put_front last [] = []
 put_front last (line ∷ lines) = (last ++ line) ∷ lines
@@ -146,7 +146,7 @@ pub lays-break : (one two three : SourceLines) → Ends one two → BeginsLine t
 unfolding lay
 lays-break one two three ends begins place front is = begins false (up_to place) front front (ends place front is)
 
--- a content that stands between the beginning and the end of a line
+-- a content that is between the start and the end of a line
 pub writes-content : (one two three four : SourceLines) (content : List ℕ) → BeginsLine one two → Lays two three content → Ends three four → Writes one four (parted_lines content)
 writes-content one two three four content begins lays ends begun done first front is =
     let start : Place = record { done = done; first = first; last = [] } in
@@ -155,7 +155,7 @@ writes-content one two three four content begins lays ends begun done first fron
     (subst (λ t. IsBetween four false t front front) (laid-lines front start content ∙ ap (λ t. done ++ all_lines first front (put_front [] t)) e)
     (ends (lay front start content) front (lays start front (begins begun done first front is))))
 
--- no line, and some lines and others behind them
+-- no line, and some lines and others after them
 pub writes-nothing : (source : SourceLines) → Writes source source []
 writes-nothing source begun done first front is = subst (λ t. IsBetween source begun t first front) (sym (append-nil done)) is
 
@@ -185,13 +185,13 @@ parted-one (b ∷ bs) none = go (b == 10) none (λ h. parted-one bs h)
     go true none again = absurd (cc none)
     go false none again = ap (in_front b) (again none)
 
--- a line that has begun
+-- a line that has started
 pub begun-already : (old : SourceLines) → old.begun ≡ true → BeginsLine old old
 begun-already old some begun done first front is =
     let stands = subst (λ b. StandsAt b old.line (string_bytes old.text) done first front) (sym is.begun_is ∙ some) is.stands in
     record { text = stands.0 ∙ sym (append-nil (done ++ first)); begun = some; line = stands.1 ∙ ap length stands.0; front_is = is.front_is; ended = is.ended }
 
--- a line ended: where its content is empty the spaces in front of it go
+-- a line ended: where its content is empty the spaces before it go
 pub ends-line : (old new : SourceLines)
     → ((old.line ≡ length (string_bytes old.text)) × (string_bytes new.text ≡ trim_end_spaces (string_bytes old.text) ++ 10 ∷ []) ⊎ (old.line ≡ length (string_bytes old.text) → ⊥) × (string_bytes new.text ≡ string_bytes old.text ++ 10 ∷ []))
     → new.front ≡ old.front → new.begun ≡ false → Ends old new
@@ -226,7 +226,7 @@ enters one two new mark further begins text line same front_is begun done first 
       ended = inside.ended;
     }
 
--- and left: what stands in front of further lines is cut back to what did before
+-- and left: what is before further lines is cut back to what was before
 cut-back : (mid new : SourceLines) (front : ℕ) (done outer further : List ℕ) → front ≡ length outer → string_bytes new.text ≡ string_bytes mid.text → new.begun ≡ mid.begun → string_bytes new.front ≡ take front (string_bytes mid.front)
     → IsBetween mid false done (outer ++ further) (outer ++ further) → IsBetween new false done outer outer
 cut-back mid new front done outer further long text same cut is = record {

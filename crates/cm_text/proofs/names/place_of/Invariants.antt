@@ -2,7 +2,7 @@ use Rattle.std.proofs.Common.{◌≡◌, ℕ, ◌<◌, ◌≤◌, ◌-◌}
 use Rattle.cm_text.specs.steps.NameTable.{name_at}
 use Rattle.cm_text.proofs.names.place_of.Given as goal
 
--- the name stands nowhere else
+-- the name is nowhere else
 abbrev pub invariant-loop-low : goal.invariant-loop-low
 invariant-loop-low l = record {
   within : l.high ≤ 177;

@@ -29,7 +29,7 @@ use Rattle.cm_tool.specs.Leaves.{depths_step}
 use Rattle.cm_tool.proofs.laws.worked_examples.Goals as goal
 use lib.Utf8.{encode}
 
--- the link of a paragraph in a text with a definition behind it
+-- the link of a paragraph in a text with a definition after it
 abbrev defined_behind : Defined
 defined_behind = defined_by profile (plain_lines_of (text_of (codes "[a]\n\n[A]: /u\n")))
 

@@ -22,7 +22,7 @@ slice_bounds-extend_from_slice-start c =
     let within : c.args.opener + 1 ≤ length c.deref.result.now = omega (arith, nodes-in-length c.args.self.now, ap (λ h. length h.before) c.self.view_is, ap length c.deref.ensures.value) in
     search rules
 
--- what stands behind the opener was copied to the end of what stands in groups
+-- what is after the opener was copied to the end of what is in groups
 moved-is : (c : goal.After-push-2) → c.extend_from_slice.new.self.items ≡ c.self.inside.inside.items ++ drop (suc c.args.opener) c.self.inside.before.items
 moved-is c = copied c.self.inside.inside.items c.extend_from_slice.new.self.items c.deref.result.now c.self.inside.before.items c.args.opener c.in_ok-extend_from_slice.ensures.items c.deref.ensures.value
 

@@ -2,7 +2,7 @@ use Rattle.std.proofs.Common.{◌≤◌, ◌+◌, ◌*◌, length}
 use Rattle.cm_tree.specs.Depth.{depth_of, inlines_depth}
 use Rattle.cm_inline.proofs.spare.Spare.+inlines.Given as goal
 
--- What stands in an inline nests less deep than it.
+-- What is in an inline nests less deep than it.
 
 abbrev pub decreases-keep_inline : goal.decreases-keep_inline
 decreases-keep_inline l = 2 * depth_of l.inline

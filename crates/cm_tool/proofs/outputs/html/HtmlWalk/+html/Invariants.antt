@@ -12,7 +12,7 @@ use Rattle.cm_tool.specs.steps.LeafWalks.{blocks_read_at, items_read_at}
 use Rattle.cm_tool.proofs.lemmas.LeafWalkLemmas.{Reads}
 use Rattle.cm_tool.proofs.outputs.html.HtmlWalk.+html.Given as goal
 
--- What stands in a quote or an item nests less deep than the quote or the list.
+-- What is in a quote or an item nests less deep than the quote or the list.
 abbrev pub decreases-push_items : goal.decreases-push_items
 decreases-push_items l = 5 * items_depth (slice_range l.self.now.walk.unread.raw.items l.from l.to)
 

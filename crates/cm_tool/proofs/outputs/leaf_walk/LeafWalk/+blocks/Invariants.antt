@@ -9,7 +9,7 @@ use Rattle.cm_tool.specs.steps.LeafWalks.{blocks_read_at, items_read_at}
 use Rattle.cm_tool.proofs.lemmas.LeafWalkLemmas.{Reads}
 use Rattle.cm_tool.proofs.outputs.leaf_walk.LeafWalk.+blocks.Given as goal
 
--- What stands in a quote or an item nests less deep than the quote or the list.
+-- What is in a quote or an item nests less deep than the quote or the list.
 abbrev pub decreases-items : goal.decreases-items
 decreases-items l = 3 * items_depth (slice_range l.self.now.unread.raw.items l.from l.to)
 
