@@ -1,5 +1,5 @@
-/* Preloaded into a program by .ci/refusals: refuses the request for memory of the number that REFUSE tells, counted from 1,
-   and writes a byte to the file descriptor that REFUSE_TO tells. */
+/* Preloaded into a program by .ci/refusals: refuses the request for memory whose number is in REFUSE, counted from 1,
+   and writes a byte to the file descriptor in REFUSE_TO. */
 #include <errno.h>
 #include <stddef.h>
 #include <stdlib.h>

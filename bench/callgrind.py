@@ -4,7 +4,7 @@ import re
 import subprocess
 
 FRONT = 400_000
-# A line of callgrind_annotate: a count, its share, and a function behind its file and before its object.
+# A line of callgrind_annotate: a count, its share, and a function after its file and before its object.
 COUNTED = re.compile(r"^ *([\d,]+) \(.*?%\)  (\S+?):(.+?)(?: \[.*\])?$", re.MULTILINE)
 MEMORY = re.compile(r"malloc|calloc|realloc|free|unlink_chunk|brk|munmap|mmap")
 COPIES = re.compile(r"mem(?:cpy|move|set|cmp)")

@@ -76,7 +76,7 @@ class Maker:
         return "".join(self.code_line() for _ in range(count))
 
     def block(self, rate, depth=0):
-        """A block of any kind: six in ten are paragraphs, and three levels down no more quotes and lists begin."""
+        """A block of any kind: six in ten are paragraphs, and three levels down no more quotes and lists start."""
         kind = self.random.random()
         if kind < 0.62:
             return self.paragraph(rate)
@@ -114,7 +114,7 @@ class Maker:
         return "".join(item + "\n" * loose for item in items)
 
     def item(self, rate, depth, loose):
-        """A paragraph, and now and then a list behind it."""
+        """A paragraph, and now and then a list after it."""
         text = self.paragraph(rate, 3, 30)
         if depth < 3 and self.random.random() < 0.3:
             text += "\n" * loose + self.list(rate, depth + 1)
@@ -126,14 +126,14 @@ def indented(text):
 
 
 def hung(marker, text):
-    """Lines behind a marker, the further ones as far in as the first."""
+    """Lines after a marker, the further ones as far in as the first."""
     first, *others = text.splitlines()
     room = " " * len(marker)
     return f"{marker}{first}\n" + "".join((room + line if line else "") + "\n" for line in others)
 
 
 def filled(size, make):
-    """What `make` gives, one after another, up to so many bytes or a little more."""
+    """What `make` gives, one after another, up to the given number of bytes or a little more."""
     made, length = [], 0
     while length < size:
         made.append(make())

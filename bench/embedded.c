@@ -1,8 +1,8 @@
-/* Measures libcmk beside cmark and md4c in one process: a line for each text and each library. bench/embedded calls it.
+/* Measures libcmk next to cmark and md4c in one process: a line for each text and each library. bench/embedded calls it.
  *
- *   embedded TURNS (FILE TIMES)..     each library makes the HTML of the file's text so many times in each of its turns, which alternate
+ *   embedded TURNS (FILE TIMES)..     each library makes the HTML of the file's text TIMES times in each of its turns, which alternate
  *
- * The time is the least processor time of the turns. A call is from the text to the HTML in memory that is then given back.
+ * The time is the least processor time of the turns. A call is from the text to the HTML in memory that is then freed.
  */
 #define _GNU_SOURCE
 #include <cmark.h>

@@ -3,7 +3,7 @@
  *   cc -O2 -pthread embedded_stack.c $(pkg-config --cflags --libs cmk) -o stack && ./stack
  *
  * Each call runs in a thread on a stack that was painted before; what is no longer painted was used. The texts nest quotes, items, emphasis,
- * links and images as deep as the limits allow, and at each depth the most is told that one of them took.
+ * links and images as deep as the limits allow, and at each depth the most that one of them took is reported.
  */
 #define _DEFAULT_SOURCE
 #include <cmk.h>
@@ -24,7 +24,7 @@ struct task {
     uint32_t answer;
 };
 
-/* A text with one string so many times in front of a letter, and another as often behind it. */
+/* A text with one string a number of times before a letter, and another as often after it. */
 struct kind {
     const char *before, *after;
 };
@@ -65,7 +65,7 @@ static char *repeated(char *to, const char *text, size_t times) {
     return to;
 }
 
-/* A text of these kinds, as deep as the limits allow: one that holds two levels stands half as often. */
+/* A text of these kinds, as deep as the limits allow: one that holds two levels is there half as often. */
 static void write_text(char *to, const struct kind *outer, const struct kind *inner, const cmk_options *options) {
     size_t outside = strlen(outer->before) > 3 ? options->blocks / 2 : options->blocks;
     size_t inside = strstr(inner->before, "**") || strstr(inner->before, "[*") ? options->inlines / 2 : options->inlines;

@@ -28,7 +28,7 @@ def moved(label, places):
 
 
 def labels_of_one_number(count):
-    """So many labels of small letters, all with the number of the first."""
+    """The given number of labels of small letters, all with the number of the first."""
     first, found = "m" * (len(STEPS) + PLACES - 1), []
     for chosen in itertools.product([False, True], repeat=PLACES):
         codes = moved(first, itertools.compress(range(PLACES), chosen))
@@ -99,7 +99,7 @@ def of_links(n):
 
 
 def of_other_inlines(n):
-    """Code spans, raw HTML, references and escapes, most of which never end."""
+    """Code spans, raw HTML, references and escapes. Most never end."""
     longest = int(n**0.5)
     return {
         "backtick_runs": "".join("`" * k + "a" for k in range(1, longest + 1)),
@@ -116,6 +116,6 @@ def of_other_inlines(n):
 
 
 def hostile(n):
-    """Each text by its name, where what is repeated stands in it about n times."""
+    """Each text by its name, with about n repetitions."""
     kinds = [of_blocks, of_definitions, of_emphasis, of_links, of_other_inlines]
     return {name: text for kind in kinds for name, text in kind(n).items()}

@@ -1,4 +1,4 @@
-/* Tells what the least is that a renderer of a text does, each by itself and with nothing else.
+/* Measures the least that a renderer of a text does, each step by itself and with nothing else.
 
      limits FILE BYTES
 
@@ -30,7 +30,7 @@ static double seconds(void) {
 
 static __m128i lanes(const char *at) { return _mm_loadu_si128((const __m128i *)at); }
 
-/* Which of 16 bytes stand in a table, in which each byte has the place that its lower four bits name. */
+/* Which of 16 bytes are in a table, in which each byte has the position that its lower four bits name. */
 static int found(__m128i table, __m128i bytes) {
     __m128i looked_up = _mm_shuffle_epi8(table, _mm_and_si128(bytes, _mm_set1_epi8(15)));
     return _mm_movemask_epi8(_mm_cmpeq_epi8(looked_up, bytes));

@@ -1,9 +1,9 @@
 #!/usr/bin/env python3
-"""Writes a text of blocks of all kinds that can be rewritten, in which one word in so many is marked.
+"""Writes a text of blocks of all kinds that can be rewritten, in which one word in a given number is marked.
 
   bench/marked.py MEGABYTES ONE_IN [SEED]
 
-One megabyte of blocks, made at random, stands in it over and over, behind fifty link reference definitions.
+One megabyte of blocks, made at random, is repeated in it, after fifty link reference definitions.
 """
 
 import argparse
@@ -38,7 +38,7 @@ class Writer:
         return " ".join(self.word() for _ in range(self.random.randint(1, 3)))
 
     def line(self, least, most):
-        """A line that begins and ends with a plain word, in which no two marked words stand side by side."""
+        """A line that starts and ends with a plain word, without two adjacent marked words."""
         words, marked = [self.word()], False
         for _ in range(self.random.randint(least, most) - 2):
             marked = not marked and self.random.randrange(self.one_in) == 0
@@ -66,7 +66,7 @@ class Writer:
         return "***"
 
     def blocks(self, size):
-        """Blocks of so many bytes, of which no two lists stand side by side."""
+        """Blocks of the given number of bytes, without two adjacent lists."""
         made, last = ["the text begins\n\n"], ""
         while size > 0:
             block = self.block()
@@ -78,7 +78,7 @@ class Writer:
 
 
 def text(size, one_in, seed=1):
-    """About so many bytes, in which one word in so many is marked."""
+    """About the given number of bytes, in which one word in a given number is marked."""
     writer = Writer(one_in, seed)
     definitions = "".join(f"[ref{number}]: /{writer.word()}/{number} '{writer.word()}'\n" for number in range(50))
     blocks = writer.blocks(1_000_000)

@@ -1,4 +1,4 @@
-/* Runs a program and tells what it used, in a line on standard error.
+/* Runs a program and reports what it used, in a line on standard error.
 
      measure SECONDS PROGRAM [WORD..]
 

@@ -30,7 +30,7 @@ SLOW = ["lowdown", "discount", "markdown-it-py"]
 
 
 class Used(typing.NamedTuple):
-    """What one run took: seconds of a processor, bytes at the most, and the status with which it ended."""
+    """What one run took: seconds of a processor, bytes at the most, and its exit status."""
 
     seconds: float
     memory: int
@@ -58,7 +58,7 @@ def version_of(name):
 
 
 def run(words, file, seconds=120, output=subprocess.DEVNULL):
-    """Runs a program on a file, with so many seconds of a processor at most."""
+    """Runs a program on a file, with up to the given number of seconds of a processor."""
     with open(file, "rb") as given:
         asked = [str(OUT / "measure"), str(seconds), *words]
         told = subprocess.run(asked, stdin=given, stdout=output, stderr=subprocess.PIPE, text=True).stderr

@@ -1,10 +1,10 @@
-"""The texts on which rewriting is measured beside rendering, by their names: all can be spelled as plain source."""
+"""The texts on which rewriting is measured next to rendering, by their names: all can be spelled as plain source."""
 
 import marked
 
 ONE_IN = [100, 30, 8, 3]
 SIZE = 10_000_000
-# What stands over and over in a text of one kind. Each piece begins with a word, since not everything can begin a line.
+# What is repeated in a text of one kind. Each piece starts with a word, since not everything can start a line.
 PIECES = {
     "code_spans": "word `code` ",
     "emphasis": "word *some words* ",
@@ -34,6 +34,6 @@ def of_marked_words():
 
 
 def rewriting(large):
-    """All of them, of which the first is three of the large inputs in one."""
+    """All of them. The first is three of the large inputs in one."""
     three = {"three": "\n".join(large[name] for name in ("plain", "code", "refs"))}
     return three | of_marked_words() | {name: of_one_piece(piece) for name, piece in PIECES.items()}

@@ -1,5 +1,5 @@
 #!/usr/bin/env python3
-"""Tells how much a byte of text may become: for each kind of text the output and the memory of a run, by the byte.
+"""Reports how much a byte of text may become: for each kind of text the output and the memory of a run, per byte.
 
   bench/worst_cases.py PROGRAM [SIZE]     texts of about so many bytes (1,000,000)
 
@@ -25,17 +25,17 @@ def times(piece):
 
 
 def behind(front, piece):
-    """The same behind a front."""
+    """The same after a front."""
     return lambda size: front + times(piece)(size - len(front))
 
 
 def numbered(make):
-    """A text of about a size, of pieces that a number tells apart."""
+    """A text of about a size, of pieces that a number distinguishes."""
     return lambda size: "".join(make(n) for n in range(size // len(make(1000))))
 
 
 def each_twice(size):
-    """Short definitions, each of which is referred to twice."""
+    """Short definitions, each with two references."""
     count = size // 24
     return "".join(f"[{n:x}]:/\n" for n in range(count)) + "\n" + "".join(f"[{n:x}]\n" for n in range(count)) * 2
 

@@ -101,7 +101,7 @@ def declarations(file):
     return found
 
 
-# ---- what a name stands for
+# ---- what a name means
 
 def type_in(crate, name):
     """The declaration of a type, by its name and its crate."""
@@ -127,7 +127,7 @@ def in_module(module, name):
 
 @functools.cache
 def imports(file):
-    """What the names that a file imports stand for, and the modules for which it has a short name."""
+    """What the names that a file imports mean, and the modules for which it has a short name."""
     names, modules = {}, {}
     for module, listed, short in USE.findall(file.read_text()):
         if short:
@@ -144,7 +144,7 @@ def plain(text):
 
 
 def words_of(part):
-    """The words of a part, and those behind the short name of a module. What a part binds may be among them: it stands for nothing."""
+    """The words of a part, and those after the short name of a module. What a part binds may be among them: it means nothing."""
     text = plain(part.text)
     words = re.sub(r"\.[\w-]+", "", text)
     return {*WORD.findall(words), *re.findall(r"\w+", words)}, set(re.findall(r"\b(\w+)\.(\w+)", text))
@@ -175,7 +175,7 @@ def named_by(part):
 
 
 def type_named(file, word):
-    """The type for which a word stands in a file of src/, if it is one of this repository."""
+    """The type that a word means in a file of src/, if it is one of this repository."""
     crate = file.relative_to(CRATES).parts[0]
     name = re.escape(word)
     used = re.search(rf"^(?:pub )?use (\w+)(?:::[\w:]+)?::(?:\{{[^}}]*\b{name}\b[^}}]*\}}|{name});", file.read_text(), re.MULTILINE)
@@ -215,7 +215,7 @@ def comment_before(lines, at):
 
 
 def end_of(lines, at):
-    """The line behind the signature and the clauses that begin at a line, or None where there are no clauses."""
+    """The line after the signature and the clauses that start at a line, or None if there are no clauses."""
     has_clauses = False
     for number in range(at, len(lines)):
         line, following = lines[number].strip(), "".join(lines[number + 1 : number + 2]).strip()
@@ -318,7 +318,7 @@ def source_files(file):
 
 
 def contract(path):
-    """The signature and the clauses of a call, as a part. What stands in the braces of its body isn't among them."""
+    """The signature and the clauses of a call, as a part. What is in the braces of its body isn't among them."""
     crate, *names = path.split("::")
     owner = names[-2] if len(names) > 1 and names[-2][0].isupper() else None
     for file in sorted((CRATES / crate / "src").rglob("*.rt")):
@@ -329,7 +329,7 @@ def contract(path):
 
 
 def reached(*firsts, by_views=True):
-    """All parts on which some stand, and the words of the kit. Without the views of types nothing is followed that a type names."""
+    """All parts that some depend on, and the words of the kit. Without the views of types nothing is followed that a type names."""
     seen, kit, waiting = set(), set(), [*firsts]
     while waiting:
         part = waiting.pop()
@@ -343,14 +343,14 @@ def reached(*firsts, by_views=True):
 
 @functools.cache
 def depth(file):
-    """How many files stand below one, one on another."""
+    """How many files are below one, each depending on the next."""
     below = [CRATES / module.replace(".", "/") for module, _, _ in USE.findall(file.read_text()) if module.split(".")[0] in LIBRARIES]
     files = [path.with_suffix(".antt") for path in below]
     return 1 + max((depth(path) for path in files if path.exists() and path != file), default=0)
 
 
 def in_order(parts):
-    """Crate by crate, the types first, and each file behind those that it uses."""
+    """Crate by crate, the types first, and each file after those that it uses."""
     def place(part):
         crate, is_spec = part.file.relative_to(CRATES).parts[0], part.file.suffix == ".antt"
         return LIBRARIES.index(crate), depth(part.file) if is_spec else 0, part.file, part.line

@@ -21,7 +21,7 @@ import build
 
 # The programs that can be tried, and the arguments with which each reads a file.
 READS = {build.PROGRAM: ["render"], "conformance": []}
-# An argument of the check that `rt try` runs beside the build: it only gives hints on names, and keeps a second processor busy.
+# An argument of the check that `rt try` runs during the build: it only gives hints on names, and keeps a second processor busy.
 HINTS = b"no function"
 
 

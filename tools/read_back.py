@@ -7,7 +7,7 @@
 Each random tree that can be spelled is spelled by this program's own account of the plain form, apart from that of
 cm_source. Then `PROGRAM tree` has to list just that tree, and `PROGRAM rewrite` to write just that source. Each source
 of a file of examples is rewritten: where it can be, `PROGRAM tree` has to list what was written as it lists the source,
-but for its definitions, and rewriting it has to write the same. What differs is told, and last how many trees of each
+but for its definitions, and rewriting it has to write the same. What differs is reported, and last how many trees of each
 kind there were, or how many sources could be rewritten. The status is 1 if any differs.
 """
 import argparse

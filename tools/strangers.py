@@ -7,7 +7,7 @@ The texts are made of what strangers try: addresses with schemes in many disguis
 characters. They are rendered some thousands at a time, as a file of examples. Python's html.parser has to find in each output only the
 elements and attributes of a short list, each closed in its place. Each class has to be one word for HTML. Each address has to have no
 scheme or one of http, https and mailto, as urllib.parse reads it and as a browser does. Without the characters that XML 1.0 forbids each
-output has to be well-formed XML for expat. What isn't so is told. Last it says how many texts were tried, and how many of the first ones
+output has to be well-formed XML for expat. Anything else is reported. Last it says how many texts were tried, and how many of the first ones
 would be refused without --safe. The status is 1 if any text is refused.
 """
 import argparse
@@ -91,7 +91,7 @@ class Texts:
 
 
 class Rendered:
-    """Outputs of the program, by files of examples of which none agrees."""
+    """Outputs of the program, from files of examples that all differ."""
 
     def __init__(self, program, flags):
         self.words = [program, "examples", *flags]
@@ -123,7 +123,7 @@ def scheme_by_urllib(address):
     try:
         return urllib.parse.urlsplit(address).scheme.lower()
     except ValueError:
-        # A host that is none: what stands before it has been read.
+        # A host that is none: what is before it has been read.
         return scheme_by_a_browser(address)
 
 

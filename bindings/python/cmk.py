@@ -48,7 +48,7 @@ class _Filled(ctypes.Structure):
 
 
 def _folder():
-    """Returns the folder that pkg-config tells, or None."""
+    """Returns the folder that pkg-config reports, or None."""
     try:
         words = ["pkg-config", "--variable=libdir", "cmk"]
         told = subprocess.run(words, stdout=subprocess.PIPE, stderr=subprocess.DEVNULL, text=True, check=False)
@@ -89,7 +89,7 @@ _library.cmk_version.argtypes, _library.cmk_version.restype = [], ctypes.c_uint3
 class CmkError(Exception):
     """Why there is no output.
 
-    `number` is what the library answered, as include/cmk.h has it: 1 for bytes that aren't UTF-8, and so on. `place` is the byte, the line
+    `number` is what the library returned, as include/cmk.h has it: 1 for bytes that aren't UTF-8, and so on. `place` is the byte, the line
     or the leaf, or the number of the reason. `line` is the line that the program prints, as 'cmk: F1 not UTF-8 at byte 2'.
     """
 
@@ -102,7 +102,7 @@ class CmkError(Exception):
 
 
 def _line(number, place):
-    """Returns the line that tells an answer, without its line feed."""
+    """Returns the line for a returned number, without its line feed."""
     room, filled = ctypes.create_string_buffer(_LINE_ROOM), _Filled()
     if _library.cmk_fault_text(number, place, room, _LINE_ROOM, ctypes.byref(filled)):
         return f"cmk: answer {number} at {place}"
@@ -147,7 +147,7 @@ def html(text, **options):
 
     Raises `CmkError` if the text has a fault, memory runs out, or a number is out of range. A `str` with a lone surrogate isn't UTF-8.
 
-    Without `safe` raw HTML of the text goes to the output as it stands, and `javascript:` links stay.
+    Without `safe`, raw HTML in the text is written unchanged, and `javascript:` links stay.
     """
     return _called(_library.cmk_html, text, options)
 

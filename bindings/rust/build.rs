@@ -1,4 +1,4 @@
-//! Tells where libcmk is: in the folder that the variable CMK_LIB_DIR names, or where pkg-config says.
+//! Finds libcmk: in the folder that the variable CMK_LIB_DIR names, or where pkg-config says.
 
 use std::process::Command;
 
@@ -11,7 +11,7 @@ fn main() {
     println!("cargo:rustc-link-lib=cmk");
 }
 
-/// The folder of the library, as pkg-config tells it.
+/// The folder of the library, as pkg-config reports it.
 fn told_by_pkg_config() -> Option<String> {
     let told = Command::new("pkg-config").args(["--variable=libdir", "cmk"]).output().ok()?;
     let folder = String::from_utf8(told.stdout).ok()?;

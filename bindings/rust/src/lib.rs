@@ -11,7 +11,7 @@
 //! assert_eq!(error.to_string(), "cmk: F1 not UTF-8 at byte 2");
 //! ```
 //!
-//! Any number of threads may call at once. By the default raw HTML of a text goes to the output as it stands, and `javascript:`
+//! Any number of threads may call at once. By default raw HTML in a text is written unchanged, and `javascript:`
 //! links stay. For texts from strangers there is [`Options::SAFE`].
 //!
 //! ```
@@ -26,11 +26,11 @@ use std::ops::Deref;
 #[repr(C)]
 #[derive(Clone, Copy, Debug, Default, PartialEq, Eq)]
 pub struct Options {
-    /// How many bytes a text may have, 1 to 2^30; 0 stands for 2^28.
+    /// The greatest number of bytes of a text, 1 to 2^30; 0 means 2^28.
     pub bytes: usize,
-    /// The most quotes and list items that may enclose a line, 1 to 500; 0 stands for 100.
+    /// How many quotes and list items may enclose a line, 1 to 500; 0 means 100.
     pub blocks: usize,
-    /// How deeply emphasis, links and images may nest, 1 to 500; 0 stands for 100.
+    /// How deep emphasis, links and images may nest, 1 to 500; 0 means 100.
     pub inlines: usize,
     /// Whether the older rules hold, as by `cmk --older`.
     pub older: bool,
@@ -43,7 +43,7 @@ pub struct Options {
 }
 
 impl Options {
-    /// For texts from strangers, as by `cmk --safe`.
+    /// For texts from strangers, as with `cmk --safe`.
     pub const SAFE: Options =
         Options { bytes: 0, blocks: 0, inlines: 0, older: false, strike: false, no_html: true, web_links: true };
 }
@@ -57,7 +57,7 @@ struct Output {
     place: usize,
 }
 
-/// What the library tells that fills room of the caller's.
+/// What a call of the library that fills a caller's buffer returns.
 #[repr(C)]
 struct Filled {
     length: usize,
@@ -81,7 +81,7 @@ const LINE_ROOM: usize = 127;
 /// Why there is no output. Its `Display` is the line that the program prints.
 #[derive(Clone, Copy, Debug, PartialEq, Eq)]
 pub struct Error {
-    /// What the library answered: 1 for bytes that aren't UTF-8, and so on, as include/cmk.h has it.
+    /// What the library returned: 1 for bytes that aren't UTF-8, and so on, as include/cmk.h has it.
     pub number: u32,
     /// The byte, the line or the leaf of the fault, or the number of the reason why a tree can't be spelled.
     pub place: usize,
@@ -101,7 +101,7 @@ impl fmt::Display for Error {
 
 impl std::error::Error for Error {}
 
-/// An output of the library, seen as a string. Its memory is given back when it is dropped.
+/// An output of the library, seen as a string. Its memory is freed when it is dropped.
 pub struct Text(Output);
 
 // SAFETY: an output is a block of memory of its own, which nothing writes.
@@ -111,7 +111,7 @@ unsafe impl Sync for Text {}
 
 impl Text {
     fn bytes(&self) -> &[u8] {
-        // SAFETY: the library gave so many bytes, which stay until `self` is dropped.
+        // SAFETY: the library returned this number of bytes, which stay until `self` is dropped.
         unsafe { std::slice::from_raw_parts(self.0.bytes, self.0.length) }
     }
 }
