@@ -5,7 +5,7 @@ use Rattle.cm_tree.specs.declared.raw_blocks.RawFault.TheVariants as raw
 use Rattle.cm_block.specs.declared.fault.BlockFault.{BlockFault}
 use Rattle.cm_block.specs.declared.fault.BlockFault.TheVariants.{BlocksTooDeep, NoMemory, TooLarge}
 
--- a fault of the raw blocks, as the parser answers it
+-- a fault of the raw blocks, as the parser returns it
 abbrev pub block_fault : RawFault → BlockFault
 block_fault raw.NoMemory = NoMemory
 block_fault raw.TooLarge = TooLarge

@@ -1,4 +1,4 @@
--- Lines that go on with an open paragraph whatever else is open: lazy continuation lines, and lines of text
+-- Lines that continue an open paragraph whatever else is open: lazy continuation lines, and lines of text
 -- (CommonMark 0.31.2, 5.1 Block quotes, 5.2 List items).
 use Rattle.std.specs.Prelude.{◌≡◌, Bool, true, false}
 use Rattle.cm_text.specs.Rules.{Rules}

@@ -1,4 +1,4 @@
--- One level read from the left: the blocks so far, the list that an item may go on with, and what decides whether a list is loose
+-- One level read from the left: the blocks so far, the list that an item may continue, and what decides whether a list is loose
 -- (CommonMark 0.31.2, 5.3 Lists).
 use Rattle.std.specs.Prelude.{◌≡◌, Bool, true, false, not, ◌&&◌, ◌||◌, List, [], ◌∷◌, ◌++◌, Option, Some, None}
 use Rattle.cm_tree.specs.declared.tree.ListKind.{ListKind}
@@ -39,7 +39,7 @@ closed_blocks level = with_list level.blocks level.open_list
 abbrev pub push_blank : Level → Level
 push_blank level = record { blocks = level.blocks; open_list = level.open_list; has_block = level.has_block; ends_blank = true; separated = level.separated }
 
--- Opening a block: what a blank line right before it tells is settled then, and not when it is closed.
+-- Opening a block: what follows from a blank line right before it is settled then, and not when it is closed.
 
 abbrev pub separated_next : Level → Bool
 separated_next level = level.separated || level.has_block && level.ends_blank
@@ -71,7 +71,7 @@ abbrev pub item_opens_in : Level → Option OpenList → ListKind → Level
 item_opens_in level None kind = list_opens level kind
 item_opens_in level (Some list) kind = elim (is_same_kind list.kind kind) [ true ↦ list_goes_on level list | false ↦ list_opens level kind ]
 
--- A level in which an item is opened: it goes on with the open list if that is of its kind, or starts a list.
+-- A level in which an item is opened: it continues the open list if that is of its kind, or starts a list.
 abbrev pub item_opens : Level → ListKind → Level
 item_opens level kind = item_opens_in level level.open_list kind
 

@@ -78,7 +78,7 @@ begin_within rules (suc n) line = begin_by (λ inner. begin_within rules n inner
 unfoldable pub begin : Rules → LineView → Change
 begin rules line = begin_within rules (suc (marks line.text)) line
 
--- the parts are closed, and the line begins something
+-- the parts are closed, and the line starts something
 abbrev pub after_closing : Rules → List ClosedPart → LineView → Change
 after_closing rules closed_parts line = let c = begin rules line in change (closed_parts ++ c.closed) c.now
 

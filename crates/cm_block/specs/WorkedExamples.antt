@@ -1,4 +1,4 @@
--- Worked examples: what the stack holds behind the lines of a text.
+-- Worked examples: what the stack holds after the lines of a text.
 use Rattle.std.specs.FinMap.{empty, insert}
 use Rattle.std.specs.Prelude.{◌≡◌, ℕ, true, false, List, [], ◌∷◌, codes, Some, None}
 use Rattle.cm_text.specs.Rules.{profile}
@@ -18,20 +18,20 @@ use Rattle.cm_block.specs.Stack.{stack, empty_stack, close_stack, push_lines}
 use Rattle.cm_block.specs.Depths.{line_depths}
 use Rattle.cm_block.specs.Tests.{container_count}
 
--- Behind the text the level of the document stands so, with this open in it, and the lines, but those of the open leaf, have these
--- owners, which are of so many leaves, and this is the table of the definitions among these.
+-- After the text, the document has this level, with this open in it, and the lines, except those of the open leaf, have these
+-- owners, with this number of leaves, and this is the table of the definitions among these.
 abbrev pub Holds : List ℕ → Level → Open Level → List Owner → ℕ → Targets → Type 0
 Holds text level now owners leaves table = push_lines profile empty_stack (plain_lines_of text) ≡ stack level now (record { owners = owners; leaves = leaves; table = table })
 
--- a level in which nothing stands before the block that has been opened
+-- a level in which nothing is before the block that has been opened
 abbrev pub opened_level : Level
 opened_level = block_opens empty_level
 
--- the level of the document behind a quote of one definition and a blank line, where a paragraph has been opened
+-- the level of the document after a quote of one definition and a blank line, where a paragraph has been opened
 abbrev pub behind_a_definition : Level
 behind_a_definition = block_opens (push_blank (block_closes opened_level (Quote (Definition (codes "a") (codes "/u") [] ∷ []))))
 
--- the label `a` stands for this alone
+-- only the label `a` is defined, with this target
 abbrev pub one_target : Targets
 one_target = insert empty (codes "a") (codes "/u", [])
 

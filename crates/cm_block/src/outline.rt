@@ -121,7 +121,7 @@ impl Outline {
     ///
     /// # Errors
     ///
-    /// `NoMemory` where a request for memory was refused.
+    /// `NoMemory` if a request for memory was refused.
     pub fn to_blocks(&self, alloc: Global) -> Result<Items<Block>, NoMemory>
         ensures { IfOk result (λ blocks. blocks ≡ self.now.blocks) }
     {
@@ -137,7 +137,7 @@ impl Outline {
     ///
     /// # Errors
     ///
-    /// `NoMemory` where a request for memory was refused.
+    /// `NoMemory` if a request for memory was refused.
     pub fn to_owners(&self, alloc: Global) -> Result<Items<Owner>, NoMemory>
         ensures { IfOk result (λ owners. owners ≡ self.now.owners) }
     {

@@ -249,7 +249,7 @@ impl LineOwners {
     ///
     /// # Errors
     ///
-    /// `NoMemory` where a request for memory was refused.
+    /// `NoMemory` if a request for memory was refused.
     pub fn to_items(&self, alloc: Global) -> Result<Items<Owner>, NoMemory>
         ensures { IfOk result (λ owners. owners ≡ self.now) }
     {

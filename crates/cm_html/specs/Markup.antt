@@ -98,7 +98,7 @@ abbrev pub ended : Place → ℕ → List (List ℕ)
 ended (InTag tag names) b = if b == greater_than then tag ∷ [] else []
 ended place b = []
 
--- tags in front of those that follow, if there is nothing but markup
+-- tags before those that follow, if there is nothing but markup
 abbrev pub and_tag : List ℕ → Option (List (List ℕ)) → Option (List (List ℕ))
 and_tag tag None = None
 and_tag tag (Some tags) = Some (tag ∷ tags)

@@ -29,7 +29,7 @@ use std::alloc::{AllocError, Global};
 ///
 /// # Errors
 ///
-/// `NoMemory` where a request for memory was refused.
+/// `NoMemory` if a request for memory was refused.
 pub fn listing(alloc: Global, doc: &Doc) -> Result<String, NoMemory>
     ensures { IfOk result (λ listing. string_bytes listing ≡ listing_of doc.now.blocks doc.now.owners) }
 {

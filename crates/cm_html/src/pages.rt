@@ -58,7 +58,7 @@ impl Pages {
     ///
     /// # Errors
     ///
-    /// `AllocError` where a request for memory was refused.
+    /// `AllocError` if a request for memory was refused.
     pub fn new(alloc: Global) -> Result<Pages, AllocError>
         ensures { IfOk result (λ pages. pages ≡ []) }
     {
@@ -209,7 +209,7 @@ impl Pages {
     ///
     /// # Errors
     ///
-    /// `AllocError` where a request for memory was refused.
+    /// `AllocError` if a request for memory was refused.
     pub fn into_string(self) -> Result<String, AllocError>
         ensures { IfOk result (λ text. string_bytes text ≡ self) }
     {

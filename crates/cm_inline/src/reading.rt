@@ -209,7 +209,7 @@ impl InlineReader {
     ///
     /// # Errors
     ///
-    /// `InlinesTooDeep` where the inlines nest deeper than the limit, `NoMemory` where a request for memory
+    /// `InlinesTooDeep` where the inlines nest deeper than the limit, `NoMemory` if a request for memory
     /// was refused, `SourceTooLong` where the source has 2^32 bytes or more. The next leaf is read all the
     /// same.
     pub fn inlines(
@@ -230,7 +230,7 @@ impl InlineReader {
     ///
     /// # Errors
     ///
-    /// `AllocError` where a request for memory was refused.
+    /// `AllocError` if a request for memory was refused.
     pub fn one_text(&mut self, source: &str) -> Result<Items<Inline>, AllocError>
         ensures { IfOk result (λ inlines. inlines ≡ Text source.now ∷ []) }
     {

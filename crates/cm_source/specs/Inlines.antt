@@ -22,7 +22,7 @@ abbrev pub join : (first last : Bool) → List Spelled → List ℕ
 join first last [] = []
 join first last (next ∷ inlines) = next.spelling first (is_line_end last inlines) ++ join next.begins_line last inlines
 
--- an inline at which no line begins or ends
+-- an inline at which no line starts or ends
 abbrev pub inside_line : ((first last : Bool) → List ℕ) → Spelled
 inside_line spelling = record { spelling = spelling; ends_line = false; begins_line = false }
 

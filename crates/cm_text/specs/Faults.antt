@@ -16,7 +16,7 @@ valid_len limit bytes = utf8_valid_len (take limit bytes)
 abbrev pub after_valid : ℕ → List ℕ → List ℕ
 after_valid limit bytes = left_of (take limit bytes)
 
--- The fault that the bytes have however they go on: bytes that aren't UTF-8 within the limit, or else a byte
+-- The fault that the bytes have however they continue: bytes that aren't UTF-8 within the limit, or else a byte
 -- past the limit.
 abbrev pub settled_fault : ℕ → List ℕ → Option TextFault
 settled_fault limit bytes =

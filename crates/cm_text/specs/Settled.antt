@@ -1,4 +1,4 @@
--- When the bytes so far settle a fault of a text: it has this fault however it goes on.
+-- When the bytes so far settle a fault of a text: it has this fault however it continues.
 use Rattle.std.specs.Prelude.{◌≡◌, ◌↔◌, ℕ, ◌<◌, List, ◌++◌, Some, All}
 use Rattle.cm_text.specs.declared.fault.TextFault.{TextFault}
 use Rattle.cm_text.specs.Faults.{settled_fault, text_fault}

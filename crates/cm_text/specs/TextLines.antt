@@ -1,4 +1,4 @@
--- Lines of text: from their first bytes they can only be text (4.8 Paragraphs), so they go on with an open paragraph, whatever else
+-- Lines of text: from their first bytes they can only be text (4.8 Paragraphs), so they continue an open paragraph, whatever else
 -- is open.
 use Rattle.std.specs.Prelude.{◌≡◌, ℕ, zero, suc, ◌<◌, Bool, true, false, ◌==◌, ◌&&◌, ◌||◌, nat_le, List, [], ◌∷◌, length}
 use Rattle.std.specs.List.{flat_map}

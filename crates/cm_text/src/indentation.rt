@@ -23,7 +23,7 @@ pub fn indent(line: &Line) -> usize
 ///
 /// # Errors
 ///
-/// `NoMemory` where a request for memory was refused.
+/// `NoMemory` if a request for memory was refused.
 pub fn strip(alloc: Global, n: usize, line: &Line) -> Result<Line, NoMemory>
     ensures { IfOk result (λ stripped. seen_line stripped ≡ strip_columns n (seen_line line.now)) }
 {

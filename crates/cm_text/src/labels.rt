@@ -19,7 +19,7 @@ use std::borrow::CowStr;
 ///
 /// # Errors
 ///
-/// `NoMemory` where a request for memory was refused.
+/// `NoMemory` if a request for memory was refused.
 // It is a call of its own, so that a label which is lent pays nothing for it.
 #[inline(never)]
 #[tactic(auto, unfolding(crate::specs::Labels::fold_label))]

@@ -11,7 +11,7 @@ use std::alloc::Global;
 ///
 /// # Errors
 ///
-/// `NoMemory` where a request for memory was refused.
+/// `NoMemory` if a request for memory was refused.
 pub fn text_of(alloc: Global, whole: &str) -> Result<String, NoMemory>
     ensures { IfOk result (λ text. string_bytes text ≡ text_of whole.now) }
 {

@@ -21,7 +21,7 @@ use std::borrow::CowStr;
 ///
 /// # Errors
 ///
-/// `NoMemory` where a request for memory was refused.
+/// `NoMemory` if a request for memory was refused.
 pub fn unescape(alloc: Global, text: &str) -> Result<String, NoMemory>
     ensures { IfOk result (λ unescaped. string_bytes unescaped ≡ unescape text.now) }
 {
@@ -41,7 +41,7 @@ pub fn unescape(alloc: Global, text: &str) -> Result<String, NoMemory>
 ///
 /// # Errors
 ///
-/// `NoMemory` where a request for memory was refused.
+/// `NoMemory` if a request for memory was refused.
 #[inline(always)]
 pub fn unescape_or_lend(alloc: Global, text: &str) -> Result<CowStr<'_, Global>, NoMemory>
     ensures { IfOk result (λ unescaped. cow_str_bytes unescaped ≡ unescape text.now) }

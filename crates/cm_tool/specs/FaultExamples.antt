@@ -5,7 +5,7 @@ use Rattle.cm_text.specs.Limits.{LimitsView}
 use Rattle.cm_tool.specs.declared.fault.Fault.TheVariants.{NotUtf8, BlocksTooDeep, InlinesTooDeep}
 use Rattle.cm_tool.specs.Faults.{fault_of, settled_fault_of}
 
--- the limits with so many quotes and items round a line, and with so many inlines in one another
+-- the limits with this number of quotes and items around a line, and of inlines inside one another
 abbrev pub at_most : (blocks inlines : ℕ) → LimitsView
 at_most blocks inlines = record { bytes = 2 ^ 28; blocks = blocks; inlines = inlines; rules = profile }
 

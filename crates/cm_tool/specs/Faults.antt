@@ -39,7 +39,7 @@ fault_by None limits bytes = option_or (too_deep limits (plain_lines_of (text_of
 abbrev pub fault_of : LimitsView → List ℕ → Option Fault
 fault_of limits bytes = fault_by (text_fault limits.bytes bytes) limits bytes
 
--- The fault of the bytes however they go on. The last line, which hasn't ended, isn't judged, and no leaf is, since a definition
+-- The fault of the bytes however they continue. The last line, which hasn't ended, isn't judged, and no leaf is, since a definition
 -- after it may count.
 abbrev pub settled_fault_of : LimitsView → List ℕ → Option Fault
 settled_fault_of limits bytes = option_or (ended_too_deep limits bytes) (option_map told (settled_fault limits.bytes bytes))

@@ -23,7 +23,7 @@ pub record IsWhole (fault : Option Fault) (old new : SourceView) : Type 0 where
   pub at_end : IsAtEnd new.remaining
   pub sound : fault ≡ None
 
--- what was read has this fault: however it goes on, or because it is all
+-- what was read has this fault: however it continues, or because it is all
 pub record HasFault (settled whole : Option Fault) (old new : SourceView) (fault : Fault) : Type 0 where
   pub same : new.failed ≡ old.failed
   pub told : (settled ≡ Some fault) ⊎ ((settled ≡ None) × IsAtEnd new.remaining × (whole ≡ Some fault))
@@ -57,7 +57,7 @@ abbrev pub Reads : Result Doc Fault → LimitsView → List ℕ → SourceView �
 Reads (Ok doc) limits bytes old new = ReadWhole limits bytes old new × (doc ≡ doc_of limits.rules bytes)
 Reads (Err fault) limits bytes old new = Refuses fault limits bytes old new
 
--- what is wrong with the bytes as a text however they go on
+-- what is wrong with the bytes as a text however they continue
 abbrev pub settled_of_text : LimitsView → List ℕ → Option Fault
 settled_of_text limits bytes = option_map told (settled_fault limits.bytes bytes)
 

@@ -10,7 +10,7 @@ use Rattle.cm_tool.specs.ExampleLaws.{example_lines}
 abbrev pub file : List (List ℕ) → List ℕ
 file lines = flat_map with_line_feed lines
 
--- the arrow that stands for a tab
+-- the arrow for a tab
 abbrev pub arrow : List ℕ
 arrow = 0xE2 ∷ 0x86 ∷ 0x92 ∷ []
 

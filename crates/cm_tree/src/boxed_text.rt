@@ -40,7 +40,7 @@ impl BoxedText {
     ///
     /// # Errors
     ///
-    /// `AllocError` where a request for memory was refused; the text is then dropped.
+    /// `AllocError` if a request for memory was refused; the text is then dropped.
     pub fn new(alloc: Global, text: Text) -> Result<BoxedText, AllocError>
         ensures { IfOk result (λ boxed. boxed ≡ text) }
     {

@@ -66,7 +66,7 @@ impl Definitions {
     ///
     /// # Errors
     ///
-    /// `NoMemory` where a request for memory was refused; the table is then as it was.
+    /// `NoMemory` if a request for memory was refused; the table is then unchanged.
     pub fn add(&mut self, label: &str, dest: &str, title: &str) -> Result<(), NoMemory>
         ensures ok { OnOk result (self.new
             ≡ add_first self.old (fold_label label.now) (dest.now, title.now)) }
@@ -128,7 +128,7 @@ impl Definitions {
     ///
     /// # Errors
     ///
-    /// `NoMemory` where a request for memory was refused.
+    /// `NoMemory` if a request for memory was refused.
     pub fn find(&self, label: &str) -> Result<Option<(&str, &str)>, NoMemory>
         ensures { IfOk result (λ found.
             option_map (λ t. (t.0.now, t.1.now)) found ≡ map.get self.now (fold_label label.now)) }

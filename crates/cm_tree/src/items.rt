@@ -82,7 +82,7 @@ impl<T: Drop> Items<T> {
     ///
     /// # Errors
     ///
-    /// `AllocError` where a request for memory was refused; the list is then as it was, and the item is
+    /// `AllocError` if a request for memory was refused; the list is then unchanged, and the item is
     /// dropped.
     pub fn push(&mut self, item: T) -> Result<(), AllocError>
         ensures ok { OnOk result (self.new ≡ self.old ++ item ∷ []) }

@@ -67,7 +67,7 @@ impl LabelIndex {
     ///
     /// # Errors
     ///
-    /// `AllocError` where a request for memory was refused; the index is then as it was.
+    /// `AllocError` if a request for memory was refused; the index is then unchanged.
     pub(crate) fn put(
         &mut self,
         alloc: Global,

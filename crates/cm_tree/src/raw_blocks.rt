@@ -183,7 +183,7 @@ impl RawBlocks {
     ///
     /// # Errors
     ///
-    /// `AllocError` where a request for memory was refused.
+    /// `AllocError` if a request for memory was refused.
     pub fn with_room(alloc: Global) -> Result<RawBlocks, AllocError>
         ensures text { IfOk result (λ raw. raw.text ≡ []) }
         ensures blocks { IfOk result (λ raw. raw.blocks ≡ []) }
@@ -235,7 +235,7 @@ impl RawBlocks {
     ///
     /// # Errors
     ///
-    /// `NoMemory` where a request for memory was refused, `TooLarge` where a place would need more than 32
+    /// `NoMemory` if a request for memory was refused, `TooLarge` if a place would need more than 32
     /// bits.
     pub fn paragraph(&mut self, source: &str) -> Result<RawBlock, RawFault>
         ensures block { IfOk result (λ block.
@@ -252,7 +252,7 @@ impl RawBlocks {
     ///
     /// # Errors
     ///
-    /// `NoMemory` where a request for memory was refused, `TooLarge` where a place would need more than 32
+    /// `NoMemory` if a request for memory was refused, `TooLarge` if a place would need more than 32
     /// bits.
     pub fn heading(&mut self, level: u8, source: &str) -> Result<RawBlock, RawFault>
         ensures block { IfOk result (λ block.
@@ -270,7 +270,7 @@ impl RawBlocks {
     ///
     /// # Errors
     ///
-    /// `NoMemory` where a request for memory was refused, `TooLarge` where a place would need more than 32
+    /// `NoMemory` if a request for memory was refused, `TooLarge` if a place would need more than 32
     /// bits.
     pub fn code(&mut self, info: &str, text: &str) -> Result<RawBlock, RawFault>
         ensures block { IfOk result (λ block. block_in self.new block ≡ trees.Code info.now text.now) }
@@ -291,7 +291,7 @@ impl RawBlocks {
     ///
     /// # Errors
     ///
-    /// `NoMemory` where a request for memory was refused, `TooLarge` where a place would need more than 32
+    /// `NoMemory` if a request for memory was refused, `TooLarge` if a place would need more than 32
     /// bits.
     pub fn html(&mut self, text: &str) -> Result<RawBlock, RawFault>
         ensures block { IfOk result (λ block. block_in self.new block ≡ trees.Html text.now) }
@@ -308,7 +308,7 @@ impl RawBlocks {
     ///
     /// # Errors
     ///
-    /// `NoMemory` where a request for memory was refused, `TooLarge` where a place would need more than 32
+    /// `NoMemory` if a request for memory was refused, `TooLarge` if a place would need more than 32
     /// bits.
     pub fn definition(&mut self, label: &str, dest: &str, title: &str) -> Result<RawBlock, RawFault>
         ensures block { IfOk result (λ block.
@@ -332,7 +332,7 @@ impl RawBlocks {
     ///
     /// # Errors
     ///
-    /// `NoMemory` where a request for memory was refused, `TooLarge` where a place would need more than 32
+    /// `NoMemory` if a request for memory was refused, `TooLarge` if a place would need more than 32
     /// bits.
     pub fn item(&mut self, blocks: &[RawBlock]) -> Result<RawItem, RawFault>
         requires { ArePlaced self.old blocks.now }
@@ -351,7 +351,7 @@ impl RawBlocks {
     ///
     /// # Errors
     ///
-    /// `NoMemory` where a request for memory was refused, `TooLarge` where a place would need more than 32
+    /// `NoMemory` if a request for memory was refused, `TooLarge` if a place would need more than 32
     /// bits.
     pub fn quote(&mut self, blocks: &[RawBlock]) -> Result<RawBlock, RawFault>
         requires { ArePlaced self.old blocks.now }
@@ -369,7 +369,7 @@ impl RawBlocks {
     ///
     /// # Errors
     ///
-    /// `NoMemory` where a request for memory was refused, `TooLarge` where a place would need more than 32
+    /// `NoMemory` if a request for memory was refused, `TooLarge` if a place would need more than 32
     /// bits.
     pub fn list(
         &mut self,

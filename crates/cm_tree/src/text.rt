@@ -37,7 +37,7 @@ impl Text {
     ///
     /// # Errors
     ///
-    /// `AllocError` where a request for memory was refused.
+    /// `AllocError` if a request for memory was refused.
     pub fn from_str(alloc: Global, text: &str) -> Result<Text, AllocError>
         ensures { IfOk result (λ copy. copy ≡ text.now) }
     {
@@ -50,7 +50,7 @@ impl Text {
     ///
     /// # Errors
     ///
-    /// `AllocError` where a request for memory was refused; the text is then as it was.
+    /// `AllocError` if a request for memory was refused; the text is then unchanged.
     pub fn push_str(&mut self, more: &str) -> Result<(), AllocError>
         ensures ok { OnOk result (self.new ≡ self.old ++ more.now) }
         ensures err { OnErr result (self.new ≡ self.old) }

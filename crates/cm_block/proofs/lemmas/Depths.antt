@@ -1,4 +1,4 @@
--- How deep each line stands, from the left. That there is one depth a line is known of the whole; so a leaf's lines needn't be counted.
+-- How deep each line is, from the left. That there is one depth for each line is known of the whole; so a leaf's lines needn't be counted.
 use Rattle.std.specs.Prelude.{cond, not, ◌&&◌, nat_lt, replicate}
 use Rattle.std.specs.List.{position, position_or_len}
 use Rattle.std.specs.Option.{option_map}

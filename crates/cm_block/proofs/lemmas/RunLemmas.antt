@@ -120,7 +120,7 @@ pub fewer_lines : (text : List ℕ) (d : LinkDefinition) → link_definition tex
 fewer_lines [] d e = absurd (cc none_of_none)
 fewer_lines (b ∷ bs) d e = omega (arith, takes (b ∷ bs) d e)
 
--- the same of what a scanner read: what is left of the text stands for the definition's rest
+-- the same for what a scanner read: what is left of the text is the definition's rest
 
 abbrev pub read_at : (label dest title text : List ℕ) (end : ℕ) → LinkDefinition
 read_at label dest title text end = definition_with label dest title (drop end text)

@@ -43,12 +43,12 @@ unfoldable pub quoted_by : Bool → List Frame → Bool
 quoted_by quoted [] = quoted
 quoted_by quoted (f ∷ fs) = quoted_by (quoted_in f.container quoted) fs
 
--- the level in which the container stands, once that is closed
+-- the level that contains the container, once that is closed
 abbrev pub close_container : Container → Level → Level → Level
 close_container a_quote outside inside = block_closes outside (Quote (closed_blocks inside))
 close_container (an_item kind column) outside inside = item_closes outside (item_of inside)
 
--- the level in which the first of these containers stands, once all are closed
+-- the level that contains the first of these containers, once all are closed
 unfoldable pub close_frames : List Frame → Level → Level
 close_frames [] level = level
 close_frames (f ∷ fs) level = close_container f.container f.level (close_frames fs level)

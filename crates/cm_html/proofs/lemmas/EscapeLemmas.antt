@@ -6,7 +6,7 @@ use Rattle.cm_html.specs.steps.Bytes.{is_escaped, has_escape}
 use Rattle.cm_html.specs.Listing.{quote_byte}
 use Rattle.cm_text.proofs.lemmas.ReplacedLemmas.{Keeps, replaced-none}
 
--- any other byte stands for itself
+-- any other byte stays unchanged
 pub escape_byte-plain : Keeps is_escaped escape_byte
 escape_byte-plain b plain = grind arith
 

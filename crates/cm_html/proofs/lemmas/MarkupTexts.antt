@@ -30,7 +30,7 @@ by_byte P ampersand less greater quotation other b = at_38 (b == 38) refl
     at_38 true e = subst P (sym (eqb-true b 38 e)) ampersand
     at_38 false e = at_60 (b == 60) refl e
 
--- any other byte stands for itself, wherever it stands
+-- any other byte stays unchanged, wherever it is
 pub plain_byte : (b : ℕ) → (b == 38) ≡ false → (b == 60) ≡ false → (b == 62) ≡ false → (b == 34) ≡ false → escape_byte b ≡ b ∷ []
 plain_byte b n38 n60 n62 n34 = grind (arith, n38, n60, n62, n34)
 

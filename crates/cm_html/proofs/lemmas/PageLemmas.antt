@@ -65,7 +65,7 @@ insertion_behind from text (j ∷ is) i at order =
     ap (λ t. (slice_range text from j.place ++ j.text) ++ t) (insertion_behind j.place text is i at order.2)
     ∙ sym (append_assoc (slice_range text from j.place ++ j.text) (with_insertions j.place text is) i.text)
 
--- ---- text is put behind a page, unless memory runs out
+-- ---- text is put after a page, unless memory runs out
 
 module _ {Z : Type 0} (old new : String Z) (more : List ℕ) (is : List Insertion) (order : AreInOrder 0 (string_bytes old) is) where
   in_order : string_bytes new ≡ string_bytes old ++ more → AreInOrder 0 (string_bytes new) is

@@ -140,7 +140,7 @@ scheme-written (b ∷ bs) = at-58 (scheme-written bs) (b == 58) refl
         part-58 = refl
     at-58 more false e = at-part more (begins_a_part b) refl e
 
--- a scheme of the web is written as it stands
+-- a scheme of the web is written unchanged
 
 abbrev is_letter : ℕ → Bool
 is_letter b = within 65 90 b || within 97 122 b

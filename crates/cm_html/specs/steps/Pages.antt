@@ -6,7 +6,7 @@ use Rattle.cm_text.specs.Writing.{SinkView, Wrote, WroteFront}
 use Rattle.cm_text.specs.declared.writing.WriteFailed.{WriteFailed}
 use Rattle.cm_html.specs.declared.page.Insertion.{Insertion}
 
--- what stands from a place of the text on
+-- what is in the text from a place on
 abbrev pub with_insertions : (from : ℕ) → List ℕ → List Insertion → List ℕ
 with_insertions from text [] = drop from text
 with_insertions from text (i ∷ is) = (slice_range text from i.place ++ i.text) ++ with_insertions i.place text is

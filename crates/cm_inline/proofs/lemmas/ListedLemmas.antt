@@ -44,7 +44,7 @@ below-below slots (suc n) = go (is_at slots n) refl (below_more n (suc n) (liste
     go true e h = subst (Below (suc n)) (sym (below-in slots n e)) (omega arith, h)
     go false e h = subst (Below (suc n)) (sym (below-out slots n e)) h
 
--- the nearest entry below a number stands below it, is in the list, and none is between
+-- the nearest entry below a number is below it and in the list, and none is between
 pub first-below : (slots : List Slot) (n m : ℕ) → first_place (listed_below slots n) ≡ Some m → m < n
 first-below slots n m e = go (listed_below slots n) (below-below slots n) e
   where

@@ -24,7 +24,7 @@ use Rattle.cm_inline.specs.declared.missing_ends.Form.TheVariants.{Comment, Inst
 use Rattle.cm_inline.specs.declared.missing_ends.MissingEnds.{MissingEnds}
 use Rattle.cm_inline.specs.steps.Missing.{start_of, end_of, Missing, missing_from, behind_last, Knows, NoneFrom}
 
--- at the end of a source stands no word
+-- no word is at the end of a source
 past-nothing : (word : List ℕ) → behind_word word [] ≡ None
 unfolding behind_word
 past-nothing word = refl

@@ -564,7 +564,7 @@ none-left old new n size is = let none = none-there old size in (none, is ∙ ap
     take-none zero = refl
     take-none (suc n) = refl
 
--- the same, told of the same
+-- the same of the same
 pub same-read : (source : List ℕ) (at : ℕ) (nodes more : List Node) (brackets later : List Bracket) (links_end links : ℕ) (ends known : MissingEnds) → more ≡ nodes → later ≡ brackets → links ≡ links_end → known ≡ ends
     → IsRead source at nodes brackets links_end ends → IsRead source at more later links known
 same-read source at nodes more brackets later links_end links ends known n b l k r =

@@ -121,7 +121,7 @@ sound-below bs xs ys s c m h = beneath-front c (get_or bs (kind c) 0) xs ys (s c
 pub sound-push : (bs : List ℕ) (e : Entry) (es : List Entry) → ((k : ℕ) → get_or bs k 0 ≤ e.place) → AreSound bs es → AreSound bs (e ∷ es)
 sound-push bs e es p s c m h = ((λ q. (let r : get_or bs (kind c) 0 ≤ e.place = p (kind c) in absurd (omega (arith, r, q)))), s c m h)
 
--- Entries that stand for the openers among the items.
+-- Entries that represent the openers among the items.
 pub record Nearest (c : Run) (before : List Item) (e : Entry) (below : List Entry) : Type 0 where
   pub inside : List Item
   pub low : List Item

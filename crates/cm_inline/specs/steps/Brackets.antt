@@ -1,4 +1,4 @@
--- Brackets of which nothing was made yet, and what a `]` makes of the nodes.
+-- Brackets that are still open, and what a `]` makes of the nodes.
 use Rattle.std.specs.Prelude.{◌≡◌, ℕ, suc, ◌+◌, ◌^◌, ◌<◌, ◌≤◌, Bool, true, false, nat_lt, not, ◌&&◌, List, [], ◌∷◌, ◌++◌, length, take, drop, reverse, Option, None, ⊤}
 use Rattle.std.specs.List.{slice_range}
 use Rattle.std.specs.Str.{IsCharBoundary}

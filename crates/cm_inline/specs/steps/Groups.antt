@@ -30,7 +30,7 @@ made_of kinds.Strike target content = inlines.Strike content
 made_of kinds.Link target content = inlines.Link target.0 target.1 content
 made_of kinds.Image target content = inlines.Image target.0 target.1 content
 
--- and of nodes of which nothing more is made
+-- and of nodes that are settled
 abbrev pub made_by : Kind → Target → List Node → Made
 made_by kind target nodes source = made_of kind target (settled (items_of source nodes))
 
@@ -81,7 +81,7 @@ AreTargets texts (group ∷ groups) = IsKept texts group.target × AreTargets te
 abbrev pub IsAt : List Grouped → ℕ → Grouped → Type 0
 IsAt groups number group = group ≡ get_or groups number group
 
--- what no token stands for that was read
+-- what no token that was read represents
 abbrev pub nothing_made : Made
 nothing_made source = inlines.Emph []
 
@@ -132,7 +132,7 @@ nodes_in held = nodes_of (groups_made held.inside held.groups) held.before
 unfoldable pub waiting_in : Held → List Node
 waiting_in held = nodes_of (groups_made held.inside held.groups) held.rest
 
--- the items to which the nodes come, and those of the nodes from a number on
+-- the items that the nodes become, and those of the nodes from a number on
 abbrev pub items_in : List ℕ → Held → List Item
 items_in source held = items_of source (nodes_in held)
 

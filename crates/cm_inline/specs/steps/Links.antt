@@ -33,7 +33,7 @@ ends_of source (Some e) = Some (record { dest = (found_target e.target).0; title
 abbrev pub leads_to : Option Target → List ℕ → Option brackets.LinkEnd
 leads_to target rest = option_map (λ t. brackets.link_end t rest) target
 
--- what the label that was read stands for, if one was
+-- the target of the label that was read, if one was
 abbrev pub target_by : Defined → Option (Bor (List ℕ)) → Option Target
 target_by defined None = None
 target_by defined (Some label) = target_of defined label.now

@@ -113,7 +113,7 @@ node_plain source node = text_in source node
 abbrev pub nodes_plain : List ℕ → List Node → List ℕ
 nodes_plain source nodes = flat_map (node_plain source) nodes
 
--- the text with which the nodes start
+-- the text at the start of the nodes
 abbrev pub text_in_front : List ℕ → List Node → List ℕ
 text_in_front source [] = []
 text_in_front source (node ∷ nodes) = elim (is_text node) [ true ↦ text_in source node ++ text_in_front source nodes | false ↦ [] ]

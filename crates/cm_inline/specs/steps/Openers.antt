@@ -90,11 +90,11 @@ Opens old new place closer opener =
     → Open before new.list new.bottoms place closer opener × ((kinds : ℕ) → spent kinds new.list new.bottoms ≤ spent kinds old.list old.bottoms + 1)
     × (old.list.looks + 1 ≤ new.list.looks)
 
--- a run of which so much is left
+-- a run with this number of characters left
 abbrev pub cut : ℕ → Run → Run
 cut left r = record r { left = left }
 
--- this is what is left of a run of which something was taken
+-- this is what is left of a run that lost something
 abbrev pub IsRestOf : DelimiterRun → DelimiterRun → Type 0
 IsRestOf rest run = (run_of rest ≡ cut rest.left (run_of run)) × (rest.left < run.left)
 

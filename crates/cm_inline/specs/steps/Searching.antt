@@ -39,7 +39,7 @@ NoneAnswers c (e ∷ es) = (answers c e ≡ false) × NoneAnswers c es
 abbrev pub AreSound : List ℕ → List Entry → Type 0
 AreSound bottoms es = (c : Run) → IsMarked c → c.closes ≡ true → NoneBeneath c (get_or bottoms (kind c) 0) es
 
--- The openers among the items before a place, which are given with the last first: where each stands, and its run.
+-- The openers among the items before a place, which are given with the last first: where each is, and its run.
 unfoldable pub openers_of : List Item → List (ℕ × Run)
 openers_of [] = []
 openers_of (Delimiters r ∷ before) = cond r.opens ((length before, r) ∷ openers_of before) (openers_of before)

@@ -33,7 +33,7 @@ pub data NextLine : Type 0 where
   Ends : NextLine
   Underlines : ℕ → NextLine
 
--- a line that interrupts the run, or goes on with it
+-- a line that interrupts the run, or continues it
 abbrev pub by_interruption : Bool → NextLine
 by_interruption true = Ends
 by_interruption false = GoesOn

@@ -4,13 +4,13 @@ use Rattle.cm_text.specs.Bytes.{underscore, tilde}
 use Rattle.cm_text.specs.Rules.{Rules}
 use Rattle.cm_text.specs.Characters.{is_space, is_punct_by}
 
--- how a run sees the character beside it
+-- how a run sees the character next to it
 pub data Neighbour : Type 0 where
   whitespace : Neighbour
   punctuation : Neighbour
   other : Neighbour
 
--- how a run sees the character beside it; the beginning and the end of the leaf count as Unicode whitespace
+-- how a run sees the character next to it; the start and the end of the leaf count as Unicode whitespace
 unfoldable pub neighbour : Rules → Option ℕ → Neighbour
 neighbour rules None = whitespace
 neighbour rules (Some c) = if is_space c then whitespace else (if is_punct_by rules c then punctuation else other)

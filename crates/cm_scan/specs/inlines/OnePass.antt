@@ -50,7 +50,7 @@ one_pass items = pass_from [] items
 abbrev pub PairsInOnePass : Type 0
 PairsInOnePass = (items : List Item) → pair_all items ≡ one_pass items
 
--- stars, so many of them in a run, that may open or may close alone
+-- a run with the given number of stars, which may only open or only close
 abbrev pub opening_stars : ℕ → Item
 opening_stars n = Delimiters (record { character = 42; whole = n; left = n; opens = true; closes = false })
 

@@ -82,7 +82,7 @@ pub record DefinitionExamples : Type 0 where
   pub definition_in_an_item : Reads (codes "- a\n- b\n\n  [ref]: /url\n") (ListBlock Dash false ((text_paragraph (codes "a") ∷ []) ∷ (text_paragraph (codes "b") ∷ Definition (codes "ref") (codes "/url") [] ∷ []) ∷ []) ∷ []) (Leaf 1 ∷ Leaf 2 ∷ Blank ∷ Leaf 3 ∷ [])
   pub definition_makes_it_loose : Reads (codes "- a\n- b\n\n  [ref]: /url\n- d\n") (ListBlock Dash false ((text_paragraph (codes "a") ∷ []) ∷ (text_paragraph (codes "b") ∷ Definition (codes "ref") (codes "/url") [] ∷ []) ∷ (text_paragraph (codes "d") ∷ []) ∷ []) ∷ []) (Leaf 1 ∷ Leaf 2 ∷ Blank ∷ Leaf 3 ∷ Leaf 4 ∷ [])
 
--- so many quotes, and a paragraph in the innermost
+-- the given number of quotes, and a paragraph in the innermost
 abbrev pub quotes : ℕ → List ℕ
 quotes n = flat_map (λ b. b ∷ 32 ∷ []) (replicate n 62) ++ codes "a\n"
 
@@ -93,7 +93,7 @@ pub record DepthExamples : Type 0 where
   pub hundred_quotes : first_too_deep profile 100 (plain_lines_of (quotes 100)) ≡ None
   pub one_more : first_too_deep profile 100 (plain_lines_of (quotes 101)) ≡ Some 1
 
--- a label of so many letters, and a destination of so many parentheses in one another
+-- a label with a number of letters, and a destination with a number of parentheses inside one another
 abbrev pub long_label : ℕ → List ℕ
 long_label n = 91 ∷ replicate n 97 ++ codes "]: /u"
 

@@ -32,7 +32,7 @@ pub record ReadsAtMargin (rules : Rules) (line : LineView) : Type 0 where
 abbrev pub UnindentedLine : Type 0
 UnindentedLine = (rules : Rules) (line : LineView) → line.lazy ≡ false → is_unindented line.text ≡ true → ReadsAtMargin rules line
 
--- Markers and a space behind them
+-- Markers followed by a space
 
 -- a line after the given number of columns, with this text left
 abbrev pub after_columns : ℕ → List ℕ → LineView → LineView
@@ -62,7 +62,7 @@ ItemAlone = (marker : ItemMarker) (line : LineView) → length line.text ≡ mar
 
 -- Runs of text
 
--- the lines all go on with a run of text, one after another, and make its source the longer one
+-- the lines all continue a run of text, one after another, and make its source the longer one
 pub data AllGoOn (rules : Rules) : List ℕ → List LineView → List ℕ → Type 0 where
   no_more : {source : List ℕ} → AllGoOn rules source [] source
   one_goes_on : {source longer : List ℕ} {line : LineView} {lines : List LineView} → next_line rules source line ≡ GoesOn
@@ -73,12 +73,12 @@ abbrev pub FirstEnds : Rules → List ℕ → List LineView → Type 0
 FirstEnds rules source [] = ⊤
 FirstEnds rules source (line ∷ lines) = next_line rules source line ≡ Ends
 
--- A run of text has the lines that go on with it, up to the one that ends it.
+-- A run of text has the lines that continue it, up to the one that ends it.
 abbrev pub RunUpToItsEnd : Type 0
 RunUpToItsEnd = (rules : Rules) (source longer : List ℕ) (lines rest : List LineView) → AllGoOn rules source lines longer → FirstEnds rules longer rest
     → text_run rules source (lines ++ rest) ≡ record { source = longer; level = None; following = rest }
 
--- A run of text has the lines that go on with it, up to its underline.
+-- A run of text has the lines that continue it, up to its underline.
 abbrev pub RunUpToItsUnderline : Type 0
 RunUpToItsUnderline = (rules : Rules) (source longer : List ℕ) (lines rest : List LineView) (line : LineView) (level : ℕ) → AllGoOn rules source lines longer
     → next_line rules longer line ≡ Underlines level

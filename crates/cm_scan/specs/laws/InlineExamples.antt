@@ -104,7 +104,7 @@ pub record ClosesStrongExamples : Type 0 where
   pub underscores_inside_words : Reads (codes "__foo__bar__baz__") (Strong (Text (codes "foo__bar__baz") ∷ []) ∷ [])
   pub underscores_before_a_full_stop : Reads (codes "__(bar)__.") (Strong (Text (codes "(bar)") ∷ []) ∷ Text (codes ".") ∷ [])
 
--- rules 9 and 10: what stands inside, and the rule of three
+-- rules 9 and 10: what is inside, and the rule of three
 pub record InsideEmphasisExamples : Type 0 where
   pub link : Reads (codes "*foo [bar](/url)*") (Emph (Text (codes "foo ") ∷ Link (codes "/url") [] (Text (codes "bar") ∷ []) ∷ []) ∷ [])
   pub line_ending : Reads (codes "*foo\nbar*") (Emph (Text (codes "foo") ∷ Soft ∷ Text (codes "bar") ∷ []) ∷ [])

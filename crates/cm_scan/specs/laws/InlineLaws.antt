@@ -12,7 +12,7 @@ use Rattle.cm_scan.specs.inlines.Atoms.{is_markup}
 use Rattle.cm_scan.specs.inlines.Brackets.{Defined, close_bracket}
 use Rattle.cm_scan.specs.inlines.Inlines.{item_step, items_after, inlines_of}
 
--- Reading goes on after a step as if the source started there: only the bytes before it matter, and the items so far.
+-- Reading continues after a step as if the source started there: only the bytes before it matter, and the items so far.
 abbrev pub ReadingGoesOn : Type 0
 ReadingGoesOn = (rules : Rules) (defined : Defined) (before : List ℕ) (b : ℕ) (taken rest : List ℕ) (items : List Item)
     → (item_step rules defined before b (taken ++ rest) items).rest ≡ rest

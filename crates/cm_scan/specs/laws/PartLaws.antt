@@ -124,7 +124,7 @@ pub record LeavesNamed : Type 0 where
   pub in_leaf : Bool
   pub count : ℕ
 
--- One more line: it starts the next leaf, goes on with the last one, or belongs to none; anything else is out of order.
+-- One more line: it starts the next leaf, continues the last one, or belongs to none; anything else is out of order.
 abbrev pub name_line : LeavesNamed → Owner → Option LeavesNamed
 name_line so_far (Leaf number) =
     if number == suc so_far.count then Some (record { in_leaf = true; count = suc so_far.count })

@@ -17,7 +17,7 @@ ended_at text from end = option_map (λ e. record { text = slice_range text from
 abbrev pub title_end : ℕ → Option ℕ
 title_end b = if b == 34 then Some 34 else (if b == 39 then Some 39 else (if b == 40 then Some 41 else None))
 
--- a byte with which a bare destination ends
+-- a byte that ends a bare destination
 abbrev pub ends_bare : ℕ → ℕ → Bool
 ends_bare opened b = b == 32 || is_control b || (b == 41 && opened == 0)
 
@@ -42,7 +42,7 @@ is_plain b = nat_lt b 128 && not (list_any (λ c. c == b) (codes "\n\"'()<>[\\]"
 abbrev pub fits : ℕ → (blank_lines : Bool) → Reading → Bool
 fits most blank_lines r = nat_le (characters r.text) most && (blank_lines || has_no_blank_line r)
 
--- a line feed with which a blank line starts
+-- a line feed that starts a blank line
 abbrev pub blank_follows : ℕ → List ℕ → Bool
 blank_follows b bs = b == 10 && begins_with 10 (trim_start bs)
 

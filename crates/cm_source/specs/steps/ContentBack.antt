@@ -98,7 +98,7 @@ mutual
 abbrev pub FittingReadsBack : Type 0
 FittingReadsBack = (rules : Rules) (defined : Defined) (content : List Inline) → FitsAll rules true true true [] content [] → inlines_of rules defined (spelled_content content) ≡ content
 
--- What is spelled for a text, a destination, a title or an info string stands for it, once escapes and references are resolved.
+-- What is spelled for a text, a destination, a title or an info string is that text, once escapes and references are resolved.
 abbrev pub TextUnescapes : Type 0
 TextUnescapes = (first last : Bool) (text : List ℕ) → has_nul text ≡ false → unescape (spelled_text first last text) ≡ text
 

@@ -1,4 +1,4 @@
--- What the sources of contents and info strings are, so that the blocks in which they stand read back.
+-- What the sources of contents and info strings are, so that their blocks read back.
 use Rattle.std.specs.Prelude.{◌≡◌, ⊤, ℕ, Bool, true, false, not, ◌&&◌, ◌||◌, List, [], ◌∷◌, None, ◌==◌}
 use Rattle.std.specs.List.{list_all, list_any}
 use Rattle.cm_text.specs.Rules.{Rules}

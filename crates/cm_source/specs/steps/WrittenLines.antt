@@ -12,7 +12,7 @@ behind front (b ∷ bs) = front ++ b ∷ bs
 abbrev pub further_lines : (front : List ℕ) → List (List ℕ) → List ℕ
 further_lines front lines = flat_map (λ line. behind front line ++ 10 ∷ []) lines
 
--- lines, of which the first is after something else
+-- lines, the first after something else
 abbrev pub all_lines : (first front : List ℕ) → List (List ℕ) → List ℕ
 all_lines first front [] = []
 all_lines first front (line ∷ lines) = behind first line ++ 10 ∷ further_lines front lines

@@ -130,7 +130,7 @@ char_read made next g c rest text h e n = rw (n, e) (text_read made g (encode c)
 pub none_read : (made rest text : List ℕ) → made ≡ [] → rest ≡ text → made ++ rest_after made false rest ≡ settle_gaps text
 none_read made rest text e f = rw (e, f) (after_is text)
 
--- ---- a text that is settled as it stands
+-- ---- a text that is settled unchanged
 
 module _ (b : ℕ) (bs : List ℕ) (plain : is_settled false bs ≡ true → after false bs ≡ bs) (behind : is_settled true bs ≡ true → after true bs ≡ 32 ∷ bs) where
   settled_plain : (g : Bool) → is_gap b ≡ g → settled_by g false (b == 32) (is_settled true bs) (is_settled false bs) ≡ true → after false (b ∷ bs) ≡ b ∷ bs

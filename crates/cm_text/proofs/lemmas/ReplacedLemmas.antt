@@ -5,7 +5,7 @@ use Rattle.std.specs.List.{position, position_or_len}
 use Rattle.std.proofs.lemmas.List.Quantifiers.{position-Some}
 use Rattle.std.proofs.lemmas.List.Sums.{fails_before_first}
 
--- each byte that fails the test stands for itself
+-- each byte that fails the test stays unchanged
 abbrev pub Keeps : (ℕ → Bool) → (ℕ → List ℕ) → Type 0
 Keeps p f = (b : ℕ) → p b ≡ false → f b ≡ b ∷ []
 
@@ -13,7 +13,7 @@ Keeps p f = (b : ℕ) → p b ≡ false → f b ≡ b ∷ []
 replaced-cons : (p : ℕ → Bool) (f : ℕ → List ℕ) → Keeps p f → (b : ℕ) (bs : List ℕ) → p b ≡ false → flat_map f (b ∷ bs) ≡ b ∷ flat_map f bs
 replaced-cons p f keeps b bs plain = ap (λ front. front ++ flat_map f bs) (keeps b plain)
 
--- a text up to a byte before which each stands for itself
+-- a text up to a byte before which each stays unchanged
 replaced-at : (p : ℕ → Bool) (f : ℕ → List ℕ) → Keeps p f → (bs : List ℕ) (i : ℕ) → i < length bs → ((k : ℕ) → k < i → p (get_or bs k 0) ≡ false)
     → flat_map f bs ≡ take i bs ++ (f (get_or bs i 0) ++ flat_map f (drop (suc i) bs))
 replaced-at p f keeps [] i within plain = absurd (omega arith)
@@ -22,7 +22,7 @@ replaced-at p f keeps (b ∷ bs) (suc i) within plain =
     replaced-cons p f keeps b bs (plain 0 (omega arith))
     ∙ ap (λ rest. b ∷ rest) (replaced-at p f keeps bs i (omega arith) (λ k below. plain (suc k) (omega arith)))
 
--- a text in which each byte stands for itself
+-- a text in which each byte stays unchanged
 replaced-all : (p : ℕ → Bool) (f : ℕ → List ℕ) → Keeps p f → (bs : List ℕ) → ((k : ℕ) → k < length bs → p (get_or bs k 0) ≡ false) → flat_map f bs ≡ bs
 replaced-all p f keeps [] plain = refl
 replaced-all p f keeps (b ∷ bs) plain =

@@ -157,7 +157,7 @@ first-byte p bs at found place e = subst (IsFirstByte p bs) (sym e) (go (nat_lt 
 pub from_the_front : (p : ℕ → Bool) (bs : List ℕ) → next_place p bs 0 ≡ position_or_len p bs
 from_the_front p bs = omega (arith, prefix_len-le-length (λ b. not (p b)) bs)
 
--- ---- the spaces in front of a text
+-- ---- the spaces before a text
 
 pub spaces_first : (bs : List ℕ) (k : ℕ) → k < position_or_len is_no_space bs → get_or bs k 0 ≡ 32
 spaces_first bs k below =

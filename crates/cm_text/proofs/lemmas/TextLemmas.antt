@@ -1,4 +1,4 @@
--- A text in which U+FFFD stands for U+0000.
+-- A text with U+FFFD in place of U+0000.
 use Rattle.std.proofs.Common.{◌≡◌, ◌∙◌, ◌<◌, ◌≤◌, ◌*◌, ℕ, zero, suc, ◌+◌, Bool, true, false, cond, List, [], ◌∷◌, ◌++◌, length, take, drop, refl, sym, ap, arith, add-one, append_assoc, length-append, ◌==◌}
 use Rattle.std.specs.Str.Lossy.{replacement_bytes}
 use Rattle.memchr.specs.Find.{is_byte, Passes, Nowhere}

@@ -97,7 +97,7 @@ unescape-special text characters len h = from_front text len h (special-within t
       ∙ ap (λ k. encode_utf8_all characters ++ unescape_after k bs) less
       ∙ ap (λ t. encode_utf8_all characters ++ t) (unescape-skip n bs)
 
--- any other byte stands for itself
+-- any other byte stays unchanged
 pub unescape-other : (b : ℕ) (bs : List ℕ) → special (b ∷ bs) ≡ None → unescape (b ∷ bs) ≡ b ∷ unescape bs
 unescape-other b bs h = next-front b bs None h
 
@@ -105,7 +105,7 @@ no-escape : (b : ℕ) (bs : List ℕ) → (b == 92) ≡ false → escape (b ∷ 
 no-escape b [] h = refl
 no-escape b (c ∷ cs) h = ap (λ t. if t && is_ascii_punct c then Some (c ∷ [], 2) else None) h
 
--- nothing is read where neither a backslash nor an ampersand stands
+-- nothing is read where there is neither a backslash nor an ampersand
 pub special-none : (b : ℕ) (bs : List ℕ) → (b == 92) ≡ false → (b == 38) ≡ false → special (b ∷ bs) ≡ None
 special-none b bs h k = special-reference (b ∷ bs) (sym (no-escape b bs h)) ∙ reference-none (b ∷ bs) k
 
@@ -128,7 +128,7 @@ put-special text given characters old new len same read put =
     ap (λ t. t ++ unescape (drop len text)) put ∙ append_assoc old (encode_utf8_all characters) (unescape (drop len text))
     ∙ ap (λ t. old ++ t) (sym (unescape-special text characters len (ap special (sym same) ∙ sym read)))
 
--- a run without backslash and ampersand stands for itself
+-- a run without backslash and ampersand stays unchanged
 run-step : (b : ℕ) (bs : List ℕ) → (is_byte2 92 38 b ≡ true → ⊥) → unescape (b ∷ bs) ≡ b ∷ unescape bs
 run-step b bs h = let other = other-byte b h in unescape-other b bs (special-none b bs other.0 other.1)
 

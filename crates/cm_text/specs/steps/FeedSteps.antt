@@ -1,4 +1,4 @@
--- What a feed holds after one more piece, told by what it held before.
+-- What a feed holds after one more piece, given what it held before.
 use Rattle.std.specs.Prelude.{◌≡◌, ℕ, ◌+◌, ◌-◌, ◌<◌, nat_lt, if◌then◌else◌, true, false, List, [], ◌++◌, length, map, take, Option, Some, None, Result, Ok, Err, is_some}
 use Rattle.std.specs.Str.Lossy.{utf8_valid_len, utf8_error_len}
 use Rattle.cm_text.specs.declared.fault.TextFault.{TextFault}
@@ -75,7 +75,7 @@ abbrev pub Moves : List LineView → Feed → List LineView → Feed → Type 0
 Moves ready old more new =
     (lines : List LineView) × (more ≡ ready ++ lines) × (old.cut.ended ≡ lines ++ new.cut.ended) × (new ≡ with_ready new.cut.ended old)
 
--- and the others, of which there are some, were let go
+-- and the others, at least one, were dropped
 pub record LetsGo (ready : List LineView) (old : Feed) (more : List LineView) (new : Feed) : Type 0 where
   pub gone : List LineView
   pub left : List LineView

@@ -15,6 +15,6 @@ first_at i = slice_index CHARACTERS i
 unfoldable pub name_at : ℕ → List ℕ
 name_at i = take (start_at (i + 1) - start_at i) (drop (start_at i) names_joined)
 
--- and the characters for which it stands: ngE, at place 122, is the one name of two characters
+-- and its characters: ngE, at place 122, is the one name of two characters
 unfoldable pub characters_at : ℕ → List ℕ
 characters_at i = first_at i ∷ (if i == 122 then 0x338 ∷ [] else [])

@@ -1,4 +1,4 @@
--- How far the lines of text go with which a text starts.
+-- The extent of the lines of text at the start of a text.
 use Rattle.std.specs.Prelude.{◌≡◌, ℕ, ◌<◌, ◌≤◌, true, List, length, take, drop}
 use Rattle.std.specs.List.{flat_map}
 use Rattle.std.specs.Str.{IsCharBoundary}

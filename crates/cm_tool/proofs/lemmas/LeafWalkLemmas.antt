@@ -48,7 +48,7 @@ module _ (first now : LeafWalk) (whole some rest all : List ℕ) (is : all ≡ s
 pub reads_none : (first now : LeafWalk) (whole rest : List ℕ) → rest ≡ [] → Reads first now whole rest → HasRead first now whole
 reads_none first now whole rest none so_far = (so_far.0, left_none first.unread.limits.inlines first.next now.next whole rest none so_far.1)
 
--- ---- a walk that begins with the first leaf
+-- ---- a walk that starts with the first leaf
 
 module _ (walk : LeafWalk) (limits : LimitsView) (blocks : List Block) (first : walk.next ≡ 1) (same : walk.unread.limits ≡ limits) (is : all_left walk.unread ≡ blocks) where
   pub begun_told : (fault : Fault) → TellsOf walk fault (leaf_depths (all_left walk.unread)) → TellsFault fault (option_map InlinesTooDeep (first_leaf_past limits.inlines blocks))
@@ -65,7 +65,7 @@ module _ (walk : LeafWalk) (limits : LimitsView) (blocks : List Block) (first : 
       (subst (λ n. Passes walk.unread.limits.inlines n behind (leaf_depths blocks)) first
       (subst (λ blocks. Passes walk.unread.limits.inlines walk.next behind (leaf_depths blocks)) is passes)))
 
--- ---- what stands at a place
+-- ---- what is at a place
 
 pub none_there : {A B : Type 0} (f : List A → List B) (xs : List A) (at to : ℕ) → to ≤ at → f (slice_range xs at to) ≡ f []
 none_there f xs at to past = let gap : to - at ≡ 0 = omega (arith, past) in ap (λ n. f (take n (drop at xs))) gap
@@ -99,7 +99,7 @@ module _ (first now : LeafWalk) (from at to : ℕ) (same : now.unread ≡ first.
         subst (λ unread. blocks_depth (item_in unread.raw item) < items_depth (slice_range first.unread.raw.items from to)) (sym same)
         (item_depth from at to begins less first.unread.raw.items (item_in first.unread.raw item) ends item_there)
 
--- ---- one more block, or item, of those between two places: its leaves come behind those that have been read
+-- ---- one more block, or item, of those between two places: its leaves come after those that have been read
 
 module _ (first now : LeafWalk) (from at to : ℕ) (begins : from ≤ at) (less : at < to) where
   module _ (so_far : Reads first now (leaf_depths (blocks_read_at first.unread from to)) (leaf_depths (blocks_read_at first.unread at to)))

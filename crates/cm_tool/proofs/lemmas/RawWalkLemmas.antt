@@ -27,7 +27,7 @@ use Rattle.cm_tool.specs.Parsing.{TellsFault}
 use Rattle.cm_tool.specs.steps.Items.{items_read, items_leaf_depths}
 use Rattle.cm_tool.specs.steps.Numbering.{Passes, TellsLeaf}
 
--- ---- parts one after another
+-- ---- chunks one after another
 
 -- between a start and an end
 pub enclosed : {A : Type 0} (old started middle done start inside end : List A) → started ≡ old ++ start → middle ≡ started ++ inside → done ≡ middle ++ end

@@ -91,7 +91,7 @@ too_long_past limit bytes at e = ltb-true limit (length bytes) (by_tests (is_som
     by_tests false true n e = refl
     by_tests false false n e = cc
 
--- want of memory is no fault of bytes
+-- lack of memory is no fault of bytes
 never_memory : (limit : ℕ) (bytes : List ℕ) → settled_fault limit bytes ≡ Some text.NoMemory → ⊥
 never_memory limit bytes e = by_tests (is_some (utf8_error_len (after_valid limit bytes))) (nat_lt limit (length bytes)) (valid_len limit bytes) e
   where

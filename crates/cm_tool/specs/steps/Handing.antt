@@ -1,4 +1,4 @@
--- Lines of a buffer that are handed to the blocks.
+-- Lines of a buffer that are passed to the blocks.
 use Rattle.std.specs.Prelude.{◌≡◌, ℕ, ◌+◌, List, ◌++◌, length}
 use Rattle.cm_text.specs.Lines.{LineView}
 use Rattle.cm_text.specs.Feed.{Feed, StandsFor, with_ready}

@@ -9,6 +9,6 @@ use Rattle.cm_tool.specs.Parsing.{TellsFault}
 abbrev pub Passes : (limit first behind : ℕ) → (depths : List ℕ) → Type 0
 Passes limit first behind depths = (more : List ℕ) → first_past limit first (depths ++ more) ≡ first_past limit behind more
 
--- why leaves of these depths aren't read, where the first of them has this number: the first past the limit, or want of memory
+-- why leaves of these depths aren't read, where the first of them has this number: the first past the limit, or lack of memory
 abbrev pub TellsLeaf : Fault → (limit first : ℕ) → (depths : List ℕ) → Type 0
 TellsLeaf fault limit first depths = (more : List ℕ) → TellsFault fault (option_map InlinesTooDeep (first_past limit first (depths ++ more)))

@@ -95,7 +95,7 @@ made old label new more e target is utf8 grows from to number keeps web =
       is_target = keeps.is;
     }
 
--- what stands under a label
+-- what a label has
 
 same-test : (a b : List ℕ) → a ≡ b → is_eq (slice_cmp nat_cmp b a) ≡ true
 same-test a b same = ap (λ k. is_eq (slice_cmp nat_cmp b k)) same ∙ (eq_by_cmp_equiv nat_list_cmp_total).refl b
@@ -166,7 +166,7 @@ module _ (text : List ℕ) (es now : List Entry) (e : Entry) (before after : Lab
       ∙ ap targets_of (λ i. entries_in text es ++ (made.is_label i, made.is_target i) ∷ [])
       ∙ from_entries_push nat_list_cmp_total (slice_cmp-IsAntisymmetric nat_cmp-IsAntisymmetric) (entries_in text es) label target (find-new text es label new)
 
--- the same, of what a call told that may have found no memory
+-- the same for the result of a call that may have found no memory
 
 module _ (E : Type 0) (old text : List ℕ) (es now : List Entry) (e : Entry) (before after : LabelIndex) (label : List ℕ) (target : Target) (value : Targets)
     (grows : GoesOn old text) (are : AreKept old es before) (made : IsMade text e label target) (is : targets_of (entries_in old es) ≡ value) (absent : get value label ≡ None) where

@@ -5,7 +5,7 @@ use Rattle.std.specs.Str.{bytes_eq}
 use Rattle.cm_tree.specs.declared.label_index.LabelIndex.{LabelIndex}
 use Rattle.cm_tree.specs.steps.LabelNumbers.{number_of}
 
--- in how many slots a label may stand
+-- the number of slots in which a label may be
 abbrev pub near : ℕ
 near = 8
 

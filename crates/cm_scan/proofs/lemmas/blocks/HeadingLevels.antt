@@ -73,7 +73,7 @@ mutual
   item-levels (last_item inside) h = both (have_levels (blocks_of_parts inside)) true (tree-levels inside h) refl
   item-levels (item inside blanks items) h = both (have_levels (blocks_of_parts inside)) (all_of_items (map (map has_levels) (blocks_of_items items))) (tree-levels inside h.0) (item-levels items h.1)
 
--- ---- an item in front of what follows it
+-- ---- an item before what follows it
 
 abbrev Following : Type 0
 Following = ℕ × ItemParts × Parts

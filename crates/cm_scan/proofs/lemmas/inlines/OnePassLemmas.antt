@@ -110,7 +110,7 @@ pub unpaired-finished : (i : Inline) (xs : List Item) → IsUnpaired xs → IsUn
 unfolding pair_leftmost
 unpaired-finished i xs e = leftmost-skips xs (Finished i ∷ []) [] e
 
--- once a pair is made, what stands up to the new emphasis doesn't pair
+-- once a pair is made, what comes up to the new emphasis doesn't pair
 pub unpaired-up_to : (before : List Item) (c : Run) (found : Opened) → IsUnpaired (reverse before) → nearest_opener c before [] ≡ Some found → IsUnpaired (up_to_pair found c)
 unpaired-up_to before c found e s =
     let n = used found.opener c in

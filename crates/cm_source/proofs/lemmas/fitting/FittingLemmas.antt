@@ -54,7 +54,7 @@ not-emphasis rules i e = go (is_emphasis (Some (judged rules i).face)) (judged r
     go true true h k = absurd (cc k)
 
 module _ (rules : Rules) where
-  -- ---- what stands ahead of an inline
+  -- ---- what is ahead of an inline
 
   record Ahead (face : Face) (emphasis begins last : Bool) (content : List Inline) (rest : List ℕ) : Type 0 where
     texts : (is_text (Some face) && is_text (first_face (map (judged rules) content))) ≡ false

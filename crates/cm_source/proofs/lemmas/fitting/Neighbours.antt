@@ -236,12 +236,12 @@ pub spelled-utf8 : (first last : Bool) (text : List ℕ) → IsUtf8 text → IsU
 spelled-utf8 first last text u =
     (spelled_characters first last u.0, (spelled-scalars first last u.0 u.1.0, sym (spelled-encodes first last u.0) ∙ ap (spelled_text first last) u.1.1))
 
--- ---- what stands at the edges of a text
+-- ---- what is at the edges of a text
 
 pub ascii-utf8 : (xs : List ℕ) → list_all is_ascii xs ≡ true → IsUtf8 xs
 ascii-utf8 xs h = let both = ascii-encodes xs h in (xs, (both.1, both.0))
 
--- a character of ASCII is seen whatever stands further off
+-- an ASCII character is seen whatever is further off
 pub first-ascii : (x : ℕ) (rest : List ℕ) → x < 128 → first_character (x ∷ rest) ≡ Some x
 first-ascii x rest h =
     let low : list_all is_ascii (x ∷ []) ≡ true = ap (λ t. t && true) (lt-ltb x 128 h) in

@@ -61,7 +61,7 @@ joined-back (line ∷ lines) u = behind-utf8 line lines u.0 u.1
 parted-utf8 : (text : List ℕ) → AllUtf8 (parted_lines text) → IsUtf8 text
 parted-utf8 text u = subst IsUtf8 (parted-joined text) (joined-back (parted_lines text) u)
 
--- ---- what stands in front of lines
+-- ---- what is before lines
 
 joined-behind : (apart : Bool) (others : List (List (List ℕ))) → AllUtf8 (flat_map (λ lines. gap apart ++ lines) others) → EachUtf8 others
 joined-behind apart [] u = tt

@@ -58,7 +58,7 @@ spells_text first last (b ∷ bs) = OneByte (spells_edge (first || last && is_em
 
 -- ---- a number is read back
 
--- the digits of a number below 128 are those of a decimal reference, which stands for it
+-- the digits of a number below 128 are those of a decimal reference to it
 abbrev is_read_back : ℕ → Bool
 is_read_back b =
     list_all is_ascii_digit (decimal b) && (within 1 7 (length (decimal b)) && (numbered_character (digits_value 10 (decimal b)) == b || b == 0))

@@ -107,7 +107,7 @@ module _ (rules : Rules) (heading : Bool) where
       all-both (is_kept heading) (start ++ join false false (map spelled is)) close
       (all-both (is_kept heading) start (join false false (map spelled is)) (line-keeps start s) inside) (line-keeps close c)
 
-  -- how an inline is spelled, told by its kind
+  -- how an inline is spelled, by its kind
   abbrev told : (i : Inline) (s : Spelled) → spelled i ≡ s → ((first last : Bool) → Keeps (s.spelling first last)) → (first last : Bool) → Keeps ((spelled i).spelling first last)
   told i s e k first last = subst (λ (z : Spelled). Keeps (z.spelling first last)) (sym e) (k first last)
 

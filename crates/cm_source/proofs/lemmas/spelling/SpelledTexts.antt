@@ -128,7 +128,7 @@ ends-last c (b ∷ bs) e =
     let place : length (b ∷ bs) - 1 ≡ length bs = omega arith in
     ends-at c (length bs) (b ∷ bs) (omega arith) ∙ ap (λ n. get_or (b ∷ bs) n 0 == c) (sym place)
 
--- where no backtick stands, no run is longer than none
+-- where there is no backtick, no run is longer than none
 pub no-runs : (text : List ℕ) → list_any (λ b. b == 96) text ≡ false → 0 ≡ longest_run 0 text
 unfolding longest_run
 no-runs [] h = refl
