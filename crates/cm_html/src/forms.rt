@@ -7,6 +7,7 @@ ghost use Rattle.cm_html.specs.Forms.{formed};
 ghost use Rattle.cm_html.specs.steps.FormedTexts.{number_of};
 
 use crate::escape::{push_destination, push_escaped};
+use crate::json_strings::push_json_escaped;
 use crate::quoting::push_quoted;
 use cm_tree::{BoxedText, Text};
 use std::alloc::{AllocError, Global};
@@ -22,6 +23,8 @@ pub enum Form {
     Escaped,
     /// Between quotes in a listing.
     Quoted,
+    /// In a string of JSON, without its quotes.
+    Json,
 }
 
 /// The formed texts of a writing: what is there under a form and a text is that text in that form.
@@ -73,6 +76,7 @@ fn number_of(form: Form) -> u8
         Form::Destination => 0,
         Form::Escaped => 1,
         Form::Quoted => 2,
+        Form::Json => 3,
     }
 }
 
@@ -93,5 +97,6 @@ pub(crate) fn push_in_form(out: &mut String, form: Form, text: &str) -> Result<(
         Form::Destination => push_destination(out, text),
         Form::Escaped => push_escaped(out, text),
         Form::Quoted => push_quoted(out, text),
+        Form::Json => push_json_escaped(out, text),
     }
 }

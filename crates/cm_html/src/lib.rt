@@ -25,6 +25,7 @@ mod escape;
 mod fault;
 mod forms;
 mod inlines;
+mod json_strings;
 pub mod laws;
 mod listings;
 mod page;

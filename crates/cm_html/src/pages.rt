@@ -83,7 +83,7 @@ impl Pages {
     }
 
     /// A text of no bytes that becomes one page, whatever its length. It takes no memory.
-    pub(crate) fn unparted(alloc: Global) -> Pages
+    pub fn unparted(alloc: Global) -> Pages
         ensures { result ≡ [] }
     {
         Pages {
@@ -121,15 +121,23 @@ impl Pages {
     }
 
     /// Adds a text in a form.
+    ///
+    /// # Errors
+    ///
+    /// As `push_str`.
     #[inline(always)]
-    pub(crate) fn push_in_form(&mut self, form: Form, text: &str) -> Result<(), AllocError>
+    pub fn push_in_form(&mut self, form: Form, text: &str) -> Result<(), AllocError>
         ensures { OnOk result (self.new ≡ self.old ++ formed form text.now) }
     {
         self.last.push_in_form(form, text)
     }
 
     /// Adds a number in decimal.
-    pub(crate) fn push_number(&mut self, number: usize) -> Result<(), AllocError>
+    ///
+    /// # Errors
+    ///
+    /// As `push_str`.
+    pub fn push_number(&mut self, number: usize) -> Result<(), AllocError>
         ensures { OnOk result (self.new ≡ self.old ++ decimal number) }
     {
         self.last.push_number(number)

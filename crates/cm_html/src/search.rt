@@ -1,7 +1,7 @@
-//! The search for bytes that HTML or a listing doesn't have as they are.
+//! The search for bytes that HTML, a listing or JSON doesn't have as they are.
 ghost use Rattle.std.specs.Prelude.{◌≡◌, not};
 ghost use Rattle.std.specs.List.{list_all};
-ghost use Rattle.cm_html.specs.steps.Bytes.{is_escaped, is_changed, has_escape};
+ghost use Rattle.cm_html.specs.steps.Bytes.{is_escaped, is_changed, has_escape, has_json_escape};
 
 use cm_text::{ByteKind, next_of};
 use std::simd::prelude::*;
@@ -46,6 +46,25 @@ impl ByteKind for Quoted {
     fn lanes(lanes: u8x16) -> u64 {
         let marks = lanes.simd_eq(u8x16::splat(b'\\')) | lanes.simd_eq(u8x16::splat(b'"'));
         let controls = lanes.simd_lt(u8x16::splat(32)) | lanes.simd_eq(u8x16::splat(127));
+        (marks | controls).to_bitmask()
+    }
+}
+
+/// The bytes that a string of JSON escapes.
+pub(crate) struct JsonEscaped;
+
+impl ByteKind for JsonEscaped {
+    ghost passes = { has_json_escape };
+
+    #[inline(always)]
+    fn contains(b: u8) -> bool {
+        b == b'\\' || b == b'"' || b < 32
+    }
+
+    #[inline(always)]
+    fn lanes(lanes: u8x16) -> u64 {
+        let marks = lanes.simd_eq(u8x16::splat(b'\\')) | lanes.simd_eq(u8x16::splat(b'"'));
+        let controls = lanes.simd_lt(u8x16::splat(32));
         (marks | controls).to_bitmask()
     }
 }

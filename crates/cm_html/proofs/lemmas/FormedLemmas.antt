@@ -9,7 +9,7 @@ use Rattle.std.specs.declared.cmp.Ordering.TheVariants.{Less, Equal, Greater}
 use Rattle.std.specs.Cmp.Lexicographic.{slice_cmp}
 use Rattle.std.specs.FinMap.{slice_cmp-IsAntisymmetric, nat_cmp-IsAntisymmetric}
 use Rattle.cm_html.specs.declared.forms.Form.{Form}
-use Rattle.cm_html.specs.declared.forms.Form.TheVariants.{Destination, Escaped, Quoted}
+use Rattle.cm_html.specs.declared.forms.Form.TheVariants.{Destination, Escaped, Quoted, Json}
 use Rattle.cm_html.specs.Forms.{formed}
 use Rattle.cm_html.specs.steps.FormedTexts.{Key, number_of, IsFormed, AreFormed, key_cmp}
 
@@ -58,12 +58,19 @@ same_form : (f g : Form) → number_of f ≡ number_of g → f ≡ g
 same_form Destination Destination h = refl
 same_form Destination Escaped h = cc
 same_form Destination Quoted h = cc
+same_form Destination Json h = cc
 same_form Escaped Destination h = cc
 same_form Escaped Escaped h = refl
 same_form Escaped Quoted h = cc
+same_form Escaped Json h = cc
 same_form Quoted Destination h = cc
 same_form Quoted Escaped h = cc
 same_form Quoted Quoted h = refl
+same_form Quoted Json h = cc
+same_form Json Destination h = cc
+same_form Json Escaped h = cc
+same_form Json Quoted h = cc
+same_form Json Json h = refl
 
 -- a text that was made in this form
 pub is_formed : (form : Form) (number : ℕ) (text key_text made : List ℕ) → number ≡ number_of form → key_text ≡ text → made ≡ formed form text → IsFormed (number, key_text) made

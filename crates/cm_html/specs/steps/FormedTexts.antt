@@ -4,13 +4,14 @@ use Rattle.std.specs.declared.cmp.Ordering.{Ordering}
 use Rattle.std.specs.Ordering.{nat_cmp, ordering_then}
 use Rattle.std.specs.Cmp.Lexicographic.{slice_cmp}
 use Rattle.cm_html.specs.declared.forms.Form.{Form}
-use Rattle.cm_html.specs.declared.forms.Form.TheVariants.{Destination, Escaped, Quoted}
+use Rattle.cm_html.specs.declared.forms.Form.TheVariants.{Destination, Escaped, Quoted, Json}
 use Rattle.cm_html.specs.Forms.{formed}
 
 abbrev pub number_of : Form → ℕ
 number_of Destination = 0
 number_of Escaped = 1
 number_of Quoted = 2
+number_of Json = 3
 
 -- the number of a form, and a text
 abbrev pub Key : Type 0
