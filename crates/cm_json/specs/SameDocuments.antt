@@ -1,11 +1,11 @@
 -- Documents are told apart by their JSON.
-use Rattle.std.specs.Prelude.{◌≡◌, ℕ, ◌<◌, ◌^◌, nat_lt, Bool, true, ◌&&◌, List, length, map, Some}
+use Rattle.std.specs.Prelude.{◌≡◌, ◌<◌, ◌^◌, nat_lt, Bool, true, ◌&&◌, List, length, map, Some}
 use Rattle.cm_tree.specs.HeadingLevels.{all_of, all_of_items}
 use Rattle.cm_tree.specs.declared.tree.Block.{Block, Block-F}
 use Rattle.cm_tree.specs.declared.tree.Block.TheOpen as block
 use Rattle.cm_tree.specs.declared.tree.Block.TheFolds.{fold-Block}
 use Rattle.cm_tree.specs.declared.tree.ListKind.{ListKind}
-use Rattle.cm_tree.specs.declared.tree.ListKind.TheVariants.{Dash, Plus, Star, Dot, Paren}
+use Rattle.cm_tree.specs.declared.tree.ListKind.TheVariants.{Dot, Paren}
 use Rattle.cm_tree.specs.declared.tree.Owner.{Owner}
 use Rattle.cm_scan.specs.laws.PartLaws.{leaves_named, leaves_in}
 use Rattle.cm_json.specs.Mdast.{json_of}

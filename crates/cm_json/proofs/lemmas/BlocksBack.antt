@@ -1,13 +1,12 @@
 -- Blocks are told by their nodes: each is found again, and so are the lines of its leaves.
-use Rattle.std.proofs.Common.{◌≡◌, ℕ, zero, suc, ◌+◌, ◌≤◌, ◌<◌, ◌^◌, ◌==◌, nat_lt, Bool, true, false, cond, ◌&&◌, not, List, [], ◌∷◌, ◌++◌, length, length-drop, take, drop, decimal, append_assoc, codes, map, refl, ap, ap₂, sym, subst, ◌∙◌, arith}
+use Rattle.std.proofs.Common.{◌≡◌, ℕ, zero, suc, ◌+◌, ◌≤◌, ◌<◌, ◌^◌, ◌==◌, nat_lt, Bool, true, false, cond, ◌&&◌, not, List, [], ◌∷◌, ◌++◌, length, length-drop, take, drop, codes, map, refl, ap, ap₂, sym, subst, ◌∙◌, arith}
 use Rattle.std.proofs.lemmas.Fmt.{decimal_is_IsNumeral}
 use Rattle.std.specs.Str.Parse.{digits_value}
 use Rattle.std.specs.List.{position_or_len}
 use Rattle.cm_text.specs.Characters.{is_space_or_tab}
-use Rattle.json.specs.Json.{Json, null, boolean, number, string, array, object, Items, no_items, item, Members, no_members, member}
+use Rattle.json.specs.Json.{Json, boolean, number, string, array, object, Items, no_items, item, Members, no_members, member}
 use Rattle.cm_tree.specs.declared.tree.ListKind.{ListKind}
 use Rattle.cm_tree.specs.declared.tree.ListKind.TheVariants.{Dash, Plus, Star, Dot, Paren}
-use Rattle.cm_tree.specs.declared.tree.Inline.{Inline}
 use Rattle.cm_tree.specs.declared.tree.Block.{Block, Block-F, map-Block}
 use Rattle.cm_tree.specs.declared.tree.Block.TheOpen as block
 use Rattle.cm_tree.specs.declared.tree.Block.TheVariants.{Paragraph, Heading, Code, Html, Break, Definition, Quote, List as ListBlock}
@@ -117,7 +116,7 @@ unended-back (b ∷ c ∷ bs) ends = ap (λ t. b ∷ t) (unended-back (c ∷ bs)
 value-back : (text : List ℕ) → value_back (ended_back (final_newline text)) (without_line_feed text) ≡ text
 value-back text =
     elim (ends_in_line_feed text) as (λ b. ends_in_line_feed text ≡ b → value_back (ended_back (cond b no_members (member (codes "finalNewline") (boolean false) no_members))) (without_line_feed text) ≡ text) [
-      true ↦ λ e. ends-back text e
+      | true ↦ λ e. ends-back text e
       | false ↦ λ e. unended-back text e
     ] refl
 
@@ -170,7 +169,7 @@ joined-back : (info : List ℕ) → is_plain_info info ≡ true → joined (lang
 unfolding is_plain_info
 joined-back [] plain = empty-back
 joined-back (b ∷ bs) plain = elim (is_space_or_tab b) as (λ t. is_space_or_tab b ≡ t → joined (language (b ∷ bs)) (behind_language (b ∷ bs)) ≡ b ∷ bs) [
-  true ↦ λ e. joined-space b bs e (sym (ap (λ t. cond t (b == 32 && starts_without_space bs) (is_plain_info bs)) e) ∙ plain)
+  | true ↦ λ e. joined-space b bs e (sym (ap (λ t. cond t (b == 32 && starts_without_space bs) (is_plain_info bs)) e) ∙ plain)
   | false ↦ λ e.
       ap₂ joined (language-next b bs e) (behind-next b bs e)
       ∙ joined-next b (language bs) (behind_language bs)
@@ -185,7 +184,7 @@ info-back : (info text : List ℕ) → info_back (optional_back (optional (langu
 info-back info text =
     ap₂ (λ lang meta. info_back lang meta (info_member info (final_newline text))) (optional-back (language info)) (optional-back (behind_language info))
     ∙ (elim (is_plain_info info) as (λ b. is_plain_info info ≡ b → info_back (language info) (behind_language info) (cond b (final_newline text) (member (codes "info") (string info) (final_newline text))) ≡ info) [
-      true ↦ λ e. newline-joined (language info) (behind_language info) text ∙ joined-back info e
+      | true ↦ λ e. newline-joined (language info) (behind_language info) text ∙ joined-back info e
       | false ↦ λ e. refl
     ] refl)
 
@@ -373,18 +372,18 @@ layer (block.Paragraph content) =
 layer (block.Heading level content) =
     known (Heading level content) (nat_lt level (2 ^ 8)) 1 _ (simp (fold_out-Block Bool number_step, outs-Heading)) (simp (fold_out-Block ℕ leaves_step, outs-Heading)) (λ owners. heading-placed owners level content)
     (λ fit owners small passed within.
-      let low : level < 2 ^ 64 = omega (arith, ltb-true level (2 ^ 8) fit) in
-      leaf-found owners small passed within (Heading level content) (codes "heading") no_members (member (codes "depth") (count level) (children (inline_nodes false content)))
-      (ap₂ Heading (count-back level low) (inlines-back content)) tt (IsNumber-decimal level low, (inlines-numbers content, tt)))
+    let low : level < 2 ^ 64 = omega (arith, ltb-true level (2 ^ 8) fit) in
+    leaf-found owners small passed within (Heading level content) (codes "heading") no_members (member (codes "depth") (count level) (children (inline_nodes false content)))
+    (ap₂ Heading (count-back level low) (inlines-back content)) tt (IsNumber-decimal level low, (inlines-numbers content, tt)))
 layer (block.Code info text) =
     known (Code info text) true 1 _ (simp (fold_out-Block Bool number_step, outs-Code)) (simp (fold_out-Block ℕ leaves_step, outs-Code)) (λ owners. code-placed owners info text)
     (λ fit owners small passed within.
-      let told = info_member info (final_newline text) in
-      leaf-found owners small passed within (Code info text) (codes "code") told
-      (member (codes "lang") (optional (language info)) (member (codes "meta") (optional (behind_language info)) (valued (without_line_feed text))))
-      (code-back (leaf_start owners passed) (leaf_end owners passed) told (language info) (behind_language info) (without_line_feed text)
-      ∙ ap₂ Code (info-back info text) (ap (λ b. value_back b (without_line_feed text)) (ended-behind info (final_newline text)) ∙ value-back text))
-      (info-numbers info (final_newline text) (final_newline-numbers text)) (optional-numbers (language info), (optional-numbers (behind_language info), (tt, tt))))
+    let told = info_member info (final_newline text) in
+    leaf-found owners small passed within (Code info text) (codes "code") told
+    (member (codes "lang") (optional (language info)) (member (codes "meta") (optional (behind_language info)) (valued (without_line_feed text))))
+    (code-back (leaf_start owners passed) (leaf_end owners passed) told (language info) (behind_language info) (without_line_feed text)
+    ∙ ap₂ Code (info-back info text) (ap (λ b. value_back b (without_line_feed text)) (ended-behind info (final_newline text)) ∙ value-back text))
+    (info-numbers info (final_newline text) (final_newline-numbers text)) (optional-numbers (language info), (optional-numbers (behind_language info), (tt, tt))))
 layer (block.Html text) =
     known (Html text) true 1 _ (simp (fold_out-Block Bool number_step, outs-Html)) (simp (fold_out-Block ℕ leaves_step, outs-Html)) (λ owners. html-placed owners text)
     (λ fit owners small passed within. leaf-found owners small passed within (Html text) (codes "html") (final_newline text) (valued (without_line_feed text)) (ap Html (value-back text)) (final_newline-numbers text) (tt, tt))
@@ -394,28 +393,28 @@ layer block.Break =
 layer (block.Definition label dest title) =
     known (Definition label dest title) true 1 _ (simp (fold_out-Block Bool number_step, outs-Definition)) (simp (fold_out-Block ℕ leaves_step, outs-Definition)) (λ owners. definition-placed owners label dest title)
     (λ fit owners small passed within.
-      leaf-found owners small passed within (Definition label dest title) (codes "definition") no_members
-      (member (codes "identifier") (string label) (member (codes "label") (string label) (resource dest title no_members))) (ap (Definition label dest) (optional-back title)) tt
-      (tt, (tt, (tt, (optional-numbers title, tt)))))
+    leaf-found owners small passed within (Definition label dest title) (codes "definition") no_members
+    (member (codes "identifier") (string label) (member (codes "label") (string label) (resource dest title no_members))) (ap (Definition label dest) (optional-back title)) tt
+    (tt, (tt, (tt, (optional-numbers title, tt)))))
 layer (block.Quote es) =
     known (Quote (those es)) (all_of (map has_numbers (those es))) (total (map leaves_of (those es))) _ (simp (fold_out-Block Bool number_step, outs-Quote)) (simp (fold_out-Block ℕ leaves_step, outs-Quote)) (λ owners. quote-placed owners (those es))
     (λ fit owners small passed within.
-      let found = blocks-found owners small es fit passed within in
-      record { back = ap Quote found.back; have = (tt, (found.have, tt)); lines = found.lines; ends = found.ends; within = found.within })
+    let found = blocks-found owners small es fit passed within in
+    record { back = ap Quote found.back; have = (tt, (found.have, tt)); lines = found.lines; ends = found.ends; within = found.within })
 layer (block.List kind tight ess) =
     known (ListBlock kind tight (map those ess)) (has_start kind && all_of_items (map (map has_numbers) (map those ess))) (total_of_all (map (map leaves_of) (map those ess))) _
     (simp (fold_out-Block Bool number_step, outs-List)) (simp (fold_out-Block ℕ leaves_step, outs-List)) (λ owners. list-placed owners kind tight (map those ess))
     (λ fit owners small passed within.
-      let (start, more) = both-true (has_start kind) (all_of_items (map (map has_numbers) (map those ess))) fit in
-      let found = items-found owners small (not tight) ess more passed within in
-      let nodes = (all_placed (map (list_item (not tight)) (map (map (placed owners)) (map those ess))) passed).0 in
-      record {
-        back = kind-back kind (not tight) nodes (map those ess) start found.back ∙ ap (λ t. ListBlock kind t (map those ess)) (not-not tight);
-        have = list-numbers kind (not tight) nodes (kind-small kind start) found.have;
-        lines = kind-spans kind (not tight) nodes ∙ found.lines;
-        ends = found.ends;
-        within = found.within;
-      })
+    let (start, more) = both-true (has_start kind) (all_of_items (map (map has_numbers) (map those ess))) fit in
+    let found = items-found owners small (not tight) ess more passed within in
+    let nodes = (all_placed (map (list_item (not tight)) (map (map (placed owners)) (map those ess))) passed).0 in
+    record {
+      back = kind-back kind (not tight) nodes (map those ess) start found.back ∙ ap (λ t. ListBlock kind t (map those ess)) (not-not tight);
+      have = list-numbers kind (not tight) nodes (kind-small kind start) found.have;
+      lines = kind-spans kind (not tight) nodes ∙ found.lines;
+      ends = found.ends;
+      within = found.within;
+    })
 
 pub block-back : (b : Block) → ComesBack b
 block-back = ind-Block ComesBack (λ x y is. subst (λ z. ComesBack (roll-Block z)) is (layer y))

@@ -1,12 +1,12 @@
 -- Inlines are told by their nodes: each is found again.
 use Rattle.std.proofs.Common.{◌≡◌, ℕ, ◌==◌, Bool, true, false, cond, ◌&&◌, not, List, [], ◌∷◌, ◌++◌, append-nil, codes, map, refl, ap, ap₂, sym, subst, ◌∙◌}
-use Rattle.json.specs.Json.{Json, null, boolean, number, string, array, object, Items, no_items, item, Members, no_members, member}
+use Rattle.json.specs.Json.{Json, string, array, object, Items, no_items, item, no_members, member}
 use Rattle.cm_tree.specs.declared.tree.Inline.{Inline, Inline-F, map-Inline}
 use Rattle.cm_tree.specs.declared.tree.Inline.TheOpen as inline
 use Rattle.cm_tree.specs.declared.tree.Inline.TheVariants.{Text, Code, Html, Soft, Hard, Emph, Strong, Strike, Link, Image}
 use Rattle.cm_tree.specs.declared.tree.Inline.TheViews.{roll-Inline}
 use Rattle.cm_tree.specs.declared.tree.Inline.TheFolds.{ind-Inline}
-use Rattle.cm_json.specs.Mdast.{Inlined, node, resource, inline_step, inlined, nodes, inline_nodes, optional, valued, literal, is_line_feed, line_feed_text, text_node, needs_children, description, alternative, join_plain, is_empty, image}
+use Rattle.cm_json.specs.Mdast.{Inlined, node, resource, inlined, nodes, inline_nodes, optional, literal, is_line_feed, line_feed_text, text_node, needs_children, description, alternative, join_plain, is_empty, image}
 use Rattle.cm_json.proofs.lemmas.InlineKinds.{text-inlined, code-inlined, html-inlined, soft-inlined, hard-inlined, emph-inlined, strong-inlined, strike-inlined, link-inlined, image-inlined}
 
 -- ---- what a node is of
@@ -74,7 +74,7 @@ back i v is comes described = ap (λ (w : Inlined). inline_back (w.value describ
 
 text-back : (value : List ℕ) → inline_back (text_node value) ≡ Text value
 text-back value = elim (is_line_feed value) as (λ b. is_line_feed value ≡ b → inline_back (cond b (line_feed_text value) (literal (codes "text") value)) ≡ Text value) [
-  true ↦ λ e. refl
+  | true ↦ λ e. refl
   | false ↦ λ e. ap (λ b. cond b Soft (Text value)) e
 ] refl
 
@@ -119,9 +119,9 @@ image-back : (dest title : List ℕ) (es : List Proved) (described : Bool) → i
 image-back dest title es described =
     let content = map inlined (them es) in
     elim (needs_children content) as (λ b. needs_children content ≡ b
-      → inline_back (node (codes "image") (description b (nodes true content) (resource dest title (member (codes "alt") (alternative (b && described) (join_plain content)) no_members))))
-      ≡ Image dest title (them es)) [
-      true ↦ λ e. ap₂ (Image dest) (optional-back title) (nodes-back true es)
+    → inline_back (node (codes "image") (description b (nodes true content) (resource dest title (member (codes "alt") (alternative (b && described) (join_plain content)) no_members))))
+    ≡ Image dest title (them es)) [
+      | true ↦ λ e. ap₂ (Image dest) (optional-back title) (nodes-back true es)
       | false ↦ λ e. ap₂ (Image dest) (optional-back title) (plain-back es e)
     ] refl
 

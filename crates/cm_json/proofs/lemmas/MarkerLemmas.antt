@@ -1,5 +1,5 @@
 -- Which lines have markers alone.
-use Rattle.std.proofs.Common.{◌≡◌, ℕ, suc, ◌+◌, ◌<◌, Bool, true, false, cond, List, codes, ◌∷◌, drop, length, slice_index_or, drop-cons, ap, sym, ◌∙◌, arith}
+use Rattle.std.proofs.Common.{◌≡◌, ℕ, suc, ◌+◌, ◌<◌, Bool, true, false, cond, List, codes, drop, length, slice_index_or, drop-cons, ap, sym, ◌∙◌, arith}
 use Rattle.std.specs.List.{list_any}
 use Rattle.json.specs.Json.{Items, item, Members, no_members, member, array}
 use Rattle.cm_tree.specs.declared.tree.Owner.{Owner}

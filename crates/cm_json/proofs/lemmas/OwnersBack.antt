@@ -1,6 +1,6 @@
 -- The owners of lines are told by the lines of leaves and those of markers: each is found again.
-use Rattle.std.proofs.Common.{◌≡◌, ℕ, zero, suc, ◌+◌, ◌≤◌, ◌<◌, ◌^◌, ◌==◌, nat_lt, Bool, true, false, cond, if◌then◌else◌, ◌⊎◌, inl, inr, ◌&&◌, not, List, [], ◌∷◌, length, drop, Option, Some, None, option_map, refl, ap, ap₂, sym, subst, ◌∙◌, arith}
-use Rattle.std.specs.List.{position_or_len, list_any}
+use Rattle.std.proofs.Common.{◌≡◌, ℕ, zero, suc, ◌+◌, ◌≤◌, ◌<◌, ◌==◌, nat_lt, Bool, true, false, cond, if◌then◌else◌, ◌⊎◌, inl, inr, ◌&&◌, List, [], ◌∷◌, length, drop, Option, Some, None, option_map, refl, ap, ap₂, sym, subst, ◌∙◌, arith}
+use Rattle.std.specs.List.{position_or_len}
 use Rattle.std.proofs.lemmas.Bool.{eq-eqb, ne_eqb, eqb-true, lt-ltb, le-ltb}
 use Rattle.cm_tree.specs.declared.tree.Owner.{Owner}
 use Rattle.cm_tree.specs.declared.tree.Owner.TheVariants.{Leaf, Marker, Blank}
@@ -99,7 +99,7 @@ named-as inside leaves number owners last order = named inside leaves number own
 grows : (inside : Bool) (leaves : ℕ) (owners : List Owner) (last : ℕ) → InOrder inside leaves owners last → leaves ≤ last
 grows inside leaves [] last order = omega (arith, some-is leaves last order)
 grows inside leaves (Leaf number ∷ owners) last order = elim (named-as inside leaves number owners last order) [
-  inl next ↦ omega (arith, grows true (suc leaves) owners last next.1)
+  | inl next ↦ omega (arith, grows true (suc leaves) owners last next.1)
   | inr same ↦ grows inside leaves owners last same.2
 ]
 grows inside leaves (Marker ∷ owners) last order = grows false leaves owners last order
@@ -207,7 +207,7 @@ module _ (owners : List Owner) where
 
   outside-leaf : (os : List Owner) (number : ℕ) → Inside os → Outside (Leaf number ∷ os)
   outside-leaf os number inside passed leaves more within here order other = elim (named-as within leaves number os (leaves + more) order) [
-    inl next ↦ next-leaf os number inside passed leaves more here next.0 next.1
+    | inl next ↦ next-leaf os number inside passed leaves more here next.0 next.1
     | inr same ↦ absurd (grind (arith, same.0, same.1, other))
   ]
 
@@ -222,20 +222,20 @@ module _ (owners : List Owner) where
 
   inside-leaf : (os : List Owner) (number : ℕ) → Inside os → Inside (Leaf number ∷ os)
   inside-leaf os number inside passed leaves more s here first order = elim (suc leaves == number) as (λ b. (suc leaves == number) ≡ b
-    → on (Leaf number ∷ os) passed (after passed leaves s more (passed + position_or_len (is_not_of (suc leaves)) (Leaf number ∷ os))) ≡ Leaf number ∷ os) [
-    true ↦ λ same.
-        let is : number ≡ suc leaves = sym (eqb-true (suc leaves) number same) in
-        let e = passed + position_or_len (is_not_of (suc leaves)) (Leaf number ∷ os) in
-        let ends : e ≡ suc passed + position_or_len (is_not_of (suc leaves)) os = omega (arith, place-next (suc leaves) number os same) in
-        let going : passed < e = omega (arith, ends) in
-        let rest : InOrder true (suc leaves) os (suc leaves + more) = elim (named-as true (suc leaves) number os (suc leaves + more) order) [
-          inl next ↦ absurd (omega (arith, next.0, is))
-          | inr same ↦ same.2
-        ] in
-        ap (on (Leaf number ∷ os) passed) (ap (λ b. cond b (leaves, (s, e) ∷ runs owners more e) (suc leaves, runs owners more e)) (lt-ltb passed e going))
-        ∙ same-leaf os number inside passed leaves more s e here (omega (arith, first)) is ends rest
-    | false ↦ λ other. leaves-it (Leaf number ∷ os) (outside-leaf os number inside) passed leaves more s here order other
-  ] refl
+      → on (Leaf number ∷ os) passed (after passed leaves s more (passed + position_or_len (is_not_of (suc leaves)) (Leaf number ∷ os))) ≡ Leaf number ∷ os) [
+        | true ↦ λ same.
+            let is : number ≡ suc leaves = sym (eqb-true (suc leaves) number same) in
+            let e = passed + position_or_len (is_not_of (suc leaves)) (Leaf number ∷ os) in
+            let ends : e ≡ suc passed + position_or_len (is_not_of (suc leaves)) os = omega (arith, place-next (suc leaves) number os same) in
+            let going : passed < e = omega (arith, ends) in
+            let rest : InOrder true (suc leaves) os (suc leaves + more) = elim (named-as true (suc leaves) number os (suc leaves + more) order) [
+              | inl next ↦ absurd (omega (arith, next.0, is))
+              | inr same ↦ same.2
+            ] in
+            ap (on (Leaf number ∷ os) passed) (ap (λ b. cond b (leaves, (s, e) ∷ runs owners more e) (suc leaves, runs owners more e)) (lt-ltb passed e going))
+            ∙ same-leaf os number inside passed leaves more s e here (omega (arith, first)) is ends rest
+        | false ↦ λ other. leaves-it (Leaf number ∷ os) (outside-leaf os number inside) passed leaves more s here order other
+      ] refl
 
   mutual
     outside-back : (os : List Owner) → Outside os

@@ -1,5 +1,5 @@
 -- Documents are told apart by their JSON: each is found again.
-use Rattle.std.proofs.Common.{◌≡◌, ℕ, suc, ◌+◌, ◌≤◌, ◌<◌, ◌^◌, Bool, true, false, cond, ◌||◌, List, [], ◌∷◌, length, codes, map, refl, ap, ap₂, sym, ◌∙◌, arith}
+use Rattle.std.proofs.Common.{◌≡◌, ℕ, suc, ◌+◌, ◌<◌, ◌^◌, true, false, cond, List, [], ◌∷◌, length, codes, refl, ap, ap₂, sym, ◌∙◌, arith}
 use Rattle.std.specs.List.{list_any}
 use Rattle.std.proofs.lemmas.Bool.{or_parts}
 use Rattle.json.specs.Json.{Json, array, object, Items, no_items, item, Members, no_members, member}
@@ -31,8 +31,8 @@ counts-back (owner ∷ owners) passed small =
     let next : passed + 1 ≡ suc passed = omega arith in
     let rest = counts-back owners (passed + 1) (omega (arith, small)) ∙ ap (λ n. markers_of n owners) next in
     elim (is_marker owner) as (λ b. counts_back (cond b (item (count (passed + 1)) (marker_lines (passed + 1) owners)) (marker_lines (passed + 1) owners))
-      ≡ cond b (suc passed ∷ markers_of (suc passed) owners) (markers_of (suc passed) owners)) [
-      true ↦ ap₂ (λ n ns. n ∷ ns) (count-back (passed + 1) (omega (arith, small)) ∙ next) rest
+    ≡ cond b (suc passed ∷ markers_of (suc passed) owners) (markers_of (suc passed) owners)) [
+      | true ↦ ap₂ (λ n ns. n ∷ ns) (count-back (passed + 1) (omega (arith, small)) ∙ next) rest
       | false ↦ rest
     ]
 
@@ -44,24 +44,24 @@ no-marker (owner ∷ owners) passed none =
 
 markers-back : (owners : List Owner) → length owners < 2 ^ 63 → markers_back (markers owners) ≡ markers_of 0 owners
 markers-back owners small = elim (list_any is_marker owners) as (λ b. list_any is_marker owners ≡ b
-  → markers_back (cond b (member (codes "markers") (array (marker_lines 0 owners)) no_members) no_members) ≡ markers_of 0 owners) [
-  true ↦ λ e. counts-back owners 0 (omega (arith, small))
-  | false ↦ λ e. sym (no-marker owners 0 e)
-] refl
+    → markers_back (cond b (member (codes "markers") (array (marker_lines 0 owners)) no_members) no_members) ≡ markers_of 0 owners) [
+      | true ↦ λ e. counts-back owners 0 (omega (arith, small))
+      | false ↦ λ e. sym (no-marker owners 0 e)
+    ] refl
 
 marker_lines-numbers : (owners : List Owner) (passed : ℕ) → passed + length owners < 2 ^ 63 → ItemsHaveNumbers (marker_lines passed owners)
 marker_lines-numbers [] passed small = tt
 marker_lines-numbers (owner ∷ owners) passed small =
     let rest = marker_lines-numbers owners (passed + 1) (omega (arith, small)) in
     elim (is_marker owner) as (λ b. ItemsHaveNumbers (cond b (item (count (passed + 1)) (marker_lines (passed + 1) owners)) (marker_lines (passed + 1) owners))) [
-      true ↦ (IsNumber-decimal (passed + 1) (omega (arith, small)), rest)
+      | true ↦ (IsNumber-decimal (passed + 1) (omega (arith, small)), rest)
       | false ↦ rest
     ]
 
 markers-numbers : (owners : List Owner) → length owners < 2 ^ 63 → MembersHaveNumbers (markers owners)
 markers-numbers owners small =
     elim (list_any is_marker owners) as (λ b. MembersHaveNumbers (cond b (member (codes "markers") (array (marker_lines 0 owners)) no_members) no_members)) [
-      true ↦ (marker_lines-numbers owners 0 (omega (arith, small)), tt)
+      | true ↦ (marker_lines-numbers owners 0 (omega (arith, small)), tt)
       | false ↦ tt
     ]
 

@@ -1,8 +1,7 @@
-use Rattle.std.proofs.Common.{◌≡◌, ℕ, ◌+◌, ◌^◌, ◌<◌, ◌++◌, true, false, List, drop, length, ap, ap₂, sym, ◌∙◌, subst, arith, append_assoc}
+use Rattle.std.proofs.Common.{◌+◌, ◌^◌, ◌<◌, ◌++◌, true, drop, length, ap, ap₂, sym, ◌∙◌, subst, arith, append_assoc}
 use Rattle.std.specs.Fmt.{decimal}
 use Rattle.json.specs.Tree.{ItemsHaveNumbers}
 use Rattle.json.proofs.Printed.Decimals.{IsNumber-decimal}
-use Rattle.cm_tree.specs.declared.tree.Owner.{Owner}
 use Rattle.cm_json.specs.Mdast.{marker_lines}
 use Rattle.cm_json.specs.steps.Texts.{comma, items_text}
 use Rattle.cm_json.proofs.lemmas.MarkerLemmas.{no_marker, a_marker}
@@ -16,7 +15,7 @@ loop-owner-preserved c =
     let within : i < length owners = c.loop-owner-test.true in
     let rest = marker_lines (i + 1) (drop (i + 1) owners) in
     elim c.if-is_marker.branch [
-      then-is_marker+in_ok-push_line_number w ↦
+      | then-is_marker+in_ok-push_line_number w ↦
           let is = sym c.is_marker.ensures ∙ w.if-is_marker.true in
           let wrote = w.in_ok-push_line_number.ensures.written ∙ ap (λ n. c.loop-owner.out ++ (comma c.loop-owner.behind ++ decimal (n + 1))) c.loop-owner.invariant.place in
           let small : i + 1 < 2 ^ 64 = omega (arith, w.in_ok-push_line_number.ensures.small, c.loop-owner.invariant.place) in

@@ -1,11 +1,9 @@
-use Rattle.std.proofs.Common.{◌≡◌, ◌++◌, Bool, true, false, cond, List, ℕ, codes, ap, sym, subst, ◌∙◌}
-use Rattle.std.specs.List.{list_any}
-use Rattle.json.specs.Json.{Members, array, no_members, member}
+use Rattle.std.proofs.Common.{◌++◌, true, false, codes, ap, sym, subst, ◌∙◌}
 use Rattle.json.specs.Print.{escape_byte}
 use Rattle.json.specs.Tree.{MembersHaveNumbers}
-use Rattle.cm_json.specs.Mdast.{is_marker, marker_lines, markers}
+use Rattle.cm_json.specs.Mdast.{marker_lines, markers}
 use Rattle.cm_json.specs.steps.Texts.{items_text, members_text}
-use Rattle.cm_json.proofs.lemmas.MarkerLemmas.{told, none_told, some_told}
+use Rattle.cm_json.proofs.lemmas.MarkerLemmas.{none_told, some_told}
 use Rattle.cm_json.proofs.lemmas.Pushed.{in_full, at_last, always}
 use Rattle.cm_json.proofs.blocks.push_markers.Goals as goal
 

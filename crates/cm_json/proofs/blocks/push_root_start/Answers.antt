@@ -1,4 +1,4 @@
-use Rattle.std.proofs.Common.{◌++◌, true, codes, length, arith}
+use Rattle.std.proofs.Common.{◌++◌, true, codes, length}
 use Rattle.cm_json.specs.Mdast.{markers, lines}
 use Rattle.json.specs.Tree.{MembersHaveNumbers}
 use Rattle.cm_json.specs.steps.Texts.{lines_text, members_text}

@@ -1,4 +1,4 @@
-use Rattle.std.proofs.Common.{◌≡◌, ◌<◌, ◌-◌, false, not, nat_eq, slice_index_or, length, ap, ◌∙◌, arith}
+use Rattle.std.proofs.Common.{◌≡◌, ◌<◌, not, length, ap, ◌∙◌, arith}
 use Rattle.cm_json.specs.Mdast.{ends_in_line_feed}
 use Rattle.cm_json.proofs.lemmas.CodeLemmas.{ends-tells, empty-ends-not}
 use Rattle.cm_json.proofs.code.ends_in_line_feed.Goals as goal

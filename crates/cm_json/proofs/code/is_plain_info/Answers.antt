@@ -1,6 +1,6 @@
-use Rattle.std.proofs.Common.{◌≡◌, ◌+◌, ◌-◌, Some, None, nat_eq, slice_index_or, take, drop, length, position, ap, sym, ◌∙◌}
+use Rattle.std.proofs.Common.{◌≡◌, Some, None, position, ap, sym, ◌∙◌}
 use Rattle.cm_text.specs.Characters.{is_space_or_tab}
-use Rattle.cm_json.specs.Mdast.{starts_without_space, is_plain_info}
+use Rattle.cm_json.specs.Mdast.{is_plain_info}
 use Rattle.cm_json.proofs.lemmas.CodeLemmas.{plain-word, space-gap, other-gap}
 use Rattle.cm_json.proofs.code.is_plain_info.Goals as goal
 

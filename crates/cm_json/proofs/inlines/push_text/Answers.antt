@@ -1,4 +1,4 @@
-use Rattle.std.proofs.Common.{codes, sym, ◌∙◌}
+use Rattle.std.proofs.Common.{sym, ◌∙◌}
 use Rattle.cm_json.specs.Mdast.{text_node}
 use Rattle.cm_json.specs.steps.Texts.{text}
 use Rattle.cm_json.proofs.lemmas.InlineKinds.{line_feed-written, other_text-written}

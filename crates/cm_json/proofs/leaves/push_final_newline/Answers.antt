@@ -1,4 +1,4 @@
-use Rattle.std.proofs.Common.{◌≡◌, Bool, true, false, cond, List, ℕ, codes, ap, sym, ◌∙◌}
+use Rattle.std.proofs.Common.{Bool, true, false, cond, List, ℕ, codes, ap, sym, ◌∙◌}
 use Rattle.json.specs.Json.{boolean, no_members, member}
 use Rattle.json.specs.Print.{escape_byte}
 use Rattle.cm_json.specs.Mdast.{final_newline}
