@@ -41,6 +41,7 @@ TIMES = {
     "cm_tree": (125, JOBS),
     "cm_command": (123, 1),
     "cm_html": (195, 2),
+    "cm_json": (150, 2),
     "cm_scan": (190, 2),
     "cm_source": (265, 1),
     "cm_block": (405, 1),

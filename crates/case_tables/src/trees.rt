@@ -1,10 +1,11 @@
-//! Trees, given by their listings: their HTML, how deep they nest, and which of them are equal.
+//! Trees, given by their listings: their HTML, their JSON, how deep they nest, and which of them are equal.
 
 use crate::cases::Case;
 use crate::listed::listed;
 use crate::spelled;
 use crate::trouble::{Trouble, same, wrong};
 use cm_html::{HtmlFault, html, listing, write_html, write_listing};
+use cm_json::{json, write_json};
 use cm_text::Room;
 use cm_tree::{Block, Doc, block_depth, inline_depth};
 use std::alloc::Global;
@@ -12,9 +13,10 @@ use std::alloc::Global;
 /// Writers fail after each byte of an output that is no longer than this.
 const SHORT: usize = 200;
 
-const PARTS: [&str; 10] = [
+const PARTS: [&str; 11] = [
     "tree",
     "html",
+    "json",
     "depth",
     "depth_of_inlines",
     "rules",
@@ -39,6 +41,7 @@ fn depth_of_inlines(doc: &Doc) -> usize {
 enum Output {
     Html,
     Listing,
+    Json,
 }
 
 /// Checks that a writer which takes a limited number of bytes, in all and in each call, is reported as it
@@ -53,6 +56,7 @@ fn is_written(
     let answer = match output {
         Output::Html => write_html(alloc, doc, &mut room),
         Output::Listing => write_listing(alloc, doc, &mut room),
+        Output::Json => write_json(alloc, doc, &mut room),
     };
     let told = match answer {
         Ok(len) if len == whole.len() => len,
@@ -82,6 +86,13 @@ fn has_output(alloc: Global, doc: &Doc, output: Output, whole: &[u8]) -> Result<
     Ok(())
 }
 
+/// Checks that the tree is the JSON in this line, which has no escapes of the table.
+fn has_json(alloc: Global, doc: &Doc, line: &str) -> Result<(), Trouble> {
+    let whole = line.strip_suffix('\n').unwrap_or(line).as_bytes();
+    same(alloc, "JSON", whole, json(alloc, doc)?.as_bytes())?;
+    has_output(alloc, doc, Output::Json, whole)
+}
+
 /// The tree of a case, if it is as its case expects.
 pub fn agrees(alloc: Global, case: &Case) -> Result<Doc, Trouble> {
     case.has_only(&PARTS)?;
@@ -98,6 +109,9 @@ pub fn agrees(alloc: Global, case: &Case) -> Result<Doc, Trouble> {
             html(alloc, &doc)?.as_bytes(),
         )?;
         has_output(alloc, &doc, Output::Html, whole.as_slice())?;
+    }
+    if let Some(line) = case.lines("json") {
+        has_json(alloc, &doc, line)?;
     }
     let depth = block_depth(doc.blocks.as_slice());
     let of_inlines = depth_of_inlines(&doc);
