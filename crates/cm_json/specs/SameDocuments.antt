@@ -11,25 +11,28 @@ use Rattle.cm_scan.specs.laws.PartLaws.{leaves_named, leaves_in}
 use Rattle.cm_json.specs.Mdast.{json_of}
 
 -- the number of the first item, if there is one, has 32 bits
-abbrev pub has_start : ListKind → Bool
-has_start (Dot start) = nat_lt start (2 ^ 32)
-has_start (Paren start) = nat_lt start (2 ^ 32)
-has_start _ = true
+abbrev pub is_start_in_range : ListKind → Bool
+is_start_in_range (Dot start) = nat_lt start (2 ^ 32)
+is_start_in_range (Paren start) = nat_lt start (2 ^ 32)
+is_start_in_range _ = true
 
 -- one block, with the answer for each block inside in its place
-abbrev pub number_step : Block-F Bool → Bool
-number_step (block.Heading level content) = nat_lt level (2 ^ 8)
-number_step (block.Quote blocks) = all_of blocks
-number_step (block.List kind tight items) = has_start kind && all_of_items items
-number_step _ = true
+abbrev pub range_step : Block-F Bool → Bool
+range_step (block.Heading level content) = nat_lt level (2 ^ 8)
+range_step (block.Quote blocks) = all_of blocks
+range_step (block.List kind tight items) = is_start_in_range kind && all_of_items items
+range_step _ = true
 
-abbrev pub has_numbers : Block → Bool
-has_numbers = fold-Block Bool number_step
+abbrev pub is_in_range : Block → Bool
+is_in_range = fold-Block Bool range_step
+
+-- levels and numbers of lists are in range, as the types of the tree have them, at any depth
+abbrev pub are_in_range : List Block → Bool
+are_in_range blocks = all_of (map is_in_range blocks)
 
 -- What holds of every document that was read.
 pub record IsInOrder (blocks : List Block) (owners : List Owner) : Type 0 where
-  -- levels and numbers of lists are in range, as the types of the tree have them
-  pub numbers : all_of (map has_numbers blocks) ≡ true
+  pub in_range : are_in_range blocks ≡ true
   pub lines : length owners < 2 ^ 63
   -- each leaf has one unbroken run of lines, and the runs are in the order of the leaves
   pub runs : leaves_named owners ≡ Some (leaves_in blocks)

@@ -23,8 +23,7 @@ use Rattle.cm_tree.specs.declared.tree.Block.TheViews.{roll-Block}
 use Rattle.cm_tree.specs.declared.tree.Block.TheFolds.{fold-Block, ind-Block, fold_out-Block}
 use Rattle.cm_scan.specs.laws.PartLaws.{leaves_step, total, total_of_all}
 use Rattle.cm_json.specs.Mdast.{Placed, placed, all_placed, list_item, node, children, spread_member, resource, valued, inline_nodes}
-use Rattle.cm_json.specs.SameDocuments.{has_start, number_step, has_numbers}
-use Rattle.cm_json.specs.steps.Orders.{HasSmallStart}
+use Rattle.cm_json.specs.SameDocuments.{is_start_in_range, range_step, is_in_range}
 use Rattle.cm_json.proofs.lemmas.BlockKinds.{paragraph-placed, heading-placed, code-placed, html-placed, break-placed, definition-placed, quote-placed, list-placed}
 use Rattle.cm_json.proofs.lemmas.Numbers.{leaf-numbers, list-numbers, optional-numbers, inlines-numbers, info-numbers, final_newline-numbers}
 use Rattle.cm_json.proofs.lemmas.OwnersBack.{runs, run_end}
@@ -283,7 +282,7 @@ abbrev leaves_of : Block → ℕ
 leaves_of = fold-Block ℕ leaves_step
 
 abbrev ComesBack : Block → Type 0
-ComesBack b = has_numbers b ≡ true → (owners : List Owner) → length owners < 2 ^ 63 → (passed : ℕ) → passed ≤ length owners → BlockFound owners (leaves_of b) b (placed owners b passed) passed
+ComesBack b = is_in_range b ≡ true → (owners : List Owner) → length owners < 2 ^ 63 → (passed : ℕ) → passed ≤ length owners → BlockFound owners (leaves_of b) b (placed owners b passed) passed
 
 abbrev Proved : Type 0
 Proved = (b : Block) × ComesBack b
@@ -296,11 +295,11 @@ both-true true b both = (refl, both)
 both-true false b both = cc
 
 module _ (owners : List Owner) (small : length owners < 2 ^ 63) where
-  blocks-found : (es : List Proved) → all_of (map has_numbers (those es)) ≡ true → (passed : ℕ) → passed ≤ length owners
+  blocks-found : (es : List Proved) → all_of (map is_in_range (those es)) ≡ true → (passed : ℕ) → passed ≤ length owners
       → BlocksFound owners (total (map leaves_of (those es))) (those es) (all_placed (map (placed owners) (those es)) passed) passed
   blocks-found [] fit passed within = record { back = refl; have = tt; lines = refl; ends = refl; within = within }
   blocks-found (e ∷ es) fit passed within =
-      let (here, more) = both-true (has_numbers e.0) (all_of (map has_numbers (those es))) fit in
+      let (here, more) = both-true (is_in_range e.0) (all_of (map is_in_range (those es))) fit in
       let one = e.1 here owners small passed within in
       let mid = (placed owners e.0 passed).1 in
       let rest = blocks-found es more mid one.within in
@@ -312,11 +311,11 @@ module _ (owners : List Owner) (small : length owners < 2 ^ 63) where
         within = rest.within;
       }
 
-  items-found : (spread : Bool) (ess : List (List Proved)) → all_of_items (map (map has_numbers) (map those ess)) ≡ true → (passed : ℕ) → passed ≤ length owners
+  items-found : (spread : Bool) (ess : List (List Proved)) → all_of_items (map (map is_in_range) (map those ess)) ≡ true → (passed : ℕ) → passed ≤ length owners
       → ItemsFound owners (total_of_all (map (map leaves_of) (map those ess))) (map those ess) (all_placed (map (list_item spread) (map (map (placed owners)) (map those ess))) passed) passed
   items-found spread [] fit passed within = record { back = refl; have = tt; lines = refl; ends = refl; within = within }
   items-found spread (es ∷ ess) fit passed within =
-      let (here, more) = both-true (all_of (map has_numbers (those es))) (all_of_items (map (map has_numbers) (map those ess))) fit in
+      let (here, more) = both-true (all_of (map is_in_range (those es))) (all_of_items (map (map is_in_range) (map those ess))) fit in
       let one = blocks-found es here passed within in
       let mid = (all_placed (map (placed owners) (those es)) passed).1 in
       let rest = items-found spread ess more mid one.within in
@@ -332,13 +331,13 @@ module _ (owners : List Owner) (small : length owners < 2 ^ 63) where
 -- ---- one block
 
 -- a block as it is known
-known : (b : Block) (fits : Bool) (leaves : ℕ) (f : List Owner → Placed) → has_numbers b ≡ fits → leaves_of b ≡ leaves → ((owners : List Owner) → placed owners b ≡ f owners)
+known : (b : Block) (fits : Bool) (leaves : ℕ) (f : List Owner → Placed) → is_in_range b ≡ fits → leaves_of b ≡ leaves → ((owners : List Owner) → placed owners b ≡ f owners)
     → (fits ≡ true → (owners : List Owner) → length owners < 2 ^ 63 → (passed : ℕ) → passed ≤ length owners → BlockFound owners leaves b (f owners passed) passed) → ComesBack b
 known b fits leaves f numbers many is found fit owners small passed within =
     subst (λ (g : Placed). BlockFound owners (leaves_of b) b (g passed) passed) (sym (is owners))
     (subst (λ (n : ℕ). BlockFound owners n b (f owners passed) passed) (sym many) (found (sym numbers ∙ fit) owners small passed within))
 
-kind-back : (kind : ListKind) (spread : Bool) (items : Items) (bs : List (List Block)) → has_start kind ≡ true → items_back items ≡ bs
+kind-back : (kind : ListKind) (spread : Bool) (items : Items) (bs : List (List Block)) → is_start_in_range kind ≡ true → items_back items ≡ bs
     → block_back (node (codes "list") (order kind (spread_member spread (children items)))) ≡ ListBlock kind (not spread) bs
 kind-back Dash spread items bs fits back = ap (ListBlock Dash (not spread)) back
 kind-back Plus spread items bs fits back = ap (ListBlock Plus (not spread)) back
@@ -353,13 +352,6 @@ kind-spans Star spread items = refl
 kind-spans (Dot start) spread items = refl
 kind-spans (Paren start) spread items = refl
 
-kind-small : (kind : ListKind) → has_start kind ≡ true → HasSmallStart kind
-kind-small Dash fits = tt
-kind-small Plus fits = tt
-kind-small Star fits = tt
-kind-small (Dot start) fits = omega (arith, ltb-true start (2 ^ 32) fits)
-kind-small (Paren start) fits = omega (arith, ltb-true start (2 ^ 32) fits)
-
 not-not : (b : Bool) → not (not b) ≡ b
 not-not true = refl
 not-not false = refl
@@ -367,16 +359,16 @@ not-not false = refl
 layer : (y : Block-F Proved) → ComesBack (roll-Block (map-Block Proved Block (λ e. e.0) y))
 unfolding roll-Block denote.Hole.Carrier.roll
 layer (block.Paragraph content) =
-    known (Paragraph content) true 1 _ (simp (fold_out-Block Bool number_step, outs-Paragraph)) (simp (fold_out-Block ℕ leaves_step, outs-Paragraph)) (λ owners. paragraph-placed owners content)
+    known (Paragraph content) true 1 _ (simp (fold_out-Block Bool range_step, outs-Paragraph)) (simp (fold_out-Block ℕ leaves_step, outs-Paragraph)) (λ owners. paragraph-placed owners content)
     (λ fit owners small passed within. leaf-found owners small passed within (Paragraph content) (codes "paragraph") no_members (children (inline_nodes false content)) (ap Paragraph (inlines-back content)) tt (inlines-numbers content, tt))
 layer (block.Heading level content) =
-    known (Heading level content) (nat_lt level (2 ^ 8)) 1 _ (simp (fold_out-Block Bool number_step, outs-Heading)) (simp (fold_out-Block ℕ leaves_step, outs-Heading)) (λ owners. heading-placed owners level content)
+    known (Heading level content) (nat_lt level (2 ^ 8)) 1 _ (simp (fold_out-Block Bool range_step, outs-Heading)) (simp (fold_out-Block ℕ leaves_step, outs-Heading)) (λ owners. heading-placed owners level content)
     (λ fit owners small passed within.
     let low : level < 2 ^ 64 = omega (arith, ltb-true level (2 ^ 8) fit) in
     leaf-found owners small passed within (Heading level content) (codes "heading") no_members (member (codes "depth") (count level) (children (inline_nodes false content)))
     (ap₂ Heading (count-back level low) (inlines-back content)) tt (IsNumber-decimal level low, (inlines-numbers content, tt)))
 layer (block.Code info text) =
-    known (Code info text) true 1 _ (simp (fold_out-Block Bool number_step, outs-Code)) (simp (fold_out-Block ℕ leaves_step, outs-Code)) (λ owners. code-placed owners info text)
+    known (Code info text) true 1 _ (simp (fold_out-Block Bool range_step, outs-Code)) (simp (fold_out-Block ℕ leaves_step, outs-Code)) (λ owners. code-placed owners info text)
     (λ fit owners small passed within.
     let told = info_member info (final_newline text) in
     leaf-found owners small passed within (Code info text) (codes "code") told
@@ -385,32 +377,32 @@ layer (block.Code info text) =
     ∙ ap₂ Code (info-back info text) (ap (λ b. value_back b (without_line_feed text)) (ended-behind info (final_newline text)) ∙ value-back text))
     (info-numbers info (final_newline text) (final_newline-numbers text)) (optional-numbers (language info), (optional-numbers (behind_language info), (tt, tt))))
 layer (block.Html text) =
-    known (Html text) true 1 _ (simp (fold_out-Block Bool number_step, outs-Html)) (simp (fold_out-Block ℕ leaves_step, outs-Html)) (λ owners. html-placed owners text)
+    known (Html text) true 1 _ (simp (fold_out-Block Bool range_step, outs-Html)) (simp (fold_out-Block ℕ leaves_step, outs-Html)) (λ owners. html-placed owners text)
     (λ fit owners small passed within. leaf-found owners small passed within (Html text) (codes "html") (final_newline text) (valued (without_line_feed text)) (ap Html (value-back text)) (final_newline-numbers text) (tt, tt))
 layer block.Break =
-    known Break true 1 _ (simp (fold_out-Block Bool number_step, outs-Break)) (simp (fold_out-Block ℕ leaves_step, outs-Break)) (λ owners. break-placed owners)
+    known Break true 1 _ (simp (fold_out-Block Bool range_step, outs-Break)) (simp (fold_out-Block ℕ leaves_step, outs-Break)) (λ owners. break-placed owners)
     (λ fit owners small passed within. leaf-found owners small passed within Break (codes "thematicBreak") no_members no_members refl tt tt)
 layer (block.Definition label dest title) =
-    known (Definition label dest title) true 1 _ (simp (fold_out-Block Bool number_step, outs-Definition)) (simp (fold_out-Block ℕ leaves_step, outs-Definition)) (λ owners. definition-placed owners label dest title)
+    known (Definition label dest title) true 1 _ (simp (fold_out-Block Bool range_step, outs-Definition)) (simp (fold_out-Block ℕ leaves_step, outs-Definition)) (λ owners. definition-placed owners label dest title)
     (λ fit owners small passed within.
     leaf-found owners small passed within (Definition label dest title) (codes "definition") no_members
     (member (codes "identifier") (string label) (member (codes "label") (string label) (resource dest title no_members))) (ap (Definition label dest) (optional-back title)) tt
     (tt, (tt, (tt, (optional-numbers title, tt)))))
 layer (block.Quote es) =
-    known (Quote (those es)) (all_of (map has_numbers (those es))) (total (map leaves_of (those es))) _ (simp (fold_out-Block Bool number_step, outs-Quote)) (simp (fold_out-Block ℕ leaves_step, outs-Quote)) (λ owners. quote-placed owners (those es))
+    known (Quote (those es)) (all_of (map is_in_range (those es))) (total (map leaves_of (those es))) _ (simp (fold_out-Block Bool range_step, outs-Quote)) (simp (fold_out-Block ℕ leaves_step, outs-Quote)) (λ owners. quote-placed owners (those es))
     (λ fit owners small passed within.
     let found = blocks-found owners small es fit passed within in
     record { back = ap Quote found.back; have = (tt, (found.have, tt)); lines = found.lines; ends = found.ends; within = found.within })
 layer (block.List kind tight ess) =
-    known (ListBlock kind tight (map those ess)) (has_start kind && all_of_items (map (map has_numbers) (map those ess))) (total_of_all (map (map leaves_of) (map those ess))) _
-    (simp (fold_out-Block Bool number_step, outs-List)) (simp (fold_out-Block ℕ leaves_step, outs-List)) (λ owners. list-placed owners kind tight (map those ess))
+    known (ListBlock kind tight (map those ess)) (is_start_in_range kind && all_of_items (map (map is_in_range) (map those ess))) (total_of_all (map (map leaves_of) (map those ess))) _
+    (simp (fold_out-Block Bool range_step, outs-List)) (simp (fold_out-Block ℕ leaves_step, outs-List)) (λ owners. list-placed owners kind tight (map those ess))
     (λ fit owners small passed within.
-    let (start, more) = both-true (has_start kind) (all_of_items (map (map has_numbers) (map those ess))) fit in
+    let (start, more) = both-true (is_start_in_range kind) (all_of_items (map (map is_in_range) (map those ess))) fit in
     let found = items-found owners small (not tight) ess more passed within in
     let nodes = (all_placed (map (list_item (not tight)) (map (map (placed owners)) (map those ess))) passed).0 in
     record {
       back = kind-back kind (not tight) nodes (map those ess) start found.back ∙ ap (λ t. ListBlock kind t (map those ess)) (not-not tight);
-      have = list-numbers kind (not tight) nodes (kind-small kind start) found.have;
+      have = list-numbers kind (not tight) nodes start found.have;
       lines = kind-spans kind (not tight) nodes ∙ found.lines;
       ends = found.ends;
       within = found.within;
@@ -427,8 +419,8 @@ those-proved : (bs : List Block) → those (proved bs) ≡ bs
 those-proved [] = refl
 those-proved (b ∷ bs) = ap (λ bs. b ∷ bs) (those-proved bs)
 
-pub all-back : (bs : List Block) (owners : List Owner) → all_of (map has_numbers bs) ≡ true → length owners < 2 ^ 63
+pub all-back : (bs : List Block) (owners : List Owner) → all_of (map is_in_range bs) ≡ true → length owners < 2 ^ 63
     → BlocksFound owners (total (map leaves_of bs)) bs (all_placed (map (placed owners) bs) 0) 0
 all-back bs owners fit small =
     subst (λ (cs : List Block). BlocksFound owners (total (map leaves_of cs)) cs (all_placed (map (placed owners) cs) 0) 0) (those-proved bs)
-    (blocks-found owners small (proved bs) (ap (λ (cs : List Block). all_of (map has_numbers cs)) (those-proved bs) ∙ fit) 0 (omega arith))
+    (blocks-found owners small (proved bs) (ap (λ (cs : List Block). all_of (map is_in_range cs)) (those-proved bs) ∙ fit) 0 (omega arith))

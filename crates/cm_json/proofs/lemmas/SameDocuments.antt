@@ -1,5 +1,5 @@
 -- Documents are told apart by their JSON: each is found again.
-use Rattle.std.proofs.Common.{◌≡◌, ℕ, suc, ◌+◌, ◌<◌, ◌^◌, true, false, cond, List, [], ◌∷◌, length, codes, refl, ap, ap₂, sym, ◌∙◌, arith}
+use Rattle.std.proofs.Common.{◌≡◌, ℕ, suc, ◌+◌, ◌<◌, ◌^◌, true, false, cond, List, [], ◌∷◌, length, codes, map, refl, ap, ap₂, sym, ◌∙◌, arith}
 use Rattle.std.specs.List.{list_any}
 use Rattle.std.proofs.lemmas.Bool.{or_parts}
 use Rattle.json.specs.Json.{Json, array, object, Items, no_items, item, Members, no_members, member}
@@ -9,7 +9,8 @@ use Rattle.cm_tree.specs.declared.tree.Block.{Block}
 use Rattle.cm_tree.specs.declared.tree.Owner.{Owner}
 use Rattle.cm_scan.specs.laws.PartLaws.{leaves_in}
 use Rattle.cm_json.specs.Mdast.{count, is_marker, marker_lines, markers, value_of}
-use Rattle.cm_json.specs.SameDocuments.{IsInOrder, SameJsonSameDocument}
+use Rattle.cm_tree.specs.HeadingLevels.{all_of}
+use Rattle.cm_json.specs.SameDocuments.{IsInOrder, is_in_range, SameJsonSameDocument}
 use Rattle.cm_json.proofs.lemmas.BlocksBack.{count_back, count-back, blocks_back, all_spans, all-back}
 use Rattle.cm_json.proofs.lemmas.Numbers.{lines-numbers}
 use Rattle.cm_json.proofs.lemmas.OwnersBack.{runs, markers_of, owners_back, owners-back}
@@ -76,22 +77,23 @@ owners_of (object (member a t (member b (object (member c (array (item one (item
     owners_back (count_back n) 1 0 (all_spans js) (markers_back told)
 owners_of _ = []
 
+-- each number of its JSON is one of JSON
+pub numbers : (blocks : List Block) (owners : List Owner) → all_of (map is_in_range blocks) ≡ true → length owners < 2 ^ 63 → HasNumbers (value_of blocks owners)
+numbers blocks owners in_range lines =
+    let small : (0 + 1 < 2 ^ 64) × (length owners < 2 ^ 64) = (omega arith, omega (arith, lines)) in
+    (tt, (lines-numbers 0 (length owners) (markers owners) small (markers-numbers owners lines), ((all-back blocks owners in_range lines).have, tt)))
+
 module _ (blocks : List Block) (owners : List Owner) (order : IsInOrder blocks owners) where
   blocks-back : blocks_of (value_of blocks owners) ≡ blocks
-  blocks-back = (all-back blocks owners order.numbers order.lines).back
+  blocks-back = (all-back blocks owners order.in_range order.lines).back
 
   owners-of-back : owners_of (value_of blocks owners) ≡ owners
   owners-of-back =
-      ap₂ (λ n (spans : List (ℕ × ℕ)). owners_back n 1 0 spans (markers_back (markers owners))) (count-back (length owners) (omega (arith, order.lines))) (all-back blocks owners order.numbers order.lines).lines
+      ap₂ (λ n (spans : List (ℕ × ℕ)). owners_back n 1 0 spans (markers_back (markers owners))) (count-back (length owners) (omega (arith, order.lines))) (all-back blocks owners order.in_range order.lines).lines
       ∙ ap (λ ms. owners_back (length owners) 1 0 (runs owners (leaves_in blocks) 0) ms) (markers-back owners order.lines)
       ∙ owners-back owners (leaves_in blocks) order.runs
 
-  numbers : HasNumbers (value_of blocks owners)
-  numbers =
-      let small : (0 + 1 < 2 ^ 64) × (length owners < 2 ^ 64) = (omega arith, omega (arith, order.lines)) in
-      (tt, (lines-numbers 0 (length owners) (markers owners) small (markers-numbers owners order.lines), ((all-back blocks owners order.numbers order.lines).have, tt)))
-
 pub same_document : SameJsonSameDocument
 same_document b c o p one two same =
-    let value = same_value (value_of b o) (value_of c p) (numbers b o one) (numbers c p two) same in
+    let value = same_value (value_of b o) (value_of c p) (numbers b o one.in_range one.lines) (numbers c p two.in_range two.lines) same in
     (sym (blocks-back b o one) ∙ ap blocks_of value ∙ blocks-back c p two, sym (owners-of-back b o one) ∙ ap owners_of value ∙ owners-of-back c p two)

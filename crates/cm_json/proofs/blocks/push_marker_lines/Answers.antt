@@ -1,7 +1,5 @@
-use Rattle.std.proofs.Common.{◌+◌, ◌^◌, ◌<◌, ◌++◌, true, drop, length, ap, ap₂, sym, ◌∙◌, subst, arith, append_assoc}
+use Rattle.std.proofs.Common.{◌+◌, ◌<◌, ◌++◌, true, drop, length, ap, ap₂, sym, ◌∙◌, arith, append_assoc}
 use Rattle.std.specs.Fmt.{decimal}
-use Rattle.json.specs.Tree.{ItemsHaveNumbers}
-use Rattle.json.proofs.Printed.Decimals.{IsNumber-decimal}
 use Rattle.cm_json.specs.Mdast.{marker_lines}
 use Rattle.cm_json.specs.steps.Texts.{comma, items_text}
 use Rattle.cm_json.proofs.lemmas.MarkerLemmas.{no_marker, a_marker}
@@ -17,8 +15,7 @@ loop-owner-preserved c =
     elim c.if-is_marker.branch [
       | then-is_marker+in_ok-push_line_number w ↦
           let is = sym c.is_marker.ensures ∙ w.if-is_marker.true in
-          let wrote = w.in_ok-push_line_number.ensures.written ∙ ap (λ n. c.loop-owner.out ++ (comma c.loop-owner.behind ++ decimal (n + 1))) c.loop-owner.invariant.place in
-          let small : i + 1 < 2 ^ 64 = omega (arith, w.in_ok-push_line_number.ensures.small, c.loop-owner.invariant.place) in
+          let wrote = w.in_ok-push_line_number.ensures ∙ ap (λ n. c.loop-owner.out ++ (comma c.loop-owner.behind ++ decimal (n + 1))) c.loop-owner.invariant.place in
           record {
             place = omega (arith, c.loop-owner.invariant.place);
             written =
@@ -26,7 +23,6 @@ loop-owner-preserved c =
                 ∙ append_assoc c.loop-owner.out (comma c.loop-owner.behind ++ decimal (i + 1)) (items_text true rest)
                 ∙ ap (λ t. c.loop-owner.out ++ items_text c.loop-owner.behind t) (a_marker owners i within is)
                 ∙ c.loop-owner.invariant.written;
-            numbers = λ have. c.loop-owner.invariant.numbers (subst ItemsHaveNumbers (a_marker owners i within is) (IsNumber-decimal (i + 1) small, have));
           }
       | else-is_marker w ↦
           let no = sym c.is_marker.ensures ∙ w.if-is_marker.false in
@@ -36,6 +32,5 @@ loop-owner-preserved c =
                 ap₂ (λ out behind. out ++ items_text behind rest) w.out-is w.behind-is
                 ∙ ap (λ t. c.loop-owner.out ++ items_text c.loop-owner.behind t) (no_marker owners i within no)
                 ∙ c.loop-owner.invariant.written;
-            numbers = λ have. c.loop-owner.invariant.numbers (subst ItemsHaveNumbers (no_marker owners i within no) have);
           }
     ]

@@ -1,5 +1,4 @@
 use Rattle.std.proofs.Common.{◌≡◌, ◌++◌, false, drop}
-use Rattle.json.specs.Tree.{ItemsHaveNumbers}
 use Rattle.cm_json.specs.Mdast.{marker_lines}
 use Rattle.cm_json.specs.steps.Texts.{items_text}
 use Rattle.cm_json.proofs.blocks.push_marker_lines.Given as goal
@@ -9,5 +8,4 @@ abbrev pub invariant-loop-owner : goal.invariant-loop-owner
 invariant-loop-owner l = record {
   place : l.count ≡ l.owner-index;
   written : l.out ++ items_text l.behind (marker_lines l.owner-index (drop l.owner-index l.owners)) ≡ l.fn.out ++ items_text false (marker_lines 0 l.owners);
-  numbers : ItemsHaveNumbers (marker_lines l.owner-index (drop l.owner-index l.owners)) → ItemsHaveNumbers (marker_lines 0 l.owners);
 }

@@ -10,5 +10,5 @@ returns-clause-written c =
     let end = c.end_of-end.result in
     let begins = c.start_of-start.ensures.found in
     let ends = c.end_of-end.ensures.found ∙ ap (λ s. s + run_length (drop s c.args.owners.now)) begins in
-    then _ _ _ c.args.front.now (lines_text start end) c.in_ok-push_str.ensures c.in_ok-push_lines.ensures.written
+    then _ _ _ c.args.front.now (lines_text start end) c.in_ok-push_str.ensures c.in_ok-push_lines.ensures
     ∙ ap₂ (λ s e. c.args.out.now ++ (c.args.front.now ++ lines_text s e)) begins ends

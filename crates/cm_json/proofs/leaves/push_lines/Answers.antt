@@ -3,8 +3,8 @@ use Rattle.std.specs.Fmt.{decimal}
 use Rattle.cm_json.proofs.lemmas.Pushed.{at_last}
 use Rattle.cm_json.proofs.leaves.push_lines.Goals as goal
 
-pub returns-clause-written : goal.returns-clause-written
-returns-clause-written c =
+pub returns : goal.returns
+returns c =
     let start = decimal (c.args.passed + 1) in
     let end = decimal c.args.end in
     at_last c.push_str-3.result _ _ _ (codes ",\"data\":{\"lines\":[") (start ++ (codes "," ++ (end ++ codes "]"))) c.in_ok-push_str.ensures
