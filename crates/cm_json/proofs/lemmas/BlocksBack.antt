@@ -197,7 +197,7 @@ code-back s e told (b ∷ bs) (c ∷ cs) value = refl
 
 -- ---- blocks come back
 
--- what is found of a block, or of others one after another, behind so many lines
+-- what is found of a block, or of several, after the given number of lines
 pub record Found (owners : List Owner) (leaves passed end : ℕ) (Told : Type 0) (Numbers : Type 0) (spans : List (ℕ × ℕ)) : Type 0 where
   pub back : Told
   pub have : Numbers
@@ -232,7 +232,7 @@ end-more owners (suc m) n passed =
     let next : suc m + n ≡ suc (m + n) = omega arith in
     ap (λ k. run_end owners k passed) next ∙ end-more owners m n (leaf_end owners passed)
 
--- two pieces, one behind the other
+-- two pieces, one after the other
 spans-both : (owners : List Owner) (m n passed mid : ℕ) (one two : List (ℕ × ℕ)) → one ≡ runs owners m passed → mid ≡ run_end owners m passed → two ≡ runs owners n mid
     → one ++ two ≡ runs owners (m + n) passed
 spans-both owners m n passed mid one two e f g = ap₂ (λ a b. a ++ b) e (g ∙ ap (runs owners n) f) ∙ sym (runs-more owners m n passed)

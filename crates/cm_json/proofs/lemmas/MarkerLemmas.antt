@@ -1,4 +1,4 @@
--- Which lines have markers alone.
+-- Which lines have only markers.
 use Rattle.std.proofs.Common.{◌≡◌, ℕ, suc, ◌+◌, ◌<◌, Bool, true, false, cond, List, codes, drop, length, slice_index_or, drop-cons, ap, sym, ◌∙◌, arith}
 use Rattle.std.specs.List.{list_any}
 use Rattle.json.specs.Json.{Items, item, Members, no_members, member, array}
@@ -25,7 +25,7 @@ none_told owners none = ap (told owners) none
 pub some_told : (owners : List Owner) → list_any is_marker owners ≡ true → markers owners ≡ member (codes "markers") (array (marker_lines 0 owners)) no_members
 some_told owners some = ap (told owners) some
 
--- behind what was written, those from one line on are what is written of the line and those behind it
+-- those from one line on are those of the line and those after it
 module _ (owners : List Owner) (i : ℕ) (within : i < length owners) where
   abbrev rest : Items
   rest = marker_lines (i + 1) (drop (i + 1) owners)

@@ -9,7 +9,7 @@ use Rattle.cm_json.specs.Mdast.{has_leaf, is_not_of, run_length, leaf_start, lea
 
 -- ---- owners by lines
 
--- the numbers of the lines that have markers alone, behind so many lines
+-- the numbers of the lines that have only markers
 abbrev pub markers_of : ℕ → List Owner → List ℕ
 markers_of passed [] = []
 markers_of passed (owner ∷ owners) = cond (is_marker owner) (suc passed ∷ markers_of (suc passed) owners) (markers_of (suc passed) owners)
@@ -22,11 +22,11 @@ mark line (m ∷ ms) = cond (m == line) (Marker, ms) (Blank, m ∷ ms)
 abbrev Spans : Type 0
 Spans = List (ℕ × ℕ)
 
--- how many leaves are passed behind a line of the next one, and the lines of those that are left
+-- how many leaves are passed after a line of the next one, and the lines of those that are left
 abbrev step : (line leaves s e : ℕ) → Spans → ℕ × Spans
 step line leaves s e rest = cond (nat_lt line e) (leaves, (s, e) ∷ rest) (suc leaves, rest)
 
--- so many lines from this one on, behind so many leaves
+-- the owners of the given number of lines from this one on, after the given number of leaves
 abbrev pub owners_back : (count line leaves : ℕ) → Spans → List ℕ → List Owner
 owners_back zero line leaves spans ms = []
 owners_back (suc count) line leaves [] ms = (mark line ms).0 ∷ owners_back count (suc line) leaves [] (mark line ms).1
@@ -34,7 +34,7 @@ owners_back (suc count) line leaves ((s, e) ∷ rest) ms =
     cond (nat_lt line s) ((mark line ms).0 ∷ owners_back count (suc line) leaves ((s, e) ∷ rest) (mark line ms).1)
     (Leaf (suc leaves) ∷ owners_back count (suc line) (step line leaves s e rest).0 (step line leaves s e rest).1 ms)
 
--- the lines of so many leaves, behind so many lines
+-- the lines of the given number of leaves, after the given number of lines
 module _ (owners : List Owner) where
   abbrev pub runs : ℕ → ℕ → Spans
   runs zero passed = []
@@ -159,7 +159,7 @@ module _ (owners : List Owner) where
   Outside os = (passed leaves more : ℕ) (inside : Bool) → drop passed owners ≡ os → InOrder inside leaves os (leaves + more) → (inside && starts_with leaves os) ≡ false
       → owners_back (length os) (suc passed) leaves (runs owners more passed) (markers_of passed os) ≡ os
 
-  -- what is left behind a line of a leaf that goes on for the lines up to this one
+  -- what is left after a line of a leaf that goes on up to line `e`
   abbrev after : (passed leaves s more e : ℕ) → ℕ × Spans
   after passed leaves s more e = step passed leaves s e (runs owners more e)
 
@@ -220,6 +220,9 @@ module _ (owners : List Owner) where
       ∙ ap (on os passed) (ap (λ b. cond b (leaves, (s, passed) ∷ runs owners more passed) (suc leaves, runs owners more passed)) (le-ltb passed passed (omega arith)))
       ∙ outside passed (suc leaves) more true here order other
 
+  still-inside : (passed leaves s more e : ℕ) → passed < e → after passed leaves s more e ≡ (leaves, (s, e) ∷ runs owners more e)
+  still-inside passed leaves s more e within = ap (λ b. cond b (leaves, (s, e) ∷ runs owners more e) (suc leaves, runs owners more e)) (lt-ltb passed e within)
+
   inside-leaf : (os : List Owner) (number : ℕ) → Inside os → Inside (Leaf number ∷ os)
   inside-leaf os number inside passed leaves more s here first order = elim (suc leaves == number) as (λ b. (suc leaves == number) ≡ b
       → on (Leaf number ∷ os) passed (after passed leaves s more (passed + position_or_len (is_not_of (suc leaves)) (Leaf number ∷ os))) ≡ Leaf number ∷ os) [
@@ -232,7 +235,7 @@ module _ (owners : List Owner) where
               | inl next ↦ absurd (omega (arith, next.0, is))
               | inr same ↦ same.2
             ] in
-            ap (on (Leaf number ∷ os) passed) (ap (λ b. cond b (leaves, (s, e) ∷ runs owners more e) (suc leaves, runs owners more e)) (lt-ltb passed e going))
+            ap (on (Leaf number ∷ os) passed) (still-inside passed leaves s more e going)
             ∙ same-leaf os number inside passed leaves more s e here (omega (arith, first)) is ends rest
         | false ↦ λ other. leaves-it (Leaf number ∷ os) (outside-leaf os number inside) passed leaves more s here order other
       ] refl

@@ -16,7 +16,7 @@ use Rattle.cm_json.proofs.lemmas.Numbers.{lines-numbers}
 use Rattle.cm_json.proofs.lemmas.OwnersBack.{runs, markers_of, owners_back, owners-back}
 use Rattle.cm_json.proofs.lemmas.Printed.{same_value}
 
--- ---- lines with markers alone
+-- ---- lines with only markers
 
 abbrev counts_back : Items → List ℕ
 counts_back no_items = []
