@@ -91,7 +91,7 @@ pub fn push_heading_end(out: &mut Pages, level: u8) -> Result<(), AllocError>
     out.push_str(">\n")
 }
 
-/// Writes the front of a code block with a class.
+/// Writes the start of a code block with a class.
 fn push_class_start(out: &mut Pages, word: &str) -> Result<(), AllocError>
     ensures { OnOk result (out.new ≡ out.old ++ class_start word.now) }
 {
@@ -100,7 +100,7 @@ fn push_class_start(out: &mut Pages, word: &str) -> Result<(), AllocError>
     out.push_str("\">")
 }
 
-/// Writes the front of a code block with this class word, which may be empty.
+/// Writes the start of a code block with this class word, which may be empty.
 fn push_code_start(out: &mut Pages, word: &str) -> Result<(), AllocError>
     ensures { OnOk result (out.new ≡ out.old ++ code_start word.now) }
 {

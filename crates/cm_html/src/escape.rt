@@ -47,7 +47,7 @@ pub(crate) fn push_escaped(out: &mut String, text: &str) -> Result<(), AllocErro
     }
 }
 
-/// The same of a text that has such bytes. It is a call of its own, since few texts have them.
+/// The same for a text that has such bytes. It is a call of its own, because few texts have them.
 #[inline(never)]
 fn push_with_references(out: &mut String, text: &str) -> Result<(), AllocError>
     ensures { OnOk result (string_bytes out.new ≡ string_bytes out.old ++ escape text.now) }

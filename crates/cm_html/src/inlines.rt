@@ -73,7 +73,7 @@ fn push_between(
     out.push_str(end)
 }
 
-/// Adds where a link leads, as the value of an attribute.
+/// Adds the destination of a link, as the value of an attribute.
 #[inline(always)]
 fn push_dest(out: &mut Pages, target: LinkTarget<'_>) -> Result<(), AllocError>
     ensures { OnOk result (out.new ≡ out.old ++ destination_html (led_to target.entry).0) }

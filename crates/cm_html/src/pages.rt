@@ -26,8 +26,8 @@ const PAGE: usize = 32_768;
 /// How many bytes a page has room for at first.
 const ROOM: usize = 40_960;
 
-/// How many bytes a text has at least that is inserted. An insertion takes memory too, and a shorter text is
-/// copied in less time than it is looked for.
+/// The least length of a text that is inserted. An insertion takes memory too, and a shorter text is copied
+/// in less time than it is searched for.
 const INSERTED: usize = 64;
 
 /// A text that is made from its start to its end: HTML, or a listing. A long text that has other owners is
@@ -195,8 +195,8 @@ impl Pages {
     ///
     /// # Errors
     ///
-    /// `HtmlFault::WriteFailed` where one write failed: what went out is the first `written` bytes.
-    /// `HtmlFault::NoMemory` where the text has more bytes than a `usize` counts, and then nothing went out.
+    /// `HtmlFault::WriteFailed` if one write failed: then the first `written` bytes were written.
+    /// `HtmlFault::NoMemory` if the text has more bytes than a `usize` counts, and then nothing was written.
     pub fn write<W: Sink>(&self, sink: &mut W) -> Result<usize, HtmlFault>
         requires { W.failed sink.old < 2 ^ 64 - 1 }
         ensures { WritesText result self.now

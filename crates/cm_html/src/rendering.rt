@@ -52,7 +52,7 @@ fn listing_pages(alloc: Global, doc: &Doc) -> Result<Pages, NoMemory>
 
 /// Writes the HTML of a document, and returns its length in bytes.
 ///
-/// On `HtmlFault::WriteFailed` what went out is the first `written` bytes of the HTML, and on
+/// On `HtmlFault::WriteFailed` the first `written` bytes of the HTML were written, and on
 /// `HtmlFault::NoMemory` nothing.
 pub fn write_html<W: Sink>(alloc: Global, doc: &Doc, sink: &mut W) -> Result<usize, HtmlFault>
     requires { W.failed sink.old < 2 ^ 64 - 1 }
@@ -65,7 +65,7 @@ pub fn write_html<W: Sink>(alloc: Global, doc: &Doc, sink: &mut W) -> Result<usi
 
 /// Writes the listing of a document, and returns its length in bytes.
 ///
-/// On `HtmlFault::WriteFailed` what went out is the first `written` bytes of the listing, and on
+/// On `HtmlFault::WriteFailed` the first `written` bytes of the listing were written, and on
 /// `HtmlFault::NoMemory` nothing.
 pub fn write_listing<W: Sink>(alloc: Global, doc: &Doc, sink: &mut W) -> Result<usize, HtmlFault>
     requires { W.failed sink.old < 2 ^ 64 - 1 }

@@ -194,7 +194,7 @@ fn angle(rules: Rules, source: &str, at: usize, ends: &mut MissingEnds) -> (Toke
     }
 }
 
-/// The raw HTML at a place, if the rules have any. An end that is known to be missing isn't looked for.
+/// The raw HTML at a place, if the rules have any. An end that is known to be missing isn't searched for.
 fn raw_html<'a>(
     rules: Rules,
     source: &'a str,

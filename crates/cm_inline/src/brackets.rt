@@ -246,7 +246,7 @@ fn width(image: bool) -> usize
     if image { 2 } else { 1 }
 }
 
-/// What a bracket makes of its content, where that leads there.
+/// What a bracket makes of its content, with this target.
 fn making_of<'a>(image: bool, end: &'a LinkEnd<'_>) -> Making<'a>
     ensures { (content : List Inline) → made_of result.kind (target_of result) content
         ≡ link_of image (found_target end.now.target).0 (found_target end.now.target).1 content }
@@ -257,7 +257,7 @@ fn making_of<'a>(image: bool, end: &'a LinkEnd<'_>) -> Making<'a>
     }
 }
 
-/// Where a group that is made leads.
+/// The target of a group that is made.
 fn target_to<'a>(target: &'a FoundTarget<'_>) -> LinkTarget<'a>
     ensures { led_to result ≡ found_target target.now }
 {

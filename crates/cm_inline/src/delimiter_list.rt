@@ -178,7 +178,7 @@ impl DelimiterList {
         }
     }
 
-    /// Puts a run at the end.
+    /// Appends a run.
     pub(crate) fn push(&mut self, run: DelimiterRun, item: usize) -> Result<Place, AllocError>
         ensures put { IfOk result (λ place. self.new.entries
             ≡ record { place = place; item = item; run = run_of run } ∷ self.old.entries) }

@@ -1,5 +1,5 @@
-//! The groups of a leaf: its emphasis, links and images. A group has the places of its content, and where it
-//! leads.
+//! The groups of a leaf: its emphasis, links and images. A group has the places of its content, and its
+//! target.
 //!
 //! Destinations and titles are places in one text of the leaf, except for long ones that a definition shares.
 //! So a link that is only rendered makes no text of its own.
@@ -23,7 +23,7 @@ pub(crate) enum Kind {
     Image,
 }
 
-/// What is made of nodes, and where it leads, which emphasis has empty.
+/// What is made of nodes, and its target, which is empty for emphasis.
 #[derive(Clone, Copy)]
 pub(crate) struct Making<'a> {
     pub(crate) kind: Kind,
@@ -66,7 +66,7 @@ impl Model for Groups {
     ghost invariant = { λ g. AreTargets (string_bytes g.texts) g.groups.items };
 }
 
-/// Keeps where a group leads. Emphasis leads nowhere: nothing is copied for it.
+/// Keeps the target of a group. Emphasis has none: nothing is copied for it.
 #[inline(always)]
 fn keep(texts: &mut String, target: LinkTarget<'_>) -> Result<KeptTarget, AllocError>
     ensures kept { IfOk result (λ kept. Keeps (string_bytes texts.new) kept (led_to target.entry)) }

@@ -29,7 +29,7 @@ fn push_code_span(html: &mut Pages, text: &str) -> Result<(), AllocError>
     html.push_str("</code>")
 }
 
-/// Where a link without a title leads.
+/// The target of a link without a title.
 fn untitled(dest: &str) -> LinkTarget<'_>
     ensures { led_to result ≡ (dest.now, []) }
 {
@@ -291,7 +291,7 @@ fn push_group(
     push_end(html, group.making.kind)
 }
 
-/// Adds the HTML of the inlines that come of nodes.
+/// Adds the HTML of the inlines that nodes become.
 pub(crate) fn push_nodes(
     alloc: Global,
     html: &mut Pages,

@@ -39,7 +39,7 @@ fn list_for(spare: &mut Spare, tokens: &[Token]) -> Result<Vec<Inline>, AllocErr
     }
 }
 
-/// Where a link leads, and its title: copies of plain texts, and shared ones themselves.
+/// The target of a link: copies of plain texts, and shared ones themselves.
 fn boxed_target(
     spare: &mut Spare,
     target: LinkTarget<'_>,

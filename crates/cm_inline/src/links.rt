@@ -27,7 +27,7 @@ pub(crate) enum FoundTarget<'a> {
     Defined(LinkTarget<'a>),
 }
 
-/// Where a link or an image leads, and the place where it ends.
+/// The target of a link or an image, and the place where it ends.
 #[derive(Drop)]
 pub(crate) struct LinkEnd<'a> {
     pub(crate) target: FoundTarget<'a>,
@@ -141,8 +141,8 @@ fn closed<'a>(
     }))
 }
 
-/// The end of a reference: a full one, a collapsed one or a shortcut. Where a label follows that isn't
-/// defined, or that leads to an address which the rules don't follow, there is none.
+/// The end of a reference: a full one, a collapsed one or a shortcut. There is none if a label follows that
+/// isn't defined, or whose address the rules don't follow.
 fn reference_end<'a>(
     alloc: Global,
     rules: Rules,
@@ -172,8 +172,8 @@ fn reference_end<'a>(
     }
 }
 
-/// Where a reference by a label leads that ends at a place, if the label is defined and the rules follow its
-/// address, which the table knows.
+/// The target of a reference by a label that ends at a place, if the label is defined and the rules follow
+/// its address, which the table knows.
 #[inline(always)]
 fn reference<'a>(
     alloc: Global,

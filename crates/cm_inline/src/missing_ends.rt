@@ -17,8 +17,8 @@ use std::collections::BTreeMap;
 /// HTML).
 #[derive(Clone, Copy, Debug, PartialEq, Eq)]
 pub(crate) enum Form {
-    /// From `<!--` to `-->`. By the older rules a comment is over, or is none, at the next `--`, so that
-    /// nothing has to be remembered.
+    /// From `<!--` to `-->`. With the older rules a comment is over, or is none, at the next `--`, so nothing
+    /// has to be remembered.
     Comment,
     /// From `<?` to `?>`.
     Instruction,

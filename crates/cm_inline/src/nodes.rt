@@ -113,7 +113,7 @@ impl Nodes {
         Ok(self.before.push(token)?)
     }
 
-    /// Puts the source between two places as text in the place of a node.
+    /// Replaces a node with the source between two places as text.
     pub(crate) fn put_text(&mut self, at: usize, from: usize, to: usize)
         requires there { at < length (nodes_in self.old) }
         requires order { from ≤ to }

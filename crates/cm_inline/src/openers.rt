@@ -47,7 +47,7 @@ impl Openers {
     }
 }
 
-/// Puts a run at the end, as a closer.
+/// Appends a run, as a closer.
 pub(crate) fn begin(
     openers: &mut Openers,
     run: DelimiterRun,
@@ -90,7 +90,7 @@ pub(crate) fn spend(openers: &mut Openers, opener: Delimiter, rest: Option<Delim
     }
 }
 
-/// Puts the closer among the openers, or takes it out.
+/// Adds the closer to the openers, or removes it.
 pub(crate) fn finish(openers: &mut Openers, closer: Place, run: DelimiterRun, item: usize)
     requires there { is_listed closer openers.old.list.entries ≡ true }
     ensures { Finishes openers.old openers.new closer (run_of run) item }

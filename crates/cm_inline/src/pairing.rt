@@ -1,5 +1,5 @@
-//! Emphasis by pairs of delimiter runs, made in one pass over the nodes (CommonMark 0.31.2, 6.2 Emphasis and
-//! strong emphasis).
+//! Emphasis from pairs of delimiter runs, made in one pass over the nodes (CommonMark 0.31.2, 6.2 Emphasis
+//! and strong emphasis).
 ghost use Rattle.std.specs.Prelude.{◌≡◌, ◌≢◌, ◌+◌, ◌<◌, ◌≤◌, ◌^◌};
 ghost use Rattle.std.specs.Prelude.{ℕ, List, true, suc, reverse, drop, length, IfOk, OnOk, IfSome, Err};
 ghost use Rattle.cm_inline.specs.steps.Prelude.{Delimiters, without, used, emphasised, up_to_pair, passed};

@@ -83,7 +83,7 @@ fn read_on(
     Ok(read_atom(alloc, rules, source, end, reader)?)
 }
 
-/// Reads a source to its end, in one pass, from the text at its front on, which ends at a place. Places have
+/// Reads a source to its end, in one pass, from the text at its start on, which ends at a place. Places have
 /// 32 bits.
 fn read_all(
     alloc: Global,
@@ -205,7 +205,8 @@ impl InlineReader {
     }
 
     /// The inlines of a leaf with this source, whose lines are separated by line feeds, in a document with
-    /// these definitions, by these rules, and how many openers were looked at (CommonMark 0.31.2, chapter 6).
+    /// these definitions, with these rules, and how many openers were looked at (CommonMark 0.31.2, chapter
+    /// 6).
     ///
     /// # Errors
     ///
@@ -273,7 +274,7 @@ impl InlineReader {
     }
 }
 
-/// The inlines of one leaf by the rules of the standard.
+/// The inlines of one leaf, with the rules of the standard.
 ///
 /// # Errors
 ///
@@ -289,7 +290,7 @@ pub fn inlines(
     inlines_by(alloc, Rules::profile(), source, definitions, limit)
 }
 
-/// The same by these rules.
+/// The same with these rules.
 pub fn inlines_by(
     alloc: Global,
     rules: Rules,

@@ -17,7 +17,7 @@ use memchr::memchr;
 pub struct Autolink<'a> {
     /// what is between `<` and `>`.
     pub text: &'a str,
-    /// Whether it is an e-mail address, which leads to `mailto:` and the text. Any other leads to the text.
+    /// Whether it is an e-mail address, whose link is `mailto:` and the text. Any other links to the text.
     pub is_address: bool,
 }
 

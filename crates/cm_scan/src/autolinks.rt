@@ -27,7 +27,7 @@ pub fn autolink<'a>(text: &'a str, at: usize) -> Option<(Autolink<'a>, usize)>
     Some((link_of(inside)?, end))
 }
 
-/// The same by these rules: an autolink to an address that they don't follow is none.
+/// The same with these rules: an autolink to an address that they don't follow is none.
 pub fn autolink_by<'a>(rules: Rules, text: &'a str, at: usize) -> Option<(Autolink<'a>, usize)>
     requires { IsCharBoundary text.now at }
     ensures read { option_map (λ r. autolink_with r.0.is_address r.0.text.now (drop r.1 text.now)) result

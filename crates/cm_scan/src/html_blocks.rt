@@ -164,7 +164,7 @@ fn is_raw_text_name(name: &[u8]) -> bool
     is_among(words.as_slice(), name)
 }
 
-/// The name of start condition 6 that differs by the rules.
+/// The name of start condition 6 that depends on the rules.
 fn block_name_by(rules: Rules) -> &'static str
     ensures { result.now ≡ block_name_by rules }
 {
@@ -295,8 +295,8 @@ pub fn html_start(text: &str, at: usize) -> Option<HtmlKind>
     html_start_by(Rules::profile(), text, at)
 }
 
-/// The same by these rules, which decide which names start condition 6 has, and whether any
-/// line starts an HTML block.
+/// The same with these rules, which decide which names start condition 6 has, and whether any line starts an
+/// HTML block.
 #[tactic(auto, using(crate::proofs::lemmas::blocks::HtmlStarts::html_starts))]
 pub fn html_start_by(rules: Rules, text: &str, at: usize) -> Option<HtmlKind>
     requires within { at ≤ length text.now }

@@ -7,7 +7,7 @@ ghost use Rattle.cm_scan.specs.laws.SpanLaws.{AutolinkGoesOn, NoAutolinkGoesOn};
 ghost use Rattle.cm_scan.specs.laws.SpanLaws.{CodeSpanGoesOn, AngledGoesOn};
 ghost use Rattle.cm_scan.specs.laws.SpanLaws.{WholeTagGoesOn, OlderIsRead, NeedsEnd};
 
-/// Raw HTML at the front of a text is the same with anything after the text.
+/// Raw HTML at the start of a text is the same with anything after the text.
 pub fn raw_html_goes_on()
     ensures front { RawHtmlGoesOn }
     ensures whole { WholeRawHtmlGoesOn }
@@ -30,7 +30,7 @@ pub fn angled_goes_on()
     ensures whole_tag { WholeTagGoesOn }
 {}
 
-/// Raw HTML by the older rules is raw HTML.
+/// Raw HTML with the older rules is raw HTML.
 pub fn older_is_read()
     ensures { OlderIsRead }
 {}

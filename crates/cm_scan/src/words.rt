@@ -90,7 +90,7 @@ pub(crate) fn is_at_gap(bytes: &[u8]) -> bool
     }
 }
 
-/// The text without the spaces and tabs at its front.
+/// The text without the spaces and tabs at its start.
 pub(crate) fn trim_start(text: &str) -> &str
     ensures { result.now ≡ trim_start text.now }
 {
@@ -102,7 +102,7 @@ pub(crate) fn trim_start(text: &str) -> &str
     &text[start..]
 }
 
-/// Whether a byte goes from the end of a text: a space, and a tab where tabs go too.
+/// Whether a byte is removed from the end of a text: a space, and a tab if tabs are removed too.
 #[inline(always)]
 fn is_trimmed(tabs: bool, b: u8) -> bool
     ensures { result ≡ is_trimmed tabs b }

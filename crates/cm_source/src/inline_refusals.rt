@@ -296,8 +296,8 @@ fn check_emphasis(
     )
 }
 
-/// Whether a text in a link that is the first inline of a paragraph holds `]:`, so that it would be read as a
-/// definition.
+/// Whether a text in a link that is the first inline of a paragraph contains `]:`, so that it would be read
+/// as a definition.
 fn ends_a_label(place: Place, text: &str) -> bool
     ensures { result ≡ ends_a_label (place_of place) text.now }
 {

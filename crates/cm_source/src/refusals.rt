@@ -305,7 +305,7 @@ pub fn spellable(blocks: &[Block]) -> Result<(), Why>
     spellable_by(Rules::profile(), blocks)
 }
 
-/// The same by these rules.
+/// The same with these rules.
 ///
 /// The rules decide what a plain character next to emphasis is, which texts are raw HTML and HTML blocks, and
 /// whether there is strikethrough.

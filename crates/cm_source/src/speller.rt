@@ -47,8 +47,7 @@ pub fn spell(alloc: Global, blocks: &[Block]) -> Result<String, SourceFault>
     spell_by(alloc, Rules::profile(), blocks)
 }
 
-/// The same by these rules, which decide whether a tree can be spelled, as in
-/// `spellable_by`, and nothing else.
+/// The same with these rules, which only decide whether a tree can be spelled, as in `spellable_by`.
 ///
 /// # Errors
 ///
@@ -84,7 +83,7 @@ impl fmt::Debug for Speller {
 }
 
 impl Speller {
-    /// A speller that has been given no blocks, by these rules. It takes no memory.
+    /// A speller that has been given no blocks, with these rules. It takes no memory.
     pub fn new(alloc: Global, rules: Rules) -> Speller
         ensures { HasSpelled rules result [] }
     {

@@ -1,6 +1,6 @@
 //! Why a tree can't be spelled.
 //!
-//! The texts of the reasons are written by hand, because no contract says what a derived `Display` writes.
+//! The texts of the reasons are hand-written, because no contract says what a derived `Display` writes.
 ghost use Rattle.std.specs.Prelude.{◌≡◌, ◌≤◌, Some, length};
 ghost use Rattle.cm_source.specs.Reasons.{reason_text};
 

@@ -22,9 +22,9 @@ pub fn is_punct(c: char) -> bool
     is_punct_by(Rules::profile(), c)
 }
 
-/// Whether this is Unicode punctuation by these rules: by the older ones a character of a general category P
-/// or ASCII punctuation, else of a general category P or S (2.1 Characters and lines). An ASCII character is
-/// judged without the table of categories.
+/// Whether this is Unicode punctuation with these rules: with the older ones a character of a general
+/// category P or ASCII punctuation, otherwise one of a general category P or S (2.1 Characters and lines). An
+/// ASCII character is judged without the table of categories.
 #[inline(always)]
 pub fn is_punct_by(rules: Rules, c: char) -> bool
     ensures { result ≡ is_punct_by rules c }

@@ -8,7 +8,7 @@ use thiserror::Error;
 /// Why a text is refused. Bytes count from 0.
 #[derive(Clone, Copy, Debug, PartialEq, Eq, Drop, Error)]
 pub enum TextFault {
-    /// The bytes aren't UTF-8: `at` is the length of the longest well-formed front.
+    /// The bytes aren't UTF-8: `at` is the length of their longest well-formed prefix.
     #[error("not UTF-8 at byte {at}")]
     NotUtf8 { at: usize },
     /// There is a byte past the limit, which is `at`.

@@ -7,7 +7,7 @@
 //! - Devices: [`Source`], [`Sink`], [`FromRead`], [`FromWrite`], and in memory [`Pieces`] and [`Room`].
 //! - Lines: [`LineFeed`], [`Line`], [`View`], [`indent`] and [`strip`].
 //! - What is read in a text: [`reference_at`], [`unescape`], [`fold_label`], [`next_markup`],
-//!   [`is_ascii_punct`], [`is_punct`] and [`is_space`]; and where an address leads: [`is_followed`].
+//!   [`is_ascii_punct`], [`is_punct`] and [`is_space`]; and which addresses are followed: [`is_followed`].
 //! - Faults: [`TextFault`], [`WriteFailed`], [`DeviceFailed`] and [`NoMemory`].
 //!
 //! The rest is what the crates above use.

@@ -165,7 +165,7 @@ impl LineBuffer {
         self.unread.first_line()
     }
 
-    /// Goes past that line, if there is one. It takes no memory.
+    /// Skips that line, if there is one. It takes no memory.
     pub fn pass_line(&mut self)
         ensures rest { self.new ≡ with_ready (drop 1 self.old.cut.ended) self.old }
         ensures stands { 0 < length self.old.cut.ended → (bytes : List ℕ) (taken : ℕ) →
@@ -174,8 +174,8 @@ impl LineBuffer {
         self.unread.pass_line();
     }
 
-    /// Looks for lines of text at the front of those that have ended, each followed by a line feed alone. It
-    /// takes no memory.
+    /// Searches for lines of text at the start of those that have ended, each followed by just a line feed.
+    /// It takes no memory.
     #[inline(always)]
     pub fn look_for_text(&mut self)
         ensures { self.new ≡ self.old }
@@ -193,8 +193,8 @@ impl LineBuffer {
         self.unread.text_lines()
     }
 
-    /// Goes past the given number of lines, or past all that have ended if there are fewer. For the lines of
-    /// text that were looked for it is one step. It takes no memory.
+    /// Skips the given number of lines, or all that have ended if there are fewer. For the lines of text that
+    /// were searched for it is one step. It takes no memory.
     #[inline(always)]
     pub fn pass_lines(&mut self, count: usize)
         ensures rest { self.new ≡ with_ready (drop count self.old.cut.ended) self.old }

@@ -2,7 +2,7 @@
 ghost use Rattle.std.specs.Prelude.{◌≡◌, ◌+◌, ◌*◌, ◌^◌, ◌<◌, string_bytes, string_len, true};
 ghost use Rattle.cm_text.specs.LineText.{is_line, tabs};
 
-/// A line, or what is left of it once the markers of containers have been taken from its front.
+/// A line, or the rest of one after the markers of containers.
 ///
 /// Its text has no line feed and no carriage return.
 #[derive(Debug, Drop, PartialEq, Eq)]

@@ -77,7 +77,7 @@ impl Unread {
         })
     }
 
-    /// Goes past that line, if there is one.
+    /// Skips that line, if there is one.
     pub(crate) fn pass_line(&mut self)
         ensures cut { cut_of self.new ≡ without 1 (cut_of self.old) }
         ensures len { string_len self.new.text ≡ string_len self.old.text }
@@ -95,7 +95,7 @@ impl Unread {
         self.after_return = after_return;
     }
 
-    /// Looks for lines of text at the front.
+    /// Searches for lines of text at the start.
     #[inline(always)]
     pub(crate) fn look_for_text(&mut self)
         ensures cut { cut_of self.new ≡ cut_of self.old }
@@ -110,7 +110,7 @@ impl Unread {
         self.text_ahead = ahead;
     }
 
-    /// The lines of text that were found at the front.
+    /// The lines of text that were found at the start.
     #[inline(always)]
     pub(crate) fn text_lines(&self) -> Option<TextLines<'_>>
         ensures { IfSome result (λ found. (cut_of self.now).ended
@@ -132,7 +132,7 @@ impl Unread {
         })
     }
 
-    /// Goes past the lines of text that were found at the front.
+    /// Skips the lines of text that were found at the start.
     #[inline(always)]
     fn pass_text(&mut self)
         requires { 0 < self.old.text_ahead.count }
@@ -159,7 +159,7 @@ impl Unread {
         }
     }
 
-    /// Moves what hasn't been passed to the front, if that is no more than what has.
+    /// Moves what hasn't been passed to the start, if that is no more than what has.
     fn shrink(&mut self) -> Result<(), NoMemory>
         ensures cut { cut_of self.new ≡ cut_of self.old }
         ensures len { string_len self.new.text ≤ string_len self.old.text }

@@ -16,7 +16,7 @@ pub struct WriteFailed {
 ///
 /// # Errors
 ///
-/// `WriteFailed` where a write failed: then the first `written` bytes went out, and no others.
+/// `WriteFailed` if a write failed: then exactly the first `written` bytes were written.
 pub fn write_all<W: Sink>(sink: &mut W, bytes: &[u8]) -> Result<(), WriteFailed>
     requires { W.failed sink.old < 2 ^ 64 - 1 }
     ensures { MatchResult result

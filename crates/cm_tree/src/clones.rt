@@ -1,5 +1,5 @@
-//! Copies of trees, each equal to its original. They are written by hand, since a derived `clone` ensures
-//! nothing of a type that holds itself.
+//! Copies of trees, each equal to its original. They are hand-written, because a derived `clone` ensures
+//! nothing for a type that contains itself.
 ghost use Rattle.std.specs.Prelude.{◌≡◌, IfOk};
 
 use crate::items::Items;

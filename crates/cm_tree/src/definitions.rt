@@ -167,7 +167,7 @@ impl Definitions {
         Ok(self.look(rules, number_of(folded.as_bytes()), folded))
     }
 
-    /// The same, by a folded label of this number.
+    /// The same, for a folded label with this number.
     #[inline(always)]
     fn look(&self, rules: Rules, number: u64, label: &str) -> Option<LinkTarget<'_>>
         requires { number ≡ number_of label.now }

@@ -23,7 +23,7 @@ pub(crate) struct Entry {
     pub(crate) label: usize,
     /// Where it ends.
     pub(crate) end: usize,
-    /// Where it leads, and its title.
+    /// Its destination and its title.
     pub(crate) target: KeptTarget,
     /// Whether that has no scheme, or one of the web's. It is judged once, however many references ask.
     pub(crate) is_web: bool,
@@ -69,7 +69,7 @@ impl Entry {
         &texts[self.label..self.end]
     }
 
-    /// Where it leads, and its title, if the rules follow its address.
+    /// Its destination and its title, if the rules follow its address.
     #[inline(always)]
     pub(crate) fn lend<'a>(&'a self, rules: Rules, texts: &'a str) -> Option<LinkTarget<'a>>
         requires { IsEntry texts.now self.now }

@@ -78,7 +78,7 @@ impl<T> Items<T> {
 }
 
 impl<T: Drop> Items<T> {
-    /// Puts an item at the end.
+    /// Appends an item.
     ///
     /// # Errors
     ///

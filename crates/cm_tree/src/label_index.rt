@@ -63,7 +63,7 @@ impl LabelIndex {
             .max(2 * NEAR - 1)
     }
 
-    /// Puts an entry in, under a label that isn't there.
+    /// Adds an entry under a label that isn't there.
     ///
     /// # Errors
     ///

@@ -52,8 +52,8 @@
 //! }
 //! ```
 //!
-//! A walk over a tree is two functions that call each other: one over a list of nodes, by a `for`, and
-//! one over a node, by a `match` that hands its children on. (With a closure in their place, as in
+//! A walk over a tree is two functions that call each other: one over a list of nodes, with a `for`, and one
+//! over a node, with a `match` that passes its children on. (With a closure in their place, as in
 //! `blocks.iter().any(..)`, one would have to prove by hand that the walk ends.)
 
 mod boxed_text;

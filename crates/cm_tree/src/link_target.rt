@@ -12,20 +12,20 @@ use std::alloc::{AllocError, Global};
 /// costs less than a count.
 const SHARED: usize = 64;
 
-/// Where a link leads, and its title: as plain texts, or as texts that a
-/// definition shares with its references.
+/// The destination of a link, and its title: as plain texts, or as texts that a definition shares with its
+/// references.
 #[derive(Clone, Copy, Debug)]
 pub enum LinkTarget<'a> {
     /// Plain texts.
     Plain {
-        /// Where the link leads.
+        /// The destination.
         dest: &'a str,
         /// Its title.
         title: &'a str,
     },
     /// Texts that are shared.
     Shared {
-        /// Where the link leads.
+        /// The destination.
         dest: &'a BoxedText,
         /// Its title.
         title: &'a BoxedText,
@@ -54,14 +54,15 @@ impl<'a> LinkTarget<'a> {
     }
 }
 
-/// Where a link leads, and its title, as they are kept: by places in a text that holds many, or shared.
+/// The destination of a link, and its title, as they are kept: as places in a text that holds many, or
+/// shared.
 #[derive(Debug, Drop)]
 pub enum KeptTarget {
     /// Places in the text.
     Placed(TargetPlaces),
     /// Texts that are shared.
     Shared {
-        /// Where the link leads.
+        /// The destination.
         dest: BoxedText,
         /// Its title.
         title: BoxedText,

@@ -26,47 +26,47 @@ const FULL: usize = 32_768;
 /// How many bytes of texts there is room for at first, where more than a few are to come.
 const ROOM: usize = 40_960;
 
-/// A block whose inlines haven't been read. Its texts lie from one place to the next among the texts of
-/// [`RawBlocks`], and the blocks and items in it from one place to the next among the blocks and items there.
+/// A block whose inlines haven't been read. Its texts are between places among the texts of [`RawBlocks`],
+/// and the blocks and items in it between places among the blocks and items there.
 #[derive(Clone, Copy, Debug, PartialEq, Eq)]
 pub enum RawBlock {
-    /// A paragraph, and where its source lies.
+    /// A paragraph, and the places of its source.
     Paragraph {
         from: u32,
         to: u32,
     },
-    /// A heading, and where its source lies.
+    /// A heading, and the places of its source.
     Heading {
         level: u8,
         from: u32,
         to: u32,
     },
-    /// A code block, and where its info string and then its text lie.
+    /// A code block, and the places of its info string, followed by its text.
     Code {
         info: u32,
         text: u32,
         to: u32,
     },
-    /// An HTML block, and where its text lies.
+    /// An HTML block, and the places of its text.
     Html {
         from: u32,
         to: u32,
     },
     /// A thematic break.
     Break,
-    /// A link reference definition, and where its label, destination and title lie.
+    /// A link reference definition, and the places of its label, destination and title.
     Definition {
         label: u32,
         dest: u32,
         title: u32,
         to: u32,
     },
-    /// A block quote, and where its blocks lie.
+    /// A block quote, and the places of its blocks.
     Quote {
         from: u32,
         to: u32,
     },
-    /// A list, and where its items lie.
+    /// A list, and the places of its items.
     List {
         kind: ListKind,
         tight: bool,
@@ -75,7 +75,7 @@ pub enum RawBlock {
     },
 }
 
-/// A list item, and where its blocks lie.
+/// A list item, and the places of its blocks.
 #[derive(Clone, Copy, Debug, PartialEq, Eq)]
 pub struct RawItem {
     /// The place of the first.
@@ -328,7 +328,7 @@ impl RawBlocks {
         })
     }
 
-    /// Puts blocks after the others as those of an item (5.2 List items).
+    /// Appends blocks to the others as those of an item (5.2 List items).
     ///
     /// # Errors
     ///

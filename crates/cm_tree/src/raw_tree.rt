@@ -96,7 +96,7 @@ impl RawTree {
         }
     }
 
-    /// Puts the blocks of a chunk after the others.
+    /// Appends the blocks of a chunk to the others.
     ///
     /// # Errors
     ///

@@ -26,7 +26,7 @@ pub enum Inline {
     Strike(Items<Inline>),
     /// A link or an autolink (6.3 Links, 6.5 Autolinks).
     Link {
-        /// Where it leads to.
+        /// Its destination.
         dest: BoxedText,
         /// Its title, or nothing.
         title: BoxedText,
@@ -35,7 +35,7 @@ pub enum Inline {
     },
     /// An image (6.4 Images).
     Image {
-        /// Where it lies.
+        /// Its address.
         dest: BoxedText,
         /// Its title, or nothing.
         title: BoxedText,

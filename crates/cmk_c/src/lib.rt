@@ -106,7 +106,7 @@ pub extern "C" fn cmk_rewrite(
     }
 }
 
-/// The HTML of the text, put into the caller's room, and its length.
+/// Writes the HTML of the text to the caller's room, and sets its length.
 #[unsafe(no_mangle)]
 pub extern "C" fn cmk_html_into(
     alloc: Global,
