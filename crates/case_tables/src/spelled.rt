@@ -12,7 +12,7 @@ use cm_text::Rules;
 use cm_tree::{Block, Doc, Items};
 use std::alloc::Global;
 
-/// The source of a tree by these rules, or by the standard's.
+/// The source of a tree with these rules, or with the standard's.
 fn source_of(alloc: Global, rules: Option<Rules>, blocks: &[Block]) -> Result<String, SourceFault> {
     match rules {
         Some(rules) => spell_by(alloc, rules, blocks),
@@ -20,7 +20,7 @@ fn source_of(alloc: Global, rules: Option<Rules>, blocks: &[Block]) -> Result<St
     }
 }
 
-/// Why a tree can't be spelled by these rules, or by the standard's.
+/// Why a tree can't be spelled with these rules, or with the standard's.
 fn refusal(rules: Option<Rules>, blocks: &[Block]) -> Option<Why> {
     match rules {
         Some(rules) => spellable_by(rules, blocks).err(),

@@ -1,6 +1,6 @@
 -- How the proof of cm_html goes. A page's insertions are at increasing places of its text, each at the start
 -- of a character (`AreInOrder` in specs/steps/Pages.antt). That holds while text is added (PageLemmas). While
--- a page is written, a front of it has been written and the rest is left (`Left` in WritingLemmas). Each text
+-- a page is written, a prefix of it has been written and the rest is left (`Left` in WritingLemmas). Each text
 -- that is stored in a form is what the form makes of the text under which it is found (FormedLemmas).
 pub mod Pushed
 pub mod ListingLemmas

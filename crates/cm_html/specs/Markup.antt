@@ -21,7 +21,7 @@ begins (c ∷ cs) (b ∷ bs) = c == b && begins cs bs
 abbrev pub references : List (List ℕ)
 references = codes "amp;" ∷ codes "lt;" ∷ codes "gt;" ∷ codes "quot;" ∷ []
 
--- A byte of a text, given what follows it: no `<`, `>` or `"`, and a `&` only at the front of one of the four references.
+-- A byte of a text, given what follows it: no `<`, `>` or `"`, and a `&` only at the start of one of the four references.
 abbrev pub may_stand : ℕ → List ℕ → Bool
 may_stand b next = if b == ampersand then list_any (λ reference. begins reference next) references else not (b == less_than || b == greater_than || b == quotation_mark)
 

@@ -43,7 +43,7 @@ pub record MarkupExamples : Type 0 where
 abbrev pub safe : Rules
 safe = record { older = false; strike = false; raw_html = false; any_address = false }
 
--- where links and images may lead, and what a class may be, by these rules
+-- where links and images may lead, and what a class may be, with these rules
 pub record AddressMarkupExamples : Type 0 where
   pub no_address : is_markup safe (codes "<a href=\"\">a</a>") ≡ true
   pub path : is_markup safe (codes "<a href=\"/u:v\">a</a>") ≡ true

@@ -31,7 +31,7 @@ pub fn addresses_stay()
 pub fn markup_examples()
     // Of bytes that are markup, and of some that aren't.
     ensures markup { MarkupExamples }
-    // Of addresses and classes, by rules without raw HTML and with addresses of the web alone.
+    // Of addresses and classes, with rules without raw HTML and with addresses of the web alone.
     ensures addresses { AddressMarkupExamples }
     // Of texts that look like markup.
     ensures texts { TextMarkupExamples }

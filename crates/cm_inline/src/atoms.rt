@@ -19,7 +19,7 @@ use cm_scan::{after_run, autolink_by, code_span, is_next, raw_html_by, trim_end_
 use cm_text::{Rules, is_ascii_punct, next_markup, reference_at};
 use std::alloc::{AllocError, Global};
 
-/// Where the text that continues from a place ends: at the next byte with which something else can start, or
+/// Where the text that continues from a place ends: at the next byte that can start something else, or
 /// at the spaces before a line feed.
 pub(crate) fn text_end(source: &str, at: usize) -> usize
     requires { IsCharBoundary source.now at }

@@ -116,7 +116,7 @@ fn read_all(
     Ok(())
 }
 
-/// Whether a source is nonempty and has none of the bytes with which anything but text can start. Then it is
+/// Whether a source is nonempty and has none of the bytes that can start anything but text. Then it is
 /// its own only inline, with all rules and whatever is defined. It takes no memory.
 ///
 /// For other sources that become one text, such as `a!`, it returns false.

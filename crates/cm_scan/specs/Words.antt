@@ -23,17 +23,17 @@ is_letter b = within 65 90 b || within 97 122 b
 abbrev pub is_letter_or_digit : ℕ → Bool
 is_letter_or_digit b = is_letter b || is_digit b
 
--- what is left of a text after the bytes at its front that pass a test
+-- what is left of a text after the bytes at its start that pass a test
 unfoldable pub skip : (ℕ → Bool) → List ℕ → List ℕ
 skip test [] = []
 skip test (b ∷ bs) = elim (test b) [ true ↦ skip test bs | false ↦ b ∷ bs ]
 
--- the bytes at the front of a text that pass a test
+-- the bytes at the start of a text that pass a test
 unfoldable pub front_of : (ℕ → Bool) → List ℕ → List ℕ
 front_of test [] = []
 front_of test (b ∷ bs) = elim (test b) [ true ↦ b ∷ front_of test bs | false ↦ [] ]
 
--- how many times a byte is repeated at the front of a text
+-- how many times a byte is repeated at the start of a text
 unfoldable pub run_length : ℕ → List ℕ → ℕ
 run_length marker [] = 0
 run_length marker (b ∷ bs) = elim (b == marker) [ true ↦ suc (run_length marker bs) | false ↦ 0 ]
@@ -43,7 +43,7 @@ unfoldable pub after_run : ℕ → List ℕ → List ℕ
 after_run marker [] = []
 after_run marker (b ∷ bs) = elim (b == marker) [ true ↦ after_run marker bs | false ↦ b ∷ bs ]
 
--- a text without the spaces and tabs at its front
+-- a text without the spaces and tabs at its start
 abbrev pub trim_start : List ℕ → List ℕ
 trim_start text = skip is_space_or_tab text
 

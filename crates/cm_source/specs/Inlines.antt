@@ -5,7 +5,7 @@ use Rattle.cm_tree.specs.declared.tree.Inline.TheOpen as inline
 use Rattle.cm_tree.specs.declared.tree.Inline.TheFolds.{fold-Inline}
 use Rattle.cm_source.specs.Texts.{spelled_text, spelled_code, spelled_target}
 
--- An inline as it is spelled, at the beginning of a line or not, and at the end of one or not; whether the line ends directly before
+-- An inline as it is spelled, at the start of a line or not, and at the end of one or not; whether the line ends directly before
 -- it, as before a soft line break; and whether one starts directly after it, as after each line break.
 pub record Spelled : Type 0 where
   pub spelling : (first last : Bool) → List ℕ

@@ -165,7 +165,7 @@ block_step rules (block.List kind tight items) = record {
 abbrev pub judged_block : Rules → Block → JudgedBlock
 judged_block rules = fold-Block JudgedBlock (block_step rules)
 
--- the first reason why a tree can't be spelled, by these rules, if there is one
+-- the first reason why a tree can't be spelled, with these rules, if there is one
 abbrev pub refusal_of : Rules → List Block → Option Why
 refusal_of rules blocks = refusal_of_all None (map (judged_block rules) blocks)
 

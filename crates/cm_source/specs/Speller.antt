@@ -15,7 +15,7 @@ abbrev pub face_behind : (before : Option BlockFace) → List JudgedBlock → Op
 face_behind before [] = before
 face_behind before (next ∷ others) = face_behind (Some next.face) others
 
--- The speller goes by these rules. These blocks can be spelled, and it holds their spelling.
+-- The speller uses these rules. These blocks can be spelled, and it holds their spelling.
 pub record HasSpelled (rules : Rules) (speller : code.Speller) (blocks : List Block) : Type 0 where
   pub same_rules : speller.rules ≡ rules
   pub spellable : IsSpellable rules blocks

@@ -22,11 +22,11 @@ spelled_byte b = if b == backtick || is_ascii_control b then numbered b else (if
 abbrev pub spelled_bytes : List ℕ → List ℕ
 spelled_bytes text = flat_map spelled_byte text
 
--- A space at the beginning or the end of a line is a decimal numeric character reference, since it would be stripped there.
+-- A space at the start or the end of a line is a decimal numeric character reference, since it would be stripped there.
 abbrev pub edge_byte : (at_edge : Bool) → ℕ → List ℕ
 edge_byte at_edge b = if at_edge && b == space then numbered space else spelled_byte b
 
--- a text at the beginning of a line or not, and at the end of one or not
+-- a text at the start of a line or not, and at the end of one or not
 unfoldable pub spelled_text : (first last : Bool) → List ℕ → List ℕ
 spelled_text first last [] = []
 spelled_text first last (b ∷ bs) = edge_byte (first || last && is_empty bs) b ++ spelled_text false last bs

@@ -9,7 +9,7 @@ use Rattle.cm_text.specs.Rules.{Rules}
 abbrev pub begins_a_part : ℕ → Bool
 begins_a_part b = b == slash || b == question_mark || b == number_sign
 
--- one more byte at the front of a scheme
+-- one more byte at the start of a scheme
 abbrev pub onto_scheme : ℕ → Option (List ℕ) → Option (List ℕ)
 onto_scheme b None = None
 onto_scheme b (Some scheme) = Some (b ∷ scheme)

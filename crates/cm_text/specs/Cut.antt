@@ -43,7 +43,7 @@ without taken cut = record cut { ended = drop taken cut.ended }
 abbrev pub cut_of : Unread → Cut
 cut_of unread = cut_more (begun unread.after_return) (drop unread.passed (string_bytes unread.text))
 
--- the first list is a front of the second
+-- the first list is a prefix of the second
 abbrev pub IsFront : List LineView → List LineView → Type 0
 IsFront front all = (rest : List LineView) × (all ≡ front ++ rest)
 

@@ -4,15 +4,15 @@ use Rattle.std.specs.Str.Lossy.{utf8_valid_len, utf8_error_len}
 use Rattle.cm_text.specs.declared.fault.TextFault.{TextFault}
 use Rattle.cm_text.specs.declared.fault.TextFault.TheVariants.{NotUtf8, TooLong}
 
--- the bytes after the longest front that is UTF-8
+-- the bytes after the longest prefix that is UTF-8
 abbrev pub left_of : List ℕ → List ℕ
 left_of bytes = drop (utf8_valid_len bytes) bytes
 
--- the length of the longest front of the bytes within the limit that is UTF-8
+-- the length of the longest prefix of the bytes within the limit that is UTF-8
 abbrev pub valid_len : ℕ → List ℕ → ℕ
 valid_len limit bytes = utf8_valid_len (take limit bytes)
 
--- the bytes within the limit after that front
+-- the bytes within the limit after that prefix
 abbrev pub after_valid : ℕ → List ℕ → List ℕ
 after_valid limit bytes = left_of (take limit bytes)
 

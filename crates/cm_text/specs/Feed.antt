@@ -7,7 +7,7 @@ use Rattle.cm_text.specs.Lines.{LineView, text_of, plain_lines_of}
 use Rattle.cm_text.specs.Cut.{Cut, IsFront, cut_more, nothing_cut, without}
 use Rattle.cm_text.specs.Faults.{valid_len, after_valid, settled_fault, text_fault}
 
--- a cut after the longest front of some bytes that is UTF-8
+-- a cut after the longest prefix of some bytes that is UTF-8
 abbrev pub cut_valid : Cut → List ℕ → Cut
 cut_valid cut bytes = cut_more cut (text_of (take (utf8_valid_len bytes) bytes))
 

@@ -14,7 +14,7 @@ is_gap b = b == space || b == tab || is_line_ending b
 unfoldable pub case_fold : List ℕ → List ℕ
 case_fold text = encode_utf8_all (default_case_fold (chars text))
 
--- a text without the gaps at its front
+-- a text without the gaps at its start
 abbrev pub strip_leading : List ℕ → List ℕ
 strip_leading [] = []
 strip_leading (b ∷ bs) = elim (is_gap b) [ true ↦ strip_leading bs | false ↦ b ∷ bs ]

@@ -70,7 +70,7 @@ first_of_all [] = None
 first_of_all (None ∷ others) = first_of_all others
 first_of_all (Some a ∷ others) = Some a
 
--- the reference with which a text starts: its code points, and how many bytes it has
+-- the reference at the start of a text: its code points, and how many bytes it has
 unfoldable pub reference : List ℕ → Option (List ℕ × ℕ)
 reference text = first_of_all (decimal_reference text ∷ hexadecimal_reference (codes "&#x") text
     ∷ hexadecimal_reference (codes "&#X") text ∷ entity_reference text ∷ [])

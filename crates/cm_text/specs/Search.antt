@@ -7,7 +7,7 @@ use Rattle.cm_text.specs.Bytes.{line_feed, carriage_return, space, exclamation_m
 abbrev pub next_place : (ℕ → Bool) → List ℕ → ℕ → ℕ
 next_place passes bytes from = min (length bytes) (from + position_or_len passes (drop from bytes))
 
--- a byte with which an inline other than text can start, or that ends a line: LF, CR, `!`, `&`, `*`, `<`, `[`, `\`, `]`, `_`, a
+-- a byte that can start an inline other than text, or that ends a line: LF, CR, `!`, `&`, `*`, `<`, `[`, `\`, `]`, `_`, a
 -- backtick, `~`
 abbrev pub is_marked : ℕ → Bool
 is_marked b =

@@ -4,18 +4,18 @@ use Rattle.cm_text.specs.Bytes.{backslash}
 use Rattle.cm_text.specs.Characters.{is_ascii_punct}
 use Rattle.cm_text.specs.References.{first_of_all, reference}
 
--- "Any ASCII punctuation character may be backslash-escaped." The escape with which a text starts: the character, and how
+-- "Any ASCII punctuation character may be backslash-escaped." The escape at the start of a text: the character, and how
 -- many bytes it has.
 abbrev pub escape : List ℕ → Option (List ℕ × ℕ)
 escape [] = None
 escape (b ∷ []) = None
 escape (b ∷ c ∷ rest) = if b == backslash && is_ascii_punct c then Some (c ∷ [], 2) else None
 
--- the escape or the reference with which a text starts
+-- the escape or the reference at the start of a text
 unfoldable pub special : List ℕ → Option (List ℕ × ℕ)
 special text = first_of_all (escape text ∷ reference text ∷ [])
 
--- A text with its escapes and references resolved, from the left; the given number of bytes at its front belong to one
+-- A text with its escapes and references resolved, from the left; the given number of bytes at its start belong to one
 -- that has been resolved.
 unfoldable pub unescape_after : ℕ → List ℕ → List ℕ
 unescape_after n [] = []

@@ -18,10 +18,10 @@ pub record Wrote (old new : SinkView) (bytes : List ℕ) (failures : ℕ) : Type
   pub appends : Appends old.taken new.taken bytes
   pub failed : new.failed ≡ old.failed + failures
 
--- a front of the bytes was written, and no write failed
+-- a prefix of the bytes was written, and no write failed
 abbrev pub WroteBeginning : SinkView → SinkView → List ℕ → Type 0
 WroteBeginning old new bytes = (written : ℕ) × Wrote old new (take written bytes) 0
 
--- one write failed, and what was written is the front of the bytes with the given length
+-- one write failed, and what was written is the prefix of the bytes with the given length
 abbrev pub WroteFront : SinkView → SinkView → List ℕ → (written : ℕ) → Type 0
 WroteFront old new bytes written = Wrote old new (take written bytes) 1 × (written ≤ length bytes)

@@ -81,7 +81,7 @@ examples_of text = examples_from Outside 1 (lines_of text)
 
 -- ---- what comes of examples
 
--- the standard limits, by these rules
+-- the standard limits, with these rules
 abbrev pub standard_limits : Rules → LimitsView
 standard_limits rules = record { bytes = 2 ^ 28; blocks = 100; inlines = 100; rules = rules }
 

@@ -17,7 +17,7 @@ use Rattle.cm_scan.specs.Documents.{tree_of}
 abbrev pub too_deep : LimitsView → List LineView → Option Fault
 too_deep limits lines = option_map BlocksTooDeep (first_too_deep limits.rules limits.blocks lines)
 
--- the longest front of the bytes within the limit that is UTF-8, after which the text's fault is
+-- the longest prefix of the bytes within the limit that is UTF-8, after which the text's fault is
 abbrev pub sound_front : ℕ → List ℕ → List ℕ
 sound_front limit bytes = take (valid_len limit bytes) (take limit bytes)
 

@@ -39,7 +39,7 @@ LastingIfWritten (Ok n) limits bytes = IsLasting limits bytes
 LastingIfWritten (Err (WriteFailed written)) limits bytes = IsLasting limits bytes
 LastingIfWritten (Err fault) limits bytes = ⊤
 
--- The spelling of the text's tree without its definitions was written, or a front of it up to a failed write; or the text was refused, or
+-- The spelling of the text's tree without its definitions was written, or a prefix of it up to a failed write; or the text was refused, or
 -- its tree. Nothing is written before the spelling is complete.
 abbrev pub Rewrites : Result ℕ Fault → LimitsView → List ℕ → SourceView → SourceView → SinkView → SinkView → Type 0
 Rewrites (Err (Unspellable why)) limits bytes from left old new =

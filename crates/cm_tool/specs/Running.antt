@@ -18,11 +18,11 @@ use Rattle.cm_command.specs.declared.job.Job.TheVariants.{Render, Tree, Rewrite,
 use Rattle.cm_command.specs.declared.job.Stop.{Stop}
 use Rattle.cm_command.specs.declared.job.Stop.TheVariants.{Help, Wrong, NoMemory}
 
--- a front of the text was written, up to a failed write
+-- a prefix of the text was written, up to a failed write
 abbrev pub WroteSome : SinkView → SinkView → List ℕ → Type 0
 WroteSome old new text = (written : ℕ) × WroteFront old new text written
 
--- the text was written, or a front of it up to a failed write
+-- the text was written, or a prefix of it up to a failed write
 abbrev pub Offered : SinkView → SinkView → List ℕ → Type 0
 Offered old new text = Wrote old new text 0 ⊎ WroteSome old new text
 
@@ -77,6 +77,6 @@ Tells NoMemory status old new old-errors new-errors =
 abbrev pub unopened_lines : (name reason : List ℕ) → List ℕ
 unopened_lines name reason = line_of (fault_text ReadFailed) ++ line_of (codes "cannot open " ++ shown name ++ codes ": " ++ shown reason)
 
--- the errors get these lines, or that of want of memory
+-- the errors get these lines, or that of exhausted memory
 abbrev pub TellsUnopened : (name reason : List ℕ) → SinkView → SinkView → Type 0
 TellsUnopened name reason old new = Offered old new (unopened_lines name reason) ⊎ OfferedLine faults.NoMemory old new

@@ -86,7 +86,7 @@ abbrev pub Answers : (fault : LimitsView → List ℕ → Option Fault) → (out
 Answers fault output None text answer = IsEmpty 11 [] answer
 Answers fault output (Some limits) text answer = AnswersBy (fault limits text) (output limits.rules text) answer
 
--- the output and a NUL are at the front of the room, and the other bytes of the room are as they were
+-- the output and a NUL are at the start of the room, and the other bytes of the room are as they were
 pub record IsFilled (output room : List ℕ) (answer : Answer) : Type 0 where
   pub number : answer.number ≡ 0
   pub place : answer.place ≡ 0

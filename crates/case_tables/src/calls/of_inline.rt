@@ -51,7 +51,7 @@ fn read(
     Ok(true)
 }
 
-/// The inlines of one leaf by these rules, and how many openers were looked at.
+/// The inlines of one leaf with these rules, and how many openers were looked at.
 fn one_leaf(
     answer: &mut Answer,
     (rules, limit): (Rules, usize),

@@ -1,4 +1,4 @@
--- The class of a code block is one word by rules without raw HTML.
+-- The class of a code block is one word with rules without raw HTML.
 use Rattle.std.proofs.Common.{◌≡◌, ℕ, Bool, true, false, not, ◌||◌, List, [], ◌∷◌, ◌++◌, ◌+◌, suc, ap, ap₂, arith, refl, ◌∙◌}
 use Rattle.std.specs.Prelude.{cond, take}
 use Rattle.std.specs.List.{list_any, before_first, position_or_len}

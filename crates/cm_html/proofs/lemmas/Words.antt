@@ -6,7 +6,7 @@ use Rattle.cm_html.specs.Escape.{is_space_or_tab, class_word}
 found_at : (p : ℕ → Bool) (bs : List ℕ) (i : ℕ) → position p bs ≡ Some i → position_or_len p bs ≡ i
 found_at p bs i found = grind arith
 
--- a search that finds nothing has passed over the whole text
+-- a search that finds nothing has skipped the whole text
 pub none_left : (p : ℕ → Bool) (bs : List ℕ) → position p bs ≡ None → length bs ≤ position_or_len p bs
 none_left p bs none = grind arith
 

@@ -31,7 +31,7 @@ behind-ahead : (b : ℕ) (front : List ℕ) (o : Option Reading) → behind b (a
 behind-ahead b front None = refl
 behind-ahead b front (Some r) = refl
 
--- a byte that is passed over
+-- a byte that is skipped
 passed : (escaped mark : Bool) (b : ℕ) (bs : List ℕ) → ((more : List ℕ) → inside_of escaped (closing (b ∷ bs) more) ≡ behind b (inside_of mark (closing bs more)))
     → Ends mark bs → Ends escaped (b ∷ bs)
 passed escaped mark b bs step (at_bracket h) = at_bracket (λ more. step more ∙ ap (behind b) (h more))

@@ -19,7 +19,7 @@ use Rattle.cm_inline.proofs.lemmas.HeldLemmas.{none-left}
 use Rattle.cm_inline.proofs.lemmas.NodeLemmas.{parts-drop}
 use Rattle.cm_inline.proofs.lemmas.PairLemmas.{ready-none, of-split, allowance-split, others-ready, others-pass, of-thirteen, parts-append, parts-split, parts-take, drop-more}
 
--- Nodes were passed over: they pay for the looks, and come with those that are left to what they would come to at first.
+-- Nodes were skipped: they pay for the looks, and come with those that are left to what they would come to at first.
 pub record Passing (from : ℕ) (old now : Held) (left : List Node) (looks : ℕ) (list : Listed) (bottoms : List ℕ) : Type 0 where
   pub long : from ≤ length (nodes_in now)
   pub front : take from (nodes_in now) ≡ take from (nodes_in old)

@@ -23,7 +23,7 @@ abbrev pub add_text : List ℕ → LineView → List ℕ
 add_text [] line = content_of line
 add_text (b ∷ bs) line = (b ∷ bs) ++ line_feed ∷ content_of line
 
--- what is left of a run of text after the definitions at its front; the spaces and tabs at its end are removed
+-- what is left of a run of text after the definitions at its start; the spaces and tabs at its end are removed
 unfoldable pub rest_of : List ℕ → List ℕ
 rest_of source = (definitions_of (trim_end source)).left
 
@@ -77,7 +77,7 @@ abbrev pub line_count : List ℕ → ℕ
 line_count [] = 0
 line_count (b ∷ bs) = suc (line_feeds (b ∷ bs))
 
--- the definitions at the front of a text, each with its number of lines
+-- the definitions at the start of a text, each with its number of lines
 unfoldable pub definition_leaves : List ℕ → List LinkDefinition → List (LeafPart × ℕ)
 definition_leaves text [] = []
 definition_leaves text (d ∷ ds) = (definition d.label d.dest d.title, line_count text - line_count d.rest) ∷ definition_leaves d.rest ds
@@ -88,7 +88,7 @@ content_leaf level [] = []
 content_leaf None (b ∷ bs) = (paragraph (b ∷ bs), line_count (b ∷ bs)) ∷ []
 content_leaf (Some level) (b ∷ bs) = (heading level (b ∷ bs), suc (line_count (b ∷ bs))) ∷ []
 
--- the leaves of a run of text: the definitions at its front, then the paragraph or heading
+-- the leaves of a run of text: the definitions at its start, then the paragraph or heading
 unfoldable pub leaves_of_run : TextRun → List (LeafPart × ℕ)
 leaves_of_run run =
     let source = trim_end run.source in

@@ -99,7 +99,7 @@ tilde_atom rules before text = elim (rules.strike && run_length tilde text == 2)
 unfoldable pub bang_atom : List ℕ → Option AtomRead
 bang_atom text = elim (after_word (codes "![") text) [ Some rest ↦ read (OpenBracket true) rest | None ↦ None ]
 
--- the bytes with which an atom other than one byte of text can start: those of markup, a line feed, and a space, since a line
+-- the bytes that can start an atom other than one byte of text: those of markup, a line feed, and a space, since a line
 -- ending may follow
 abbrev pub is_markup : ℕ → Bool
 is_markup b =
@@ -128,7 +128,7 @@ abbrev pub or_byte : ℕ → List ℕ → Option AtomRead → AtomRead
 or_byte b bs None = byte_atom b bs
 or_byte b bs (Some a) = a
 
--- The atom with which a source starts, by its first byte: characters of text, a whole inline, a delimiter run, `[`, `![` or `]`.
+-- The atom at the start of a source, by its first byte: characters of text, a whole inline, a delimiter run, `[`, `![` or `]`.
 -- The bytes before it are in reverse.
 unfoldable pub atom_at : Rules → (before : List ℕ) → ℕ → List ℕ → AtomRead
 atom_at rules before b bs = elim (is_markup b) [ true ↦ or_byte b bs (markup_atom rules before b bs) | false ↦ byte_atom b bs ]

@@ -149,7 +149,7 @@ link_definition text = elim (label text) [
   | None ↦ None
 ]
 
--- the definitions at the front of a text, one after another, and what is left of it
+-- the definitions at the start of a text, one after another, and what is left of it
 pub record Definitions : Type 0 where
   pub taken : List LinkDefinition
   pub left : List ℕ
@@ -162,6 +162,6 @@ definitions_within (suc n) text = elim (link_definition text) [
   | None ↦ record { taken = []; left = text }
 ]
 
--- the link reference definitions at the front of a text, and what is left of it (4.7 Link reference definitions)
+-- the link reference definitions at the start of a text, and what is left of it (4.7 Link reference definitions)
 unfoldable pub definitions_of : List ℕ → Definitions
 definitions_of text = definitions_within (length text) text

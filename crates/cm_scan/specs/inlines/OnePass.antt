@@ -15,8 +15,8 @@ up_to_pair found closer =
 abbrev pub closer_left : Opened → Run → Run
 closer_left found closer = record closer { left = closer.left - used found.opener closer }
 
--- The items up to a run that can close emphasis, in reverse: it makes a pair with its nearest opener, and what is left of it goes
--- on in the same way, for at most the given number of pairs. If it has no opener it is left as it is.
+-- The items up to a run that can close emphasis, in reverse: it makes a pair with its nearest opener, and what is left of it continues
+-- in the same way, for at most the given number of pairs. If it has no opener it is left unchanged.
 unfoldable pub closed_within : ℕ → List Item → Run → List Item
 closed_within zero before closer = Delimiters closer ∷ before
 closed_within (suc n) before closer = elim (nearest_opener closer before []) [

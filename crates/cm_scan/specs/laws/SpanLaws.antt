@@ -8,7 +8,7 @@ use Rattle.cm_scan.specs.spans.Autolinks.{Autolink, autolink}
 use Rattle.cm_scan.specs.spans.CodeSpans.{code_span}
 use Rattle.cm_scan.specs.spans.Angles.{Angled, Addressed, Tagged, at_angle}
 
--- Raw HTML at the front of a text is the same with more after the text.
+-- Raw HTML at the start of a text is the same with more after the text.
 abbrev pub RawHtmlGoesOn : Type 0
 RawHtmlGoesOn = (rules : Rules) (text rest behind : List ℕ) → raw_html rules text ≡ Some rest → raw_html rules (text ++ behind) ≡ Some (rest ++ behind)
 
@@ -16,7 +16,7 @@ RawHtmlGoesOn = (rules : Rules) (text rest behind : List ℕ) → raw_html rules
 abbrev pub WholeRawHtmlGoesOn : Type 0
 WholeRawHtmlGoesOn = (rules : Rules) (text behind : List ℕ) → raw_html rules text ≡ Some [] → raw_html rules (text ++ behind) ≡ Some behind
 
--- An autolink at the front of a text is the same with more after the text.
+-- An autolink at the start of a text is the same with more after the text.
 abbrev pub AutolinkGoesOn : Type 0
 AutolinkGoesOn = (text behind : List ℕ) (link : Autolink) → autolink text ≡ Some link
     → autolink (text ++ behind) ≡ Some (record { destination = link.destination; text = link.text; rest = link.rest ++ behind })
@@ -30,7 +30,7 @@ abbrev pub keeps_run : List ℕ → List ℕ → Bool
 keeps_run [] behind = not (begins_with 96 behind)
 keeps_run (b ∷ bs) behind = true
 
--- A code span at the front of a text is the same with more after the text, unless that makes its last
+-- A code span at the start of a text is the same with more after the text, unless that makes its last
 -- backtick string longer.
 abbrev pub CodeSpanGoesOn : Type 0
 CodeSpanGoesOn = (text behind : List ℕ) (span : Reading) → code_span text ≡ Some span → keeps_run span.rest behind ≡ true
@@ -50,7 +50,7 @@ abbrev pub WholeTagGoesOn : Type 0
 WholeTagGoesOn = (rules : Rules) (text behind : List ℕ) → at_angle rules text ≡ Some (Tagged (record { text = text; rest = [] }))
     → at_angle rules (text ++ behind) ≡ Some (Tagged (record { text = text; rest = behind }))
 
--- Raw HTML by the older rules is raw HTML by the profile, and ends at the same place.
+-- Raw HTML with the older rules is raw HTML with the profile, and ends at the same place.
 abbrev pub OlderIsRead : Type 0
 OlderIsRead = (text rest : List ℕ) → raw_html older_rules text ≡ Some rest → raw_html profile text ≡ Some rest
 

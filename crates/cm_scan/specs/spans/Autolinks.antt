@@ -86,6 +86,6 @@ abbrev pub link_if_followed : Rules → Option Autolink → Option Autolink
 link_if_followed rules None = None
 link_if_followed rules (Some link) = elim (is_followed rules link.destination) [ true ↦ Some link | false ↦ None ]
 
--- the autolink with which a text starts, if the rules follow its address
+-- the autolink at the start of a text, if the rules follow its address
 unfoldable pub followed_autolink : Rules → List ℕ → Option Autolink
 followed_autolink rules text = link_if_followed rules (autolink text)

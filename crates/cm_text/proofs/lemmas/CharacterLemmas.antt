@@ -63,7 +63,7 @@ pub is_space-beyond : (c : ℕ) (separator : Bool) → is_ascii c ≡ false → 
 unfolding is_space
 is_space-beyond c separator h e = grind (arith, nat_tests, h, e)
 
--- beyond ASCII the categories alone decide, by the older rules the category P
+-- beyond ASCII the categories alone decide, with the older rules the category P
 pub is_punct-groups : (rules : Rules) (c : ℕ) (category : GeneralCategory) (older punctuation symbol : Bool) → is_ascii c ≡ false → category ≡ general_category c
     → older ≡ rules.older → punctuation ≡ in_group Punctuation category → symbol ≡ in_group Symbol category → (punctuation || not older && symbol) ≡ is_punct_by rules c
 unfolding is_punct_by

@@ -241,7 +241,7 @@ pass_all_stand (suc n) old bytes taken within stands =
     (subst (StandsFor (with_ready (drop 1 (drop n lines)) old) bytes) (omega arith) one))
 
 -- the text ends
--- the longest well-formed front within the limit
+-- the longest well-formed prefix within the limit
 abbrev valid_front : ℕ → List ℕ → List ℕ
 valid_front limit bytes = take (valid_len limit bytes) (take limit bytes)
 

@@ -20,7 +20,7 @@ piece_given piece rest s n h =
     ∙ append_assoc (take n (drop s piece)) (drop n (drop s piece)) rest
     ∙ ap (λ t. take n (drop s piece) ++ t) (ap (λ t. t ++ rest) (drop-drop n s piece) ∙ sym (drop-append-le (s + n) piece rest h))
 
--- a piece that is passed over
+-- a piece that is skipped
 pub piece_passed : (piece rest : List ℕ) (s : ℕ) → length piece ≤ s → drop s (piece ++ rest) ≡ drop (s - length piece) rest
 piece_passed piece rest s h =
     let n = s - length piece in

@@ -103,7 +103,7 @@ moves_one ready more old middle new line moves first passed =
       passed ∙ ap (with_ready (drop 1 middle.cut.ended)) moves.3 ∙ ap (λ t. with_ready t old) (sym rest),
     )
 
--- what has gone is a front of what was there
+-- what has gone is a prefix of what was there
 gone_front : (ready more : List LineView) (old new : Feed) → LetsGo ready old more new → IsFront more (ready ++ old.cut.ended)
 gone_front ready more old new gone =
     (gone.left, ap (λ t. ready ++ t) gone.parts ∙ sym (append_assoc ready gone.gone gone.left) ∙ ap (λ t. t ++ gone.left) (sym gone.went))

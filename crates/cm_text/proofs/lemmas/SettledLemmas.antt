@@ -183,7 +183,7 @@ fails_third : (a b d : ℕ) (r : List ℕ) → is_first a ≡ true → is_second
 fails_third a b d [] first second third = ap is_some (error_three a b d ∙ cond-true _ _ _ first ∙ cond-true _ _ _ second ∙ cond-false _ _ _ third)
 fails_third a b d (e ∷ r) first second third = ap is_some (error_four a b d e r ∙ cond-true _ _ _ first ∙ cond-true _ _ _ second ∙ cond-false _ _ _ third)
 
--- four bytes with no character at their front are refused, whatever follows
+-- four bytes with no character at their start are refused, whatever follows
 fails_fourth : (a b d e : ℕ) (r : List ℕ) → is_first a ≡ true → is_second a b ≡ true → is_third d ≡ true → is_some (utf8_error_len (a ∷ b ∷ d ∷ e ∷ r)) ≡ true
 fails_fourth a b d e r first second third =
     ap is_some (error_four a b d e r ∙ cond-true _ _ _ first ∙ cond-true _ _ _ second ∙ cond-true _ _ _ third)
@@ -227,7 +227,7 @@ stays_fourth a b d e r more none first second third =
 impossible : {A : Type 0} (x : List ℕ) → is_some (utf8_error_len x) ≡ true → utf8_error_len x ≡ None → A
 impossible x some none = absurd (true≢false (sym some ∙ ap is_some none))
 
--- bytes that are refused, with no text at their front, stay so whatever follows
+-- bytes that are refused, with no text at their start, stay so whatever follows
 stays : (x more : List ℕ) → is_some (utf8_error_len x) ≡ true → NoText x → Stays (x ++ more)
 stays [] more some none = impossible [] some error_len-nil
 stays (a ∷ []) more some none = ⊎_elim
@@ -262,7 +262,7 @@ stays (a ∷ b ∷ d ∷ e ∷ r) more some none = ⊎_elim
     (λ first. stays_first a (b ∷ d ∷ e ∷ r ++ more) (no_one a (b ∷ d ∷ e ∷ r) none) first)
     (cases_Bool (is_first a))
 
--- what is left after the longest well-formed front has no text at its start
+-- what is left after the longest well-formed prefix has no text at its start
 no_text : (bs : List ℕ) → NoText (left_of bs)
 no_text bs m some fits u =
     let n = utf8_valid_len bs in
@@ -271,7 +271,7 @@ no_text bs m some fits u =
     (λ (v : IsValidUpTo bs n). v.longest (n + m) (omega arith) (longer bs n m v.front u))
     (utf8_valid_len-cases bs)
 
--- bytes and more of them, cut after the longest well-formed front
+-- bytes and more of them, cut after the longest well-formed prefix
 parts : (bs more : List ℕ) → bs ++ more ≡ take (utf8_valid_len bs) bs ++ (left_of bs ++ more)
 parts bs more = ap (λ t. t ++ more) (sym (take-append-drop (utf8_valid_len bs) bs)) ∙ append_assoc (take (utf8_valid_len bs) bs) (left_of bs) more
 

@@ -70,7 +70,7 @@ boundary-at text len utf8 read =
     let next : len - 1 + 1 ≡ len = omega (arith, read.0) in
     subst (λ n. IsCharBoundary text n) next after
 
--- bytes that belong to what was read are passed over
+-- bytes that belong to what was read are skipped
 pub unescape-skip : (n : ℕ) (text : List ℕ) → unescape_after n text ≡ unescape (drop n text)
 unfolding unescape_after
 unescape-skip zero [] = refl

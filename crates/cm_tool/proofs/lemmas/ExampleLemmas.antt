@@ -200,7 +200,7 @@ drop_at {X = X} xs k d within is = rw add-one (go xs k within) ∙ ap (λ x. x �
     go (y ∷ ys) zero within = refl
     go (y ∷ ys) (suc n) within = go ys n (omega (arith, within))
 
--- the standard limits by other rules
+-- the standard limits with other rules
 pub standard_is : (standard limits : LimitsView) (rules : Rules) → Some standard ≡ limits_for (2 ^ 28) 100 100 → limits ≡ record standard { rules = rules }
     → limits ≡ standard_limits rules
 standard_is standard limits rules is made = made ∙ ap (λ (o : Option LimitsView). record (unwrap_or o standard) { rules = rules }) is

@@ -35,7 +35,7 @@ judged limits bytes from left old new report answer is wrote answer_is =
 pub wrote_report : (old new : SinkView) (bytes text : List ℕ) → bytes ≡ text → Wrote old new bytes 0 → Wrote old new text 0
 wrote_report old new bytes text is wrote = subst (λ t. Wrote old new t 0) is wrote
 
--- or a front of it
+-- or a prefix of it
 pub lost_report : (limits : LimitsView) (read : List ℕ) (from left : SourceView) (old new : SinkView) (bytes : List ℕ) (report : ReportView) (written : ℕ)
     → IsReported limits read from left report → bytes ≡ report_text report → WroteFront old new bytes written
     → WritesReport (Err (WriteFailed written)) limits read from left old new

@@ -27,7 +27,7 @@ module _ (limits : LimitsView) (bytes : List ℕ) (from left : SourceView) (old 
       → Rewrites (Ok n) limits bytes from left old new
   went_out written n same count wrote = ((read, subst (λ t. Wrote old new t 0) (same ∙ spelled.1) wrote, count ∙ ap length spelled.1), lasting)
 
-  -- a front of it did
+  -- a prefix of it did
   pub was_lost : (written : List ℕ) (n : ℕ) → written ≡ string_bytes text → WroteFront old new written n
       → Rewrites (Err (WriteFailed n)) limits bytes from left old new
   was_lost written n same lost =

@@ -70,7 +70,7 @@ from_text (Some n) wrong all leaf f e = absurd (subst IsOfText (sym (some_same e
 from_text None (Some g) all leaf f e = ap Some (told_same g f (some_same e))
 from_text None None all leaf f e = absurd (not_of_text all leaf f e)
 
--- where the bytes aren't UTF-8, the fault is at the end of the longest well-formed front
+-- where the bytes aren't UTF-8, the fault is at the end of the longest well-formed prefix
 not_utf8_at : (limit : ℕ) (bytes : List ℕ) (at : ℕ) → text_fault limit bytes ≡ Some (text.NotUtf8 at) → at ≡ valid_len limit bytes
 not_utf8_at limit bytes at e = by_tests (is_some (utf8_error_len (after_valid limit bytes))) (nat_lt limit (length bytes)) (nat_lt (valid_len limit bytes) (length bytes)) (valid_len limit bytes) e
   where

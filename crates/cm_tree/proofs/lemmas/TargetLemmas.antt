@@ -70,7 +70,7 @@ module _ (old dest title new : List ℕ) (is : new ≡ old ++ dest ++ title) (de
       slice-last (old ++ dest) title new (length (old ++ dest)) (length (old ++ dest ++ title)) is refl (ap length (sym is)) in
       λ i. (first i, second i)
 
--- by the profile each address is followed
+-- with the profile each address is followed
 pub any_target : (target : Option Target) → target_if_followed profile target ≡ target
 any_target None = refl
 any_target (Some target) = refl

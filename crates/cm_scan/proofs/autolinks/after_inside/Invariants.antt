@@ -4,7 +4,7 @@ use Rattle.cm_scan.specs.Words.{skip, front_of}
 use Rattle.cm_scan.specs.spans.Autolinks.{is_inside}
 use Rattle.cm_scan.proofs.autolinks.after_inside.Given as goal
 
--- what was passed over, and what may still be inside, are together the whole
+-- what was skipped, and what may still be inside, are together the whole
 abbrev pub invariant-loop-end : goal.invariant-loop-end
 invariant-loop-end l = record {
   front : slice_range l.bytes l.from l.end ++ front_of is_inside (drop l.end l.bytes) ≡ front_of is_inside (drop l.from l.bytes);

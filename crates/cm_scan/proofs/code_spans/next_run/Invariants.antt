@@ -3,7 +3,7 @@ use Rattle.cm_scan.specs.spans.CodeSpans.{up_to_run}
 use Rattle.cm_scan.proofs.lemmas.links.BracketedParts.{ahead_from}
 use Rattle.cm_scan.proofs.code_spans.next_run.Given as goal
 
--- what was passed over, and the part that is read from here on, come to the whole
+-- what was skipped, and the part that is read from here on, come to the whole
 abbrev pub invariant-loop-plain : goal.invariant-loop-plain
 invariant-loop-plain l = record {
   read : ahead_from l.text l.from l.at (up_to_run l.count false (drop l.at l.text)) ≡ up_to_run l.count false (drop l.from l.text);

@@ -55,7 +55,7 @@ pub runs_are_few : RunsAreFew
 unfolding runs_of
 runs_are_few rules defined source = let few = few-after rules defined zero [] source [] in (few.some, omega (arith, few.within))
 
--- bytes that belong to what was read last are passed over
+-- bytes that belong to what was read last are skipped
 passed-over : (rules : Rules) (defined : Defined) (before taken rest : List ℕ) (items : List Item)
     → runs_after rules defined (length taken) before (taken ++ rest) items ≡ runs_after rules defined zero (reverse taken ++ before) rest items
 unfolding runs_after

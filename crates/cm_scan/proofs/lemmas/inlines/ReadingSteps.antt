@@ -17,7 +17,7 @@ use Rattle.cm_scan.specs.inlines.Pieces.{one_by_one}
 use Rattle.cm_scan.proofs.lemmas.inlines.PairingInPieces.{settled-one_by_one, no-room}
 use Rattle.cm_scan.specs.spans.Autolinks.{ends_with}
 
--- bytes that belong to what was read last are passed over
+-- bytes that belong to what was read last are skipped
 passed-over : (rules : Rules) (defined : Defined) (before taken rest : List ℕ) (items : List Item)
     → items_after rules defined (length taken) before (taken ++ rest) items ≡ items_after rules defined zero (reverse taken ++ before) rest items
 unfolding items_after

@@ -99,7 +99,7 @@ plain-opened opened false b h = grind (arith, nat_tests, h)
 plain-escapes : (b : ℕ) → is_plain_in_run b ≡ true → (b == 92) ≡ false
 plain-escapes b h = grind (arith, nat_tests, h)
 
--- and is passed over
+-- and is skipped
 pub bare-plain : (opened : ℕ) (escaped : Bool) (text : List ℕ) (from at : ℕ) → from ≤ at → at < length text → is_plain_in_run (get_or text at 0) ≡ true
     → ahead_from text from (at + 1) (bare_run opened false (drop (at + 1) text)) ≡ ahead_from text from at (bare_run opened escaped (drop at text))
 bare-plain opened escaped text from at low high h =

@@ -209,7 +209,7 @@ module _ (closes forbidden : ℕ → Bool) where
             (if-some (λ r. begins_with 10 (trim_start r.text) ≡ begins_with 10 (trim_start bs)) (λ r. blank_follows b r.text ≡ blank_follows b bs) (up_to_closing closes forbidden false bs)
             (λ r e. ap (λ t. b == 10 && t) e) (blank-same closes forbidden c f bs))
 
-    -- a byte that is passed over
+    -- a byte that is skipped
     part-more : (most : ℕ) (blank_lines escaped : Bool) (b : ℕ) (bs : List ℕ) → (not escaped && closes b) ≡ false → (not escaped && forbidden b) ≡ false
         → (most == 0 && begins_character b) ≡ false → (not blank_lines && blank_follows b bs) ≡ false
         → part closes forbidden most blank_lines escaped (b ∷ bs) ≡ behind b (part closes forbidden (most - cond (begins_character b) 1 0) blank_lines (mark escaped b bs) bs)
@@ -328,7 +328,7 @@ plain-allowed most blank_lines escaped barred b bs l h k =
     let here : (not escaped && barred) ≡ false = neither escaped barred h in
     grind (arith, some, here, k)
 
--- plain bytes are passed over
+-- plain bytes are skipped
 module _ (open_byte close_byte : ℕ) (one_line : Bool) (o : is_blank_byte open_byte ≡ false) (c : is_blank_byte close_byte ≡ false)
     (u : is_plain open_byte ≡ false) (e : is_plain close_byte ≡ false) (blank_lines : Bool) (text : List ℕ) (from : ℕ) where
   -- what is read from a place on, with up to the given number of characters

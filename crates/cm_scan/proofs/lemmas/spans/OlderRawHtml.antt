@@ -1,4 +1,4 @@
--- Raw HTML by the older rules is raw HTML.
+-- Raw HTML with the older rules is raw HTML.
 use Rattle.std.proofs.Common.{◌≡◌, ℕ, Bool, true, false, ◌==◌, List, [], ◌∷◌, ◌++◌, Option, Some, None, codes, refl, sym, ap, ◌∙◌, append-nil}
 use Rattle.cm_text.specs.Rules.{profile, older_rules}
 use Rattle.cm_scan.specs.Words.{after_word, ◌<|>◌}

@@ -1,4 +1,4 @@
--- Spaces, tabs and line feeds passed over, one byte at a time.
+-- Spaces, tabs and line feeds skipped, one byte at a time.
 use Rattle.std.proofs.Common.{◌≡◌, ◌≢◌, ℕ, suc, ◌+◌, ◌<◌, ◌≤◌, true, false, List, [], ◌∷◌, length, drop, get_or, Some, None, refl, sym, ap, ◌∙◌, arith, add-one, drop-cons}
 use Rattle.std.proofs.lemmas.List.{drop_all}
 use Rattle.std.proofs.lemmas.Bool.Decides.{nat_tests}
@@ -14,7 +14,7 @@ trim-kept : (b : ℕ) (bs : List ℕ) → is_space_or_tab b ≡ false → trim_s
 unfolding skip
 trim-kept b bs h = grind (arith, nat_tests, h)
 
--- a space or a tab is passed over
+-- a space or a tab is skipped
 pub trim-step : (bs : List ℕ) (i : ℕ) → i < length bs → is_space_or_tab (get_or bs i 0) ≡ true → trim_start (drop (i + 1) bs) ≡ trim_start (drop i bs)
 trim-step bs i within h = rw (drop-cons bs i 0, add-one) (sym (trim-cons (get_or bs i 0) (drop (suc i) bs) h))
 

@@ -3,7 +3,7 @@ use Rattle.cm_scan.specs.inlines.Links.{bare_run}
 use Rattle.cm_scan.proofs.lemmas.links.BracketedParts.{ahead_from}
 use Rattle.cm_scan.proofs.links.bare_end.Given as goal
 
--- what was passed over, and the run that is read from here on, come to the whole
+-- what was skipped, and the run that is read from here on, come to the whole
 abbrev pub invariant-loop-at : goal.invariant-loop-at
 invariant-loop-at l = record {
   read : ahead_from l.text l.from l.at (bare_run l.opened l.escaped (drop l.at l.text)) ≡ bare_run 0 false (drop l.from l.text);

@@ -1,7 +1,7 @@
 use Rattle.std.proofs.Common.{◌≡◌, ℕ, ◌-◌, ◌<◌, ◌≤◌, false, get_or, length}
 use Rattle.cm_text.proofs.search.pass_by_32.Given as goal
 
--- none was passed over
+-- none was skipped
 abbrev pub invariant-loop-at : goal.invariant-loop-at
 invariant-loop-at g l = record {
   low : l.from ≤ l.at;

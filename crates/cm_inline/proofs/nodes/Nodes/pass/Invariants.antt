@@ -3,7 +3,7 @@ use Rattle.cm_inline.specs.steps.Groups.{AreHeld}
 use Rattle.cm_inline.proofs.lemmas.HeldLemmas.{Passes, over}
 use Rattle.cm_inline.proofs.nodes.Nodes.pass.Given as goal
 
--- what is passed over so far has no run
+-- what is skipped so far has no run
 abbrev pub invariant-loop-end : goal.invariant-loop-end
 invariant-loop-end l = record {
   low : l.self-inside.passed ≤ l.end;
