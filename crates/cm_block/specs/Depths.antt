@@ -36,7 +36,7 @@ abbrev pub TooDeepStays : Type 0
 TooDeepStays = (rules : Rules) (limit n : ℕ) (lines more : List LineView) → AreLines (lines ++ more)
     → first_too_deep rules limit lines ≡ Some n → first_too_deep rules limit (lines ++ more) ≡ Some n
 
--- After lines none of which is too deep, the next one is too deep if more are open after it than the limit.
+-- After lines that aren't too deep, the next one is too deep if more are open after it than the limit.
 abbrev pub TooDeepNext : Type 0
 TooDeepNext = (rules : Rules) (limit : ℕ) (lines : List LineView) (line : LineView) → AreLines (lines ++ line ∷ [])
     → first_too_deep rules limit lines ≡ None

@@ -75,7 +75,7 @@ item_opens_in level (Some list) kind = elim (is_same_kind list.kind kind) [ true
 abbrev pub item_opens : Level → ListKind → Level
 item_opens level kind = item_opens_in level level.open_list kind
 
--- Closing: the level is that in which the block was opened.
+-- Closing: the level is the one where the block was opened.
 
 -- a level in which this block was opened, once it is closed
 abbrev pub block_closes : Level → Block → Level

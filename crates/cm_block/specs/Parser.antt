@@ -23,8 +23,8 @@ stack_of parser = stack_with parser.stack.bare parser.stack.frames parser.stack.
 abbrev pub is_in_text : code.BlockParser → Bool
 is_in_text parser = not (is_some parser.fault) && is_open_text (leaf_of parser.leaf)
 
--- The parser has been given these lines, none of which is too deep by its limits and rules, and can be given more. It has read them as
--- often as `TestsOf` says.
+-- The parser has been given these lines, and can be given more. With its limits and rules none of them is too deep. It has read
+-- them as often as `TestsOf` says.
 pub record HasTaken (parser : code.BlockParser) (lines : List LineView) : Type 0 where
   pub going : parser.fault ≡ None
   pub are_lines : AreLines lines

@@ -1,4 +1,4 @@
--- Example files, in the form of the CommonMark specification: the examples of a text, and what comes of them.
+-- Example files, in the form of the CommonMark specification: the examples of a text, and their results.
 use Rattle.std.specs.Prelude.{ℕ, ◌+◌, ◌==◌, ◌^◌, Bool, true, false, if◌then◌else◌, List, [], ◌∷◌, ◌++◌, Option, Some, None, Result, Ok, Err, codes, length, map, ⊤, ◌≡◌}
 use Rattle.std.specs.List.{count_by}
 use Rattle.std.specs.Option.{option_or}

@@ -1,4 +1,4 @@
--- Worked examples: files of examples, and what comes of them.
+-- Worked examples: files of examples, and their reports.
 use Rattle.std.specs.Prelude.{◌≡◌, ℕ, List, [], ◌∷◌, ◌++◌, codes, flat_map, Ok, Err}
 use Rattle.cm_text.specs.Lines.{with_line_feed}
 use Rattle.cm_text.specs.Rules.{profile, older_rules}

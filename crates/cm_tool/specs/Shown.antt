@@ -20,7 +20,7 @@ is_nonprinting c = is_control c || is_formatting (general_category c)
 abbrev pub shown_char : ℕ → List ℕ
 shown_char c = if is_nonprinting c then escape_unicode c else c ∷ []
 
--- the text, of which each character is written so
+-- the text, with each character written like that
 abbrev pub shown : List ℕ → List ℕ
 shown text = encode_utf8_all (flat_map shown_char (chars text))
 

@@ -36,7 +36,7 @@ Writes Lost output (Err (WriteFailed written)) limits bytes from left old new =
 Writes Lost output (Err fault) limits bytes from left old new =
     Refuses fault limits bytes from left × WentOut fault Lost (ReadWhole limits bytes from left) old new (output limits.rules bytes)
 
--- the same of the HTML; if memory ran out, a prefix of it may have been written
+-- the same for the HTML; if memory ran out, a prefix of it may have been written
 abbrev pub Converts : Result ℕ Fault → LimitsView → List ℕ → SourceView → SourceView → SinkView → SinkView → Type 0
 Converts = Writes WroteBeginning converted
 

@@ -12,7 +12,7 @@ use Rattle.cm_tree.specs.declared.tree.Block.TheOpen as block
 use Rattle.cm_tree.specs.declared.tree.Block.TheFolds.{fold-Block}
 use Rattle.cm_tree.specs.HeadingLevels.{all_of, all_of_items}
 
--- One inline, given the answer for each inline of its content. The content of an image is its alternative text, which has no address.
+-- One inline, given the value for each inline of its content. The content of an image is its alternative text, which has no address.
 abbrev pub followed_inline_step : Rules → Inline-F Bool → Bool
 followed_inline_step rules (inline.Emph content) = all_of content
 followed_inline_step rules (inline.Strong content) = all_of content
@@ -37,7 +37,7 @@ is_line_space b = b == 10 || b == 12 || b == 13
 abbrev pub is_read_info : Rules → List ℕ → Bool
 is_read_info rules info = rules.raw_html || not (list_any is_line_space info)
 
--- one block, given the answer for each block inside
+-- one block, given the value for each block inside
 abbrev pub followed_block_step : Rules → Block-F Bool → Bool
 followed_block_step rules (block.Paragraph content) = inlines_are_followed rules content
 followed_block_step rules (block.Heading level content) = inlines_are_followed rules content

@@ -8,17 +8,17 @@ use Rattle.cm_tree.specs.declared.tree.Block.TheFolds.{fold-Block}
 abbrev pub is_level : ℕ → Bool
 is_level level = nat_le 1 level && nat_le level 6
 
--- each answer is true
+-- each value is true
 abbrev pub all_of : List Bool → Bool
 all_of [] = true
 all_of (answer ∷ answers) = answer && all_of answers
 
--- the same of items, each with several answers
+-- the same for items, each with several values
 abbrev pub all_of_items : List (List Bool) → Bool
 all_of_items [] = true
 all_of_items (item ∷ items) = all_of item && all_of_items items
 
--- one block, given the answer for each block inside
+-- one block, given the value for each block inside
 abbrev pub level_step : Block-F Bool → Bool
 level_step (block.Heading level content) = is_level level
 level_step (block.Quote blocks) = all_of blocks

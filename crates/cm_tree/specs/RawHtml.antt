@@ -7,12 +7,12 @@ use Rattle.cm_tree.specs.declared.tree.Block.{Block, Block-F}
 use Rattle.cm_tree.specs.declared.tree.Block.TheOpen as block
 use Rattle.cm_tree.specs.declared.tree.Block.TheFolds.{fold-Block}
 
--- one of the answers is true
+-- one of the values is true
 abbrev pub any_of : List Bool → Bool
 any_of [] = false
 any_of (answer ∷ answers) = answer || any_of answers
 
--- One inline, given the answer for each inline of its content. The content of an image is its alternative text, and raw HTML in
+-- One inline, given the value for each inline of its content. The content of an image is its alternative text, and raw HTML in
 -- that is text.
 abbrev pub raw_inline_step : Inline-F Bool → Bool
 raw_inline_step (inline.Html text) = true
@@ -29,12 +29,12 @@ inline_has_raw = fold-Inline Bool raw_inline_step
 abbrev pub inlines_have_raw : List Inline → Bool
 inlines_have_raw inlines = any_of (map inline_has_raw inlines)
 
--- one of the answers for some items is true
+-- one of the values for some items is true
 abbrev pub any_of_items : List (List Bool) → Bool
 any_of_items [] = false
 any_of_items (item ∷ items) = any_of item || any_of_items items
 
--- one block, given the answer for each block inside
+-- one block, given the value for each block inside
 abbrev pub raw_block_step : Block-F Bool → Bool
 raw_block_step (block.Paragraph content) = inlines_have_raw content
 raw_block_step (block.Heading level content) = inlines_have_raw content
