@@ -39,4 +39,6 @@ pub record IsInOrder (blocks : List Block) (owners : List Owner) : Type 0 where
 
 -- two documents with the same JSON are the same
 abbrev pub SameJsonSameDocument : Type 0
-SameJsonSameDocument = (b c : List Block) (o p : List Owner) → IsInOrder b o → IsInOrder c p → json_of b o ≡ json_of c p → (b ≡ c) × (o ≡ p)
+SameJsonSameDocument =
+    (blocks other_blocks : List Block) (owners other_owners : List Owner) → IsInOrder blocks owners → IsInOrder other_blocks other_owners
+    → json_of blocks owners ≡ json_of other_blocks other_owners → (blocks ≡ other_blocks) × (owners ≡ other_owners)
