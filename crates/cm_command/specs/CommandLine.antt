@@ -14,7 +14,7 @@ use Rattle.clap.specs.declared.error.kind.ErrorKind.TheVariants.{DisplayHelp, Di
 use Rattle.cm_text.specs.Limits.{LimitsView, limits_for}
 use Rattle.cm_text.specs.Rules.{Rules}
 use Rattle.cm_command.specs.declared.job.Job.{Job}
-use Rattle.cm_command.specs.declared.job.Job.TheVariants.{Render, Tree, Rewrite, Examples}
+use Rattle.cm_command.specs.declared.job.Job.TheVariants.{Render, Tree, TreeJson, Rewrite, Examples}
 use Rattle.cm_command.specs.declared.job.Task.{Task}
 use Rattle.cm_command.specs.declared.job.Stop.{Stop}
 use Rattle.cm_command.specs.declared.job.Stop.TheVariants.{Help, Wrong, NoMemory}
@@ -71,6 +71,14 @@ with_flags app = fold (λ (a : App) flag. with_rule a (flag_rule (flag_name flag
 abbrev pub job_app : Text → App
 job_app name = with_flags (with_rule (with_rule (with_rule (new_app name) file_rule) blocks_rule) inlines_rule)
 
+-- the name of the flag that writes the tree as JSON
+abbrev pub json_name : Text
+json_name = codes "json"
+
+-- The subcommand that writes the tree of a text has `--json` too.
+abbrev pub tree_app : App
+tree_app = with_rule (job_app (codes "tree")) (flag_rule json_name)
+
 -- The subcommand that reads a file of examples, under the standard limits, needs FILE, and has the flags alone.
 abbrev pub examples_app : App
 examples_app = with_flags (with_rule (new_app (codes "examples")) needed_file_rule)
@@ -79,6 +87,7 @@ examples_app = with_flags (with_rule (new_app (codes "examples")) needed_file_ru
 abbrev pub name_of : Job → Text
 name_of Render = codes "render"
 name_of Tree = codes "tree"
+name_of TreeJson = codes "tree"
 name_of Rewrite = codes "rewrite"
 name_of Examples = codes "examples"
 
@@ -93,7 +102,7 @@ cmk_top = let a = new_app (codes "cmk") in record a { top = record a.top { has_v
 
 -- the same with its subcommands
 abbrev pub cmk_app : App
-cmk_app = with_subcommand (with_subcommand (with_subcommand (with_subcommand cmk_top (job_app (name_of Render)).top) (job_app (name_of Tree)).top) (job_app (name_of Rewrite)).top) examples_app.top
+cmk_app = with_subcommand (with_subcommand (with_subcommand (with_subcommand cmk_top (job_app (name_of Render)).top) tree_app.top) (job_app (name_of Rewrite)).top) examples_app.top
 
 -- the name of a subcommand, and what is found for its arguments
 abbrev pub Found : Type 0
@@ -103,13 +112,9 @@ Found = Text × List Row
 abbrev pub found_for : List Text → Option Found
 found_for words = subcommand_of cmk_app words
 
--- the job of this name
+-- the job of the subcommand of this name, without its options
 abbrev pub job_of : Text → Option Job
 job_of name = find (λ job. bytes_eq (name_of job) name) (Render ∷ Tree ∷ Rewrite ∷ Examples ∷ [])
-
--- the job that is named
-abbrev pub job_in : Option Found → Option Job
-job_in found = option_and_then (λ f. job_of f.0) found
 
 -- the file that the word FILE names; `-` is standard input
 abbrev pub file_named : Text → Option Text
@@ -137,6 +142,15 @@ limits_of rules blocks inlines = limits_with rules (as_number blocks) (as_number
 -- the flag of this name is set
 abbrev pub is_set : Text → List Row → Bool
 is_set name rows = option_map_or (λ value. bytes_eq value (codes "true")) (first_of name rows) false
+
+-- the job of a subcommand: with `--json` the tree is written as JSON
+abbrev pub in_form : Job → (json : Bool) → Job
+in_form Tree true = TreeJson
+in_form job _ = job
+
+-- the job that is named
+abbrev pub job_in : Option Found → Option Job
+job_in found = option_and_then (λ f. option_map (λ job. in_form job (is_set json_name f.1)) (job_of f.0)) found
 
 -- The rules of these flags. `--safe` is `--no-html` and `--web-links`.
 abbrev pub rules_for : (Flag → Bool) → Rules
@@ -171,23 +185,26 @@ pub record IsTaskOf (found : Option Found) (task : Task) : Type 0 where
   pub file : file_in found ≡ option_map string_bytes task.file
   pub limits : limits_in found ≡ Some task.limits
 
--- an option as it is given: the number of blocks or of inlines, as it is written, or a flag
+-- an option as it is given: the number of blocks or of inlines, as it is written, a flag, or `--json`
 pub data Choice : Type 0 where
   Blocks : Text → Choice
   Inlines : Text → Choice
   Set : Flag → Choice
+  Json : Choice
 
 -- the name of the option
 abbrev pub option_of : Choice → Text
 option_of (Blocks number) = codes "blocks"
 option_of (Inlines number) = codes "inlines"
 option_of (Set flag) = flag_name flag
+option_of Json = json_name
 
 -- the words that give an option
 abbrev pub words_of : Choice → List Text
 words_of (Blocks number) = codes "--blocks" ∷ number ∷ []
 words_of (Inlines number) = codes "--inlines" ∷ number ∷ []
 words_of (Set flag) = (codes "--" ++ flag_name flag) ∷ []
+words_of Json = codes "--json" ∷ []
 
 -- The words after the program's name that ask for a job on a text with these options, in their order, and with this file or none.
 abbrev pub words_for : Job → List Choice → Option Text → List Text
@@ -196,6 +213,11 @@ words_for job choices file = name_of job ∷ flat_map words_of choices ++ option
 -- the option of this name is given
 abbrev pub is_given : Text → List Choice → Bool
 is_given name choices = list_any (λ choice. bytes_eq name (option_of choice)) choices
+
+-- `--json` is given for the tree as JSON, and for no other job
+abbrev pub are_for : Job → List Choice → Bool
+are_for TreeJson choices = is_given json_name choices
+are_for _ choices = not (is_given json_name choices)
 
 -- no option is given twice
 abbrev pub each_once : List Choice → Bool
@@ -208,12 +230,14 @@ numbers_in [] = []
 numbers_in (Blocks number ∷ choices) = number ∷ numbers_in choices
 numbers_in (Inlines number ∷ choices) = number ∷ numbers_in choices
 numbers_in (Set flag ∷ choices) = numbers_in choices
+numbers_in (Json ∷ choices) = numbers_in choices
 
 -- the value of an option; that of a flag is `true`
 abbrev pub value_of : Choice → Text
 value_of (Blocks number) = number
 value_of (Inlines number) = number
 value_of (Set flag) = codes "true"
+value_of Json = codes "true"
 
 -- the value of the option of this name, if it is given
 abbrev pub given_for : Text → List Choice → Option Text

@@ -3,12 +3,14 @@ ghost use Rattle.std.specs.Prelude.{◌≡◌, ◌∷◌, [], ℕ, List, Option,
 ghost use Rattle.std.specs.Prelude.{IsSomeAnd, map, option_and_then, option_map, string_bytes};
 ghost use Rattle.clap.specs.declared.builder.command.Command.TheViews.{out-Command};
 ghost use Rattle.clap.specs.Words.{app_of, found_of, kind_of, rows_of, rule_of, subcommand_rows_of};
-ghost use Rattle.cm_command.specs.CommandLine.{are_limits, cmk_app, each_once, examples_app, file_at};
-ghost use Rattle.cm_command.specs.CommandLine.{file_named, file_rule, flag_rule, found_for};
-ghost use Rattle.cm_command.specs.CommandLine.{hold_an_option, is_option, job_app};
-ghost use Rattle.cm_command.specs.CommandLine.{job_of, limit_rule, limits_at, limits_by, limits_for_job};
-ghost use Rattle.cm_command.specs.CommandLine.{reads_a_text, rules_in, stops_of, with_flags, words_for};
-ghost use Rattle.cm_command.specs.CommandLine.{Choice, IsMistake, IsTaskFor, IsTaskOf, StopsBy, StopsFor};
+ghost use Rattle.cm_command.specs.CommandLine.{are_for, are_limits, cmk_app, each_once, examples_app};
+ghost use Rattle.cm_command.specs.CommandLine.{file_at, file_named, file_rule, flag_rule, found_for};
+ghost use Rattle.cm_command.specs.CommandLine.{hold_an_option, in_form, is_option, is_set, job_app};
+ghost use Rattle.cm_command.specs.CommandLine.{job_of, json_name, limit_rule, limits_at, limits_by};
+ghost use Rattle.cm_command.specs.CommandLine.{limits_for_job, reads_a_text, rules_in, stops_of};
+ghost use Rattle.cm_command.specs.CommandLine.{tree_app, with_flags, words_for};
+ghost use Rattle.cm_command.specs.CommandLine.{Choice, IsMistake, IsTaskFor, IsTaskOf, StopsBy};
+ghost use Rattle.cm_command.specs.CommandLine.{StopsFor};
 ghost use Rattle.cm_command.specs.steps.Arguments.{IsJob, OptionsAreRead, AreRead, FlagsAreRead};
 
 use crate::job::{Job, Stop, Task};
@@ -35,6 +37,9 @@ const WEB_LINKS: &str = "Treats links with a scheme other than http, https or ma
 
 /// What `--safe` does.
 const SAFE: &str = "For untrusted text: --no-html and --web-links";
+
+/// What `--json` does.
+const JSON: &str = "Prints the tree as JSON (mdast)";
 
 /// The argument FILE.
 fn file_arg<'a>(alloc: Global, help: &'a str) -> Arg<'a>
@@ -98,6 +103,15 @@ fn job_command<'a>(alloc: Global, name: &'a str, about: &'a str) -> Result<Comma
     with_flags(alloc, command)
 }
 
+/// The subcommand that writes the tree of a text.
+fn tree_command<'a>(alloc: Global) -> Result<Command<'a>, AllocError>
+    ensures app { IfOk result (λ c. app_of c ≡ tree_app) }
+    ensures local { IfOk result (λ c. (out-Command c).has_globals ≡ false) }
+{
+    let about = "Lists the tree of a text and the owner of each line";
+    job_command(alloc, "tree", about)?.arg(flag_arg(alloc, "json", JSON))
+}
+
 /// The subcommand that reads a file of examples.
 fn examples_command<'a>(alloc: Global) -> Result<Command<'a>, AllocError>
     ensures app { IfOk result (λ c. app_of c ≡ examples_app) }
@@ -117,7 +131,6 @@ fn command<'a>(alloc: Global) -> Result<Command<'a>, AllocError>
     ensures { IfOk result (λ c. app_of c ≡ cmk_app) }
 {
     let render = "Renders a text as HTML";
-    let tree = "Lists the tree of a text and the owner of each line";
     let rewrite = "Rewrites a text as CommonMark source with inline links";
     Command::new(alloc, "cmk")
         .about(
@@ -126,12 +139,12 @@ fn command<'a>(alloc: Global) -> Result<Command<'a>, AllocError>
         .version(VERSION)
         .subcommand_required(true)
         .subcommand(job_command(alloc, "render", render)?)?
-        .subcommand(job_command(alloc, "tree", tree)?)?
+        .subcommand(tree_command(alloc)?)?
         .subcommand(job_command(alloc, "rewrite", rewrite)?)?
         .subcommand(examples_command(alloc)?)
 }
 
-/// The job of this name.
+/// The job of the subcommand of this name, without its options.
 fn job_of(name: &str) -> Option<Job>
     ensures { result ≡ job_of name.now }
 {
@@ -204,13 +217,30 @@ fn limits_of(found: &ArgMatches<'_>) -> Limits
     limits.with_rules(rules_of(found))
 }
 
+/// The job of a subcommand, from its matches.
+fn in_form(job: Job, found: &ArgMatches<'_>) -> Job
+    requires { OptionsAreRead job (rows_of (found_of found.now)) }
+    ensures { result ≡ in_form job (is_set json_name (rows_of (found_of found.now))) }
+{
+    match job {
+        Job::Tree => {
+            if found.get_flag("json") {
+                Job::TreeJson
+            } else {
+                Job::Tree
+            }
+        }
+        _ => job,
+    }
+}
+
 /// The limits of a job, from the matches of its subcommand.
 fn limits_for_job(job: Job, found: &ArgMatches<'_>) -> Limits
     requires { OptionsAreRead job (rows_of (found_of found.now)) }
     ensures { limits_for_job job (rows_of (found_of found.now)) ≡ Some result }
 {
     match job {
-        Job::Render | Job::Tree | Job::Rewrite => limits_of(found),
+        Job::Render | Job::Tree | Job::TreeJson | Job::Rewrite => limits_of(found),
         Job::Examples => Limits::standard().with_rules(rules_of(found)),
     }
 }
@@ -223,7 +253,7 @@ fn task_of(alloc: Global, matches: &ArgMatches<'_>) -> Result<Task, AllocError>
     let (name, found) = matches.subcommand().unwrap();
     let job = job_of(name).unwrap();
     Ok(Task {
-        job,
+        job: in_form(job, found),
         file: file_of(alloc, found)?,
         limits: limits_for_job(job, found),
     })
@@ -235,14 +265,17 @@ fn task_of(alloc: Global, matches: &ArgMatches<'_>) -> Result<Task, AllocError>
 /// line of the program. A request for memory may be refused in any call.
 pub fn task(alloc: Global, words: &[String]) -> Result<Task, Stop>
     // A job on a text by its name, with each option at most once, in any order, and a file or none.
-    // Neither a number nor the file is a hyphen followed by more; a file `-` is standard input.
+    // `--json` is given for the tree as JSON alone. Neither a number nor the file is a hyphen followed by
+    // more; a file `-` is standard input.
     ensures asked { (name : List ℕ) (job : Job) (choices : List Choice) (file : Option (List ℕ))
-        → reads_a_text job ≡ true → map string_bytes words.now ≡ name ∷ words_for job choices file
+        → reads_a_text job ≡ true → are_for job choices ≡ true
+        → map string_bytes words.now ≡ name ∷ words_for job choices file
         → each_once choices ≡ true → are_limits choices ≡ true
         → IfSome file (λ f. is_option f ≡ false)
         → IsTaskFor job (option_and_then file_named file) (limits_by choices) result }
     ensures out_of_range { (name : List ℕ) (job : Job) (choices : List Choice) (file : Option (List ℕ))
-        → reads_a_text job ≡ true → map string_bytes words.now ≡ name ∷ words_for job choices file
+        → reads_a_text job ≡ true → are_for job choices ≡ true
+        → map string_bytes words.now ≡ name ∷ words_for job choices file
         → each_once choices ≡ true → are_limits choices ≡ false → hold_an_option choices ≡ false
         → IfSome file (λ f. is_option f ≡ false) → IsMistake result }
 

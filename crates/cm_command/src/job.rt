@@ -10,6 +10,8 @@ pub enum Job {
     Render,
     /// The tree of the text is listed, and the owner of each line.
     Tree,
+    /// The tree of the text and the lines of its leaves are written as JSON.
+    TreeJson,
     /// The text is written as plain source of its tree.
     Rewrite,
     /// The text is a file of examples, and the report on it is written.

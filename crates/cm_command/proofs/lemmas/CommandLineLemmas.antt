@@ -1,11 +1,12 @@
 -- How clap reads the command line of cmk.
 use Rattle.std.proofs.Common.{◌≡◌, ◌∙◌, ◌≤◌, ◌^◌, ℕ, List, [], ◌∷◌, Some, None, refl, ap, ap₂, sym, subst, inl, inr, bytes_eq, arith, Option, true, false, ◌||◌}
-use Rattle.std.specs.Prelude.{◌⊎◌, ⊤, Result, Err, ◌==◌, ◌&&◌, codes, cond, option_and_then, option_map, unwrap_or, Bool}
+use Rattle.std.specs.Prelude.{◌⊎◌, ⊤, Result, Err, ◌==◌, ◌&&◌, codes, cond, option_and_then, option_map, unwrap_or, Bool, IsSomeAnd}
 use Rattle.std.specs.Option.{option_map_or}
 use Rattle.std.proofs.lemmas.Bool.{eqb-true, le-leb}
 use Rattle.std.specs.Str.Parse.{ParsesUnsigned, ExplainsUnsignedError, HasUnsignedDigitsIfOk, digits_value, without_leading_plus}
 use Rattle.std.specs.declared.num.ParseIntError.{ParseIntError}
-use Rattle.clap.specs.Words.{Text, is_simple, is_simple_and_free, IsUnsignedIn, ReadsOne, one_of}
+use Rattle.clap.proofs.WalkLemmas.{one_text-rows}
+use Rattle.clap.specs.Words.{Text, one_text, is_simple, is_simple_and_free, IsUnsignedIn, ReadsOne, one_of}
 use Rattle.clap.proofs.OnLiterals.{clap_on_literals}
 use Rattle.clap.specs.declared.builder.value_parser.ValueParser.TheVariants.{Unsigned}
 use Rattle.clap.proofs.ValueTestLemmas.{accepts-Accepts}
@@ -21,10 +22,11 @@ use Rattle.clap.specs.Words.{Kinds, IsAmong}
 use Rattle.clap.specs.declared.error.kind.ErrorKind.{ErrorKind}
 use Rattle.clap.specs.declared.error.kind.ErrorKind.TheVariants.{DisplayHelp, DisplayVersion, OutOfMemory}
 use Rattle.cm_command.specs.declared.job.Job.{Job}
+use Rattle.cm_command.specs.declared.job.Job.TheVariants.{Tree}
 use Rattle.cm_command.specs.declared.job.Stop.{Stop}
 use Rattle.cm_command.specs.declared.job.Stop.TheVariants.{Help, Wrong, NoMemory}
-use Rattle.cm_command.specs.CommandLine.{Found, IsMistake, StopsBy, as_number, cmk_app, file_named, is_limit, is_option, is_set, limits_for_job}
-use Rattle.cm_command.specs.steps.Arguments.{IsRead, fits}
+use Rattle.cm_command.specs.CommandLine.{Found, IsMistake, StopsBy, as_number, cmk_app, file_named, is_limit, is_option, is_set, job_of, json_name, limits_for_job}
+use Rattle.cm_command.specs.steps.Arguments.{IsJob, IsRead, OptionsAreRead, fits}
 use Rattle.std.proofs.lemmas.Slice.Eq.{bytes_eq-Decides}
 
 pub cmk_is_simple : is_simple_and_free cmk_app ≡ true
@@ -109,6 +111,14 @@ flag_read name rows result r is_flag reads =
         let text_is = (bytes_eq-Decides r.text (codes "false")).0 is_false in
         rw (r.is_first, is_true) (reads.1 (r.is_read ∙ ap Some text_is))
     either false false is_true is_false fit = cc
+
+-- `--json` is read as it is set
+pub json_read : (matches : ArgMatches) (job : Job) (result : Bool) → job ≡ Tree → OptionsAreRead job (rows_of (found_of matches))
+    → ReadsFlag (one_text (found_of matches) json_name) result → result ≡ is_set json_name (rows_of (found_of matches))
+json_read matches job result is options reads =
+    let rows = rows_of (found_of matches) in
+    let text = one_text-rows (found_of matches) json_name in
+    flag_read json_name rows result (subst (λ (j : Job). OptionsAreRead j rows) is options).1 (λ value. refl) (λ same. reads.0 (text ∙ same), λ same. reads.1 (text ∙ same))
 
 -- ---- the file
 
@@ -203,6 +213,13 @@ is_mistake kind kinds (Help text) (inr among) memory by are =
 -- one name has one job
 pub same_job : (a b : Job) → Some a ≡ Some b → a ≡ b
 same_job a b is = ap (λ (o : Option Job). unwrap_or o a) is
+
+-- what is found for the options of the job that is named
+pub job_options : (matches : ArgMatches) (name : Text) (rows : List Row) (job : Job) → subcommand_rows_of matches ≡ Some (name, rows)
+    → IsSomeAnd (subcommand_rows_of matches) IsJob → job_of name ≡ Some job → OptionsAreRead job rows
+job_options matches name rows job found is named =
+    let read = subst (λ (f : Option Found). IsSomeAnd f IsJob) found is in
+    subst (λ j. OptionsAreRead j rows) (same_job read.job job (sym read.named ∙ named)) read.options
 
 -- the limits are those of the job that is named
 pub limits_of_job : (named : Option Job) (job : Job) (rows : List Row) → named ≡ Some job

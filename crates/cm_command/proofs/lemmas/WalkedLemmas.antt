@@ -18,8 +18,8 @@ use Rattle.clap.specs.declared.error.kind.ErrorKind.TheVariants as kind
 use Rattle.clap.specs.declared.parser.matches.ValueSource.{ValueSource}
 use Rattle.clap.specs.declared.parser.matches.ValueSource.TheVariants.{CommandLine, DefaultValue}
 use Rattle.cm_command.specs.declared.job.Job.{Job}
-use Rattle.cm_command.specs.declared.job.Job.TheVariants.{Render, Tree, Rewrite, Examples}
-use Rattle.cm_command.specs.CommandLine.{cmk_app, examples_app, file_rule, flag_name, flag_rule, found_for, is_limit, job_app, limit_rule, job_of, reads_a_text, stops_of, Flag, Older, Strike, NoHtml, WebLinks, Safe}
+use Rattle.cm_command.specs.declared.job.Job.TheVariants.{Render, Tree, TreeJson, Rewrite, Examples}
+use Rattle.cm_command.specs.CommandLine.{cmk_app, examples_app, file_rule, flag_name, flag_rule, found_for, is_limit, json_name, limit_rule, job_of, reads_a_text, stops_of, Flag, Older, Strike, NoHtml, WebLinks, Safe}
 use Rattle.cm_command.specs.steps.Arguments.{IsJob, AreRead, FlagsAreRead, IsRead, fits}
 use Rattle.cm_command.proofs.lemmas.RowLemmas.{first_default, row_by, with_defaults}
 
@@ -327,28 +327,51 @@ has_default id rows c default = rw (with_defaults id rows c) (either (row_by id 
     either None = default
     either (Some r) = refl
 
--- the rules of a job's subcommand, once it is built
-abbrev pub job_rules : List Rule
-job_rules = (built_leaf (job_app []).top).rules
-
 -- the rules of the flags, before these
+abbrev flag_rules : List Rule → List Rule
+flag_rules rules =
+    filled (flag_rule (codes "older")) ∷ filled (flag_rule (codes "strike")) ∷ filled (flag_rule (codes "no-html"))
+    ∷ filled (flag_rule (codes "web-links")) ∷ filled (flag_rule (codes "safe")) ∷ rules
+
+-- the last rules of a job's subcommand, with `--json` or without it
+abbrev pub last_rules : (json : Bool) → List Rule
+last_rules true = filled (flag_rule json_name) ∷ filled help_rule ∷ []
+last_rules false = filled help_rule ∷ []
+
+-- the rules of a job's subcommand, once it is built
+abbrev pub job_rules : (json : Bool) → List Rule
+job_rules json =
+    with_index 1 (filled file_rule) ∷ filled (limit_rule (codes "blocks")) ∷ filled (limit_rule (codes "inlines")) ∷ flag_rules (last_rules json)
+
+-- the subcommand of a job has `--json`
+abbrev pub takes_json : Job → Bool
+takes_json Tree = true
+takes_json TreeJson = true
+takes_json _ = false
+
 flags_fine : (rules : List Rule) → AllByRecursion IsFineRule rules → AllByRecursion IsFineRule
-    (filled (flag_rule (codes "older")) ∷ filled (flag_rule (codes "strike")) ∷ filled (flag_rule (codes "no-html"))
-    ∷ filled (flag_rule (codes "web-links")) ∷ filled (flag_rule (codes "safe")) ∷ rules)
+    (flag_rules rules)
 flags_fine rules later =
     (flag_fine (codes "older") refl, (flag_fine (codes "strike") refl, (flag_fine (codes "no-html") refl, (flag_fine (codes "web-links") refl, (flag_fine (codes "safe") refl, later)))))
 
 flags_default : (rules : List Rule) → AllByRecursion HasFineDefault rules → AllByRecursion HasFineDefault
-    (filled (flag_rule (codes "older")) ∷ filled (flag_rule (codes "strike")) ∷ filled (flag_rule (codes "no-html"))
-    ∷ filled (flag_rule (codes "web-links")) ∷ filled (flag_rule (codes "safe")) ∷ rules)
+    (flag_rules rules)
 flags_default rules later = ((refl, refl), ((refl, refl), ((refl, refl), ((refl, refl), ((refl, refl), later)))))
 
-job_rules_fine : AllByRecursion IsFineRule job_rules
-job_rules_fine =
-    (file_fine false, (limit_fine (codes "blocks") (λ v. refl), (limit_fine (codes "inlines") (λ v. refl), flags_fine (filled help_rule ∷ []) (help_fine, tt))))
+last_rules_fine : (json : Bool) → AllByRecursion IsFineRule (last_rules json)
+last_rules_fine true = (flag_fine json_name refl, (help_fine, tt))
+last_rules_fine false = (help_fine, tt)
 
-job_defaults_fine : AllByRecursion HasFineDefault job_rules
-job_defaults_fine = ((refl, tt), ((refl, refl), ((refl, refl), flags_default (filled help_rule ∷ []) ((refl, tt), tt))))
+job_rules_fine : (json : Bool) → AllByRecursion IsFineRule (job_rules json)
+job_rules_fine json =
+    (file_fine false, (limit_fine (codes "blocks") (λ v. refl), (limit_fine (codes "inlines") (λ v. refl), flags_fine (last_rules json) (last_rules_fine json))))
+
+last_defaults_fine : (json : Bool) → AllByRecursion HasFineDefault (last_rules json)
+last_defaults_fine true = ((refl, refl), ((refl, tt), tt))
+last_defaults_fine false = ((refl, tt), tt)
+
+job_defaults_fine : (json : Bool) → AllByRecursion HasFineDefault (job_rules json)
+job_defaults_fine json = ((refl, tt), ((refl, refl), ((refl, refl), flags_default (last_rules json) (last_defaults_fine json))))
 
 -- those of the subcommand `examples`
 abbrev example_rules : List Rule
@@ -374,12 +397,12 @@ option_read id s words of_job defaults default none =
 abbrev FlagDefault : Flag → List Rule → Type 0
 FlagDefault flag rules = is_some (first_default (flag_name flag) rules) ≡ true
 
-job_default : (flag : Flag) → FlagDefault flag job_rules
-job_default Older = refl
-job_default Strike = refl
-job_default NoHtml = refl
-job_default WebLinks = refl
-job_default Safe = refl
+job_default : (json : Bool) (flag : Flag) → FlagDefault flag (job_rules json)
+job_default json Older = refl
+job_default json Strike = refl
+job_default json NoHtml = refl
+job_default json WebLinks = refl
+job_default json Safe = refl
 
 example_default : (flag : Flag) → FlagDefault flag example_rules
 example_default Older = refl
@@ -389,18 +412,25 @@ example_default WebLinks = refl
 example_default Safe = refl
 
 -- what is found for the options of a subcommand that reads a text
-job_options : (s : Shape) (words : List Text) → s.rules ≡ job_rules → level_fault s [] nothing_held words false [] ≡ []
+job_options : (json : Bool) (s : Shape) (words : List Text) → s.rules ≡ job_rules json → level_fault s [] nothing_held words false [] ≡ []
     → AreRead (rows_after s.rules [] words)
-job_options s words rules none =
-    let of_job = subst (AllByRecursion IsFineRule) (sym rules) job_rules_fine in
-    let defaults = subst (AllByRecursion HasFineDefault) (sym rules) job_defaults_fine in
+job_options json s words rules none =
+    let of_job = subst (AllByRecursion IsFineRule) (sym rules) (job_rules_fine json) in
+    let defaults = subst (AllByRecursion HasFineDefault) (sym rules) (job_defaults_fine json) in
     record {
       blocks = option_read (codes "blocks") s words of_job defaults (rw (rules) refl) none;
       inlines = option_read (codes "inlines") s words of_job defaults (rw (rules) refl) none;
-      flags = λ flag. option_read (flag_name flag) s words of_job defaults (subst (FlagDefault flag) (sym rules) (job_default flag)) none;
+      flags = λ flag. option_read (flag_name flag) s words of_job defaults (subst (FlagDefault flag) (sym rules) (job_default json flag)) none;
     }
 
--- and for those of `examples`
+-- what is found for `--json`
+json_option : (s : Shape) (words : List Text) → s.rules ≡ job_rules true → level_fault s [] nothing_held words false [] ≡ []
+    → IsRead json_name (rows_after s.rules [] words)
+json_option s words rules none =
+    option_read json_name s words (subst (AllByRecursion IsFineRule) (sym rules) (job_rules_fine true))
+    (subst (AllByRecursion HasFineDefault) (sym rules) (job_defaults_fine true)) (rw (rules) refl) none
+
+-- and for the options of `examples`
 example_options : (s : Shape) (words : List Text) → s.rules ≡ example_rules → level_fault s [] nothing_held words false [] ≡ []
     → FlagsAreRead (rows_after s.rules [] words)
 example_options s words rules none =
@@ -490,11 +520,13 @@ module _ (s : Shape) (has_help : s.disable_help_subcommand ≡ false) where
 abbrev pub cmk_built : App
 cmk_built = built cmk_app
 
-entered_text : (s : Shape) (job : Job) (words : List Text) → s.rules ≡ job_rules → reads_a_text job ≡ true → job_of s.name ≡ Some job
+entered_text : (s : Shape) (job : Job) (words : List Text) → s.rules ≡ job_rules (takes_json job) → reads_a_text job ≡ true → job_of s.name ≡ Some job
     → level_fault s [] nothing_held words false [] ≡ [] → IsJob (rows_at s words)
-entered_text s Render words rules text named none = record { job = Render; named = named; options = job_options s words rules none }
-entered_text s Tree words rules text named none = record { job = Tree; named = named; options = job_options s words rules none }
-entered_text s Rewrite words rules text named none = record { job = Rewrite; named = named; options = job_options s words rules none }
+entered_text s Render words rules text named none = record { job = Render; named = named; options = job_options false s words rules none }
+entered_text s Tree words rules text named none =
+    record { job = Tree; named = named; options = (job_options true s words rules none, json_option s words rules none) }
+entered_text s TreeJson words rules text named none = record { job = TreeJson; named = named; options = job_options true s words rules none }
+entered_text s Rewrite words rules text named none = record { job = Rewrite; named = named; options = job_options false s words rules none }
 entered_text s Examples words rules text named none = cc
 
 entered_examples : (s : Shape) (words : List Text) → s.rules ≡ example_rules → job_of s.name ≡ Some Examples

@@ -3,8 +3,8 @@ use Rattle.std.specs.Prelude.{◌≡◌, Bool, true, ◌||◌, List, Some, if◌
 use Rattle.std.specs.Str.{bytes_eq}
 use Rattle.clap.specs.Words.{Row, Text, first_of, one_of}
 use Rattle.cm_command.specs.declared.job.Job.{Job}
-use Rattle.cm_command.specs.declared.job.Job.TheVariants.{Examples}
-use Rattle.cm_command.specs.CommandLine.{Flag, Found, flag_name, is_limit, job_of}
+use Rattle.cm_command.specs.declared.job.Job.TheVariants.{Examples, Tree}
+use Rattle.cm_command.specs.CommandLine.{Flag, Found, flag_name, is_limit, job_of, json_name}
 
 -- the value fits the argument of this name: a number in its range, `true` or `false`, or any text
 abbrev pub fits : Text → Text → Bool
@@ -34,6 +34,7 @@ pub record AreRead (rows : List Row) : Type 0 where
 -- the options of a job's subcommand have values that fit them
 abbrev pub OptionsAreRead : Job → List Row → Type 0
 OptionsAreRead Examples rows = FlagsAreRead rows
+OptionsAreRead Tree rows = AreRead rows × IsRead json_name rows
 OptionsAreRead _ rows = AreRead rows
 
 -- a subcommand that is a job, with values of its options

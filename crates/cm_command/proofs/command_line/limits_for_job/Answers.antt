@@ -7,6 +7,7 @@ use Rattle.cm_command.proofs.command_line.limits_for_job.Goals as goal
 pub limits_of-requires : goal.limits_of-requires
 limits_of-requires c = elim c.in-Render.is [
   | inl is ↦ subst (λ (job : Job). OptionsAreRead job (rows_of (found_of c.args.found.now))) is c.requires
-  | inr (inl is) ↦ subst (λ (job : Job). OptionsAreRead job (rows_of (found_of c.args.found.now))) is c.requires
-  | inr (inr is) ↦ subst (λ (job : Job). OptionsAreRead job (rows_of (found_of c.args.found.now))) is c.requires
+  | inr (inl is) ↦ (subst (λ (job : Job). OptionsAreRead job (rows_of (found_of c.args.found.now))) is c.requires).0
+  | inr (inr (inl is)) ↦ subst (λ (job : Job). OptionsAreRead job (rows_of (found_of c.args.found.now))) is c.requires
+  | inr (inr (inr is)) ↦ subst (λ (job : Job). OptionsAreRead job (rows_of (found_of c.args.found.now))) is c.requires
 ]

@@ -21,5 +21,16 @@ returns c = record {
   version = refl;
   version_letter = refl;
   no_version_of_a_job = refl;
+  listing = refl;
+  json = refl;
+  json_after_a_file = refl;
+  json_file = refl;
+  json_limits = refl;
+  file_called_json = refl;
+  json_twice = refl;
+  json_with_a_value = refl;
+  no_json_of_render = refl;
+  no_json_of_rewrite = refl;
+  no_json_of_examples = refl;
   no_blocks = refl;
 }
