@@ -19,6 +19,7 @@ pub mod DepthLemmas
 pub mod EndedLemmas
 pub mod ExampleLawLemmas
 pub mod ExampleLemmas
+pub mod JsonLemmas
 pub mod LastingLemmas
 pub mod LeafLemmas
 pub mod LineLemmas

@@ -3,8 +3,7 @@ use Rattle.std.specs.Prelude.{◌≡◌, ℕ, zero, List, ◌++◌, Result, Ok, 
 use Rattle.cm_tool.specs.Reading.{SourceView}
 use Rattle.cm_text.specs.Limits.{LimitsView}
 use Rattle.cm_text.specs.Writing.{SinkView, IsUnwritten, Wrote, WroteFront}
-use Rattle.cm_tool.specs.Writing.{Converts}
-use Rattle.cm_tool.specs.Writing.{Lists}
+use Rattle.cm_tool.specs.Writing.{Converts, Lists, WritesJson}
 use Rattle.cm_tool.specs.Reporting.{WritesReport}
 use Rattle.cm_tool.specs.Rewriting.{Rewrites}
 use Rattle.cm_tool.specs.declared.fault.Fault.{Fault}
@@ -14,7 +13,7 @@ use Rattle.cm_tool.specs.ExampleFiles.{opening_line}
 use Rattle.cm_tool.specs.FaultLines.{fault_text, line_of}
 use Rattle.cm_tool.specs.Shown.{shown}
 use Rattle.cm_command.specs.declared.job.Job.{Job}
-use Rattle.cm_command.specs.declared.job.Job.TheVariants.{Render, Tree, Rewrite, Examples}
+use Rattle.cm_command.specs.declared.job.Job.TheVariants.{Render, Tree, TreeJson, Rewrite, Examples}
 use Rattle.cm_command.specs.declared.job.Stop.{Stop}
 use Rattle.cm_command.specs.declared.job.Stop.TheVariants.{Help, Wrong, NoMemory}
 
@@ -53,6 +52,7 @@ Reports job (Err fault) old new = OfferedLine fault old new
 abbrev pub Does : Job → Result ℕ Fault → LimitsView → List ℕ → SourceView → SourceView → SinkView → SinkView → Type 0
 Does Render answer limits bytes from left old new = Converts answer limits bytes from left old new
 Does Tree answer limits bytes from left old new = Lists answer limits bytes from left old new
+Does TreeJson answer limits bytes from left old new = WritesJson answer limits bytes from left old new
 Does Rewrite answer limits bytes from left old new = Rewrites answer limits bytes from left old new
 Does Examples answer limits bytes from left old new = WritesReport answer limits bytes from left old new
 

@@ -7,7 +7,7 @@ ghost use Rattle.cm_tool.specs.Running.{TellsUnopened, no_example_line, unopened
 
 use crate::example_files::{OPENING, report};
 use crate::fault::{Fault, LINE};
-use crate::outputs::{convert, list, rewrite};
+use crate::outputs::{convert, list, rewrite, write_json};
 use crate::shown::push_shown;
 use arrayvec::ArrayString;
 use cm_command::{Job, Stop, Task};
@@ -81,6 +81,7 @@ fn work<R: Source, W: Sink>(
     match task.job {
         Job::Render => convert(alloc, reader, writer, task.limits),
         Job::Tree => list(alloc, reader, writer, task.limits),
+        Job::TreeJson => write_json(alloc, reader, writer, task.limits),
         Job::Rewrite => rewrite(alloc, reader, writer, task.limits),
         Job::Examples => report(alloc, reader, writer, task.limits),
     }

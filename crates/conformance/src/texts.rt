@@ -19,6 +19,15 @@ const NO_EXAMPLES: &[u8] = b"0 of 0 agree\n";
 /// The start of the line about it.
 const NONE_FOUND: &str = "cmk: no example found; an example starts with the line ";
 
+/// The jobs that `run` does on a text.
+const JOBS: [Job; 5] = [
+    Job::Render,
+    Job::Tree,
+    Job::TreeJson,
+    Job::Rewrite,
+    Job::Examples,
+];
+
 /// How a text is tried.
 #[derive(Clone, Copy, Debug)]
 pub(crate) enum Tries {
@@ -84,7 +93,7 @@ impl Text<'_> {
         match (self.outcome, job) {
             (Outcome::Document { html, .. }, Job::Render) => html,
             (Outcome::Document { listing, .. }, Job::Tree) => Some(listing?.as_bytes()),
-            (Outcome::Document { .. }, Job::Rewrite) => None,
+            (Outcome::Document { .. }, Job::TreeJson | Job::Rewrite) => None,
             (Outcome::Document { .. }, Job::Examples) if self.has_no_examples() => {
                 Some(NO_EXAMPLES)
             }
@@ -277,7 +286,7 @@ impl Text<'_> {
 
     /// Checks that all calls give the expected results for the text, cut like this.
     fn is_read(&self, cut: Cut) -> Result<(), Trouble> {
-        for job in [Job::Render, Job::Tree, Job::Rewrite, Job::Examples] {
+        for job in JOBS {
             let len = self.whole(job).map_or(0, |whole| whole.len());
             self.runs(job, cut, ample(len))?;
         }

@@ -13,6 +13,7 @@ fn task_of(answer: &mut Answer, task: &Task) -> Result<(), Trouble> {
     answer.word(match task.job {
         Job::Render => "render",
         Job::Tree => "tree",
+        Job::TreeJson => "tree_json",
         Job::Rewrite => "rewrite",
         Job::Examples => "examples",
     })?;
