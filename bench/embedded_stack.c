@@ -80,12 +80,12 @@ int main(void) {
     static const struct {
         const char *name;
         call *made_by;
-    } calls[] = {{"cmk_html", cmk_html}, {"cmk_tree", cmk_tree}, {"cmk_rewrite", cmk_rewrite}};
+    } calls[] = {{"cmk_html", cmk_html}, {"cmk_tree", cmk_tree}, {"cmk_json", cmk_json}, {"cmk_rewrite", cmk_rewrite}};
     static const size_t depths[] = {10, 100, 200, 500};
     static char text[1 << 16];
     unsigned char *stack = mmap(NULL, STACK, PROT_READ | PROT_WRITE, MAP_PRIVATE | MAP_ANONYMOUS, -1, 0);
     size_t made, depth, outer, inner;
-    for (made = 0; made < 3; made++) {
+    for (made = 0; made < sizeof calls / sizeof *calls; made++) {
         for (depth = 0; depth < 4; depth++) {
             cmk_options options = {0, depths[depth], depths[depth], false, true};
             struct task task = {calls[made].made_by, text, &options, 0};

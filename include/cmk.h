@@ -81,6 +81,10 @@ uint32_t cmk_html(const char *text, size_t length, const cmk_options *options, c
 /* Returns the listing of the text's tree and of the owners of its lines, as `cmk tree` writes it. Otherwise like cmk_html. */
 uint32_t cmk_tree(const char *text, size_t length, const cmk_options *options, cmk_output *output);
 
+/* Returns the text's tree as JSON, as `cmk tree --json` writes it, but without the line feed at its end. The JSON is mdast; docs/cmk.md
+ * lists its nodes. Otherwise like cmk_html. */
+uint32_t cmk_json(const char *text, size_t length, const cmk_options *options, cmk_output *output);
+
 /* Returns CommonMark source of the text's tree without its link reference definitions, as `cmk rewrite` writes it. Otherwise like
  * cmk_html; if the text has no fault and its tree can't be written as source, CMK_CANNOT_SPELL with the number of the reason as place. */
 uint32_t cmk_rewrite(const char *text, size_t length, const cmk_options *options, cmk_output *output);

@@ -1,6 +1,6 @@
 /* Calls libcmk for .ci/embedding, as C and as C++.
  *
- *   call html|tree|rewrite|into BYTES BLOCKS INLINES FLAGS     on standard input: its output, or the line of its fault and status 1;
+ *   call html|tree|json|rewrite|into BYTES BLOCKS INLINES FLAGS     on standard input: its output, or the line of its fault and status 1;
  *                     FLAGS has 0 or 1 for each of older, strike, no_html and web_links
  *   call rooms        the HTML of a text into rooms of every size, and a line into each
  *   call lines        the line of each number at each place up to 20, behind both
@@ -209,6 +209,7 @@ int main(int count, char **words) {
     length = fread(text, 1, sizeof text, stdin);
     return strcmp(name, "html") == 0 ? one(cmk_html, text, length, &options)
            : strcmp(name, "tree") == 0 ? one(cmk_tree, text, length, &options)
+           : strcmp(name, "json") == 0 ? one(cmk_json, text, length, &options)
            : strcmp(name, "rewrite") == 0 ? one(cmk_rewrite, text, length, &options)
            : strcmp(name, "into") == 0 ? into(text, length, &options) : 2;
 }

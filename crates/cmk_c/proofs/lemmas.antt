@@ -1,3 +1,4 @@
 pub mod CallLemmas
+pub mod JsonLemmas
 pub mod PlaceLemmas
 pub mod LineLemmas

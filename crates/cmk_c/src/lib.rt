@@ -1,4 +1,4 @@
-//! CommonMark for C: a text to HTML, to the listing of its tree, or to plain source.
+//! CommonMark for C: a text to HTML, to the listing of its tree, to its tree as JSON, or to plain source.
 //!
 //! A call takes the text as a pointer and a length, and has no state of its own. `include/cmk.h` declares the
 //! calls for C. Start with [`cmk_html`]; `examples/render.c` is a whole program, which the gate compiles and
@@ -14,9 +14,9 @@
 //! ```
 #![tactic(auto)]
 
-ghost use Rattle.std.specs.Prelude.{◌≡◌, ◌≤◌, ℕ, List};
+ghost use Rattle.std.specs.Prelude.{◌≡◌, ◌≤◌, ℕ, List, IfSome};
 ghost use Rattle.cm_tool.specs.Faults.{fault_of};
-ghost use Rattle.cm_tool.specs.Writing.{converted, listed};
+ghost use Rattle.cm_tool.specs.Writing.{IsTreeInJson, converted, in_json, listed};
 ghost use Rattle.cm_tool.specs.Rewriting.{rewritten};
 ghost use Rattle.cmk_c.specs.Calls.{Answers, Fills, TellsLine, limits_asked, rewriting_fault};
 ghost use Rattle.cmk_c.specs.Numbers.{message_of};
@@ -33,7 +33,7 @@ use crate::filling::{fill, fill_nothing};
 use crate::message::{fill_line, message_of};
 use crate::options::limits_of;
 use crate::output::{put, put_wrong_options};
-use crate::outputs::{html_of, source_of, tree_of};
+use crate::outputs::{html_of, json_of, source_of, tree_of};
 pub use filling::Filled;
 pub use message::Message;
 pub use options::Options;
@@ -80,6 +80,30 @@ pub extern "C" fn cmk_tree(
 {
     match limits_of(options) {
         Some(limits) => put(tree_of(alloc, text, limits), output),
+        None => put_wrong_options(output),
+    }
+}
+
+/// The tree of the text and the lines of its leaves as JSON, without a line feed at its end.
+#[unsafe(no_mangle)]
+pub extern "C" fn cmk_json(
+    alloc: Global,
+    text: &[u8],
+    options: &Options,
+    output: &mut Output,
+) -> u32
+    ensures answer { Answers fault_of in_json (limits_asked options.now) text.now
+        (record {
+          number = result;
+          place = output.new.place;
+          count = output.new.length;
+          bytes = output.new.bytes.now;
+        }) }
+    ensures is_json { result ≡ 0
+        → IfSome (limits_asked options.now) (λ limits. IsTreeInJson limits.rules text.now) }
+{
+    match limits_of(options) {
+        Some(limits) => put(json_of(alloc, text, limits), output),
         None => put_wrong_options(output),
     }
 }

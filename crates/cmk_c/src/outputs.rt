@@ -1,13 +1,15 @@
-//! The outputs of the calls, each followed by a NUL: HTML, a listing, or plain source.
-ghost use Rattle.std.specs.Prelude.{◌≡◌, ◌≤◌, ◌^◌, List, ℕ, IfErr, IfOk, IfSome, string_bytes};
+//! The outputs of the calls, each followed by a NUL: HTML, a listing, JSON, or plain source.
+ghost use Rattle.std.specs.Prelude.{◌≡◌, ◌≤◌, ◌^◌, List, ℕ, true, is_some, string_bytes};
+ghost use Rattle.std.specs.Prelude.{IfErr, IfOk, IfSome, OnOk};
 ghost use Rattle.cm_tool.specs.declared.fault.Fault.TheVariants.{NoMemory};
 ghost use Rattle.cm_tool.specs.Faults.{fault_of};
-ghost use Rattle.cm_tool.specs.Writing.{converted, listed};
+ghost use Rattle.cm_tool.specs.Writing.{IsTreeInJson, converted, in_json, listed};
 ghost use Rattle.cm_tool.specs.Rewriting.{rewritten};
 ghost use Rattle.cmk_c.specs.Calls.{Gives, ended, rewriting_fault};
 ghost use Rattle.cmk_c.specs.steps.Places.{HasPlace};
 
 use cm_html::listing;
+use cm_json::json;
 use cm_text::Limits;
 use cm_tool::Fault;
 use std::alloc::Global;
@@ -17,6 +19,7 @@ fn with_nul(text: Option<String>) -> Result<Vec<u8>, Fault>
     ensures value { (output : List ℕ) → IfSome text (λ text. string_bytes text ≡ output)
         → IfOk result (λ made. made.items ≡ ended output) }
     ensures memory { IfErr result (λ fault. fault ≡ NoMemory) }
+    ensures made { OnOk result (is_some text ≡ true) }
 {
     let Some(text) = text else {
         return Err(Fault::NoMemory);
@@ -48,6 +51,19 @@ pub(crate) fn tree_of(alloc: Global, text: &[u8], limits: Limits) -> Result<Vec<
 {
     match cm_tool::doc_of(alloc, text, limits) {
         Ok(doc) => with_nul(listing(alloc, &doc).ok()),
+        Err(fault) => Err(fault),
+    }
+}
+
+/// The JSON of the text's tree, followed by a NUL.
+pub(crate) fn json_of(alloc: Global, text: &[u8], limits: Limits) -> Result<Vec<u8>, Fault>
+    requires { limits.bytes ≤ 2 ^ 30 }
+    ensures value { Gives (fault_of limits text.now) (in_json limits.rules text.now) result }
+    ensures is_json { OnOk result (IsTreeInJson limits.rules text.now) }
+    ensures place { IfErr result HasPlace }
+{
+    match cm_tool::doc_of(alloc, text, limits) {
+        Ok(doc) => with_nul(json(alloc, &doc).ok()),
         Err(fault) => Err(fault),
     }
 }
