@@ -8,7 +8,8 @@ _cmk() {
         words='render tree rewrite examples help --help --version -h -V'
     else
         case ${COMP_WORDS[1]} in
-            render | tree | rewrite) words='--blocks --inlines --older --strike --no-html --web-links --safe --help -h' ;;
+            tree) words='--json --blocks --inlines --older --strike --no-html --web-links --safe --help -h' ;;
+            render | rewrite) words='--blocks --inlines --older --strike --no-html --web-links --safe --help -h' ;;
             examples) words='--older --strike --no-html --web-links --safe --help -h' ;;
             help) words='render tree rewrite examples help' ;;
         esac

@@ -12,6 +12,7 @@ complete -c cmk -n "not __fish_seen_subcommand_from $commands" -s V -l version -
 complete -c cmk -s h -l help -d 'Print help'
 complete -c cmk -n "__fish_seen_subcommand_from $jobs" -x -l blocks -d 'The most quotes and list items that may enclose a line, 1 to 500'
 complete -c cmk -n "__fish_seen_subcommand_from $jobs" -x -l inlines -d 'How deeply emphasis, links and images may nest, 1 to 500'
+complete -c cmk -n "__fish_seen_subcommand_from tree" -l json -d 'Prints the tree as JSON (mdast)'
 complete -c cmk -n "__fish_seen_subcommand_from $jobs examples" -l older -d 'Uses older rules: <source> starts an HTML block, <search> does not'
 complete -c cmk -n "__fish_seen_subcommand_from $jobs examples" -l strike -d 'Strikes through text between two tildes'
 complete -c cmk -n "__fish_seen_subcommand_from $jobs examples" -l no-html -d 'Treats raw HTML as text'
