@@ -2,8 +2,8 @@
 //! tables, and for each other what was expected and what was found.
 //!
 //! A file `.cases` has cases of several lines, `.calls` calls of one line. A file `.txt` has examples in the
-//! form of the CommonMark specification, with the older rules in `older.txt`. docs/testing.md says how to add a
-//! case. After `--once` each text is tried once: whole, as `run` renders and lists it.
+//! form of the CommonMark specification, with the older rules in `older.txt`. docs/testing.md says how to
+//! add a case. After `--once` each text is tried once: whole, as `run` renders and lists it.
 #![tactic(auto)]
 
 mod calls;
