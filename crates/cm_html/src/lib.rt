@@ -10,7 +10,7 @@
 //! use cm_tree::{Doc, has_raw_html};
 //! use std::alloc::Global;
 //!
-//! // The HTML of a document that strangers wrote, or None where it has raw HTML.
+//! // The HTML of a document that strangers wrote, or None if it has raw HTML.
 //! fn shown(alloc: Global, doc: &Doc) -> Result<Option<String>, NoMemory> {
 //!     if has_raw_html(&doc.blocks) {
 //!         return Ok(None);

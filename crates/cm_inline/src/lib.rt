@@ -8,7 +8,7 @@
 //! use cm_tree::{Definitions, Inline, Items};
 //! use std::alloc::Global;
 //!
-//! // The inlines of a paragraph's source, where `[home]` leads to `/`.
+//! // The inlines of a paragraph's source, in which `[home]` links to `/`.
 //! fn read(alloc: Global, source: &str) -> Result<Items<Inline>, InlineFault> {
 //!     let mut definitions = Definitions::new(alloc);
 //!     definitions.add("home", "/", "")?;

@@ -15,13 +15,13 @@
 //! ```
 //! use cm_scan::{atx, autolink};
 //!
-//! // What a heading says that stands in this line.
+//! // The content of the heading on this line.
 //! fn heading(line: &str) -> Option<&str> {
 //!     let (heading, _end) = atx(line, 0)?;
 //!     Some(heading.content)
 //! }
 //!
-//! // Whether the text is an autolink from its front to its end.
+//! // Whether the whole text is an autolink.
 //! fn is_autolink(text: &str) -> bool {
 //!     match autolink(text, 0) {
 //!         Some((_link, end)) => end == text.len(),

@@ -31,7 +31,7 @@
 //!     })
 //! }
 //!
-//! // Whether a heading of the first level stands among the blocks, or in quotes.
+//! // Whether a heading of the first level is among the blocks, or in quotes.
 //! #[cycle(has_title)]
 //! fn has_title(blocks: &Items<Block>) -> bool {
 //!     for block in blocks {
