@@ -120,7 +120,7 @@ impl Reading {
         Ok(true)
     }
 
-    /// Puts the innermost node that is read to the children of the one around it.
+    /// Adds the innermost node that is read to the children of the enclosing one.
     fn close(&mut self) -> Result<bool, Trouble> {
         let Some(open) = self.open.pop() else {
             return Ok(false);

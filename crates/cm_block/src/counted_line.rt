@@ -165,7 +165,7 @@ impl<'a> CountedLine<'a> {
     }
 
     /// Whether the line stays in an open item whose content starts at a column, and if so enters it: it
-    /// reaches the column, or is blank. A blank line ends an item of which there is only the marker (5.2 List
+    /// reaches the column, or is blank. A blank line ends an item with only its marker (5.2 List
     /// items).
     pub(crate) fn stays_in_item(&mut self, column: usize, bare: bool) -> bool
         ensures continuation { (by : all.Rules) → IsInside result (continuation_in_item by column bare

@@ -4,7 +4,7 @@
 //! a lazy line enters all remaining containers at once, and items that follow one another are passed in one
 //! loop over columns. So the indentation of a line is read once, not once for each container.
 //!
-//! Only the innermost container can be an item of which there is only the marker. So one mark on the stack
+//! Only the innermost container can be an item with only its marker. So one mark on the stack
 //! suffices, and no open container changes when a line enters it.
 ghost use Rattle.std.specs.Prelude.{◌≡◌, ◌<◌, ◌≤◌, ◌∷◌, ◌++◌, ◌+◌, ◌&&◌, []};
 ghost use Rattle.std.specs.Prelude.{Bool, true, false, suc, List, length, take, drop, None, OnOk, IfOk};
@@ -260,7 +260,7 @@ fn has_quote(frames: &[Frame]) -> bool
 
 /// The open containers from the outside in, and the level of the innermost: without any, the document's.
 ///
-/// `bare` says that the innermost container is an item of which there is only the marker so far.
+/// `bare` says that the innermost container is an item with only its marker so far.
 #[derive(Debug, Drop)]
 pub(crate) struct Stack {
     alloc: Global,
@@ -443,14 +443,14 @@ impl Stack {
         self.frames.len()
     }
 
-    /// Whether the innermost container is an item of which there is only the marker so far.
+    /// Whether the innermost container is an item with only its marker so far.
     pub(crate) fn is_bare(&self) -> bool
         ensures { result ≡ self.now.bare }
     {
         self.bare
     }
 
-    /// Sets whether the innermost container is an item of which there is only the marker so far.
+    /// Sets whether the innermost container is an item with only its marker so far.
     pub(crate) fn set_bare(&mut self, bare: bool)
         ensures bare { self.new.bare ≡ bare }
         ensures frames { self.new.frames ≡ self.old.frames }

@@ -45,7 +45,7 @@ struct Slot {
     listed: bool,
 }
 
-/// The runs in order, of which any can be removed. A run is read only by a call that counts.
+/// The runs in order. Any can be removed. A run is read only by a call that counts.
 #[derive(Drop)]
 pub(crate) struct DelimiterList {
     slots: Vec<Slot>,

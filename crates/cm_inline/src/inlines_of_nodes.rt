@@ -1,4 +1,4 @@
-//! The inlines that settled nodes become, of which nothing more is made.
+//! The inlines that settled nodes become.
 ghost use Rattle.std.specs.Prelude.{◌≡◌, [], ◌++◌, IfOk, OnOk};
 ghost use Rattle.cm_tree.specs.LinkTargets.{led_to};
 ghost use Rattle.cm_scan.specs.inlines.Pairing.{settled};

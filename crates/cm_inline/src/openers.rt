@@ -102,7 +102,7 @@ pub(crate) fn finish(openers: &mut Openers, closer: Place, run: DelimiterRun, it
     }
 }
 
-/// Removes a closer of which nothing is left.
+/// Removes a closer that is used up.
 pub(crate) fn drop_closer(openers: &mut Openers, closer: Place)
     requires there { is_listed closer openers.old.list.entries ≡ true }
     ensures { Drops openers.old openers.new closer }

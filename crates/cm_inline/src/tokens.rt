@@ -143,7 +143,7 @@ pub(crate) fn push_run(text: &mut String, run: DelimiterRun) -> Result<(), Alloc
     Ok(())
 }
 
-/// The text of an opener of which nothing is made.
+/// The text of an opener that opens nothing.
 pub(crate) fn opener_text(image: bool) -> &'static str
     ensures { result.now ≡ bracket_text image }
 {

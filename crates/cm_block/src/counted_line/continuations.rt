@@ -82,7 +82,7 @@ pub(crate) fn if_lazy<'a>(rules: Rules, line: &View<'a>, open_text: bool) -> Opt
     })
 }
 
-/// The line after the marker of a quote with which it starts, and after one column of space if there is one
+/// The line after the marker of a quote at its start, and after one column of space if there is one
 /// (5.1 Block quotes).
 #[inline(always)]
 pub(crate) fn quote_content<'a>(line: &View<'a>) -> Option<View<'a>>
@@ -104,7 +104,7 @@ pub(crate) fn quote_content<'a>(line: &View<'a>) -> Option<View<'a>>
     Some(content.past(1).strip(1))
 }
 
-/// Whether a line ends an item of which there is only the marker: it is blank.
+/// Whether a line ends an item with only its marker: it is blank.
 pub(crate) fn ends_bare_item(bare: bool, line: &View<'_>) -> bool
     ensures { result ≡ (bare && is_blank (seen_view line.now)) }
 {

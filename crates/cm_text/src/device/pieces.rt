@@ -7,8 +7,8 @@ ghost use Rattle.std.specs.List.{flat_map};
 
 use crate::device::{DeviceFailed, Source};
 
-/// A source in memory, for tests: pieces, of which empty ones are skipped, and then the end or a failure. No
-/// read returns bytes of two pieces.
+/// A source in memory, for tests: pieces, and then the end or a failure. Empty pieces are skipped. No read
+/// returns bytes of two pieces.
 #[derive(Debug, Drop)]
 pub struct Pieces {
     pieces: Vec<Vec<u8>>,
