@@ -87,7 +87,7 @@ fn blank_run(marked: bool) -> RunOwner
     }
 }
 
-/// The owner of a run's lines, up to and including which there are `leaves` leaves.
+/// The owner of a run's lines. There are `leaves` leaves up to the end of the run.
 fn owner_of(leaves: usize, owner: RunOwner) -> Owner
     ensures { result ≡ owner_of leaves owner }
 {

@@ -21,9 +21,8 @@ use cm_text::is_ascii_punct;
 /// The link label at a place in a text, which is the boundary of a character: what is between its
 /// brackets, as it is written, and the place after the right one (CommonMark 0.31.2, 6.3 Links).
 ///
-/// It ends at the first right bracket that no backslash escapes, no such left one is before that, it has at
-/// most 999 characters, and not all of them are spaces, tabs and line feeds. No more than 999 characters are
-/// read if there is none.
+/// It ends at the first unescaped right bracket, contains no unescaped left one, has at most 999 characters,
+/// and not all of them are spaces, tabs and line feeds. No more than 999 characters are read if there is none.
 #[inline(always)]
 pub fn label<'a>(text: &'a str, at: usize) -> Option<(&'a str, usize)>
     requires { IsCharBoundary text.now at }

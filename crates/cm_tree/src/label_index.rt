@@ -53,8 +53,8 @@ impl LabelIndex {
         entries.saturating_sub(self.crowded.len()) >= self.slots.len() / 4
     }
 
-    /// The next number of slots: a power of two in which labels start, and those at the end into which they
-    /// run over.
+    /// The next number of slots: a power of two, which the numbers of labels name, and at their end as many
+    /// as the last ones may need.
     pub(crate) fn next_slots(&self) -> usize {
         self.slots
             .len()

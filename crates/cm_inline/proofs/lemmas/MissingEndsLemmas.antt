@@ -56,7 +56,7 @@ pub word-begins : (word bytes source : List ℕ) (at : ℕ) (told : Bool) → by
 word-begins word bytes source at told same told_is there =
     begins-so word (drop at source) (ap (λ t. starts_with nat_eq (drop at t) word) (sym same) ∙ ap (λ t. starts_with nat_eq t word) (sym (slice_from at bytes)) ∙ sym told_is ∙ there)
 
--- whether a form starts where its first word is
+-- a text starts with the first word of a form
 abbrev Begins : List ℕ → Form → Type 0
 Begins text form = (rest : List ℕ) × (text ≡ start_of form ++ rest)
 
