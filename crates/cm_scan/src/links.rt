@@ -22,7 +22,7 @@ use cm_text::is_ascii_punct;
 /// brackets, as it is written, and the place after the right one (CommonMark 0.31.2, 6.3 Links).
 ///
 /// It ends at the first unescaped right bracket, contains no unescaped left one, has at most 999 characters,
-/// and not all of them are spaces, tabs and line feeds. No more than 999 characters are read if there is none.
+/// and not all of them are spaces, tabs and line feeds. At most 999 characters are read if there is none.
 #[inline(always)]
 pub fn label<'a>(text: &'a str, at: usize) -> Option<(&'a str, usize)>
     requires { IsCharBoundary text.now at }

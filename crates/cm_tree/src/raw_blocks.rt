@@ -7,7 +7,8 @@
 //!
 //! A place has 32 bits, which halves the size of a block. A document that needs more is `TooLarge`; none
 //! within the limits does, because a text has at most 2^30 bytes, each of which becomes at most three.
-ghost use Rattle.std.specs.Prelude.{◌≡◌, ◌<◌, ◌≤◌, ◌+◌, ◌^◌, [], ◌++◌, length, get_or, nat_le, IfOk, IfErr, OnOk};
+ghost use Rattle.std.specs.Prelude.{◌≡◌, ◌<◌, ◌≤◌, ◌+◌, ◌^◌, [], ◌++◌, length, get_or, nat_le};
+ghost use Rattle.std.specs.Prelude.{IfOk, IfErr, OnOk};
 ghost use Rattle.std.specs.List.{slice_range};
 ghost use Rattle.cm_tree.specs.RawBlocks.{raw_inlines, block_in, blocks_in, item_in, items_in};
 ghost use Rattle.cm_tree.specs.RawBlocks.{IsBetween, IsPlaced, ArePlaced, IsItem, AreItems, Grows};
@@ -223,7 +224,8 @@ impl RawBlocks {
         ensures end { IfOk result (λ places. places.1 ≡ length self.new.text) }
         ensures between { IfOk result (λ places. IsBetween self.new.text places.0 places.1) }
         ensures grows { Grows self.old self.new }
-        ensures large { IfErr result (λ fault. fault ≡ faults.TooLarge → 2 ^ 32 ≤ length self.old.text + length text.now) }
+        ensures large { IfErr result (λ fault. fault ≡ faults.TooLarge
+            → 2 ^ 32 ≤ length self.old.text + length text.now) }
     {
         let from = place(self.text.len())?;
         self.put_text(text)?;
@@ -242,7 +244,8 @@ impl RawBlocks {
             block_in self.new block ≡ trees.Paragraph (raw_inlines source.now)) }
         ensures placed { IfOk result (λ block. IsPlaced self.new block) }
         ensures grows { Grows self.old self.new }
-        ensures large { IfErr result (λ fault. fault ≡ faults.TooLarge → 2 ^ 32 ≤ length self.old.text + length source.now) }
+        ensures large { IfErr result (λ fault. fault ≡ faults.TooLarge
+            → 2 ^ 32 ≤ length self.old.text + length source.now) }
     {
         let (from, to) = self.push_text(source)?;
         Ok(RawBlock::Paragraph { from, to })
@@ -259,7 +262,8 @@ impl RawBlocks {
             block_in self.new block ≡ trees.Heading level (raw_inlines source.now)) }
         ensures placed { IfOk result (λ block. IsPlaced self.new block) }
         ensures grows { Grows self.old self.new }
-        ensures large { IfErr result (λ fault. fault ≡ faults.TooLarge → 2 ^ 32 ≤ length self.old.text + length source.now) }
+        ensures large { IfErr result (λ fault. fault ≡ faults.TooLarge
+            → 2 ^ 32 ≤ length self.old.text + length source.now) }
     {
         let (from, to) = self.push_text(source)?;
         Ok(RawBlock::Heading { level, from, to })
@@ -276,7 +280,8 @@ impl RawBlocks {
         ensures block { IfOk result (λ block. block_in self.new block ≡ trees.Code info.now text.now) }
         ensures placed { IfOk result (λ block. IsPlaced self.new block) }
         ensures grows { Grows self.old self.new }
-        ensures large { IfErr result (λ fault. fault ≡ faults.TooLarge → 2 ^ 32 ≤ length self.old.text + length info.now + length text.now) }
+        ensures large { IfErr result (λ fault. fault ≡ faults.TooLarge
+            → 2 ^ 32 ≤ length self.old.text + length info.now + length text.now) }
     {
         let (at, _) = self.push_text(info)?;
         let (behind, to) = self.push_text(text)?;
@@ -297,7 +302,8 @@ impl RawBlocks {
         ensures block { IfOk result (λ block. block_in self.new block ≡ trees.Html text.now) }
         ensures placed { IfOk result (λ block. IsPlaced self.new block) }
         ensures grows { Grows self.old self.new }
-        ensures large { IfErr result (λ fault. fault ≡ faults.TooLarge → 2 ^ 32 ≤ length self.old.text + length text.now) }
+        ensures large { IfErr result (λ fault. fault ≡ faults.TooLarge
+            → 2 ^ 32 ≤ length self.old.text + length text.now) }
     {
         let (from, to) = self.push_text(text)?;
         Ok(RawBlock::Html { from, to })
@@ -315,7 +321,8 @@ impl RawBlocks {
             block_in self.new block ≡ trees.Definition label.now dest.now title.now) }
         ensures placed { IfOk result (λ block. IsPlaced self.new block) }
         ensures grows { Grows self.old self.new }
-        ensures large { IfErr result (λ fault. fault ≡ faults.TooLarge → 2 ^ 32 ≤ length self.old.text + length label.now + length dest.now + length title.now) }
+        ensures large { IfErr result (λ fault. fault ≡ faults.TooLarge
+            → 2 ^ 32 ≤ length self.old.text + length label.now + length dest.now + length title.now) }
     {
         let (first, _) = self.push_text(label)?;
         let (second, _) = self.push_text(dest)?;
@@ -339,7 +346,8 @@ impl RawBlocks {
         ensures item { IfOk result (λ item. item_in self.new item ≡ blocks_in self.old blocks.now) }
         ensures placed { IfOk result (λ item. IsItem self.new item) }
         ensures grows { Grows self.old self.new }
-        ensures large { IfErr result (λ fault. fault ≡ faults.TooLarge → 2 ^ 32 ≤ length self.old.blocks + length blocks.now) }
+        ensures large { IfErr result (λ fault. fault ≡ faults.TooLarge
+            → 2 ^ 32 ≤ length self.old.blocks + length blocks.now) }
     {
         let from = place(self.blocks.len())?;
         self.blocks.extend_from_slice(blocks)?;
@@ -359,7 +367,8 @@ impl RawBlocks {
             block_in self.new block ≡ trees.Quote (blocks_in self.old blocks.now)) }
         ensures placed { IfOk result (λ block. IsPlaced self.new block) }
         ensures grows { Grows self.old self.new }
-        ensures large { IfErr result (λ fault. fault ≡ faults.TooLarge → 2 ^ 32 ≤ length self.old.blocks + length blocks.now) }
+        ensures large { IfErr result (λ fault. fault ≡ faults.TooLarge
+            → 2 ^ 32 ≤ length self.old.blocks + length blocks.now) }
     {
         let RawItem { from, to } = self.item(blocks)?;
         Ok(RawBlock::Quote { from, to })
@@ -382,7 +391,8 @@ impl RawBlocks {
             block_in self.new block ≡ trees.List kind tight (items_in self.old items.now)) }
         ensures placed { IfOk result (λ block. IsPlaced self.new block) }
         ensures grows { Grows self.old self.new }
-        ensures large { IfErr result (λ fault. fault ≡ faults.TooLarge → 2 ^ 32 ≤ length self.old.items + length items.now) }
+        ensures large { IfErr result (λ fault. fault ≡ faults.TooLarge
+            → 2 ^ 32 ≤ length self.old.items + length items.now) }
     {
         let from = place(self.items.len())?;
         self.items.extend_from_slice(items)?;

@@ -5,7 +5,8 @@ ghost use Rattle.cm_block.specs.Prelude.{indent_of, strip_columns, seen_view, is
 ghost use Rattle.cm_block.specs.Prelude.{ItemStart, start_of, may_be_lazy};
 ghost use Rattle.cm_block.specs.Prelude.{continuation_if_lazy, behind_quote_marker, run_length};
 ghost use Rattle.cm_block.specs.Prelude.{continuation_in_quote, content_offset, content_column};
-ghost use Rattle.cm_block.specs.Prelude.{behind_marker, continuation_in_item, first_content, goes_inward, given};
+ghost use Rattle.cm_block.specs.Prelude.{behind_marker, continuation_in_item, first_content};
+ghost use Rattle.cm_block.specs.Prelude.{goes_inward, given};
 ghost use Rattle.cm_text.specs.Rules as all;
 ghost use Rattle.cm_block.specs.steps.LineTests.{Tested};
 ghost use Rattle.cm_block.specs.steps.StartViews.{seen};
