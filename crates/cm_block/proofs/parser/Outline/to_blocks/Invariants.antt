@@ -3,5 +3,5 @@ use Rattle.cm_tree.specs.RawTrees.{all_blocks}
 use Rattle.cm_block.proofs.parser.Outline.to_blocks.Given as goal
 
 -- what was made and what is left come to the whole
-abbrev pub invariant-loop-part : goal.invariant-loop-part
-invariant-loop-part l = l.made ++ all_blocks (drop l.part-index l.parts) ≡ all_blocks l.parts
+abbrev pub invariant-loop-chunk : goal.invariant-loop-chunk
+invariant-loop-chunk l = l.made ++ all_blocks (drop l.chunk-index l.chunks) ≡ all_blocks l.chunks
