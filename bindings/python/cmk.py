@@ -1,10 +1,13 @@
-"""CommonMark 0.31.2 to HTML, to a listing of its tree, or to plain source, by the proved library libcmk.
+"""CommonMark 0.31.2 to HTML, to its tree, or to plain source, by the proved library libcmk.
 
     >>> import cmk
     >>> cmk.html("a & *b*")
     '<p>a &amp; <em>b</em></p>\\n'
+    >>> [node["type"] for node in cmk.walk(cmk.parse("a & *b*"))]
+    ['root', 'paragraph', 'text', 'emphasis', 'text']
 
-Each call takes a `str`, or the bytes of a text, and gives a `str`; threads may call at once. A text that is refused raises `CmkError`.
+Each call takes a `str`, or the bytes of a text; threads may call at once. A text that is refused raises `CmkError`. The tree is mdast, and has
+a type for each node; docs/cmk.md describes their members.
 
 The library is looked for, in this order, as the file that the variable CMK_LIBRARY names, in the folder that `pkg-config
 --variable=libdir cmk` tells, and where the system looks for libcmk.so.0. Where it is in none of them, importing this module says so.
@@ -12,14 +15,25 @@ The library is looked for, in this order, as the file that the variable CMK_LIBR
 
 import ctypes
 import os
+import re
 import subprocess
+from collections.abc import Iterator
+from json import loads as _loads
+from json.decoder import scanstring as _scanstring
+from typing import Literal, Optional, TypedDict, Union
 
 __version__ = "0.1.0"
-__all__ = ["CmkError", "html", "rewrite", "tree", "version"]
+_NODES = """
+    Block Blockquote Break Code Definition Delete Emphasis Heading Html Image Inline InlineCode Link List ListItem Node Paragraph Root Strong
+    Text ThematicBreak
+""".split()
+__all__ = [*_NODES, "CmkError", "html", "json", "parse", "rewrite", "tree", "version", "walk"]
 
 _NAME = "libcmk.so.0"
 _OUT_OF_RANGE = 11
 _LINE_ROOM = 127
+# A word of JSON: a number, true, false or null.
+_WORD = re.compile(r"[-+.\w]+")
 
 
 class _Options(ctypes.Structure):
@@ -72,7 +86,7 @@ def _loaded():
 _library = _loaded()
 _free = ctypes.CDLL(None).free
 _free.argtypes, _free.restype = [ctypes.c_void_p], None
-for _call in (_library.cmk_html, _library.cmk_tree, _library.cmk_rewrite):
+for _call in (_library.cmk_html, _library.cmk_tree, _library.cmk_json, _library.cmk_rewrite):
     _call.argtypes = [ctypes.c_char_p, ctypes.c_size_t, ctypes.POINTER(_Options), ctypes.POINTER(_Output)]
     _call.restype = ctypes.c_uint32
 _library.cmk_fault_text.argtypes = [
@@ -84,6 +98,172 @@ _library.cmk_fault_text.argtypes = [
 ]
 _library.cmk_fault_text.restype = ctypes.c_uint32
 _library.cmk_version.argtypes, _library.cmk_version.restype = [], ctypes.c_uint32
+
+
+class Lines(TypedDict):
+    """The `data` of a leaf: its first and its last line, counted from 1."""
+
+    lines: list[int]
+
+
+class HtmlData(Lines, total=False):
+    finalNewline: bool
+
+
+class CodeData(HtmlData, total=False):
+    info: str
+
+
+class RootData(Lines, total=False):
+    """The `data` of the document: `[1, n]` for n lines, and the lines that have only markers, if there are any."""
+
+    markers: list[int]
+
+
+class ListData(TypedDict):
+    marker: str
+
+
+class TextData(TypedDict):
+    characterReference: bool
+
+
+class ImageData(TypedDict):
+    """The `data` of an image: its description, unless it is empty or one text that isn't."""
+
+    children: list["Inline"]
+
+
+class Root(TypedDict):
+    type: Literal["root"]
+    data: RootData
+    children: list["Block"]
+
+
+class Paragraph(TypedDict):
+    type: Literal["paragraph"]
+    data: Lines
+    children: list["Inline"]
+
+
+class Heading(TypedDict):
+    type: Literal["heading"]
+    data: Lines
+    depth: int
+    children: list["Inline"]
+
+
+class Code(TypedDict):
+    type: Literal["code"]
+    data: CodeData
+    lang: Optional[str]
+    meta: Optional[str]
+    value: str
+
+
+class ThematicBreak(TypedDict):
+    type: Literal["thematicBreak"]
+    data: Lines
+
+
+class Definition(TypedDict):
+    type: Literal["definition"]
+    data: Lines
+    identifier: str
+    label: str
+    url: str
+    title: Optional[str]
+
+
+class Blockquote(TypedDict):
+    type: Literal["blockquote"]
+    children: list["Block"]
+
+
+class List(TypedDict):
+    type: Literal["list"]
+    data: ListData
+    ordered: bool
+    start: Optional[int]
+    spread: bool
+    children: list["ListItem"]
+
+
+class ListItem(TypedDict):
+    type: Literal["listItem"]
+    spread: bool
+    children: list["Block"]
+
+
+class _Html(TypedDict):
+    type: Literal["html"]
+    value: str
+
+
+class Html(_Html, total=False):
+    """An HTML block, or raw HTML among inlines, which has no `data`."""
+
+    data: HtmlData
+
+
+class _Text(TypedDict):
+    type: Literal["text"]
+    value: str
+
+
+class Text(_Text, total=False):
+    """Text, or a soft line break, which is one line feed. `data` is there if a character reference makes that line feed."""
+
+    data: TextData
+
+
+class Break(TypedDict):
+    type: Literal["break"]
+
+
+class Emphasis(TypedDict):
+    type: Literal["emphasis"]
+    children: list["Inline"]
+
+
+class Strong(TypedDict):
+    type: Literal["strong"]
+    children: list["Inline"]
+
+
+class Delete(TypedDict):
+    type: Literal["delete"]
+    children: list["Inline"]
+
+
+class InlineCode(TypedDict):
+    type: Literal["inlineCode"]
+    value: str
+
+
+class Link(TypedDict):
+    type: Literal["link"]
+    url: str
+    title: Optional[str]
+    children: list["Inline"]
+
+
+class _Image(TypedDict):
+    type: Literal["image"]
+    url: str
+    title: Optional[str]
+    alt: Optional[str]
+
+
+class Image(_Image, total=False):
+    """An image. `alt` is None only in the description of another."""
+
+    data: ImageData
+
+
+Block = Union[Paragraph, Heading, Code, Html, ThematicBreak, Definition, Blockquote, List]
+Inline = Union[Text, Break, Emphasis, Strong, Delete, InlineCode, Html, Link, Image]
+Node = Union[Root, Block, ListItem, Inline]
 
 
 class CmkError(Exception):
@@ -137,7 +317,7 @@ def _called(call, text, options):
         _free(output.bytes)
 
 
-def html(text, **options):
+def html(text, **options) -> str:
     """Returns the HTML of a text, as `cmk render` writes it.
 
     `bytes` is the greatest length of the text in UTF-8, 1 to 2^30; 2^28 if it is left out. `blocks` is how many quotes and list items may
@@ -152,12 +332,77 @@ def html(text, **options):
     return _called(_library.cmk_html, text, options)
 
 
-def tree(text, **options):
+def tree(text, **options) -> str:
     """Returns the listing of the tree of a text and of the owners of its lines, as `cmk tree` writes it. Else as `html`."""
     return _called(_library.cmk_tree, text, options)
 
 
-def rewrite(text, **options):
+def json(text, **options) -> str:
+    """Returns the tree of a text in JSON, as `cmk tree --json` writes it, without the line feed at its end. Else as `html`.
+
+    >>> json("---")
+    '{"type":"root","data":{"lines":[1,1]},"children":[{"type":"thematicBreak","data":{"lines":[1,1]}}]}'
+    """
+    return _called(_library.cmk_json, text, options)
+
+
+def parse(text, **options) -> Root:
+    """Returns the tree of a text as dictionaries and lists: the values of `json`, however deep they nest. Else as `html`.
+
+    >>> parse("# a")["children"][0]["depth"]
+    1
+    """
+    tree = json(text, **options)
+    try:
+        return _loads(tree)
+    except RecursionError:
+        return _read(tree)
+
+
+def _read(text):
+    """Returns the value of a JSON text that nests too deep for the reader of Python's json, which recurses."""
+    whole, key, at = [], None, 0
+    around = [whole]
+    while at < len(text):
+        sign, at = text[at], at + 1
+        if sign in "]}":
+            around.pop()
+        if sign in "]},: \t\r\n":
+            continue
+        inside = around[-1]
+        if sign == '"':
+            value, at = _scanstring(text, at)
+        elif sign in "[{":
+            value = [] if sign == "[" else {}
+            around.append(value)
+        else:
+            word = _WORD.match(text, at - 1)
+            value, at = _loads(word[0]), word.end()
+        if isinstance(inside, list):
+            inside.append(value)
+        elif key is None:
+            key = value
+        else:
+            inside[key], key = value, None
+    return whole[0]
+
+
+def walk(tree: Node) -> Iterator[Node]:
+    """Iterates over a node and all nodes inside it, in the order of the text and however deep they nest.
+
+    The description of an image is passed over: HTML has only its text, which is in `alt`.
+
+    >>> [node["url"] for node in walk(parse("[a](/b) *![c](/d)*")) if node["type"] in ("link", "image")]
+    ['/b', '/d']
+    """
+    left = [tree]
+    while left:
+        node = left.pop()
+        yield node
+        left.extend(reversed(node.get("children", ())))
+
+
+def rewrite(text, **options) -> str:
     """Returns plain source of the tree of a text without its definitions, as `cmk rewrite` writes it.
 
     Raises `CmkError` as `html` does, and where the tree can't be spelled, with the number 8. Else as `html`.
@@ -165,7 +410,7 @@ def rewrite(text, **options):
     return _called(_library.cmk_rewrite, text, options)
 
 
-def version():
+def version() -> str:
     """Returns the version of the library that is loaded, as '0.1.0'."""
     number = _library.cmk_version()
     return f"{number >> 16}.{number >> 8 & 255}.{number & 255}"
