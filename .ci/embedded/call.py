@@ -1,9 +1,9 @@
 """Calls libcmk for .ci/embedding by bindings/python.
 
-  call.py html|tree|rewrite BYTES BLOCKS INLINES FLAGS     on standard input: its output, or the line of its fault and status 1; FLAGS has
-                                             0 or 1 for each of older, strike, no_html and web_links. The text is given as bytes, and as a
-                                             str if it is one, also with lone surrogates; status 3 if the two differ
-  call.py threads                                          four threads at once
+  call.py html|tree|json|rewrite BYTES BLOCKS INLINES FLAGS     on standard input: its output, or the line of its fault and status 1;
+                      FLAGS has 0 or 1 for each of older, strike, no_html and web_links. The text is given as bytes, and as a str if it is
+                      one, also with lone surrogates; status 3 if the two differ
+  call.py threads     four threads at once
 """
 
 import contextlib

@@ -1,8 +1,8 @@
 //! Calls libcmk for .ci/embedding by bindings/rust.
 //!
-//!   call html|tree|rewrite BYTES BLOCKS INLINES FLAGS     on standard input: its output, or the line of its fault and status 1; FLAGS has
-//!                                                         0 or 1 for each of older, strike, no_html and web_links
-//!   call threads                                          four threads at once
+//!   call html|tree|json|rewrite BYTES BLOCKS INLINES FLAGS     on standard input: its output, or the line of its fault and status 1;
+//!                     FLAGS has 0 or 1 for each of older, strike, no_html and web_links
+//!   call threads      four threads at once
 use std::io::{self, Read, Write};
 use std::process::ExitCode;
 
@@ -39,6 +39,7 @@ fn main() -> io::Result<ExitCode> {
     let given = match words[1].as_str() {
         "html" => cmk::html(&text, &options),
         "tree" => cmk::tree(&text, &options),
+        "json" => cmk::json(&text, &options),
         _ => cmk::rewrite(&text, &options),
     };
     match given {

@@ -1,4 +1,4 @@
-//! CommonMark 0.31.2 to HTML, to a listing of its tree, or to plain source, by the proved library libcmk.
+//! CommonMark 0.31.2 to HTML, to its tree, as a listing or in JSON, or to plain source, by the proved library libcmk.
 //!
 //! ```
 //! use cmk::Options;
@@ -69,6 +69,7 @@ type Call = unsafe extern "C" fn(*const u8, usize, *const Options, *mut Output) 
 extern "C" {
     fn cmk_html(text: *const u8, length: usize, options: *const Options, output: *mut Output) -> u32;
     fn cmk_tree(text: *const u8, length: usize, options: *const Options, output: *mut Output) -> u32;
+    fn cmk_json(text: *const u8, length: usize, options: *const Options, output: *mut Output) -> u32;
     fn cmk_rewrite(text: *const u8, length: usize, options: *const Options, output: *mut Output) -> u32;
     fn cmk_fault_text(number: u32, place: usize, room: *mut u8, size: usize, filled: *mut Filled) -> u32;
     fn cmk_version() -> u32;
@@ -166,6 +167,19 @@ pub fn html(text: impl AsRef<[u8]>, options: &Options) -> Result<Text, Error> {
 /// The listing of the tree of a text and of the owners of its lines, as `cmk tree` writes it.
 pub fn tree(text: impl AsRef<[u8]>, options: &Options) -> Result<Text, Error> {
     called(cmk_tree, text.as_ref(), options)
+}
+
+/// The tree of a text in JSON, as `cmk tree --json` writes it, without the line feed at its end.
+///
+/// ```
+/// let json = cmk::json("---", &cmk::Options::default()).unwrap();
+/// assert_eq!(
+///     &*json,
+///     r#"{"type":"root","data":{"lines":[1,1]},"children":[{"type":"thematicBreak","data":{"lines":[1,1]}}]}"#
+/// );
+/// ```
+pub fn json(text: impl AsRef<[u8]>, options: &Options) -> Result<Text, Error> {
+    called(cmk_json, text.as_ref(), options)
 }
 
 /// Plain source of the tree of a text without its definitions, as `cmk rewrite` writes it. A tree that can't be spelled is the error 8.
