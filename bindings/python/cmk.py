@@ -15,12 +15,10 @@ The library is looked for, in this order, as the file that the variable CMK_LIBR
 
 import ctypes
 import os
-import re
 import subprocess
 from collections.abc import Iterator
-from json import loads as _loads
-from json.decoder import scanstring as _scanstring
-from typing import Literal, Optional, TypedDict, Union
+from json import JSONDecoder as _JSONDecoder
+from typing import Any, Literal, Optional, TypedDict, Union
 
 __version__ = "0.1.0"
 _NODES = """
@@ -32,8 +30,7 @@ __all__ = [*_NODES, "CmkError", "html", "json", "parse", "rewrite", "tree", "ver
 _NAME = "libcmk.so.0"
 _OUT_OF_RANGE = 11
 _LINE_ROOM = 127
-# A word of JSON: a number, true, false or null.
-_WORD = re.compile(r"[-+.\w]+")
+_decoder = _JSONDecoder()
 
 
 class _Options(ctypes.Structure):
@@ -354,30 +351,29 @@ def parse(text, **options) -> Root:
     """
     tree = json(text, **options)
     try:
-        return _loads(tree)
+        return _decoder.decode(tree)
     except RecursionError:
         return _read(tree)
 
 
-def _read(text):
-    """Returns the value of a JSON text that nests too deep for the reader of Python's json, which recurses."""
-    whole, key, at = [], None, 0
-    around = [whole]
+def _read(text: str) -> Any:
+    """Returns the value of a JSON text that nests too deep for Python's reader, which recurses. That reads its strings and numbers."""
+    whole: list[Any] = []
+    around: list[Any] = [whole]
+    value: Any
+    key, at = None, 0
     while at < len(text):
-        sign, at = text[at], at + 1
+        sign, inside = text[at], around[-1]
         if sign in "]}":
             around.pop()
-        if sign in "]},: \t\r\n":
+        if sign in "]},:":
+            at += 1
             continue
-        inside = around[-1]
-        if sign == '"':
-            value, at = _scanstring(text, at)
-        elif sign in "[{":
-            value = [] if sign == "[" else {}
+        if sign in "[{":
+            value, at = [] if sign == "[" else {}, at + 1
             around.append(value)
         else:
-            word = _WORD.match(text, at - 1)
-            value, at = _loads(word[0]), word.end()
+            value, at = _decoder.raw_decode(text, at)
         if isinstance(inside, list):
             inside.append(value)
         elif key is None:
@@ -397,7 +393,7 @@ def walk(tree: Node) -> Iterator[Node]:
     """
     left = [tree]
     while left:
-        node = left.pop()
+        node: Any = left.pop()
         yield node
         left.extend(reversed(node.get("children", ())))
 
