@@ -37,31 +37,89 @@ pub type Lines = (usize, usize);
 #[serde(try_from = "Members")]
 pub enum Node {
     /// The document. `lines` is `(1, n)` for n lines, and `markers` has the lines that have only markers.
-    Root { lines: Lines, markers: Vec<usize>, children: Vec<Node> },
-    Paragraph { lines: Lines, children: Vec<Node> },
-    Heading { lines: Lines, depth: u8, children: Vec<Node> },
+    Root {
+        lines: Lines,
+        markers: Vec<usize>,
+        children: Vec<Node>,
+    },
+    Paragraph {
+        lines: Lines,
+        children: Vec<Node>,
+    },
+    Heading {
+        lines: Lines,
+        depth: u8,
+        children: Vec<Node>,
+    },
     /// A code block. `info` is there if it is neither `lang` nor `lang`, a space and `meta`. `value` has all line feeds.
-    Code { lines: Lines, lang: Option<String>, meta: Option<String>, info: Option<String>, value: String },
+    Code {
+        lines: Lines,
+        lang: Option<String>,
+        meta: Option<String>,
+        info: Option<String>,
+        value: String,
+    },
     /// An HTML block, with all line feeds.
-    HtmlBlock { lines: Lines, value: String },
-    ThematicBreak { lines: Lines },
-    Definition { lines: Lines, label: String, url: String, title: Option<String> },
-    Blockquote { children: Vec<Node> },
+    HtmlBlock {
+        lines: Lines,
+        value: String,
+    },
+    ThematicBreak {
+        lines: Lines,
+    },
+    Definition {
+        lines: Lines,
+        label: String,
+        url: String,
+        title: Option<String>,
+    },
+    Blockquote {
+        children: Vec<Node>,
+    },
     /// A list. `marker` is `-`, `+` or `*`, or follows the numbers of a list that has a `start`.
-    List { marker: char, start: Option<u32>, spread: bool, children: Vec<Node> },
-    ListItem { spread: bool, children: Vec<Node> },
-    Text { value: String },
+    List {
+        marker: char,
+        start: Option<u32>,
+        spread: bool,
+        children: Vec<Node>,
+    },
+    ListItem {
+        spread: bool,
+        children: Vec<Node>,
+    },
+    Text {
+        value: String,
+    },
     SoftBreak,
     Break,
-    Emphasis { children: Vec<Node> },
-    Strong { children: Vec<Node> },
-    Delete { children: Vec<Node> },
-    InlineCode { value: String },
+    Emphasis {
+        children: Vec<Node>,
+    },
+    Strong {
+        children: Vec<Node>,
+    },
+    Delete {
+        children: Vec<Node>,
+    },
+    InlineCode {
+        value: String,
+    },
     /// Raw HTML among inlines.
-    Html { value: String },
-    Link { url: String, title: Option<String>, children: Vec<Node> },
+    Html {
+        value: String,
+    },
+    Link {
+        url: String,
+        title: Option<String>,
+        children: Vec<Node>,
+    },
     /// An image. `children` is its description; `alt` is `None` only in the description of another.
-    Image { url: String, title: Option<String>, alt: Option<String>, children: Vec<Node> },
+    Image {
+        url: String,
+        title: Option<String>,
+        alt: Option<String>,
+        children: Vec<Node>,
+    },
 }
 
 impl Node {
@@ -119,7 +177,8 @@ impl TryFrom<Members> for Node {
     type Error = String;
 
     fn try_from(members: Members) -> Result<Node, String> {
-        let Members { r#type, data, children, depth, lang, meta, mut value, label, url, title, start, spread, alt } = members;
+        let Members { r#type, data, children, depth, lang, meta, mut value, label, url, title, start, spread, alt } =
+            members;
         let lines = data.lines.unwrap_or_default();
         if matches!((&*r#type, data.lines), ("code" | "html", Some(_))) && data.final_newline != Some(false) {
             value.push('\n');
