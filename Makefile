@@ -4,6 +4,8 @@
 #   make check                              runs the tests, and proves nothing
 #   make install PREFIX=/usr/local DESTDIR= installs them, with the header, the man pages, the completions and cmk.pc
 #   make uninstall PREFIX= DESTDIR=         removes all of these
+#   make dist, make deb, make wheel         write a release's archive, its packages for Debian, its wheel for Python into dist/
+#   make verify DIST=FILE                   compares a file of a release, or its SHA256SUMS, with what is made here
 #
 # With BUILD= the program and libcmk_c.a must be built already; nothing is proved. The merge gate is .ci/run.
 
@@ -30,6 +32,7 @@ HEAP := $(KIT)/c/liblibc_c.a
 PROGRAM := crates/cmk/out/cmk
 CRATE := crates/cmk_c/out/libcmk_c.a
 OUT := out
+RECORD = $(OUT)/record
 
 # A path as one word of the shell, and the same of a file that is installed.
 quoted = '$(subst ','\'',$(1))'
@@ -38,7 +41,8 @@ ifneq (,$(filter ~%,$(firstword $(PREFIX)) $(firstword $(DESTDIR))))
 $(error ~ isn't expanded in PREFIX and DESTDIR: write $$HOME)
 endif
 
-.PHONY: all proved check install uninstall clean
+.PHONY: all proved check install uninstall record dist deb wheel verify clean
+.NOTPARALLEL:
 
 all: $(OUT)/libcmk.a $(OUT)/$(SHARED) $(OUT)/cmk.pc
 
@@ -95,6 +99,17 @@ uninstall:
 	rm -f $(call installed,$(MANDIR)/man1/cmk.1) $(call installed,$(MANDIR)/man3/cmk.3)
 	rm -f $(call installed,$(BASHDIR)/cmk) $(call installed,$(ZSHDIR)/_cmk) $(call installed,$(FISHDIR)/cmk.fish)
 
+# What the prover said of each crate, for PROOF.txt.
+record:
+	@mkdir -p $(OUT)
+	@$(if $(BUILD),tools/build.py --record $(RECORD),test -r $(RECORD))
+
+dist deb wheel: record
+	@packaging/release.py --record $(RECORD) $@
+
+verify: record
+	@packaging/release.py --record $(RECORD) verify $(if $(DIST),$(call quoted,$(DIST)))
+
 # The proved program and library stay.
 clean:
-	rm -rf $(OUT)
+	rm -rf $(OUT) dist

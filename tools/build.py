@@ -1,11 +1,14 @@
 #!/usr/bin/env python3
 """Proves and builds the program cmk and the static library of cmk_c, or one of the two.
 
-  tools/build.py [cmk] [cmk_c]
+  tools/build.py [--record FILE] [cmk] [cmk_c]
 
 It proves each crate from nothing, and builds it for the crates above without its proofs. A proved crate is kept in ~/.cache/cmk, or in
 $XDG_CACHE_HOME/cmk, under a checksum of everything it was made from. So an interrupted build resumes at the last finished crate, and
 another copy of the same sources proves nothing again. Anyone who can write to that folder is trusted. Messages go to standard error.
+
+With --record, FILE gets the name of the kit, and on a line each the crates with the prover's verdicts, which are kept too. A crate that was
+kept without its verdict is proved again.
 
 Where `rt check` has left its work in each library, `rt run` builds over that: a developer's next program takes what has changed, and no
 library is kept for each edit. A kit without the options that are needed here has `rt run` prove the crates one after another.
@@ -22,6 +25,7 @@ import signal
 import subprocess
 import sys
 import tempfile
+import threading
 import time
 
 TOP = pathlib.Path(__file__).resolve().parent.parent
@@ -52,10 +56,14 @@ TIMES = {
 }
 # A crate takes twice this memory, in kB, and once more for each job after the first.
 ROOM = 1536 * 1024
-# The store keeps this many entries of each name.
+# The store keeps this many entries of each name, each with the prover's last line on it.
 KEPT = 2
+VERDICT = "verdict"
 # A file's modification time may lag behind the clock by this many seconds.
 TICK = 0.02
+# A program can't be run while it is open for writing, and a process that starts has open what any thread writes. So this is held where a
+# process starts, and where a program is copied.
+STARTING = threading.Lock()
 
 
 class Failed(Exception):
@@ -177,9 +185,11 @@ class Kit:
 
 
 class Store:
-    """What was built on this machine: a folder for each crate, named after it and its checksum."""
+    """What was built on this machine: a folder for each crate, named after it and its checksum. If verdicts are asked for, a crate without
+    one counts for nothing."""
 
-    def __init__(self):
+    def __init__(self, with_verdicts=False):
+        self.with_verdicts = with_verdicts
         cache = os.environ.get("XDG_CACHE_HOME") or os.path.expanduser("~/.cache")
         own = made_of(PROGRAM).parent / "proved"
         for folder in ([pathlib.Path(cache) / "cmk"] if os.path.isabs(cache) else []) + [own]:
@@ -211,11 +221,20 @@ class Store:
         return self.folder / f"{name}-{checksum}"
 
     def has(self, name, checksum):
-        return self.place(name, checksum).is_dir()
+        place = self.place(name, checksum)
+        return (place / VERDICT).is_file() if self.with_verdicts else place.is_dir()
+
+    def verdict(self, name, checksum):
+        """Returns the prover's last line on a crate."""
+        return (self.place(name, checksum) / VERDICT).read_text().strip()
 
     def keep(self, made, name, checksum):
-        """Moves a folder into the store, which keeps the last few of each name."""
-        made.rename(self.place(name, checksum))
+        """Moves a folder into the store, which keeps the last few of each name. One that is there already only gets the verdict."""
+        place = self.place(name, checksum)
+        if place.is_dir():
+            shutil.copy2(made / VERDICT, place)
+            return
+        made.rename(place)
         for old in sorted(self.folder.glob(f"{name}-*"), key=lambda it: it.stat().st_mtime)[:-KEPT]:
             shutil.rmtree(old, ignore_errors=True)
 
@@ -231,7 +250,7 @@ class Processes:
         self.guard = subprocess.Popen(["sh", "-c", at_end], stdin=subprocess.PIPE, preexec_fn=os.setpgrp, **nowhere)
 
     def start(self, words, folder, log, **more):
-        with log.open("ab") as to:
+        with log.open("ab") as to, STARTING:
             how = {"cwd": folder, "stdin": subprocess.DEVNULL, "stdout": to, "stderr": subprocess.STDOUT, **more}
             self.started.append(subprocess.Popen(words, preexec_fn=lambda: os.setpgid(0, self.guard.pid), **how))
         return self.started[-1]
@@ -273,6 +292,13 @@ class Making:
             return True
         return False
 
+    def write_verdict(self):
+        """Writes the prover's last line into the folder."""
+        found = re.findall(r"(?m)^logic=proved .*", self.log.read_text(errors="replace"))
+        if not found:
+            raise Failed(f"the kit has built {self.crate.name} and gave no verdict")
+        (self.made / VERDICT).write_text(f"{found[-1]}\n")
+
 
 class Progress:
     """Shows the progress: on a terminal in one line that is rewritten, elsewhere in a line a minute."""
@@ -304,7 +330,7 @@ class Build:
 
     def __init__(self, targets, plan, sums, kit, store):
         self.plan, self.sums, self.kit, self.store = plan, sums, kit, store
-        needed = crates(*(it for it in targets if not store.has(it, sums[it])))
+        needed = plan if store.with_verdicts else crates(*(it for it in targets if not store.has(it, sums[it])))
         self.waiting = [it for it in plan if it in needed and not store.has(it, sums[it])]
         self.total = len(self.waiting)
         self.running = {}
@@ -370,6 +396,7 @@ class Build:
                 continue
             if self.plan[name].sum(self.kit, [self.sums[below] for below in self.plan[name].below]) != self.sums[name]:
                 raise Failed(f"a source of {name} changed while it was being proved: run this again")
+            it.write_verdict()
             self.store.keep(it.made, name, self.sums[name])
             del self.running[name]
             self.took += time.monotonic() - it.began
@@ -403,7 +430,8 @@ def take(target, checksum, store):
     """Copies a target from the store into its folder."""
     made = made_of(target)
     new = made.with_name("new")
-    shutil.copy2(store.place(target, checksum) / MADE[target], new)
+    with STARTING:
+        shutil.copy2(store.place(target, checksum) / MADE[target], new)
     new.replace(made)
 
 
@@ -425,11 +453,13 @@ def is_built(target, checksum, kit):
 def obtain(targets, plan, sums, kit, store):
     """Puts the targets into their folders: from the store, once everything they depend on is proved."""
     build = Build(targets, plan, sums, kit, store)
-    is_developed = all(it.keeps_work() for it in plan.values() if it.name not in MADE)
+    is_developed = not store.with_verdicts and all(it.keeps_work() for it in plan.values() if it.name not in MADE)
     lacking = None if is_developed or not build.total else kit.lacking()
     what = "what has changed" if all(made_of(it).exists() for it in targets) else "every function"
     if not build.total:
         tell(f"these sources are proved already: taking {' and '.join(targets)} from {store.folder}")
+    elif lacking and store.with_verdicts:
+        raise Failed(f"this kit has no {lacking}, so there is no verdict on each crate")
     elif is_developed or lacking:
         why = f"because this kit has no {lacking}" if lacking else "on top of the work that rt check has left"
         tell(f"proving {what} with rt, {why}")
@@ -443,21 +473,24 @@ def obtain(targets, plan, sums, kit, store):
         take(target, sums[target], store)
 
 
-def prove(targets):
-    """Proves and builds those targets that aren't built from the present sources with the present kit."""
+def prove(targets, record=None):
+    """Proves and builds those targets that aren't built from the present sources with the present kit. A record is of what the store has, so
+    with one all are taken from there."""
     for target in targets:
         made_of(target).parent.mkdir(parents=True, exist_ok=True)
-    plan, kit, store = crates(*targets), Kit(), Store()
+    plan, kit, store = crates(*targets), Kit(), Store(with_verdicts=record is not None)
     store.wait("lock", "proves it")
     since = time.time() - TICK
     sums = sums_of(plan, kit)
-    stale = [it for it in targets if not is_built(it, sums[it], kit)]
+    stale = [it for it in targets if record or not is_built(it, sums[it], kit)]
     for target in stale:
         (made_of(target).parent / "built").unlink(missing_ok=True)
     if stale:
         obtain(stale, plan, sums, kit, store)
     for target in targets:
         mark(target, sums[target], kit, since)
+    if record:
+        record.write_text("\n".join([kit.identity, *(f"{name} {store.verdict(name, sums[name])}" for name in plan), ""]))
 
 
 def outcome(work):
@@ -484,11 +517,13 @@ def outcome(work):
 
 def main():
     given = argparse.ArgumentParser(prog="tools/build.py", description="Proves and builds the targets; without any, both.")
+    given.add_argument("--record", type=pathlib.Path, metavar="FILE", help="write the kit and the verdict on each crate to FILE")
     given.add_argument("targets", nargs="*", metavar="TARGET", help=" or ".join(MADE))
-    targets = given.parse_args().targets or list(MADE)
+    asked = given.parse_args()
+    targets = asked.targets or list(MADE)
     if not set(targets) <= set(MADE):
         given.error(f"a target is {' or '.join(MADE)}")
-    return outcome(lambda: prove(targets))
+    return outcome(lambda: prove(targets, asked.record))
 
 
 if __name__ == "__main__":

@@ -51,7 +51,8 @@ def try_program(name, kit, work, made, processes):
             processes.kill(HINTS)
             time.sleep(0.1)
         for program in work.glob("*/*/program"):
-            shutil.copy2(program, made)
+            with build.STARTING:
+                shutil.copy2(program, made)
         os.close(number)
     if not made.exists():
         raise build.Failed("this kit's rt try has its program elsewhere, so nothing was run: run 'make'")

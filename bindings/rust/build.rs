@@ -1,14 +1,26 @@
-//! Finds libcmk: in the folder that the variable CMK_LIB_DIR names, or where pkg-config says.
+//! Finds libcmk: the static one in the folder that the variable CMK_LIB_DIR names, or without it the installed one by pkg-config.
 
-use std::process::Command;
+use std::env;
+use std::path::Path;
+use std::process::{Command, ExitCode};
 
-fn main() {
-    println!("cargo:rerun-if-env-changed=CMK_LIB_DIR");
-    println!("cargo:rerun-if-env-changed=PKG_CONFIG_PATH");
-    let folder = std::env::var("CMK_LIB_DIR").ok().or_else(told_by_pkg_config);
-    let folder = folder.expect("there is no libcmk that pkg-config knows: install it, or let CMK_LIB_DIR name its folder");
-    println!("cargo:rustc-link-search=native={folder}");
-    println!("cargo:rustc-link-lib=cmk");
+fn main() -> ExitCode {
+    for name in ["CMK_LIB_DIR", "PKG_CONFIG_PATH", "PKG_CONFIG_LIBDIR"] {
+        println!("cargo:rerun-if-env-changed={name}");
+    }
+    let found = match env::var("CMK_LIB_DIR") {
+        Ok(folder) => Path::new(&folder).join("libcmk.a").exists().then(|| (folder, "static")),
+        Err(_) => told_by_pkg_config().map(|folder| (folder, "dylib")),
+    };
+    if let Some((folder, kind)) = found {
+        println!("cargo:rustc-link-search=native={folder}");
+        println!("cargo:rustc-link-lib={kind}=cmk");
+        return ExitCode::SUCCESS;
+    }
+    eprintln!(
+        "Install libcmk so that pkg-config finds cmk, or let the variable CMK_LIB_DIR name the folder of libcmk.a."
+    );
+    ExitCode::FAILURE
 }
 
 /// The folder of the library, as pkg-config reports it.

@@ -19,10 +19,17 @@
 //! assert_eq!(&*html, "<p>&lt;b&gt;a&lt;/b&gt; [b](javascript:c)</p>\n");
 //! ```
 
+#![warn(missing_docs)]
+
 use std::fmt;
 use std::ops::Deref;
 
 /// What is asked of a reading. The default, all zero, has the standard limits and rules.
+///
+/// ```
+/// let options = cmk::Options { blocks: 1, ..cmk::Options::default() };
+/// assert_eq!(cmk::html("> > a", &options).unwrap_err().to_string(), "cmk: F3 blocks too deep on line 1");
+/// ```
 #[repr(C)]
 #[derive(Clone, Copy, Debug, Default, PartialEq, Eq)]
 pub struct Options {
@@ -38,7 +45,7 @@ pub struct Options {
     pub strike: bool,
     /// Whether raw HTML is text.
     pub no_html: bool,
-    /// Whether links with a scheme other than http, https or mailto are text.
+    /// Whether links that don't lead to the web are text, as with `cmk --web-links`.
     pub web_links: bool,
 }
 
@@ -103,6 +110,11 @@ impl fmt::Display for Error {
 impl std::error::Error for Error {}
 
 /// An output of the library, seen as a string. Its memory is freed when it is dropped.
+///
+/// ```
+/// let html = cmk::html("a", &cmk::Options::default()).unwrap();
+/// assert!(html.starts_with("<p>") && html.to_string() == *html);
+/// ```
 pub struct Text(Output);
 
 // SAFETY: an output is a block of memory of its own, which nothing writes.
@@ -141,7 +153,7 @@ impl fmt::Display for Text {
 impl Drop for Text {
     fn drop(&mut self) {
         // SAFETY: the bytes are a block of malloc, and nothing refers to them any more.
-        unsafe { free(self.0.bytes.cast_mut()) }
+        unsafe { free(self.0.bytes as *mut u8) }
     }
 }
 
@@ -160,11 +172,20 @@ fn called(call: Call, text: &[u8], options: &Options) -> Result<Text, Error> {
 }
 
 /// The HTML of a text, as `cmk render` writes it.
+///
+/// ```
+/// assert_eq!(&*cmk::html("a & *b*", &cmk::Options::default()).unwrap(), "<p>a &amp; <em>b</em></p>\n");
+/// ```
 pub fn html(text: impl AsRef<[u8]>, options: &Options) -> Result<Text, Error> {
     called(cmk_html, text.as_ref(), options)
 }
 
 /// The listing of the tree of a text and of the owners of its lines, as `cmk tree` writes it.
+///
+/// ```
+/// let listing = cmk::tree("# a", &cmk::Options::default()).unwrap();
+/// assert_eq!(&*listing, "heading 1\n  text \"a\"\nowner 1 leaf 1\n");
+/// ```
 pub fn tree(text: impl AsRef<[u8]>, options: &Options) -> Result<Text, Error> {
     called(cmk_tree, text.as_ref(), options)
 }
@@ -183,11 +204,20 @@ pub fn json(text: impl AsRef<[u8]>, options: &Options) -> Result<Text, Error> {
 }
 
 /// Plain source of the tree of a text without its definitions, as `cmk rewrite` writes it. A tree that can't be spelled is the error 8.
+///
+/// ```
+/// assert_eq!(&*cmk::rewrite("a\n===\n", &cmk::Options::default()).unwrap(), "# a\n");
+/// assert_eq!(cmk::rewrite("*a **b***", &cmk::Options::default()).unwrap_err().number, 8);
+/// ```
 pub fn rewrite(text: impl AsRef<[u8]>, options: &Options) -> Result<Text, Error> {
     called(cmk_rewrite, text.as_ref(), options)
 }
 
 /// The three numbers of the version of the library that is linked.
+///
+/// ```
+/// assert_eq!(cmk::version().0, env!("CARGO_PKG_VERSION_MAJOR").parse().unwrap());
+/// ```
 pub fn version() -> (u32, u32, u32) {
     // SAFETY: the call asks for nothing.
     let number = unsafe { cmk_version() };

@@ -9,23 +9,28 @@
 Each call takes a `str`, or the bytes of a text; threads may call at once. A text that is refused raises `CmkError`. The tree is mdast, and has
 a type for each node; docs/cmk.md describes their members.
 
-The library is looked for, in this order, as the file that the variable CMK_LIBRARY names, in the folder that `pkg-config
---variable=libdir cmk` tells, and where the system looks for libcmk.so.0. Where it is in none of them, importing this module says so.
+The library is the first of these that exists: the file that the variable CMK_LIBRARY names, libcmk.so.0 beside this file, where a wheel has
+it, the one in the folder that `pkg-config --variable=libdir cmk` reports, and the libcmk.so.0 that the system finds. If there is none,
+importing this package fails with an `ImportError` that says so.
 """
 
 import ctypes
 import os
 import subprocess
-from collections.abc import Iterator
+from collections.abc import Callable, Iterator
 from json import JSONDecoder as _JSONDecoder
-from typing import Any, Literal, Optional, TypedDict, Union
+from typing import TYPE_CHECKING, Any, Literal, Optional, TypedDict, Union
 
-__version__ = "0.1.0"
-_NODES = """
-    Block Blockquote Break Code Definition Delete Emphasis Heading Html Image Inline InlineCode Link List ListItem Node Paragraph Root Strong
-    Text ThematicBreak
-""".split()
-__all__ = [*_NODES, "CmkError", "html", "json", "parse", "rewrite", "tree", "version", "walk"]
+if TYPE_CHECKING:
+    from typing_extensions import Unpack
+
+# fmt: off
+__all__ = [
+    "Block", "Blockquote", "Break", "CmkError", "Code", "Definition", "Delete", "Emphasis", "Heading", "Html", "Image", "Inline", "InlineCode",
+    "Link", "List", "ListItem", "Node", "Options", "Paragraph", "Root", "Source", "Strong", "Text", "ThematicBreak", "html", "json", "parse",
+    "rewrite", "tree", "version", "walk",
+]
+# fmt: on
 
 _NAME = "libcmk.so.0"
 _OUT_OF_RANGE = 11
@@ -58,8 +63,11 @@ class _Filled(ctypes.Structure):
     _fields_ = [("length", ctypes.c_size_t), ("place", ctypes.c_size_t)]
 
 
-def _folder():
-    """Returns the folder that pkg-config reports, or None."""
+def _folder() -> Optional[str]:
+    """Returns the folder of the library: this one, or the one that pkg-config reports, or None."""
+    own = os.path.dirname(os.path.abspath(__file__))
+    if os.path.exists(os.path.join(own, _NAME)):
+        return own
     try:
         words = ["pkg-config", "--variable=libdir", "cmk"]
         told = subprocess.run(words, stdout=subprocess.PIPE, stderr=subprocess.DEVNULL, text=True, check=False)
@@ -68,9 +76,9 @@ def _folder():
     return told.stdout.strip() if told.returncode == 0 else None
 
 
-def _loaded():
+def _loaded() -> ctypes.CDLL:
     """Returns the library."""
-    named, folder = os.environ.get("CMK_LIBRARY"), None
+    named = os.environ.get("CMK_LIBRARY")
     if not named:
         folder = _folder()
         named = os.path.join(folder, _NAME) if folder else _NAME
@@ -262,23 +270,53 @@ Block = Union[Paragraph, Heading, Code, Html, ThematicBreak, Definition, Blockqu
 Inline = Union[Text, Break, Emphasis, Strong, Delete, InlineCode, Html, Link, Image]
 Node = Union[Root, Block, ListItem, Inline]
 
+Source = Union[str, bytes, bytearray, memoryview]
+
+
+class Options(TypedDict, total=False):
+    """The options of a call.
+
+    `bytes` is the greatest length of the text in UTF-8, 1 to 2^30; 2^28 if it is left out. `blocks` is how many quotes and list items may
+    enclose a line, and `inlines` how deep emphasis, links and images may nest, each 1 to 500; 100 if it is left out. `older` selects the
+    older rules, and `strike` reads text between two tildes as struck through. `no_html` reads raw HTML as text, `web_links` links that
+    don't lead to the web, and `safe` both.
+
+    >>> html("~~a~~ <b>", strike=True, safe=True)
+    '<p><del>a</del> &lt;b&gt;</p>\\n'
+    """
+
+    bytes: int
+    blocks: int
+    inlines: int
+    older: bool
+    strike: bool
+    no_html: bool
+    web_links: bool
+    safe: bool
+
 
 class CmkError(Exception):
     """Why there is no output.
 
     `number` is what the library returned, as include/cmk.h has it: 1 for bytes that aren't UTF-8, and so on. `place` is the byte, the line
-    or the leaf, or the number of the reason. `line` is the line that the program prints, as 'cmk: F1 not UTF-8 at byte 2'.
+    or the leaf, or the number of the reason. `line` is the line that the program prints.
+
+    >>> try:
+    ...     html(bytes([97, 98, 255]))
+    ... except CmkError as error:
+    ...     print(error.number, error.place, error.line)
+    1 2 cmk: F1 not UTF-8 at byte 2
     """
 
-    def __init__(self, number, place):
+    def __init__(self, number: int, place: int) -> None:
         self.number, self.place, self.line = number, place, _line(number, place)
         super().__init__(self.line)
 
-    def __reduce__(self):
+    def __reduce__(self) -> tuple[type["CmkError"], tuple[int, int]]:
         return (CmkError, (self.number, self.place))
 
 
-def _line(number, place):
+def _line(number: int, place: int) -> str:
     """Returns the line for a returned number, without its line feed."""
     room, filled = ctypes.create_string_buffer(_LINE_ROOM), _Filled()
     if _library.cmk_fault_text(number, place, room, _LINE_ROOM, ctypes.byref(filled)):
@@ -286,14 +324,23 @@ def _line(number, place):
     return room.raw[: filled.length].decode().rstrip("\n")
 
 
-def _encoded(text):
+def _encoded(text: Source) -> bytes:
     """Returns the bytes of a text. The library refuses those of a lone surrogate, since they aren't UTF-8."""
     if isinstance(text, str):
         return text.encode(errors="surrogatepass")
     return text if isinstance(text, bytes) else bytes(memoryview(text))
 
 
-def _asked(bytes=1 << 28, blocks=100, inlines=100, older=False, strike=False, no_html=False, web_links=False, safe=False):
+def _asked(
+    bytes: int = 1 << 28,
+    blocks: int = 100,
+    inlines: int = 100,
+    older: bool = False,
+    strike: bool = False,
+    no_html: bool = False,
+    web_links: bool = False,
+    safe: bool = False,
+) -> _Options:
     """Returns the options as the library takes them."""
     # It takes 0 for the default, and ctypes cuts a wide number.
     if not (1 <= bytes <= 1 << 30 and 1 <= blocks <= 500 and 1 <= inlines <= 500):
@@ -301,7 +348,7 @@ def _asked(bytes=1 << 28, blocks=100, inlines=100, older=False, strike=False, no
     return _Options(bytes, blocks, inlines, older, strike, no_html or safe, web_links or safe)
 
 
-def _called(call, text, options):
+def _called(call: Callable[..., int], text: Source, options: Options) -> str:
     """Returns the output of a call for a text."""
     asked, given, output, nothing = _asked(**options), _encoded(text), _Output(), ctypes.c_char(0)
     output.bytes = ctypes.addressof(nothing)
@@ -314,27 +361,32 @@ def _called(call, text, options):
         _free(output.bytes)
 
 
-def html(text, **options) -> str:
+def html(text: Source, **options: "Unpack[Options]") -> str:
     """Returns the HTML of a text, as `cmk render` writes it.
 
-    `bytes` is the greatest length of the text in UTF-8, 1 to 2^30; 2^28 if it is left out. `blocks` is how many quotes and list items may
-    enclose a line, and `inlines` how deep emphasis, links and images may nest, each 1 to 500; 100 if it is left out. `older` selects the
-    older rules, and `strike` reads text between two tildes as struck through. `no_html` reads raw HTML as text, `web_links` links with a
-    scheme other than http, https or mailto, and `safe` both.
+    >>> html("<b>a</b> [b](javascript:c)", safe=True)
+    '<p>&lt;b&gt;a&lt;/b&gt; [b](javascript:c)</p>\\n'
 
-    Raises `CmkError` if the text has a fault, memory runs out, or a number is out of range. A `str` with a lone surrogate isn't UTF-8.
+    `Options` describes the options. Raises `CmkError` if the text has a fault, memory runs out, or a number is out of range. A `str` with a lone surrogate isn't UTF-8.
 
     Without `safe`, raw HTML in the text is written unchanged, and `javascript:` links stay.
     """
     return _called(_library.cmk_html, text, options)
 
 
-def tree(text, **options) -> str:
-    """Returns the listing of the tree of a text and of the owners of its lines, as `cmk tree` writes it. Else as `html`."""
+def tree(text: Source, **options: "Unpack[Options]") -> str:
+    """Returns the listing of the tree of a text and of the owners of its lines, as `cmk tree` writes it. Else as `html`.
+
+    >>> print(tree("# *a*"), end="")
+    heading 1
+      emph
+        text "a"
+    owner 1 leaf 1
+    """
     return _called(_library.cmk_tree, text, options)
 
 
-def json(text, **options) -> str:
+def json(text: Source, **options: "Unpack[Options]") -> str:
     """Returns the tree of a text in JSON, as `cmk tree --json` writes it, without the line feed at its end. Else as `html`.
 
     >>> json("---")
@@ -343,17 +395,19 @@ def json(text, **options) -> str:
     return _called(_library.cmk_json, text, options)
 
 
-def parse(text, **options) -> Root:
+def parse(text: Source, **options: "Unpack[Options]") -> Root:
     """Returns the tree of a text as dictionaries and lists: the values of `json`, however deep they nest. Else as `html`.
 
     >>> parse("# a")["children"][0]["depth"]
     1
     """
     tree = json(text, **options)
+    root: Root
     try:
-        return _decoder.decode(tree)
+        root = _decoder.decode(tree)
     except RecursionError:
-        return _read(tree)
+        root = _read(tree)
+    return root
 
 
 def _read(text: str) -> Any:
@@ -398,15 +452,25 @@ def walk(tree: Node) -> Iterator[Node]:
         left.extend(reversed(node.get("children", ())))
 
 
-def rewrite(text, **options) -> str:
+def rewrite(text: Source, **options: "Unpack[Options]") -> str:
     """Returns plain source of the tree of a text without its definitions, as `cmk rewrite` writes it.
 
     Raises `CmkError` as `html` does, and where the tree can't be spelled, with the number 8. Else as `html`.
+
+    >>> rewrite("a\\n===\\n")
+    '# a\\n'
     """
     return _called(_library.cmk_rewrite, text, options)
 
 
 def version() -> str:
-    """Returns the version of the library that is loaded, as '0.1.0'."""
-    number = _library.cmk_version()
+    """Returns the version of the library that is loaded, three numbers. `__version__` is the same.
+
+    >>> len(version().split("."))
+    3
+    """
+    number: int = _library.cmk_version()
     return f"{number >> 16}.{number >> 8 & 255}.{number & 255}"
+
+
+__version__ = version()

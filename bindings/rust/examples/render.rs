@@ -1,4 +1,4 @@
-//! Writes the HTML of standard input, by the crate in bindings/rust.
+//! Writes the HTML of standard input: cargo run --example render < FILE
 use std::io::{self, Read, Write};
 use std::process::ExitCode;
 

@@ -1,0 +1,85 @@
+"""What the scripts that try the built program and library share: counting points, running commands, and what is built."""
+
+import os
+import pathlib
+import shlex
+import shutil
+import subprocess
+import sys
+
+TOP = pathlib.Path(__file__).resolve().parent.parent
+sys.path.insert(0, str(TOP / "tools"))
+import build  # noqa: E402
+
+PROGRAM, ARCHIVE = TOP / "crates/cmk/out/cmk", TOP / "crates/cmk_c/out/libcmk_c.a"
+# Folders whose names a careless script or recipe takes apart.
+FOLDERS = ["a folder", "l'été"]
+
+
+class Points:
+    """What was tried, and how it went."""
+
+    def __init__(self):
+        self.passed = self.failed = self.skipped = 0
+
+    def say(self, name, mistake):
+        self.passed, self.failed = self.passed + (not mistake), self.failed + bool(mistake)
+        print(f"FAILED: {name}: {mistake}" if mistake else f"ok: {name}", flush=True)
+
+    def skip(self, name, tool):
+        self.skipped += 1
+        print(f"skipped: {name}: there is no {tool}", flush=True)
+
+
+class Run:
+    """The result of a command."""
+
+    def __init__(self, words, given=b"", environment=None, folder=None):
+        how = {"cwd": folder, "input": given, "stdout": subprocess.PIPE, "stderr": subprocess.PIPE, "env": {**os.environ, **(environment or {})}}
+        ran = subprocess.run([str(it) for it in words], timeout=7200, check=False, **how)
+        self.status, self.wrote, self.said = ran.returncode, ran.stdout, ran.stderr
+
+    def mistake(self):
+        """Returns what the command said and its status, if that isn't 0."""
+        return None if self.status == 0 else f"status {self.status}: {(self.said or self.wrote).decode(errors='replace')[-500:].strip()}"
+
+    def answer(self):
+        return self.status, self.wrote, self.said
+
+
+def is_current(made):
+    """Returns whether no source is newer than what was made of it."""
+    sources = [TOP / "crates.txt", *(it for part in build.PARTS for it in TOP.glob(f"crates/*/{part}/**/*"))]
+    return made.exists() and all(it.stat().st_mtime <= made.stat().st_mtime for it in sources)
+
+
+def build_archive(room):
+    """Builds the static library over the libraries that rt ci left in the crates' folders, or else as make does. Returns what went wrong."""
+    if is_current(ARCHIVE):
+        return None
+    plan = build.crates(build.LIBRARY)
+    below = {it: TOP / "crates" / it / "out/rlib" for it in plan if it != build.LIBRARY}
+    if not all((folder / f"{it}.rlib").is_dir() for it, folder in below.items()):
+        return Run([TOP / "tools/build.py", build.LIBRARY]).mistake()
+    (words,) = build.Kit().steps(plan[build.LIBRARY], below, 1, room)
+    mistake = Run(words, folder=TOP / "crates/cmk_c").mistake()
+    if not mistake:
+        ARCHIVE.parent.mkdir(exist_ok=True)
+        shutil.copy(room / ARCHIVE.name, ARCHIVE)
+    return mistake
+
+
+def copy_built(top):
+    """Copies the repository with the program and the static library into a folder, as if `make` had built them there."""
+    shutil.copytree(TOP, top, ignore=shutil.ignore_patterns(".git", "out", "dist", "target", "__pycache__"))
+    for made in (PROGRAM, ARCHIVE):
+        to = top / made.relative_to(TOP)
+        to.parent.mkdir()
+        shutil.copy(made, to)
+    (top / PROGRAM.relative_to(TOP)).with_name("built").write_text(f"{build.Kit().identity}\n")
+
+
+def flags_of(environment):
+    """Returns the words for the compiler and for the linker. pkg-config puts a backslash before each byte of a letter beyond ASCII."""
+    told = [Run(["pkg-config", f"--{it}", "cmk"], environment=environment).wrote for it in ("cflags", "libs")]
+    return [shlex.split(os.fsdecode(it)) for it in told]
