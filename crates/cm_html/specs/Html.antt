@@ -9,6 +9,8 @@ use Rattle.cm_tree.specs.declared.tree.Block.TheOpen as block
 use Rattle.cm_tree.specs.declared.tree.Block.TheFolds.{fold-Block}
 use Rattle.cm_tree.specs.declared.tree.ListKind.{ListKind}
 use Rattle.cm_tree.specs.declared.tree.ListKind.TheVariants.{Dash, Plus, Star, Dot, Paren}
+use Rattle.cm_html.specs.declared.elements.Element.TheVariants.{Paragraph, Quote, Item, Code, Emph, Strong, Strike}
+use Rattle.cm_html.specs.Elements.{element_html}
 use Rattle.cm_html.specs.Escape.{escape, destination_html, class_word}
 
 -- What an inline writes: its HTML, and its part of the alternative text of an image.
@@ -26,20 +28,7 @@ join_plain [] = []
 join_plain (inline ∷ inlines) = inline.plain ++ join_plain inlines
 
 abbrev pub code_span_html : List ℕ → List ℕ
-code_span_html text = codes "<code>" ++ escape text ++ codes "</code>"
-
--- HTML between a start tag and an end tag
-abbrev pub between : List ℕ → List ℕ → List ℕ → List ℕ
-between start html end = start ++ html ++ end
-
-abbrev pub emph_html : List ℕ → List ℕ
-emph_html html = between (codes "<em>") html (codes "</em>")
-
-abbrev pub strong_html : List ℕ → List ℕ
-strong_html html = between (codes "<strong>") html (codes "</strong>")
-
-abbrev pub strike_html : List ℕ → List ℕ
-strike_html html = between (codes "<del>") html (codes "</del>")
+code_span_html text = element_html Code (escape text)
 
 -- the `title` attribute, or nothing if the title is empty
 abbrev pub title_html : List ℕ → List ℕ
@@ -68,9 +57,9 @@ inline_step (inline.Code text) = record { html = code_span_html text; plain = te
 inline_step (inline.Html text) = record { html = text; plain = text }
 inline_step inline.Soft = record { html = codes "\n"; plain = codes " " }
 inline_step inline.Hard = record { html = codes "<br />\n"; plain = codes " " }
-inline_step (inline.Emph content) = record { html = emph_html (join_html content); plain = join_plain content }
-inline_step (inline.Strong content) = record { html = strong_html (join_html content); plain = join_plain content }
-inline_step (inline.Strike content) = record { html = strike_html (join_html content); plain = join_plain content }
+inline_step (inline.Emph content) = record { html = element_html Emph (join_html content); plain = join_plain content }
+inline_step (inline.Strong content) = record { html = element_html Strong (join_html content); plain = join_plain content }
+inline_step (inline.Strike content) = record { html = element_html Strike (join_html content); plain = join_plain content }
 inline_step (inline.Link dest title content) = record { html = link_html dest title (join_html content); plain = join_plain content }
 inline_step (inline.Image dest title content) = record { html = image_html dest title (join_plain content); plain = join_plain content }
 
@@ -83,7 +72,7 @@ abbrev pub inlines_html : List Inline → List ℕ
 inlines_html inlines = join_html (map rendered inlines)
 
 abbrev pub paragraph_html : List ℕ → List ℕ
-paragraph_html html = codes "<p>" ++ html ++ codes "</p>\n"
+paragraph_html html = element_html Paragraph html
 
 -- the start tag of a heading
 abbrev pub heading_start : ℕ → List ℕ
@@ -108,8 +97,11 @@ code_start (b ∷ bs) = class_start (b ∷ bs)
 abbrev pub code_html : List ℕ → List ℕ → List ℕ
 code_html info text = code_start (class_word info) ++ escape text ++ codes "</code></pre>\n"
 
+abbrev pub break_html : List ℕ
+break_html = codes "<hr />\n"
+
 abbrev pub quote_html : List ℕ → List ℕ
-quote_html html = codes "<blockquote>\n" ++ html ++ codes "</blockquote>\n"
+quote_html html = element_html Quote html
 
 -- What a block writes: nothing, if it is a definition; the inlines of a paragraph; or its HTML.
 pub data Written : Type 0 where
@@ -158,7 +150,7 @@ inside true ws = line_feed_before (shown ws) ++ tight_blocks (shown ws)
 inside false ws = loose_blocks (shown ws)
 
 abbrev pub item_html : Bool → List Written → List ℕ
-item_html tight item = codes "<li>" ++ inside tight item ++ codes "</li>\n"
+item_html tight item = element_html Item (inside tight item)
 
 abbrev pub items_html : Bool → List (List Written) → List ℕ
 items_html tight [] = []
@@ -189,7 +181,7 @@ block_step (block.Paragraph content) = Inlines (inlines_html content)
 block_step (block.Heading level content) = Whole (heading_html level (inlines_html content))
 block_step (block.Code info text) = Whole (code_html info text)
 block_step (block.Html text) = Whole text
-block_step block.Break = Whole (codes "<hr />\n")
+block_step block.Break = Whole break_html
 block_step (block.Definition label dest title) = Nothing
 block_step (block.Quote blocks) = Whole (quote_html (all_alone blocks))
 block_step (block.List kind tight items) = Whole (list_start kind ++ items_html tight items ++ list_end kind)

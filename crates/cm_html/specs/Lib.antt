@@ -1,3 +1,4 @@
+pub mod Elements
 pub mod Escape
 pub mod Forms
 pub mod Html

@@ -1,6 +1,7 @@
 -- What writing a text to a sink returns, and what has been written then.
 use Rattle.std.specs.Prelude.{◌≡◌, ℕ, List, length, Result, Ok, Err}
-use Rattle.cm_text.specs.Writing.{SinkView, IsUnwritten, Wrote, WroteFront}
+use Rattle.cm_text.specs.DeviceViews.{SinkView}
+use Rattle.cm_text.specs.Writing.{IsUnwritten, Wrote, WroteFront}
 use Rattle.cm_html.specs.declared.fault.HtmlFault.{HtmlFault}
 use Rattle.cm_html.specs.declared.fault.HtmlFault.TheVariants.{NoMemory, WriteFailed}
 

@@ -4,7 +4,9 @@ ghost use Rattle.std.specs.Fmt.{decimal};
 ghost use Rattle.cm_html.specs.Html.{list_start, list_end, ordered_start, inlines_html, written, alone};
 ghost use Rattle.cm_html.specs.Html.{html_of, paragraph_html, heading_start, heading_end, heading_html};
 ghost use Rattle.cm_html.specs.Html.{class_start, code_start, code_html, quote_html, item_html, inside};
+ghost use Rattle.cm_html.specs.Html.{break_html};
 
+use crate::elements::Element;
 use crate::escape::class_word;
 use crate::inlines::push_inlines;
 use crate::pages::Pages;
@@ -36,7 +38,7 @@ pub fn push_block(out: &mut Pages, block: &Block) -> Result<(), AllocError>
         Block::Heading { level, content } => push_heading(out, *level, content.as_slice()),
         Block::Code { info, text } => push_code(out, info.as_str(), text.as_str()),
         Block::Html { text } => out.push_str(text.as_str()),
-        Block::Break => out.push_str("<hr />\n"),
+        Block::Break => push_break(out),
         Block::Definition { .. } => Ok(()),
         Block::Quote(blocks) => push_quote(out, blocks.as_slice()),
         Block::List { kind, tight, items } => {
@@ -49,12 +51,24 @@ pub fn push_block(out: &mut Pages, block: &Block) -> Result<(), AllocError>
     }
 }
 
+/// Adds a thematic break, and a line feed.
+///
+/// # Errors
+///
+/// As `push_block`.
+#[inline(always)]
+pub fn push_break(out: &mut Pages) -> Result<(), AllocError>
+    ensures { OnOk result (out.new ≡ out.old ++ break_html) }
+{
+    out.push_str("<hr />\n")
+}
+
 fn push_paragraph(out: &mut Pages, content: &[Inline]) -> Result<(), AllocError>
     ensures { OnOk result (out.new ≡ out.old ++ paragraph_html (inlines_html content.now)) }
 {
-    out.push_str("<p>")?;
+    out.push_str(Element::Paragraph.start())?;
     push_inlines(out, content)?;
-    out.push_str("</p>\n")
+    out.push_str(Element::Paragraph.end())
 }
 
 fn push_heading(out: &mut Pages, level: u8, content: &[Inline]) -> Result<(), AllocError>
@@ -127,22 +141,22 @@ pub fn push_code(out: &mut Pages, info: &str, text: &str) -> Result<(), AllocErr
 fn push_quote(out: &mut Pages, blocks: &[Block]) -> Result<(), AllocError>
     ensures { OnOk result (out.new ≡ out.old ++ quote_html (html_of blocks.now)) }
 {
-    out.push_str("<blockquote>\n")?;
+    out.push_str(Element::Quote.start())?;
     push_blocks(out, blocks)?;
-    out.push_str("</blockquote>\n")
+    out.push_str(Element::Quote.end())
 }
 
 #[cycle(blocks)]
 fn push_item(out: &mut Pages, tight: bool, blocks: &[Block]) -> Result<(), AllocError>
     ensures { OnOk result (out.new ≡ out.old ++ item_html tight (map written blocks.now)) }
 {
-    out.push_str("<li>")?;
+    out.push_str(Element::Item.start())?;
     if tight {
         push_tight(out, blocks)?;
     } else {
         push_loose(out, blocks)?;
     }
-    out.push_str("</li>\n")
+    out.push_str(Element::Item.end())
 }
 
 /// Writes the blocks of an item of a tight list.

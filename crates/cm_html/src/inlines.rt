@@ -2,10 +2,12 @@
 ghost use Rattle.std.specs.Prelude.{◌≡◌, ◌++◌, codes, OnOk};
 ghost use Rattle.cm_tree.specs.LinkTargets.{led_to};
 ghost use Rattle.cm_html.specs.Escape.{escape, destination_html};
-ghost use Rattle.cm_html.specs.Html.{Rendered, rendered, inlines_html, code_span_html, between};
+ghost use Rattle.cm_html.specs.Elements.{element_html};
+ghost use Rattle.cm_html.specs.Html.{Rendered, rendered, inlines_html, code_span_html};
 ghost use Rattle.cm_html.specs.Html.{title_html, link_start, link_html, image_start, image_html};
 ghost use Rattle.cm_html.specs.steps.AlternativeText.{alternative_text};
 
+use crate::elements::Element;
 use crate::forms::Form;
 use crate::pages::Pages;
 use cm_tree::{Inline, LinkTarget};
@@ -33,44 +35,38 @@ fn push_inline(out: &mut Pages, inline: &Inline) -> Result<(), AllocError>
         Inline::Html(text) => out.push_str(text.as_str()),
         Inline::Soft => out.push_str("\n"),
         Inline::Hard => out.push_str("<br />\n"),
-        Inline::Emph(content) => push_between(out, "<em>", content.as_slice(), "</em>"),
-        Inline::Strong(content) => push_between(out, "<strong>", content.as_slice(), "</strong>"),
-        Inline::Strike(content) => push_between(out, "<del>", content.as_slice(), "</del>"),
+        Inline::Emph(content) => push_element(out, Element::Emph, content.as_slice()),
+        Inline::Strong(content) => push_element(out, Element::Strong, content.as_slice()),
+        Inline::Strike(content) => push_element(out, Element::Strike, content.as_slice()),
         Inline::Link {
             dest,
             title,
             content,
-        } => push_link(out, LinkTarget::Shared { dest, title }, content.as_slice()),
+        } => push_link(out, LinkTarget::new(dest, title), content.as_slice()),
         Inline::Image {
             dest,
             title,
             content,
-        } => push_image(out, LinkTarget::Shared { dest, title }, content.as_slice()),
+        } => push_image(out, LinkTarget::new(dest, title), content.as_slice()),
     }
 }
 
 fn push_code_span(out: &mut Pages, text: &str) -> Result<(), AllocError>
     ensures { OnOk result (out.new ≡ out.old ++ code_span_html text.now) }
 {
-    out.push_str("<code>")?;
+    out.push_str(Element::Code.start())?;
     out.push_escaped(text)?;
-    out.push_str("</code>")
+    out.push_str(Element::Code.end())
 }
 
-/// Writes inlines between two tags.
+/// Writes inlines in an element.
 #[cycle(inlines)]
-fn push_between(
-    out: &mut Pages,
-    start: &str,
-    content: &[Inline],
-    end: &str,
-) -> Result<(), AllocError>
-    ensures { OnOk result (out.new
-        ≡ out.old ++ between start.now (inlines_html content.now) end.now) }
+fn push_element(out: &mut Pages, element: Element, content: &[Inline]) -> Result<(), AllocError>
+    ensures { OnOk result (out.new ≡ out.old ++ element_html element (inlines_html content.now)) }
 {
-    out.push_str(start)?;
+    out.push_str(element.start())?;
     push_inlines(out, content)?;
-    out.push_str(end)
+    out.push_str(element.end())
 }
 
 /// Adds the destination of a link, as the value of an attribute.
@@ -80,7 +76,7 @@ fn push_dest(out: &mut Pages, target: LinkTarget<'_>) -> Result<(), AllocError>
 {
     match target {
         LinkTarget::Plain { dest, .. } => out.push_in_form(Form::Destination, dest),
-        LinkTarget::Shared { dest, .. } => out.push_formed(Form::Destination, dest),
+        LinkTarget::Shared { dest, .. } => out.push_shared(Form::Destination, dest),
     }
 }
 
@@ -90,7 +86,7 @@ fn push_title(out: &mut Pages, target: LinkTarget<'_>) -> Result<(), AllocError>
 {
     match target {
         LinkTarget::Plain { title, .. } => out.push_escaped(title),
-        LinkTarget::Shared { title, .. } => out.push_formed(Form::Escaped, title),
+        LinkTarget::Shared { title, .. } => out.push_shared(Form::Escaped, title),
     }
 }
 
@@ -109,7 +105,7 @@ fn push_title_behind(out: &mut Pages, target: LinkTarget<'_>) -> Result<(), Allo
 }
 
 /// Adds the start tag of a link with this destination, and its title unless that is empty. Long texts that
-/// have other owners are held once.
+/// are shared are held once.
 ///
 /// # Errors
 ///
@@ -133,8 +129,7 @@ fn push_link(out: &mut Pages, target: LinkTarget<'_>, content: &[Inline]) -> Res
     out.push_str("</a>")
 }
 
-/// Adds an image with this destination, up to its alternative text. A long text that has other owners is held
-/// once.
+/// Adds an image with this destination, up to its alternative text. A long text that is shared is held once.
 ///
 /// # Errors
 ///

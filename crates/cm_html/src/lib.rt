@@ -21,6 +21,7 @@
 #![tactic(auto)]
 
 mod blocks;
+mod elements;
 mod escape;
 mod fault;
 mod forms;
@@ -36,11 +37,13 @@ mod search;
 mod writing;
 
 pub use blocks::{
-    push_block, push_code, push_heading_end, push_heading_start, push_list_end, push_list_start,
+    push_block, push_break, push_code, push_heading_end, push_heading_start, push_list_end,
+    push_list_start,
 };
+pub use elements::Element;
 pub use fault::HtmlFault;
 pub use forms::Form;
 pub use inlines::{push_image_end, push_image_start, push_link_start};
-pub use listings::listing;
+pub use listings::{listing, push_listed_block, push_listed_owners};
 pub use pages::Pages;
 pub use rendering::{html, write_html, write_listing};

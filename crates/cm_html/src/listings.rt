@@ -43,18 +43,29 @@ pub(crate) fn push_document(out: &mut Pages, doc: &Doc) -> Result<(), AllocError
     ensures { OnOk result (out.new ≡ out.old ++ listing_of doc.now.blocks doc.now.owners) }
 {
     push_parted(out, doc.blocks.as_slice())?;
-    push_owners(out, doc.owners.as_slice())
+    push_listed_owners(out, doc.owners.as_slice())
 }
 
-/// Writes the blocks of the top level, and turns the page between them.
+/// Writes the blocks of the top level.
 fn push_parted(out: &mut Pages, blocks: &[Block]) -> Result<(), AllocError>
     ensures { OnOk result (out.new ≡ out.old ++ listed_blocks 0 blocks.now) }
 {
     for block in blocks {
-        push_block(out, 0, block)?;
-        out.turn()?;
+        push_listed_block(out, block)?;
     }
     Ok(())
+}
+
+/// Adds the listing of a block of the top level, and turns the page.
+///
+/// # Errors
+///
+/// As `Pages::push_str`.
+pub fn push_listed_block(out: &mut Pages, block: &Block) -> Result<(), AllocError>
+    ensures { OnOk result (out.new ≡ out.old ++ listed block.now 0) }
+{
+    push_block(out, 0, block)?;
+    out.turn()
 }
 
 /// Writes texts between quotes, each after a space.
@@ -287,7 +298,12 @@ fn push_owner_line(out: &mut Pages, number: usize, owner: Owner) -> Result<(), A
     out.push_str("\n")
 }
 
-fn push_owners(out: &mut Pages, owners: &[Owner]) -> Result<(), AllocError>
+/// Adds a line for each line of the source, with its owner, and turns the page between them.
+///
+/// # Errors
+///
+/// As `Pages::push_str`.
+pub fn push_listed_owners(out: &mut Pages, owners: &[Owner]) -> Result<(), AllocError>
     ensures { OnOk result (out.new ≡ out.old ++ owners_from 1 owners.now) }
 {
     for (index, owner) in owners.iter().enumerate() {

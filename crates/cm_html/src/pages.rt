@@ -159,8 +159,23 @@ impl Pages {
     pub fn push_formed(&mut self, form: Form, text: &BoxedText) -> Result<(), AllocError>
         ensures { OnOk result (self.new ≡ self.old ++ formed form text.now) }
     {
+        if text.is_shared() {
+            return self.push_shared(form, text);
+        }
+        self.last.push_in_form(form, text.as_str())
+    }
+
+    /// Adds a text in a form. Where it is long, it is formed once, and held once: the same text may be added
+    /// again.
+    ///
+    /// # Errors
+    ///
+    /// As `push_str`.
+    pub fn push_shared(&mut self, form: Form, text: &BoxedText) -> Result<(), AllocError>
+        ensures { OnOk result (self.new ≡ self.old ++ formed form text.now) }
+    {
         let bytes = text.as_str();
-        if bytes.len() < INSERTED || !text.is_shared() {
+        if bytes.len() < INSERTED {
             return self.last.push_in_form(form, bytes);
         }
         let inserted = self.formed.form(form, text)?;
@@ -198,10 +213,8 @@ impl Pages {
     /// `HtmlFault::WriteFailed` if one write failed: then the first `written` bytes were written.
     /// `HtmlFault::NoMemory` if the text has more bytes than a `usize` counts, and then nothing was written.
     pub fn write<W: Sink>(&self, sink: &mut W) -> Result<usize, HtmlFault>
-        requires { W.failed sink.old < 2 ^ 64 - 1 }
-        ensures { WritesText result self.now
-            (record { taken = W.taken sink.old; failed = W.failed sink.old })
-            (record { taken = W.taken sink.new; failed = W.failed sink.new }) }
+        requires { (W.seen sink.old).failed < 2 ^ 64 - 1 }
+        ensures { WritesText result self.now (W.seen sink.old) (W.seen sink.new) }
     {
         let full = self.full.as_slice();
         let Some(len) = len_of(full, &self.last) else {

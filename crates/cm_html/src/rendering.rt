@@ -55,10 +55,8 @@ fn listing_pages(alloc: Global, doc: &Doc) -> Result<Pages, NoMemory>
 /// On `HtmlFault::WriteFailed` the first `written` bytes of the HTML were written, and on
 /// `HtmlFault::NoMemory` nothing.
 pub fn write_html<W: Sink>(alloc: Global, doc: &Doc, sink: &mut W) -> Result<usize, HtmlFault>
-    requires { W.failed sink.old < 2 ^ 64 - 1 }
-    ensures { WritesText result (html_of doc.now.blocks)
-        (record { taken = W.taken sink.old; failed = W.failed sink.old })
-        (record { taken = W.taken sink.new; failed = W.failed sink.new }) }
+    requires { (W.seen sink.old).failed < 2 ^ 64 - 1 }
+    ensures { WritesText result (html_of doc.now.blocks) (W.seen sink.old) (W.seen sink.new) }
 {
     html_pages(alloc, doc)?.write(sink)
 }
@@ -68,10 +66,9 @@ pub fn write_html<W: Sink>(alloc: Global, doc: &Doc, sink: &mut W) -> Result<usi
 /// On `HtmlFault::WriteFailed` the first `written` bytes of the listing were written, and on
 /// `HtmlFault::NoMemory` nothing.
 pub fn write_listing<W: Sink>(alloc: Global, doc: &Doc, sink: &mut W) -> Result<usize, HtmlFault>
-    requires { W.failed sink.old < 2 ^ 64 - 1 }
+    requires { (W.seen sink.old).failed < 2 ^ 64 - 1 }
     ensures { WritesText result (listing_of doc.now.blocks doc.now.owners)
-        (record { taken = W.taken sink.old; failed = W.failed sink.old })
-        (record { taken = W.taken sink.new; failed = W.failed sink.new }) }
+        (W.seen sink.old) (W.seen sink.new) }
 {
     listing_pages(alloc, doc)?.write(sink)
 }

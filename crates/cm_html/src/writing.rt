@@ -8,11 +8,9 @@ use cm_text::{Sink, WriteFailed, write_all};
 
 /// Writes a piece after `written` bytes. Returns the number of bytes written then.
 fn write_piece<W: Sink>(sink: &mut W, written: usize, piece: &[u8]) -> Result<usize, WriteFailed>
-    requires failed { W.failed sink.old < 2 ^ 64 - 1 }
+    requires failed { (W.seen sink.old).failed < 2 ^ 64 - 1 }
     requires counted { written + length piece.now < 2 ^ 64 }
-    ensures { WritesMore result written piece.now
-        (record { taken = W.taken sink.old; failed = W.failed sink.old })
-        (record { taken = W.taken sink.new; failed = W.failed sink.new }) }
+    ensures { WritesMore result written piece.now (W.seen sink.old) (W.seen sink.new) }
 {
     match write_all(sink, piece) {
         Ok(()) => Ok(written + piece.len()),
@@ -29,11 +27,9 @@ fn write_both<W: Sink>(
     first: &[u8],
     second: &[u8],
 ) -> Result<usize, WriteFailed>
-    requires failed { W.failed sink.old < 2 ^ 64 - 1 }
+    requires failed { (W.seen sink.old).failed < 2 ^ 64 - 1 }
     requires counted { written + length (first.now ++ second.now) < 2 ^ 64 }
-    ensures { WritesMore result written (first.now ++ second.now)
-        (record { taken = W.taken sink.old; failed = W.failed sink.old })
-        (record { taken = W.taken sink.new; failed = W.failed sink.new }) }
+    ensures { WritesMore result written (first.now ++ second.now) (W.seen sink.old) (W.seen sink.new) }
 {
     let between = write_piece(sink, written, first)?;
     write_piece(sink, between, second)
@@ -41,11 +37,9 @@ fn write_both<W: Sink>(
 
 /// Writes a page.
 fn write_page<W: Sink>(sink: &mut W, start: usize, page: &Page) -> Result<usize, WriteFailed>
-    requires failed { W.failed sink.old < 2 ^ 64 - 1 }
+    requires failed { (W.seen sink.old).failed < 2 ^ 64 - 1 }
     requires counted { start + length page.now < 2 ^ 64 }
-    ensures { WritesMore result start page.now
-        (record { taken = W.taken sink.old; failed = W.failed sink.old })
-        (record { taken = W.taken sink.new; failed = W.failed sink.new }) }
+    ensures { WritesMore result start page.now (W.seen sink.old) (W.seen sink.new) }
 {
     let text = page.text.as_bytes();
     let mut from: usize = 0;
@@ -65,11 +59,9 @@ fn write_page<W: Sink>(sink: &mut W, start: usize, page: &Page) -> Result<usize,
 
 /// Writes pages one after another.
 fn write_full<W: Sink>(sink: &mut W, pages: &[Page]) -> Result<usize, WriteFailed>
-    requires failed { W.failed sink.old < 2 ^ 64 - 1 }
+    requires failed { (W.seen sink.old).failed < 2 ^ 64 - 1 }
     requires counted { length (concat pages.now) < 2 ^ 64 }
-    ensures { WritesMore result 0 (concat pages.now)
-        (record { taken = W.taken sink.old; failed = W.failed sink.old })
-        (record { taken = W.taken sink.new; failed = W.failed sink.new }) }
+    ensures { WritesMore result 0 (concat pages.now) (W.seen sink.old) (W.seen sink.new) }
 {
     let mut written: usize = 0;
     for page in pages {
@@ -87,11 +79,9 @@ pub(crate) fn write_pages<W: Sink>(
     full: &[Page],
     last: &Page,
 ) -> Result<usize, WriteFailed>
-    requires failed { W.failed sink.old < 2 ^ 64 - 1 }
+    requires failed { (W.seen sink.old).failed < 2 ^ 64 - 1 }
     requires counted { length (concat full.now ++ last.now) < 2 ^ 64 }
-    ensures { WritesMore result 0 (concat full.now ++ last.now)
-        (record { taken = W.taken sink.old; failed = W.failed sink.old })
-        (record { taken = W.taken sink.new; failed = W.failed sink.new }) }
+    ensures { WritesMore result 0 (concat full.now ++ last.now) (W.seen sink.old) (W.seen sink.new) }
 {
     let written = write_full(sink, full)?;
     write_page(sink, written, last)

@@ -22,7 +22,7 @@ address_scheme (b ∷ bs) = elim (b == colon) [
   | false ↦ elim (begins_a_part b) [ true ↦ None | false ↦ onto_scheme b (address_scheme bs) ]
 ]
 
--- the schemes of the web: `http`, `https` and `mailto`
+-- the schemes of the web
 abbrev pub web_schemes : List (List ℕ)
 web_schemes = codes "http" ∷ codes "https" ∷ codes "mailto" ∷ []
 
@@ -35,7 +35,7 @@ abbrev pub is_web : Option (List ℕ) → Bool
 is_web None = true
 is_web (Some scheme) = is_web_scheme scheme
 
--- An address of the web has no scheme, or `http`, `https` or `mailto` in any case.
+-- An address of the web has no scheme, or one of these.
 abbrev pub is_web_address : List ℕ → Bool
 is_web_address address = is_web (address_scheme address)
 

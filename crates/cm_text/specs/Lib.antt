@@ -2,6 +2,7 @@ pub mod Bytes
 pub mod LineText
 pub mod Lines
 pub mod Devices
+pub mod DeviceViews
 pub mod Indentation
 pub mod Cut
 pub mod Limits

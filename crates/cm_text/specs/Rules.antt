@@ -11,7 +11,7 @@ pub record Rules : Type 0 where
   pub strike : Bool
   -- without it no line starts an HTML block, no `<` starts raw HTML, and the info of a code block is one line
   pub raw_html : Bool
-  -- without it an address is followed only if it has no scheme, or `http`, `https` or `mailto`
+  -- without it only addresses of the web are followed
   pub any_address : Bool
 
 -- CommonMark 0.31.2 as this project reads it: raw HTML, addresses of any scheme, and neither strikethrough

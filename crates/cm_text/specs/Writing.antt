@@ -1,12 +1,8 @@
 -- What has been written to a sink. `Keeps` and `Appends` are the kit's, and so are `Consumes` and `IsAtEnd`
 -- of sources (`Rattle.std.specs.Io.KnownBytes`): if the bytes aren't known, each holds.
-use Rattle.std.specs.Prelude.{◌≡◌, ℕ, ◌+◌, ◌≤◌, List, length, take, Option}
+use Rattle.std.specs.Prelude.{◌≡◌, ℕ, ◌+◌, ◌≤◌, List, length, take}
 use Rattle.std.specs.Io.KnownBytes.{Appends, Keeps}
-
--- a sink: the bytes that it has taken, if they are known, and the number of failed writes
-pub record SinkView : Type 0 where
-  pub taken : Option (List ℕ)
-  pub failed : ℕ
+use Rattle.cm_text.specs.DeviceViews.{SinkView}
 
 -- nothing was written
 pub record IsUnwritten (old new : SinkView) : Type 0 where

@@ -1,5 +1,6 @@
 pub mod FeedSteps
 pub mod FirstLine
+pub mod LabelNumbers
 pub mod LabelSteps
 pub mod NameTable
 pub mod TextAhead

@@ -1,15 +1,12 @@
 //! Labels of links, in the form in which they are compared.
-ghost use Rattle.std.specs.Prelude.{◌≡◌, ◌<◌, ◌++◌};
-ghost use Rattle.std.specs.Prelude.{true, length, drop, string_bytes, encode_utf8, IfOk, OnOk};
-ghost use Rattle.std.specs.Cow.{cow_str_bytes};
+ghost use Rattle.std.specs.Prelude.{◌≡◌, ◌++◌, true, string_bytes, encode_utf8, IfOk, IfSome, OnOk};
 ghost use Rattle.cm_text.specs.Labels.{case_fold, fold_label, is_gap, settle_gaps};
-ghost use Rattle.cm_text.specs.steps.LabelSteps.{begins_plain, is_plain, is_plain_byte};
-ghost use Rattle.cm_text.specs.steps.LabelSteps.{is_settled, is_single_space, put_after};
+ghost use Rattle.cm_text.specs.steps.LabelNumbers.{number_of, number_step};
+ghost use Rattle.cm_text.specs.steps.LabelSteps.{is_plain_byte, is_settled, put_after};
 
 use crate::device::NoMemory;
 use caseless::default_case_fold_str;
 use std::alloc::{AllocError, Global};
-use std::borrow::CowStr;
 
 /// A label as it is compared: case folded in full (Unicode), without the spaces, tabs and line endings
 /// at its ends, and with each run of them inside as one space. Two labels match where this is equal.
@@ -20,7 +17,7 @@ use std::borrow::CowStr;
 /// # Errors
 ///
 /// `NoMemory` if a request for memory was refused.
-// It is a call of its own, so that a label which is lent pays nothing for it.
+// It is a call of its own, so that a label which is its own folded form pays nothing for it.
 #[inline(never)]
 #[tactic(auto, unfolding(crate::specs::Labels::fold_label))]
 pub fn fold_label(alloc: Global, label: &str) -> Result<String, NoMemory>
@@ -33,35 +30,48 @@ pub fn fold_label(alloc: Global, label: &str) -> Result<String, NoMemory>
     Ok(settle_gaps(alloc, &folded)?)
 }
 
-/// The same, but a label of visible ASCII characters without capitals, and
-/// single spaces between them, is lent as it is.
-///
-/// # Errors
-///
-/// As `fold_label`.
-pub fn fold_label_or_lend(alloc: Global, label: &str) -> Result<CowStr<'_, Global>, NoMemory>
-    ensures { IfOk result (λ folded. cow_str_bytes folded ≡ fold_label label.now) }
+/// One byte more of a label's number.
+#[inline(always)]
+fn number_step(number: u64, b: u8) -> u64
+    ensures { result ≡ number_step number b }
 {
-    if is_plain(label.as_bytes()) {
-        return Ok(CowStr::Borrowed(label));
-    }
-    Ok(CowStr::Owned(fold_label(alloc, label)?))
+    number
+        .wrapping_add(u64::from(b))
+        .wrapping_mul(0x517c_c1b7_2722_0a95)
 }
 
-/// Whether a text that isn't empty is visible ASCII characters without
-/// capitals, and single spaces between them, as most labels are.
-fn is_plain(text: &[u8]) -> bool
-    ensures { result ≡ is_plain text.now }
+/// The number of a label, by which a table finds it. It is that of the label as it is, so fold it first.
+#[tactic(auto, unfolding(crate::specs::steps::LabelNumbers::number_of))]
+pub fn label_number(label: &str) -> u64
+    ensures { result ≡ number_of label.now }
 {
-    if !begins_plain(text, 0) {
-        return false;
+    let mut number = 0;
+    for b in label.as_bytes() {
+        number = number_step(number, *b);
     }
-    for at in 0..text.len() {
-        if !is_plain_byte(text[at]) && !is_single_space(text, at) {
-            return false;
+    number
+}
+
+/// The number of a label that is its own folded form because it is visible ASCII characters without capitals,
+/// and single spaces between them, as most labels are. None for any other label.
+#[tactic(auto, unfolding(crate::specs::steps::LabelNumbers::number_of))]
+pub fn plain_label_number(label: &str) -> Option<u64>
+    ensures number { IfSome result (λ number. number ≡ number_of label.now) }
+    ensures folded { IfSome result (λ _. label.now ≡ fold_label label.now) }
+{
+    let mut number = 0;
+    let mut behind_space = true;
+    for b in label.as_bytes() {
+        if is_plain_byte(*b) {
+            behind_space = false;
+        } else if *b == b' ' && !behind_space {
+            behind_space = true;
+        } else {
+            return None;
         }
+        number = number_step(number, *b);
     }
-    true
+    if behind_space { None } else { Some(number) }
 }
 
 /// For each byte 1, where it is a visible ASCII character that is no capital, or 0.
@@ -81,23 +91,6 @@ fn is_plain_byte(b: u8) -> bool
     ensures { result ≡ is_plain_byte b }
 {
     PLAIN[usize::from(b)] == b'1'
-}
-
-/// Whether a space is there, followed by such a character. It is a call of its own, so that such characters
-/// are skipped at the least cost.
-#[inline(never)]
-fn is_single_space(text: &[u8], at: usize) -> bool
-    requires { at < length text.now }
-    ensures { result ≡ is_single_space (drop at text.now) }
-{
-    text[at] == b' ' && begins_plain(text, at + 1)
-}
-
-/// Whether such a character is there.
-fn begins_plain(text: &[u8], at: usize) -> bool
-    ensures { result ≡ begins_plain (drop at text.now) }
-{
-    text.get(at).is_some_and(|b| is_plain_byte(*b))
 }
 
 /// A text with its case folded in full. ASCII is folded without the table.

@@ -65,7 +65,7 @@ pub use device::{DeviceFailed, FromRead, FromWrite, NoMemory, Pieces, Room, Sink
 pub use fault::TextFault;
 pub use feed::LineFeed;
 pub use indentation::{indent, strip};
-pub use labels::{fold_label, fold_label_or_lend};
+pub use labels::{fold_label, label_number, plain_label_number};
 pub use limits::Limits;
 pub use line_buffer::LineBuffer;
 pub use lines::Line;

@@ -2,7 +2,7 @@
 //!
 //! They are one packed table, in which a name is found by binary search. It is proved by computation to have
 //! the names of the definition and no others.
-ghost use Rattle.std.specs.Prelude.{◌≡◌, ◌≢◌, ℕ, ◌<◌, IfSome, IfNone, option_map};
+ghost use Rattle.std.specs.Prelude.{◌≡◌, ◌≢◌, ℕ, ◌<◌, [], ◌∷◌, Some, IfSome, IfNone, option_map};
 ghost use Rattle.cm_text.specs.steps.NameTable.{names_joined, start_at, first_at, name_at, characters_at};
 ghost use Rattle.cm_text.specs.NamedReferences.{names};
 ghost use Rattle.cm_text.specs.References.{entry, chars_of};
@@ -68,7 +68,29 @@ const PAIR: usize = 122;
 pub(crate) fn look_up(name: &[u8]) -> Option<Chars>
     ensures { option_map chars_of result ≡ entry names name.now }
 {
+    if let Some(first) = common(name) {
+        return Some(Chars {
+            first,
+            second: None,
+        });
+    }
     Some(characters_at(place_of(name)?))
+}
+
+/// The character of a name that is met often. These names are compared first, which is faster than a search.
+#[inline(always)]
+fn common(name: &[u8]) -> Option<char>
+    ensures { IfSome result (λ character. entry names name.now ≡ Some (character ∷ [])) }
+{
+    match name {
+        b"amp" => Some('&'),
+        b"lt" => Some('<'),
+        b"gt" => Some('>'),
+        b"quot" => Some('"'),
+        b"nbsp" => Some('\u{A0}'),
+        b"copy" => Some('\u{A9}'),
+        _ => None,
+    }
 }
 
 fn place_of(name: &[u8]) -> Option<usize>

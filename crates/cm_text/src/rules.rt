@@ -108,8 +108,8 @@ impl Rules {
         self.raw_html
     }
 
-    /// The same rules with addresses of every scheme followed, or with those of the web alone: without a
-    /// scheme, or with `http`, `https` or `mailto`.
+    /// The same rules with addresses of every scheme followed, or with those of the web alone (see
+    /// [`is_followed`](crate::is_followed)).
     pub fn with_any_address(self, any_address: bool) -> Rules
         ensures { result ≡ record {
           older = self.older;

@@ -120,9 +120,11 @@ const MARKED: [u8; 16] = [
 ];
 
 /// The others.
-const ALSO_MARKED: [u8; 16] = [1, 0, 0, 0, 0, 0, 0, 0, 0, 0, b'*', 0, b'\\', b']', 0, 0];
+const ALSO_MARKED: [u8; 16] = [
+    1, 0, b'"', 0, 0, 0, 0, 0, 0, 0, b'*', 0, b'\\', b']', b'>', 0,
+];
 
-/// Bytes that can start an inline other than text, and those that end a line.
+/// Bytes that can start an inline other than text, those that HTML escapes, and those that end a line.
 struct Marked;
 
 impl ByteKind for Marked {
@@ -171,9 +173,9 @@ pub fn leading_spaces(text: &str) -> usize
     next_of::<NoSpace>(text.as_bytes(), 0)
 }
 
-/// The least place, at or after `from`, of a byte that can start an inline other than text, or which
-/// ends a line; the length if there is none. The bytes are LF, CR, `!`, `&`, `*`, `<`, `[`, `\`, `]`, `_`, a
-/// backtick and `~`.
+/// The least place, at or after `from`, of a byte that can start an inline other than text, that HTML
+/// escapes, or that ends a line; the length if there is none. The bytes are LF, CR, `!`, `"`, `&`, `*`, `<`,
+/// `>`, `[`, `\`, `]`, `_`, a backtick and `~`.
 pub fn next_markup(bytes: &[u8], from: usize) -> usize
     ensures { result ≡ next_place is_marked bytes.now from }
 {

@@ -18,12 +18,10 @@ pub struct WriteFailed {
 ///
 /// `WriteFailed` if a write failed: then exactly the first `written` bytes were written.
 pub fn write_all<W: Sink>(sink: &mut W, bytes: &[u8]) -> Result<(), WriteFailed>
-    requires { W.failed sink.old < 2 ^ 64 - 1 }
+    requires { (W.seen sink.old).failed < 2 ^ 64 - 1 }
     ensures { MatchResult result
-        (λ _. Wrote (record { taken = W.taken sink.old; failed = W.failed sink.old })
-        (record { taken = W.taken sink.new; failed = W.failed sink.new }) bytes.now 0)
-        (λ e. WroteFront (record { taken = W.taken sink.old; failed = W.failed sink.old })
-        (record { taken = W.taken sink.new; failed = W.failed sink.new }) bytes.now e.written) }
+        (λ _. Wrote (W.seen sink.old) (W.seen sink.new) bytes.now 0)
+        (λ e. WroteFront (W.seen sink.old) (W.seen sink.new) bytes.now e.written) }
 {
     let mut written = 0;
     while written < bytes.len() {

@@ -1,8 +1,5 @@
 -- Link reference definitions by their folded labels (CommonMark 0.31.2, 4.7 Link reference definitions, 6.3 Links).
-use Rattle.std.specs.Prelude.{◌≡◌, ℕ, true, false, List, [], ◌∷◌, Option, Some, None, if◌then◌else◌}
-use Rattle.std.specs.Ordering.{nat_cmp}
-use Rattle.std.specs.Cmp.Lexicographic.{slice_cmp}
-use Rattle.std.specs.FinMap.{FinMap, empty, get, insert, from_entries, contains_key}
+use Rattle.std.specs.Prelude.{◌≡◌, ℕ, true, false, List, [], ◌∷◌, ◌++◌, get_or, Option, Some, None, is_some, if◌then◌else◌}
 use Rattle.std.specs.Str.{bytes_eq}
 use Rattle.cm_text.specs.Rules.{Rules}
 use Rattle.cm_text.specs.Addresses.{is_followed}
@@ -17,17 +14,22 @@ abbrev pub target_if_followed : Rules → Option Target → Option Target
 target_if_followed rules None = None
 target_if_followed rules (Some target) = elim (is_followed rules target.0) [ true ↦ Some target | false ↦ None ]
 
--- the target of each folded label
+-- the definitions in the order in which they were added, each a folded label and a target, each label once
 abbrev pub Targets : Type 0
-Targets = FinMap (slice_cmp nat_cmp) Target
+Targets = List (List ℕ × Target)
+
+-- the target of a folded label
+abbrev pub target_under : List ℕ → Targets → Option Target
+target_under folded [] = None
+target_under folded (d ∷ ds) = if bytes_eq d.0 folded then Some d.1 else target_under folded ds
+
+-- the target of the definition of this number, counted from 0
+abbrev pub target_numbered : Targets → ℕ → Target
+target_numbered targets number = (get_or targets number ([], ([], []))).1
 
 -- a table with one more definition: the first of equal folded labels stays
 abbrev pub add_first : Targets → List ℕ → Target → Targets
-add_first targets folded target = if contains_key targets folded then targets else insert targets folded target
-
--- the table of these labels with their targets, as the program holds them
-abbrev pub targets_of : List (List ℕ × Target) → Targets
-targets_of entries = from_entries entries
+add_first targets folded target = if is_some (target_under folded targets) then targets else targets ++ (folded, target) ∷ []
 
 -- a table to which these definitions, each a label and a target, have been added in order
 abbrev pub add_all : Targets → List (List ℕ × Target) → Targets
@@ -43,4 +45,4 @@ first_under folded (d ∷ ds) = if bytes_eq (fold_label d.0) folded then Some d.
 -- label.
 abbrev pub FirstCounts : Type 0
 FirstCounts = (definitions : List (List ℕ × Target)) (label : List ℕ)
-    → get (add_all empty definitions) (fold_label label) ≡ first_under (fold_label label) definitions
+    → target_under (fold_label label) (add_all [] definitions) ≡ first_under (fold_label label) definitions

@@ -6,7 +6,7 @@ use Rattle.cm_tree.specs.declared.tree.Inline.{Inline}
 use Rattle.cm_tree.specs.declared.tree.Inline.TheVariants as inline
 use Rattle.cm_tree.specs.declared.tree.ListKind.TheVariants.{Dash}
 use Rattle.cm_tree.specs.Depth.{inlines_depth, blocks_depth}
-use Rattle.cm_tree.specs.Definitions.{Target, first_under}
+use Rattle.cm_tree.specs.Definitions.{Target, Targets, target_under, target_numbered, add_all, first_under}
 
 -- a text, as inlines
 abbrev pub words : List ℕ → List Inline
@@ -38,7 +38,15 @@ pub record DepthExamples : Type 0 where
 abbrev pub three : List (List ℕ × Target)
 three = (codes "a", (codes "/a", [])) ∷ (codes "Foo", (codes "/first", codes "t")) ∷ (codes " fOO\n", (codes "/second", [])) ∷ []
 
+-- the table to which they have been added
+abbrev pub table_of_three : Targets
+table_of_three = (codes "a", (codes "/a", [])) ∷ (codes "foo", (codes "/first", codes "t")) ∷ []
+
 pub record DefinitionExamples : Type 0 where
   pub first : first_under (codes "foo") three ≡ Some (codes "/first", codes "t")
   pub other : first_under (codes "a") three ≡ Some (codes "/a", [])
   pub none : first_under (codes "b") three ≡ None
+  pub table : add_all [] three ≡ table_of_three
+  pub under_a_label : target_under (codes "foo") table_of_three ≡ Some (codes "/first", codes "t")
+  pub under_no_label : target_under (codes "b") table_of_three ≡ None
+  pub numbered : target_numbered table_of_three 1 ≡ (codes "/first", codes "t")

@@ -1,5 +1,4 @@
 pub mod ItemSteps
-pub mod LabelNumbers
 pub mod LabelIndex
 pub mod RawSteps
 pub mod Entries

@@ -2,26 +2,26 @@
 //!
 //! No step sorts it once all definitions are known, so a caller may add and find in turn. It is searched
 //! before a definition is copied, so a second definition of a label leaves nothing in it.
-ghost use Rattle.std.specs.Prelude.{◌≡◌, ◌++◌, [], ◌∷◌};
-ghost use Rattle.std.specs.Prelude.{None, length, OnOk, OnErr, IfOk, option_map, string_bytes};
-ghost use Rattle.std.specs.FinMap as map;
+ghost use Rattle.std.specs.Prelude.{◌≡◌, ◌<◌, ◌++◌, [], ◌∷◌, length};
+ghost use Rattle.std.specs.Prelude.{None, OnOk, OnErr, IfOk, IfSome, option_map, string_bytes};
 ghost use Rattle.cm_text.specs.Labels.{fold_label};
-ghost use Rattle.cm_tree.specs.Definitions.{add_first, target_if_followed};
+ghost use Rattle.cm_tree.specs.Definitions.{target_under, target_numbered, add_first, target_if_followed};
 ghost use Rattle.cm_tree.specs.LinkTargets.{led_to};
-ghost use Rattle.cm_tree.specs.steps.LabelNumbers.{number_of};
+ghost use Rattle.cm_text.specs.steps.LabelNumbers.{number_of};
 ghost use Rattle.cm_tree.specs.steps.LabelIndex.{GoesIn, IsSame};
 
 use crate::entries::{Entry, entry_under, indexed};
 use crate::label_index::LabelIndex;
 use crate::link_target::LinkTarget;
-use cm_text::{NoMemory, Rules, fold_label_or_lend};
+use cm_text::{NoMemory, Rules, fold_label, label_number, plain_label_number};
 use std::alloc::{AllocError, Global};
 use std::marker::Model;
 
 /// Link reference definitions by their labels. The first of matching labels counts (CommonMark 0.31.2, 4.7
 /// and 6.3).
 ///
-/// Contracts see it as a map from folded labels to destinations and titles.
+/// Contracts see it as the list of its entries in the order in which they were added: each is a folded label,
+/// with a destination and a title. Each label is there once.
 #[derive(Debug, Drop)]
 pub struct Definitions {
     alloc: Global,
@@ -34,17 +34,13 @@ pub struct Definitions {
 }
 
 impl Model for Definitions {
-    ghost use Rattle.std.specs.FinMap as map;
-    ghost use Rattle.std.specs.Coded.{coded_ℕ, coded_list, coded×};
     ghost use Rattle.std.specs.Prelude.{string_bytes};
-    ghost use Rattle.cm_tree.specs.Definitions.{Targets, targets_of};
+    ghost use Rattle.cm_tree.specs.Definitions.{Targets};
     ghost use Rattle.cm_tree.specs.steps.Entries.{entries_in, AreKept};
 
     ghost Value = { Targets };
 
-    ghost coded = { map.code (coded_list coded_ℕ) (coded× (coded_list coded_ℕ) (coded_list coded_ℕ)) };
-
-    ghost view = { λ a. targets_of (entries_in (string_bytes a.texts) a.entries.items) };
+    ghost view = { λ a. entries_in (string_bytes a.texts) a.entries.items };
 
     ghost invariant = { λ a. AreKept (string_bytes a.texts) a.entries.items a.index };
 }
@@ -52,7 +48,7 @@ impl Model for Definitions {
 impl Definitions {
     /// A table with no definitions. It takes no memory.
     pub fn new(alloc: Global) -> Definitions
-        ensures { result ≡ map.empty }
+        ensures { result ≡ [] }
     {
         Definitions {
             alloc,
@@ -72,17 +68,26 @@ impl Definitions {
             ≡ add_first self.old (fold_label label.now) (dest.now, title.now)) }
         ensures err { OnErr result (self.new ≡ self.old) }
     {
-        let folded = fold_label_or_lend(self.alloc, label)?;
-        Ok(self.add_folded(folded.as_str(), dest, title)?)
+        if let Some(number) = plain_label_number(label) {
+            return Ok(self.add_folded(number, label, dest, title)?);
+        }
+        let folded = fold_label(self.alloc, label)?;
+        Ok(self.add_folded(label_number(&folded), &folded, dest, title)?)
     }
 
     #[tactic(auto, using(crate::proofs::lemmas::TargetLemmas::any_target))]
-    fn add_folded(&mut self, label: &str, dest: &str, title: &str) -> Result<(), AllocError>
+    fn add_folded(
+        &mut self,
+        number: u64,
+        label: &str,
+        dest: &str,
+        title: &str,
+    ) -> Result<(), AllocError>
+        requires { number ≡ number_of label.now }
         ensures ok { OnOk result (self.new ≡ add_first self.old label.now (dest.now, title.now)) }
         ensures err { OnErr result (self.new ≡ self.old) }
     {
-        let number = number_of(label.as_bytes());
-        if self.look(Rules::profile(), number, label).is_some() {
+        if self.entry(Rules::profile(), number, label).is_some() {
             return Ok(());
         }
         self.make_room()?;
@@ -108,8 +113,8 @@ impl Definitions {
         title: &str,
     ) -> Result<(), AllocError>
         requires number { number ≡ number_of label.now }
-        requires absent { map.get self.old label.now ≡ None }
-        ensures ok { OnOk result (self.new ≡ map.insert self.old label.now (dest.now, title.now)) }
+        requires absent { target_under label.now self.old ≡ None }
+        ensures ok { OnOk result (self.new ≡ self.old ++ (label.now, (dest.now, title.now)) ∷ []) }
         ensures err { OnErr result (self.new ≡ self.old) }
     {
         let entry = Entry::copy(self.alloc, &mut self.texts, number, label, dest, title)?;
@@ -131,7 +136,7 @@ impl Definitions {
     /// `NoMemory` if a request for memory was refused.
     pub fn find(&self, label: &str) -> Result<Option<(&str, &str)>, NoMemory>
         ensures { IfOk result (λ found.
-            option_map (λ t. (t.0.now, t.1.now)) found ≡ map.get self.now (fold_label label.now)) }
+            option_map (λ t. (t.0.now, t.1.now)) found ≡ target_under (fold_label label.now) self.now) }
     {
         match self.target(label)? {
             Some(target) => Ok(Some((target.dest(), target.title()))),
@@ -146,37 +151,56 @@ impl Definitions {
     /// As `find`.
     #[tactic(auto, using(crate::proofs::lemmas::TargetLemmas::any_target))]
     pub fn target(&self, label: &str) -> Result<Option<LinkTarget<'_>>, NoMemory>
-        ensures { IfOk result (λ found. option_map led_to found ≡ map.get self.now (fold_label label.now)) }
+        ensures { IfOk result (λ found. option_map led_to found
+            ≡ target_under (fold_label label.now) self.now) }
     {
-        self.target_by(Rules::profile(), label)
+        let entry = self.entry_by(Rules::profile(), label)?;
+        Ok(entry.map(|entry| self.target_at(entry)))
     }
 
-    /// The same, if the rules follow the address. That was judged once, when the definition was added: a
-    /// lookup takes no time for the length of an address.
+    /// The number of the first definition that was added with a matching label, counted from 0, or None if
+    /// there is none or the rules don't follow its address, which was judged when it was added. A definition
+    /// keeps its number while others are added.
     ///
     /// # Errors
     ///
     /// As `find`.
     #[inline(always)]
-    pub fn target_by(&self, rules: Rules, label: &str) -> Result<Option<LinkTarget<'_>>, NoMemory>
-        ensures { IfOk result (λ found. option_map led_to found
-            ≡ target_if_followed rules (map.get self.now (fold_label label.now))) }
+    pub fn entry_by(&self, rules: Rules, label: &str) -> Result<Option<usize>, NoMemory>
+        ensures found { IfOk result (λ found. option_map (target_numbered self.now) found
+            ≡ target_if_followed rules (target_under (fold_label label.now) self.now)) }
+        ensures within { IfOk result (λ found. IfSome found (λ entry. entry < length self.now)) }
     {
-        let folded = fold_label_or_lend(self.alloc, label)?;
-        let folded = folded.as_str();
-        Ok(self.look(rules, number_of(folded.as_bytes()), folded))
+        if let Some(number) = plain_label_number(label) {
+            return Ok(self.entry(rules, number, label));
+        }
+        let folded = fold_label(self.alloc, label)?;
+        Ok(self.entry(rules, label_number(&folded), &folded))
     }
 
-    /// The same, for a folded label with this number.
+    /// The destination and the title of a definition by its number, which `entry_by` finds: as texts that are
+    /// shared if they are long.
     #[inline(always)]
-    fn look(&self, rules: Rules, number: u64, label: &str) -> Option<LinkTarget<'_>>
-        requires { number ≡ number_of label.now }
-        ensures { option_map led_to result ≡ target_if_followed rules (map.get self.now label.now) }
+    pub fn target_at(&self, entry: usize) -> LinkTarget<'_>
+        requires { entry < length self.now }
+        ensures { led_to result ≡ target_numbered self.now entry }
     {
-        match entry_under(&self.texts, &self.entries, &self.index, number, label) {
-            Some(entry) => self.entries[entry].lend(rules, &self.texts),
-            None => None,
+        self.entries[entry].target.lend(&self.texts)
+    }
+
+    /// As `entry_by`, for a folded label with this number.
+    #[inline(always)]
+    fn entry(&self, rules: Rules, number: u64, label: &str) -> Option<usize>
+        requires { number ≡ number_of label.now }
+        ensures found { option_map (target_numbered self.now) result
+            ≡ target_if_followed rules (target_under label.now self.now) }
+        ensures within { IfSome result (λ entry. entry < length self.now) }
+    {
+        let entry = entry_under(&self.texts, &self.entries, &self.index, number, label)?;
+        if self.entries[entry].is_followed(rules) {
+            return Some(entry);
         }
+        None
     }
 }
 
@@ -201,17 +225,4 @@ fn put(
         return Err(refused);
     }
     Ok(())
-}
-
-#[tactic(auto, unfolding(crate::specs::steps::LabelNumbers::number_of))]
-fn number_of(label: &[u8]) -> u64
-    ensures { result ≡ number_of label.now }
-{
-    let mut number: u64 = 0;
-    for b in label {
-        number = number
-            .wrapping_add(u64::from(*b))
-            .wrapping_mul(0x517c_c1b7_2722_0a95);
-    }
-    number
 }

@@ -1,11 +1,11 @@
 //! The entries of the table of definitions.
-ghost use Rattle.std.specs.Prelude.{◌≡◌, ◌≤◌};
+ghost use Rattle.std.specs.Prelude.{◌≡◌, ◌≤◌, ◌||◌};
 ghost use Rattle.std.specs.Prelude.{ℕ, None, Some, length, get_or, option_map, IfOk, IfSome, string_bytes};
 ghost use Rattle.std.specs.Str.{bytes_eq};
 ghost use Rattle.cm_tree.specs.Definitions.{target_if_followed};
 ghost use Rattle.cm_tree.specs.LinkTargets.{kept_in, led_to};
 ghost use Rattle.cm_tree.specs.TargetPlaces.{GoesOn};
-ghost use Rattle.cm_tree.specs.steps.LabelNumbers.{number_of};
+ghost use Rattle.cm_text.specs.steps.LabelNumbers.{number_of};
 ghost use Rattle.cm_tree.specs.steps.LabelIndex.{home, IsIndex, IsLabel, IsNew, IsPassed, AreDistinct};
 ghost use Rattle.cm_tree.specs.steps.Entries.{label_in, labels_in, IsEntry, AreEntries, IsMade};
 
@@ -69,17 +69,12 @@ impl Entry {
         &texts[self.label..self.end]
     }
 
-    /// Its destination and its title, if the rules follow its address.
+    /// Whether the rules follow its address.
     #[inline(always)]
-    pub(crate) fn lend<'a>(&'a self, rules: Rules, texts: &'a str) -> Option<LinkTarget<'a>>
-        requires { IsEntry texts.now self.now }
-        ensures { option_map led_to result
-            ≡ target_if_followed rules (Some (kept_in texts.now self.now.target)) }
+    pub(crate) fn is_followed(&self, rules: Rules) -> bool
+        ensures { result ≡ (rules.any_address || self.now.is_web) }
     {
-        if !rules.any_address() && !self.is_web {
-            return None;
-        }
-        Some(self.target.lend(texts))
+        rules.any_address() || self.is_web
     }
 
     /// Whether it has a folded label, of this number.

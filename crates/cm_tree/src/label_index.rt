@@ -5,7 +5,7 @@
 //! slots, and then descends a tree ordered by label. If there would be fewer than four slots for each entry
 //! in one, their number is doubled and the index made anew, while the entries stay where they are.
 ghost use Rattle.std.specs.Prelude.{◌≡◌, ◌≤◌, [], length, IfOk, IfSome, OnOk, OnErr};
-ghost use Rattle.cm_tree.specs.steps.LabelNumbers.{number_of};
+ghost use Rattle.cm_text.specs.steps.LabelNumbers.{number_of};
 ghost use Rattle.cm_tree.specs.steps.LabelIndex.{home, IsFree, IsIndex, IsSame, GoesIn};
 
 use std::alloc::{AllocError, Global};

@@ -33,6 +33,19 @@ pub enum LinkTarget<'a> {
 }
 
 impl<'a> LinkTarget<'a> {
+    /// The target of a link that holds these texts: shared if another link may hold one of them.
+    pub fn new(dest: &'a BoxedText, title: &'a BoxedText) -> LinkTarget<'a>
+        ensures { led_to result ≡ (dest.now, title.now) }
+    {
+        if dest.is_shared() || title.is_shared() {
+            return LinkTarget::Shared { dest, title };
+        }
+        LinkTarget::Plain {
+            dest: dest.as_str(),
+            title: title.as_str(),
+        }
+    }
+
     /// The destination.
     pub fn dest(self) -> &'a str
         ensures { result.now ≡ (led_to self.entry).0 }

@@ -4,7 +4,8 @@ use Rattle.std.specs.Io.KnownBytes.{Appends}
 use Rattle.std.proofs.Math.Seq.{drop-cons, take-append-add}
 use Rattle.std.proofs.lemmas.List.{take-append-le}
 use Rattle.std.specs.Prelude.{Result, Ok, Err, Option, Some, None}
-use Rattle.cm_text.specs.Writing.{SinkView, Wrote}
+use Rattle.cm_text.specs.DeviceViews.{SinkView}
+use Rattle.cm_text.specs.Writing.{Wrote}
 use Rattle.cm_text.specs.declared.writing.WriteFailed.{WriteFailed}
 use Rattle.cm_text.proofs.lemmas.WriteLemmas.{appends-append}
 use Rattle.cm_html.specs.steps.Pages.{WritesMore}

@@ -2,7 +2,8 @@
 use Rattle.std.specs.Prelude.{◌≡◌, ℕ, ◌+◌, ◌≤◌, List, [], ◌∷◌, ◌++◌, length, drop, Result, Ok, Err}
 use Rattle.std.specs.List.{slice_range}
 use Rattle.std.specs.Str.{IsCharBoundary}
-use Rattle.cm_text.specs.Writing.{SinkView, Wrote, WroteFront}
+use Rattle.cm_text.specs.DeviceViews.{SinkView}
+use Rattle.cm_text.specs.Writing.{Wrote, WroteFront}
 use Rattle.cm_text.specs.declared.writing.WriteFailed.{WriteFailed}
 use Rattle.cm_html.specs.declared.page.Insertion.{Insertion}
 

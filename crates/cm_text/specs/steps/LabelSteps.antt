@@ -1,5 +1,5 @@
 -- What one more character does to a label, whose gaps become single spaces from the left.
-use Rattle.std.specs.Prelude.{ℕ, Bool, true, false, not, ◌&&◌, ◌||◌, ◌==◌, List, [], ◌∷◌}
+use Rattle.std.specs.Prelude.{ℕ, Bool, true, false, not, ◌&&◌, ◌==◌, List, [], ◌∷◌}
 use Rattle.std.specs.Char.{is_ascii_graphic, is_ascii_uppercase}
 use Rattle.cm_text.specs.Labels.{is_gap}
 
@@ -24,21 +24,7 @@ is_settled behind_gap (b ∷ bs) = settled_by (is_gap b) behind_gap (b == 32) (i
 abbrev pub is_plain_byte : ℕ → Bool
 is_plain_byte b = is_ascii_graphic b && not (is_ascii_uppercase b)
 
--- such a character is at the start
-abbrev pub begins_plain : List ℕ → Bool
-begins_plain [] = false
-begins_plain (b ∷ bs) = is_plain_byte b
-
--- a space is, with such a character after it
-abbrev pub is_single_space : List ℕ → Bool
-is_single_space [] = false
-is_single_space (b ∷ bs) = b == 32 && begins_plain bs
-
--- such characters, and single spaces before them
-abbrev pub goes_on_plain : List ℕ → Bool
-goes_on_plain [] = true
-goes_on_plain (b ∷ bs) = (is_plain_byte b || is_single_space (b ∷ bs)) && goes_on_plain bs
-
--- that, with such a character first
-abbrev pub is_plain : List ℕ → Bool
-is_plain text = begins_plain text && goes_on_plain text
+-- such characters, and single spaces before them; the mark says that a space is before the text, or nothing
+abbrev pub is_plain : (behind_space : Bool) → List ℕ → Bool
+is_plain behind_space [] = not behind_space
+is_plain behind_space (b ∷ bs) = elim (is_plain_byte b) [ true ↦ is_plain false bs | false ↦ b == 32 && not behind_space && is_plain true bs ]

@@ -15,8 +15,8 @@ pub struct FromRead<R> {
 impl<R: Read> FromRead<R> {
     /// A source over the reader, without failures so far.
     pub fn new(reader: R) -> Self
-        ensures failed { ⟦<FromRead<R> as Source>⟧.failed result ≡ 0 }
-        ensures remaining { ⟦<FromRead<R> as Source>⟧.remaining result ≡ R.remaining reader }
+        ensures failed { (⟦<FromRead<R> as Source>⟧.seen result).failed ≡ 0 }
+        ensures remaining { (⟦<FromRead<R> as Source>⟧.seen result).remaining ≡ R.remaining reader }
     {
         FromRead {
             reader,
@@ -27,9 +27,7 @@ impl<R: Read> FromRead<R> {
 
 /// The bytes still to come are those of the reader. A file or a terminal leaves them open.
 impl<R: Read> Source for FromRead<R> {
-    ghost remaining = { λ s. R.remaining s.reader };
-
-    ghost failed = { λ s. s.failures };
+    ghost seen = { λ s. record { remaining = R.remaining s.reader; failed = s.failures } };
 
     fn read(&mut self, buf: &mut [u8]) -> Result<usize, DeviceFailed> {
         match self.reader.read(buf) {

@@ -16,8 +16,8 @@ pub struct FromWrite<W> {
 impl<W: Write> FromWrite<W> {
     /// A sink over the writer, without failures so far.
     pub fn new(writer: W) -> Self
-        ensures failed { ⟦<FromWrite<W> as Sink>⟧.failed result ≡ 0 }
-        ensures taken { ⟦<FromWrite<W> as Sink>⟧.taken result ≡ W.contents writer }
+        ensures failed { (⟦<FromWrite<W> as Sink>⟧.seen result).failed ≡ 0 }
+        ensures taken { (⟦<FromWrite<W> as Sink>⟧.seen result).taken ≡ W.contents writer }
     {
         FromWrite {
             writer,
@@ -28,9 +28,7 @@ impl<W: Write> FromWrite<W> {
 
 /// The bytes taken are those of the writer. A file or a terminal leaves them open.
 impl<W: Write> Sink for FromWrite<W> {
-    ghost taken = { λ s. W.contents s.writer };
-
-    ghost failed = { λ s. s.failures };
+    ghost seen = { λ s. record { taken = W.contents s.writer; failed = s.failures } };
 
     fn write(&mut self, bytes: &[u8]) -> Result<usize, DeviceFailed> {
         match self.writer.write(bytes) {

@@ -24,8 +24,8 @@ impl Pieces {
 
     /// A source of the pieces in order, which then ends, or fails at each further read if `fails`.
     pub fn new(pieces: Vec<Vec<u8>>, fails: bool) -> Self
-        ensures failed { ⟦<Pieces as Source>⟧.failed result ≡ 0 }
-        ensures remaining { ⟦<Pieces as Source>⟧.remaining result
+        ensures failed { (⟦<Pieces as Source>⟧.seen result).failed ≡ 0 }
+        ensures remaining { (⟦<Pieces as Source>⟧.seen result).remaining
             ≡ Some (flat_map (λ piece. piece.items) pieces.items) }
         ensures fails { fails_of result ≡ fails }
     {
@@ -53,26 +53,26 @@ fn give(bytes: &[u8], buf: &mut [u8]) -> usize
 impl Source for Pieces {
     ghost use Rattle.cm_text.specs.Devices.{fails_of, next_piece};
 
-    ghost remaining = { λ s. Some (drop s.start
-        (flat_map (λ piece. piece.items) (drop s.index s.pieces.items))) };
-
-    ghost failed = { λ s. s.failures };
+    ghost seen = { λ s. record {
+      remaining = Some (drop s.start (flat_map (λ piece. piece.items) (drop s.index s.pieces.items)));
+      failed = s.failures;
+    } };
 
     fn read(&mut self, buf: &mut [u8]) -> Result<usize, DeviceFailed>
-        requires { ⟦<Pieces as Source>⟧.failed self.old < 2 ^ 64 - 1 }
+        requires { (⟦<Pieces as Source>⟧.seen self.old).failed < 2 ^ 64 - 1 }
         ensures bound { ReadsAtMost result buf.new }
-        ensures bytes { ReadConsumes (⟦<Pieces as Source>⟧.remaining self.old)
-            (⟦<Pieces as Source>⟧.remaining self.new) result buf.new }
-        ensures failures { ⟦<Pieces as Source>⟧.failed self.new
-            ≡ (if is_ok result then ⟦<Pieces as Source>⟧.failed self.old
-            else ⟦<Pieces as Source>⟧.failed self.old + 1) }
+        ensures bytes { ReadConsumes (⟦<Pieces as Source>⟧.seen self.old).remaining
+            (⟦<Pieces as Source>⟧.seen self.new).remaining result buf.new }
+        ensures failures { (⟦<Pieces as Source>⟧.seen self.new).failed
+            ≡ (if is_ok result then (⟦<Pieces as Source>⟧.seen self.old).failed
+            else (⟦<Pieces as Source>⟧.seen self.old).failed + 1) }
         // It returns as much of the next piece as the buffer holds, and nothing of the one after it.
         ensures piece { IfOk result (λ n. n ≡ min (length (next_piece self.old)) (length buf.old)) }
         // It fails exactly where the pieces are used up and it was made to.
-        ensures fails { OnErr result ((⟦<Pieces as Source>⟧.remaining self.old ≡ Some [])
+        ensures fails { OnErr result (((⟦<Pieces as Source>⟧.seen self.old).remaining ≡ Some [])
             × (fails_of self.old ≡ true)) }
         ensures ends { fails_of self.old ≡ true
-            → ⟦<Pieces as Source>⟧.remaining self.old ≡ Some [] → IsErr result }
+            → (⟦<Pieces as Source>⟧.seen self.old).remaining ≡ Some [] → IsErr result }
         ensures kept { fails_of self.new ≡ fails_of self.old }
     {
         while self.index < self.pieces.len() {

@@ -24,8 +24,8 @@ impl Room {
     /// Room for `capacity` bytes. A call takes at most `at_most` of them: with 0 each write fails. All its
     /// memory is allocated here.
     pub fn new(alloc: Global, capacity: usize, at_most: usize) -> Result<Room, NoMemory>
-        ensures failed { IfOk result (λ room. ⟦<Room as Sink>⟧.failed room ≡ 0) }
-        ensures taken { IfOk result (λ room. ⟦<Room as Sink>⟧.taken room ≡ Some []) }
+        ensures failed { IfOk result (λ room. (⟦<Room as Sink>⟧.seen room).failed ≡ 0) }
+        ensures taken { IfOk result (λ room. (⟦<Room as Sink>⟧.seen room).taken ≡ Some []) }
         ensures capacity { IfOk result (λ room. capacity_of room ≡ capacity) }
         ensures at_most { IfOk result (λ room. at_most_of room ≡ at_most) }
     {
@@ -39,7 +39,7 @@ impl Room {
 
     /// The bytes that have been taken.
     pub fn taken(&self) -> &[u8]
-        ensures { ⟦<Room as Sink>⟧.taken self.now ≡ Some result.now }
+        ensures { (⟦<Room as Sink>⟧.seen self.now).taken ≡ Some result.now }
     {
         self.bytes.as_slice()
     }
@@ -49,19 +49,17 @@ impl Room {
 impl Sink for Room {
     ghost use Rattle.cm_text.specs.Devices.{room_answer, capacity_of, at_most_of};
 
-    ghost taken = { λ s. Some s.bytes.items };
-
-    ghost failed = { λ s. s.failures };
+    ghost seen = { λ s. record { taken = Some s.bytes.items; failed = s.failures } };
 
     fn write(&mut self, bytes: &[u8]) -> Result<usize, DeviceFailed>
-        requires { ⟦<Room as Sink>⟧.failed self.old < 2 ^ 64 - 1 }
+        requires { (⟦<Room as Sink>⟧.seen self.old).failed < 2 ^ 64 - 1 }
         ensures bound { WritesAtMost result bytes.now }
         ensures some { IfOk result (λ n. 0 < length bytes.now → 0 < n) }
-        ensures bytes { WriteAppends (⟦<Room as Sink>⟧.taken self.old)
-            (⟦<Room as Sink>⟧.taken self.new) result bytes.now }
-        ensures failures { ⟦<Room as Sink>⟧.failed self.new
-            ≡ (if is_ok result then ⟦<Room as Sink>⟧.failed self.old
-            else ⟦<Room as Sink>⟧.failed self.old + 1) }
+        ensures bytes { WriteAppends (⟦<Room as Sink>⟧.seen self.old).taken
+            (⟦<Room as Sink>⟧.seen self.new).taken result bytes.now }
+        ensures failures { (⟦<Room as Sink>⟧.seen self.new).failed
+            ≡ (if is_ok result then (⟦<Room as Sink>⟧.seen self.old).failed
+            else (⟦<Room as Sink>⟧.seen self.old).failed + 1) }
         ensures answer { result ≡ room_answer self.old bytes.now }
         ensures capacity { capacity_of self.new ≡ capacity_of self.old }
         ensures at_most { at_most_of self.new ≡ at_most_of self.old }

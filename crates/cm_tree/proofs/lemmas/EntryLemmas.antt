@@ -1,27 +1,24 @@
 -- The entries of the table of definitions: what their labels stand for, and one entry more.
-use Rattle.std.proofs.Common.{◌≡◌, ◌≢◌, ℕ, zero, suc, ◌<◌, List, [], ◌∷◌, ◌++◌, length, get_or, Some, None, Result, Ok, Err, OnOk, OnErr, true, false, refl, sym, ap, subst, ◌∙◌, arith, append_assoc}
+use Rattle.std.proofs.Common.{◌≡◌, ℕ, zero, suc, ◌<◌, List, [], ◌∷◌, ◌++◌, length, get_or, Some, None, Result, Ok, Err, OnOk, OnErr, Bool, true, false, cond, ◌||◌, refl, sym, ap, subst, ◌∙◌, arith, append_assoc}
 use Rattle.std.specs.Str.{IsUtf8}
-use Rattle.std.specs.Ordering.{nat_cmp, is_eq}
-use Rattle.std.specs.Cmp.{eq_by_cmp_equiv}
-use Rattle.std.specs.Cmp.Lexicographic.{slice_cmp, nat_list_cmp_total}
-use Rattle.std.specs.FinMap.{find, get, insert, get-from_entries, from_entries_push, slice_cmp-IsAntisymmetric, nat_cmp-IsAntisymmetric}
 use Rattle.std.proofs.lemmas.Bool.{false_from_ne_true, cond-true, cond-false}
 use Rattle.std.proofs.lemmas.List.{get_or-map, length-map, map-append}
+use Rattle.std.proofs.lemmas.Slice.Eq.{bytes_eq-Decides}
 use Rattle.std.proofs.lemmas.Str.{IsUtf8-append}
-use Rattle.cm_text.specs.Addresses.{is_web_address}
+use Rattle.cm_text.specs.Rules.{Rules}
+use Rattle.cm_text.specs.Addresses.{is_web_address, is_followed}
 use Rattle.cm_tree.specs.declared.entries.Entry.{Entry}
 use Rattle.cm_tree.specs.declared.label_index.LabelIndex.{LabelIndex}
-use Rattle.cm_tree.specs.Definitions.{Target, Targets, targets_of}
+use Rattle.cm_tree.specs.Definitions.{Target, Targets, target_under, target_numbered, target_if_followed}
 use Rattle.cm_tree.specs.LinkTargets.{kept_in, Keeps}
 use Rattle.cm_tree.specs.RawBlocks.{IsBetween}
 use Rattle.cm_tree.specs.TargetPlaces.{GoesOn}
-use Rattle.cm_tree.specs.steps.LabelNumbers.{number_of}
+use Rattle.cm_text.specs.steps.LabelNumbers.{number_of}
 use Rattle.cm_tree.specs.steps.LabelIndex.{IsLabel, IsIndex, AreDistinct, IsNew, GoesIn, IsSame}
 use Rattle.cm_tree.specs.steps.Entries.{label_in, labels_in, entries_in, IsEntry, AreEntries, AreKept, IsMade}
 use Rattle.cm_tree.proofs.lemmas.RawLemmas.{slice-same, slice-last, between-behind}
 use Rattle.cm_tree.proofs.lemmas.TargetLemmas.{between-grows, goes-on}
 use Rattle.cm_tree.proofs.lemmas.KeptLemmas.{kept_in-same, is_kept-grows}
-use Rattle.cm_tree.proofs.lemmas.Targets.{same_bytes}
 use Rattle.cm_tree.proofs.lemmas.IndexLemmas.{put-index, same-index, distinct-more}
 
 -- one of the entries
@@ -97,37 +94,62 @@ made old label new more e target is utf8 grows from to number keeps web =
 
 -- what a label has
 
-same-test : (a b : List ℕ) → a ≡ b → is_eq (slice_cmp nat_cmp b a) ≡ true
-same-test a b same = ap (λ k. is_eq (slice_cmp nat_cmp b k)) same ∙ (eq_by_cmp_equiv nat_list_cmp_total).refl b
+reads-new : (text : List ℕ) (es : List Entry) (label : List ℕ) → IsNew (labels_in text es) label → target_under label (entries_in text es) ≡ None
+reads-new text [] label new = refl
+reads-new text (e ∷ es) label new =
+    cond-false _ _ _ (false_from_ne_true _ (λ t. new 0 (omega arith) ((bytes_eq-Decides (label_in text e) label).0 t)))
+    ∙ reads-new text es label (λ i within. new (suc i) (omega arith))
 
-other-test : (a b : List ℕ) → a ≢ b → is_eq (slice_cmp nat_cmp b a) ≡ false
-other-test a b ne = false_from_ne_true _ (λ t. ne (sym (same_bytes b a t)))
+reads-label : (text : List ℕ) (es : List Entry) (i : ℕ) (d : Entry) (label : List ℕ) → AreDistinct (labels_in text es) → IsLabel (labels_in text es) i label
+    → target_under label (entries_in text es) ≡ Some (kept_in text (get_or es i d).target)
+reads-label text [] i d label distinct is = absurd (let w = is.0 in omega arith)
+reads-label text (e ∷ es) zero d label distinct is = cond-true _ _ _ ((bytes_eq-Decides (label_in text e) label).1 is.1)
+reads-label text (e ∷ es) (suc i) d label distinct is = let w = is.0 in
+    cond-false _ _ _ (false_from_ne_true _ (λ t. distinct 0 (suc i) (omega arith) w ((bytes_eq-Decides (label_in text e) label).0 t ∙ sym is.1)))
+    ∙ reads-label text es i d label (λ j k less within. distinct (suc j) (suc k) (omega arith) (omega arith)) ((omega arith), is.1)
 
-find-new : (text : List ℕ) (es : List Entry) (label : List ℕ) → IsNew (labels_in text es) label → find (slice_cmp nat_cmp) label (entries_in text es) ≡ None
-find-new text [] label new = refl
-find-new text (e ∷ es) label new =
-    cond-false _ _ _ (other-test (label_in text e) label (new 0 (omega arith))) ∙ find-new text es label (λ i within. new (suc i) (omega arith))
+-- what a table has, if contracts see it as this value
 
-find-label : (text : List ℕ) (es : List Entry) (i : ℕ) (d : Entry) (label : List ℕ) → AreDistinct (labels_in text es) → IsLabel (labels_in text es) i label
-    → find (slice_cmp nat_cmp) label (entries_in text es) ≡ Some (kept_in text (get_or es i d).target)
-find-label text [] i d label distinct is = absurd (let w = is.0 in omega arith)
-find-label text (e ∷ es) zero d label distinct is = cond-true _ _ _ (same-test (label_in text e) label is.1)
-find-label text (e ∷ es) (suc i) d label distinct is = let w = is.0 in
-    cond-false _ _ _ (other-test (label_in text e) label (λ same. distinct 0 (suc i) (omega arith) w (same ∙ sym is.1)))
-    ∙ find-label text es i d label (λ j k less within. distinct (suc j) (suc k) (omega arith) (omega arith)) ((omega arith), is.1)
+if-asked : (b : Bool) (target : Target) → elim b [ true ↦ Some target | false ↦ None ] ≡ cond b (Some target) None
+if-asked true target = refl
+if-asked false target = refl
 
-pub reads-new : (text : List ℕ) (es : List Entry) (label : List ℕ) → IsNew (labels_in text es) label → get (targets_of (entries_in text es)) label ≡ None
-reads-new text es label new = get-from_entries nat_list_cmp_total (entries_in text es) label ∙ find-new text es label new
+module _ (text : List ℕ) (es : List Entry) (value : Targets) (is : entries_in text es ≡ value) where
+  pub count-value : length value ≡ length es
+  count-value = ap length (sym is) ∙ length-map es (λ d. (label_in text d, kept_in text d.target))
 
-pub reads-label : (text : List ℕ) (es : List Entry) (i : ℕ) (d : Entry) (label : List ℕ) → AreDistinct (labels_in text es) → IsLabel (labels_in text es) i label
-    → get (targets_of (entries_in text es)) label ≡ Some (kept_in text (get_or es i d).target)
-reads-label text es i d label distinct is = get-from_entries nat_list_cmp_total (entries_in text es) label ∙ find-label text es i d label distinct is
+  pub has-none : (label : List ℕ) → IsNew (labels_in text es) label → target_under label value ≡ None
+  has-none label new = ap (target_under label) (sym is) ∙ reads-new text es label new
+
+  pub has-numbered : (i : ℕ) (e : Entry) → i < length es → e ≡ get_or es i e → target_numbered value i ≡ kept_in text e.target
+  has-numbered i e within read =
+      ap (λ v. target_numbered v i) (sym is)
+      ∙ ap (λ (d : List ℕ × Target). d.1) (get_or-map (λ d. (label_in text d, kept_in text d.target)) es i e ([], ([], [])) within)
+      ∙ ap (λ d. kept_in text d.target) (sym read)
+
+  pub has-under : (i : ℕ) (e : Entry) (label : List ℕ) → AreDistinct (labels_in text es) → IsLabel (labels_in text es) i label → e ≡ get_or es i e
+      → target_under label value ≡ Some (kept_in text e.target)
+  has-under i e label distinct there read =
+      ap (target_under label) (sym is) ∙ reads-label text es i e label distinct there ∙ ap (λ d. Some (kept_in text d.target)) (sym read)
+
+  -- if the rules follow its address, as the entry has it
+  pub has-followed : (i : ℕ) (e : Entry) (label : List ℕ) (rules : Rules) (followed : Bool) → AreEntries text es → AreDistinct (labels_in text es) → IsLabel (labels_in text es) i label
+      → e ≡ get_or es i e → followed ≡ (rules.any_address || e.is_web) → target_if_followed rules (target_under label value) ≡ cond followed (Some (target_numbered value i)) None
+  has-followed i e label rules followed are distinct there read asked =
+      let all = count text es in
+      let within : i < length es = let w = there.0 in omega arith in
+      let web = (read-entry text es i e are within read).web in
+      ap (target_if_followed rules) (has-under i e label distinct there read)
+      ∙ if-asked (is_followed rules (kept_in text e.target).0) (kept_in text e.target)
+      ∙ ap (λ w. cond (rules.any_address || w) (Some (kept_in text e.target)) None) (sym web)
+      ∙ ap (λ b. cond b (Some (kept_in text e.target)) None) (sym asked)
+      ∙ ap (λ target. cond followed (Some target) None) (sym (has-numbered i e within read))
 
 -- the text has grown, and nothing else has changed
 
-pub same-targets : (old new : List ℕ) (es : List Entry) (value : Targets) → GoesOn old new → AreEntries old es → targets_of (entries_in old es) ≡ value
-    → targets_of (entries_in new es) ≡ value
-same-targets old new es value grows are is = ap targets_of (entries-same old new es grows are) ∙ is
+pub same-targets : (old new : List ℕ) (es : List Entry) (value : Targets) → GoesOn old new → AreEntries old es → entries_in old es ≡ value
+    → entries_in new es ≡ value
+same-targets old new es value grows are is = entries-same old new es grows are ∙ is
 
 pub on-err : (E : Type 0) {P : Type 0} (told : Result (Unit {0}) E) → P → OnErr told P
 on-err E (Ok u) p = tt
@@ -135,13 +157,13 @@ on-err E (Err f) p = p
 
 -- one entry more, where its label isn't there
 
-not-there : (text : List ℕ) (es : List Entry) (label : List ℕ) → AreDistinct (labels_in text es) → get (targets_of (entries_in text es)) label ≡ None → IsNew (labels_in text es) label
+not-there : (text : List ℕ) (es : List Entry) (label : List ℕ) → AreDistinct (labels_in text es) → target_under label (entries_in text es) ≡ None → IsNew (labels_in text es) label
 not-there text (e ∷ es) label distinct none i within same =
     let wrong : Some (kept_in text (get_or (e ∷ es) i e).target) ≡ None = sym (reads-label text (e ∷ es) i e label distinct (within, same)) ∙ none in cc
 not-there text [] label distinct none i within same = absurd (omega arith)
 
 module _ (text : List ℕ) (es now : List Entry) (e : Entry) (before after : LabelIndex) (label : List ℕ) (target : Target)
-    (are : AreKept text es before) (made : IsMade text e label target) (absent : get (targets_of (entries_in text es)) label ≡ None) (is : now ≡ es ++ e ∷ []) where
+    (are : AreKept text es before) (made : IsMade text e label target) (absent : target_under label (entries_in text es) ≡ None) (is : now ≡ es ++ e ∷ []) where
   new : IsNew (labels_in text es) label
   new = not-there text es label are.distinct absent
 
@@ -159,22 +181,21 @@ module _ (text : List ℕ) (es now : List Entry) (e : Entry) (before after : Lab
       all [] them = (made.there, tt)
       all (d ∷ ds) them = (them.0, all ds them.1)
 
-  pub targets-more : targets_of (entries_in text now) ≡ insert (targets_of (entries_in text es)) label target
-  targets-more =
-      ap (λ ds. targets_of (entries_in text ds)) is
-      ∙ ap targets_of (map-append (λ d. (label_in text d, kept_in text d.target)) es (e ∷ []))
-      ∙ ap targets_of (λ i. entries_in text es ++ (made.is_label i, made.is_target i) ∷ [])
-      ∙ from_entries_push nat_list_cmp_total (slice_cmp-IsAntisymmetric nat_cmp-IsAntisymmetric) (entries_in text es) label target (find-new text es label new)
+  pub entries-more : entries_in text now ≡ entries_in text es ++ (label, target) ∷ []
+  entries-more =
+      ap (entries_in text) is
+      ∙ map-append (λ d. (label_in text d, kept_in text d.target)) es (e ∷ [])
+      ∙ (λ i. entries_in text es ++ (made.is_label i, made.is_target i) ∷ [])
 
 -- the same for the result of a call that may have found no memory
 
 module _ (E : Type 0) (old text : List ℕ) (es now : List Entry) (e : Entry) (before after : LabelIndex) (label : List ℕ) (target : Target) (value : Targets)
-    (grows : GoesOn old text) (are : AreKept old es before) (made : IsMade text e label target) (is : targets_of (entries_in old es) ≡ value) (absent : get value label ≡ None) where
-  value-is : targets_of (entries_in text es) ≡ value
+    (grows : GoesOn old text) (are : AreKept old es before) (made : IsMade text e label target) (is : entries_in old es ≡ value) (absent : target_under label value ≡ None) where
+  value-is : entries_in text es ≡ value
   value-is = same-targets old text es value grows are.there is
 
-  none : get (targets_of (entries_in text es)) label ≡ None
-  none = ap (λ v. get v label) value-is ∙ absent
+  none : target_under label (entries_in text es) ≡ None
+  none = ap (target_under label) value-is ∙ absent
 
   pub told-kept : (told : Result (Unit {0}) E) → OnOk told (now ≡ es ++ e ∷ []) → OnOk told (GoesIn before after label (length es)) → OnErr told ((now ≡ es) × IsSame before after)
       → AreKept text now after
@@ -182,10 +203,10 @@ module _ (E : Type 0) (old text : List ℕ) (es now : List Entry) (e : Entry) (b
   told-kept (Err f) more put same = let grown = kept-grow old text es before grows are in
       subst (λ ds. AreKept text ds after) (sym same.0) (record { there = grown.there; distinct = grown.distinct; found = same-index before after (labels_in text es) same.1 grown.found })
 
-  pub told-more : (told : Result (Unit {0}) E) → OnOk told (now ≡ es ++ e ∷ []) → OnOk told (targets_of (entries_in text now) ≡ insert value label target)
-  told-more (Ok u) more = targets-more text es now e before after label target (kept-grow old text es before grows are) made none more ∙ ap (λ v. insert v label target) value-is
+  pub told-more : (told : Result (Unit {0}) E) → OnOk told (now ≡ es ++ e ∷ []) → OnOk told (entries_in text now ≡ value ++ (label, target) ∷ [])
+  told-more (Ok u) more = entries-more text es now e before after label target (kept-grow old text es before grows are) made none more ∙ ap (λ v. v ++ (label, target) ∷ []) value-is
   told-more (Err f) more = tt
 
-  pub told-same : (told : Result (Unit {0}) E) → OnErr told ((now ≡ es) × IsSame before after) → OnErr told (targets_of (entries_in text now) ≡ value)
+  pub told-same : (told : Result (Unit {0}) E) → OnErr told ((now ≡ es) × IsSame before after) → OnErr told (entries_in text now ≡ value)
   told-same (Ok u) same = tt
-  told-same (Err f) same = ap (λ ds. targets_of (entries_in text ds)) same.0 ∙ value-is
+  told-same (Err f) same = ap (entries_in text) same.0 ∙ value-is

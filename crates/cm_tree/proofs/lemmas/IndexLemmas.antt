@@ -8,7 +8,7 @@ use Rattle.std.proofs.lemmas.Bool.{cases_eq, cases_lt, cond-true, cond-false, fa
 use Rattle.std.proofs.lemmas.List.{length_push, get_or_push, get_or_append_left, get_or-set_same, get_or-set_other, length-set, take_more, length-take-le, get_or-take}
 use Rattle.std.proofs.lemmas.Slice.Eq.{bytes_eq-Decides}
 use Rattle.cm_tree.specs.declared.label_index.LabelIndex.{LabelIndex}
-use Rattle.cm_tree.specs.steps.LabelNumbers.{number_of}
+use Rattle.cm_text.specs.steps.LabelNumbers.{number_of}
 use Rattle.cm_tree.specs.steps.LabelIndex.{near, home, crowded, IsReached, IsFound, IsLabel, IsIndex, AreDistinct, IsNew, GoesInSlot, GoesInTree, GoesIn, IsSame, IsPassed}
 
 some-not-none : (i : ℕ) (r : Option ℕ) → r ≡ Some i → r ≡ None → ⊥

@@ -7,7 +7,7 @@ use Rattle.cm_tree.specs.declared.label_index.LabelIndex.{LabelIndex}
 use Rattle.cm_tree.specs.Definitions.{Target}
 use Rattle.cm_tree.specs.LinkTargets.{kept_in, IsKept}
 use Rattle.cm_tree.specs.RawBlocks.{IsBetween}
-use Rattle.cm_tree.specs.steps.LabelNumbers.{number_of}
+use Rattle.cm_text.specs.steps.LabelNumbers.{number_of}
 use Rattle.cm_tree.specs.steps.LabelIndex.{IsIndex, AreDistinct}
 
 -- the label of an entry, where this is the text

@@ -1,12 +1,8 @@
-use Rattle.std.proofs.Common.{ap, codes, false, map, true}
+use Rattle.std.proofs.Common.{ap, false, map, true}
 use Rattle.std.proofs.lemmas.List.{drop_all}
 use Rattle.cm_html.proofs.lemmas.ItemLemmas.{inside_added}
-use Rattle.cm_html.proofs.lemmas.Pushed.{enclosed}
-use Rattle.cm_html.specs.Html.{html_of, written}
+use Rattle.cm_html.specs.Html.{written}
 use Rattle.cm_html.proofs.blocks.+blocks.Goals as goal
-
-pub push_quote-returns : goal.push_quote-returns
-push_quote-returns t c = enclosed c.push_str-2.result _ (codes "<blockquote>\n") (html_of c.args.blocks.now) (codes "</blockquote>\n") _ _ _ c.in_ok-push_str.ensures c.in_ok-push_blocks.ensures c.push_str-2.ensures
 
 pub push_loose-returns : goal.push_loose-returns
 push_loose-returns t c =

@@ -6,6 +6,5 @@ use Rattle.cm_html.proofs.writing.write_full.Given as goal
 -- what is left of the pages
 abbrev pub invariant-loop-page : goal.invariant-loop-page
 invariant-loop-page g l = Left
-    (record { taken = g.W.Sink.taken l.initial.sink; failed = g.W.Sink.failed l.initial.sink })
-    (record { taken = g.W.Sink.taken l.sink; failed = g.W.Sink.failed l.sink })
+    (g.W.Sink.seen l.initial.sink) (g.W.Sink.seen l.sink)
     (concat l.pages) (concat (drop l.page-index l.pages)) 0 l.written

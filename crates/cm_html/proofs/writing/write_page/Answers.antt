@@ -2,7 +2,7 @@ use Rattle.std.proofs.Common.{rules, ◌≡◌, ◌∙◌, ◌++◌, ◌+◌, []
 use Rattle.std.proofs.lemmas.List.{drop_all, take_rest}
 use Rattle.std.specs.Prelude.{Ok, Err}
 use Rattle.std.specs.List.{slice_range}
-use Rattle.cm_text.specs.Writing.{SinkView}
+use Rattle.cm_text.specs.DeviceViews.{SinkView}
 use Rattle.cm_html.specs.steps.Pages.{AreInOrder, WritesMore, with_insertions}
 use Rattle.cm_html.proofs.lemmas.PageLemmas.{first_place}
 use Rattle.cm_html.proofs.lemmas.WritingLemmas.{last_out, next_item, next_lost, next_out}
@@ -27,8 +27,8 @@ returns-in-Err g c =
     let i = c.insertion-item.result in
     let from = c.loop-insertion.from in
     let here : get_or is at i ≡ i = search rules in
-    let now : SinkView = record { taken = g.W.Sink.taken c.loop-insertion.sink; failed = g.W.Sink.failed c.loop-insertion.sink } in
-    let later : SinkView = record { taken = g.W.Sink.taken c.write_both.new.sink; failed = g.W.Sink.failed c.write_both.new.sink } in
+    let now : SinkView = g.W.Sink.seen c.loop-insertion.sink in
+    let later : SinkView = g.W.Sink.seen c.write_both.new.sink in
     let inserted : c.as_bytes-inserted.result.now ≡ i.text = c.as_bytes-inserted.ensures.value ∙ c.as_str.ensures in
     next_lost _ now c.args.page.now _ c.args.start c.loop-insertion.written c.loop-insertion.invariant.left later
     (slice_range text from i.place ++ i.text) (with_insertions i.place text (drop (at + 1) is)) (ap (with_insertions from text) (next_item is at i c.loop-insertion-test.true here)) c.in-Err.failed
@@ -43,8 +43,8 @@ loop-insertion-preserved g c =
     let from = c.loop-insertion.from in
     let here : get_or is at i ≡ i = search rules in
     let split : drop at is ≡ i ∷ drop (at + 1) is = next_item is at i c.loop-insertion-test.true here in
-    let now : SinkView = record { taken = g.W.Sink.taken c.loop-insertion.sink; failed = g.W.Sink.failed c.loop-insertion.sink } in
-    let later : SinkView = record { taken = g.W.Sink.taken c.write_both.new.sink; failed = g.W.Sink.failed c.write_both.new.sink } in
+    let now : SinkView = g.W.Sink.seen c.loop-insertion.sink in
+    let later : SinkView = g.W.Sink.seen c.write_both.new.sink in
     let inserted : c.as_bytes-inserted.result.now ≡ i.text = c.as_bytes-inserted.ensures.value ∙ c.as_str.ensures in
     let order : AreInOrder from text (i ∷ drop (at + 1) is) = subst (AreInOrder from text) split c.loop-insertion.invariant.order in
     record {
@@ -60,8 +60,8 @@ returns g c =
     let at = c.loop-insertion.insertion-index in
     let text = c.as_bytes-text.result.now in
     let from = c.loop-insertion.from in
-    let later : SinkView = record { taken = g.W.Sink.taken c.write_piece.new.sink; failed = g.W.Sink.failed c.write_piece.new.sink } in
-    let now : SinkView = record { taken = g.W.Sink.taken c.loop-insertion.sink; failed = g.W.Sink.failed c.loop-insertion.sink } in
+    let later : SinkView = g.W.Sink.seen c.write_piece.new.sink in
+    let now : SinkView = g.W.Sink.seen c.loop-insertion.sink in
     let rest : with_insertions from text (drop at is) ≡ drop from text = ap (with_insertions from text) (drop_all at is c.loop-insertion-test.false) in
     last_out _ now c.args.page.now _ c.args.start c.loop-insertion.written c.loop-insertion.invariant.left later c.write_piece.result
     (subst (λ t. WritesMore c.write_piece.result c.loop-insertion.written t now later) (take_rest text from ∙ sym rest) c.write_piece.ensures)

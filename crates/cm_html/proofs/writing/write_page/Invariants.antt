@@ -7,8 +7,7 @@ use Rattle.cm_html.proofs.writing.write_page.Given as goal
 abbrev pub invariant-loop-insertion : goal.invariant-loop-insertion
 invariant-loop-insertion g l = record {
   left : Left
-      (record { taken = g.W.Sink.taken l.initial.sink; failed = g.W.Sink.failed l.initial.sink })
-      (record { taken = g.W.Sink.taken l.sink; failed = g.W.Sink.failed l.sink })
+      (g.W.Sink.seen l.initial.sink) (g.W.Sink.seen l.sink)
       l.page (with_insertions l.from l.text (drop l.insertion-index l.insertions)) l.start l.written;
   order : AreInOrder l.from l.text (drop l.insertion-index l.insertions);
 }

@@ -1,5 +1,5 @@
 use Rattle.std.proofs.Common.{◌∙◌, sym, ap, arith}
-use Rattle.cm_tree.specs.steps.LabelNumbers.{number_of}
+use Rattle.cm_text.specs.steps.LabelNumbers.{number_of}
 use Rattle.cm_tree.specs.steps.Entries.{labels_in}
 use Rattle.cm_tree.proofs.lemmas.IndexLemmas.{index-more}
 use Rattle.cm_tree.proofs.lemmas.EntryLemmas.{read-entry, read-label, count}

@@ -25,4 +25,4 @@ returns-clause-depths c = record {
 
 pub returns-clause-definitions : goal.returns-clause-definitions
 unfolding label_folding
-returns-clause-definitions c = record { first = refl; other = refl; none = refl }
+returns-clause-definitions c = record { first = refl; other = refl; none = refl; table = refl; under_a_label = refl; under_no_label = refl; numbered = refl }

@@ -1,6 +1,6 @@
 use Rattle.std.proofs.Common.{◌≡◌, ◌++◌, ◌+◌, drop}
 use Rattle.cm_html.specs.Listing.{owners_from}
-use Rattle.cm_html.proofs.listings.push_owners.Given as goal
+use Rattle.cm_html.proofs.listings.push_listed_owners.Given as goal
 
 -- what was written and what is left are all
 abbrev pub invariant-loop-index : goal.invariant-loop-index

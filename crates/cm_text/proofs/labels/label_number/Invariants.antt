@@ -1,6 +1,6 @@
 use Rattle.std.proofs.Common.{◌≡◌, drop}
-use Rattle.cm_tree.specs.steps.LabelNumbers.{number_from, number_of}
-use Rattle.cm_tree.proofs.definitions.number_of.Given as goal
+use Rattle.cm_text.specs.steps.LabelNumbers.{number_from, number_of}
+use Rattle.cm_text.proofs.labels.label_number.Given as goal
 
 -- what was read and what is left come to the label's number
 abbrev pub invariant-loop-b : goal.invariant-loop-b

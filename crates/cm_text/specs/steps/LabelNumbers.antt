@@ -1,4 +1,4 @@
--- The number of a folded label, by which the table of definitions finds it.
+-- The number of a label, by which a table finds it.
 use Rattle.std.specs.Prelude.{ℕ, ◌+◌, ◌*◌, ◌^◌, ◌%◌, List, [], ◌∷◌}
 
 -- one byte more: added, and the sum times an odd number, in 64 bits
